@@ -2,7 +2,7 @@
 use Rattle.std.proofs.Common.{◌≡◌, List, [], ◌∷◌, ◌++◌, map, refl, sym, subst, ◌∙◌, All}
 use Rattle.std.proofs.Math.Path.{ap₂}
 use Rattle.std.proofs.lemmas.List.Elements.{All-nil, All-cons, All-head, All-tail, All-append, All-weaker}
-use Rattle.seize.specs.Names.{Name}
+use Rattle.seize.specs.Names.{CollectorName}
 use Rattle.seize.specs.Blocks.{content, owner_of, owners_in, HoldsOnly, Belongs}
 use Rattle.seize.specs.declared.block.owned.Owned.{Owned}
 
@@ -13,7 +13,7 @@ contents_map f on_block is [] = refl
 contents_map f on_block is (owned ∷ blocks) = ap₂ (λ x xs. x ∷ xs) (is owned) (contents_map f on_block is blocks)
 
 -- blocks whose contents become the collectors of what they hold
-pub owners_map : {T : Type 0} (owners : T → List Name) (on_block : Owned T → Owned (List Name))
+pub owners_map : {T : Type 0} (owners : T → List CollectorName) (on_block : Owned T → Owned (List CollectorName))
     → ((owned : Owned T) → (owner_of (on_block owned) ≡ owner_of owned) × (content (on_block owned) ≡ owners (content owned)))
     → (blocks : List (Owned T)) → owners_in (λ inside. inside) (map on_block blocks) ≡ owners_in owners blocks
 owners_map owners on_block is [] = refl
@@ -25,8 +25,8 @@ all_parts P [] ys all = (All-nil P, all)
 all_parts P (x ∷ xs) ys all =
     let rest = all_parts P xs ys (All-tail P x (xs ++ ys) all) in (All-cons P x xs (All-head P x (xs ++ ys) all) rest.0, rest.1)
 
-module _ {T : Type 0} (owners : T → List Name) (name : Name) where
-  abbrev IsOwn : Name → Type 0
+module _ {T : Type 0} (owners : T → List CollectorName) (name : CollectorName) where
+  abbrev IsOwn : CollectorName → Type 0
   IsOwn owner = owner ≡ name
 
   -- where the collectors of the blocks and of those inside are one, each block belongs to it

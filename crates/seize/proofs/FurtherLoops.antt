@@ -2,7 +2,7 @@
 use Rattle.std.proofs.Common.{◌≡◌, ℕ, ◌<◌, Bool, if◌then◌else◌, List, [], ◌∷◌, ◌++◌, Option, None, Ok, refl, sym, ◌∙◌, ap, subst, drop}
 use Rattle.std.proofs.lemmas.List.Sums.{fold-append}
 use Rattle.seize_model.specs.Waiting.State.{State, slot_at}
-use Rattle.seize_model.specs.Waiting.Attempt.{Outcome, put}
+use Rattle.seize_model.specs.Waiting.Attempt.{StateAndGone, put}
 use Rattle.seize_model.specs.Waiting.Further.{Lighter, put_by, further, still_to_come, afterwards, with_further, gone_from}
 use Rattle.seize_model.specs.Waiting.Calls.{unless, with_number_free, with_number_free_if}
 use Rattle.seize.specs.Effects.{told_of, Queued, Did}
@@ -30,7 +30,7 @@ settles_none puts weight told st s queue seen e = rw (no_rest queue e, afterward
 
 -- a call's own work, and then the further values
 pub then_settled : {T R Seen : Type 0} (puts : R → T → List T) (weight : T → ℕ) (told : Seen → T → Seen)
-    → (s : ℕ) (o : Outcome T R) (mid new : State T R) (queue : List (T × R)) (seen later last : Seen)
+    → (s : ℕ) (o : StateAndGone T R) (mid new : State T R) (queue : List (T × R)) (seen later last : Seen)
     → Queued puts told o mid [] queue seen later → Did told (afterwards puts weight mid s queue) new later last
     → Did told (with_further puts weight s o) new seen last
 then_settled {T} {R} {Seen} puts weight told s o mid new queue seen later last own did =
@@ -41,7 +41,7 @@ then_settled {T} {R} {Seen} puts weight told s o mid new queue seen later last o
 
 -- a call that is not refused
 pub done_settled : {A T R Seen : Type 0} (puts : R → T → List T) (weight : T → ℕ) (told : Seen → T → Seen) (refusal : Option Refusal) (a : A) (st : State T R)
-    → (s : ℕ) (o : Outcome T R) (mid new : State T R) (start queue : List (T × R)) (seen later last : Seen)
+    → (s : ℕ) (o : StateAndGone T R) (mid new : State T R) (start queue : List (T × R)) (seen later last : Seen)
     → refusal ≡ None
     → start ≡ [] → Queued puts told o mid start queue seen later → Did told (afterwards puts weight mid s queue) new later last
     → Did told (unless refusal st (Ok a, with_further puts weight s o)).1 new seen last
@@ -50,7 +50,7 @@ done_settled {A} {T} {R} {Seen} puts weight told refusal a st s o mid new start 
     (then_settled puts weight told s o mid new queue seen later last (subst (λ q. Queued puts told o mid q queue seen later) none own) did)
 
 pub done_freed : {A T R Seen : Type 0} (puts : R → T → List T) (weight : T → ℕ) (told : Seen → T → Seen) (refusal : Option Refusal) (a : A) (owned : Bool) (st : State T R)
-    → (s : ℕ) (o : Outcome T R) (mid new final : State T R) (start queue : List (T × R)) (seen later last : Seen)
+    → (s : ℕ) (o : StateAndGone T R) (mid new final : State T R) (start queue : List (T × R)) (seen later last : Seen)
     → refusal ≡ None
     → start ≡ [] → Queued puts told o mid start queue seen later → Did told (afterwards puts weight mid s queue) new later last
     → final ≡ (if owned then with_number_free new s else new)

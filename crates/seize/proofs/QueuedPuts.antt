@@ -1,11 +1,11 @@
 -- What one reclaimer put is queued.
 use Rattle.std.proofs.Common.{◌≡◌, List, [], ◌∷◌, map, Some, inl, inr, refl, ◌∙◌, ap}
 use Rattle.seize.specs.Blocks.{content, Gathered, Joined}
-use Rattle.seize.specs.Names.{Name}
+use Rattle.seize.specs.Names.{CollectorName}
 use Rattle.seize.specs.declared.block.owned.Owned.{Owned}
 
 -- what was put into nothing is what was put
-pub joined_first : {T : Type 0} (more values : List T) (owner : Name) (new : Gathered T)
+pub joined_first : {T : Type 0} (more values : List T) (owner : CollectorName) (new : Gathered T)
     → Joined more (record { values = Some []; owner = owner }) new → new.values ≡ Some values → values ≡ more
 joined_first more values owner new (same, inl none) e = cc
 joined_first more values owner new (same, inr all) e = cc

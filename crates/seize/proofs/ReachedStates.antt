@@ -4,50 +4,50 @@ use Rattle.std.proofs.Math.Logic.{∥∥₁_map}
 use Rattle.seize_table.specs.declared.refusal.Refusal.{Refusal}
 use Rattle.seize_table.specs.declared.refusal.Refusal.TheVariants.{NoMemory}
 use Rattle.seize_model.specs.Waiting.State.{State, new}
-use Rattle.seize_model.specs.Waiting.Attempt.{Outcome}
+use Rattle.seize_model.specs.Waiting.Attempt.{StateAndGone}
 use Rattle.seize_model.specs.Waiting.Calls as calls
 use Rattle.seize_model.specs.Waiting.Lists.{Call, step}
-use Rattle.seize_model.specs.Waiting.Reached.{Reached, IsReached}
+use Rattle.seize_model.specs.Waiting.Reached.{Reached, IsReachedByCalls}
 use Rattle.seize_model.specs.Agreement.Origins.{IsLedTo, IsFound}
 use Rattle.seize.specs.Snapshots.{Snapshot}
 use Rattle.seize.specs.Effects.{told_of, Did, AllDone}
 
 module _ {T R : Type 0} (puts : R → T → List T) (weight : T → ℕ) where
   -- from a reached state to a reached one
-  moved : (short : Bool) (st later next : State T R) → (Reached puts weight st → Reached puts weight later) → next ≡ later → IsReached puts weight short st → IsReached puts weight short next
+  moved : (short : Bool) (st later next : State T R) → (Reached puts weight st → Reached puts weight later) → next ≡ later → IsReachedByCalls puts weight short st → IsReachedByCalls puts weight short next
   moved short st later next lead same reached = ∥∥₁_map reached go
     where
       go : (short ≡ true) ⊎ Reached puts weight st → (short ≡ true) ⊎ Reached puts weight next
       go (inl t) = inl t
       go (inr r) = inr (subst (Reached puts weight) (sym same) (lead r))
 
-  pub made_is_reached : (short : Bool) (size links : ℕ) (st : State T R) → st ≡ new size links → IsReached puts weight short st
+  pub made_is_reached : (short : Bool) (size links : ℕ) (st : State T R) → st ≡ new size links → IsReachedByCalls puts weight short st
   made_is_reached short size links st same = ∣ inr (subst (Reached puts weight) (sym same) (Reached.made size links)) ∣₁
 
-  pub resized_is_reached : (short : Bool) (st next : State T R) (size : ℕ) → next ≡ record st { size = size } → IsReached puts weight short st → IsReached puts weight short next
+  pub resized_is_reached : (short : Bool) (st next : State T R) (size : ℕ) → next ≡ record st { size = size } → IsReachedByCalls puts weight short st → IsReachedByCalls puts weight short next
   resized_is_reached short st next size same = moved short st (record st { size = size }) next (Reached.resized st size) same
 
-  pub called_is_reached : (short : Bool) (st next : State T R) (call : Call T R) → next ≡ (step puts weight st call).1.0 → IsReached puts weight short st → IsReached puts weight short next
+  pub called_is_reached : (short : Bool) (st next : State T R) (call : Call T R) → next ≡ (step puts weight st call).1.0 → IsReachedByCalls puts weight short st → IsReachedByCalls puts weight short next
   called_is_reached short st next call same = moved short st (step puts weight st call).1.0 next (Reached.called st call) same
 
-  pub swapped_is_reached : (short : Bool) (st next : State T R) (s link : ℕ) (value : Option T) → next ≡ (calls.swap st s link value).1.0 → IsReached puts weight short st → IsReached puts weight short next
+  pub swapped_is_reached : (short : Bool) (st next : State T R) (s link : ℕ) (value : Option T) → next ≡ (calls.swap st s link value).1.0 → IsReachedByCalls puts weight short st → IsReachedByCalls puts weight short next
   swapped_is_reached short st next s link value same = moved short st (calls.swap st s link value).1.0 next (Reached.swapped st s link value) same
 
-  pub reclaimed_is_reached : (short : Bool) (st next : State T R) → next ≡ (calls.reclaim_all puts weight st).0 → IsReached puts weight short st → IsReached puts weight short next
+  pub reclaimed_is_reached : (short : Bool) (st next : State T R) → next ≡ (calls.reclaim_all puts weight st).0 → IsReachedByCalls puts weight short st → IsReachedByCalls puts weight short next
   reclaimed_is_reached short st next same = moved short st (calls.reclaim_all puts weight st).0 next (Reached.reclaimed st) same
 
   -- a call that takes note of a refused growth
   pub noted_is_reached : {Seen : Type 0} (told : Seen → T → Seen) (short later : Bool) (st next : State T R) (call : Call T R) {E : Type 0} (answer : Result (Unit {0}) E) (seen heard : Seen)
       → IfOk answer (λ _. Did told (step puts weight st call).1 next seen heard)
       → (later ≡ true) ⊎ ((answer ≡ Ok tt) × (later ≡ short))
-      → IsReached puts weight short st → IsReached puts weight later next
+      → IsReachedByCalls puts weight short st → IsReachedByCalls puts weight later next
   noted_is_reached told short later st next call answer seen heard did (inl t) reached = ∣ inl t ∣₁
   noted_is_reached told short later st next call answer seen heard did (inr (ok, same)) reached =
-      subst (λ b. IsReached puts weight b next) (sym same)
+      subst (λ b. IsReachedByCalls puts weight b next) (sym same)
       (called_is_reached short st next call (subst (λ (r : Result (Unit {0}) _). IfOk r (λ _. Did told (step puts weight st call).1 next seen heard)) ok did).0 reached)
 
   -- what such a call did, or the note
-  pub noted_did : {Seen : Type 0} (told : Seen → T → Seen) (short later : Bool) {E : Type 0} (answer : Result (Unit {0}) E) (o : Outcome T R) (next : State T R) (seen heard : Seen)
+  pub noted_did : {Seen : Type 0} (told : Seen → T → Seen) (short later : Bool) {E : Type 0} (answer : Result (Unit {0}) E) (o : StateAndGone T R) (next : State T R) (seen heard : Seen)
       → IfOk answer (λ _. Did told o next seen heard)
       → (later ≡ true) ⊎ ((answer ≡ Ok tt) × (later ≡ short)) → (later ≡ true) ⊎ Did told o next seen heard
   noted_did told short later answer o next seen heard did (inl t) = inl t
@@ -57,12 +57,12 @@ module _ {T R : Type 0} (puts : R → T → List T) (weight : T → ℕ) where
   -- a call that takes a number, whose memory may be refused
   pub taken_is_reached : (short : Bool) (st next : State T R) (call : Call T R) (result expected : Result ℕ Refusal)
       → ((result ≡ Err NoMemory) × (next ≡ st)) ⊎ ((result ≡ expected) × (next ≡ (step puts weight st call).1.0))
-      → IsReached puts weight short st → IsReached puts weight short next
-  taken_is_reached short st next call result expected (inl refused) reached = subst (IsReached puts weight short) (sym refused.1) reached
+      → IsReachedByCalls puts weight short st → IsReachedByCalls puts weight short next
+  taken_is_reached short st next call result expected (inl refused) reached = subst (IsReachedByCalls puts weight short) (sym refused.1) reached
   taken_is_reached short st next call result expected (inr did) reached = called_is_reached short st next call did.1 reached
 
   -- what calls lead to may be found
-  pub reached_is_found : (short : Bool) (st : State T R) → IsReached puts weight short st → IsFound puts weight short st
+  pub reached_is_found : (short : Bool) (st : State T R) → IsReachedByCalls puts weight short st → IsFound puts weight short st
   reached_is_found short st reached = ∥∥₁_map reached go
     where
       go : (short ≡ true) ⊎ Reached puts weight st → (short ≡ true) ⊎ Reached puts weight st ⊎ IsLedTo st

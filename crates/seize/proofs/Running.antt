@@ -3,14 +3,14 @@ use Rattle.std.proofs.Common.{◌≡◌, ℕ, true, false, List, [], ◌∷◌, 
 use Rattle.std.proofs.lemmas.List.Elements.{All-nil, All-cons, All-append, All-same}
 use Rattle.std.proofs.lemmas.List.{append_assoc, append-nil, map-append}
 use Rattle.std.proofs.lemmas.List.Sums.{fold-append}
-use Rattle.seize_model.specs.Waiting.Attempt.{Outcome, after}
+use Rattle.seize_model.specs.Waiting.Attempt.{StateAndGone, with_gone}
 use Rattle.seize_model.specs.Waiting.Lists.{Call, Reply, step, Answered, Replied}
 use Rattle.seize_model.proofs.WaitingSets.Lists.{replied_more}
-use Rattle.seize.specs.Names.{Name}
+use Rattle.seize.specs.Names.{CollectorName}
 use Rattle.seize.specs.About.{About}
 use Rattle.seize.specs.Snapshots.{Snapshot}
 use Rattle.seize.specs.Effects.{told_of, Did}
-use Rattle.seize.specs.Alone.{call_of, reply_of, IsFor, AreFor, Stepped, Ran}
+use Rattle.seize.specs.Alone.{call_of, reply_of, IsFor, AreFor, DoesCall, Ran}
 use Rattle.seize.specs.declared.collector.calls.Call.{Call as CodeCall}
 use Rattle.seize.specs.declared.collector.calls.Reply.{Reply as CodeReply}
 
@@ -18,12 +18,12 @@ pub all_pushed : {X : Type 0} (P : X → Type 0) (xs ys : List X) (x : X) → Al
 all_pushed P xs ys x all one e = All-same P ys (xs ++ x ∷ []) e (All-append P xs (x ∷ []) all (All-cons P x [] one (All-nil P)))
 
 module _ {T R Seen : Type 0} (puts : R → T → List T) (weight : T → ℕ) (told : Seen → T → Seen)
-    (owners : T → List Name) (about : About) where
+    (owners : T → List CollectorName) (about : About) where
   -- what was done so far, or a growth was refused
   abbrev pub Made : List (CodeCall T R) → List (CodeCall T R) → List (CodeReply T) → List (CodeReply T) → Snapshot T R Seen → Snapshot T R Seen → Type 0
   Made calls0 calls replies0 replies old new =
       (new.short ≡ true)
-      ⊎ ((made : List (Call T R)) × (answers : List (Reply T)) × (o : Outcome T R)
+      ⊎ ((made : List (Call T R)) × (answers : List (Reply T)) × (o : StateAndGone T R)
       × Replied puts weight old.state made answers o
       × (made ++ map call_of calls ≡ map call_of calls0)
       × AreFor owners about calls
@@ -43,7 +43,7 @@ module _ {T R Seen : Type 0} (puts : R → T → List T) (weight : T → ℕ) (t
 
   -- one call after these
   one_more : (calls0 calls : List (CodeCall T R)) (replies0 replies more : List (CodeReply T)) (old now next : Snapshot T R Seen)
-      → (call : CodeCall T R) (rest : List (CodeCall T R)) (reply : CodeReply T) (last : Outcome T R)
+      → (call : CodeCall T R) (rest : List (CodeCall T R)) (reply : CodeReply T) (last : StateAndGone T R)
       → Made calls0 calls replies0 replies old now
       → now.short ≡ false
       → calls ≡ call ∷ rest
@@ -56,7 +56,7 @@ module _ {T R Seen : Type 0} (puts : R → T → List T) (weight : T → ℕ) (t
       inr (
         made ++ call_of call ∷ [],
         answers ++ reply_of reply ∷ [],
-        after o.1 last,
+        with_gone o.1 last,
         replied_more puts weight old.state made answers o (call_of call) (reply_of reply) last replied
             (subst (λ k. Answered puts weight k (call_of call) (reply_of reply) last) before.0 answered),
         append_assoc made (call_of call ∷ []) (map call_of rest) ∙ ap (λ cs. made ++ map call_of cs) (sym e) ∙ split,
@@ -70,7 +70,7 @@ module _ {T R Seen : Type 0} (puts : R → T → List T) (weight : T → ℕ) (t
       → (call : CodeCall T R) (rest : List (CodeCall T R)) (reply : CodeReply T)
       → Made calls0 calls replies0 replies old now
       → now.short ≡ false → calls ≡ call ∷ rest
-      → Stepped puts weight told call reply now next
+      → DoesCall puts weight told call reply now next
       → more ≡ replies ++ reply ∷ []
       → Made calls0 rest replies0 more old next
   made_next calls0 calls replies0 replies more old now next call rest reply made f e (later, inl t) pushed = inl t

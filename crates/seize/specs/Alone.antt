@@ -9,11 +9,11 @@ use Rattle.seize.specs.declared.collector.calls.Reply.{Reply as CodeReply}
 use Rattle.seize.specs.declared.collector.calls.Reply.TheVariants.{Done as CodeDone, Slot as CodeSlot, Kept as CodeKept}
 use Rattle.seize.specs.declared.collector.calls.Reply.TheVariants.{Found as CodeFound, Refused as CodeRefused}
 use Rattle.seize.specs.Blocks.{content, Belongs}
-use Rattle.seize.specs.Names.{Name}
+use Rattle.seize.specs.Names.{CollectorName}
 use Rattle.seize.specs.About.{About}
 use Rattle.seize.specs.Snapshots.{Snapshot}
 use Rattle.seize.specs.Effects.{Did}
-use Rattle.seize_model.specs.Waiting.Attempt.{Outcome}
+use Rattle.seize_model.specs.Waiting.Attempt.{StateAndGone}
 use Rattle.seize_model.specs.Waiting.Lists.{Call, Register, EnterOwned, Enter, Leave, End, Refresh, Flush, Retire, Protect, Swap, Reply}
 use Rattle.seize_model.specs.Waiting.Lists.{Done, Number, Kept, Found, Refused, step, takes_number, Replied}
 use Rattle.seize_table.specs.declared.refusal.Refusal.TheVariants.{NoMemory}
@@ -40,7 +40,7 @@ reply_of (CodeFound found) = Found found
 reply_of (CodeRefused refusal back) = Refused refusal (option_map content back)
 
 -- the link that the call names is below the number of links, and the block that it brings, with each block inside it, is of the collector
-abbrev pub IsFor : {T R : Type 0} → (T → List Name) → About → CodeCall T R → Type 0
+abbrev pub IsFor : {T R : Type 0} → (T → List CollectorName) → About → CodeCall T R → Type 0
 IsFor owners about CodeRegister = Unit {0}
 IsFor owners about CodeEnterOwned = Unit {0}
 IsFor owners about (CodeEnter s) = Unit {0}
@@ -52,25 +52,25 @@ IsFor owners about (CodeRetire s owned reclaim) = Belongs owners about.name owne
 IsFor owners about (CodeProtect s link) = link < about.links
 IsFor owners about (CodeSwap s link new reclaim) = (link < about.links) × IfSome new (Belongs owners about.name)
 
-abbrev pub AreFor : {T R : Type 0} → (T → List Name) → About → List (CodeCall T R) → Type 0
+abbrev pub AreFor : {T R : Type 0} → (T → List CollectorName) → About → List (CodeCall T R) → Type 0
 AreFor owners about [] = Unit {0}
 AreFor owners about (call ∷ calls) = IsFor owners about call × AreFor owners about calls
 
 -- a block that comes back is of the collector, with each block inside it
-abbrev pub IsFrom : {T : Type 0} → (T → List Name) → About → CodeReply T → Type 0
+abbrev pub IsFrom : {T : Type 0} → (T → List CollectorName) → About → CodeReply T → Type 0
 IsFrom owners about CodeDone = Unit {0}
 IsFrom owners about (CodeSlot n) = Unit {0}
 IsFrom owners about CodeKept = Unit {0}
 IsFrom owners about (CodeFound found) = Unit {0}
 IsFrom owners about (CodeRefused refusal back) = IfSome back (Belongs owners about.name)
 
-abbrev pub AreFrom : {T : Type 0} → (T → List Name) → About → List (CodeReply T) → Type 0
+abbrev pub AreFrom : {T : Type 0} → (T → List CollectorName) → About → List (CodeReply T) → Type 0
 AreFrom owners about replies = All (IsFrom owners about) replies
 
 -- one call was done and replied to, or a growth was refused, of which the collector takes note
-abbrev pub Stepped : {T R Seen : Type 0} → (R → T → List T) → (T → ℕ) → (Seen → T → Seen) → CodeCall T R → CodeReply T
+abbrev pub DoesCall : {T R Seen : Type 0} → (R → T → List T) → (T → ℕ) → (Seen → T → Seen) → CodeCall T R → CodeReply T
     → Snapshot T R Seen → Snapshot T R Seen → Type 0
-Stepped puts weight told call result old new =
+DoesCall puts weight told call result old new =
     let own = step puts weight old.state (call_of call) in
     (old.short ≡ true → new.short ≡ true)
     × ((new.short ≡ true)
@@ -82,5 +82,5 @@ abbrev pub Ran : {T R Seen : Type 0} → (R → T → List T) → (T → ℕ) �
     → List (CodeReply T) → List (CodeReply T) → Snapshot T R Seen → Snapshot T R Seen → Type 0
 Ran {T} {R} puts weight told calls_old calls_new replies_old replies_new old new =
     (new.short ≡ true)
-    ⊎ ((answers : List (Reply T)) × (o : Outcome T R) × Replied puts weight old.state (map call_of calls_old) answers o
+    ⊎ ((answers : List (Reply T)) × (o : StateAndGone T R) × Replied puts weight old.state (map call_of calls_old) answers o
     × (calls_new ≡ []) × (map reply_of replies_new ≡ map reply_of replies_old ++ answers) × Did told o new.state old.seen new.seen)

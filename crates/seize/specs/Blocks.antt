@@ -14,33 +14,33 @@
 use Rattle.std.specs.Prelude.{◌≡◌, ℕ, List, ◌∷◌, ◌++◌, All, Option, None, option_map, slice_index_or, ◌⊎◌}
 use Rattle.std.specs.List.{flat_map}
 use Rattle.seize_store.specs.Named as store
-use Rattle.seize.specs.Names.{Name}
+use Rattle.seize.specs.Names.{CollectorName}
 use Rattle.seize.specs.declared.block.owned.Owned.{Owned}
 use Rattle.seize.specs.declared.block.shared.Shared.{Shared}
 use Rattle.seize.specs.declared.block.unlinked.Unlinked.{Unlinked}
 
 abbrev pub content : {T : Type 0} → Owned T → T
-content owned = store.value_of owned.block
+content owned = store.owned_value owned.block
 
 abbrev pub number_of : {T : Type 0} → Owned T → ℕ
-number_of owned = store.number_of owned.block
+number_of owned = store.owned_number owned.block
 
-abbrev pub owner_of : {T : Type 0} → Owned T → Name
+abbrev pub owner_of : {T : Type 0} → Owned T → CollectorName
 owner_of owned = store.store_of owned.block
 
 abbrev pub IsSame : {T : Type 0} → Owned T → Owned T → Type 0
 IsSame one other = (content one ≡ content other) × (number_of one ≡ number_of other) × (owner_of one ≡ owner_of other)
 
-abbrev pub owners_in : {T : Type 0} → (T → List Name) → List (Owned T) → List Name
+abbrev pub owners_in : {T : Type 0} → (T → List CollectorName) → List (Owned T) → List CollectorName
 owners_in owners blocks = flat_map (λ owned. owner_of owned ∷ owners (content owned)) blocks
 
-abbrev pub HoldsOnly : {T : Type 0} → (T → List Name) → Name → T → Type 0
+abbrev pub HoldsOnly : {T : Type 0} → (T → List CollectorName) → CollectorName → T → Type 0
 HoldsOnly owners name value = All (λ owner. owner ≡ name) (owners value)
 
-abbrev pub IsUnmixed : {T : Type 0} → (T → List Name) → Owned T → Type 0
+abbrev pub IsUnmixed : {T : Type 0} → (T → List CollectorName) → Owned T → Type 0
 IsUnmixed owners owned = HoldsOnly owners (owner_of owned) (content owned)
 
-abbrev pub Belongs : {T : Type 0} → (T → List Name) → Name → Owned T → Type 0
+abbrev pub Belongs : {T : Type 0} → (T → List CollectorName) → CollectorName → Owned T → Type 0
 Belongs owners name owned = (owner_of owned ≡ name) × IsUnmixed owners owned
 
 abbrev pub block_of : {T : Type 0} → Unlinked T → Owned T
@@ -55,7 +55,7 @@ shared_content shared = content shared.block.now
 abbrev pub shared_number : {T : Type 0} → Shared T → ℕ
 shared_number shared = number_of shared.block.now
 
-abbrev pub shared_owner : {T : Type 0} → Shared T → Name
+abbrev pub shared_owner : {T : Type 0} → Shared T → CollectorName
 shared_owner shared = owner_of shared.block.now
 
 abbrev pub number_at : List (Option ℕ) → ℕ → Option ℕ
@@ -63,7 +63,7 @@ number_at numbers link = slice_index_or numbers link None
 
 pub record Gathered (T : Type 0) : Type 0 where
   pub values : Option (List T)
-  pub owner : Name
+  pub owner : CollectorName
 
 abbrev pub Joined : {T : Type 0} → List T → Gathered T → Gathered T → Type 0
 Joined more old new =

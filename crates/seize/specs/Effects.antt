@@ -6,7 +6,7 @@
 use Rattle.std.specs.Prelude.{◌≡◌, true, List, ◌++◌, Result, Ok, Err, IfErr, ◌⊎◌}
 use Rattle.std.specs.List.{fold}
 use Rattle.seize_model.specs.Waiting.State.{State}
-use Rattle.seize_model.specs.Waiting.Attempt.{Outcome}
+use Rattle.seize_model.specs.Waiting.Attempt.{StateAndGone}
 use Rattle.seize_model.specs.Waiting.Further.{further}
 use Rattle.seize_model.specs.Waiting.Calls.{Response}
 use Rattle.seize_table.specs.declared.refusal.Refusal.{Refusal}
@@ -17,12 +17,12 @@ abbrev pub told_of : {T R Seen : Type 0} → (Seen → T → Seen) → Seen → 
 told_of told seen gone = fold (λ s v. told s v.0) seen gone
 
 -- the state is that of the outcome, and the watch was told exactly the values gone, in order
-abbrev pub Did : {T R Seen : Type 0} → (Seen → T → Seen) → Outcome T R → State T R → Seen → Seen → Type 0
+abbrev pub Did : {T R Seen : Type 0} → (Seen → T → Seen) → StateAndGone T R → State T R → Seen → Seen → Type 0
 Did told o new seen_old seen_new = (new ≡ o.0) × (seen_new ≡ told_of told seen_old o.1)
 
 -- besides, what the values gone put joined the queue
 abbrev pub Queued : {T R Seen : Type 0} → (R → T → List T) → (Seen → T → Seen)
-    → Outcome T R → State T R → List (T × R) → List (T × R) → Seen → Seen → Type 0
+    → StateAndGone T R → State T R → List (T × R) → List (T × R) → Seen → Seen → Type 0
 Queued puts told o new queue_old queue_new seen_old seen_new =
     (new ≡ o.0) × (queue_new ≡ queue_old ++ further puts o.1) × (seen_new ≡ told_of told seen_old o.1)
 
@@ -36,7 +36,8 @@ Grew a result old new = ((result ≡ Err NoMemory) × (new ≡ old)) ⊎ Said a 
 
 -- From old to new this came out, or a growth was refused, of which the collector takes note: from then on nothing
 -- is said of its state. A note taken is never given up.
-abbrev pub AllDone : {T R Seen : Type 0} → (Seen → T → Seen) → (State T R → Outcome T R) → Snapshot T R Seen → Snapshot T R Seen → Type 0
+abbrev pub AllDone : {T R Seen : Type 0} → (Seen → T → Seen) → (State T R → StateAndGone T R) → Snapshot T R Seen → Snapshot T R Seen
+    → Type 0
 AllDone told does old new =
     (old.short ≡ true → new.short ≡ true) × ((new.short ≡ true) ⊎ Did told (does old.state) new.state old.seen new.seen)
 

@@ -4,18 +4,18 @@
 --     BelongAll owners n ls   each block in the links ls, with each block inside it, is of the collector n
 use Rattle.std.specs.Prelude.{ℕ, List, Option, All, IfSome}
 use Rattle.seize_model.specs.Waiting.State.{State}
-use Rattle.seize.specs.Names.{Name}
+use Rattle.seize.specs.Names.{CollectorName}
 use Rattle.seize.specs.Blocks.{Belongs}
 use Rattle.seize.specs.declared.block.owned.Owned.{Owned}
 
-pub record Held (T R : Type 0) : Type 0 where
+pub record PlainState (T R : Type 0) : Type 0 where
   pub state : State T R
-  pub name : Name
+  pub name : CollectorName
   -- the number of the block that each link holds
   pub numbers : List (Option ℕ)
 
-abbrev pub fixed : {T R : Type 0} → Held T R → Name × ℕ × List (Option T) × List (Option ℕ)
+abbrev pub fixed : {T R : Type 0} → PlainState T R → CollectorName × ℕ × List (Option T) × List (Option ℕ)
 fixed held = (held.name, held.state.size, held.state.links, held.numbers)
 
-abbrev pub BelongAll : {T : Type 0} → (T → List Name) → Name → List (Option (Owned T)) → Type 0
+abbrev pub BelongAll : {T : Type 0} → (T → List CollectorName) → CollectorName → List (Option (Owned T)) → Type 0
 BelongAll owners name links = All (λ link. IfSome link (Belongs owners name)) links

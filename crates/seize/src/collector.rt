@@ -4,7 +4,7 @@ ghost use Rattle.std.specs.Prelude.{◌≡◌, ◌≢◌, ◌⊎◌, ℕ, ◌+�
 ghost use Rattle.std.specs.Int.{IsNextPowerOfTwo};
 ghost use Rattle.seize.specs.NewCollectors.{refusal_for};
 ghost use Rattle.seize_model.specs.Waiting.Calls as calls;
-ghost use Rattle.seize_model.specs.Waiting.Reached.{IsReached};
+ghost use Rattle.seize_model.specs.Waiting.Reached.{IsReachedByCalls};
 ghost use Rattle.seize_model.specs.Agreement.Origins.{IsFound};
 ghost use Rattle.seize.specs.Blocks.{content, owner_of, block_of, collector_of};
 ghost use Rattle.seize_table.specs.declared.refusal.Refusal.TheVariants.{NoMemory as no_memory};
@@ -36,7 +36,7 @@ pub struct Collector<T: Weigh + Drop, R: Reclaim<T> = Boxed> {
     // a growth was refused in a call that answers no refusal
     is_short: bool,
     id: u64,
-    ghost reached: { IsReached R.puts T.weight is_short state.state },
+    ghost reached: { IsReachedByCalls R.puts T.weight is_short state.state },
 }
 
 impl<T: Weigh + Drop, R: Reclaim<T>> Collector<T, R> {

@@ -9,7 +9,7 @@ ghost use Rattle.seize.specs.Blocks.{content, owner_of};
 ghost use Rattle.seize.specs.Plain.{fixed};
 ghost use Rattle.seize.specs.Effects.{Queued};
 ghost use Rattle.seize_store.specs.Known.{family_in};
-ghost use Rattle.seize_store.specs.Named.{name_of};
+ghost use Rattle.seize_store.specs.Named.{store_name};
 ghost use Rattle.seize_table.specs.declared.refusal.Refusal.TheVariants.{NoMemory};
 
 use crate::block::Owned;
@@ -47,7 +47,7 @@ pub(crate) struct Plain<T: Weigh + Drop, R: Copy> {
     numbers: Numbers,
     retired: Vec<Batch<T, R>>,
     links: Vec<Option<Owned<T>>>,
-    ghost kin: { family_in (name_of store) ≡ 0 },
+    ghost kin: { family_in (store_name store) ≡ 0 },
 }
 
 impl<T: Weigh + Drop, R: Copy> Model for Plain<T, R> {
@@ -55,23 +55,23 @@ impl<T: Weigh + Drop, R: Copy> Model for Plain<T, R> {
     ghost use Rattle.std.specs.FinSet as set;
     ghost use Rattle.seize_model.specs.declared.kind.Kind.TheVariants.{Free};
     ghost use Rattle.seize_model.specs.Waiting.Calls.{is_free};
-    ghost use Rattle.seize_store.specs.Named.{name_of};
+    ghost use Rattle.seize_store.specs.Named.{store_name};
     ghost use Rattle.seize_table.specs.Place.{all_numbers};
     ghost use Rattle.seize.specs.Blocks.{content, number_of};
-    ghost use Rattle.seize.specs.Plain.{Held, BelongAll};
+    ghost use Rattle.seize.specs.Plain.{PlainState, BelongAll};
 
-    ghost Value = { Held T R };
+    ghost Value = { PlainState T R };
 
     ghost view = { λ c. record {
       state = record { size = c.size; slots = c.slots.items; retired = c.retired.items; links = map (option_map content) c.links.items };
-      name = name_of c.store;
+      name = store_name c.store;
       numbers = map (option_map number_of) c.links.items;
     } };
 
     ghost invariant = { λ c. (((n : ℕ) →
         set.contains c.numbers n ≡ not (is_free (slice_index_or (map (λ slot. slot.kind) c.slots.items) n Free)))
         × (length (map (λ slot. slot.kind) c.slots.items) ≤ all_numbers))
-        × BelongAll T.owners (name_of c.store) c.links.items };
+        × BelongAll T.owners (store_name c.store) c.links.items };
 }
 
 // All active slots wait for batch `b`.
@@ -285,7 +285,7 @@ impl<T: Weigh + Drop, R: Copy> Plain<T, R> {
 
     /// Appends a value to the batch of slot `s`.
     fn push(&mut self, s: usize, value: Retired<T, R>) -> Result<(), AllocError>
-        ensures done { IfOk result (λ _. self.new.state ≡ waiting.with_value self.old.state s value) }
+        ensures done { IfOk result (λ _. self.new.state ≡ waiting.with_batch_value self.old.state s value) }
         ensures same { fixed self.new ≡ fixed self.old }
     {
         let Some(slot) = self.slots.get_mut(s) else {

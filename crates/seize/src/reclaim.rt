@@ -2,7 +2,7 @@
 //! Two ready reclaimers end the value and put nothing. A watch is told of each value that is gone.
 ghost use Rattle.std.specs.Prelude.{◌≡◌, ℕ, ◌≤◌, ◌<◌, List, [], map, sum};
 ghost use Rattle.seize.specs.Blocks.{HoldsOnly, Joined};
-ghost use Rattle.seize.specs.Names.{Name};
+ghost use Rattle.seize.specs.Names.{CollectorName};
 
 mod further;
 mod ready;
@@ -23,7 +23,7 @@ pub trait Weigh {
 
     /// The collectors of the blocks that it holds. A type that holds blocks of itself says it by a fold over the value, with the word
     /// `owners_in` of `specs/Blocks`; `proofs/Contents` has the lemmas that its reclaimer and its makers need.
-    ghost owners: { Self → List Name } = { λ _. [] };
+    ghost owners: { Self → List CollectorName } = { λ _. [] };
 }
 
 /// What becomes of a value that nobody can read any more.

@@ -1,7 +1,7 @@
 //! Works that make and end blocks, and the same with boxes.
 ghost use Rattle.std.specs.Prelude.{◌≡◌};
 ghost use Rattle.seize_store.specs.Known.{family_in};
-ghost use Rattle.seize_store.specs.Named.{AreOf, name_of};
+ghost use Rattle.seize_store.specs.Named.{AreOfStore, store_name};
 
 use crate::clock::{RUNS, Samples};
 use crate::team::{Team, runs};
@@ -47,13 +47,13 @@ pub(crate) fn make<R: Clock + CpuClock + Threads + Sync>(
         BY_SPOTS,
         samples,
         &|| -> io::Result<u64>
-            requires { family_in (name_of store) ≡ 0 }
+            requires { family_in (store_name store) ≡ 0 }
         { through_spots(&store, alloc) },
     )
 }
 
 fn through_spots(store: &Store<u64, (), u64>, alloc: Global) -> io::Result<u64>
-    requires { family_in (name_of store.now) ≡ 0 }
+    requires { family_in (store_name store.now) ≡ 0 }
 {
     let mut spots = Spots::new(alloc)?;
     let mut sum = 0u64;
@@ -79,13 +79,13 @@ pub(crate) fn make_bare<R: Clock + CpuClock + Threads + Sync>(
         BARE,
         samples,
         &|| -> io::Result<u64>
-            requires { family_in (name_of store) ≡ 0 }
+            requires { family_in (store_name store) ≡ 0 }
         { through(&store) },
     )
 }
 
 fn through(store: &Store<u64, (), u64>) -> io::Result<u64>
-    requires { family_in (name_of store.now) ≡ 0 }
+    requires { family_in (store_name store.now) ≡ 0 }
 {
     let mut sum = 0u64;
     for value in 0..BARE {
@@ -112,7 +112,7 @@ fn through_boxes(alloc: Global) -> io::Result<u64> {
 }
 
 pub(crate) fn block(store: &Store<u64, (), u64>, value: u64) -> io::Result<Owned<u64, (), u64>>
-    requires { family_in (name_of store.now) ≡ 0 }
+    requires { family_in (store_name store.now) ≡ 0 }
 {
     match store.add(value, &Zero) {
         Ok(owned) => Ok(owned),
@@ -181,7 +181,7 @@ pub(crate) fn pipe<R: Clock + CpuClock + Threads + Sync>(
         alloc,
         samples,
         &|value| -> io::Result<Owned<u64, (), u64>>
-            requires { family_in (name_of store) ≡ 0 }
+            requires { family_in (store_name store) ≡ 0 }
         { block(&store, value) },
     )
 }

@@ -1,7 +1,7 @@
 //! Works that look numbers up, and one that follows references.
 ghost use Rattle.std.specs.Prelude.{◌≡◌, ◌%◌};
 ghost use Rattle.seize_store.specs.Known.{family_in};
-ghost use Rattle.seize_store.specs.Named.{name_of, row_is, store_by};
+ghost use Rattle.seize_store.specs.Named.{row_is, store_by, store_name};
 
 use crate::blocks::{PIPED, block, filled};
 use crate::clock::Samples;
@@ -46,12 +46,12 @@ fn numbers_of(all: &[Owned<u64, (), u64>], alloc: Global) -> io::Result<Vec<usiz
 
 // The blocks that stand.
 fn standing(store: &Store<u64, (), u64>, alloc: Global) -> io::Result<Vec<Owned<u64, (), u64>>>
-    requires { family_in (name_of store.now) ≡ 0 }
+    requires { family_in (store_name store.now) ≡ 0 }
 {
     filled(
         Vec::new(alloc),
         &|value| -> io::Result<Owned<u64, (), u64>>
-            requires { family_in (name_of store.now) ≡ 0 }
+            requires { family_in (store_name store.now) ≡ 0 }
         { block(store, value) },
     )
 }
@@ -84,7 +84,7 @@ fn some_found(
     numbers: &[usize],
     seen: &mut Seen<u64, (), u64>,
 ) -> u64
-    requires { (store_by seen.old ≡ name_of store.now) × row_is seen.old first × (first % 32 ≡ 0) }
+    requires { (store_by seen.old ≡ store_name store.now) × row_is seen.old first × (first % 32 ≡ 0) }
 {
     let mut sum = 0u64;
     for number in numbers.iter() {

@@ -1,13 +1,13 @@
 //! Works that threads do by slots of their own, over links that they share: they read, put values of new blocks in, and retire what came
 //! out, or what was never in a link.
 ghost use Rattle.std.specs.Prelude.{◌≡◌, ◌<◌, IfOk, IfSome};
-ghost use Rattle.seize_calls_rows.specs.Workers.{AreSpotsOf, CanMake, IsOut, MayWork, Stands, made_by};
+ghost use Rattle.seize_calls_rows.specs.Workers.{AreSpotsOf, CanMake, IsOut, Lends, MayWork, Stands, made_by};
 ghost use Rattle.seize_words.specs.Joined.{words_book};
 
 use crate::clock::{RUNS, Samples, Span};
 use crate::dropping::Dropping;
 use crate::team::Team;
-use seize_calls_rows::worker::{Active, Out, ROW, Source, Worker, open};
+use seize_calls_rows::worker::{Active, Lender, Out, ROW, Source, Worker, open};
 use seize_store::Spots;
 use seize_words::book::Pass;
 use seize_words::chunk::{Header, Part};
@@ -75,6 +75,13 @@ impl Job {
     }
 }
 
+// The holders of two slots.
+#[derive(Drop)]
+struct Two<'p> {
+    a: Worker<'p>,
+    b: Worker<'p>,
+}
+
 // The value of a new block, which is lent and was never in a link. Nothing comes where a growth of the store was refused.
 fn new_value(
     words: &Words<u64>,
@@ -97,13 +104,13 @@ fn new_value(
 }
 
 // Retires the value of a new block.
-fn retire_new(
-    active: Active<'static>,
+fn retire_new<'p>(
+    active: Active<'p>,
     words: &Words<u64>,
     value: u64,
     dropping: &mut Dropping,
     rt: &impl Wait,
-) -> Option<Active<'static>>
+) -> Option<Active<'p>>
     requires stands { Stands words.now active }
     ensures stands { IfSome result (λ active. Stands words.now active) }
 {
@@ -130,14 +137,14 @@ fn retire_new(
 }
 
 // Puts the value of a new block into the link, and retires what was there.
-fn update(
-    active: Active<'static>,
+fn update<'p>(
+    active: Active<'p>,
     words: &Words<u64>,
     link: usize,
     value: u64,
     dropping: &mut Dropping,
     rt: &impl Wait,
-) -> Option<Active<'static>>
+) -> Option<Active<'p>>
     requires stands { Stands words.now active }
     requires link { link < 1024 }
     ensures stands { IfSome result (λ active. Stands words.now active) }
@@ -150,15 +157,15 @@ fn update(
 }
 
 // Does so, or reads the link. It gives what it read.
-fn update_or_read(
-    active: Active<'static>,
+fn update_or_read<'p>(
+    active: Active<'p>,
     words: &Words<u64>,
     link: usize,
     value: u64,
     updates: bool,
     dropping: &mut Dropping,
     rt: &impl Wait,
-) -> Option<(Active<'static>, u64)>
+) -> Option<(Active<'p>, u64)>
     requires stands { Stands words.now active }
     requires link { link < 1024 }
     ensures stands { IfSome result (λ done. Stands words.now done.0) }
@@ -172,13 +179,13 @@ fn update_or_read(
 }
 
 // Enters, retires so many values of new blocks, and leaves.
-fn retire_many(
-    worker: Worker<'static>,
+fn retire_many<'p>(
+    worker: Worker<'p>,
     words: &Words<u64>,
     many: u64,
     dropping: &mut Dropping,
     rt: &impl Wait,
-) -> Option<Worker<'static>>
+) -> Option<Worker<'p>>
     requires may { MayWork words.now worker }
     ensures may { IfSome result (λ worker. MayWork words.now worker) }
 {
@@ -190,7 +197,7 @@ fn retire_many(
 }
 
 // Enters, puts a value into each link, and leaves.
-fn fill(worker: Worker<'static>, words: &Words<u64>, rt: &impl Wait) -> Option<Worker<'static>>
+fn fill<'p>(worker: Worker<'p>, words: &Words<u64>, rt: &impl Wait) -> Option<Worker<'p>>
     requires may { MayWork words.now worker }
     ensures may { IfSome result (λ worker. MayWork words.now worker) }
 {
@@ -203,12 +210,12 @@ fn fill(worker: Worker<'static>, words: &Words<u64>, rt: &impl Wait) -> Option<W
 }
 
 // One turn after the other. It gives the sum of the values read too.
-fn turns(
-    worker: Worker<'static>,
+fn turns<'p>(
+    worker: Worker<'p>,
     words: &Words<u64>,
     job: Job,
     rt: &impl Wait,
-) -> Option<(Worker<'static>, u64)>
+) -> Option<(Worker<'p>, u64)>
     requires may { MayWork words.now worker }
     ensures may { IfSome result (λ done. MayWork words.now done.0) }
 {
@@ -238,13 +245,13 @@ fn turns(
 }
 
 // A thread's part of a run, with its slot.
-fn alone<R: Clock + CpuClock + Wait>(
+fn alone<'p, R: Clock + CpuClock + Wait>(
     rt: &R,
     team: &Team,
     words: &Words<u64>,
-    worker: Worker<'static>,
+    worker: Worker<'p>,
     job: Job,
-) -> io::Result<(Span, Worker<'static>, u64)>
+) -> io::Result<(Span, Worker<'p>, u64)>
     requires may { MayWork words.now worker }
     ensures may { IfOk result (λ done. MayWork words.now done.1) }
 {
@@ -262,17 +269,17 @@ fn alone<R: Clock + CpuClock + Wait>(
 }
 
 // Two threads' parts.
-fn pair<R: Clock + CpuClock + Threads + Wait + Sync>(
+fn pair<'p, R: Clock + CpuClock + Threads + Wait + Sync>(
     rt: &R,
     team: &Team,
     words: &Words<u64>,
-    a: Worker<'static>,
-    b: Worker<'static>,
+    two: Two<'p>,
     job: Job,
-) -> io::Result<(Span, (Worker<'static>, Worker<'static>), u64)>
-    requires may { MayWork words.now a × MayWork words.now b }
-    ensures may { IfOk result (λ done. MayWork words.now done.1.0 × MayWork words.now done.1.1) }
+) -> io::Result<(Span, Two<'p>, u64)>
+    requires may { MayWork words.now two.a × MayWork words.now two.b }
+    ensures may { IfOk result (λ done. MayWork words.now done.1.a × MayWork words.now done.1.b) }
 {
+    let Two { a, b } = two;
     let (one, two) = thread::join(
         rt,
         move || -> io::Result<(Span, Worker, u64)>
@@ -286,14 +293,14 @@ fn pair<R: Clock + CpuClock + Threads + Wait + Sync>(
     );
     let (span, a, sum) = one?;
     let (other, b, more) = two?;
-    Ok((span.joined(other), (a, b), sum.wrapping_add(more)))
+    Ok((span.joined(other), Two { a, b }, sum.wrapping_add(more)))
 }
 
 // Runs of one thread.
-fn one_thread<R: Clock + CpuClock + Wait>(
+fn one_thread<'p, R: Clock + CpuClock + Wait>(
     rt: &R,
     words: &Words<u64>,
-    worker: Worker<'static>,
+    worker: Worker<'p>,
     job: Job,
     samples: &mut Samples,
 ) -> io::Result<()>
@@ -309,58 +316,48 @@ fn one_thread<R: Clock + CpuClock + Wait>(
 }
 
 // Runs of two threads.
-fn two_threads<R: Clock + CpuClock + Threads + Wait + Sync>(
+fn two_threads<'p, R: Clock + CpuClock + Threads + Wait + Sync>(
     rt: &R,
     words: &Words<u64>,
-    workers: (Worker<'static>, Worker<'static>),
+    two: Two<'p>,
     job: Job,
     samples: &mut Samples,
 ) -> io::Result<()>
-    requires may { MayWork words.now workers.0 × MayWork words.now workers.1 }
+    requires may { MayWork words.now two.a × MayWork words.now two.b }
 {
-    let mut workers = workers;
+    let mut two = two;
     for _ in 0..RUNS {
-        let (a, b) = workers;
-        let (span, next, sum) = pair(rt, &Team::of(2), words, a, b, job)?;
-        workers = next;
+        let (span, next, sum) = pair(rt, &Team::of(2), words, two, job)?;
+        two = next;
         samples.add(span, 2, job.count(), sum)?;
     }
     Ok(())
 }
 
 // One run of four threads.
-fn four<R: Clock + CpuClock + Threads + Wait + Sync>(
+fn four<'p, R: Clock + CpuClock + Threads + Wait + Sync>(
     rt: &R,
     words: &Words<u64>,
-    first: (Worker<'static>, Worker<'static>),
-    last: (Worker<'static>, Worker<'static>),
+    first: Two<'p>,
+    last: Two<'p>,
     job: Job,
-) -> io::Result<
-    (
-        Span,
-        (Worker<'static>, Worker<'static>),
-        (Worker<'static>, Worker<'static>),
-        u64,
-    ),
->
-    requires may { MayWork words.now first.0 × MayWork words.now first.1 × MayWork words.now last.0 × MayWork words.now last.1 }
-    ensures may { IfOk result (λ done. MayWork words.now done.1.0 × MayWork words.now done.1.1
-        × MayWork words.now done.2.0 × MayWork words.now done.2.1) }
+) -> io::Result<(Span, Two<'p>, Two<'p>, u64)>
+    requires may { MayWork words.now first.a × MayWork words.now first.b × MayWork words.now last.a × MayWork words.now last.b }
+    ensures may { IfOk result (λ done. MayWork words.now done.1.a × MayWork words.now done.1.b
+        × MayWork words.now done.2.a × MayWork words.now done.2.b) }
 {
-    let (a, b) = first;
-    let (c, d) = last;
     let team = Team::of(4);
     let team = &team;
     let (one, two) = thread::join(
         rt,
-        move || -> io::Result<(Span, (Worker, Worker), u64)>
-            requires { MayWork words.now a × MayWork words.now b }
-            ensures { IfOk result (λ done. MayWork words.entry.now done.1.0 × MayWork words.entry.now done.1.1) }
-        { pair(rt, team, words, a, b, job) },
-        move || -> io::Result<(Span, (Worker, Worker), u64)>
-            requires { MayWork words.now c × MayWork words.now d }
-            ensures { IfOk result (λ done. MayWork words.entry.now done.1.0 × MayWork words.entry.now done.1.1) }
-        { pair(rt, team, words, c, d, job) },
+        move || -> io::Result<(Span, Two, u64)>
+            requires { MayWork words.now first.a × MayWork words.now first.b }
+            ensures { IfOk result (λ done. MayWork words.entry.now done.1.a × MayWork words.entry.now done.1.b) }
+        { pair(rt, team, words, first, job) },
+        move || -> io::Result<(Span, Two, u64)>
+            requires { MayWork words.now last.a × MayWork words.now last.b }
+            ensures { IfOk result (λ done. MayWork words.entry.now done.1.a × MayWork words.entry.now done.1.b) }
+        { pair(rt, team, words, last, job) },
     );
     let (span, first, sum) = one?;
     let (other, last, more) = two?;
@@ -368,15 +365,15 @@ fn four<R: Clock + CpuClock + Threads + Wait + Sync>(
 }
 
 // Runs of four threads.
-fn four_threads<R: Clock + CpuClock + Threads + Wait + Sync>(
+fn four_threads<'p, R: Clock + CpuClock + Threads + Wait + Sync>(
     rt: &R,
     words: &Words<u64>,
-    first: (Worker<'static>, Worker<'static>),
-    last: (Worker<'static>, Worker<'static>),
+    first: Two<'p>,
+    last: Two<'p>,
     job: Job,
     samples: &mut Samples,
 ) -> io::Result<()>
-    requires may { MayWork words.now first.0 × MayWork words.now first.1 × MayWork words.now last.0 × MayWork words.now last.1 }
+    requires may { MayWork words.now first.a × MayWork words.now first.b × MayWork words.now last.a × MayWork words.now last.b }
 {
     let mut first = first;
     let mut last = last;
@@ -397,10 +394,10 @@ pub(crate) fn measure<R: Clock + CpuClock + Threads + Wait + Sync>(
     job: Job,
     samples: &mut Samples,
 ) -> io::Result<()> {
-    let Some((words, source)) = open(alloc, job.size) else {
+    let Some((words, lender, source)) = open(alloc, job.size) else {
         return Err(ErrorKind::OutOfMemory.into());
     };
-    run_all(rt, threads, &words, source, job, samples).unwrap_or_else(|| Err(
+    run_all(rt, threads, &words, &lender, source, job, samples).unwrap_or_else(|| Err(
         ErrorKind::OutOfMemory.into(),
     ))
 }
@@ -410,22 +407,25 @@ fn run_all<R: Clock + CpuClock + Threads + Wait + Sync>(
     rt: &R,
     threads: u64,
     words: &Words<u64>,
+    lender: &Lender,
     source: Source,
     job: Job,
     samples: &mut Samples,
 ) -> Option<io::Result<()>>
     requires can { CanMake source words.now × (made_by source ≡ 0) }
+    requires lender { Lends words.now lender.now }
 {
-    let (a, source) = source.make(words)?;
+    let (a, source) = source.make(words, lender)?;
     let a = fill(a, words, rt)?;
     if threads < 2 {
         return Some(one_thread(rt, words, a, job, samples));
     }
-    let (b, source) = source.make(words)?;
+    let (b, source) = source.make(words, lender)?;
     if threads < 4 {
-        return Some(two_threads(rt, words, (a, b), job, samples));
+        return Some(two_threads(rt, words, Two { a, b }, job, samples));
     }
-    let (c, source) = source.make(words)?;
-    let (d, _) = source.make(words)?;
-    Some(four_threads(rt, words, (a, b), (c, d), job, samples))
+    let (c, source) = source.make(words, lender)?;
+    let (d, _) = source.make(words, lender)?;
+    let (first, last) = (Two { a, b }, Two { a: c, b: d });
+    Some(four_threads(rt, words, first, last, job, samples))
 }

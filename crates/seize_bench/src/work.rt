@@ -37,7 +37,7 @@ pub(crate) enum Work {
     LookWide,
     /// A head entered and swapped out, by a slot of each thread.
     Enter,
-    /// One link swapped by all threads.
+    /// One link swapped by all threads, each time for nothing.
     Exchange1,
     /// 1,024 links read by a slot of each thread, which enters before and leaves after.
     Read1k,
@@ -172,8 +172,8 @@ impl Work {
             Work::Token => lookups::token(rt, threads, alloc, &mut samples)?,
             Work::LookPlain => lookups::look_plain(rt, threads, alloc, &mut samples)?,
             Work::LookWide => lookups::look_wide(rt, threads, alloc, &mut samples)?,
-            Work::Enter => words::enter(rt, threads, &mut samples)?,
-            Work::Exchange1 => words::exchange(rt, threads, &mut samples)?,
+            Work::Enter => words::enter(rt, threads, alloc, &mut samples)?,
+            Work::Exchange1 => words::exchange(rt, threads, alloc, &mut samples)?,
             Work::Read1k => words::read(rt, threads, alloc, &mut samples)?,
             Work::Protect1k => words::protect(rt, threads, alloc, &mut samples)?,
             _ => slots::measure(rt, threads, alloc, self.job(), &mut samples)?,

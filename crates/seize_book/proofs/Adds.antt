@@ -6,7 +6,7 @@ use base.Fml.{Fml, ftrue}
 use types.Logic.{Logic, sem}
 use types.Kit.{‵, ◌⊛◌, some, given, later, ◌$◌, ◌∵◌, !, qed, move, keep, split3, join, pick, learn, show, check, use2, updating, await, now, done}
 use denote.Steps.{nothing}
-use Rattle.seize_book.specs.Ledger.{Held, renewed, born}
+use Rattle.seize_book.specs.Ledger.{HeldKey, renewed, born}
 use Rattle.seize_book.specs.Entry.{Entry, Made, Deed}
 use Rattle.seize_book.specs.Book.{after, births}
 use Rattle.seize_book.specs.Fair.{Before, MayAdd, Added}
@@ -15,7 +15,7 @@ use Rattle.seize_book.proofs.Lives.{stays}
 use Rattle.seize_book.proofs.Passes.{keys_after, Made as MadeBy}
 use Rattle.seize_book.proofs.Notes.{notes}
 
-module _ {M : Type 1} {𝓤 : Ura M} (𝓛 : Logic 𝓤) (n : Name) (p : ℕ) (seen : List Entry) (held : List (Held Entry)) (e : Deed) where
+module _ {M : Type 1} {𝓤 : Ura M} (𝓛 : Logic 𝓤) (n : Name) (p : ℕ) (seen : List Entry) (held : List (HeldKey Entry)) (e : Deed) where
   open 𝓛 use {H}
 
   abbrev Pr : Type 2
@@ -39,10 +39,10 @@ module _ {M : Type 1} {𝓤 : Ura M} (𝓛 : Logic 𝓤) (n : Name) (p : ℕ) (s
   told log = Unit {0}
 
   -- the keys afterwards, where the list was `log` just before
-  abbrev then_held : List Entry → List Entry → List (Held Entry)
+  abbrev then_held : List Entry → List Entry → List (HeldKey Entry)
   then_held log seen' = renewed held seen' ++ born (births (after (start n) log) e.event) seen'
 
-  abbrev pub AddedNow : List Entry × List (Held Entry) → Pr
+  abbrev pub AddedNow : List Entry × List (HeldKey Entry) → Pr
   AddedNow t = guard 𝓤 (Added n p seen t.0 held t.1 e) (⟦ pass_owns n p t.0 ⟧ ∗ ⟦ keys_own n t.1 ⟧)
 
   pub adds : e.pass ≡ p → MayAdd n p seen held e → ⟦ pass_owns n p seen ⟧ ∗ ⟦ keys_own n held ⟧ ⊢ H.⇛ (ex 𝓤 AddedNow)

@@ -16,7 +16,7 @@ use Rattle.seize_machine.specs.Machine.State.{has}
 use Rattle.seize_book.specs.Book.{blocks}
 use Rattle.seize_book.specs.Entry.{Entry, entry_coded}
 use Rattle.seize_book.specs.Homes.{home_of}
-use Rattle.seize_book.specs.Ledger.{AllApart, Beside, Held, halved, right, rights}
+use Rattle.seize_book.specs.Ledger.{AllApart, Beside, HeldKey, halved, right, rights}
 use Rattle.seize_book.specs.Tokens.{Name, keys_own, rights_own, rows}
 use Rattle.seize_book.specs.Values.{LieApart}
 use Rattle.seize_book.specs.Private.{are_of_blocks, labels_of}
@@ -48,10 +48,10 @@ module _ {E : Type 0} (c : Coded E) (δs : List ℕ) {M : Type 1} {𝓤 : Ura M}
       use2 𝓛 (some (λ (x : Share × List E). given (◌∈◌ {α = Share × List E} x ((halved c).op (three_quarters, u) (three_quarters, v))) (‵ (entry (halved c) (slice_index_or δs r 0) k x))))
       (entry_glue (halved c) 𝓛 (slice_index_or δs r 0) k (three_quarters, u) (three_quarters, v)) $ pick ! (λ x. learn ! (λ m. absurd (three_quarters_once m.0.0)))
 
-  abbrev Other : ℕ → ℕ → List E → Held E → Pr
+  abbrev Other : ℕ → ℕ → List E → HeldKey E → Pr
   Other r k own g = guard 𝓤 (¬ ((r ≡ g.kind) × (k ≡ g.key))) (⟦ R r k own ⟧ ∗ ⟦ R g.kind g.key g.own ⟧)
 
-  other : (r k : ℕ) (own : List E) (g : Held E) → ⟦ R r k own ⟧ ∗ ⟦ R g.kind g.key g.own ⟧ ⊢ Other r k own g
+  other : (r k : ℕ) (own : List E) (g : HeldKey E) → ⟦ R r k own ⟧ ∗ ⟦ R g.kind g.key g.own ⟧ ⊢ Other r k own g
   other r k own g = go (ℕ_discrete r g.kind) (ℕ_discrete k g.key)
     where
       go : Dec (r ≡ g.kind) → Dec (k ≡ g.key) → ⟦ R r k own ⟧ ∗ ⟦ R g.kind g.key g.own ⟧ ⊢ Other r k own g
@@ -59,7 +59,7 @@ module _ {E : Type 0} (c : Coded E) (δs : List ℕ) {M : Type 1} {𝓤 : Ura M}
       go (yes e) (no n) = qed 𝓛 (‵ (R r k own) ∷ ‵ (R g.kind g.key g.own) ∷ []) ∵ check ! (λ t. n t.1) $ done !
       go (yes e) (yes i) = subst (λ (t : ℕ × ℕ). ⟦ R r k own ⟧ ∗ ⟦ R t.0 t.1 g.own ⟧ ⊢ Other r k own g) (λ j. (e j, i j)) (twice (Other r k own g) r k own g.own)
 
-  beside : (r k : ℕ) (own : List E) (held : List (Held E)) → ⟦ R r k own ⟧ ∗ ⟦ rights c δs held ⟧ ⊢ guard 𝓤 (Beside held r k) (⟦ R r k own ⟧ ∗ ⟦ rights c δs held ⟧)
+  beside : (r k : ℕ) (own : List E) (held : List (HeldKey E)) → ⟦ R r k own ⟧ ∗ ⟦ rights c δs held ⟧ ⊢ guard 𝓤 (Beside held r k) (⟦ R r k own ⟧ ∗ ⟦ rights c δs held ⟧)
   beside r k own [] = qed 𝓛 (‵ (R r k own) ∷ ‵ (rights c δs []) ∷ []) ∵ check ! tt $ done !
   beside r k own (g ∷ held) = qed 𝓛 (‵ (R r k own) ∷ ‵ (rights c δs (g ∷ held)) ∷ []) ∵ move ! (1 ∷ []) $ fsplit ! $
       -- [the one; the others; this right]
@@ -69,7 +69,7 @@ module _ {E : Type 0} (c : Coded E) (δs : List ℕ) {M : Type 1} {𝓤 : Ura M}
       -- [this right; the others; the one]
       move ! (2 ∷ 1 ∷ []) $ fjoin ! $ move ! (1 ∷ 0 ∷ []) $ done !))
 
-  pub all_apart : (held : List (Held E)) → ⟦ rights c δs held ⟧ ⊢ guard 𝓤 (AllApart held) ⟦ rights c δs held ⟧
+  pub all_apart : (held : List (HeldKey E)) → ⟦ rights c δs held ⟧ ⊢ guard 𝓤 (AllApart held) ⟦ rights c δs held ⟧
   all_apart [] = qed 𝓛 (‵ (rights c δs []) ∷ []) ∵ check ! tt $ done !
   all_apart (h ∷ held) = qed 𝓛 (‵ (rights c δs (h ∷ held)) ∷ []) ∵ fsplit ! $
       move ! (1 ∷ []) $ use1 𝓛 (given (AllApart held) (‵ (rights c δs held))) (all_apart held) $ learn ! (λ rest.
@@ -78,19 +78,19 @@ module _ {E : Type 0} (c : Coded E) (δs : List ℕ) {M : Type 1} {𝓤 : Ura M}
       fjoin ! $ done !))
 
 -- so it is of keys, which own the rights and more
-pub keys_are_apart : {M : Type 1} {𝓤 : Ura M} (𝓛 : Logic 𝓤) (n : Name) (held : List (Held Entry)) → ent 𝓤 (sem 𝓛 (keys_own n held)) (guard 𝓤 (AllApart held) (sem 𝓛 (keys_own n held)))
+pub keys_are_apart : {M : Type 1} {𝓤 : Ura M} (𝓛 : Logic 𝓤) (n : Name) (held : List (HeldKey Entry)) → ent 𝓤 (sem 𝓛 (keys_own n held)) (guard 𝓤 (AllApart held) (sem 𝓛 (keys_own n held)))
 keys_are_apart 𝓛 n held = qed 𝓛 (‵ (keys_own n held) ∷ []) ∵ use1 𝓛 (‵ (rights_own n held) ⊛ ‵ (ways 𝓛 n held)) (keys_apart 𝓛 n held) $ split ! $
     use1 𝓛 (given (AllApart held) (‵ (rights_own n held))) (all_apart entry_coded (rows n) 𝓛 held) $ learn ! (λ apart. check ! apart $
     use2 𝓛 (‵ (keys_own n held)) (keys_whole 𝓛 n held) $ done !)
 
 -- Keys of blocks that are apart are those of values that lie apart.
 
-not_in : (held : List (Held Entry)) (k : ℕ) → are_of_blocks held ≡ true → Beside held blocks k → has k (map home_of (labels_of held)) ≡ false
+not_in : (held : List (HeldKey Entry)) (k : ℕ) → are_of_blocks held ≡ true → Beside held blocks k → has k (map home_of (labels_of held)) ≡ false
 not_in [] k are beside = refl
 not_in (h ∷ held) k are beside = let its = first_is h held are in
     or_from _ _ (unequal (home_of h.label) k (λ e. beside.0 (sym its.0, sym (its.1 ∙ e)))) (not_in held k its.2 beside.1)
 
-pub lie_apart : (held : List (Held Entry)) → are_of_blocks held ≡ true → AllApart held → LieApart (labels_of held)
+pub lie_apart : (held : List (HeldKey Entry)) → are_of_blocks held ≡ true → AllApart held → LieApart (labels_of held)
 lie_apart [] are apart = refl
 lie_apart (h ∷ held) are apart = let its = first_is h held are in
     let none = not_in held (home_of h.label) its.2 (subst (λ (t : ℕ × ℕ). Beside held t.0 t.1) (λ j. (its.0 j, its.1 j)) apart.0) in

@@ -14,13 +14,13 @@ use types.Logic.{Logic, sem}
 use types.Growing.{latest_grows, latest_shows, latest_bounds}
 use types.Kit.{‵, raw, ◌⊛◌, some, given, ◌$◌, ◌∵◌, !, qed, by, move, keep, drop, split, split3, join, fsplit, fsplit3, fjoin, fjoin3, fpick, fpack, pick, learn, show, check, frame, each, assume, suffices, settle, done, use1, use2, use3, rewrite}
 use denote.Steps.{nothing}
-use Rattle.seize_book.specs.Ledger.{Held, logs, roster, rosters, right, rights, reached, first, rest, row, Rules, Holds, standing, contents, Beside, WithKinds, renewed, AllKept, Known, Goes, AllBelow, born, bumped, AreNext, all_bumped, AllThere}
+use Rattle.seize_book.specs.Ledger.{HeldKey, logs, roster, rosters, right, rights, reached, first_row, rest, row, Rules, Holds, standing, contents, Beside, WithKinds, renewed, AllKept, Known, Goes, AllBelow, born, bumped, AreNextNumbers, all_bumped, AllThere}
 use Rattle.seize_book.proofs.Roster.{has, sets, mints}
 
 -- the rows, one of them set
 abbrev pub put : {X : Type 0} → List (List X) → ℕ → List X → List (List X)
 put rows zero xs = xs ∷ rest rows
-put rows (suc r) xs = first rows ∷ put (rest rows) r xs
+put rows (suc r) xs = first_row rows ∷ put (rest rows) r xs
 
 put_same : {X : Type 0} (rows : List (List X)) (r : ℕ) (xs : List X) → row (put rows r xs) r ≡ xs
 put_same rows zero xs = refl
@@ -53,11 +53,11 @@ has_put {X} rows r k x q j y h = go (ℕ_discrete q r)
         ⊎_elim (λ t. inl t.1) (λ t. inr ((λ u. t.0 u.1), subst (λ (z : ℕ). slice_get (row rows z) j ≡ Some y) (sym e) t.1)) (get_set (row rows r) k j x y h')
     go (no n) = inr ((λ u. n u.0), subst (λ (z : List X). slice_get z j ≡ Some y) (put_other rows r q (set (row rows r) k x) n) h)
 
-abbrev pub puts : {E : Type 0} → List (List (List E)) → List (Held E) → List E → List (List (List E))
+abbrev pub puts : {E : Type 0} → List (List (List E)) → List (HeldKey E) → List E → List (List (List E))
 puts rows [] log = rows
 puts rows (h ∷ hs) log = puts (at_key rows h.kind h.key log) hs log
 
-has_puts : {E : Type 0} (rows : List (List (List E))) (held : List (Held E)) (log : List E) (r k : ℕ) (own : List E) → Has (puts rows held log) r k own → (own ≡ log) ⊎ (Beside held r k × Has rows r k own)
+has_puts : {E : Type 0} (rows : List (List (List E))) (held : List (HeldKey E)) (log : List E) (r k : ℕ) (own : List E) → Has (puts rows held log) r k own → (own ≡ log) ⊎ (Beside held r k × Has rows r k own)
 has_puts rows [] log r k own h = inr (tt, h)
 has_puts rows (g ∷ gs) log r k own h = ⊎_elim (λ e. inl e) (λ t. ⊎_elim (λ e. inl e) (λ u. inr ((u.0, t.0), u.1)) (has_put rows g.kind g.key log r k own t.1)) (has_puts (at_key rows g.kind g.key log) gs log r k own h)
 
@@ -68,7 +68,7 @@ put_length {X} rows r q xs e = go (ℕ_discrete q r)
     go (yes i) = ap (λ (z : ℕ). length (row (put rows r xs) z)) i ∙ ap length (put_same rows r xs) ∙ e ∙ ap (λ (z : ℕ). length (row rows z)) (sym i)
     go (no n) = ap length (put_other rows r q xs n)
 
-puts_length : {E : Type 0} (rows : List (List (List E))) (held : List (Held E)) (log : List E) (q : ℕ) → length (row (puts rows held log) q) ≡ length (row rows q)
+puts_length : {E : Type 0} (rows : List (List (List E))) (held : List (HeldKey E)) (log : List E) (q : ℕ) → length (row (puts rows held log) q) ≡ length (row rows q)
 puts_length rows [] log q = refl
 puts_length rows (h ∷ hs) log q = puts_length (at_key rows h.kind h.key log) hs log q ∙ put_length rows h.kind q (set (row rows h.kind) h.key log) (length-set (row rows h.kind) h.key log)
 
@@ -180,17 +180,17 @@ module _ {E : Type 0} (c : Coded E) (rules : Rules E) (extra : List E → Fml) (
 
   opens : (ns : List ℕ) (rows : Rows) (r : ℕ) → r < length ns → ⟦ rosters c ns rows ⟧ ⊢ ⟦ roster c (get_or ns r 0) 0 (row rows r) ⟧ ∗ all 𝓤 (Back ns rows r)
   opens [] rows r h = absurd (omega arith)
-  opens (δ ∷ ns) rows zero h = qed 𝓛 (‵ (roster c δ 0 (first rows)) ∷ ‵ (rosters c ns (rest rows)) ∷ []) ∵ frame ! $ each ! (Back (δ ∷ ns) rows zero) (λ owns. assume ! (‵ (roster c δ 0 owns)) $ done !)
-  opens (δ ∷ ns) rows (suc r) h = qed 𝓛 (‵ (roster c δ 0 (first rows)) ∷ ‵ (rosters c ns (rest rows)) ∷ []) ∵ move ! (1 ∷ []) $
+  opens (δ ∷ ns) rows zero h = qed 𝓛 (‵ (roster c δ 0 (first_row rows)) ∷ ‵ (rosters c ns (rest rows)) ∷ []) ∵ frame ! $ each ! (Back (δ ∷ ns) rows zero) (λ owns. assume ! (‵ (roster c δ 0 owns)) $ done !)
+  opens (δ ∷ ns) rows (suc r) h = qed 𝓛 (‵ (roster c δ 0 (first_row rows)) ∷ ‵ (rosters c ns (rest rows)) ∷ []) ∵ move ! (1 ∷ []) $
       use1 𝓛 (‵ (roster c (get_or ns r 0) 0 (row (rest rows) r)) ⊛ raw (all 𝓤 (Back ns (rest rows) r))) (opens ns (rest rows) r (omega arith)) $ split ! $ frame ! $
       each ! (Back (δ ∷ ns) rows (suc r)) (λ owns. use1 𝓛 (raw (Back ns (rest rows) r owns)) (all_e 𝓤 (Back ns (rest rows) r) owns) $ assume ! (‵ (roster c (get_or ns r 0) 0 owns)) $
       use2 𝓛 (‵ (rosters c ns (put (rest rows) r owns))) (apply∗ 𝓤 ⟦ roster c (get_or ns r 0) 0 owns ⟧ ⟦ rosters c ns (put (rest rows) r owns) ⟧) $ move ! (1 ∷ 0 ∷ []) $ done !)
 
   has_right : (ns : List ℕ) (rows : Rows) (r k : ℕ) (own : List E) → r < length ns → ⟦ rosters c ns rows ⟧ ∗ ⟦ right c ns r k own ⟧ ⊢ guard 𝓤 (Has rows r k own) (⟦ rosters c ns rows ⟧ ∗ ⟦ right c ns r k own ⟧)
   has_right [] rows r k own h = absurd (omega arith)
-  has_right (δ ∷ ns) rows zero k own h = qed 𝓛 ((‵ (roster c δ 0 (first rows)) ⊛ ‵ (rosters c ns (rest rows))) ∷ ‵ (right c (δ ∷ ns) zero k own) ∷ []) ∵ split ! $ move ! (0 ∷ 2 ∷ []) $
-      use2 𝓛 (given (Has rows zero k own) (‵ (roster c δ 0 (first rows)) ⊛ ‵ (right c (δ ∷ ns) zero k own))) (has c 𝓛 δ (first rows) 0 k k own (omega arith)) $ learn ! (λ so. check ! so $ split ! $ move ! (0 ∷ 2 ∷ []) $ join ! $ done !)
-  has_right (δ ∷ ns) rows (suc r) k own h = qed 𝓛 ((‵ (roster c δ 0 (first rows)) ⊛ ‵ (rosters c ns (rest rows))) ∷ ‵ (right c ns r k own) ∷ []) ∵ split ! $ move ! (1 ∷ 2 ∷ []) $
+  has_right (δ ∷ ns) rows zero k own h = qed 𝓛 ((‵ (roster c δ 0 (first_row rows)) ⊛ ‵ (rosters c ns (rest rows))) ∷ ‵ (right c (δ ∷ ns) zero k own) ∷ []) ∵ split ! $ move ! (0 ∷ 2 ∷ []) $
+      use2 𝓛 (given (Has rows zero k own) (‵ (roster c δ 0 (first_row rows)) ⊛ ‵ (right c (δ ∷ ns) zero k own))) (has c 𝓛 δ (first_row rows) 0 k k own (omega arith)) $ learn ! (λ so. check ! so $ split ! $ move ! (0 ∷ 2 ∷ []) $ join ! $ done !)
+  has_right (δ ∷ ns) rows (suc r) k own h = qed 𝓛 ((‵ (roster c δ 0 (first_row rows)) ⊛ ‵ (rosters c ns (rest rows))) ∷ ‵ (right c ns r k own) ∷ []) ∵ split ! $ move ! (1 ∷ 2 ∷ []) $
       use2 𝓛 (given (Has (rest rows) r k own) (‵ (rosters c ns (rest rows)) ⊛ ‵ (right c ns r k own))) (has_right ns (rest rows) r k own (omega arith)) $ learn ! (λ so. check ! so $ split ! $ move ! (2 ∷ 0 ∷ []) $ join ! $ done !)
 
   sets_right : (rows : Rows) (r k : ℕ) (own new : List E) → r < length δs → ⟦ rosters c δs rows ⟧ ∗ ⟦ right c δs r k own ⟧ ⊢ upd 𝓤 (⟦ rosters c δs (at_key rows r k new) ⟧ ∗ ⟦ right c δs r k new ⟧)
@@ -208,17 +208,17 @@ module _ {E : Type 0} (c : Coded E) (rules : Rules E) (extra : List E → Fml) (
       suffices ! _ (upd_i 𝓤 Z) $ done !
 
   -- several rights at once
-  abbrev AllHas : Rows → List (Held E) → Type 0
+  abbrev AllHas : Rows → List (HeldKey E) → Type 0
   AllHas rows [] = Unit {0}
   AllHas rows (h ∷ hs) = Has rows h.kind h.key h.own × AllHas rows hs
 
-  has_rights : (rows : Rows) (held : List (Held E)) → WithKinds (length δs) held → ⟦ rosters c δs rows ⟧ ∗ ⟦ rights c δs held ⟧ ⊢ guard 𝓤 (AllHas rows held) (⟦ rosters c δs rows ⟧ ∗ ⟦ rights c δs held ⟧)
+  has_rights : (rows : Rows) (held : List (HeldKey E)) → WithKinds (length δs) held → ⟦ rosters c δs rows ⟧ ∗ ⟦ rights c δs held ⟧ ⊢ guard 𝓤 (AllHas rows held) (⟦ rosters c δs rows ⟧ ∗ ⟦ rights c δs held ⟧)
   has_rights rows [] w = guard_i 𝓤 _ _ tt
   has_rights rows (h ∷ hs) w = qed 𝓛 (‵ (rosters c δs rows) ∷ (‵ (right c δs h.kind h.key h.own) ⊛ ‵ (rights c δs hs)) ∷ []) ∵ move ! (1 ∷ []) $ split ! $ move ! (2 ∷ 0 ∷ []) $
       use2 𝓛 (given (Has rows h.kind h.key h.own) (‵ (rosters c δs rows) ⊛ ‵ (right c δs h.kind h.key h.own))) (has_right δs rows h.kind h.key h.own w.0) $ learn ! (λ so. split ! $ move ! (0 ∷ 2 ∷ []) $
       use2 𝓛 (given (AllHas rows hs) (‵ (rosters c δs rows) ⊛ ‵ (rights c δs hs))) (has_rights rows hs w.1) $ learn ! (λ more. check ! (so, more) $ split ! $ frame ! $ move ! (1 ∷ 0 ∷ []) $ done !))
 
-  sets_rights : (rows : Rows) (held : List (Held E)) (log : List E) → WithKinds (length δs) held → ⟦ rosters c δs rows ⟧ ∗ ⟦ rights c δs held ⟧ ⊢ upd 𝓤 (⟦ rosters c δs (puts rows held log) ⟧ ∗ ⟦ rights c δs (renewed held log) ⟧)
+  sets_rights : (rows : Rows) (held : List (HeldKey E)) (log : List E) → WithKinds (length δs) held → ⟦ rosters c δs rows ⟧ ∗ ⟦ rights c δs held ⟧ ⊢ upd 𝓤 (⟦ rosters c δs (puts rows held log) ⟧ ∗ ⟦ rights c δs (renewed held log) ⟧)
   sets_rights rows [] log w = upd_i 𝓤 _
   sets_rights rows (h ∷ hs) log w = let rows' : Rows = at_key rows h.kind h.key log in let Z : Pr = ⟦ rosters c δs (puts rows' hs log) ⟧ ∗ ⟦ right c δs h.kind h.key log ⟧ ∗ ⟦ rights c δs (renewed hs log) ⟧ in
       qed 𝓛 (‵ (rosters c δs rows) ∷ (‵ (right c δs h.kind h.key h.own) ⊛ ‵ (rights c δs hs)) ∷ []) ∵ move ! (1 ∷ []) $ split ! $ move ! (2 ∷ 0 ∷ []) $
@@ -240,18 +240,14 @@ module _ {E : Type 0} (c : Coded E) (rules : Rules E) (extra : List E → Fml) (
       qed 𝓛 (‵ (rosters c δs rows) ∷ []) ∵ use1 𝓛 (raw (upd 𝓤 (⟦ rosters c δs rows' ⟧ ∗ ⟦ right c δs r k log ⟧))) (mints_right rows r log below) $ settle 𝓛 Z (‵ (rosters c δs rows') ⊛ ‵ (right c δs r k log)) $ split ! $ keep ! (0 ∷ []) $ by ! others
 
   -- the rights to new keys
-  pub borns : (rows : Rows) (births : List (ℕ × ℕ)) (log : List E) → AllBelow (length δs) births → AreNext (sizes rows) births → ⟦ rosters c δs rows ⟧ ⊢ upd 𝓤 (⟦ rosters c δs (grown rows births log) ⟧ ∗ ⟦ rights c δs (born births log) ⟧)
+  pub borns : (rows : Rows) (births : List (ℕ × ℕ)) (log : List E) → AllBelow (length δs) births → AreNextNumbers (sizes rows) births → ⟦ rosters c δs rows ⟧ ⊢ upd 𝓤 (⟦ rosters c δs (grown rows births log) ⟧ ∗ ⟦ rights c δs (born births log) ⟧)
   borns rows [] log below next = qed 𝓛 (‵ (rosters c δs rows) ∷ []) ∵ suffices ! _ (upd_i 𝓤 (⟦ rosters c δs rows ⟧ ∗ ⟦ ftrue ⟧)) $ frame ! $ nothing ! $ done !
   borns rows (b ∷ births) log below next = let rows' : Rows = one_more rows b.0 log in
-      mints_one rows (grown rows' births log) b births log below.0 next.0 (borns rows' births log below.1 (subst (λ (many : ℕ → ℕ). AreNext many births) (sym (fun_ext (more_sizes rows b.0 log))) next.1))
+      mints_one rows (grown rows' births log) b births log below.0 next.0 (borns rows' births log below.1 (subst (λ (many : ℕ → ℕ). AreNextNumbers many births) (sym (fun_ext (more_sizes rows b.0 log))) next.1))
 
-  pub joins : (xs ys : List (Held E)) → ⟦ rights c δs xs ⟧ ∗ ⟦ rights c δs ys ⟧ ⊢ ⟦ rights c δs (xs ++ ys) ⟧
+  pub joins : (xs ys : List (HeldKey E)) → ⟦ rights c δs xs ⟧ ∗ ⟦ rights c δs ys ⟧ ⊢ ⟦ rights c δs (xs ++ ys) ⟧
   joins [] ys = qed 𝓛 (‵ ftrue ∷ ‵ (rights c δs ys) ∷ []) ∵ keep ! (1 ∷ []) $ done !
   joins (h ∷ xs) ys = qed 𝓛 ((‵ (right c δs h.kind h.key h.own) ⊛ ‵ (rights c δs xs)) ∷ ‵ (rights c δs ys) ∷ []) ∵ split ! $ move ! (1 ∷ 2 ∷ []) $ use2 𝓛 (‵ (rights c δs (xs ++ ys))) (joins xs ys) $ move ! (1 ∷ 0 ∷ []) $ fjoin ! $ done !
-
-  pub parts_first : (xs : List (Held E)) → ⟦ rights c δs xs ⟧ ⊢ ⟦ rights c δs (take 1 xs) ⟧ ∗ ⟦ rights c δs (past 1 xs) ⟧
-  parts_first [] = qed 𝓛 (‵ ftrue ∷ []) ∵ nothing ! $ done !
-  parts_first (h ∷ xs) = qed 𝓛 ((‵ (right c δs h.kind h.key h.own) ⊛ ‵ (rights c δs xs)) ∷ []) ∵ split ! $ nothing ! $ move ! (1 ∷ 0 ∷ []) $ fjoin ! $ done !
 
   abbrev J : Fml
   J = contents c rules extra η δs
@@ -262,11 +258,11 @@ module _ {E : Type 0} (c : Coded E) (rules : Rules E) (extra : List E → Fml) (
   abbrev had : List E → Fml
   had log = reached c η log
 
-  all_kept : (rows : Rows) (log : List E) (held : List (Held E)) → Holds rules rows log → AllHas rows held → AllKept rules held log
+  all_kept : (rows : Rows) (log : List E) (held : List (HeldKey E)) → Holds rules rows log → AllHas rows held → AllKept rules held log
   all_kept rows log [] so has = tt
   all_kept rows log (h ∷ hs) so has = (so.kept h.kind h.key h.own has.0, all_kept rows log hs so has.1)
 
-  all_there : (rows : Rows) (held : List (Held E)) → AllHas rows held → AllThere (sizes rows) held
+  all_there : (rows : Rows) (held : List (HeldKey E)) → AllHas rows held → AllThere (sizes rows) held
   all_there rows [] h = tt
   all_there rows (g ∷ gs) h = (get_lt (row rows g.kind) g.key g.own h.0, all_there rows gs h.1)
 
@@ -274,10 +270,10 @@ module _ {E : Type 0} (c : Coded E) (rules : Rules E) (extra : List E → Fml) (
   shut rows log so = qed 𝓛 (‵ (rosters c δs rows) ∷ ‵ (top log) ∷ ‵ (extra log) ∷ []) ∵ nothing ! $ fpack ! (Holds rules rows log) (λ _. ftrue) so $ move ! (3 ∷ 0 ∷ []) $ fjoin ! $
       move ! (1 ∷ 2 ∷ 0 ∷ []) $ fjoin3 ! $ fpack ! (Rows × List E) (standing c rules extra η δs) (rows, log) $ done !
 
-  abbrev Open : List (Held E) → List E → Rows × List E → Pr
+  abbrev Open : List (HeldKey E) → List E → Rows × List E → Pr
   Open held seen s = guard 𝓤 (Holds rules s.0 s.1 × Known rules held seen s.1 × AllThere (sizes s.0) held) (⟦ rosters c δs s.0 ⟧ ∗ ⟦ top s.1 ⟧ ∗ ⟦ extra s.1 ⟧ ∗ ⟦ rights c δs held ⟧)
 
-  looked : (held : List (Held E)) (seen : List E) → WithKinds (length δs) held → ⟦ J ⟧ ∗ ⟦ rights c δs held ⟧ ∗ ⟦ had seen ⟧ ⊢ ex 𝓤 (Open held seen)
+  looked : (held : List (HeldKey E)) (seen : List E) → WithKinds (length δs) held → ⟦ J ⟧ ∗ ⟦ rights c δs held ⟧ ∗ ⟦ had seen ⟧ ⊢ ex 𝓤 (Open held seen)
   looked held seen w = qed 𝓛 (‵ J ∷ ‵ (rights c δs held) ∷ ‵ (had seen) ∷ []) ∵ fpick ! (λ s. fsplit3 ! $ move ! (2 ∷ []) $ fsplit ! $ move ! (1 ∷ []) $ fpick ! (λ so. drop ! $
       -- [extra; rosters; top; rights; seen]
       move ! (2 ∷ 4 ∷ []) $ use2 𝓛 (given (IsPrefix seen s.1) (‵ (top s.1) ⊛ ‵ (had seen))) (latest_bounds (logs c) 𝓛 full_share η s.1 seen) $ learn ! (λ p. split ! $ move ! (3 ∷ 4 ∷ []) $
@@ -285,13 +281,13 @@ module _ {E : Type 0} (c : Coded E) (rules : Rules E) (extra : List E → Fml) (
       -- [rosters; rights; top; seen; extra]
       show ! (Open held seen) s $ check ! (so, (so.legal, p, all_kept s.0 s.1 held so h), all_there s.0 held h) $ keep ! (0 ∷ 2 ∷ 4 ∷ 1 ∷ []) $ done !))))
 
-  abbrev seeing : List (Held E) → List E → types.Kit.Item 𝓤
+  abbrev seeing : List (HeldKey E) → List E → types.Kit.Item 𝓤
   seeing held seen = some (λ (s : Rows × List E). given (Holds rules s.0 s.1 × Known rules held seen s.1 × AllThere (sizes s.0) held) (‵ (rosters c δs s.0) ⊛ ‵ (top s.1) ⊛ ‵ (extra s.1) ⊛ ‵ (rights c δs held)))
 
   abbrev KeptNow : Type 0
   KeptNow = (r k : ℕ) (log : List E) → rules.Kept r k log log
 
-  holds_more : (rows : Rows) (held : List (Held E)) (seen log : List E) (ev : List E → E) (births : List E → List (ℕ × ℕ)) (Told : List E → Type 0) → KeptNow → Goes rules held seen ev births Told → Holds rules rows log → Known rules held seen log → AllThere (sizes rows) held → Told log
+  holds_more : (rows : Rows) (held : List (HeldKey E)) (seen log : List E) (ev : List E → E) (births : List E → List (ℕ × ℕ)) (Told : List E → Type 0) → KeptNow → Goes rules held seen ev births Told → Holds rules rows log → Known rules held seen log → AllThere (sizes rows) held → Told log
       → Holds rules (grown (puts rows held (log ++ ev log ∷ [])) (births log) (log ++ ev log ∷ [])) (log ++ ev log ∷ [])
   holds_more rows held seen log ev births Told same goes so known there told = let log' : List E = log ++ ev log ∷ [] in let g = goes log known told in let mid : Rows = puts rows held log' in
       record {
@@ -302,24 +298,24 @@ module _ {E : Type 0} (c : Coded E) (rules : Rules E) (extra : List E → Fml) (
       }
 
   -- what is had after an event was appended
-  abbrev pub Appended : List (Held E) → List E → (List E → E) → (List E → List (ℕ × ℕ)) → (List E → Type 0) → (List E → Pr) → List E → Pr
+  abbrev pub Appended : List (HeldKey E) → List E → (List E → E) → (List E → List (ℕ × ℕ)) → (List E → Type 0) → (List E → Pr) → List E → Pr
   Appended held seen ev births Told Y log = guard 𝓤 (Known rules held seen log × Told log)
       (⟦ J ⟧ ∗ ⟦ rights c δs (renewed held (log ++ ev log ∷ []) ++ born (births log) (log ++ ev log ∷ [])) ⟧ ∗ ⟦ had (log ++ ev log ∷ []) ⟧ ∗ Y log)
 
   -- THE step: whoever holds the rights to all that the event changes appends it, whatever the log is
-  pub appends : (held : List (Held E)) (seen : List E) (ev : List E → E) (births : List E → List (ℕ × ℕ)) (Told : List E → Type 0) (X : Pr) (Y : List E → Pr) → WithKinds (length δs) held → ((log : List E) → AllBelow (length δs) (births log)) → KeptNow → Goes rules held seen ev births Told
+  pub appends : (held : List (HeldKey E)) (seen : List E) (ev : List E → E) (births : List E → List (ℕ × ℕ)) (Told : List E → Type 0) (X : Pr) (Y : List E → Pr) → WithKinds (length δs) held → ((log : List E) → AllBelow (length δs) (births log)) → KeptNow → Goes rules held seen ev births Told
       → ((log : List E) → Known rules held seen log → ⟦ extra log ⟧ ∗ X ⊢ guard 𝓤 (Told log) (⟦ extra log ⟧ ∗ X))
       → ((log : List E) → Known rules held seen log → Told log → ⟦ extra log ⟧ ∗ X ⊢ upd 𝓤 (⟦ extra (log ++ ev log ∷ []) ⟧ ∗ Y log))
       → ⟦ J ⟧ ∗ ⟦ rights c δs held ⟧ ∗ ⟦ had seen ⟧ ∗ X ⊢ upd 𝓤 (ex 𝓤 (Appended held seen ev births Told Y))
   appends held seen ev births Told X Y w below same goes tells moves = let Z : Pr = ex 𝓤 (Appended held seen ev births Told Y) in
       qed 𝓛 (‵ J ∷ ‵ (rights c δs held) ∷ ‵ (had seen) ∷ raw X ∷ []) ∵ use3 𝓛 (seeing held seen) (looked held seen w) $ pick ! (λ s. learn ! (λ so. let rows : Rows = s.0 in let log : List E = s.1 in let log' : List E = log ++ ev log ∷ [] in
-      let mid : Rows = puts rows held log' in let rows' : Rows = grown mid (births log) log' in let new : List (Held E) = born (births log) log' in
+      let mid : Rows = puts rows held log' in let rows' : Rows = grown mid (births log) log' in let new : List (HeldKey E) = born (births log) log' in
       split ! $ move ! (1 ∷ []) $ split3 ! $
       -- [top; extra; rights; rosters; X]
       move ! (1 ∷ 4 ∷ []) $ use2 𝓛 (given (Told log) (‵ (extra log) ⊛ raw X)) (tells log so.1) $ learn ! (λ told. split ! $
       -- [extra; X; top; rights; rosters]
       move ! (4 ∷ 3 ∷ []) $ use2 𝓛 (raw (upd 𝓤 (⟦ rosters c δs mid ⟧ ∗ ⟦ rights c δs (renewed held log') ⟧))) (sets_rights rows held log' w) $ settle 𝓛 Z (‵ (rosters c δs mid) ⊛ ‵ (rights c δs (renewed held log'))) $ split ! $
-      use1 𝓛 (raw (upd 𝓤 (⟦ rosters c δs rows' ⟧ ∗ ⟦ rights c δs new ⟧))) (borns mid (births log) log' (below log) (subst (λ (many : ℕ → ℕ). AreNext many (births log)) (sym (fun_ext (puts_length rows held log'))) ((goes log so.1 told).2 (sizes rows) so.0.sized so.2).0)) $ settle 𝓛 Z (‵ (rosters c δs rows') ⊛ ‵ (rights c δs new)) $ split ! $
+      use1 𝓛 (raw (upd 𝓤 (⟦ rosters c δs rows' ⟧ ∗ ⟦ rights c δs new ⟧))) (borns mid (births log) log' (below log) (subst (λ (many : ℕ → ℕ). AreNextNumbers many (births log)) (sym (fun_ext (puts_length rows held log'))) ((goes log so.1 told).2 (sizes rows) so.0.sized so.2).0)) $ settle 𝓛 Z (‵ (rosters c δs rows') ⊛ ‵ (rights c δs new)) $ split ! $
       -- [rosters; new rights; rights; extra; X; top]
       move ! (2 ∷ 1 ∷ []) $ use2 𝓛 (‵ (rights c δs (renewed held log' ++ new))) (joins (renewed held log') new) $ move ! (1 ∷ 0 ∷ []) $
       -- [rosters; rights; extra; X; top]
@@ -334,7 +330,7 @@ module _ {E : Type 0} (c : Coded E) (rules : Rules E) (extra : List E → Fml) (
 
   -- nothing is appended: what the log is now was reached, and the holders know of it. What stands beside the list may tell more of it, and
   -- give what may be had twice.
-  pub looks_beside : (held : List (Held E)) (seen : List E) (Told : List E → Type 0) (X : Pr) (Y : List E → Pr) → WithKinds (length δs) held → ((log : List E) → Known rules held seen log → ⟦ extra log ⟧ ∗ X ⊢ guard 𝓤 (Told log) (⟦ extra log ⟧ ∗ Y log))
+  pub looks_beside : (held : List (HeldKey E)) (seen : List E) (Told : List E → Type 0) (X : Pr) (Y : List E → Pr) → WithKinds (length δs) held → ((log : List E) → Known rules held seen log → ⟦ extra log ⟧ ∗ X ⊢ guard 𝓤 (Told log) (⟦ extra log ⟧ ∗ Y log))
       → ⟦ J ⟧ ∗ ⟦ rights c δs held ⟧ ∗ ⟦ had seen ⟧ ∗ X ⊢ ex 𝓤 (λ log. guard 𝓤 (Known rules held seen log × Told log) (⟦ J ⟧ ∗ ⟦ rights c δs held ⟧ ∗ ⟦ had log ⟧ ∗ Y log))
   looks_beside held seen Told X Y w tells = qed 𝓛 (‵ J ∷ ‵ (rights c δs held) ∷ ‵ (had seen) ∷ raw X ∷ []) ∵ use3 𝓛 (seeing held seen) (looked held seen w) $ pick ! (λ s. learn ! (λ so. split ! $ move ! (1 ∷ []) $ split3 ! $
       use1 𝓛 (‵ (top s.1) ⊛ ‵ (had s.1)) (latest_shows (logs c) 𝓛 full_share η s.1 s.1 ([], mathlib.Core.List.append-nil s.1)) $ split ! $
@@ -344,7 +340,7 @@ module _ {E : Type 0} (c : Coded E) (rules : Rules E) (extra : List E → Fml) (
       move ! (5 ∷ 2 ∷ 0 ∷ []) $ use3 𝓛 (‵ J) (shut s.0 s.1 so.0) $ show ! (λ log. guard 𝓤 (Known rules held seen log × Told log) (⟦ J ⟧ ∗ ⟦ rights c δs held ⟧ ∗ ⟦ had log ⟧ ∗ Y log)) s.1 $
       check ! (so.1, told) $ move ! (0 ∷ 3 ∷ 2 ∷ 1 ∷ []) $ done !)))
 
-  holds_renewed : (rows : Rows) (held : List (Held E)) (log : List E) → KeptNow → Holds rules rows log → Holds rules (puts rows held log) log
+  holds_renewed : (rows : Rows) (held : List (HeldKey E)) (log : List E) → KeptNow → Holds rules rows log → Holds rules (puts rows held log) log
   holds_renewed rows held log same so = record {
     legal = so.legal;
     kept = λ r k own h. ⊎_elim (λ (e : own ≡ log). subst (λ (x : List E). rules.Kept r k x log) (sym e) (same r k log)) (λ t. so.kept r k own t.1) (has_puts rows held log r k own h);
@@ -352,10 +348,10 @@ module _ {E : Type 0} (c : Coded E) (rules : Rules E) (extra : List E → Fml) (
   }
 
   -- and the keys know of all that was appended
-  abbrev pub Renewed : List (Held E) → List E → (List E → Type 0) → (List E → Pr) → List E → Pr
+  abbrev pub Renewed : List (HeldKey E) → List E → (List E → Type 0) → (List E → Pr) → List E → Pr
   Renewed held seen Told Y log = guard 𝓤 (Known rules held seen log × Told log) (⟦ J ⟧ ∗ ⟦ rights c δs (renewed held log) ⟧ ∗ ⟦ had log ⟧ ∗ Y log)
 
-  pub renews : (held : List (Held E)) (seen : List E) (Told : List E → Type 0) (X : Pr) (Y : List E → Pr) → WithKinds (length δs) held → KeptNow → ((log : List E) → Known rules held seen log → ⟦ extra log ⟧ ∗ X ⊢ guard 𝓤 (Told log) (⟦ extra log ⟧ ∗ Y log))
+  pub renews : (held : List (HeldKey E)) (seen : List E) (Told : List E → Type 0) (X : Pr) (Y : List E → Pr) → WithKinds (length δs) held → KeptNow → ((log : List E) → Known rules held seen log → ⟦ extra log ⟧ ∗ X ⊢ guard 𝓤 (Told log) (⟦ extra log ⟧ ∗ Y log))
       → ⟦ J ⟧ ∗ ⟦ rights c δs held ⟧ ∗ ⟦ had seen ⟧ ∗ X ⊢ upd 𝓤 (ex 𝓤 (Renewed held seen Told Y))
   renews held seen Told X Y w same tells = let Z : Pr = ex 𝓤 (Renewed held seen Told Y) in
       qed 𝓛 (‵ J ∷ ‵ (rights c δs held) ∷ ‵ (had seen) ∷ raw X ∷ []) ∵ use3 𝓛 (seeing held seen) (looked held seen w) $ pick ! (λ s. learn ! (λ so. let rows : Rows = s.0 in let log : List E = s.1 in split ! $ move ! (1 ∷ []) $ split3 ! $
@@ -370,10 +366,10 @@ module _ {E : Type 0} (c : Coded E) (rules : Rules E) (extra : List E → Fml) (
       -- [J; rights; Y; reached]
       show ! (Renewed held seen Told Y) log $ check ! (so.1, told) $ move ! (0 ∷ 1 ∷ 3 ∷ 2 ∷ []) $ done !)))
 
-  abbrev pub Looked : List (Held E) → List E → List E → Pr
+  abbrev pub Looked : List (HeldKey E) → List E → List E → Pr
   Looked held seen log = guard 𝓤 (Known rules held seen log) (⟦ J ⟧ ∗ ⟦ rights c δs held ⟧ ∗ ⟦ had log ⟧)
 
-  pub looks : (held : List (Held E)) (seen : List E) → WithKinds (length δs) held → ⟦ J ⟧ ∗ ⟦ rights c δs held ⟧ ∗ ⟦ had seen ⟧ ⊢ ex 𝓤 (Looked held seen)
+  pub looks : (held : List (HeldKey E)) (seen : List E) → WithKinds (length δs) held → ⟦ J ⟧ ∗ ⟦ rights c δs held ⟧ ∗ ⟦ had seen ⟧ ⊢ ex 𝓤 (Looked held seen)
   looks held seen w = qed 𝓛 (‵ J ∷ ‵ (rights c δs held) ∷ ‵ (had seen) ∷ []) ∵ nothing ! $ move ! (3 ∷ 0 ∷ []) $ join ! $ move ! (1 ∷ 2 ∷ 0 ∷ []) $
       use3 𝓛 (some (λ (log : List E). given (Known rules held seen log × Unit {0}) (‵ J ⊛ ‵ (rights c δs held) ⊛ ‵ (had log) ⊛ ‵ ftrue))) (looks_beside held seen (λ _. Unit {0}) ⟦ ftrue ⟧ (λ _. ⟦ ftrue ⟧) w no_more) $
       pick ! (λ log. learn ! (λ known. split ! $ move ! (1 ∷ []) $ split3 ! $ show ! (Looked held seen) log $ check ! known.0 $ keep ! (3 ∷ 0 ∷ 1 ∷ []) $ done !))

@@ -16,13 +16,14 @@ use types.Growing.{latest_new, latest_cut, latest_shows, at_least_dup}
 use types.Kit.{‵, raw, ◌⊛◌, some, given, later, ◌$◌, ◌∵◌, !, qed, move, split, fsplit, fjoin, fpack, pick, learn, show, check, rewrite, suffices, settle, done, drop, use0, use1, use2, use3, updating, await, now}
 use types.Tokens.{name_new}
 use denote.Steps.{nothing}
-use Rattle.seize_machine.specs.Machine.State.{State, has, linked, are_distinct, opening}
-use Rattle.seize_book.specs.Ledger.{Held, logs, halved, roster, rosters, rights, reached, row, Holds, AllBelow, AreNext, all_bumped, bumped, born}
+use Rattle.seize_machine.specs.Machine.State.{State, has, linked_values, are_distinct, opening}
+use Rattle.seize_book.specs.Ledger.{HeldKey, logs, halved, roster, rosters, rights, reached, row, Holds, AllBelow, AreNextNumbers, all_bumped, bumped, born}
 use Rattle.seize_book.specs.Entry.{Entry, entry_coded}
-use Rattle.seize_book.specs.Book.{Kept, Sized, mine, kind_of, rules, passes, numbers, slots, heads, links, totals, kinds}
+use Rattle.seize_book.specs.Book.{Kept, IsKeyCount, mine, kind_of, rules, passes, numbers, slots, heads, links, totals, kinds}
 use Rattle.seize_book.specs.Homes.{IsSound}
-use Rattle.seize_book.specs.Tokens.{AllLentIn, Name, Gate, many, sole, turns, all_but, turned, IsSole, IsTurns, rows, start, inside, beside, called, uncalled, name_coded, gate_keeps, gate_gives, all_lead, all_lie, rights_own, keys_own, pass_at, pass_holds}
-use Rattle.seize_book.specs.Begin.{BeganWith, unused, first_links, first_keys, book_owns}
+use Rattle.seize_book.specs.Loans.{AllCarryOne}
+use Rattle.seize_book.specs.Tokens.{Name, Gate, all_but, turned, IsSole, rows, start, inside, beside, called, uncalled, name_coded, gate_keeps, gate_gives, all_lead, all_lie, rights_own, keys_own, pass_at, pass_holds}
+use Rattle.seize_book.specs.Begin.{BeganWith, new_key, first_links, first_keys, book_owns}
 use Rattle.seize_book.proofs.Append.{grown, borns, has_grown, shut, sizes, grown_sizes}
 use Rattle.seize_book.specs.Chains.{told}
 use Rattle.seize_book.proofs.Chains.{chained_opening}
@@ -48,7 +49,7 @@ below_links : (l n : ℕ) → AllBelow kinds (of_links l n)
 below_links l zero = tt
 below_links l (suc n) = (omega arith, below_links (suc l) n)
 
-next_links : (l n : ℕ) (f : ℕ → ℕ) → f links ≡ l → AreNext f (of_links l n)
+next_links : (l n : ℕ) (f : ℕ → ℕ) → f links ≡ l → AreNextNumbers f (of_links l n)
 next_links l zero f e = tt
 next_links l (suc n) f e = (e, next_links (suc l) n (bumped links f) (omega (arith, e)))
 
@@ -64,7 +65,7 @@ bumped_other l (suc n) f r e = bumped_other (suc l) n (bumped links f) r e ∙ a
 abbrev empty : ℕ → List (Option ℕ)
 empty n = replicate n None
 
-none_linked : (n : ℕ) → linked (empty n) ≡ []
+none_linked : (n : ℕ) → linked_values (empty n) ≡ []
 none_linked zero = refl
 none_linked (suc n) = none_linked n
 
@@ -76,8 +77,8 @@ abbrev sizes_before : ℕ → ℕ
 sizes_before = bumped heads (bumped slots (bumped totals (bumped numbers (bumped passes (sizes {E = Entry} [])))))
 
 -- no value was named
-none_lent : (m : Name) (n : ℕ) → AllLentIn m (linked (empty n))
-none_lent m n v named = absurd (let x : has v [] ≡ true = ap (has v) (sym (none_linked n)) ∙ named in cc)
+none_lent : (n : ℕ) → AllCarryOne (linked_values (empty n))
+none_lent n v named = absurd (let x : has v [] ≡ true = ap (has v) (sym (none_linked n)) ∙ named in cc)
 
 sound_first : (n : ℕ) → IsSound (opening 0 (empty n))
 sound_first n = record { one = λ v w home a b c d. absurd (let x : has v [] ≡ true = ap (has v) (sym (none_linked n)) ∙ a in cc); few = omega arith }
@@ -87,10 +88,10 @@ holds_first n = record {
   legal = (refl, sound_first n, chained_opening 0 (empty n) (told []));
   kept = λ r k own h. ⊎_elim (λ (e : own ≡ []). subst (λ (x : List Entry). Kept (opening 0 (empty n)) (kind_of r) k x []) (sym e) (kept_now (opening 0 (empty n)) r k []))
       (λ t. absurd (let h' : slice_get {X = List Entry} [] k ≡ Some own = subst (λ (z : List (List Entry)). slice_get z k ≡ Some own) (row_nil r) t in let m : Option.None ≡ Some own = h' in cc)) (has_grown [] (firsts n) [] r k own h);
-  sized = λ r. subst (λ (j : ℕ). Sized (opening 0 (empty n)) (kind_of r) j []) (sym (grown_sizes [] (firsts n) [] r)) (go r);
+  sized = λ r. subst (λ (j : ℕ). IsKeyCount (opening 0 (empty n)) (kind_of r) j []) (sym (grown_sizes [] (firsts n) [] r)) (go r);
 }
   where
-    go : (r : ℕ) → Sized (opening 0 (empty n)) (kind_of r) (all_bumped (firsts n) (sizes {E = Entry} []) r) []
+    go : (r : ℕ) → IsKeyCount (opening 0 (empty n)) (kind_of r) (all_bumped (firsts n) (sizes {E = Entry} []) r) []
     go zero = λ p le. refl
     go (suc zero) = bumped_other 0 n sizes_before 1 refl
     go (suc (suc zero)) = bumped_other 0 n sizes_before 2 refl
@@ -123,8 +124,19 @@ module _ {M : Type 1} {𝓤 : Ura M} (𝓛 : Logic 𝓤) where
   no_links m l zero = tt
   no_links m l (suc n) = (refl, no_links m (suc l) n)
 
-  abbrev pub Opened : (Gate → Type 0) → Gate → Pr
-  Opened Picked g = guard 𝓤 (Picked g) (⟦ gate_keeps g [] ⟧ ∗ ⟦ gate_gives g 0 [] ⟧)
+  -- the gate is shut, and the first pass has its copy of the list
+  abbrev Opened : Gate → Pr
+  Opened g = ⟦ gate_keeps g [] ⟧ ∗ ⟦ gate_gives g 0 [] ⟧
+
+  opened : emp 𝓤 ⊢ upd 𝓤 (ex 𝓤 Opened)
+  opened = let Z : Pr = ex 𝓤 Opened in
+      qed 𝓛 [] ∵ use0 𝓛 (raw (upd 𝓤 (ex 𝓤 (λ (η : ℕ). ⟦ latest (logs entry_coded) full_share η [] ⟧)))) (latest_new (logs entry_coded) 𝓛 []) $
+      settle 𝓛 Z (some (λ (η : ℕ). ‵ (latest (logs entry_coded) full_share η []))) $ pick ! (λ η.
+      use0 𝓛 (raw (upd 𝓤 (ex 𝓤 (λ (κ : ℕ). ⟦ all_but κ 0 ⟧)))) (all_back 𝓛) $ settle 𝓛 Z (some (λ (κ : ℕ). ‵ (all_but κ 0))) $ pick ! (λ κ. suffices ! _ (upd_i 𝓤 Z) $ move ! (1 ∷ []) $
+      use1 𝓛 (‵ (latest (logs entry_coded) quarter η []) ⊛ ‵ (latest (logs entry_coded) three_quarters η [])) (latest_cut (logs entry_coded) 𝓛 full_share quarter three_quarters η [] quarters) $ split ! $
+      -- [the book's share; the pass's; the tickets]
+      let g : Gate = record { copy = η; tickets = κ } in
+      move ! (0 ∷ 2 ∷ []) $ fjoin ! $ fpack ! Bool (turned g []) true $ show ! Opened g $ done !))
 
   -- the keys of one kind, under a new name
   abbrev fresh_row : types.Kit.Item 𝓤
@@ -133,12 +145,12 @@ module _ {M : Type 1} {𝓤 : Ura M} (𝓛 : Logic 𝓤) where
   fresh : emp 𝓤 ⊢ H.⇛ (ex 𝓤 (λ (δ : ℕ). ⟦ roster entry_coded δ 0 [] ⟧))
   fresh = via 𝓤 _ (entries_new (halved entry_coded) 𝓛 0 (λ _. (full_share, []))) (basic 𝓛 _)
 
-  module _ (n size : ℕ) (store table : Option (List ℕ)) (Picked : Gate → Type 0) where
+  module _ (n : ℕ) (store table : List ℕ) where
     abbrev pub Begun : ℕ → Name → Pr
-    Begun f m = guard 𝓤 (Picked m.gate × (m.family ≡ f) × BeganWith m n size store table) (⟦ book_owns m [] ⟧ ∗ ⟦ pass_holds m 0 [] ⟧ ∗ ⟦ keys_own m (first_keys n) ⟧)
+    Begun f m = guard 𝓤 ((m.family ≡ f) × BeganWith m n store table) (⟦ book_owns m [] ⟧ ∗ ⟦ pass_holds m 0 [] ⟧ ∗ ⟦ keys_own m (first_keys n) ⟧)
 
-    pub begins : emp 𝓤 ⊢ upd 𝓤 (ex 𝓤 (Opened Picked)) → (f : ℕ) → ⟦ uncalled f ⟧ ⊢ H.⇛ (ex 𝓤 (Begun f))
-    begins opened f = qed 𝓛 (‵ (uncalled f) ∷ []) ∵ updating ! $ fsplit ! $
+    pub begins : (f : ℕ) → ⟦ uncalled f ⟧ ⊢ H.⇛ (ex 𝓤 (Begun f))
+    begins f = qed 𝓛 (‵ (uncalled f) ∷ []) ∵ updating ! $ fsplit ! $
         use0 𝓛 fresh_row fresh $ await ! tt $ pick ! (λ d0. use0 𝓛 fresh_row fresh $ await ! tt $ pick ! (λ d1.
         use0 𝓛 fresh_row fresh $ await ! tt $ pick ! (λ d2. use0 𝓛 fresh_row fresh $ await ! tt $ pick ! (λ d3.
         use0 𝓛 fresh_row fresh $ await ! tt $ pick ! (λ d4. use0 𝓛 fresh_row fresh $ await ! tt $ pick ! (λ d5.
@@ -150,7 +162,7 @@ module _ {M : Type 1} {𝓤 : Ura M} (𝓛 : Logic 𝓤) where
         use1 𝓛 (‵ (latest (logs entry_coded) full_share η []) ⊛ ‵ (reached entry_coded η [])) (latest_shows (logs entry_coded) 𝓛 full_share η [] [] ([], refl)) $ split ! $
         move ! (1 ∷ []) $ use1 𝓛 (‵ (reached entry_coded η []) ⊛ ‵ (reached entry_coded η [])) (at_least_dup (logs entry_coded) 𝓛 η []) $ split ! $
         -- [nothing was reached, twice; the list; the rosters]
-        use0 𝓛 (later (some (λ (g : Gate). given (Picked g) (‵ (gate_keeps g []) ⊛ ‵ (gate_gives g 0 []))))) (via 𝓤 _ opened (basic 𝓛 _)) $ await ! tt $ pick ! (λ g. learn ! (λ picked. split ! $
+        use0 𝓛 (later (some (λ (g : Gate). ‵ (gate_keeps g []) ⊛ ‵ (gate_gives g 0 [])))) (via 𝓤 _ opened (basic 𝓛 _)) $ await ! tt $ pick ! (λ g. split ! $
         let n₀ : Name = record {
           number = 0;
           log = η;
@@ -165,7 +177,6 @@ module _ {M : Type 1} {𝓤 : Ura M} (𝓛 : Logic 𝓤) where
           field_keys = d7;
           total_keys = d8;
           gate = g;
-          size = size;
           store = store;
           table = table;
           slots = 0;
@@ -175,7 +186,7 @@ module _ {M : Type 1} {𝓤 : Ura M} (𝓛 : Logic 𝓤) where
         move ! (5 ∷ []) $ use1 𝓛 (later (‵ (rosters entry_coded (rows n₀) (grown [] bs [])) ⊛ ‵ (rights entry_coded (rows n₀) (born bs []))))
         (via 𝓤 _ (borns entry_coded (rules st) (beside n₀) η (rows n₀) 𝓛 [] bs [] (omega arith, (omega arith, (omega arith, (omega arith, (omega arith, below_links 0 n))))) (refl, (refl, (refl, (refl, (refl, next_links 0 n sizes_before refl)))))) (basic 𝓛 _)) $ await ! tt $ split ! $
         -- [the rosters; the rights; the book's copy; the pass's; nothing was reached, twice; the list]
-        use0 𝓛 (‵ (all_lie n₀ 0)) (none_lie 𝓛 n₀) $ nothing ! $ fpack ! (AllLentIn n₀ (linked (empty n))) (λ _. ftrue) (none_lent n₀ n) $ move ! (1 ∷ 0 ∷ []) $ fjoin ! $
+        use0 𝓛 (‵ (all_lie n₀ 0)) (none_lie 𝓛 n₀) $ nothing ! $ fpack ! (AllCarryOne (linked_values (empty n))) (λ _. ftrue) (none_lent n) $ move ! (1 ∷ 0 ∷ []) $ fjoin ! $
         nothing ! $ rewrite ! 0 (λ (vs : List ℕ). ‵ (all_lead n₀ vs)) (sym (none_linked n)) refl $ fjoin ! $ move ! (3 ∷ 0 ∷ []) $ fjoin ! $
         nothing ! $ move ! (0 ∷ 1 ∷ []) $ fjoin ! $ move ! (1 ∷ 6 ∷ 0 ∷ []) $ use3 𝓛 (‵ (inside n₀)) (shut entry_coded (rules st) (beside n₀) η (rows n₀) 𝓛 (grown [] bs []) [] (holds_first n)) $
         use1 𝓛 (later (some (λ (j : ℕ). given (0 ≤ j) (‵ (fnamed j (inside n₀)))))) (named_past 𝓛 0 (inside n₀)) $ await ! tt $ pick ! (λ j. learn ! (λ _. let m : Name = record n₀ { number = j } in
@@ -183,37 +194,15 @@ module _ {M : Type 1} {𝓤 : Ura M} (𝓛 : Logic 𝓤) where
         let c : Gv = gcons gnil (name_coded.code m) in move ! (5 ∷ 6 ∷ []) $
         use2 𝓛 (later (‵ (fobs f c) ⊛ ‵ (fauth f c))) (via 𝓤 _ (𝓛.names.name_set_upd f gnil gnil c) (basic 𝓛 _)) $ await ! tt $ split ! $ use1 𝓛 (‵ (called m)) (𝓛.names.obs-res f c) $ move ! (1 ∷ []) $ drop ! $
         -- [the book's call; the invariant; the rights; the pass's copy; nothing was reached, twice]
-        nothing ! $ fpack ! (are_distinct (linked m.links) ≡ true) (λ _. ftrue) (ap are_distinct (none_linked n)) $ move ! (1 ∷ 0 ∷ []) $ fjoin ! $ move ! (1 ∷ 0 ∷ []) $ fjoin ! $ move ! (0 ∷ 3 ∷ []) $ fjoin ! $
+        nothing ! $ fpack ! (are_distinct (linked_values m.links) ≡ true) (λ _. ftrue) (ap are_distinct (none_linked n)) $ move ! (1 ∷ 0 ∷ []) $ fjoin ! $ move ! (1 ∷ 0 ∷ []) $ fjoin ! $ move ! (0 ∷ 3 ∷ []) $ fjoin ! $
         -- [the book; the rights; the pass's copy; nothing was reached]
         move ! (1 ∷ []) $ fsplit ! $ nothing ! $ fpack ! (IsPrefix [] [] × (mine st 0 [] ≡ mine st 0 [])) (λ _. ftrue) (([], refl), refl) $
         -- [nothing is past; the pass's key; the other keys; the book; the pass's copy; nothing was reached]
         move ! (4 ∷ 0 ∷ []) $ fjoin ! $ move ! (4 ∷ 0 ∷ []) $ fjoin ! $ move ! (1 ∷ 0 ∷ []) $ fjoin ! $ fpack ! (List Entry) (pass_at m 0 []) [] $
-        rewrite ! 1 (λ (hs : List (Held Entry)). ‵ (rights_own m (unused numbers 0 ∷ unused totals 0 ∷ unused slots 0 ∷ unused heads 0 ∷ hs))) (born_links 0 n) refl $
+        rewrite ! 1 (λ (hs : List (HeldKey Entry)). ‵ (rights_own m (new_key numbers 0 ∷ new_key totals 0 ∷ new_key slots 0 ∷ new_key heads 0 ∷ hs))) (born_links 0 n) refl $
         move ! (1 ∷ []) $ use1 𝓛 (‵ (keys_own m (first_keys n))) (free_own 𝓛 m (first_keys n) (refl, (refl, (refl, (refl, no_links m 0 n))))) $
-        now ! $ show ! (Begun f) m $ check ! (picked, refl, (refl, refl, refl, refl, refl)) $ move ! (2 ∷ 1 ∷ 0 ∷ []) $ done !))))))))))))))
+        now ! $ show ! (Begun f) m $ check ! (refl, (refl, refl, refl, refl)) $ move ! (2 ∷ 1 ∷ 0 ∷ []) $ done !)))))))))))))
 
   -- a family that no book has
   pub new_family : emp 𝓤 ⊢ H.⇛ (ex 𝓤 (λ (f : ℕ). ⟦ uncalled f ⟧))
   new_family = qed 𝓛 [] ∵ updating ! $ name_new ! tt gnil (λ f. fjoin ! $ now ! $ show ! (λ (f : ℕ). ⟦ uncalled f ⟧) f $ done !)
-
-  -- where many may append, and where one pass alone
-  pub many_opens : emp 𝓤 ⊢ upd 𝓤 (ex 𝓤 (Opened (λ g. g ≡ many)))
-  many_opens = let Z : Pr = ex 𝓤 (Opened (λ g. g ≡ many)) in
-      qed 𝓛 [] ∵ suffices ! _ (upd_i 𝓤 Z) $ show ! (Opened (λ g. g ≡ many)) many $ check ! refl $ nothing ! $ nothing ! $ done !
-
-  pub sole_opens : emp 𝓤 ⊢ upd 𝓤 (ex 𝓤 (Opened (λ g. IsSole g 0)))
-  sole_opens = let Z : Pr = ex 𝓤 (Opened (λ g. IsSole g 0)) in
-      qed 𝓛 [] ∵ use0 𝓛 (raw (upd 𝓤 (ex 𝓤 (λ (η : ℕ). ⟦ latest (logs entry_coded) full_share η [] ⟧)))) (latest_new (logs entry_coded) 𝓛 []) $
-      settle 𝓛 Z (some (λ (η : ℕ). ‵ (latest (logs entry_coded) full_share η []))) $ pick ! (λ η. suffices ! _ (upd_i 𝓤 Z) $
-      use1 𝓛 (‵ (gate_keeps (sole η) []) ⊛ ‵ (gate_gives (sole η) 0 [])) (latest_cut (logs entry_coded) 𝓛 full_share quarter three_quarters η [] quarters) $
-      show ! (Opened (λ g. IsSole g 0)) (sole η) $ check ! tt $ done !)
-
-  -- where passes come from a porter, which has all tickets; the gate is shut
-  pub turns_open : emp 𝓤 ⊢ upd 𝓤 (ex 𝓤 (Opened IsTurns))
-  turns_open = let Z : Pr = ex 𝓤 (Opened IsTurns) in
-      qed 𝓛 [] ∵ use0 𝓛 (raw (upd 𝓤 (ex 𝓤 (λ (η : ℕ). ⟦ latest (logs entry_coded) full_share η [] ⟧)))) (latest_new (logs entry_coded) 𝓛 []) $
-      settle 𝓛 Z (some (λ (η : ℕ). ‵ (latest (logs entry_coded) full_share η []))) $ pick ! (λ η.
-      use0 𝓛 (raw (upd 𝓤 (ex 𝓤 (λ (κ : ℕ). ⟦ all_but κ 0 ⟧)))) (all_back 𝓛) $ settle 𝓛 Z (some (λ (κ : ℕ). ‵ (all_but κ 0))) $ pick ! (λ κ. suffices ! _ (upd_i 𝓤 Z) $ move ! (1 ∷ []) $
-      use1 𝓛 (‵ (latest (logs entry_coded) quarter η []) ⊛ ‵ (latest (logs entry_coded) three_quarters η [])) (latest_cut (logs entry_coded) 𝓛 full_share quarter three_quarters η [] quarters) $ split ! $
-      -- [the book's share; the pass's; the tickets]
-      move ! (0 ∷ 2 ∷ []) $ fjoin ! $ fpack ! Bool (turned η κ []) true $ show ! (Opened IsTurns) (turns η κ) $ check ! tt $ done !))

@@ -1,4 +1,4 @@
--- What the token of a book gives: itself once more, a new pass, and the keys of a new block; and how it learns. Assumes `Logic`.
+-- What the token of a book gives: itself once more, and the keys of a new block; and how it learns. Assumes `Logic`.
 use Rattle.std.proofs.Common.{◌≡◌, ℕ, ◌+◌, arith, pos, false, List, [], ◌∷◌, refl, sym, ap}
 use seplogic.Ra.Ura.{Ura}
 use base.Logic.{SProp, ent, sep, ex, guard, via, fst∗, snd∗}
@@ -11,20 +11,20 @@ use types.Kit.{‵, raw, rewrite, drop, ◌⊛◌, some, given, ◌$◌, ◌∵�
 use denote.Steps.{nothing, heard}
 use mathlib.Core.List.{IsPrefix}
 use Rattle.seize_machine.specs.Machine.State.{State, has}
-use Rattle.seize_book.specs.Ledger.{Held, logs, reached}
+use Rattle.seize_book.specs.Ledger.{HeldKey, logs, reached}
 use Rattle.seize_book.specs.Entry.{Entry, entry_coded}
 use Rattle.seize_book.specs.Book.{after, mine, rules, counts, blocks, fields}
 use Rattle.seize_book.specs.Chains.{first_field, next_field, told}
 use Rattle.seize_book.specs.Deposits.{deposit}
 use Rattle.seize_book.specs.Homes.{count_in, home_of}
 use Rattle.seize_book.specs.Fair.{pass_key}
-use Rattle.seize_book.specs.Tokens.{Name, name_coded, start, knows, many, gate_gives, rights_own, keys_own, pass_holds, pass_owns}
+use Rattle.seize_book.specs.Tokens.{Name, name_coded, start, knows, gate_gives, rights_own, keys_own, pass_holds, pass_owns}
 use Rattle.seize_book.specs.Bare.{of_header, of_values}
 use Rattle.seize_book.specs.Begin.{book_owns}
 use Rattle.seize_book.proofs.Append.{OneMore}
 use Rattle.seize_book.proofs.Looks.{Idle, apart, together}
 use Rattle.seize_book.proofs.Ways.{free_own}
-use Rattle.seize_book.proofs.Notes.{knows_twice, another, Picks, minted, new_keys}
+use Rattle.seize_book.proofs.Notes.{knows_twice, Picks, minted, new_keys}
 
 abbrev code_in : Gv → Gv
 code_in gnil = gnil
@@ -93,12 +93,6 @@ module _ {M : Type 1} {𝓤 : Ura M} (𝓛 : Logic 𝓤) (n : Name) where
       -- [the pass; what it has seen; the book; what that had seen]
       move ! (2 ∷ 1 ∷ []) $ fjoin ! $ keep ! (0 ∷ 1 ∷ []) $ done !))
 
-  abbrev pub HasPass : List Entry → ℕ × List Entry → Pr
-  HasPass seen t = guard 𝓤 (IsPrefix seen t.1 × (mine st t.0 t.1 ≡ [])) ⟦ pass_owns n t.0 t.1 ⟧
-
-  pub new_pass : (seen : List Entry) → n.gate ≡ many → ⟦ book_owns n seen ⟧ ⊢ H.⇛ (ex 𝓤 (HasPass seen))
-  new_pass seen free = qed 𝓛 (‵ (book_owns n seen) ∷ []) ∵ fsplit ! $ by ! (another 𝓛 n seen free)
-
   -- nothing is known of the block
   abbrev pub IsUnused : ℕ × List Entry → Type 0
   IsUnused t = ((v : ℕ) → home_of v ≡ t.0 → has v (after st t.1).named ≡ false) × ((count_in (after st t.1) t.0 ≡ pos 0) × (deposit (after st t.1) t.0 ≡ [])) × (told t.1 (next_field t.0) ≡ 0) × (told t.1 (first_field t.0) ≡ 0)
@@ -111,7 +105,7 @@ module _ {M : Type 1} {𝓤 : Ura M} (𝓛 : Logic 𝓤) (n : Name) where
   chunk seen value g = let number : (ℕ → ℕ) → ℕ = λ sizes. sizes blocks + sizes counts + sizes fields in let births : Picks 𝓛 n = λ sizes. let k : ℕ = number sizes in (blocks, k) ∷ (counts, k) ∷ (fields, next_field k) ∷ (fields, first_field k) ∷ [] in
       let more : OneMore (rules st) fields = λ log j h f le. h f (omega (arith, le)) in qed 𝓛 (‵ (book_owns n seen) ∷ []) ∵ updating ! $ fsplit ! $
       use2 𝓛 (minted 𝓛 n seen births) (new_keys 𝓛 n seen births (λ sizes. (omega arith, (λ log j h v le. h v (omega (arith, le))), omega arith, (omega arith, (λ log j h k le. h k (omega (arith, le))), omega arith, (omega arith, more, omega arith, (omega arith, more, omega arith, tt)))))) $
-      await ! tt $ pick ! (λ t. learn ! (λ so. let k : ℕ = number t.0 in let header : List (Held Entry) = of_header k t.1 in split ! $ fsplit ! $
+      await ! tt $ pick ! (λ t. learn ! (λ so. let k : ℕ = number t.0 in let header : List (HeldKey Entry) = of_header k t.1 in split ! $ fsplit ! $
       -- [the right; the header's rights; what was reached]
       move ! (1 ∷ []) $ use1 𝓛 (‵ (keys_own n header)) (free_own 𝓛 n header (refl, (refl, (refl, tt)))) $ nothing ! $ move ! (2 ∷ 0 ∷ []) $ fjoin ! $
       now ! $ show ! (HasChunk value g) (k, t.1) $ check ! ((λ v home. so.1 blocks v (omega (arith, home))), so.1 counts k (omega arith), so.1 fields (next_field k) (omega arith), so.1 fields (first_field k) (omega arith)) $ keep ! (0 ∷ 1 ∷ []) $ done !))

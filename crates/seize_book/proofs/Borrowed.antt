@@ -1,7 +1,6 @@
 -- A pass has its ticket as a borrow: a walk with it opens the ticket where it begins, and closes it where it ends. Assumes `Logic`.
---     waits              what there is while it is open: the open borrow, or the token itself where the ticket is the pass's own
+--     waits              what there is while it is open: the open borrow, or the token itself where there is no lifetime to wait for
 --     opened, closed     a pass is one with its ticket in hand while its borrow is open
---     IsOwn g p          its ticket is its own, whatever the lifetime: so it is of the first pass.  own_pass     it is in hand then
 --     opens_pass, closes_pass      a `&mut` to a pass is opened in a walk, and closed. The tokens of both borrows are one entry
 --     two_out, two_in    that entry out of the tokens of a walk, and back
 use Rattle.std.proofs.Common.{◌≡◌, ℕ, zero, suc, List, [], ◌∷◌, refl, sym, subst, ap}
@@ -24,38 +23,13 @@ use denote.Steps.{opens, closes}
 use denote.Struct.Struct.{Struct}
 use Rattle.core.specs.contracts.marker.PhantomData as marker
 use Rattle.seize_book.specs.Entry.{Entry}
-use Rattle.seize_book.specs.Tokens.{Gate, many, sole, turns, Name, gate_gives, gate_lends, knows, lent_at, lent_pass, one_out, pass_at, pass_owns, stands}
+use Rattle.seize_book.specs.Tokens.{Gate, Name, gate_gives, gate_lends, knows, lent_at, lent_pass, one_out, pass_at, pass_owns, stands}
 use Rattle.seize_book.specs.contracts.book.pass.Pass as Pass
 use Rattle.seize_book.proofs.Fields.{token}
 
 abbrev pub waits : Gate → Lft → Share → ℕ → Fml
-waits many κ q p = flft κ q
-waits (sole η) κ q p = flft κ q
-waits (turns η δ) κ q zero = flft κ q
-waits (turns η δ) κ q (suc p) = fobor κ q (one_out δ)
-
-abbrev pub IsOwn : Gate → ℕ → Type 0
-IsOwn many p = Unit {0}
-IsOwn (sole η) p = Unit {0}
-IsOwn (turns η δ) zero = Unit {0}
-IsOwn (turns η δ) (suc p) = ⊥
-
-pub first_own : (g : Gate) → IsOwn g 0
-first_own many = tt
-first_own (sole η) = tt
-first_own (turns η δ) = tt
-
-pub many_own : (g : Gate) (p : ℕ) → g ≡ many → IsOwn g p
-many_own g p is = subst (λ (x : Gate). IsOwn x p) (sym is) tt
-
-own_ticket : (g : Gate) (κ : Lft) (p : ℕ) (seen : List Entry) → IsOwn g p → gate_lends g κ p seen ≡ gate_gives g p seen
-own_ticket many κ p seen is = refl
-own_ticket (sole η) κ p seen is = refl
-own_ticket (turns η δ) κ zero seen is = refl
-own_ticket (turns η δ) κ (suc p) seen is = absurd is
-
-pub own_pass : (n : Name) (κ : Lft) (p : ℕ) (seen : List Entry) → IsOwn n.gate p → lent_pass n κ p seen ≡ pass_owns n p seen
-own_pass n κ p seen is = ap (λ (P : Fml). fsep (knows n) (fex (List Entry) (stands n p seen P))) (own_ticket n.gate κ p seen is)
+waits g κ q zero = flft κ q
+waits g κ q (suc p) = fobor κ q (one_out g.tickets)
 
 module _ {M : Type 1} {𝓤 : Ura M} (𝓛 : Logic 𝓤) where
   open 𝓛 use {H, A}
@@ -76,16 +50,12 @@ module _ {M : Type 1} {𝓤 : Ura M} (𝓛 : Logic 𝓤) where
   infixr 35 ◌∗◌
   module _ (κ : Lft) (q : Share) (seen : List Entry) where
     ticket_open : (g : Gate) (p : ℕ) → ⟦ gate_lends g κ p seen ⟧ ∗ A.lft κ q ⊢ H.⇛ (⟦ gate_gives g p seen ⟧ ∗ ⟦ waits g κ q p ⟧)
-    ticket_open many p = qed 𝓛 (‵ (gate_lends many κ p seen) ∷ ‵ (flft κ q) ∷ []) ∵ updating ! $ now ! $ done !
-    ticket_open (sole η) p = qed 𝓛 (‵ (gate_lends (sole η) κ p seen) ∷ ‵ (flft κ q) ∷ []) ∵ updating ! $ now ! $ done !
-    ticket_open (turns η δ) zero = qed 𝓛 (‵ (gate_lends (turns η δ) κ zero seen) ∷ ‵ (flft κ q) ∷ []) ∵ updating ! $ now ! $ done !
-    ticket_open (turns η δ) (suc p) = qed 𝓛 (‵ (fbor κ (one_out δ)) ∷ ‵ (flft κ q) ∷ []) ∵ updating ! $ bor_open ! tt $ now ! $ move ! (1 ∷ 0 ∷ []) $ done !
+    ticket_open g zero = qed 𝓛 (‵ (gate_lends g κ zero seen) ∷ ‵ (flft κ q) ∷ []) ∵ updating ! $ now ! $ done !
+    ticket_open g (suc p) = qed 𝓛 (‵ (fbor κ (one_out g.tickets)) ∷ ‵ (flft κ q) ∷ []) ∵ updating ! $ bor_open ! tt $ now ! $ move ! (1 ∷ 0 ∷ []) $ done !
 
     ticket_closed : (g : Gate) (p : ℕ) → ⟦ gate_gives g p seen ⟧ ∗ ⟦ waits g κ q p ⟧ ⊢ H.⇛ (⟦ gate_lends g κ p seen ⟧ ∗ A.lft κ q)
-    ticket_closed many p = qed 𝓛 (‵ (gate_gives many p seen) ∷ ‵ (flft κ q) ∷ []) ∵ updating ! $ now ! $ done !
-    ticket_closed (sole η) p = qed 𝓛 (‵ (gate_gives (sole η) p seen) ∷ ‵ (flft κ q) ∷ []) ∵ updating ! $ now ! $ done !
-    ticket_closed (turns η δ) zero = qed 𝓛 (‵ (gate_gives (turns η δ) zero seen) ∷ ‵ (flft κ q) ∷ []) ∵ updating ! $ now ! $ done !
-    ticket_closed (turns η δ) (suc p) = qed 𝓛 (‵ (one_out δ) ∷ ‵ (fobor κ q (one_out δ)) ∷ []) ∵ updating ! $ move ! (1 ∷ 0 ∷ []) $ obor_close ! tt $ now ! $ done !
+    ticket_closed g zero = qed 𝓛 (‵ (gate_gives g zero seen) ∷ ‵ (flft κ q) ∷ []) ∵ updating ! $ now ! $ done !
+    ticket_closed g (suc p) = qed 𝓛 (‵ (one_out g.tickets) ∷ ‵ (fobor κ q (one_out g.tickets)) ∷ []) ∵ updating ! $ move ! (1 ∷ 0 ∷ []) $ obor_close ! tt $ now ! $ done !
 
   module _ (n : Name) (p : ℕ) (seen : List Entry) where
     module _ (κ : Lft) (q : Share) where

@@ -7,14 +7,14 @@ use native.Mathlib.Decide.{ℕ_discrete}
 use Rattle.seize_machine.specs.Machine.State.{State, Slot, Call, Head, Inactive, Active, Place, Mark, Out, Rest, no_slot, slot_at, head_at, waiting_at, is_active, opening}
 use Rattle.seize_machine.specs.Machine.Event.{Event}
 use Rattle.seize_machine.specs.Machine.Next.{look, looked, marked_place}
-use Rattle.seize_machine.specs.Machine.History.{IsReached, first_of}
+use Rattle.seize_machine.specs.Machine.History.{IsReached, first_or_none}
 use Rattle.seize_machine.specs.Machine.Laws.{walk_of, Lists, Walks}
 use Rattle.seize_machine.specs.Machine.Frames.{changes_head_of}
 use Rattle.seize_machine.specs.declared.machine.event.Answer.{Answer}
 use Rattle.seize_machine.specs.declared.machine.event.Try.TheVariants.{Won, Lost}
 use Rattle.seize_machine.proofs.Facts.{Step, Stands, some_is, head_frame, held_full}
-use Rattle.seize_book.specs.Blocks.{Plan, no_plan, planned_by, block_of, serving, list_word}
-use Rattle.seize_book.specs.Chains.{next_field, first_field, served, LeadsOn, IsChain, Chained, Leads}
+use Rattle.seize_book.specs.Blocks.{Plan, no_plan, planned_by, block_number, serving, list_word}
+use Rattle.seize_book.specs.Chains.{next_field, first_field, served, FieldsLeadOn, IsChain, Chained, Leads}
 use Rattle.seize_book.specs.Homes.{home_of}
 use Rattle.seize_book.proofs.Plans.{AllLess, has_values, tried_there, waiting_there}
 
@@ -35,14 +35,14 @@ plan_kept ps more b there = sym (get_or_append_left ps more no_plan b there)
 served_kept : (ps more : List Plan) (b m : ℕ) → b < length ps → served ps b m ≡ served (ps ++ more) b m
 served_kept ps more b m there = ap (λ (plan : Plan). serving m plan.slots plan.values) (plan_kept ps more b there)
 
-word_kept : (ps more : List Plan) (m : ℕ) (bs : List ℕ) → AllLess (length ps) bs → list_word (λ c. block_of (served ps c m)) bs ≡ list_word (λ c. block_of (served (ps ++ more) c m)) bs
+word_kept : (ps more : List Plan) (m : ℕ) (bs : List ℕ) → AllLess (length ps) bs → list_word (λ c. block_number (served ps c m)) bs ≡ list_word (λ c. block_number (served (ps ++ more) c m)) bs
 word_kept ps more m [] there = refl
-word_kept ps more m (b ∷ bs) there = ap (λ (v : ℕ). block_of v + 2) (served_kept ps more b m there.0)
+word_kept ps more m (b ∷ bs) there = ap (λ (v : ℕ). block_number v + 2) (served_kept ps more b m there.0)
 
-leads_stay : (ps more : List Plan) (told : ℕ → ℕ) (m b : ℕ) (bs : List ℕ) → AllLess (length ps) (b ∷ bs) → LeadsOn ps told m b bs → LeadsOn (ps ++ more) told m b bs
+leads_stay : (ps more : List Plan) (told : ℕ → ℕ) (m b : ℕ) (bs : List ℕ) → AllLess (length ps) (b ∷ bs) → FieldsLeadOn ps told m b bs → FieldsLeadOn (ps ++ more) told m b bs
 leads_stay ps more told m b bs there leads =
     let same = sym (served_kept ps more b m there.0) in
-    let front = ap (λ (plan : Plan). block_of (unwrap_or (first_of plan.values) 0)) (plan_kept ps more b there.0) in
+    let front = ap (λ (plan : Plan). block_number (unwrap_or (first_or_none plan.values) 0)) (plan_kept ps more b there.0) in
     (ap (λ (v : ℕ). told (next_field (home_of v))) same ∙ leads.0 ∙ word_kept ps more m bs there.1, ap (λ (v : ℕ). told (first_field (home_of v))) same ∙ leads.1 ∙ front)
 
 pub chain_stays : (ps more : List Plan) (told : ℕ → ℕ) (m : ℕ) (bs : List ℕ) → AllLess (length ps) bs → IsChain ps told m bs → IsChain (ps ++ more) told m bs
@@ -183,7 +183,7 @@ chain_write : (ps : List Plan) (told told' : ℕ → ℕ) (f m : ℕ) (bs : List
 chain_write ps told told' f m [] same apart chain = tt
 chain_write ps told told' f m (b ∷ bs) same apart chain =
     let own = apart b (zero, omega arith, refl) in
-    let leads : LeadsOn ps told' m b bs = (same _ own.0 ∙ chain.0.0, same _ own.1 ∙ chain.0.1) in
+    let leads : FieldsLeadOn ps told' m b bs = (same _ own.0 ∙ chain.0.0, same _ own.1 ∙ chain.0.1) in
     (leads, chain_write ps told told' f m bs same (λ c found. apart c (suc found.0, omega (arith, found.1), found.2)) chain.1)
 
 pub chained_write : (st : State) (ps : List Plan) (told told' : ℕ → ℕ) (f : ℕ) → ((j : ℕ) → j ≢ f → told' j ≡ told j)

@@ -7,7 +7,7 @@ use Rattle.std.proofs.lemmas.Bool.{cases_lt}
 use Rattle.seize_machine.specs.Machine.State.{State, Batch, Rest, Add, no_batch, batch_at}
 use Rattle.seize_machine.specs.Machine.Event.{Event, AddCount, SubCount}
 use Rattle.seize_machine.specs.Machine.Next.{next, scheme, of_call, adding_at, add_count, walking_at, sub_count, is_zero}
-use Rattle.seize_machine.specs.Machine.History.{IsReached, first_of}
+use Rattle.seize_machine.specs.Machine.History.{IsReached, first_or_none}
 use Rattle.seize_machine.specs.Machine.Laws.{added_batch}
 use Rattle.seize_machine.specs.declared.machine.event.Answer.{Answer}
 use Rattle.seize_machine.specs.declared.machine.event.Answer.TheVariants.{Count}
@@ -61,7 +61,7 @@ count_frame k size st event _ _ h = refl
 -- Of the batches in a block at most one has values, and the others add nothing.
 
 -- a batch in the block has a value there
-in_value : (k : ℕ) (values : List ℕ) → is_home k (first_of values) ≡ true → (v : ℕ) × Contains values v × (home_of v ≡ k)
+in_value : (k : ℕ) (values : List ℕ) → is_home k (first_or_none values) ≡ true → (v : ℕ) × Contains values v × (home_of v ≡ k)
 in_value k [] h = absurd (cc)
 in_value k (v ∷ values) h = (v, (0, omega arith, refl), eq_true (home_of v) k h)
 

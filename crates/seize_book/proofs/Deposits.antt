@@ -15,7 +15,7 @@ use Rattle.seize_machine.specs.declared.machine.event.Answer.{Answer}
 use Rattle.seize_machine.specs.declared.machine.event.Answer.TheVariants.{Count}
 use Rattle.seize_machine.proofs.Facts.{Step, Stands, some_is, step_of, one_owner, arrives_unheld}
 use Rattle.seize_book.specs.Homes.{HasOne, changes_count, is_in, is_batch_in}
-use Rattle.seize_book.specs.Deposits.{is_number, is_owned, deposit_from, deposit}
+use Rattle.seize_book.specs.Deposits.{is_number, is_with_call, deposit_from, deposit}
 use Rattle.seize_book.proofs.Lists.{equal, unequal}
 use Rattle.seize_book.proofs.Counts.{come, still_out, others_out, in_range, zero_is}
 use Rattle.seize_book.proofs.Serves.{at_set, at_push}
@@ -25,18 +25,18 @@ use Rattle.seize_book.proofs.Serves.{at_set, at_push}
 abbrev owns : ℕ → Slot → Bool
 owns b slot = is_number b (detached_by slot.call)
 
-owned_set : (b i : ℕ) (slots : List Slot) (new : Slot) → owns b new ≡ owns b (get_or slots i no_slot) → is_owned (set slots i new) b ≡ is_owned slots b
+owned_set : (b i : ℕ) (slots : List Slot) (new : Slot) → owns b new ≡ owns b (get_or slots i no_slot) → is_with_call (set slots i new) b ≡ is_with_call slots b
 owned_set b i [] new e = refl
-owned_set b zero (slot ∷ slots) new e = ap (λ (t : Bool). t || is_owned slots b) e
+owned_set b zero (slot ∷ slots) new e = ap (λ (t : Bool). t || is_with_call slots b) e
 owned_set b (suc i) (slot ∷ slots) new e = ap (λ (t : Bool). owns b slot || t) (owned_set b i slots new e)
 
-owned_push : (b : ℕ) (slots : List Slot) (new : Slot) → owns b new ≡ false → is_owned (slots ++ new ∷ []) b ≡ is_owned slots b
+owned_push : (b : ℕ) (slots : List Slot) (new : Slot) → owns b new ≡ false → is_with_call (slots ++ new ∷ []) b ≡ is_with_call slots b
 owned_push b [] new e = ap (λ (t : Bool). t || false) e
 owned_push b (slot ∷ slots) new e = ap (λ (t : Bool). owns b slot || t) (owned_push b slots new e)
 
-owned_none : (b : ℕ) (slots : List Slot) → ((i : ℕ) → owns b (get_or slots i no_slot) ≡ false) → is_owned slots b ≡ false
+owned_none : (b : ℕ) (slots : List Slot) → ((i : ℕ) → owns b (get_or slots i no_slot) ≡ false) → is_with_call slots b ≡ false
 owned_none b [] none = refl
-owned_none b (slot ∷ slots) none = ap (λ (t : Bool). t || is_owned slots b) (none zero) ∙ owned_none b slots (λ i. none (suc i))
+owned_none b (slot ∷ slots) none = ap (λ (t : Bool). t || is_with_call slots b) (none zero) ∙ owned_none b slots (λ i. none (suc i))
 
 is_this : (b : ℕ) (o : Option ℕ) → o ≡ Some b → is_number b o ≡ true
 is_this b o e = ap (is_number b) e ∙ equal b b refl
@@ -53,7 +53,7 @@ called_range st s place queue e = go (cases_lt s (length st.slots))
     go (inl within) = within
     go (inr past) = absurd (let none : Option.None ≡ Some (record { place = place; queue = queue }) = sym (ap (λ (slot : Slot). slot.call) (get_or_past st.slots s no_slot past)) ∙ e in cc)
 
-owned_at : (st : State) (s b : ℕ) (place : Place) (queue : List ℕ) → Stands st s place queue → detached_by (slot_at st s).call ≡ Some b → is_owned st.slots b ≡ true
+owned_at : (st : State) (s b : ℕ) (place : Place) (queue : List ℕ) → Stands st s place queue → detached_by (slot_at st s).call ≡ Some b → is_with_call st.slots b ≡ true
 owned_at st s b place queue e owner = list_any_at (owns b) st.slots s no_slot (called_range st s place queue e) (is_this b _ owner)
 
 -- Where a call goes on, with the batch that it had detached.
@@ -102,26 +102,26 @@ idle_owner slot idle = go slot.call refl
 -- What a batch adds to the deposit.
 
 abbrev share : List Slot → ℕ → ℕ → Batch → List ℕ
-share slots k b batch = if is_in k batch && not (is_owned slots b) then batch.values else []
+share slots k b batch = if is_in k batch && not (is_with_call slots b) then batch.values else []
 
 share_out : (slots : List Slot) (k b : ℕ) (batch : Batch) → is_in k batch ≡ false → share slots k b batch ≡ []
-share_out slots k b batch out = ap (λ (t : Bool). if t && not (is_owned slots b) then batch.values else []) out
+share_out slots k b batch out = ap (λ (t : Bool). if t && not (is_with_call slots b) then batch.values else []) out
 
-share_in : (slots : List Slot) (k b : ℕ) (batch : Batch) → is_in k batch ≡ true → share slots k b batch ≡ (if is_owned slots b then [] else batch.values)
-share_in slots k b batch h = ap (λ (t : Bool). if t && not (is_owned slots b) then batch.values else []) h ∙ go (is_owned slots b)
+share_in : (slots : List Slot) (k b : ℕ) (batch : Batch) → is_in k batch ≡ true → share slots k b batch ≡ (if is_with_call slots b then [] else batch.values)
+share_in slots k b batch h = ap (λ (t : Bool). if t && not (is_with_call slots b) then batch.values else []) h ∙ go (is_with_call slots b)
   where
     go : (owned : Bool) → (if not owned then batch.values else []) ≡ (if owned then [] else batch.values)
     go true = refl
     go false = refl
 
-share_owned : (slots : List Slot) (k b : ℕ) (batch : Batch) → is_owned slots b ≡ true → share slots k b batch ≡ []
+share_owned : (slots : List Slot) (k b : ℕ) (batch : Batch) → is_with_call slots b ≡ true → share slots k b batch ≡ []
 share_owned slots k b batch owned = ap (λ (t : Bool). if is_in k batch && not t then batch.values else []) owned ∙ go (is_in k batch)
   where
     go : (there : Bool) → (if there && false then batch.values else []) ≡ []
     go true = refl
     go false = refl
 
-share_same : (slots later : List Slot) (k b : ℕ) (batch : Batch) → is_owned later b ≡ is_owned slots b → share later k b batch ≡ share slots k b batch
+share_same : (slots later : List Slot) (k b : ℕ) (batch : Batch) → is_with_call later b ≡ is_with_call slots b → share later k b batch ≡ share slots k b batch
 share_same slots later k b batch e = ap (λ (t : Bool). if is_in k batch && not t then batch.values else []) e
 
 from_none : (slots : List Slot) (k n : ℕ) (xs : List Batch) → ((i c : ℕ) → c ≡ n + i → share slots k c (get_or xs i no_batch) ≡ []) → deposit_from slots k n xs ≡ []
@@ -174,7 +174,7 @@ detached_on k st s new batch within free owner = all_same st (record st { slots 
     Same : ℕ → Batch → Type 0
     Same b x = share (set st.slots s new) k b x ≡ share st.slots k b (batch_at st b)
 
-    owned : is_owned (set st.slots s new) (length st.batches) ≡ true
+    owned : is_with_call (set st.slots s new) (length st.batches) ≡ true
     owned = list_any_at (owns (length st.batches)) (set st.slots s new) s no_slot (omega (arith, within, length-set st.slots s new)) (ap (owns (length st.batches)) (get_or-set_same st.slots s new no_slot within) ∙ is_this (length st.batches) (detached_by new.call) owner)
 
     added : Same (length st.batches) batch
@@ -236,7 +236,7 @@ from_one slots k n (x ∷ xs) (suc i) b e out =
 share_alone : (st : State) → IsReached st → HasOne st → (k b : ℕ) → is_in k (batch_at st b) ≡ true → deposit st k ≡ share st.slots k b (batch_at st b)
 share_alone st r one k b h = from_one st.slots k 0 st.batches b b (omega arith) (others_out st r one k b h)
 
-pub deposit_alone : (st : State) → IsReached st → HasOne st → (k b : ℕ) → is_in k (batch_at st b) ≡ true → deposit st k ≡ (if is_owned st.slots b then [] else (batch_at st b).values)
+pub deposit_alone : (st : State) → IsReached st → HasOne st → (k b : ℕ) → is_in k (batch_at st b) ≡ true → deposit st k ≡ (if is_with_call st.slots b then [] else (batch_at st b).values)
 deposit_alone st r one k b h = share_alone st r one k b h ∙ share_in st.slots k b (batch_at st b) h
 
 -- An event that counts the batch in a block.
@@ -257,7 +257,7 @@ counted_in st s b count new k r one h =
     ∙ ap (share (set st.slots s new) k b) (get_or-set_same st.batches b after no_batch (in_range st k b h)) ∙ come_share (set st.slots s new) k b (batch_at st b) (is_zero count) count
 
 -- nobody else owned it, and its owner goes on with none
-owner_ends : (st : State) (s b : ℕ) (new : Slot) → IsReached st → s < length st.slots → detached_by (slot_at st s).call ≡ Some b → detached_by new.call ≡ None → is_owned (set st.slots s new) b ≡ false
+owner_ends : (st : State) (s b : ℕ) (new : Slot) → IsReached st → s < length st.slots → detached_by (slot_at st s).call ≡ Some b → detached_by new.call ≡ None → is_with_call (set st.slots s new) b ≡ false
 owner_ends st s b new r within owner free = owned_none b (set st.slots s new) (λ i. go i (ℕ_discrete i s))
   where
     go : (i : ℕ) → Dec (i ≡ s) → owns b (get_or (set st.slots s new) i no_slot) ≡ false
@@ -300,7 +300,7 @@ deposit_subtracted size st s b walk queue d k r one stands does h = (
     is = some_is _ _ (ap (λ o. sub_count scheme st s (of_call walking_at o)) (sym stands) ∙ does)
 
     -- slot s walks before and after
-    same : is_owned (set st.slots s new) b ≡ is_owned st.slots b
+    same : is_with_call (set st.slots s new) b ≡ is_with_call st.slots b
     same = owned_set b s st.slots new (ap (is_number b) (ap (λ (o : Option Call). detached_by (moved_call (walked_on given_up) o)) stands ∙ sym (ap detached_by stands)))
 
     counts : changes_batch st b (SubCount s) ≡ true

@@ -38,21 +38,19 @@ pub use Rattle.seize_book.proofs.Firsts.{noted_one, one_label, others_closed, ot
 -- the keys of values that were never named, put together, and what the key of one knows that was put
 pub use Rattle.seize_book.proofs.Further.{first_new, next_known, none_new, pushed_new}
 -- keys of several values, put together or apart
-pub use Rattle.seize_book.proofs.Linked.{are_later, closed_after, none_joined, none_linked, parted_joined, still_closed}
+pub use Rattle.seize_book.proofs.Linked.{are_later, closed_after, parted_joined, still_closed}
 -- and how they lead on
-pub use Rattle.seize_book.proofs.Leading.{closed_anywhere, has_noted, last_closes, last_leads, leads_next, none_closed, one_leads}
+pub use Rattle.seize_book.proofs.Leading.{has_noted, last_closes, last_leads, leads_next, none_closed, one_leads}
 -- what the list says is kept of values
 pub use Rattle.seize_book.proofs.Kept.{alike_told, all_of_told, all_told_append, all_told_grow, all_told_later, all_told_renewed, both_told}
-pub use Rattle.seize_book.proofs.Kept.{first_told, joined_told, none_told, pushed_told, put_told, retired_told, told_apart, told_later}
+pub use Rattle.seize_book.proofs.Kept.{first_told, joined_told, pushed_told, put_told, retired_told, told_apart, told_later}
 -- there is but one such word of a value
 pub use Rattle.seize_book.proofs.Once.{told_once}
 -- what is known of a value that a slot's call is about to hand, and when it was handed
 pub use Rattle.seize_book.proofs.Hands.{hands_gone, hands_soon, settles_after, soon_named}
--- with a value that was named something is lent, if the blocks of its book lie in a store
-pub use Rattle.seize_book.proofs.LentValues.{gone_lent, lent_in, lent_key, named_lent}
+-- with a value that was named something is lent
+pub use Rattle.seize_book.proofs.LentValues.{gone_lent, named_lent}
 -- a value that was found in an activation which has not ended was not reclaimed
 pub use Rattle.seize_book.proofs.Standing.{found_stands, gone_over}
--- the first pass of a book whose passes come from a porter is alone, and no other one is
-pub use Rattle.seize_book.proofs.Turns.{not_alone, turn_alone}
 -- of two beginnings one is the longer, and has seen what the other has
 pub use Rattle.seize_book.proofs.Meets.{longer}

@@ -1,9 +1,9 @@
 -- The first of some keys, apart from the others; and keys of one value of whose block something is noted, or is as it was.
-use Rattle.std.proofs.Common.{◌≡◌, ℕ, true, List, [], ◌∷◌, ◌++◌, Option, Some, None, refl, sym, ap, subst}
+use Rattle.std.proofs.Common.{◌≡◌, ℕ, true, List, [], ◌∷◌, ◌++◌, refl, sym, ap, subst}
 use base.Stored.{Gv}
 use Rattle.seize_book.specs.Book.{after, blocks}
 use Rattle.seize_book.specs.Entry.{Entry}
-use Rattle.seize_book.specs.Ledger.{Held, renewed}
+use Rattle.seize_book.specs.Ledger.{HeldKey, renewed}
 use Rattle.seize_book.specs.Linked.{are_joined}
 use Rattle.seize_book.specs.Notes.{IsUnchanged, with_note}
 use Rattle.seize_book.specs.Others.{IsLast, IsLastIn, value_of}
@@ -12,7 +12,7 @@ use Rattle.seize_book.specs.Tokens.{Name, start}
 use Rattle.seize_book.specs.declared.book.value_key.ValueKey.{ValueKey}
 
 abbrev Keys : Type 0
-Keys = List (Held Entry)
+Keys = List (HeldKey Entry)
 
 -- Keys without the first,
 pub others_know : (held rest : Keys) (seen : List Entry) → is_one blocks held ≡ true → held ++ rest ≡ renewed (held ++ rest) seen → rest ≡ renewed rest seen
@@ -24,12 +24,11 @@ others_know (h ∷ []) rest seen one same = ap tail_of same
     tail_of (x ∷ xs) = xs
 others_know (h ∷ g ∷ held) rest seen one same = absurd (cc)
 
-pub others_closed : (store : Option (List ℕ)) (held rest : Keys) → is_one blocks held ≡ true → are_joined store (held ++ rest) [] ≡ true → are_joined store rest [] ≡ true
-others_closed None held rest one closed = refl
-others_closed (Some store) [] rest one closed = absurd (cc)
-others_closed (Some store) (h ∷ []) [] one closed = refl
-others_closed (Some store) (h ∷ []) (k ∷ rest) one closed = closed
-others_closed (Some store) (h ∷ g ∷ held) rest one closed = absurd (cc)
+pub others_closed : (held rest : Keys) → is_one blocks held ≡ true → are_joined (held ++ rest) [] ≡ true → are_joined rest [] ≡ true
+others_closed [] rest one closed = absurd (cc)
+others_closed (h ∷ []) [] one closed = refl
+others_closed (h ∷ []) (k ∷ rest) one closed = closed
+others_closed (h ∷ g ∷ held) rest one closed = absurd (cc)
 
 -- and what the first knows.
 pub own_is : (held rest : Keys) (seen : List Entry) → is_one blocks held ≡ true → held ++ rest ≡ renewed (held ++ rest) seen → own_of held ≡ seen

@@ -6,16 +6,16 @@ use Rattle.std.proofs.lemmas.List.{get_or_past, get_or_append_left, get_or_push,
 use Rattle.std.proofs.lemmas.Bool.{cases_lt}
 use mathlib.Core.List.{IsPrefix}
 use native.Mathlib.Decide.{ℕ_discrete}
-use Rattle.seize_machine.specs.Machine.State.{State, Batch, Rest, Add, no_batch, slot_at, batch_at, linked, are_distinct}
+use Rattle.seize_machine.specs.Machine.State.{State, Batch, Rest, Add, no_batch, slot_at, batch_at, linked_values, are_distinct}
 use Rattle.seize_machine.specs.Machine.Event.{Event}
 use Rattle.seize_machine.specs.Machine.Next.{next}
-use Rattle.seize_machine.specs.Machine.History.{done_by, first_of}
+use Rattle.seize_machine.specs.Machine.History.{done_by, first_or_none}
 use Rattle.seize_machine.specs.Machine.Laws.{IsHeld, walk_of, detached_by}
 use Rattle.seize_machine.specs.declared.machine.event.Answer.{Answer}
 use Rattle.seize_machine.proofs.Facts.{Step, Stands, step_of, batches_length, values_kept, held_full}
 use Rattle.seize_book.specs.Blocks.{Plan, no_plan, plan_of, planned_by, plans, front_of}
 use Rattle.seize_book.specs.Book.{after, IsLegalList}
-use Rattle.seize_book.specs.Entry.{Entry, Made, Used, timed}
+use Rattle.seize_book.specs.Entry.{Entry, Made, Used, timed_deed}
 use Rattle.seize_book.specs.Homes.{home_of, is_home, is_in}
 use Rattle.seize_book.specs.Tokens.{Name, start}
 use Rattle.seize_book.proofs.Lists.{reached_after, equal}
@@ -68,13 +68,13 @@ planned_after st [] ps l old = subst (Planned st) (sym (append-nil ps)) old
 planned_after st (Used u ∷ log) ps l old = planned_after st log ps l old
 planned_after st (Made e ∷ log) ps l old =
     let w = legal_first st e log l in
-    let now = (done_by next st (timed e)).0 in
+    let now = (done_by next st (timed_deed e)).0 in
     let stepped : Planned now (ps ++ planned_by st e.event) = subst (λ (d : State × Answer). Planned d.0 (ps ++ planned_by st e.event)) (sym w.2) (planned_step e.size st e.event w.0 ps (step_of e.size st e.event w.0 w.1) old) in
     subst (Planned (after now log)) (append_assoc ps (planned_by st e.event) (plans now log)) (planned_after now log (ps ++ planned_by st e.event) (subst (λ (d : State × Answer). IsLegalList d.0 log) (sym w.2) w.3) stepped)
 
 -- A batch that is held was not given up.
 
-pub held_values : (n : Name) (log : List Entry) → are_distinct (linked n.links) ≡ true → IsLegalList (start n) log → (b : ℕ) → IsHeld (after (start n) log) b
+pub held_values : (n : Name) (log : List Entry) → are_distinct (linked_values n.links) ≡ true → IsLegalList (start n) log → (b : ℕ) → IsHeld (after (start n) log) b
     → (batch_at (after (start n) log) b).values ≡ (slice_index_or (plans (start n) log) b no_plan).values
 held_values n log distinct l b held = go ((planned_after (start n) log [] l (record { many = refl; each = λ b. inr refl })).each b)
   where
@@ -85,10 +85,10 @@ held_values n log distinct l b held = go ((planned_after (start n) log [] l (rec
         let empty : length (batch_at (after (start n) log) b).values ≡ 0 = ap (λ (values : List ℕ). length values) none in
         absurd (omega (arith, full, empty))
 
-pub held_front : (n : Name) (log : List Entry) → are_distinct (linked n.links) ≡ true → IsLegalList (start n) log → (b v : ℕ) → IsHeld (after (start n) log) b
+pub held_front : (n : Name) (log : List Entry) → are_distinct (linked_values n.links) ≡ true → IsLegalList (start n) log → (b v : ℕ) → IsHeld (after (start n) log) b
     → front_of (start n) log b ≡ Some v → is_in (home_of v) (batch_at (after (start n) log) b) ≡ true
 held_front n log distinct l b v held front =
-    ap (λ (values : List ℕ). is_home (home_of v) (first_of values)) (held_values n log distinct l b held) ∙ ap (is_home (home_of v)) front ∙ equal (home_of v) (home_of v) refl
+    ap (λ (values : List ℕ). is_home (home_of v) (first_or_none values)) (held_values n log distinct l b held) ∙ ap (is_home (home_of v)) front ∙ equal (home_of v) (home_of v) refl
 
 -- where calls stand that count a batch, it is held
 
@@ -100,7 +100,7 @@ walked_held st s b walk queue stands = inr (inl (s, subst (λ o. Contains (walk_
 
 -- the front of a batch stays as the list goes on
 pub front_grows : (st : State) (own log : List Entry) (b : ℕ) → IsPrefix own log → b < length (plans st own) → front_of st log b ≡ front_of st own b
-front_grows st own log b grows there = ap (λ (p : Plan). first_of p.values) (sym (plan_stays st own log b grows there))
+front_grows st own log b grows there = ap (λ (p : Plan). first_or_none p.values) (sym (plan_stays st own log b grows there))
 
 -- a batch with a front was detached
 pub front_there : (st : State) (own : List Entry) (b v : ℕ) → front_of st own b ≡ Some v → b < length (plans st own)
@@ -108,4 +108,4 @@ front_there st own b v front = go (cases_lt b (length (plans st own)))
   where
     go : (b < length (plans st own)) ⊎ (length (plans st own) ≤ b) → b < length (plans st own)
     go (inl less) = less
-    go (inr past) = absurd (let none : Option.None ≡ Some v = sym (ap (λ (p : Plan). first_of p.values) (get_or_past (plans st own) b no_plan past)) ∙ front in cc)
+    go (inr past) = absurd (let none : Option.None ≡ Some v = sym (ap (λ (p : Plan). first_or_none p.values) (get_or_past (plans st own) b no_plan past)) ∙ front in cc)

@@ -4,26 +4,27 @@ use Rattle.std.specs.Prelude.{slice_set}
 use Rattle.std.specs.List.{Contains, list_all, list_any}
 use mathlib.Core.List.{cons≢nil}
 use Rattle.std.proofs.lemmas.Bool.{and_from, or_from, or_left, or_right}
-use Rattle.seize_machine.specs.Machine.State.{State, are_distinct, has, linked, slot_at}
+use Rattle.seize_book.specs.Lending.{IsLentKey}
+use Rattle.seize_machine.specs.Machine.State.{State, are_distinct, has, linked_values, slot_at}
 use Rattle.seize_machine.specs.Machine.Event.{Hand}
 use Rattle.seize_machine.specs.Machine.Next.{are_fresh, hand, handing_at, next, of_call, scheme, slot_handed}
 use Rattle.seize_machine.specs.declared.machine.event.Answer.{Answer}
 use Rattle.seize_machine.specs.declared.machine.event.Answer.TheVariants.{Handed}
 use Rattle.seize_machine.proofs.Facts.{Step, and_true, eq_true, gone_grows, is_true, loose_named, not_true, step_of}
-use Rattle.seize_book.specs.Ledger.{AllKept, AllThere, Beside, Held, renewed}
-use Rattle.seize_book.specs.Adding.{telling}
+use Rattle.seize_book.specs.Ledger.{AllKept, AllThere, Beside, HeldKey, renewed}
+use Rattle.seize_book.specs.Adding.{deed_with_words}
 use Rattle.seize_book.specs.Entry.{Deed, Entry, Made}
 use Rattle.seize_book.specs.Kept.{kepts_of}
 use Rattle.seize_book.specs.Book.{IsLegalList, Kept, TheBlock, after, blocks, kind_of, rules, slots}
 use Rattle.seize_book.specs.Fair.{Before, Covers, Fair, IsLabel, MayAdd, pass_key}
 use Rattle.seize_book.specs.Homes.{HasOne, IsVacant, home_of}
 use Rattle.seize_book.specs.Books.{IsNextIn}
-use Rattle.seize_book.specs.Lending.{IsLentInBook}
 use Rattle.seize_book.specs.Values.{AreLast, AreOfBook, AllNew, AreNew, AreSpent, IsEmpty, IsKeyOfOne, LieApart, Nexts, Pushes, book_in, values_of}
 use Rattle.seize_book.specs.Others.{CannotRetire, IsLast, IsLastIn, IsSpent, IsWith, Knew, book_of, state_of, value_of}
 use Rattle.seize_book.specs.Private.{is_one, key_of, label_of, own_of, are_of_blocks, labels_of}
-use Rattle.seize_book.specs.Slots.{IsOf, hands_next, number_of, slot_of}
-use Rattle.seize_book.specs.Tokens.{IsLentIn, Name, start}
+use Rattle.seize_book.specs.Slots.{IsKeyOfBook, hands_next, slot_number, slot_of}
+use Rattle.seize_book.specs.Loans.{CarriesOne}
+use Rattle.seize_book.specs.Tokens.{Name, start}
 use Rattle.seize_book.specs.declared.book.keys.Keys.{Keys}
 use Rattle.seize_book.specs.declared.book.pass.Pass.{Pass}
 use Rattle.seize_book.specs.declared.book.slot_key.SlotKey.{SlotKey}
@@ -88,23 +89,23 @@ distinct (x ∷ vs) apart = let parts = and_true _ _ apart in and_from _ _ (go (
 -- Keys of blocks.
 
 -- the first one's kind and number
-pub first_is : (h : Held Entry) (held : List (Held Entry)) → are_of_blocks (h ∷ held) ≡ true → (h.kind ≡ blocks) × (h.key ≡ home_of h.label) × (are_of_blocks held ≡ true)
+pub first_is : (h : HeldKey Entry) (held : List (HeldKey Entry)) → are_of_blocks (h ∷ held) ≡ true → (h.kind ≡ blocks) × (h.key ≡ home_of h.label) × (are_of_blocks held ≡ true)
 first_is h held are = let both = and_true _ _ are in let its = and_true _ _ both.0 in (eq_true h.kind blocks its.0, eq_true h.key (home_of h.label) its.1, both.1)
 
 -- no value lies in a block whose key is not held
-none_there : (held : List (Held Entry)) (k : ℕ) → are_of_blocks held ≡ true → Beside held blocks k → list_any (λ v. home_of v == k) (labels_of held) ≡ false
+none_there : (held : List (HeldKey Entry)) (k : ℕ) → are_of_blocks held ≡ true → Beside held blocks k → list_any (λ v. home_of v == k) (labels_of held) ≡ false
 none_there [] k are beside = refl
 none_there (h ∷ held) k are beside =
     let its = first_is h held are in
     or_from _ _ (differ (home_of h.label) k (λ e. beside.0 (sym its.0, e ∙ sym its.1))) (none_there held k its.2 beside.1)
 
-none_past : (held : List (Held Entry)) (many : ℕ → ℕ) (k : ℕ) → are_of_blocks held ≡ true → AllThere many held → many blocks ≤ k → list_any (λ v. home_of v == k) (labels_of held) ≡ false
+none_past : (held : List (HeldKey Entry)) (many : ℕ → ℕ) (k : ℕ) → are_of_blocks held ≡ true → AllThere many held → many blocks ≤ k → list_any (λ v. home_of v == k) (labels_of held) ≡ false
 none_past [] many k are there past = refl
 none_past (h ∷ held) many k are there past =
     let its = first_is h held are in let below : h.key < many blocks = subst (λ (r : ℕ). h.key < many r) its.0 there.0 in
     or_from _ _ (differ (home_of h.label) k (λ e. let is : h.key ≡ k = its.1 ∙ sym e in omega (arith, below, past, is))) (none_past held many k its.2 there.1 past)
 
-is_label : (held : List (Held Entry)) (v : ℕ) → are_of_blocks held ≡ true → has v (labels_of held) ≡ true → IsLabel held v
+is_label : (held : List (HeldKey Entry)) (v : ℕ) → are_of_blocks held ≡ true → has v (labels_of held) ≡ true → IsLabel held v
 is_label [] v are h = absurd (cc)
 is_label (x ∷ held) v are h = go (x.label == v) refl (is_label held v) h
   where
@@ -116,12 +117,12 @@ is_label (x ∷ held) v are h = go (x.label == v) refl (is_label held v) h
     go false e rest h = inr (rest its.2 h)
 
 -- with each of their values something is lent where it has to be
-lent_of : (n : Name) (held : List (Held Entry)) (v : ℕ) → AllNew n held → has v (labels_of held) ≡ true → IsLentIn n v
+lent_of : (n : Name) (held : List (HeldKey Entry)) (v : ℕ) → AllNew n held → has v (labels_of held) ≡ true → CarriesOne v
 lent_of n [] v new h = absurd (cc)
 lent_of n (x ∷ held) v new h = go (x.label == v) refl (lent_of n held v new.1) h
   where
-    go : (b : Bool) → (x.label == v) ≡ b → (has v (labels_of held) ≡ true → IsLentIn n v) → (b || has v (labels_of held)) ≡ true → IsLentIn n v
-    go true e rest h = subst (IsLentIn n) (eq_true x.label v e) new.0.2
+    go : (b : Bool) → (x.label == v) ≡ b → (has v (labels_of held) ≡ true → CarriesOne v) → (b || has v (labels_of held)) ≡ true → CarriesOne v
+    go true e rest h = subst CarriesOne (eq_true x.label v e) new.0.2
     go false e rest h = rest h
 
 -- what they know of their values still holds
@@ -129,17 +130,17 @@ module _ (n : Name) (log : List Entry) (legal : IsLegalList (start n) log) where
   abbrev now : State
   now = after (start n) log
 
-  kept_block : (x : Held Entry) → x.kind ≡ blocks → (rules (start n)).Kept x.kind x.key x.own log → Kept (start n) TheBlock x.key x.own log
+  kept_block : (x : HeldKey Entry) → x.kind ≡ blocks → (rules (start n)).Kept x.kind x.key x.own log → Kept (start n) TheBlock x.key x.own log
   kept_block x is kept = subst (λ (r : ℕ). Kept (start n) (kind_of r) x.key x.own log) is kept
 
-  fresh : (held : List (Held Entry)) → are_of_blocks held ≡ true → AllKept (rules (start n)) held log → AllNew n held → list_all (λ v. not (has v now.named)) (labels_of held) ≡ true
+  fresh : (held : List (HeldKey Entry)) → are_of_blocks held ≡ true → AllKept (rules (start n)) held log → AllNew n held → list_all (λ v. not (has v now.named)) (labels_of held) ≡ true
   fresh [] are kept new = refl
   fresh (h ∷ held) are kept new =
       let its = first_is h held are in
       let same = (kept_block h its.0 kept.0).1 h.label (sym its.1) in
       and_from _ _ (ap not (sym same.0 ∙ new.0.0)) (fresh held its.2 kept.1 new.1)
 
-  vacant : (held : List (Held Entry)) (v : ℕ) → are_of_blocks held ≡ true → AllKept (rules (start n)) held log → AllNew n held → has v (labels_of held) ≡ true → IsVacant now (home_of v)
+  vacant : (held : List (HeldKey Entry)) (v : ℕ) → are_of_blocks held ≡ true → AllKept (rules (start n)) held log → AllNew n held → has v (labels_of held) ≡ true → IsVacant now (home_of v)
   vacant [] v are kept new h = absurd (cc)
   vacant (x ∷ held) v are kept new h = go (x.label == v) refl (vacant held v) h
     where
@@ -154,7 +155,7 @@ module _ (n : Name) (log : List Entry) (legal : IsLegalList (start n) log) where
 
 -- The event.
 
-covers : (st : State) (log : List Entry) (p size : ℕ) (kepts : List ℕ) (mine : List Entry) (a b : List (Held Entry)) → are_of_blocks b ≡ true
+covers : (st : State) (log : List Entry) (p size : ℕ) (kepts : List ℕ) (mine : List Entry) (a b : List (HeldKey Entry)) → are_of_blocks b ≡ true
     → Covers st (pass_key p mine ∷ (only slots a ++ b)) log (Made (record { pass = p; size = size; event = Hand (key_of a) (labels_of b); life = 0; kepts = kepts }))
 covers st log p size kepts mine a b are zero k other there = differ p k (λ i. other.0 (refl, i))
 covers st log p size kepts mine a b are (suc zero) k other there = refl
@@ -202,7 +203,7 @@ one_each size st s v puts step apart vacant one u w home a b c e = go (either st
     go (inr x) (inl y) f g = absurd (never u w (sym home) x y g)
     go (inr x) (inr y) f g = one_of puts u w apart home x y
 
-module _ (n : Name) (p size : ℕ) (kepts : List ℕ) (seen : List Entry) (a b : List (Held Entry)) (one : is_one slots a ≡ true) (are : are_of_blocks b ≡ true) (apart : LieApart (labels_of b)) (new : AllNew n b)
+module _ (n : Name) (p size : ℕ) (kepts : List ℕ) (seen : List Entry) (a b : List (HeldKey Entry)) (one : is_one slots a ≡ true) (are : are_of_blocks b ≡ true) (apart : LieApart (labels_of b)) (new : AllNew n b)
     (handing : is_some (of_call handing_at (slot_at (after (start n) (own_of a)) (key_of a)).call) ≡ true) where
   abbrev puts : List ℕ
   puts = labels_of b
@@ -246,7 +247,7 @@ module _ (n : Name) (p size : ℕ) (kepts : List ℕ) (seen : List Entry) (a b :
     }
 
     -- Afterwards each is named and not loose, and all others of its block were reclaimed.
-    module _ (links : are_distinct (linked n.links) ≡ true) (seen' : List Entry) (appended : seen' ≡ log ++ Made entry ∷ []) where
+    module _ (links : are_distinct (linked_values n.links) ≡ true) (seen' : List Entry) (appended : seen' ≡ log ++ Made entry ∷ []) where
       leads : after (start n) seen' ≡ then_.0
       leads = ap (after (start n)) appended ∙ after_push (start n) log (Made entry) then_ before.legal legal
 
@@ -273,20 +274,20 @@ module _ (n : Name) (p size : ℕ) (kepts : List ℕ) (seen : List Entry) (a b :
 
   pub may_hand : MayAdd n p seen (a ++ b) entry
   may_hand =
-      subst (λ (hs : List (Held Entry)). MayAdd n p seen (hs ++ b) entry) (sym (only_is slots a one))
+      subst (λ (hs : List (HeldKey Entry)). MayAdd n p seen (hs ++ b) entry) (sym (only_is slots a one))
       ((omega arith, blocks_within b are), (λ lives. refl), (λ s. refl), λ mine log before. fair log before mine)
 
   -- what the keys know then
-  pub put_so : (log seen' : List Entry) → Before n p seen (a ++ b) log → are_distinct (linked n.links) ≡ true → seen' ≡ log ++ Made entry ∷ []
+  pub put_so : (log seen' : List Entry) → Before n p seen (a ++ b) log → are_distinct (linked_values n.links) ≡ true → seen' ≡ log ++ Made entry ∷ []
       → ((v : ℕ) → Contains puts v → IsSpent v (after (start n) seen')) × ((v : ℕ) → Contains puts v → IsLastIn v (after (start n) seen'))
   put_so log seen' before links appended =
-      let known = subst (λ (hs : List (Held Entry)). Before n p seen (hs ++ b) log) (only_is slots a one) before in
+      let known = subst (λ (hs : List (HeldKey Entry)). Before n p seen (hs ++ b) log) (only_is slots a one) before in
       (spent_in log known links seen' appended, last_in log known links seen' appended)
 
 -- With a slot's key, and the keys of the further values, that were found to be apart.
-module _ (key : SlotKey) (further : ValueKeys) (pass : Pass) (apart : LieApart (values_of further)) (book : IsOf key pass) (books : AreOfBook further pass) (handing : is_some (hands_next (slot_of key)) ≡ true) (new : AreNew further) where
+module _ (key : SlotKey) (further : ValueKeys) (pass : Pass) (apart : LieApart (values_of further)) (book : IsKeyOfBook key pass) (books : AreOfBook further pass) (handing : is_some (hands_next (slot_of key)) ≡ true) (new : AreNew further) where
   abbrev deed : Deed
-  deed = telling pass (Hand (number_of key) (values_of further)) (kepts_of further)
+  deed = deed_with_words pass (Hand (slot_number key) (values_of further)) (kepts_of further)
 
   handing_in : is_some (of_call handing_at (slot_at (after (start pass.name) (own_of key.keys.held)) (key_of key.keys.held)).call) ≡ true
   handing_in = subst (λ (n : Name). is_some (of_call handing_at (slot_at (after (start n) (own_of key.keys.held)) (key_of key.keys.held)).call) ≡ true) book handing
@@ -295,24 +296,24 @@ module _ (key : SlotKey) (further : ValueKeys) (pass : Pass) (apart : LieApart (
   new_in = subst (λ (n : Name). AllNew n further.keys.held) books new
 
   pub may_hand_with : IsWith key further.keys pass deed
-  may_hand_with = ((λ log before. refl), may_hand pass.name pass.id pass.name.size (kepts_of further) pass.seen key.keys.held further.keys.held key.one further.each apart new_in handing_in)
+  may_hand_with = ((λ log before. refl), may_hand pass.name pass.id pass.size (kepts_of further) pass.seen key.keys.held further.keys.held key.one further.each apart new_in handing_in)
 
-  pub known_then : (pass' : Pass) (values : List ℕ) → values ≡ values_of further → pass'.name ≡ pass.name → are_distinct (linked pass.name.links) ≡ true → Knew key further.keys pass pass' deed
+  pub known_then : (pass' : Pass) (values : List ℕ) → values ≡ values_of further → pass'.name ≡ pass.name → are_distinct (linked_values pass.name.links) ≡ true → Knew key further.keys pass pass' deed
       → ((v : ℕ) → Contains values v → IsSpent v (after (start pass'.name) pass'.seen)) × ((v : ℕ) → Contains values v → IsLastIn v (after (start pass'.name) pass'.seen))
   known_then pass' values same name links knew =
-      let known = put_so pass.name pass.id pass.name.size (kepts_of further) pass.seen key.keys.held further.keys.held key.one further.each apart new_in handing_in knew.0 pass'.seen knew.2 links knew.1 in (
+      let known = put_so pass.name pass.id pass.size (kepts_of further) pass.seen key.keys.held further.keys.held key.one further.each apart new_in handing_in knew.0 pass'.seen knew.2 links knew.1 in (
         (λ v c. subst (λ (n : Name). IsSpent v (after (start n) pass'.seen)) (sym name) (known.0 v (subst (λ (vs : List ℕ). Contains vs v) same c))),
         (λ v c. subst (λ (n : Name). IsLastIn v (after (start n) pass'.seen)) (sym name) (known.1 v (subst (λ (vs : List ℕ). Contains vs v) same c))),
       )
 
 -- How keys of new values are put together.
 
-append_new : (n : Name) (held more : List (Held Entry)) → AllNew n held → AllNew n more → AllNew n (held ++ more)
+append_new : (n : Name) (held more : List (HeldKey Entry)) → AllNew n held → AllNew n more → AllNew n (held ++ more)
 append_new n [] more all new = new
 append_new n (h ∷ held) more all new = (all.0, append_new n held more all.1 new)
 
 -- the key of one value alone
-one_new : (n : Name) (held : List (Held Entry)) → is_one blocks held ≡ true → has (label_of held) (after (start n) (own_of held)).named ≡ false → IsVacant (after (start n) (own_of held)) (home_of (label_of held)) → IsLentIn n (label_of held) → AllNew n held
+one_new : (n : Name) (held : List (HeldKey Entry)) → is_one blocks held ≡ true → has (label_of held) (after (start n) (own_of held)).named ≡ false → IsVacant (after (start n) (own_of held)) (home_of (label_of held)) → CarriesOne (label_of held) → AllNew n held
 one_new n [] one unnamed vacant lent = absurd (cc)
 one_new n (h ∷ g ∷ held) one unnamed vacant lent = absurd (cc)
 one_new n (h ∷ []) one unnamed vacant lent = ((unnamed, vacant, lent), tt)
@@ -320,26 +321,26 @@ one_new n (h ∷ []) one unnamed vacant lent = ((unnamed, vacant, lent), tt)
 pub none_new : (keys : ValueKeys) (pass : Pass) → IsEmpty keys pass → AreNew keys
 none_new keys pass none = subst (AllNew (book_in keys)) (sym none.1) tt
 
-pub first_new : (value : ValueKey) (keys : ValueKeys) (number : ℕ) → IsKeyOfOne value keys → IsNextIn value number → IsLentInBook value → AreNew keys
+pub first_new : (value : ValueKey) (keys : ValueKeys) (number : ℕ) → IsKeyOfOne value keys → IsNextIn value number → IsLentKey value → AreNew keys
 first_new value keys number is new lent =
     subst (λ (ks : Keys). AllNew ks.name ks.held) (sym is.0) (one_new (book_of value) value.keys.held value.one new.0 new.1 lent)
 
 -- and of one more
-pub pushed_new : (keys : ValueKeys) (value : ValueKey) (keys' : ValueKeys) (number : ℕ) → Pushes keys value keys' → book_of value ≡ book_in keys → AreNew keys → IsNextIn value number → IsLentInBook value → AreNew keys'
+pub pushed_new : (keys : ValueKeys) (value : ValueKey) (keys' : ValueKeys) (number : ℕ) → Pushes keys value keys' → book_of value ≡ book_in keys → AreNew keys → IsNextIn value number → IsLentKey value → AreNew keys'
 pushed_new keys value keys' number pushes book all new lent =
-    subst (λ (t : Name × List (Held Entry)). AllNew t.0 t.1) (λ j. (sym pushes.0 j, sym pushes.2 j))
+    subst (λ (t : Name × List (HeldKey Entry)). AllNew t.0 t.1) (λ j. (sym pushes.0 j, sym pushes.2 j))
     (append_new (book_in keys) keys.keys.held value.keys.held all
     (subst (λ (n : Name). AllNew n value.keys.held) book (one_new (book_of value) value.keys.held value.one new.0 new.1 lent)))
 
 -- The key of the first of some values that were put knows what they all know.
 
-first_own : (a b held : List (Held Entry)) (seen : List Entry) → is_one blocks a ≡ true → a ++ b ≡ renewed held seen → own_of a ≡ seen
+first_own : (a b held : List (HeldKey Entry)) (seen : List Entry) → is_one blocks a ≡ true → a ++ b ≡ renewed held seen → own_of a ≡ seen
 first_own [] b held seen one e = absurd (cc)
 first_own (x ∷ y ∷ a) b held seen one e = absurd (cc)
 first_own (x ∷ []) b [] seen one e = absurd (cons≢nil e)
 first_own (x ∷ []) b (h ∷ held) seen one e = ap own_of e
 
-pub next_known : (keys : ValueKeys) (value : ValueKey) (keys' : ValueKeys) (pass : Pass) (held : List (Held Entry)) → Nexts keys value keys' → book_in keys ≡ pass.name → keys.keys.held ≡ renewed held pass.seen → AreSpent keys pass → AreLast keys pass
+pub next_known : (keys : ValueKeys) (value : ValueKey) (keys' : ValueKeys) (pass : Pass) (held : List (HeldKey Entry)) → Nexts keys value keys' → book_in keys ≡ pass.name → keys.keys.held ≡ renewed held pass.seen → AreSpent keys pass → AreLast keys pass
     → CannotRetire value × IsLast value
 next_known keys value keys' pass held nexts book own spent last =
     let v : ℕ = value_of value in

@@ -1,5 +1,4 @@
--- Where one pass is alone, its copy of the list and the book's; and how a porter comes home at the gate `turns`, and goes off. Assumes
--- `Logic`.
+-- The first pass has a copy of the list, and the book has one; and how a porter comes home, and goes off. Assumes `Logic`.
 use Rattle.std.proofs.Common.{◌≡◌, ℕ, zero, suc, ◌-◌, ◌≤◌, Bool, true, false, List, [], ◌∷◌, refl, sym}
 use mathlib.Core.List.{IsPrefix}
 use mathlib.Core.Option as Maybe
@@ -17,7 +16,7 @@ use types.Kit.{‵, raw, ◌⊛◌, given, ◌$◌, ◌∵◌, !, qed, by, move,
 use denote.Steps.{nothing}
 use Rattle.seize_book.specs.Ledger.{fact, logs}
 use Rattle.seize_book.specs.Entry.{Entry, entry_coded}
-use Rattle.seize_book.specs.Tokens.{Gate, many, sole, turns, IsSole, IsTurns, all_but, gate_keeps, gate_gives, gate_leaves, one_out, turned}
+use Rattle.seize_book.specs.Tokens.{Gate, IsSole, all_but, gate_keeps, gate_gives, gate_leaves, one_out, turned}
 use Rattle.seize_book.proofs.Tickets.{all_once, comes_back, goes_out, none_back}
 
 module _ {M : Type 1} {𝓤 : Ura M} (𝓛 : Logic 𝓤) where
@@ -44,22 +43,18 @@ module _ {M : Type 1} {𝓤 : Ura M} (𝓛 : Logic 𝓤) where
   more_than_all Z q η a b = let l = logs entry_coded in own_sum 𝓛 (growing l) η (Maybe.some full_share, a) (Maybe.some q, b) Z (λ c m. absurd (not-OpDef-full_share q m.0.1.0.0))
 
   -- they are the same
-  in_turn : (η κ : ℕ) (log seen : List Entry) (b : Bool) → ⟦ turned η κ log b ⟧ ∗ ⟦ copy three_quarters η seen ⟧ ⊢ guard 𝓤 (log ≡ seen) (⟦ turned η κ log b ⟧ ∗ ⟦ copy three_quarters η seen ⟧)
-  in_turn η κ log seen true = qed 𝓛 (‵ (turned η κ log true) ∷ ‵ (copy three_quarters η seen) ∷ []) ∵ fsplit ! $ move ! (0 ∷ 2 ∷ []) $
-      use2 𝓛 (given (log ≡ seen) (‵ (copy quarter η log) ⊛ ‵ (copy three_quarters η seen))) (latest_agrees (logs entry_coded) 𝓛 quarter three_quarters η log seen) $ learn ! (λ e. check ! e $ split ! $
+  in_turn : (g : Gate) (log seen : List Entry) (b : Bool) → ⟦ turned g log b ⟧ ∗ ⟦ copy three_quarters g.copy seen ⟧ ⊢ guard 𝓤 (log ≡ seen) (⟦ turned g log b ⟧ ∗ ⟦ copy three_quarters g.copy seen ⟧)
+  in_turn g log seen true = qed 𝓛 (‵ (turned g log true) ∷ ‵ (copy three_quarters g.copy seen) ∷ []) ∵ fsplit ! $ move ! (0 ∷ 2 ∷ []) $
+      use2 𝓛 (given (log ≡ seen) (‵ (copy quarter g.copy log) ⊛ ‵ (copy three_quarters g.copy seen))) (latest_agrees (logs entry_coded) 𝓛 quarter three_quarters g.copy log seen) $ learn ! (λ e. check ! e $ split ! $
       -- [the book's share; the pass's; the tickets]
       move ! (0 ∷ 2 ∷ []) $ fjoin ! $ done !)
-  in_turn η κ log seen false = more_than_all (guard 𝓤 (log ≡ seen) (⟦ turned η κ log false ⟧ ∗ ⟦ copy three_quarters η seen ⟧)) three_quarters η log seen
+  in_turn g log seen false = more_than_all (guard 𝓤 (log ≡ seen) (⟦ turned g log false ⟧ ∗ ⟦ copy three_quarters g.copy seen ⟧)) three_quarters g.copy log seen
 
-  pub agrees : (g : Gate) (p : ℕ) (log seen : List Entry) → ⟦ gate_keeps g log ⟧ ∗ ⟦ gate_gives g p seen ⟧ ⊢ guard 𝓤 (IsSole g p → log ≡ seen) (⟦ gate_keeps g log ⟧ ∗ ⟦ gate_gives g p seen ⟧)
-  agrees many p log seen = qed 𝓛 (‵ (gate_keeps many log) ∷ ‵ (gate_gives many p seen) ∷ []) ∵ check ! (λ x. absurd x) $ done !
-  agrees (sole η) p log seen = qed 𝓛 (‵ (gate_keeps (sole η) log) ∷ ‵ (gate_gives (sole η) p seen) ∷ []) ∵
-      use2 𝓛 (given (log ≡ seen) (‵ (gate_keeps (sole η) log) ⊛ ‵ (gate_gives (sole η) p seen))) (latest_agrees (logs entry_coded) 𝓛 quarter three_quarters η log seen) $
-      learn ! (λ e. check ! (λ _. e) $ done !)
-  agrees (turns η κ) zero log seen = qed 𝓛 (‵ (gate_keeps (turns η κ) log) ∷ ‵ (gate_gives (turns η κ) zero seen) ∷ []) ∵ fpick ! (λ b.
-      use2 𝓛 (given (log ≡ seen) (‵ (turned η κ log b) ⊛ ‵ (copy three_quarters η seen))) (in_turn η κ log seen b) $ learn ! (λ e. check ! (λ _. e) $ split ! $
-      fpack ! Bool (turned η κ log) b $ done !))
-  agrees (turns η κ) (suc p) log seen = qed 𝓛 (‵ (gate_keeps (turns η κ) log) ∷ ‵ (gate_gives (turns η κ) (suc p) seen) ∷ []) ∵ check ! (λ x. absurd x) $ done !
+  pub agrees : (g : Gate) (p : ℕ) (log seen : List Entry) → ⟦ gate_keeps g log ⟧ ∗ ⟦ gate_gives g p seen ⟧ ⊢ guard 𝓤 (IsSole p → log ≡ seen) (⟦ gate_keeps g log ⟧ ∗ ⟦ gate_gives g p seen ⟧)
+  agrees g zero log seen = qed 𝓛 (‵ (gate_keeps g log) ∷ ‵ (gate_gives g zero seen) ∷ []) ∵ fpick ! (λ b.
+      use2 𝓛 (given (log ≡ seen) (‵ (turned g log b) ⊛ ‵ (copy three_quarters g.copy seen))) (in_turn g log seen b) $ learn ! (λ e. check ! (λ _. e) $ split ! $
+      fpack ! Bool (turned g log) b $ done !))
+  agrees g (suc p) log seen = qed 𝓛 (‵ (gate_keeps g log) ∷ ‵ (gate_gives g (suc p) seen) ∷ []) ∵ check ! (λ x. absurd (let no : suc p ≡ 0 = x in cc)) $ done !
 
   -- they grow with the list
   both_grow : (η : ℕ) (log seen log' : List Entry) → IsPrefix log log' → log ≡ seen → ⟦ copy quarter η log ⟧ ∗ ⟦ copy three_quarters η seen ⟧ ⊢ upd 𝓤 (⟦ copy quarter η log' ⟧ ∗ ⟦ copy three_quarters η log' ⟧)
@@ -72,33 +67,29 @@ module _ {M : Type 1} {𝓤 : Ura M} (𝓛 : Logic 𝓤) where
   abbrev Follows : Gate → ℕ → List Entry → Pr
   Follows g p log' = ⟦ gate_keeps g log' ⟧ ∗ ⟦ gate_gives g p log' ⟧
 
-  first_follows : (η κ : ℕ) (log seen log' : List Entry) (b : Bool) → IsPrefix log log' → log ≡ seen → ⟦ turned η κ log b ⟧ ∗ ⟦ copy three_quarters η seen ⟧ ⊢ upd 𝓤 (Follows (turns η κ) 0 log')
-  first_follows η κ log seen log' true p e = let Z : Pr = Follows (turns η κ) 0 log' in qed 𝓛 (‵ (turned η κ log true) ∷ ‵ (copy three_quarters η seen) ∷ []) ∵ fsplit ! $ move ! (0 ∷ 2 ∷ []) $
-      use2 𝓛 (raw (upd 𝓤 (⟦ copy quarter η log' ⟧ ∗ ⟦ copy three_quarters η log' ⟧))) (both_grow η log seen log' p e) $ settle 𝓛 Z (‵ (copy quarter η log') ⊛ ‵ (copy three_quarters η log')) $ split ! $ suffices ! _ (upd_i 𝓤 Z) $
+  first_follows : (g : Gate) (log seen log' : List Entry) (b : Bool) → IsPrefix log log' → log ≡ seen → ⟦ turned g log b ⟧ ∗ ⟦ copy three_quarters g.copy seen ⟧ ⊢ upd 𝓤 (Follows g 0 log')
+  first_follows g log seen log' true p e = let Z : Pr = Follows g 0 log' in qed 𝓛 (‵ (turned g log true) ∷ ‵ (copy three_quarters g.copy seen) ∷ []) ∵ fsplit ! $ move ! (0 ∷ 2 ∷ []) $
+      use2 𝓛 (raw (upd 𝓤 (⟦ copy quarter g.copy log' ⟧ ∗ ⟦ copy three_quarters g.copy log' ⟧))) (both_grow g.copy log seen log' p e) $ settle 𝓛 Z (‵ (copy quarter g.copy log') ⊛ ‵ (copy three_quarters g.copy log')) $ split ! $ suffices ! _ (upd_i 𝓤 Z) $
       -- [the book's share; the pass's; the tickets]
-      move ! (0 ∷ 2 ∷ []) $ fjoin ! $ fpack ! Bool (turned η κ log') true $ done !
-  first_follows η κ log seen log' false p e = more_than_all (upd 𝓤 (Follows (turns η κ) 0 log')) three_quarters η log seen
+      move ! (0 ∷ 2 ∷ []) $ fjoin ! $ fpack ! Bool (turned g log') true $ done !
+  first_follows g log seen log' false p e = more_than_all (upd 𝓤 (Follows g 0 log')) three_quarters g.copy log seen
 
-  one_follows : (η κ q : ℕ) (log seen log' : List Entry) (b : Bool) → IsPrefix log log' → ⟦ turned η κ log b ⟧ ∗ ⟦ one_out κ ⟧ ⊢ upd 𝓤 (Follows (turns η κ) (suc q) log')
-  one_follows η κ q log seen log' true p = let Z : Pr = upd 𝓤 (Follows (turns η κ) (suc q) log') in qed 𝓛 (‵ (turned η κ log true) ∷ ‵ (one_out κ) ∷ []) ∵ fsplit ! $ move ! (1 ∷ 2 ∷ []) $
-      use2 𝓛 (given ⊥ (‵ ftrue)) (none_back 𝓛 κ (guard 𝓤 ⊥ ⟦ ftrue ⟧)) $ learn ! (λ x. absurd x)
-  one_follows η κ q log seen log' false p = let Z : Pr = Follows (turns η κ) (suc q) log' in qed 𝓛 (‵ (turned η κ log false) ∷ ‵ (one_out κ) ∷ []) ∵
-      use1 𝓛 (raw (upd 𝓤 ⟦ copy full_share η log' ⟧)) (latest_grows (logs entry_coded) 𝓛 η log log' p) $ settle 𝓛 Z (‵ (copy full_share η log')) $ suffices ! _ (upd_i 𝓤 Z) $
-      fpack ! Bool (turned η κ log') false $ done !
+  one_follows : (g : Gate) (q : ℕ) (log seen log' : List Entry) (b : Bool) → IsPrefix log log' → ⟦ turned g log b ⟧ ∗ ⟦ one_out g.tickets ⟧ ⊢ upd 𝓤 (Follows g (suc q) log')
+  one_follows g q log seen log' true p = let Z : Pr = upd 𝓤 (Follows g (suc q) log') in qed 𝓛 (‵ (turned g log true) ∷ ‵ (one_out g.tickets) ∷ []) ∵ fsplit ! $ move ! (1 ∷ 2 ∷ []) $
+      use2 𝓛 (given ⊥ (‵ ftrue)) (none_back 𝓛 g.tickets (guard 𝓤 ⊥ ⟦ ftrue ⟧)) $ learn ! (λ x. absurd x)
+  one_follows g q log seen log' false p = let Z : Pr = Follows g (suc q) log' in qed 𝓛 (‵ (turned g log false) ∷ ‵ (one_out g.tickets) ∷ []) ∵
+      use1 𝓛 (raw (upd 𝓤 ⟦ copy full_share g.copy log' ⟧)) (latest_grows (logs entry_coded) 𝓛 g.copy log log' p) $ settle 𝓛 Z (‵ (copy full_share g.copy log')) $ suffices ! _ (upd_i 𝓤 Z) $
+      fpack ! Bool (turned g log') false $ done !
 
-  pub follows : (g : Gate) (p : ℕ) (log seen log' : List Entry) → IsPrefix log log' → (IsSole g p → log ≡ seen) → ⟦ gate_keeps g log ⟧ ∗ ⟦ gate_gives g p seen ⟧ ⊢ upd 𝓤 (Follows g p log')
-  follows many p log seen log' more e = upd_i 𝓤 (⟦ ftrue ⟧ ∗ ⟦ ftrue ⟧)
-  follows (sole η) p log seen log' more e = both_grow η log seen log' more (e tt)
-  follows (turns η κ) zero log seen log' more e = qed 𝓛 (‵ (gate_keeps (turns η κ) log) ∷ ‵ (gate_gives (turns η κ) zero seen) ∷ []) ∵ fpick ! (λ b. by ! (first_follows η κ log seen log' b more (e tt)))
-  follows (turns η κ) (suc q) log seen log' more e = qed 𝓛 (‵ (gate_keeps (turns η κ) log) ∷ ‵ (gate_gives (turns η κ) (suc q) seen) ∷ []) ∵ fpick ! (λ b. by ! (one_follows η κ q log seen log' b more))
+  pub follows : (g : Gate) (p : ℕ) (log seen log' : List Entry) → IsPrefix log log' → (IsSole p → log ≡ seen) → ⟦ gate_keeps g log ⟧ ∗ ⟦ gate_gives g p seen ⟧ ⊢ upd 𝓤 (Follows g p log')
+  follows g zero log seen log' more e = qed 𝓛 (‵ (gate_keeps g log) ∷ ‵ (gate_gives g zero seen) ∷ []) ∵ fpick ! (λ b. by ! (first_follows g log seen log' b more (e refl)))
+  follows g (suc q) log seen log' more e = qed 𝓛 (‵ (gate_keeps g log) ∷ ‵ (gate_gives g (suc q) seen) ∷ []) ∵ fpick ! (λ b. by ! (one_follows g q log seen log' b more))
 
-  pub gives_as : (g : Gate) (p : ℕ) (a b : List Entry) → (IsSole g p → a ≡ b) → ⟦ gate_gives g p a ⟧ ⊢ ⟦ gate_gives g p b ⟧
-  gives_as many p a b e = qed 𝓛 (‵ (gate_gives many p a) ∷ []) ∵ done !
-  gives_as (sole η) p a b e = qed 𝓛 (‵ (gate_gives (sole η) p a) ∷ []) ∵ rewrite ! 0 (λ (x : List Entry). ‵ (gate_gives (sole η) p x)) (e tt) refl $ done !
-  gives_as (turns η κ) zero a b e = qed 𝓛 (‵ (gate_gives (turns η κ) zero a) ∷ []) ∵ rewrite ! 0 (λ (x : List Entry). ‵ (gate_gives (turns η κ) zero x)) (e tt) refl $ done !
-  gives_as (turns η κ) (suc p) a b e = qed 𝓛 (‵ (gate_gives (turns η κ) (suc p) a) ∷ []) ∵ done !
+  pub gives_as : (g : Gate) (p : ℕ) (a b : List Entry) → (IsSole p → a ≡ b) → ⟦ gate_gives g p a ⟧ ⊢ ⟦ gate_gives g p b ⟧
+  gives_as g zero a b e = qed 𝓛 (‵ (gate_gives g zero a) ∷ []) ∵ rewrite ! 0 (λ (x : List Entry). ‵ (gate_gives g zero x)) (e refl) refl $ done !
+  gives_as g (suc p) a b e = qed 𝓛 (‵ (gate_gives g (suc p) a) ∷ []) ∵ done !
 
-  -- In turns: the porter comes home, and goes out again; at home it has what the first pass has.
+  -- The porter comes home, and goes out again; at home it has what the first pass has.
 
   -- it has seen the whole list, where it is at home
   abbrev pub Stands : Gate → Bool → List Entry → List Entry → Pr
@@ -107,67 +98,55 @@ module _ {M : Type 1} {𝓤 : Ura M} (𝓛 : Logic 𝓤) where
   abbrev at_home : ℕ → List Entry → Fml
   at_home η log = copy three_quarters η log
 
-  packs_home : (η κ : ℕ) (log : List Entry) → ⟦ at_home η log ⟧ ⊢ ⟦ gate_leaves (turns η κ) true 0 log ⟧
-  packs_home η κ log = qed 𝓛 (‵ (at_home η log) ∷ []) ∵ nothing ! $ fpack ! (zero ≡ zero) (λ _. ftrue) refl $ move ! (1 ∷ 0 ∷ []) $ fjoin ! $ done !
+  packs_home : (g : Gate) (log : List Entry) → ⟦ at_home g.copy log ⟧ ⊢ ⟦ gate_leaves g true 0 log ⟧
+  packs_home g log = qed 𝓛 (‵ (at_home g.copy log) ∷ []) ∵ nothing ! $ fpack ! (zero ≡ zero) (λ _. ftrue) refl $ move ! (1 ∷ 0 ∷ []) $ fjoin ! $ done !
 
-  opens_home : (η κ out : ℕ) (seen : List Entry) → ⟦ gate_leaves (turns η κ) true out seen ⟧ ⊢ guard 𝓤 (out ≡ 0) ⟦ at_home η seen ⟧
-  opens_home η κ out seen = qed 𝓛 (‵ (gate_leaves (turns η κ) true out seen) ∷ []) ∵ fsplit ! $ move ! (1 ∷ []) $ fpick ! (λ none. drop ! $ check ! none $ done !)
+  opens_home : (g : Gate) (out : ℕ) (seen : List Entry) → ⟦ gate_leaves g true out seen ⟧ ⊢ guard 𝓤 (out ≡ 0) ⟦ at_home g.copy seen ⟧
+  opens_home g out seen = qed 𝓛 (‵ (gate_leaves g true out seen) ∷ []) ∵ fsplit ! $ move ! (1 ∷ []) $ fpick ! (λ none. drop ! $ check ! none $ done !)
 
-  all_in : (η κ : ℕ) (log : List Entry) (b : Bool) → ⟦ turned η κ log b ⟧ ∗ ⟦ all_but κ 0 ⟧ ⊢ ⟦ gate_keeps (turns η κ) log ⟧ ∗ ⟦ at_home η log ⟧
-  all_in η κ log true = qed 𝓛 (‵ (turned η κ log true) ∷ ‵ (all_but κ 0) ∷ []) ∵ fsplit ! $ move ! (1 ∷ 2 ∷ []) $ use2 𝓛 (given ⊥ (‵ ftrue)) (all_once 𝓛 κ (guard 𝓤 ⊥ ⟦ ftrue ⟧) 0 0) $ learn ! (λ x. absurd x)
-  all_in η κ log false = qed 𝓛 (‵ (turned η κ log false) ∷ ‵ (all_but κ 0) ∷ []) ∵
-      use1 𝓛 (‵ (copy quarter η log) ⊛ ‵ (at_home η log)) (latest_cut (logs entry_coded) 𝓛 full_share quarter three_quarters η log quarters) $ split ! $
-      move ! (0 ∷ 2 ∷ []) $ fjoin ! $ fpack ! Bool (turned η κ log) true $ done !
+  all_in : (g : Gate) (log : List Entry) (b : Bool) → ⟦ turned g log b ⟧ ∗ ⟦ all_but g.tickets 0 ⟧ ⊢ ⟦ gate_keeps g log ⟧ ∗ ⟦ at_home g.copy log ⟧
+  all_in g log true = qed 𝓛 (‵ (turned g log true) ∷ ‵ (all_but g.tickets 0) ∷ []) ∵ fsplit ! $ move ! (1 ∷ 2 ∷ []) $ use2 𝓛 (given ⊥ (‵ ftrue)) (all_once 𝓛 g.tickets (guard 𝓤 ⊥ ⟦ ftrue ⟧) 0 0) $ learn ! (λ x. absurd x)
+  all_in g log false = qed 𝓛 (‵ (turned g log false) ∷ ‵ (all_but g.tickets 0) ∷ []) ∵
+      use1 𝓛 (‵ (copy quarter g.copy log) ⊛ ‵ (at_home g.copy log)) (latest_cut (logs entry_coded) 𝓛 full_share quarter three_quarters g.copy log quarters) $ split ! $
+      move ! (0 ∷ 2 ∷ []) $ fjoin ! $ fpack ! Bool (turned g log) true $ done !
 
-  pub comes_home : (g : Gate) (home : Bool) (log seen : List Entry) → IsTurns g → ⟦ gate_keeps g log ⟧ ∗ ⟦ gate_leaves g home 0 seen ⟧ ⊢ Stands g home log seen
-  comes_home many home log seen is = absurd is
-  comes_home (sole η) home log seen is = absurd is
-  comes_home (turns η κ) true log seen is = qed 𝓛 (‵ (gate_keeps (turns η κ) log) ∷ ‵ (gate_leaves (turns η κ) true 0 seen) ∷ []) ∵ move ! (1 ∷ []) $
-      use1 𝓛 (given (zero ≡ zero) (‵ (at_home η seen))) (opens_home η κ 0 seen) $ learn ! (λ _. move ! (1 ∷ []) $ fpick ! (λ b. move ! (0 ∷ 1 ∷ []) $
-      use2 𝓛 (given (log ≡ seen) (‵ (turned η κ log b) ⊛ ‵ (at_home η seen))) (in_turn η κ log seen b) $ learn ! (λ e. split ! $ fpack ! Bool (turned η κ log) b $
-      move ! (1 ∷ []) $ rewrite ! 0 (λ (x : List Entry). ‵ (at_home η x)) (sym e) refl $ use1 𝓛 (‵ (gate_leaves (turns η κ) true 0 log)) (packs_home η κ log) $
+  pub comes_home : (g : Gate) (home : Bool) (log seen : List Entry) → ⟦ gate_keeps g log ⟧ ∗ ⟦ gate_leaves g home 0 seen ⟧ ⊢ Stands g home log seen
+  comes_home g true log seen = qed 𝓛 (‵ (gate_keeps g log) ∷ ‵ (gate_leaves g true 0 seen) ∷ []) ∵ move ! (1 ∷ []) $
+      use1 𝓛 (given (zero ≡ zero) (‵ (at_home g.copy seen))) (opens_home g 0 seen) $ learn ! (λ _. move ! (1 ∷ []) $ fpick ! (λ b. move ! (0 ∷ 1 ∷ []) $
+      use2 𝓛 (given (log ≡ seen) (‵ (turned g log b) ⊛ ‵ (at_home g.copy seen))) (in_turn g log seen b) $ learn ! (λ e. split ! $ fpack ! Bool (turned g log) b $
+      move ! (1 ∷ []) $ rewrite ! 0 (λ (x : List Entry). ‵ (at_home g.copy x)) (sym e) refl $ use1 𝓛 (‵ (gate_leaves g true 0 log)) (packs_home g log) $
       check ! (λ _. e) $ move ! (1 ∷ 0 ∷ []) $ done !)))
-  comes_home (turns η κ) false log seen is = qed 𝓛 (‵ (gate_keeps (turns η κ) log) ∷ ‵ (gate_leaves (turns η κ) false 0 seen) ∷ []) ∵ fpick ! (λ b.
-      use2 𝓛 (‵ (gate_keeps (turns η κ) log) ⊛ ‵ (at_home η log)) (all_in η κ log b) $ split ! $ move ! (1 ∷ []) $
-      use1 𝓛 (‵ (gate_leaves (turns η κ) true 0 log)) (packs_home η κ log) $ check ! (λ e. absurd (let no : false ≡ true = e in cc)) $ move ! (1 ∷ 0 ∷ []) $ done !)
+  comes_home g false log seen = qed 𝓛 (‵ (gate_keeps g log) ∷ ‵ (gate_leaves g false 0 seen) ∷ []) ∵ fpick ! (λ b.
+      use2 𝓛 (‵ (gate_keeps g log) ⊛ ‵ (at_home g.copy log)) (all_in g log b) $ split ! $ move ! (1 ∷ []) $
+      use1 𝓛 (‵ (gate_leaves g true 0 log)) (packs_home g log) $ check ! (λ e. absurd (let no : false ≡ true = e in cc)) $ move ! (1 ∷ 0 ∷ []) $ done !)
 
-  open_once : (η κ : ℕ) (log seen : List Entry) (b : Bool) → ⟦ turned η κ log b ⟧ ∗ ⟦ at_home η seen ⟧ ⊢ ⟦ gate_keeps (turns η κ) log ⟧ ∗ ⟦ all_but κ 0 ⟧
-  open_once η κ log seen true = let l = logs entry_coded in qed 𝓛 (‵ (turned η κ log true) ∷ ‵ (at_home η seen) ∷ []) ∵ fsplit ! $ move ! (0 ∷ 2 ∷ []) $
-      use2 𝓛 (given (log ≡ seen) (‵ (copy quarter η log) ⊛ ‵ (at_home η seen))) (latest_agrees l 𝓛 quarter three_quarters η log seen) $ learn ! (λ e. split ! $
-      move ! (1 ∷ 0 ∷ []) $ rewrite ! 0 (λ (x : List Entry). ‵ (at_home η x)) (sym e) refl $ move ! (1 ∷ 0 ∷ []) $
-      use2 𝓛 (‵ (turned η κ log false)) (latest_glue l 𝓛 full_share quarter three_quarters η log quarters) $ fpack ! Bool (turned η κ log) false $ done !)
-  open_once η κ log seen false = more_than_all (⟦ gate_keeps (turns η κ) log ⟧ ∗ ⟦ all_but κ 0 ⟧) three_quarters η log seen
+  open_once : (g : Gate) (log seen : List Entry) (b : Bool) → ⟦ turned g log b ⟧ ∗ ⟦ at_home g.copy seen ⟧ ⊢ ⟦ gate_keeps g log ⟧ ∗ ⟦ all_but g.tickets 0 ⟧
+  open_once g log seen true = let l = logs entry_coded in qed 𝓛 (‵ (turned g log true) ∷ ‵ (at_home g.copy seen) ∷ []) ∵ fsplit ! $ move ! (0 ∷ 2 ∷ []) $
+      use2 𝓛 (given (log ≡ seen) (‵ (copy quarter g.copy log) ⊛ ‵ (at_home g.copy seen))) (latest_agrees l 𝓛 quarter three_quarters g.copy log seen) $ learn ! (λ e. split ! $
+      move ! (1 ∷ 0 ∷ []) $ rewrite ! 0 (λ (x : List Entry). ‵ (at_home g.copy x)) (sym e) refl $ move ! (1 ∷ 0 ∷ []) $
+      use2 𝓛 (‵ (turned g log false)) (latest_glue l 𝓛 full_share quarter three_quarters g.copy log quarters) $ fpack ! Bool (turned g log) false $ done !)
+  open_once g log seen false = more_than_all (⟦ gate_keeps g log ⟧ ∗ ⟦ all_but g.tickets 0 ⟧) three_quarters g.copy log seen
 
   -- it is no more at home
   pub goes_off : (g : Gate) (home : Bool) (out : ℕ) (log seen : List Entry) → ⟦ gate_keeps g log ⟧ ∗ ⟦ gate_leaves g home out seen ⟧ ⊢ ⟦ gate_keeps g log ⟧ ∗ ⟦ gate_leaves g false out seen ⟧
-  goes_off many home out log seen = qed 𝓛 (‵ (gate_keeps many log) ∷ ‵ (fact ⊥) ∷ []) ∵ done !
-  goes_off (sole η) home out log seen = qed 𝓛 (‵ (gate_keeps (sole η) log) ∷ ‵ (fact ⊥) ∷ []) ∵ done !
-  goes_off (turns η κ) true out log seen = qed 𝓛 (‵ (gate_keeps (turns η κ) log) ∷ ‵ (gate_leaves (turns η κ) true out seen) ∷ []) ∵ move ! (1 ∷ []) $
-      use1 𝓛 (given (out ≡ 0) (‵ (at_home η seen))) (opens_home η κ out seen) $ learn ! (λ none. move ! (1 ∷ []) $ fpick ! (λ b. move ! (0 ∷ 1 ∷ []) $
-      use2 𝓛 (‵ (gate_keeps (turns η κ) log) ⊛ ‵ (all_but κ 0)) (open_once η κ log seen b) $ split ! $ move ! (1 ∷ []) $ rewrite ! 0 (λ (k : ℕ). ‵ (all_but κ k)) (sym none) refl $
+  goes_off g true out log seen = qed 𝓛 (‵ (gate_keeps g log) ∷ ‵ (gate_leaves g true out seen) ∷ []) ∵ move ! (1 ∷ []) $
+      use1 𝓛 (given (out ≡ 0) (‵ (at_home g.copy seen))) (opens_home g out seen) $ learn ! (λ none. move ! (1 ∷ []) $ fpick ! (λ b. move ! (0 ∷ 1 ∷ []) $
+      use2 𝓛 (‵ (gate_keeps g log) ⊛ ‵ (all_but g.tickets 0)) (open_once g log seen b) $ split ! $ move ! (1 ∷ []) $ rewrite ! 0 (λ (k : ℕ). ‵ (all_but g.tickets k)) (sym none) refl $
       move ! (1 ∷ 0 ∷ []) $ done !))
-  goes_off (turns η κ) false out log seen = qed 𝓛 (‵ (gate_keeps (turns η κ) log) ∷ ‵ (gate_leaves (turns η κ) false out seen) ∷ []) ∵ done !
+  goes_off g false out log seen = qed 𝓛 (‵ (gate_keeps g log) ∷ ‵ (gate_leaves g false out seen) ∷ []) ∵ done !
 
   -- the first pass has what the porter has at home
-  pub first_goes : (g : Gate) (seen : List Entry) → IsTurns g → ⟦ gate_leaves g true 0 seen ⟧ ⊢ ⟦ gate_gives g 0 seen ⟧
-  first_goes many seen is = absurd is
-  first_goes (sole η) seen is = absurd is
-  first_goes (turns η κ) seen is = qed 𝓛 (‵ (gate_leaves (turns η κ) true 0 seen) ∷ []) ∵ use1 𝓛 (given (zero ≡ zero) (‵ (at_home η seen))) (opens_home η κ 0 seen) $ learn ! (λ _. done !)
+  pub first_goes : (g : Gate) (seen : List Entry) → ⟦ gate_leaves g true 0 seen ⟧ ⊢ ⟦ gate_gives g 0 seen ⟧
+  first_goes g seen = qed 𝓛 (‵ (gate_leaves g true 0 seen) ∷ []) ∵ use1 𝓛 (given (zero ≡ zero) (‵ (at_home g.copy seen))) (opens_home g 0 seen) $ learn ! (λ _. done !)
 
-  pub first_comes : (g : Gate) (seen : List Entry) → IsTurns g → ⟦ gate_gives g 0 seen ⟧ ⊢ ⟦ gate_leaves g true 0 seen ⟧
-  first_comes many seen is = absurd is
-  first_comes (sole η) seen is = absurd is
-  first_comes (turns η κ) seen is = packs_home η κ seen
+  pub first_comes : (g : Gate) (seen : List Entry) → ⟦ gate_gives g 0 seen ⟧ ⊢ ⟦ gate_leaves g true 0 seen ⟧
+  first_comes g seen = packs_home g seen
 
   -- a pass goes out that is not the first, and one comes back
   pub gives_one : (g : Gate) (out p : ℕ) (seen had : List Entry) → (p ≡ 0 → ⊥) → ⟦ gate_leaves g false out had ⟧ ⊢ ⟦ gate_leaves g false (suc out) had ⟧ ∗ ⟦ gate_gives g p seen ⟧
-  gives_one many out p seen had other = qed 𝓛 (‵ (fact ⊥) ∷ []) ∵ fpick ! (λ x. absurd x)
-  gives_one (sole η) out p seen had other = qed 𝓛 (‵ (fact ⊥) ∷ []) ∵ fpick ! (λ x. absurd x)
-  gives_one (turns η κ) out zero seen had other = absurd (other refl)
-  gives_one (turns η κ) out (suc p) seen had other = goes_out 𝓛 κ out
+  gives_one g out zero seen had other = absurd (other refl)
+  gives_one g out (suc p) seen had other = goes_out 𝓛 g.tickets out
 
   pub takes_one : (g : Gate) (out p : ℕ) (seen had had' : List Entry) → (p ≡ 0 → ⊥) → ⟦ gate_leaves g false out had ⟧ ∗ ⟦ gate_gives g p seen ⟧ ⊢ guard 𝓤 (1 ≤ out) ⟦ gate_leaves g false (out - 1) had' ⟧
-  takes_one many out p seen had had' other = qed 𝓛 (‵ (fact ⊥) ∷ ‵ ftrue ∷ []) ∵ fpick ! (λ x. absurd x)
-  takes_one (sole η) out p seen had had' other = qed 𝓛 (‵ (fact ⊥) ∷ ‵ (gate_gives (sole η) p seen) ∷ []) ∵ fpick ! (λ x. absurd x)
-  takes_one (turns η κ) out zero seen had had' other = absurd (other refl)
-  takes_one (turns η κ) out (suc p) seen had had' other = comes_back 𝓛 κ out
+  takes_one g out zero seen had had' other = absurd (other refl)
+  takes_one g out (suc p) seen had had' other = comes_back 𝓛 g.tickets out

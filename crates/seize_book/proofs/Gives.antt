@@ -3,20 +3,20 @@ use Rattle.std.proofs.Common.{◌≡◌, ℕ, zero, suc, ◌+◌, ◌<◌, ◌==
 use Rattle.std.proofs.lemmas.List.{length-map}
 use Rattle.seize_machine.specs.Machine.State.{State, Slot, slot_at, head_at, is_idle, is_active}
 use Rattle.seize_machine.specs.Machine.Event.{Event, Give, Take}
-use Rattle.seize_machine.specs.Machine.Next.{set_slot, taken, first_free, next}
+use Rattle.seize_machine.specs.Machine.Next.{set_slot, after_take, first_free, next}
 use Rattle.seize_machine.specs.Machine.Frames.{used, changes_slot, changes_head_of, changes_link}
 use Rattle.seize_machine.specs.declared.machine.event.Answer.{Answer}
 use Rattle.seize_machine.specs.declared.machine.event.Answer.TheVariants.{Done}
 use Rattle.seize_machine.proofs.Facts.{Step, next_of, step_of}
 use Rattle.seize_table.specs.Place.{all_numbers}
-use Rattle.seize_book.specs.Ledger.{Held}
+use Rattle.seize_book.specs.Ledger.{HeldKey}
 use Rattle.seize_book.specs.Blocks.{plans}
 use Rattle.seize_book.specs.Chains.{told}
 use Rattle.seize_book.specs.Entry.{Entry, Made, Deed}
 use Rattle.seize_book.specs.Book.{after, births, makes_slot, Does, slots, numbers, of_next_slot}
 use Rattle.seize_book.specs.Fair.{Before, Covers, Fair, MayAdd, EndsNone, StartsNone, pass_key}
 use Rattle.seize_book.specs.Homes.{changes_count, changes_home}
-use Rattle.seize_book.specs.Others.{IsLeast, least_unused}
+use Rattle.seize_book.specs.Others.{IsLeast, first_false}
 use Rattle.seize_book.specs.Private.{Tag, is_one, key_of, tag_of, own_of}
 use Rattle.seize_book.specs.Tokens.{Name, start}
 use Rattle.seize_book.proofs.Chains.{unled}
@@ -47,13 +47,13 @@ covers st log e p s j x y mine own own' pe turns none is (suc (suc (suc (suc (su
 covers st log e p s j x y mine own own' pe turns none is (suc (suc (suc (suc (suc (suc (suc (suc zero)))))))) k b there = none
 covers st log e p s j x y mine own own' pe turns none is (suc (suc (suc (suc (suc (suc (suc (suc (suc r))))))))) k b there = refl
 
-may_turn : (n : Name) (p : ℕ) (seen : List Entry) (a b : List (Held Entry)) (e : Deed) → is_one slots a ≡ true → is_one numbers b ≡ true → key_of b ≡ 0
+may_turn : (n : Name) (p : ℕ) (seen : List Entry) (a b : List (HeldKey Entry)) (e : Deed) → is_one slots a ≡ true → is_one numbers b ≡ true → key_of b ≡ 0
     → e.pass ≡ p → Turns (key_of a) e.event → EndsNone e.event → StartsNone e.event
     → ((log : List Entry) → Before n p seen (only slots a ++ only numbers b) log → (d : State × Answer) × Does (start n) log (Made e) d × (makes_slot (after (start n) log) e.event ≡ false))
     → MayAdd n p seen (a ++ b) e
 may_turn n p seen a b e one one' zero_is pe turns ends starts goes =
-    subst (λ (hs : List (Held Entry)). MayAdd n p seen (hs ++ b) e) (sym (only_is slots a one))
-    (subst (λ (hs : List (Held Entry)). MayAdd n p seen (only slots a ++ hs) e) (sym (only_is numbers b one'))
+    subst (λ (hs : List (HeldKey Entry)). MayAdd n p seen (hs ++ b) e) (sym (only_is slots a one))
+    (subst (λ (hs : List (HeldKey Entry)). MayAdd n p seen (only slots a ++ hs) e) (sym (only_is numbers b one'))
     ((omega arith, (omega arith, tt)), ends, starts, fair))
   where
     fair : (mine log : List Entry) → Before n p seen (only slots a ++ only numbers b) log → Fair n (pass_key p mine ∷ (only slots a ++ only numbers b)) log (Made e)
@@ -65,11 +65,11 @@ may_turn n p seen a b e one one' zero_is pe turns ends starts goes =
           names = λ many was there. (subst (λ (z : ℕ). z < many 0) (sym pe) there.0, (λ j le. (turns.1 (after (start n) log) j).0), (λ j le. (turns.1 (after (start n) log) j).1), λ f le. refl);
           one = none_named e.size (after (start n) log) e.event does.0 (step_of _ _ _ _ does.1) (λ j. (turns.1 (after (start n) log) j).1);
           leads = unled (after (start n) log) (plans (start n) log) (told log) e.event (λ j. (turns.0 j).1);
-          labels = no_labels n (pass_key p mine ∷ (only slots a ++ only numbers b)) e.size (after (start n) log) e.event does.0 (step_of _ _ _ _ does.1) (λ j. (turns.1 (after (start n) log) j).1);
+          labels = no_labels (pass_key p mine ∷ (only slots a ++ only numbers b)) e.size (after (start n) log) e.event does.0 (step_of _ _ _ _ does.1) (λ j. (turns.1 (after (start n) log) j).1);
           places = no_place (after (start n) log) (pass_key p mine ∷ (only slots a ++ only numbers b)) (Made e) does.2;
         }
 
-pub may_give : (n : Name) (p size : ℕ) (seen : List Entry) (a b : List (Held Entry)) → is_one slots a ≡ true → is_one numbers b ≡ true → key_of b ≡ 0
+pub may_give : (n : Name) (p size : ℕ) (seen : List Entry) (a b : List (HeldKey Entry)) → is_one slots a ≡ true → is_one numbers b ≡ true → key_of b ≡ 0
     → is_idle (slot_at (after (start n) (own_of a)) (key_of a)) ≡ true → is_active (head_at (after (start n) (own_of a)) (key_of a)) ≡ false
     → MayAdd n p seen (a ++ b) (record { pass = p; size = size; event = Give (key_of a); life = 0; kepts = [] })
 may_give n p size seen a b one one' zero_is idle off =
@@ -80,12 +80,12 @@ may_give n p size seen a b one one' zero_is idle off =
         (d, next_of size st (Give s) d (Step.gave s (ap is_idle (sym slot.1) ∙ idle) (sym slot.2 ∙ off)), refl)
 
 -- which number is the least that is not in use, by which are in use
-pub free_by : (slots : List Slot) → first_free slots ≡ least_unused (map (λ slot. slot.used) slots)
+pub free_by : (slots : List Slot) → first_free slots ≡ first_false (map (λ slot. slot.used) slots)
 free_by [] = refl
 free_by (x ∷ xs) = ap (λ (m : ℕ). if not (not x.used) then 1 + m else 0) (free_by xs)
 
 -- the slot's number is the least that is not in use, as the key of the numbers knows
-module _ (n : Name) (a b : List (Held Entry)) where
+module _ (n : Name) (a b : List (HeldKey Entry)) where
   abbrev old : State
   old = after (start n) (own_of b)
 
@@ -96,7 +96,7 @@ module _ (n : Name) (a b : List (Held Entry)) where
   still : (log : List Entry) → used old ≡ used (after (start n) log) → Least → (key_of a ≡ first_free (after (start n) log).slots) × (key_of a < length (after (start n) log).slots)
   still log same least =
       let st : State = after (start n) log in
-      (least.0 ∙ free_by old.slots ∙ ap least_unused same ∙ sym (free_by st.slots), subst (λ (z : ℕ). key_of a < z) (sym (length-map old.slots (λ slot. slot.used)) ∙ ap (λ (us : List Bool). length us) same ∙ length-map st.slots (λ slot. slot.used)) least.1)
+      (least.0 ∙ free_by old.slots ∙ ap first_false same ∙ sym (free_by st.slots), subst (λ (z : ℕ). key_of a < z) (sym (length-map old.slots (λ slot. slot.used)) ∙ ap (λ (us : List Bool). length us) same ∙ length-map st.slots (λ slot. slot.used)) least.1)
 
   unequal : (x y : ℕ) → x < y → (x == y) ≡ false
   unequal x y l = grind arith
@@ -104,10 +104,10 @@ module _ (n : Name) (a b : List (Held Entry)) where
   below : (x y : ℕ) → x < y → nat_lt x y ≡ true
   below x y l = grind arith
 
-  takes : (size : ℕ) (st : State) (s : ℕ) → s ≡ first_free st.slots → s < all_numbers → next size st (Take s) ≡ Some (taken st s, Done)
+  takes : (size : ℕ) (st : State) (s : ℕ) → s ≡ first_free st.slots → s < all_numbers → next size st (Take s) ≡ Some (after_take st s, Done)
   takes size st s least few =
-      ap (λ (c : Bool). if c && nat_lt s all_numbers then Some (taken st s, Done) else None) (equal s (first_free st.slots) least)
-      ∙ ap (λ (c : Bool). if c then Some (taken st s, Done) else None) (below s all_numbers few)
+      ap (λ (c : Bool). if c && nat_lt s all_numbers then Some (after_take st s, Done) else None) (equal s (first_free st.slots) least)
+      ∙ ap (λ (c : Bool). if c then Some (after_take st s, Done) else None) (below s all_numbers few)
 
   pub may_take : (p size : ℕ) (seen : List Entry) → is_one slots a ≡ true → is_one numbers b ≡ true → key_of b ≡ 0 → Least
       → MayAdd n p seen (a ++ b) (record { pass = p; size = size; event = Take (key_of a); life = 0; kepts = [] })
@@ -115,11 +115,11 @@ module _ (n : Name) (a b : List (Held Entry)) where
       may_turn n p seen a b (record { pass = p; size = size; event = Take (key_of a); life = 0; kepts = [] }) one one' zero_is refl (λ k. (refl, refl, refl), λ st k. (refl, refl)) (λ lives. refl) (λ s. refl) goes
     where
       goes : (log : List Entry) → Before n p seen (only slots a ++ only numbers b) log → (d : State × Answer) × Does (start n) log (Made (record { pass = p; size = size; event = Take (key_of a); life = 0; kepts = [] })) d × (makes_slot (after (start n) log) (Take (key_of a)) ≡ false)
-      goes log before = ((taken (after (start n) log) (key_of a), Done), takes size (after (start n) log) (key_of a) (still log before.kept.1.0.1 least).0 least.2, unequal (key_of a) (length (after (start n) log).slots) (still log before.kept.1.0.1 least).1)
+      goes log before = ((after_take (after (start n) log) (key_of a), Done), takes size (after (start n) log) (key_of a) (still log before.kept.1.0.1 least).0 least.2, unequal (key_of a) (length (after (start n) log).slots) (still log before.kept.1.0.1 least).1)
 
   -- it makes no keys, since the slot is there
   pub takes_old : (p : ℕ) (seen log : List Entry) → is_one slots a ≡ true → is_one numbers b ≡ true → Before n p seen (a ++ b) log → Least → births (after (start n) log) (Take (key_of a)) ≡ []
   takes_old p seen log one one' before least =
       let st : State = after (start n) log in
-      let held = subst (λ (hs : List (Held Entry)). Before n p seen (only slots a ++ hs) log) (only_is numbers b one') (subst (λ (hs : List (Held Entry)). Before n p seen (hs ++ b) log) (only_is slots a one) before) in
+      let held = subst (λ (hs : List (HeldKey Entry)). Before n p seen (only slots a ++ hs) log) (only_is numbers b one') (subst (λ (hs : List (HeldKey Entry)). Before n p seen (hs ++ b) log) (only_is slots a one) before) in
       ap (λ (c : Bool). if c then of_next_slot st else []) (unequal (key_of a) (length st.slots) (still log held.kept.1.0.1 least).1)

@@ -1,17 +1,17 @@
 -- The side condition of an event, by what it touches: a legal event changes nothing of a key that it does not touch, and makes its keys.
 use Rattle.std.proofs.Common.{◌≡◌, ℕ, zero, suc, ◌+◌, ◌<◌, ◌≤◌, pos, Bool, true, false, ◌==◌, if◌then◌else◌, List, [], ◌∷◌, ◌++◌, length, refl, sym, ◌∙◌, ap, subst, ◌⊎◌, inl, inr, arith, append_assoc, append-nil}
 use mathlib.Core.List.{IsPrefix}
-use Rattle.seize_machine.specs.Machine.State.{State, slot_at, head_at, link_at, is_active, has, linked, are_distinct}
+use Rattle.seize_machine.specs.Machine.State.{State, slot_at, head_at, link_at, is_active, has, linked_values, are_distinct}
 use Rattle.seize_machine.specs.Machine.Event.{Event}
 use Rattle.seize_machine.specs.Machine.Frames.{used, slots_added}
 use Rattle.seize_machine.specs.declared.machine.event.Answer.{Answer}
 use Rattle.seize_machine.proofs.Facts.{step_of, slot_frame, active_frame, head_frame, link_frame, used_frame, value_frame, slots_length, links_length}
-use Rattle.seize_book.specs.Ledger.{Held, Known, Goes, AllThere, AllBelow, AreNext, bumped, all_bumped}
+use Rattle.seize_book.specs.Ledger.{HeldKey, Known, Goes, AllThere, AllBelow, AreNextNumbers, bumped, all_bumped}
 use Rattle.seize_book.specs.Blocks.{plans}
 use Rattle.seize_book.specs.Chains.{IsLed, told}
 use Rattle.seize_book.specs.Entry.{Entry, Made, Used, Deed, Use, maker}
 use Rattle.seize_book.specs.Fair.{Fair}
-use Rattle.seize_book.specs.Book.{after, IsLegalList, Does, mine, Kind, ThePass, TheNumbers, TheSlot, TheHead, TheLink, TheCount, TheBlock, TheField, TheTotal, Nothing, acts, kind_of, Same, Kept, touches, makes_slot, Sized, rules, of_next_slot, births, births_by, passes, slots, heads, counts, blocks, fields, kinds}
+use Rattle.seize_book.specs.Book.{after, IsLegalList, Does, mine, Kind, ThePass, TheNumbers, TheSlot, TheHead, TheLink, TheCount, TheBlock, TheField, TheTotal, Nothing, acts, kind_of, Same, Kept, touches, makes_slot, IsKeyCount, rules, of_next_slot, births, births_by, passes, slots, heads, counts, blocks, fields, kinds}
 use Rattle.seize_book.specs.Homes.{HasOne, changes_home, count_in, home_of}
 use Rattle.seize_book.specs.Tokens.{Name, start}
 use Rattle.seize_book.specs.Deposits.{deposit}
@@ -30,7 +30,7 @@ added_by st _ = refl
 
 -- a key that the entry does not touch
 
-module _ (n : Name) (distinct : are_distinct (linked n.links) ≡ true) where
+module _ (n : Name) (distinct : are_distinct (linked_values n.links) ≡ true) where
   abbrev st : State
   st = start n
 
@@ -110,7 +110,7 @@ kept_now st r k log = (([], append-nil log), same_now st (kind_of r) k log)
 
 -- the numbers of keys after an entry that makes so many slots
 record Sizes (st : State) (log : List Entry) (e : Entry) (many : ℕ → ℕ) (more_slots : ℕ) : Type 0 where
-  pub was : (r : ℕ) → Sized st (kind_of r) (many r) log
+  pub was : (r : ℕ) → IsKeyCount st (kind_of r) (many r) log
   pub none_made : (p : ℕ) → many passes ≤ p → mine st p (log ++ e ∷ []) ≡ []
   slots_are : length (after st (log ++ e ∷ [])).slots ≡ length (after st log).slots + more_slots
   links_are : length (after st (log ++ e ∷ [])).links ≡ length (after st log).links
@@ -118,10 +118,10 @@ record Sizes (st : State) (log : List Entry) (e : Entry) (many : ℕ → ℕ) (m
   none_named : (v : ℕ) → many blocks ≤ home_of v → has v (after st (log ++ e ∷ [])).named ≡ false
   none_told : (f : ℕ) → many fields ≤ f → told (log ++ e ∷ []) f ≡ 0
 
-nothing_new : (st : State) (log : List Entry) (e : Entry) (many : ℕ → ℕ) → Sizes st log e many 0 → AreNext many [] × ((r : ℕ) → Sized st (kind_of r) (all_bumped [] many r) (log ++ e ∷ []))
+nothing_new : (st : State) (log : List Entry) (e : Entry) (many : ℕ → ℕ) → Sizes st log e many 0 → AreNextNumbers many [] × ((r : ℕ) → IsKeyCount st (kind_of r) (all_bumped [] many r) (log ++ e ∷ []))
 nothing_new st log e many s = (tt, go)
   where
-    go : (r : ℕ) → Sized st (kind_of r) (many r) (log ++ e ∷ [])
+    go : (r : ℕ) → IsKeyCount st (kind_of r) (many r) (log ++ e ∷ [])
     go zero = s.none_made
     go (suc zero) = s.was 1
     go (suc (suc zero)) = let was : many slots ≡ suc (length (after st log).slots) = s.was 2 in omega (arith, was, s.slots_are)
@@ -134,10 +134,10 @@ nothing_new st log e many s = (tt, go)
     go (suc (suc (suc (suc (suc (suc (suc (suc (suc r))))))))) = tt
 
 next_slot : (st : State) (log : List Entry) (e : Entry) (many : ℕ → ℕ) → Sizes st log e many 1
-    → AreNext many (of_next_slot (after st log)) × ((r : ℕ) → Sized st (kind_of r) (all_bumped (of_next_slot (after st log)) many r) (log ++ e ∷ []))
+    → AreNextNumbers many (of_next_slot (after st log)) × ((r : ℕ) → IsKeyCount st (kind_of r) (all_bumped (of_next_slot (after st log)) many r) (log ++ e ∷ []))
 next_slot st log e many s = ((s.was 2, (s.was 3, tt)), go)
   where
-    go : (r : ℕ) → Sized st (kind_of r) (bumped heads (bumped slots many) r) (log ++ e ∷ [])
+    go : (r : ℕ) → IsKeyCount st (kind_of r) (bumped heads (bumped slots many) r) (log ++ e ∷ [])
     go zero = s.none_made
     go (suc zero) = s.was 1
     go (suc (suc zero)) = let was : many slots ≡ suc (length (after st log).slots) = s.was 2 in omega (arith, was, s.slots_are)
@@ -155,14 +155,14 @@ slots_by st (Made x) = slots_added st x.event
 slots_by st (Used u) = 0
 
 makes : (st : State) (log : List Entry) (e : Entry) (many : ℕ → ℕ) → Sizes st log e many (slots_by (after st log) e)
-    → AreNext many (births_by (after st log) e) × ((r : ℕ) → Sized st (kind_of r) (all_bumped (births_by (after st log) e) many r) (log ++ e ∷ []))
+    → AreNextNumbers many (births_by (after st log) e) × ((r : ℕ) → IsKeyCount st (kind_of r) (all_bumped (births_by (after st log) e) many r) (log ++ e ∷ []))
 unfolding slots_by
 makes st log (Used u) many so = nothing_new st log (Used u) many so
 makes st log (Made x) many so = go (makes_slot (after st log) x.event) (subst (Sizes st log (Made x) many) (added_by (after st log) x.event) so)
   where
     go : (b : Bool) → Sizes st log (Made x) many (if b then 1 else 0)
-        → AreNext many (if b then of_next_slot (after st log) else [])
-        × ((r : ℕ) → Sized st (kind_of r) (all_bumped (if b then of_next_slot (after st log) else []) many r) (log ++ Made x ∷ []))
+        → AreNextNumbers many (if b then of_next_slot (after st log) else [])
+        × ((r : ℕ) → IsKeyCount st (kind_of r) (all_bumped (if b then of_next_slot (after st log) else []) many r) (log ++ Made x ∷ []))
     go true so = next_slot st log (Made x) many so
     go false so = nothing_new st log (Made x) many so
 
@@ -183,8 +183,8 @@ lengths st log (Used u) d l h =
     let slots_same : length (after st (log ++ Used u ∷ [])).slots ≡ length (after st log).slots = ap (λ (z : State). length z.slots) same in
     (omega (arith, slots_same), ap (λ (z : State). length z.links) same)
 
-sizes : (n : Name) → are_distinct (linked n.links) ≡ true → (held : List (Held Entry)) (log : List Entry) (e : Entry) (many : ℕ → ℕ) → IsLegalList (start n) log → (f : Fair n held log e) → HasOne (after (start n) log)
-    → ((r : ℕ) → Sized (start n) (kind_of r) (many r) log) → AllThere many held → Sizes (start n) log e many (slots_by (after (start n) log) e)
+sizes : (n : Name) → are_distinct (linked_values n.links) ≡ true → (held : List (HeldKey Entry)) (log : List Entry) (e : Entry) (many : ℕ → ℕ) → IsLegalList (start n) log → (f : Fair n held log e) → HasOne (after (start n) log)
+    → ((r : ℕ) → IsKeyCount (start n) (kind_of r) (many r) log) → AllThere many held → Sizes (start n) log e many (slots_by (after (start n) log) e)
 sizes n distinct held log e many l f has_one was there =
     let named = f.names many was there in let same = lengths (start n) log e f.done l f.legal in
     record {
@@ -198,7 +198,7 @@ sizes n distinct held log e many l f has_one was there =
       none_told = λ i le. sym (same_push n distinct log log e f.done TheField i l has_one f.leads f.legal (named.3 i le) refl) ∙ was fields i le;
     }
 
-abbrev pub Can : Name → List (Held Entry) → List Entry → (List Entry → Entry) → (List Entry → Type 0) → Type 0
+abbrev pub Can : Name → List (HeldKey Entry) → List Entry → (List Entry → Entry) → (List Entry → Type 0) → Type 0
 Can n held seen ev Told = (log : List Entry) → Known (rules (start n)) held seen log → Told log → Fair n held log (ev log)
 
 abbrev pub births_of : State → (List Entry → Entry) → List Entry → List (ℕ × ℕ)
@@ -207,7 +207,7 @@ births_of st ev log = births_by (after st log) (ev log)
 prefix_push : (own log : List Entry) (e : Entry) → IsPrefix own log → IsPrefix own (log ++ e ∷ [])
 prefix_push own log e p = (p.0 ++ e ∷ [], sym (append_assoc own p.0 (e ∷ [])) ∙ ap (λ (l : List Entry). l ++ e ∷ []) p.1)
 
-pub goes : (n : Name) → are_distinct (linked n.links) ≡ true → (held : List (Held Entry)) (seen : List Entry) (ev : List Entry → Entry) (Told : List Entry → Type 0) → Can n held seen ev Told
+pub goes : (n : Name) → are_distinct (linked_values n.links) ≡ true → (held : List (HeldKey Entry)) (seen : List Entry) (ev : List Entry → Entry) (Told : List Entry → Type 0) → Can n held seen ev Told
     → Goes (rules (start n)) held seen ev (births_of (start n) ev) Told
 goes n distinct held seen ev Told can log known told_ =
     let st : State = start n in let e = ev log in let f = can log known told_ in let legal = known.0.0 in let sound = known.0.1 in (

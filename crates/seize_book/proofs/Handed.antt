@@ -1,42 +1,42 @@
 -- The machine's laws, said of the book where a value goes to its reclaimer.
 use Rattle.std.proofs.Common.{◌≡◌, ℕ, zero, suc, ◌<◌, true, List, [], ◌∷◌, ◌++◌, length, map, take, slice_get, Option, Some, refl, sym, ◌∙◌, ap, arith}
 use Rattle.std.proofs.lemmas.Option.{slice_get_within}
-use Rattle.seize_machine.specs.Machine.State.{State, linked, are_distinct, opening}
+use Rattle.seize_machine.specs.Machine.State.{State, linked_values, are_distinct, opening}
 use Rattle.seize_machine.specs.Machine.Next.{next}
 use Rattle.seize_machine.specs.Machine.History.{Moment, end_of, history, done_by, or_illegal, handed_value, Reclaimed, HasParted}
 use Rattle.seize_machine.specs.declared.machine.event.Answer.{Answer}
 use Rattle.seize_machine.proofs.Facts.{law_after, law_at_most_once, law_protection, some_is}
-use Rattle.seize_book.specs.Entry.{Entry, Made, Used, Deed, deeds, timed, events_of}
+use Rattle.seize_book.specs.Entry.{Entry, Made, Used, Deed, deeds, timed_deed, events_of}
 use Rattle.seize_book.specs.Book.{moments, after, IsLegalList, Does}
 use Rattle.seize_book.specs.Laws.{AllLeft, AllParted, NotHanded, WasRetired}
 use Rattle.seize_book.proofs.Lists.{as_legal, legal_push}
 
 -- entry i of a list, as a moment
 abbrev pub moment : State → Deed → Moment
-moment st e = let done = done_by next st (timed e) in record { before = st; timed = timed e; answer = done.1; after = done.0 }
+moment st e = let done = done_by next st (timed_deed e) in record { before = st; timed = timed_deed e; answer = done.1; after = done.0 }
 
 pub moments_push : (st : State) (log : List Entry) (e : Deed) → moments st (log ++ Made e ∷ []) ≡ moments st log ++ moment (after st log) e ∷ []
 moments_push st [] e = refl
-moments_push st (Made x ∷ log) e = ap (λ (ms : List Moment). moment st x ∷ ms) (moments_push (done_by next st (timed x)).0 log e)
+moments_push st (Made x ∷ log) e = ap (λ (ms : List Moment). moment st x ∷ ms) (moments_push (done_by next st (timed_deed x)).0 log e)
 moments_push st (Used u ∷ log) e = moments_push st log e
 
 -- the moments of events in order, and the state after them
 abbrev pub moments_of : State → List Deed → List Moment
-moments_of st ds = history next st (map timed ds)
+moments_of st ds = history next st (map timed_deed ds)
 
 abbrev pub state_of : State → List Deed → State
 state_of st ds = end_of st (moments_of st ds)
 
 pub moments_length : (st : State) (ds : List Deed) → length (moments_of st ds) ≡ length ds
 moments_length st [] = refl
-moments_length st (e ∷ ds) = ap suc (moments_length (done_by next st (timed e)).0 ds)
+moments_length st (e ∷ ds) = ap suc (moments_length (done_by next st (timed_deed e)).0 ds)
 
 -- each moment is that of an event, after the events before it
 pub entry_of : (st : State) (ds : List Deed) (i : ℕ) (m : Moment) → slice_get (moments_of st ds) i ≡ Some m
     → (e : Deed) × (slice_get ds i ≡ Some e) × (m ≡ moment (state_of st (take i ds)) e)
 entry_of st [] i m h = absurd (cc)
 entry_of st (x ∷ ds) zero m h = (x, refl, sym (some_is _ _ h))
-entry_of st (x ∷ ds) (suc i) m h = entry_of (done_by next st (timed x)).0 ds i m h
+entry_of st (x ∷ ds) (suc i) m h = entry_of (done_by next st (timed_deed x)).0 ds i m h
 
 -- a list, and one more
 get_left : {X : Type 0} (xs : List X) (y : X) (i : ℕ) (x : X) → slice_get xs i ≡ Some x → slice_get (xs ++ y ∷ []) i ≡ Some x
@@ -53,7 +53,7 @@ pub get_last : {X : Type 0} (xs : List X) (y : X) → slice_get (xs ++ y ∷ [])
 get_last [] y = refl
 get_last (z ∷ xs) y = get_last xs y
 
-module _ (slots : ℕ) (links : List (Option ℕ)) (distinct : are_distinct (linked links) ≡ true) (log : List Entry) (e : Deed) (d : State × Answer) (v : ℕ)
+module _ (slots : ℕ) (links : List (Option ℕ)) (distinct : are_distinct (linked_values links) ≡ true) (log : List Entry) (e : Deed) (d : State × Answer) (v : ℕ)
     (legal : IsLegalList (opening slots links) log) (does : Does (opening slots links) log (Made e) d) (hands : handed_value d.1 ≡ Some v) where
   abbrev st : State
   st = opening slots links

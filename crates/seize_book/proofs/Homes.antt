@@ -10,13 +10,13 @@ use Rattle.seize_machine.specs.declared.machine.event.Job.TheVariants.{Retire}
 use Rattle.seize_book.specs.Homes.{home_of, is_home, changes_home}
 use Rattle.seize_table.specs.Pairs.{left_of, pair, right_of}
 use Rattle.seize_table.proofs.Pairs.{left_pair, past, right_pair}
-use Rattle.seize_book.specs.Blocks.{block_of}
+use Rattle.seize_book.specs.Blocks.{block_number}
 use Rattle.seize_book.specs.Loans.{cell_of, loan_of, place_of, rest_of}
 use Rattle.seize_book.proofs.Lists.{equal, unequal}
 
 -- each home has values with any block's number, any place, any cell and anything that is lent with them, past any bound
 pub another_with : (k place carried cell p bound : ℕ) → p < 2 ^ 64
-    → (v : ℕ) × (home_of v ≡ k) × (block_of v ≡ p) × (bound ≤ v) × (place_of v ≡ place) × (loan_of v ≡ carried) × (cell_of v ≡ cell)
+    → (v : ℕ) × (home_of v ≡ k) × (block_number v ≡ p) × (bound ≤ v) × (place_of v ≡ place) × (loan_of v ≡ carried) × (cell_of v ≡ cell)
 another_with k place carried cell p bound small =
     let inner : ℕ = pair cell bound in let turn : ℕ = pair carried inner in let rest : ℕ = pair place turn in let w : ℕ = pair k rest in let v : ℕ = w * 2 ^ 64 + p in
     let above : v / 2 ^ 64 ≡ w = omega (arith, small) in
@@ -32,7 +32,7 @@ another_with k place carried cell p bound small =
     )
 
 -- with which nothing is lent
-pub another_of : (k p bound : ℕ) → p < 2 ^ 64 → (v : ℕ) × (home_of v ≡ k) × (block_of v ≡ p) × (bound ≤ v)
+pub another_of : (k p bound : ℕ) → p < 2 ^ 64 → (v : ℕ) × (home_of v ≡ k) × (block_number v ≡ p) × (bound ≤ v)
 another_of k p bound small = let v = another_with k 0 0 0 p bound small in (v.0, v.1, v.2, v.3)
 
 -- what changes nothing of a home changes nothing of its values

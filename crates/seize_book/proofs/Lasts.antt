@@ -6,11 +6,11 @@ use Rattle.seize_book.specs.Adding.{before_last}
 use Rattle.seize_book.specs.Book.{blocks}
 use Rattle.seize_book.specs.Entry.{Entry}
 use Rattle.seize_book.specs.Homes.{home_of}
-use Rattle.seize_book.specs.Ledger.{Held}
+use Rattle.seize_book.specs.Ledger.{HeldKey}
 use Rattle.seize_book.specs.Private.{are_of_blocks, is_one, key_of, label_of, labels_of}
 
 abbrev Keys : Type 0
-Keys = List (Held Entry)
+Keys = List (HeldKey Entry)
 
 pub apart_at : {X : Type 0} (k : ℕ) (xs : List X) → take k xs ++ drop k xs ≡ xs
 apart_at zero xs = refl

@@ -10,13 +10,14 @@ use types.Growing.{at_least_dup, at_least_join}
 use types.Kit.{‵, raw, ◌⊛◌, some, given, later, ◌$◌, ◌∵◌, !, qed, move, keep, drop, split, split3, join, fsplit, fjoin, fpick, fpack, pick, learn, rewrite, show, check, done, use1, use2, use3, updating, await, now}
 use denote.Steps.{nothing}
 use Rattle.seize_machine.specs.Machine.State.{State}
-use Rattle.seize_book.specs.Ledger.{Held, Known, fact, logs, reached}
+use Rattle.seize_book.specs.Ledger.{HeldKey, Known, fact, logs, reached}
 use Rattle.seize_book.specs.Entry.{Entry, entry_coded}
 use Rattle.seize_book.specs.Begin.{book_owns}
 use Rattle.seize_book.specs.Book.{IsLegalList, after, mine, rules}
 use Rattle.seize_book.specs.Fair.{pass_key}
 use Rattle.seize_book.specs.Passes.{Longer}
-use Rattle.seize_book.specs.Tokens.{AllLentIn, IsSole, IsTurns, Name, gate_gives, gate_keeps, knows, pass_holds, pass_owns, porter_owns, start}
+use Rattle.seize_book.specs.Loans.{AllCarryOne}
+use Rattle.seize_book.specs.Tokens.{IsSole, Name, gate_gives, gate_keeps, knows, pass_holds, pass_owns, porter_owns, start}
 use Rattle.seize_book.proofs.Gates.{agrees, gives_as}
 use Rattle.seize_book.proofs.Lists.{between}
 use Rattle.seize_book.proofs.Looks.{Idle, apart, together}
@@ -24,7 +25,7 @@ use Rattle.seize_book.proofs.Meets.{least_all, longer}
 use Rattle.seize_book.proofs.Notes.{knows_twice}
 use Rattle.seize_book.proofs.Passes.{rights}
 use Rattle.seize_book.proofs.Plans.{legal_prefix}
-use Rattle.seize_book.proofs.Turns.{changes, has_turns, home_passes, pass_homes, turn_alone}
+use Rattle.seize_book.proofs.Porters.{changes, home_passes, pass_homes}
 
 -- the longer of two lists, where that is the first, goes on from the second
 past_it : (x y z : List Entry) → Longer x y z → z ≡ x → IsPrefix y x
@@ -58,7 +59,7 @@ module _ {M : Type 1} {𝓤 : Ura M} (𝓛 : Logic 𝓤) (n : Name) where
 
   -- where the pass is alone, it has seen all there is
   abbrev IsAll : ℕ → List Entry → List Entry → Type 0
-  IsAll p seen log = IsSole n.gate p → log ≡ seen
+  IsAll p seen log = IsSole p → log ≡ seen
 
   abbrev Asked : ℕ → List Entry → List Entry → Fml
   Asked p seen log = fsep (gives p seen) (fact (IsAll p seen log))
@@ -67,11 +68,11 @@ module _ {M : Type 1} {𝓤 : Ura M} (𝓛 : Logic 𝓤) (n : Name) where
   asks p seen log = qed 𝓛 (‵ (gate_keeps n.gate log) ∷ ‵ (gives p seen) ∷ []) ∵ use2 𝓛 (given (IsAll p seen log) (‵ (gate_keeps n.gate log) ⊛ ‵ (gives p seen))) (agrees 𝓛 n.gate p log seen) $
       learn ! (λ all. split ! $ move ! (1 ∷ []) $ nothing ! $ fpack ! (IsAll p seen log) (λ _. ftrue) all $ move ! (1 ∷ 0 ∷ []) $ fjoin ! $ move ! (1 ∷ 0 ∷ []) $ done !)
 
-  abbrev changed : List (Held Entry) → List Entry → ℕ → List Entry → types.Kit.Item 𝓤
-  changed held z p x = later (some (λ (log : List Entry). given (Known (rules st) held z log × AllLentIn n (after st log).named) (‵ (rights 𝓛 n held) ⊛ ‵ (had log) ⊛ ‵ (Asked p x log))))
+  abbrev changed : List (HeldKey Entry) → List Entry → ℕ → List Entry → types.Kit.Item 𝓤
+  changed held z p x = later (some (λ (log : List Entry). given (Known (rules st) held z log × AllCarryOne (after st log).named) (‵ (rights 𝓛 n held) ⊛ ‵ (had log) ⊛ ‵ (Asked p x log))))
 
   abbrev pub Learned : ℕ → List Entry → List Entry → List Entry → Pr
-  Learned p x y z = guard 𝓤 (Longer x y z × (mine st p z ≡ mine st p x) × (IsSole n.gate p → z ≡ x) × IsLegalList st z) (⟦ pass_owns n p z ⟧ ∗ ⟦ book_owns n y ⟧)
+  Learned p x y z = guard 𝓤 (Longer x y z × (mine st p z ≡ mine st p x) × (IsSole p → z ≡ x) × IsLegalList st z) (⟦ pass_owns n p z ⟧ ∗ ⟦ book_owns n y ⟧)
 
   -- it has seen the longer of the two
   pub hears : (p : ℕ) (x y : List Entry) → ⟦ pass_owns n p x ⟧ ∗ ⟦ book_owns n y ⟧ ⊢ H.⇛ (ex 𝓤 (Learned p x y))
@@ -83,7 +84,7 @@ module _ {M : Type 1} {𝓤 : Ura M} (𝓛 : Logic 𝓤) (n : Name) where
       move ! (2 ∷ 0 ∷ []) $ fjoin ! $ move ! (3 ∷ 1 ∷ []) $ use2 𝓛 (some (λ (z : List Entry). given (Least IsPrefix x y z) (‵ (had z)))) (at_least_join (logs entry_coded) 𝓛 n.log x y) $ pick ! (λ z. learn ! (λ least.
       use1 𝓛 (‵ (had z) ⊛ ‵ (had z)) (at_least_dup (logs entry_coded) 𝓛 n.log z) $ split ! $
       -- [z was reached, twice; the book's token; its key; its copy; the book]
-      move ! (5 ∷ []) $ use1 𝓛 (‵ (knows n) ⊛ ‵ (knows n)) (knows_twice 𝓛 n) $ split ! $ let held : List (Held Entry) = pass_key p a ∷ [] in
+      move ! (5 ∷ []) $ use1 𝓛 (‵ (knows n) ⊛ ‵ (knows n)) (knows_twice 𝓛 n) $ split ! $ let held : List (HeldKey Entry) = pass_key p a ∷ [] in
       -- [the book, twice; z was reached, twice; the book's token; its key; its copy]
       move ! (2 ∷ 6 ∷ []) $ join ! $ move ! (1 ∷ 5 ∷ 0 ∷ []) $
       use3 𝓛 (changed held z p x) (changes 𝓛 n held z (gives p x) (Asked p x) (asks p x) (omega arith, tt)) $ await ! tt $ pick ! (λ log. learn ! (λ known. split3 ! $
@@ -97,8 +98,7 @@ module _ {M : Type 1} {𝓤 : Ura M} (𝓛 : Logic 𝓤) (n : Name) where
 
   -- a porter at home has what the first pass has, which is alone
   pub covered : (x y : List Entry) → ⟦ porter_owns n true 0 x ⟧ ∗ ⟦ book_owns n y ⟧ ⊢ H.⇛ (guard 𝓤 (IsPrefix y x) (⟦ porter_owns n true 0 x ⟧ ∗ ⟦ book_owns n y ⟧))
-  covered x y = qed 𝓛 (‵ (porter_owns n true 0 x) ∷ ‵ (book_owns n y) ∷ []) ∵ updating ! $ use1 𝓛 (given (IsTurns n.gate) (‵ (porter_owns n true 0 x))) (has_turns 𝓛 n true 0 x) $ learn ! (λ is.
-      use1 𝓛 (‵ (pass_owns n 0 x)) (home_passes 𝓛 n x is) $
-      use2 𝓛 (later (some (λ (z : List Entry). given (Longer x y z × (mine st 0 z ≡ mine st 0 x) × (IsSole n.gate 0 → z ≡ x) × IsLegalList st z) (‵ (pass_owns n 0 z) ⊛ ‵ (book_owns n y))))) (hears 0 x y) $ await ! tt $ pick ! (λ z. learn ! (λ so. split ! $
-      let all : z ≡ x = so.2 (turn_alone n.gate is) in rewrite ! 0 (λ (log : List Entry). ‵ (pass_owns n 0 log)) all refl $ use1 𝓛 (‵ (porter_owns n true 0 x)) (pass_homes 𝓛 n x is) $
-      now ! $ check ! (past_it x y z so.0 all) $ done !)))
+  covered x y = qed 𝓛 (‵ (porter_owns n true 0 x) ∷ ‵ (book_owns n y) ∷ []) ∵ updating ! $ use1 𝓛 (‵ (pass_owns n 0 x)) (home_passes 𝓛 n x) $
+      use2 𝓛 (later (some (λ (z : List Entry). given (Longer x y z × (mine st 0 z ≡ mine st 0 x) × (IsSole 0 → z ≡ x) × IsLegalList st z) (‵ (pass_owns n 0 z) ⊛ ‵ (book_owns n y))))) (hears 0 x y) $ await ! tt $ pick ! (λ z. learn ! (λ so. split ! $
+      let all : z ≡ x = so.2 refl in rewrite ! 0 (λ (log : List Entry). ‵ (pass_owns n 0 log)) all refl $ use1 𝓛 (‵ (porter_owns n true 0 x)) (pass_homes 𝓛 n x) $
+      now ! $ check ! (past_it x y z so.0 all) $ done !))

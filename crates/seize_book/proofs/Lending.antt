@@ -7,24 +7,25 @@ use base.Stored.{Gv}
 use types.Logic.{Logic, sem}
 use types.Kit.{‵, ◌⊛◌, some, given, later, updating, await, now, ◌$◌, ◌∵◌, !, qed, by, move, keep, drop, split, split3, join, fsplit, fjoin, fpick, fpack, pick, learn, frame, assume, show, check, suffices, done, rewrite, use1, use2, use3}
 use denote.Steps.{nothing}
+use Rattle.seize_content.specs.Cells.{cell_token}
 use Rattle.seize_content.specs.Contents.{pool_owns, ticket_owns}
 use Rattle.seize_content.specs.Readers.{all_dead, lent_pool}
 use Rattle.seize_content.specs.Stages.{lent}
 use Rattle.seize_content.proofs.Readers.{whole}
 use Rattle.seize_machine.specs.Machine.State.{Slot, State, has, slot_at}
 use Rattle.seize_machine.proofs.Facts.{eq_true, opening_reached}
-use Rattle.seize_book.specs.Blocks.{block_of}
+use Rattle.seize_book.specs.Blocks.{block_number}
 use Rattle.seize_book.specs.Book.{Kept, TheBlock, after, blocks, rules, slots}
 use Rattle.seize_book.specs.Entry.{Entry, entry_coded}
 use Rattle.seize_book.specs.Homes.{home_of}
-use Rattle.seize_book.specs.Laws.{IsIn, ended}
-use Rattle.seize_book.specs.Ledger.{AllKept, Held, Known, reached}
+use Rattle.seize_book.specs.Laws.{IsAmong, ended}
+use Rattle.seize_book.specs.Ledger.{AllKept, HeldKey, Known, reached}
 use Rattle.seize_book.specs.Lending.{IsHandedBy}
 use Rattle.seize_book.specs.Loans.{Carries, CarriesNone, cell_of, IsReader, Loan, lent_as, loan, loan_if, loan_number, loan_of, place_of, reader, readers}
 use Rattle.seize_book.specs.Others.{labelled}
 use Rattle.seize_book.specs.Private.{is_one, key_of, label_of, own_of}
 use Rattle.seize_book.specs.Slots.{hands_next}
-use Rattle.seize_book.specs.Tokens.{Name, beside, inside, keys_own, knows, note_in, over, pass_holds, pass_owns, rights_own, rows, start, way}
+use Rattle.seize_book.specs.Tokens.{Name, beside, inside, keys_own, knows, over, pass_holds, pass_owns, rights_own, rows, start, way}
 use Rattle.seize_book.proofs.Append.{looks, looks_beside}
 use Rattle.seize_book.proofs.Hands.{hands_soon}
 use Rattle.seize_book.proofs.Lives.{over_one}
@@ -32,7 +33,7 @@ use Rattle.seize_book.proofs.Loans.{reader_later, unnamed_unread}
 use Rattle.seize_book.proofs.Notes.{distinct_links, knows_twice, opens}
 use Rattle.seize_book.proofs.Passes.{IsDistinct}
 use Rattle.seize_book.proofs.Private.{one_kept, one_within, only_is}
-use Rattle.seize_book.proofs.Renames.{lent_lead, same_lead}
+use Rattle.seize_book.proofs.Renames.{same_lead}
 use Rattle.seize_book.proofs.Ways.{bare_way, block_ways, keys_apart, keys_whole, way_closes, way_opens, ways}
 
 module _ {M : Type 1} {𝓤 : Ura M} (𝓛 : Logic 𝓤) (n : Name) where
@@ -68,21 +69,21 @@ module _ {M : Type 1} {𝓤 : Ura M} (𝓛 : Logic 𝓤) (n : Name) where
   lent_new (suc k) v a c g is carries = let l : Loan = record { content = c; life = a; code = g; readers = [] } in qed 𝓛 (‵ (ticket_owns c (lent a g)) ∷ ‵ (lent_pool c a g []) ∷ []) ∵
       nothing ! $ move ! (2 ∷ 0 ∷ []) $ fjoin ! $ move ! (1 ∷ 0 ∷ []) $ fjoin ! $ nothing ! $ fpack ! (Carries v c g) (λ _. ftrue) carries $ move ! (0 ∷ 1 ∷ []) $ fjoin ! $ fpack ! Loan (lent_as st n.log v) l $ done !
 
-  pub lends_key : (held : List (Held Entry)) (v a : ℕ) (c : ℕ) (g : Gv) → is_one blocks held ≡ true → home_of (label_of held) ≡ home_of v → block_of (label_of held) ≡ block_of v → (n.store ≡ None) ⊎ (place_of (label_of held) ≡ place_of v) → Carries v c g → cell_of (label_of held) ≡ cell_of v
+  pub lends_key : (held : List (HeldKey Entry)) (v a : ℕ) (c : ℕ) (g : Gv) → is_one blocks held ≡ true → home_of (label_of held) ≡ home_of v → block_number (label_of held) ≡ block_number v → place_of (label_of held) ≡ place_of v → Carries v c g → cell_of (label_of held) ≡ cell_of v
       → ⟦ keys_own n held ⟧ ∗ ⟦ ticket_owns c (lent a g) ⟧ ∗ ⟦ pool_owns c a g ⟧ ⊢ ⟦ keys_own n (labelled v held) ⟧
   lends_key [] v a c g one home block place carries cell = absurd (cc)
   lends_key (x ∷ y ∷ held) v a c g one home block place carries cell = absurd (cc)
-  lends_key (h ∷ []) v a c g one home block place carries cell = let h' : Held Entry = record { kind = h.kind; key = h.key; own = h.own; label = v; note = h.note } in
+  lends_key (h ∷ []) v a c g one home block place carries cell = let h' : HeldKey Entry = record { kind = h.kind; key = h.key; own = h.own; label = v; note = h.note } in
       qed 𝓛 (‵ (keys_own n (h ∷ [])) ∷ ‵ (ticket_owns c (lent a g)) ∷ ‵ (pool_owns c a g) ∷ []) ∵ move ! (1 ∷ 2 ∷ []) $ use2 𝓛 (‵ (loan st n.log v)) (lent_new (loan_of v) v a c g carries.1 carries) $
       -- [the loan; the key]
-      move ! (1 ∷ []) $ fsplit ! $ fsplit ! $ move ! (1 ∷ []) $ use1 𝓛 (‵ (block_ways 𝓛 n h.label h.note)) (way_opens 𝓛 n h one) $ fsplit ! $ fsplit ! $ rewrite ! 0 (λ (F : Fml). ‵ F) (lent_lead 𝓛 n h.label v home block place cell) refl $
-      rewrite ! 2 (λ (c : ℕ). ‵ (note_in n.store c h.note)) cell refl $
+      move ! (1 ∷ []) $ fsplit ! $ fsplit ! $ move ! (1 ∷ []) $ use1 𝓛 (‵ (block_ways 𝓛 n h.label h.note)) (way_opens 𝓛 n h one) $ fsplit ! $ fsplit ! $ rewrite ! 0 (λ (F : Fml). ‵ F) (same_lead 𝓛 n h.label v home block place cell) refl $
+      rewrite ! 2 (λ (c : ℕ). ‵ (cell_token c h.note)) cell refl $
       -- [where it leads; what was lent; the note; the right; nothing; the loan]
       move ! (0 ∷ 5 ∷ []) $ fjoin ! $ move ! (0 ∷ 2 ∷ []) $ fjoin ! $ use1 𝓛 (‵ (way n h')) (way_closes 𝓛 n h' one) $ move ! (2 ∷ 0 ∷ []) $ fjoin ! $ move ! (0 ∷ 2 ∷ []) $ fjoin ! $ keep ! (0 ∷ []) $ done !
 
   -- ---- and comes back, when the call of a slot, whose key is at hand, is about to hand its value
 
-  module _ (k : Held Entry) (v : ℕ) (one : is_one slots (k ∷ []) ≡ true) (soon : hands_next (slot_at (after st k.own) k.key) ≡ Some v) where
+  module _ (k : HeldKey Entry) (v : ℕ) (one : is_one slots (k ∷ []) ≡ true) (soon : hands_next (slot_at (after st k.own) k.key) ≡ Some v) where
     abbrev K : Fml
     K = rights_own n (k ∷ [])
 
@@ -100,7 +101,7 @@ module _ {M : Type 1} {𝓤 : Ura M} (𝓛 : Logic 𝓤) (n : Name) where
         (looks_beside entry_coded (rules st) (beside n) n.log (rows n) 𝓛 (k ∷ []) t.0 (λ _. Unit {0}) ⟦ ftrue ⟧ (λ _. ⟦ fdead β ⟧) (one_within (k ∷ []) one) (dead t is distinct)) $
         suffices ! _ (upd_i 𝓤 (⟦ J ⟧ ∗ Z)) $ pick ! (λ log. learn ! (λ known. split ! $ frame ! $ split3 ! $ keep ! (3 ∷ 0 ∷ 2 ∷ []) $ done !)))))
       where
-        in_ended : (t : List Entry × ℕ) (log : List Entry) → IsReader st v β t → IsDistinct 𝓛 n → Known (rules st) (k ∷ []) t.0 log → IsIn (ended log) t.1
+        in_ended : (t : List Entry × ℕ) (log : List Entry) → IsReader st v β t → IsDistinct 𝓛 n → Known (rules st) (k ∷ []) t.0 log → IsAmong (ended log) t.1
         in_ended t log is distinct known =
             let kept = one_kept st (k ∷ []) log one known.2 in
             let soon_now : hands_next (slot_at (after st log) k.key) ≡ Some v = ap (λ (slot : Slot). hands_next slot) (sym kept.1.1) ∙ soon in
@@ -136,18 +137,18 @@ module _ {M : Type 1} {𝓤 : Ura M} (𝓛 : Logic 𝓤) (n : Name) where
         -- [the pool; the book; the slot's key; the ticket]
         now ! $ show ! Back (l.content, (l.life, l.code)) $ check ! carries $ move ! (1 ∷ 2 ∷ 3 ∷ 0 ∷ []) $ done !))
 
-  abbrev pub Redeemed : ℕ → List Entry → ℕ → List (Held Entry) → ℕ × (ℕ × Gv) → Pr
+  abbrev pub Redeemed : ℕ → List Entry → ℕ → List (HeldKey Entry) → ℕ × (ℕ × Gv) → Pr
   Redeemed p seen v held t = guard 𝓤 (Carries v t.0 t.1.1) (⟦ pass_owns n p seen ⟧ ∗ ⟦ keys_own n held ⟧ ∗ ⟦ ticket_owns t.0 (lent t.1.0 t.1.1) ⟧ ∗ ⟦ pool_owns t.0 t.1.0 t.1.1 ⟧)
 
-  pub redeems : (p : ℕ) (seen : List Entry) (held : List (Held Entry)) (w : ℕ) → IsHandedBy n held → home_of (label_of held) ≡ home_of w → block_of (label_of held) ≡ block_of w → place_of (label_of held) ≡ place_of w → CarriesNone w → cell_of (label_of held) ≡ cell_of w
+  pub redeems : (p : ℕ) (seen : List Entry) (held : List (HeldKey Entry)) (w : ℕ) → IsHandedBy n held → home_of (label_of held) ≡ home_of w → block_number (label_of held) ≡ block_number w → place_of (label_of held) ≡ place_of w → CarriesNone w → cell_of (label_of held) ≡ cell_of w
       → ⟦ pass_owns n p seen ⟧ ∗ ⟦ keys_own n held ⟧ ⊢ H.⇛ (ex 𝓤 (Redeemed p seen (label_of held) (labelled w held)))
   redeems p seen [] w by_ home block place none cell = absurd by_
   redeems p seen (h ∷ []) w by_ home block place none cell = absurd by_
   redeems p seen (h ∷ k ∷ x ∷ held) w by_ home block place none cell = absurd by_
-  redeems p seen (h ∷ k ∷ []) w by_ home block place none cell = let h' : Held Entry = record { kind = h.kind; key = h.key; own = h.own; label = w; note = h.note } in let v : ℕ = h.label in
+  redeems p seen (h ∷ k ∷ []) w by_ home block place none cell = let h' : HeldKey Entry = record { kind = h.kind; key = h.key; own = h.own; label = w; note = h.note } in let v : ℕ = h.label in
       qed 𝓛 ((‵ (knows n) ⊛ ‵ (pass_holds n p seen)) ∷ ‵ (keys_own n (h ∷ k ∷ [])) ∷ []) ∵ updating ! $ split ! $ move ! (2 ∷ []) $ fsplit ! $ fsplit ! $
       -- [the right; its way; the slot's key; the book; the pass]
-      move ! (1 ∷ []) $ use1 𝓛 (‵ (block_ways 𝓛 n h.label h.note)) (way_opens 𝓛 n h by_.0) $ fsplit ! $ move ! (1 ∷ []) $ rewrite ! 0 (λ (c : ℕ). ‵ (note_in n.store c h.note)) cell refl $ move ! (1 ∷ []) $ fsplit ! $
+      move ! (1 ∷ []) $ use1 𝓛 (‵ (block_ways 𝓛 n h.label h.note)) (way_opens 𝓛 n h by_.0) $ fsplit ! $ move ! (1 ∷ []) $ rewrite ! 0 (λ (c : ℕ). ‵ (cell_token c h.note)) cell refl $ move ! (1 ∷ []) $ fsplit ! $
       -- [where it leads; the loan; the note; the right; the slot's key; the book; the pass]
       move ! (0 ∷ 1 ∷ 3 ∷ 4 ∷ 5 ∷ 6 ∷ 2 ∷ []) $
       -- [where it leads; the loan; the right; the slot's key; the book; the pass; the note]
@@ -161,13 +162,13 @@ module _ {M : Type 1} {𝓤 : Ura M} (𝓛 : Logic 𝓤) (n : Name) where
 
   -- ---- or where the value was never named: nobody found it
 
-  module _ (h : Held Entry) (v : ℕ) (one : is_one blocks (h ∷ []) ≡ true) (its : h.key ≡ home_of v) (unnamed : has v (after st h.own).named ≡ false) where
+  module _ (h : HeldKey Entry) (v : ℕ) (one : is_one blocks (h ∷ []) ≡ true) (its : h.key ≡ home_of v) (unnamed : has v (after st h.own).named ≡ false) where
     abbrev Key : Fml
     Key = rights_own n (h ∷ [])
 
     still_unnamed : (log : List Entry) → AllKept (rules st) (h ∷ []) log → has v (after st log).named ≡ false
     still_unnamed log kept =
-        let is : Kept st TheBlock h.key h.own log = (subst (λ (hs : List (Held Entry)). AllKept (rules st) hs log) (only_is blocks (h ∷ []) one) kept).0 in
+        let is : Kept st TheBlock h.key h.own log = (subst (λ (hs : List (HeldKey Entry)). AllKept (rules st) hs log) (only_is blocks (h ∷ []) one) kept).0 in
         sym (is.1 v (sym its)).0 ∙ unnamed
 
     unread : (t : List Entry × ℕ) (β : Lft) → IsReader st v β t → IsDistinct 𝓛 n → (log : List Entry) → Known (rules st) (h ∷ []) t.0 log → ⊥
@@ -196,15 +197,15 @@ module _ {M : Type 1} {𝓤 : Ura M} (𝓛 : Logic 𝓤) (n : Name) where
         -- [the reader; the others; the book; the right]
         move ! (2 ∷ 3 ∷ 0 ∷ []) $ keep ! (0 ∷ 1 ∷ 2 ∷ []) $ by ! (none_read Z d.0)
 
-  pub withdraws : (p : ℕ) (seen : List Entry) (held : List (Held Entry)) (w : ℕ) → is_one blocks held ≡ true → key_of held ≡ home_of (label_of held) → has (label_of held) (after st (own_of held)).named ≡ false → ¬ (CarriesNone (label_of held))
-      → home_of (label_of held) ≡ home_of w → block_of (label_of held) ≡ block_of w → place_of (label_of held) ≡ place_of w → CarriesNone w → cell_of (label_of held) ≡ cell_of w
+  pub withdraws : (p : ℕ) (seen : List Entry) (held : List (HeldKey Entry)) (w : ℕ) → is_one blocks held ≡ true → key_of held ≡ home_of (label_of held) → has (label_of held) (after st (own_of held)).named ≡ false → ¬ (CarriesNone (label_of held))
+      → home_of (label_of held) ≡ home_of w → block_number (label_of held) ≡ block_number w → place_of (label_of held) ≡ place_of w → CarriesNone w → cell_of (label_of held) ≡ cell_of w
       → ⟦ pass_owns n p seen ⟧ ∗ ⟦ keys_own n held ⟧ ⊢ H.⇛ (ex 𝓤 (Redeemed p seen (label_of held) (labelled w held)))
   withdraws p seen [] w one its unnamed lent_ home block place none cell = absurd (cc)
   withdraws p seen (x ∷ y ∷ held) w one its unnamed lent_ home block place none cell = absurd (cc)
-  withdraws p seen (h ∷ []) w one its unnamed lent_ home block place none cell = let h' : Held Entry = record { kind = h.kind; key = h.key; own = h.own; label = w; note = h.note } in let v : ℕ = h.label in
+  withdraws p seen (h ∷ []) w one its unnamed lent_ home block place none cell = let h' : HeldKey Entry = record { kind = h.kind; key = h.key; own = h.own; label = w; note = h.note } in let v : ℕ = h.label in
       qed 𝓛 ((‵ (knows n) ⊛ ‵ (pass_holds n p seen)) ∷ ‵ (keys_own n (h ∷ [])) ∷ []) ∵ updating ! $ split ! $ move ! (2 ∷ []) $ use1 𝓛 (‵ (rights_own n (h ∷ [])) ⊛ ‵ (ways 𝓛 n (h ∷ []))) (keys_apart 𝓛 n (h ∷ [])) $ split ! $ move ! (1 ∷ []) $ fsplit ! $
       -- [its way; nothing; the right; the book; the pass]
-      use1 𝓛 (‵ (block_ways 𝓛 n h.label h.note)) (way_opens 𝓛 n h one) $ fsplit ! $ move ! (1 ∷ []) $ rewrite ! 0 (λ (c : ℕ). ‵ (note_in n.store c h.note)) cell refl $ move ! (1 ∷ []) $ fsplit ! $ move ! (5 ∷ 4 ∷ 1 ∷ []) $
+      use1 𝓛 (‵ (block_ways 𝓛 n h.label h.note)) (way_opens 𝓛 n h one) $ fsplit ! $ move ! (1 ∷ []) $ rewrite ! 0 (λ (c : ℕ). ‵ (cell_token c h.note)) cell refl $ move ! (1 ∷ []) $ fsplit ! $ move ! (5 ∷ 4 ∷ 1 ∷ []) $
       -- [the book; the right; the loan; where it leads; the note; nothing; the pass]
       use3 𝓛 (later (some (λ (t : ℕ × (ℕ × Gv)). given (Carries v t.0 t.1.1) (‵ (knows n) ⊛ ‵ (rights_own n (h ∷ [])) ⊛ ‵ (ticket_owns t.0 (lent t.1.0 t.1.1)) ⊛ ‵ (pool_owns t.0 t.1.0 t.1.1))))) (loan_back (rights_own n (h ∷ [])) v (of_unnamed h v one its unnamed) (loan_of v) lent_) $ await ! tt $ pick ! (λ t. learn ! (λ carries. split ! $ move ! (1 ∷ []) $ split3 ! $
       -- [the right; the ticket; the pool; the book; where it leads; the note; nothing; the pass]

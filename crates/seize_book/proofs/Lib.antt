@@ -47,7 +47,7 @@ pub mod Apart
 pub mod Further
 pub mod Once
 pub mod Meets
-pub mod Turns
+pub mod Porters
 pub mod Learning
 pub mod Borrowed
 pub mod Periods

@@ -3,13 +3,13 @@ use Rattle.std.proofs.Common.{◌≢◌, arith, ◌≡◌, ℕ, Bool, true, fals
 use mathlib.Core.List.{IsPrefix, append_cancel_left, cons≢nil}
 use Rattle.std.proofs.lemmas.List.{map-append}
 use Rattle.std.proofs.lemmas.List.Elements.{filter-append}
-use Rattle.seize_machine.specs.Machine.State.{State, linked, are_distinct}
+use Rattle.seize_machine.specs.Machine.State.{State, linked_values, are_distinct}
 use Rattle.seize_machine.specs.Machine.Next.{next}
 use Rattle.seize_machine.specs.Machine.History.{Timed, IsReached, done_by, or_illegal, Legal, answers_of, are_legal, end_of, history}
 use Rattle.seize_machine.specs.declared.machine.event.Answer.{Answer}
 use Rattle.seize_machine.specs.declared.machine.event.Answer.TheVariants.{Done}
 use Rattle.seize_machine.proofs.Facts.{one_more, opening_reached, reached_by, some_is, taken_apart}
-use Rattle.seize_book.specs.Entry.{Entry, Made, Used, Deed, Use, deeds, maker, timed, events_of}
+use Rattle.seize_book.specs.Entry.{Entry, Made, Used, Deed, Use, deeds, maker, timed_deed, events_of}
 use Rattle.seize_book.specs.Book.{moments, after, IsLegalList, outcome, Does, answered, mine}
 use Rattle.seize_book.specs.Tokens.{Name, start}
 
@@ -25,8 +25,8 @@ deeds_used log u = deeds_append log (Used u ∷ []) ∙ append-nil (deeds log)
 pub deeds_prefix : (a b : List Entry) → IsPrefix a b → IsPrefix (deeds a) (deeds b)
 deeds_prefix a b p = (deeds p.0, sym (deeds_append a p.0) ∙ ap deeds p.1)
 
-events_push : (log : List Entry) (d : Deed) → events_of (log ++ Made d ∷ []) ≡ events_of log ++ timed d ∷ []
-events_push log d = ap (map timed) (deeds_append log (Made d ∷ [])) ∙ map-append timed (deeds log) (d ∷ [])
+events_push : (log : List Entry) (d : Deed) → events_of (log ++ Made d ∷ []) ≡ events_of log ++ timed_deed d ∷ []
+events_push log d = ap (map timed_deed) (deeds_append log (Made d ∷ [])) ∙ map-append timed_deed (deeds log) (d ∷ [])
 
 pub as_legal : (st : State) (log : List Entry) → IsLegalList st log → Legal next st (events_of log) (answers_of (moments st log)) (after st log)
 as_legal st log l = record { legal = l; answers_are = refl; end_is = refl }
@@ -35,33 +35,33 @@ longer : (st : State) (log : List Entry) (x : Deed) (d : State × Answer) → Is
     → Legal next st (events_of (log ++ Made x ∷ [])) (answers_of (moments st log) ++ d.1 ∷ []) d.0
 longer st log x d l h =
     subst (λ (ts : List Timed). Legal next st ts (answers_of (moments st log) ++ d.1 ∷ []) d.0) (sym (events_push log x))
-    (one_more st (after st log) d.0 (events_of log) (answers_of (moments st log)) (timed x) d.1 (as_legal st log l) h)
+    (one_more st (after st log) d.0 (events_of log) (answers_of (moments st log)) (timed_deed x) d.1 (as_legal st log l) h)
 
 pub legal_push : (st : State) (log : List Entry) (e : Entry) (d : State × Answer) → IsLegalList st log → Does st log e d → IsLegalList st (log ++ e ∷ [])
 legal_push st log (Made x) d l h = (longer st log x d l h).legal
-legal_push st log (Used u) d l h = subst (λ (ds : List Deed). are_legal (history next st (map timed ds)) ≡ true) (sym (deeds_used log u)) l
+legal_push st log (Used u) d l h = subst (λ (ds : List Deed). are_legal (history next st (map timed_deed ds)) ≡ true) (sym (deeds_used log u)) l
 
 pub after_used : (st : State) (log : List Entry) (u : Use) → after st (log ++ Used u ∷ []) ≡ after st log
-after_used st log u = ap (λ (ds : List Deed). end_of st (history next st (map timed ds))) (deeds_used log u)
+after_used st log u = ap (λ (ds : List Deed). end_of st (history next st (map timed_deed ds))) (deeds_used log u)
 
 pub after_push : (st : State) (log : List Entry) (e : Entry) (d : State × Answer) → IsLegalList st log → Does st log e d → after st (log ++ e ∷ []) ≡ d.0
 after_push st log (Made x) d l h = (longer st log x d l h).end_is
 after_push st log (Used u) d l h = after_used st log u ∙ ap (λ (x : State × Answer). x.0) (some_is _ _ h)
 
 -- it leads to a state that the machine reaches
-pub reached_after : (n : Name) (log : List Entry) → are_distinct (linked n.links) ≡ true → IsLegalList (start n) log → IsReached (after (start n) log)
+pub reached_after : (n : Name) (log : List Entry) → are_distinct (linked_values n.links) ≡ true → IsLegalList (start n) log → IsReached (after (start n) log)
 reached_after n log distinct l = reached_by (events_of log) (start n) (after (start n) log) (answers_of (moments (start n) log)) (opening_reached n.slots n.links distinct) (as_legal (start n) log l)
 
 -- a legal list is legal without its last entry
 pub legal_front : (st : State) (log : List Entry) (e : Entry) → IsLegalList st (log ++ e ∷ []) → IsLegalList st log
 legal_front st log (Made x) l =
-    (taken_apart st (after st (log ++ Made x ∷ [])) (events_of log) (timed x ∷ []) (answers_of (moments st (log ++ Made x ∷ [])))
+    (taken_apart st (after st (log ++ Made x ∷ [])) (events_of log) (timed_deed x ∷ []) (answers_of (moments st (log ++ Made x ∷ [])))
     (subst (λ (ts : List Timed). Legal next st ts (answers_of (moments st (log ++ Made x ∷ []))) (after st (log ++ Made x ∷ []))) (events_push log x) (as_legal st (log ++ Made x ∷ []) l))).1.legal
-legal_front st log (Used u) l = subst (λ (ds : List Deed). are_legal (history next st (map timed ds)) ≡ true) (deeds_used log u) l
+legal_front st log (Used u) l = subst (λ (ds : List Deed). are_legal (history next st (map timed_deed ds)) ≡ true) (deeds_used log u) l
 
 answered_any : (st : State) (log : List Entry) (e : Entry) → answered st (log ++ e ∷ []) ≡ answered st log ++ (e, (or_illegal (after st log) (outcome (after st log) e)).1) ∷ []
 answered_any st [] e = refl
-answered_any st (Made x ∷ log) e = ap (λ (more : List (Entry × Answer)). (Made x, (done_by next st (timed x)).1) ∷ more) (answered_any (done_by next st (timed x)).0 log e)
+answered_any st (Made x ∷ log) e = ap (λ (more : List (Entry × Answer)). (Made x, (done_by next st (timed_deed x)).1) ∷ more) (answered_any (done_by next st (timed_deed x)).0 log e)
 answered_any st (Used u ∷ log) e = ap (λ (more : List (Entry × Answer)). (Used u, Done) ∷ more) (answered_any st log e)
 
 answered_push : (st : State) (log : List Entry) (e : Entry) (d : State × Answer) → Does st log e d → answered st (log ++ e ∷ []) ≡ answered st log ++ (e, d.1) ∷ []
@@ -85,7 +85,7 @@ selected_in test st log e d h is = ap (filter test) (answered_push st log e d h)
 -- a list that goes on
 answered_append : (st : State) (a b : List Entry) → answered st (a ++ b) ≡ answered st a ++ answered (after st a) b
 answered_append st [] b = refl
-answered_append st (Made x ∷ a) b = ap (λ (more : List (Entry × Answer)). (Made x, (done_by next st (timed x)).1) ∷ more) (answered_append (done_by next st (timed x)).0 a b)
+answered_append st (Made x ∷ a) b = ap (λ (more : List (Entry × Answer)). (Made x, (done_by next st (timed_deed x)).1) ∷ more) (answered_append (done_by next st (timed_deed x)).0 a b)
 answered_append st (Used u ∷ a) b = ap (λ (more : List (Entry × Answer)). (Used u, Done) ∷ more) (answered_append st a b)
 
 mine_append : (st : State) (p : ℕ) (a b : List Entry) → mine st p (a ++ b) ≡ mine st p a ++ mine (after st a) p b
@@ -112,8 +112,3 @@ equal x y e = grind arith
 
 pub unequal : (x y : ℕ) → x ≢ y → (x == y) ≡ false
 unequal x y n = grind arith
-
--- the store where the blocks of a book lie, if they lie in one
-pub the_store : (o : Option (List ℕ)) → is_some o ≡ true → (store : List ℕ) × (o ≡ Some store)
-the_store None h = absurd (cc)
-the_store (Some store) h = (store, refl)

@@ -17,9 +17,9 @@ use Rattle.seize_machine.specs.Machine.History.{Moment, are_legal, done_by, or_i
 use Rattle.seize_machine.specs.Machine.Frames.{changes_head_of, changes_slot}
 use Rattle.seize_machine.specs.declared.machine.event.Answer.{Answer}
 use Rattle.seize_machine.proofs.Facts.{Step, step_of, head_frame, is_true, eq_true, and_true, some_is}
-use Rattle.seize_book.specs.Entry.{Entry, Made, Used, Deed, deeds, timed}
+use Rattle.seize_book.specs.Entry.{Entry, Made, Used, Deed, deeds, timed_deed}
 use Rattle.seize_book.specs.Book.{Kept, TheSlot, acts, by_slot, moments, outcome, IsLegalList}
-use Rattle.seize_book.specs.Laws.{AllParted, starts, life_from, life, lives_after, ended_by, ended_from, ended_in, ended, none_alive, IsIn, AllOver}
+use Rattle.seize_book.specs.Laws.{AllParted, starts, life_from, life, lives_after, ended_by, ended_from, ended_in, ended, none_alive, IsAmong, AllOver}
 use Rattle.seize_book.specs.Tokens.{over}
 use Rattle.seize_book.proofs.Handed.{entry_of, moments_of, state_of}
 use Rattle.seize_book.proofs.Lists.{deeds_append, deeds_prefix, deeds_used}
@@ -30,16 +30,16 @@ IsLegalRun st ds = are_legal (moments_of st ds) ≡ true
 
 -- the first of them
 legal_one : (st : State) (e : Deed) (ds : List Deed) → IsLegalRun st (e ∷ ds)
-    → (d : State × Answer) × (next e.size st e.event ≡ Some d) × (done_by next st (timed e) ≡ d) × IsLegalRun d.0 ds
+    → (d : State × Answer) × (next e.size st e.event ≡ Some d) × (done_by next st (timed_deed e) ≡ d) × IsLegalRun d.0 ds
 legal_one st e ds l = go (next e.size st e.event) refl
   where
-    go : (o : Option (State × Answer)) → next e.size st e.event ≡ o → (d : State × Answer) × (next e.size st e.event ≡ Some d) × (done_by next st (timed e) ≡ d) × IsLegalRun d.0 ds
-    go Option.None n = let none : is_legal (done_by next st (timed e)).1 ≡ false = ap (λ o. is_legal (or_illegal st o).1) n in absurd (let x : true ≡ false = sym (and_true _ _ l).0 ∙ none in cc)
-    go (Some d) n = let is : done_by next st (timed e) ≡ d = ap (or_illegal st) n in (d, n, is, subst (λ (x : State × Answer). IsLegalRun x.0 ds) is (and_true _ _ l).1)
+    go : (o : Option (State × Answer)) → next e.size st e.event ≡ o → (d : State × Answer) × (next e.size st e.event ≡ Some d) × (done_by next st (timed_deed e) ≡ d) × IsLegalRun d.0 ds
+    go Option.None n = let none : is_legal (done_by next st (timed_deed e)).1 ≡ false = ap (λ o. is_legal (or_illegal st o).1) n in absurd (let x : true ≡ false = sym (and_true _ _ l).0 ∙ none in cc)
+    go (Some d) n = let is : done_by next st (timed_deed e) ≡ d = ap (or_illegal st) n in (d, n, is, subst (λ (x : State × Answer). IsLegalRun x.0 ds) is (and_true _ _ l).1)
 
 -- the first event of a legal list
 pub legal_first : (st : State) (e : Deed) (log : List Entry) → IsLegalList st (Made e ∷ log)
-    → (d : State × Answer) × (next e.size st e.event ≡ Some d) × (done_by next st (timed e) ≡ d) × IsLegalList d.0 log
+    → (d : State × Answer) × (next e.size st e.event ≡ Some d) × (done_by next st (timed_deed e) ≡ d) × IsLegalList d.0 log
 legal_first st e log l = legal_one st e (deeds log) l
 
 -- a head that was active, where something else is put that is active
@@ -110,24 +110,24 @@ ends_after st log a t zero p f l on le h out = ends_first st log a t p f l on h 
 ends_after st [] a t (suc i) p f l on le h out = absurd (cc)
 ends_after st (x ∷ log) a t (suc i) zero f l on le h out = absurd (omega arith)
 ends_after st (x ∷ log) a t (suc i) (suc p) f l on le h out =
-    one_on a t i x log _ (ends_after (done_by next st (timed x)).0 log (if starts t x.event then x.life else a) t i p f (and_true _ _ l).1 on (omega arith) h out)
+    one_on a t i x log _ (ends_after (done_by next st (timed_deed x)).0 log (if starts t x.event then x.life else a) t i p f (and_true _ _ l).1 on (omega arith) h out)
 
 -- what a SwapOut ends is among what has ended
-pub in_right : (xs ys : List ℕ) (b : ℕ) → IsIn ys b → IsIn (xs ++ ys) b
+pub in_right : (xs ys : List ℕ) (b : ℕ) → IsAmong ys b → IsAmong (xs ++ ys) b
 in_right [] ys b h = h
 in_right (x ∷ xs) ys b h = inr (in_right xs ys b h)
 
-pub is_ended : (lives : ℕ → ℕ) (log : List Deed) (t q : ℕ) (g : Deed) → slice_get log q ≡ Some g → is_swap_out t g.event ≡ true → IsIn (ended_from lives log) (life_from (lives t) t (take q log))
+pub is_ended : (lives : ℕ → ℕ) (log : List Deed) (t q : ℕ) (g : Deed) → slice_get log q ≡ Some g → is_swap_out t g.event ≡ true → IsAmong (ended_from lives log) (life_from (lives t) t (take q log))
 is_ended lives [] t q g h out = absurd (cc)
 is_ended lives (x ∷ log) t zero g h out = go x.event (ap (λ (e : Deed). is_swap_out t e.event) (some_is _ _ h) ∙ out)
   where
-    go : (event : Event) → is_swap_out t event ≡ true → IsIn (ended_by lives event ++ ended_from (lives_after lives x) log) (lives t)
+    go : (event : Event) → is_swap_out t event ≡ true → IsAmong (ended_by lives event ++ ended_from (lives_after lives x) log) (lives t)
     go (Event.SwapOut s) o = inl (ap lives (eq_true s t o))
     go _ o = absurd (cc)
 is_ended lives (x ∷ log) t (suc q) g h out = in_right (ended_by lives x.event) (ended_from (lives_after lives x) log) _ (is_ended (lives_after lives x) log t q g h out)
 
 -- a slot that found something in a link was active
-was_active : (st : State) (t : ℕ) (e : Deed) (v : ℕ) → is_link_event t e.event ≡ true → linked_value (done_by next st (timed e)).1 ≡ Some v → is_active (head_at st t) ≡ true
+was_active : (st : State) (t : ℕ) (e : Deed) (v : ℕ) → is_link_event t e.event ≡ true → linked_value (done_by next st (timed_deed e)).1 ≡ Some v → is_active (head_at st t) ≡ true
 was_active st t e v own h = go (next e.size st e.event) refl h
   where
     link : (s l : ℕ) → can_link st s l ≡ true → (s == t) ≡ true → is_active (head_at st t) ≡ true
@@ -152,7 +152,7 @@ all_over st log v l parted a r =
     let active : is_active (head_at (state_of st (take i (deeds log))) t) ≡ true =
     was_active (state_of st (take i (deeds log))) t found.0 v (ap (λ (m : Moment). is_link_event t m.timed.event) (sym found.2) ∙ f.2) (ap (λ (m : Moment). linked_value m.answer) (sym found.2) ∙ f.3) in
     let x = ends_after st (deeds log) 0 t i p out.0 l active (omega arith) out.1 (ap (λ (m : Moment). is_swap_out t m.timed.event) (sym out.2) ∙ (w.3).2) in
-    subst (IsIn (ended log)) (x.alive ∙ sym r.3) (is_ended none_alive (deeds log) t x.at x.entry x.there x.out)
+    subst (IsAmong (ended log)) (x.alive ∙ sym r.3) (is_ended none_alive (deeds log) t x.at x.entry x.there x.out)
 
 -- what an event adds to what has ended
 lives_by : (ℕ → ℕ) → List Deed → ℕ → ℕ
@@ -172,18 +172,18 @@ lives_are lives [] t = refl
 lives_are lives (e ∷ ds) t = lives_are (lives_after lives e) ds t
 
 -- what has ended stays so
-in_grows : (xs ys zs : List ℕ) (b : ℕ) → (IsIn ys b → IsIn zs b) → IsIn (xs ++ ys) b → IsIn (xs ++ zs) b
+in_grows : (xs ys zs : List ℕ) (b : ℕ) → (IsAmong ys b → IsAmong zs b) → IsAmong (xs ++ ys) b → IsAmong (xs ++ zs) b
 in_grows [] ys zs b f h = f h
 in_grows (x ∷ xs) ys zs b f (inl e) = inl e
 in_grows (x ∷ xs) ys zs b f (inr h) = inr (in_grows xs ys zs b f h)
 
-ended_more : (lives : ℕ → ℕ) (ds more : List Deed) (b : ℕ) → IsIn (ended_from lives ds) b → IsIn (ended_from lives (ds ++ more)) b
+ended_more : (lives : ℕ → ℕ) (ds more : List Deed) (b : ℕ) → IsAmong (ended_from lives ds) b → IsAmong (ended_from lives (ds ++ more)) b
 ended_more lives [] more b h = absurd h
 ended_more lives (e ∷ ds) more b h = in_grows (ended_by lives e.event) _ _ b (ended_more (lives_after lives e) ds more b) h
 
-pub ended_grows : (log log' : List Entry) (b : ℕ) → IsPrefix log log' → IsIn (ended log) b → IsIn (ended log') b
+pub ended_grows : (log log' : List Entry) (b : ℕ) → IsPrefix log log' → IsAmong (ended log) b → IsAmong (ended log') b
 ended_grows log log' b grows h =
-    let p = deeds_prefix log log' grows in subst (λ (ds : List Deed). IsIn (ended_from none_alive ds) b) p.1 (ended_more none_alive (deeds log) p.0 b h)
+    let p = deeds_prefix log log' grows in subst (λ (ds : List Deed). IsAmong (ended_from none_alive ds) b) p.1 (ended_more none_alive (deeds log) p.0 b h)
 
 -- and with one entry more
 ended_push : (log : List Entry) (e : Entry) → ended (log ++ e ∷ []) ≡ ended log ++ ended_in (lives_by none_alive (deeds log)) e
@@ -201,11 +201,11 @@ out_ended : (log : List Entry) (e : Deed) (s : ℕ) → e.event ≡ SwapOut s �
 out_ended log e s is =
     ended_push log (Made e) ∙ ap (λ (x : Event). ended log ++ ended_by (lives_by none_alive (deeds log)) x) is ∙ ap (λ (x : ℕ). ended log ++ x ∷ []) (lives_are none_alive (deeds log) s)
 
-is_in : (xs : List ℕ) (x : ℕ) → IsIn xs x ⊎ ¬ (IsIn xs x)
+is_in : (xs : List ℕ) (x : ℕ) → IsAmong xs x ⊎ ¬ (IsAmong xs x)
 is_in [] x = inr (λ t. t)
 is_in (y ∷ xs) x = go (ℕ_discrete y x) (is_in xs x)
   where
-    go : Dec (y ≡ x) → IsIn xs x ⊎ ¬ (IsIn xs x) → IsIn (y ∷ xs) x ⊎ ¬ (IsIn (y ∷ xs) x)
+    go : Dec (y ≡ x) → IsAmong xs x ⊎ ¬ (IsAmong xs x) → IsAmong (y ∷ xs) x ⊎ ¬ (IsAmong (y ∷ xs) x)
     go (yes e) rest = inl (inl e)
     go (no n) rest = ⊎_elim (λ t. inl (inr t)) (λ m. inr (⊎_elim n m)) rest
 
@@ -254,7 +254,7 @@ life_by_slot st s log = from st 0 log
 
     from : (st : State) (a : ℕ) (log : List Entry) → life_from a s (deeds log) ≡ lives_in a s (by_slot st s log)
     from st a [] = refl
-    from st a (Made e ∷ log) = one st a (Made e) log (λ b. from (done_by next st (timed e)).0 b log)
+    from st a (Made e ∷ log) = one st a (Made e) log (λ b. from (done_by next st (timed_deed e)).0 b log)
     from st a (Used u ∷ log) = one st a (Used u) log (λ b. from st b log)
 
 pub life_kept : (st : State) (s : ℕ) (a b : List Entry) → Kept st TheSlot s a b → life s a ≡ life s b
@@ -276,7 +276,7 @@ module _ {M : Type 1} {𝓤 : Ura M} (𝓛 : Logic 𝓤) where
 
   infix 26 ◌⊢◌
   infixr 35 ◌∗◌
-  pub over_one : (xs : List ℕ) (b : ℕ) → IsIn xs b → ⟦ over xs ⟧ ⊢ ⟦ over xs ⟧ ∗ ⟦ fdead (b ∷ []) ⟧
+  pub over_one : (xs : List ℕ) (b : ℕ) → IsAmong xs b → ⟦ over xs ⟧ ⊢ ⟦ over xs ⟧ ∗ ⟦ fdead (b ∷ []) ⟧
   over_one [] b h = absurd h
   over_one (x ∷ xs) b (inl e) = qed 𝓛 (‵ (fdead (x ∷ [])) ∷ ‵ (over xs) ∷ []) ∵ use1 𝓛 (‵ (fdead (x ∷ [])) ⊛ ‵ (fdead (x ∷ []))) (𝓛.lfts.dead_dup (x ∷ [])) $ split ! $
       rewrite ! 1 (λ (z : ℕ). ‵ (fdead (z ∷ []))) e refl $ move ! (0 ∷ 2 ∷ []) $ fjoin ! $ done !
@@ -295,19 +295,19 @@ module _ {M : Type 1} {𝓤 : Ura M} (𝓛 : Logic 𝓤) where
       rewrite ! 0 (λ (l : List ℕ). ‵ (over l)) (sym (out_ended log e s is)) refl $ done !
 
   -- an entry that ends no activation but one of these lifetimes, which are over
-  pub ends_those : (log : List Entry) (e : Entry) (lives : List ℕ) → ((a : ℕ) → IsIn (ended_in (λ s. life s log) e) a → IsIn lives a)
+  pub ends_those : (log : List Entry) (e : Entry) (lives : List ℕ) → ((a : ℕ) → IsAmong (ended_in (λ s. life s log) e) a → IsAmong lives a)
       → ⟦ over (ended log) ⟧ ∗ ⟦ over lives ⟧ ⊢ ⟦ over (ended (log ++ e ∷ [])) ⟧
   ends_those log e lives among = by_entry e among
     where
       none : (e : Entry) → EndsNothing e → ⟦ over (ended log) ⟧ ∗ ⟦ over lives ⟧ ⊢ ⟦ over (ended (log ++ e ∷ [])) ⟧
       none e ends = qed 𝓛 (‵ (over (ended log)) ∷ ‵ (over lives) ∷ []) ∵ rewrite ! 0 (λ (l : List ℕ). ‵ (over l)) (sym (same_ended log e ends)) refl $ keep ! (0 ∷ []) $ done !
 
-      go : (d : Deed) (x : Event) → d.event ≡ x → ((a : ℕ) → IsIn (ended_by (λ s. life s log) x) a → IsIn lives a) → ⟦ over (ended log) ⟧ ∗ ⟦ over lives ⟧ ⊢ ⟦ over (ended (log ++ Made d ∷ [])) ⟧
+      go : (d : Deed) (x : Event) → d.event ≡ x → ((a : ℕ) → IsAmong (ended_by (λ s. life s log) x) a → IsAmong lives a) → ⟦ over (ended log) ⟧ ∗ ⟦ over lives ⟧ ⊢ ⟦ over (ended (log ++ Made d ∷ [])) ⟧
       go d (Event.SwapOut s) is among = qed 𝓛 (‵ (over (ended log)) ∷ ‵ (over lives) ∷ []) ∵ move ! (1 ∷ []) $ use1 𝓛 (‵ (over lives) ⊛ ‵ (fdead (life s log ∷ []))) (over_one lives (life s log) (among (life s log) (inl refl))) $ split ! $
           move ! (2 ∷ 1 ∷ []) $ use2 𝓛 (‵ (over (ended (log ++ Made d ∷ [])))) (leaves log d s is) $ keep ! (0 ∷ []) $ done !
       go d _ is among = none (Made d) (λ alive. ap (ended_by alive) is)
 
-      by_entry : (e : Entry) → ((a : ℕ) → IsIn (ended_in (λ s. life s log) e) a → IsIn lives a) → ⟦ over (ended log) ⟧ ∗ ⟦ over lives ⟧ ⊢ ⟦ over (ended (log ++ e ∷ [])) ⟧
+      by_entry : (e : Entry) → ((a : ℕ) → IsAmong (ended_in (λ s. life s log) e) a → IsAmong lives a) → ⟦ over (ended log) ⟧ ∗ ⟦ over lives ⟧ ⊢ ⟦ over (ended (log ++ e ∷ [])) ⟧
       by_entry (Made d) among = go d d.event refl among
       by_entry (Used u) among = none (Used u) (λ alive. refl)
 
@@ -323,20 +323,20 @@ module _ {M : Type 1} {𝓤 : Ura M} (𝓛 : Logic 𝓤) where
   living (a ∷ alive) q = fsep (flft (a ∷ []) q) (living alive q)
 
   -- whoever has them knows that none of these is over
-  pub none_over : (alive xs : List ℕ) (q : Share) → ⟦ over xs ⟧ ∗ ⟦ living alive q ⟧ ⊢ guard 𝓤 ((a : ℕ) → IsIn alive a → ¬ (IsIn xs a)) (⟦ over xs ⟧ ∗ ⟦ living alive q ⟧)
-  none_over [] xs q = guard_i 𝓤 ((a : ℕ) → IsIn [] a → ¬ (IsIn xs a)) (⟦ over xs ⟧ ∗ ⟦ ftrue ⟧) (λ a t. absurd t)
+  pub none_over : (alive xs : List ℕ) (q : Share) → ⟦ over xs ⟧ ∗ ⟦ living alive q ⟧ ⊢ guard 𝓤 ((a : ℕ) → IsAmong alive a → ¬ (IsAmong xs a)) (⟦ over xs ⟧ ∗ ⟦ living alive q ⟧)
+  none_over [] xs q = guard_i 𝓤 ((a : ℕ) → IsAmong [] a → ¬ (IsAmong xs a)) (⟦ over xs ⟧ ∗ ⟦ ftrue ⟧) (λ a t. absurd t)
   none_over (x ∷ alive) xs q = go (is_in xs x) (none_over alive xs q)
     where
       Told : Type 0
-      Told = (a : ℕ) → IsIn (x ∷ alive) a → ¬ (IsIn xs a)
+      Told = (a : ℕ) → IsAmong (x ∷ alive) a → ¬ (IsAmong xs a)
 
-      also : ¬ (IsIn xs x) → ((a : ℕ) → IsIn alive a → ¬ (IsIn xs a)) → (a : ℕ) → IsIn (x ∷ alive) a → ¬ (IsIn xs a)
-      also n none a (inl e) = λ t. n (subst (IsIn xs) (sym e) t)
+      also : ¬ (IsAmong xs x) → ((a : ℕ) → IsAmong alive a → ¬ (IsAmong xs a)) → (a : ℕ) → IsAmong (x ∷ alive) a → ¬ (IsAmong xs a)
+      also n none a (inl e) = λ t. n (subst (IsAmong xs) (sym e) t)
       also n none a (inr t) = none a t
 
-      go : IsIn xs x ⊎ ¬ (IsIn xs x) → (⟦ over xs ⟧ ∗ ⟦ living alive q ⟧ ⊢ guard 𝓤 ((a : ℕ) → IsIn alive a → ¬ (IsIn xs a)) (⟦ over xs ⟧ ∗ ⟦ living alive q ⟧))
+      go : IsAmong xs x ⊎ ¬ (IsAmong xs x) → (⟦ over xs ⟧ ∗ ⟦ living alive q ⟧ ⊢ guard 𝓤 ((a : ℕ) → IsAmong alive a → ¬ (IsAmong xs a)) (⟦ over xs ⟧ ∗ ⟦ living alive q ⟧))
           → ⟦ over xs ⟧ ∗ ⟦ living (x ∷ alive) q ⟧ ⊢ guard 𝓤 Told (⟦ over xs ⟧ ∗ ⟦ living (x ∷ alive) q ⟧)
       go (inl t) rest = qed 𝓛 (‵ (over xs) ∷ (‵ (flft (x ∷ []) q) ⊛ ‵ (living alive q)) ∷ []) ∵ use1 𝓛 (‵ (over xs) ⊛ ‵ (fdead (x ∷ []))) (over_one xs x t) $ split ! $ move ! (2 ∷ []) $ split ! $ move ! (0 ∷ 3 ∷ []) $
           use2 𝓛 (raw (never 𝓤)) (𝓛.lfts.lft-dead (x ∷ []) q) $ keep ! (0 ∷ []) $ by ! (never_e 𝓤 _)
       go (inr n) rest = qed 𝓛 (‵ (over xs) ∷ (‵ (flft (x ∷ []) q) ⊛ ‵ (living alive q)) ∷ []) ∵ move ! (1 ∷ []) $ split ! $ move ! (2 ∷ 1 ∷ []) $
-          use2 𝓛 (given ((a : ℕ) → IsIn alive a → ¬ (IsIn xs a)) (‵ (over xs) ⊛ ‵ (living alive q))) rest $ learn ! (λ none. check ! (also n none) $ split ! $ move ! (2 ∷ 1 ∷ []) $ fjoin ! $ move ! (1 ∷ 0 ∷ []) $ done !)
+          use2 𝓛 (given ((a : ℕ) → IsAmong alive a → ¬ (IsAmong xs a)) (‵ (over xs) ⊛ ‵ (living alive q))) rest $ learn ! (λ none. check ! (also n none) $ split ! $ move ! (2 ∷ 1 ∷ []) $ fjoin ! $ move ! (1 ∷ 0 ∷ []) $ done !)

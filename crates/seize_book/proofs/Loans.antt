@@ -14,7 +14,7 @@ use Rattle.seize_machine.specs.Machine.Next.{next}
 use Rattle.seize_machine.specs.Machine.History.{IsReached, Moment, Found, done_by, is_link_event, linked_value, or_illegal}
 use Rattle.seize_machine.specs.declared.machine.event.Answer.{Answer}
 use Rattle.seize_machine.proofs.Facts.{Step, linked_named, reached_next, some_is, step_of}
-use Rattle.seize_book.specs.Entry.{Entry, entry_coded, Made, Used, Deed, deeds, timed}
+use Rattle.seize_book.specs.Entry.{Entry, entry_coded, Made, Used, Deed, deeds, timed_deed}
 use Rattle.seize_book.specs.Book.{moments, after, IsLegalList, Does}
 use Rattle.seize_book.specs.Laws.{Reader, life, life_from}
 use Rattle.seize_book.specs.Ledger.{logs, reached}
@@ -26,7 +26,7 @@ use Rattle.seize_book.proofs.Sound.{named_later}
 
 moments_long : (st : State) (log : List Entry) → length (moments st log) ≡ length (deeds log)
 moments_long st [] = refl
-moments_long st (Made e ∷ log) = ap suc (moments_long (done_by next st (timed e)).0 log)
+moments_long st (Made e ∷ log) = ap suc (moments_long (done_by next st (timed_deed e)).0 log)
 moments_long st (Used u ∷ log) = moments_long st log
 
 -- A reader of a list is one of each longer one.
@@ -47,7 +47,7 @@ take_whole (x ∷ xs) = ap (λ (l : List _). x ∷ l) (take_whole xs)
 
 moments_append : (st : State) (log more : List Entry) → moments st (log ++ more) ≡ moments st log ++ moments (after st log) more
 moments_append st [] more = refl
-moments_append st (Made e ∷ log) more = ap (λ (ms : List Moment). moment st e ∷ ms) (moments_append (done_by next st (timed e)).0 log more)
+moments_append st (Made e ∷ log) more = ap (λ (ms : List Moment). moment st e ∷ ms) (moments_append (done_by next st (timed_deed e)).0 log more)
 moments_append st (Used u ∷ log) more = moments_append st log more
 
 pub reader_later : (st : State) (log log' : List Entry) (v a : ℕ) → IsPrefix log log' → Reader st log v a → Reader st log' v a
@@ -88,7 +88,7 @@ found_named st (Made e ∷ log) s v zero r legal f =
     named_later st [] (Made e ∷ log) v (Made e ∷ log, refl) legal (found_first s v e.size st e.event d r step own value)
 found_named st (Made e ∷ log) s v (suc i) r legal f =
     let w = legal_first st e log legal in let d : State × Answer = w.0 in
-    let r' : IsReached d.0 = reached_next st (timed e) d r w.1 in
+    let r' : IsReached d.0 = reached_next st (timed_deed e) d r w.1 in
     let f' : Found (moments d.0 log) s v i = subst (λ (x : State × Answer). Found (moments x.0 log) s v i) w.2 (f.0, f.1, f.2, f.3) in
     subst (λ (x : State × Answer). has v (after x.0 log).named ≡ true) (sym w.2) (found_named d.0 log s v i r' w.3 f')
 
@@ -106,7 +106,7 @@ found_now st log e d s w does own is = (length (deeds log), s, (moment (after st
     last = ap (λ (ms : List Moment). slice_get ms (length (deeds log))) (moments_push st log e)
         ∙ (ap (λ (n : ℕ). slice_get (moments st log ++ moment (after st log) e ∷ []) n) (sym (moments_long st log)) ∙ get_last (moments st log) (moment (after st log) e))
 
-    answered : linked_value (done_by next (after st log) (timed e)).1 ≡ Some w
+    answered : linked_value (done_by next (after st log) (timed_deed e)).1 ≡ Some w
     answered = ap (λ o. linked_value (or_illegal (after st log) o).1) does ∙ is
 
     alive : life s log ≡ life_from 0 s (take (length (deeds log)) (deeds (log ++ Made e ∷ [])))

@@ -8,19 +8,20 @@ use types.Logic.{Logic, sem}
 use types.Growing.{at_least_dup}
 use types.Kit.{‵, raw, later, updating, await, now, settle, keep, ◌⊛◌, some, given, ◌$◌, ◌∵◌, !, qed, move, drop, split, split3, join, fsplit, fjoin, fpick, fpack, pick, learn, show, check, frame, assume, rewrite, suffices, done, use1, use2, use3}
 use denote.Steps.{nothing}
-use Rattle.seize_machine.specs.Machine.State.{State, has, linked, are_distinct}
-use Rattle.seize_book.specs.Ledger.{Held, WithKinds, Known, logs, reached, renewed}
+use Rattle.seize_machine.specs.Machine.State.{State, has, linked_values, are_distinct}
+use Rattle.seize_book.specs.Ledger.{HeldKey, WithKinds, Known, logs, reached, renewed}
 use Rattle.seize_book.specs.Entry.{Entry, entry_coded}
 use denote.RawPtr.{Ptr}
 use Rattle.seize_store.specs.Known.{IsRowIn, known_row, tells as chunk_tells}
-use Rattle.seize_book.specs.Blocks.{block_of}
+use Rattle.seize_book.specs.Blocks.{block_number}
 use Rattle.seize_book.proofs.Sound.{named_later}
 use Rattle.seize_book.specs.Book.{after, IsLegalList, mine, rules, kinds}
 use Rattle.seize_book.specs.Fair.{Before, pass_key}
-use Rattle.seize_book.specs.Laws.{ended, IsIn}
+use Rattle.seize_book.specs.Laws.{ended, IsAmong}
 use Rattle.seize_book.specs.Passes.{LooksOn}
 use Rattle.seize_table.specs.Filled.{all_filled}
-use Rattle.seize_book.specs.Tokens.{AllLentIn, leads, leads_in, told_of, Name, rows, start, beside, inside, knows, all_lead, all_lie, all_lie_in, slot_labels, found, keys_own, rights_own, over, IsSole, gate_keeps, gate_gives, pass_at, pass_holds, pass_owns}
+use Rattle.seize_book.specs.Loans.{AllCarryOne}
+use Rattle.seize_book.specs.Tokens.{leads, chunk_tag, Name, rows, start, beside, inside, knows, all_lead, all_lie, slot_labels, places_known, keys_own, rights_own, over, IsSole, gate_keeps, gate_gives, pass_at, pass_holds, pass_owns}
 use Rattle.seize_book.proofs.Append.{Renewed, looks_beside, renews}
 use Rattle.seize_book.proofs.Gates.{agrees, gives_as}
 use Rattle.seize_book.proofs.Goes.{kept_now}
@@ -31,9 +32,9 @@ use Rattle.seize_book.proofs.Tables.{all_lie_twice}
 use Rattle.seize_book.proofs.Ways.{AreIn, found_lent, all_in, all_twice, one_leads, keys_apart, keys_whole, ways, ways_renewed}
 
 -- the pass has seen more, and nothing was made with it
-pub looked : (n : Name) (p : ℕ) (seen log : List Entry) → Before n p seen [] log → are_distinct (linked n.links) ≡ true → LooksOn (record { marker = record {}; name = n; id = p; seen = seen }) (record { marker = record {}; name = n; id = p; seen = log })
+pub looked : {size : ℕ} (n : Name) (p : ℕ) (seen log : List Entry) → Before n p seen [] log → are_distinct (linked_values n.links) ≡ true → LooksOn (record { marker = record {}; name = n; id = p; size = size; seen = seen }) (record { marker = record {}; name = n; id = p; size = size; seen = log })
 looked n p seen log before distinct = record {
-  same = (refl, refl);
+  same = (refl, refl, refl);
   none_made = before.none_made;
   grows = before.grows;
   alone = before.alone;
@@ -72,10 +73,10 @@ module _ {M : Type 1} {𝓤 : Ura M} (𝓛 : Logic 𝓤) (n : Name) (p : ℕ) wh
   abbrev gives : List Entry → Fml
   gives log = gate_gives n.gate p log
 
-  abbrev keys : List (Held Entry) → Fml
+  abbrev keys : List (HeldKey Entry) → Fml
   keys held = keys_own n held
 
-  abbrev rights : List (Held Entry) → Fml
+  abbrev rights : List (HeldKey Entry) → Fml
   rights held = rights_own n held
 
   -- nothing was made with the pass since the list was `own`
@@ -96,19 +97,19 @@ module _ {M : Type 1} {𝓤 : Ura M} (𝓛 : Logic 𝓤) (n : Name) (p : ℕ) wh
       -- [past; its key; nothing; what it has seen; its copy]
       move ! (4 ∷ 0 ∷ []) $ fjoin ! $ move ! (3 ∷ 0 ∷ []) $ fjoin ! $ move ! (1 ∷ 0 ∷ []) $ fjoin ! $ fpack ! (List Entry) (pass_at n p seen) own $ keep ! (0 ∷ []) $ done !
 
-  module _ (seen : List Entry) (held : List (Held Entry)) where
+  module _ (seen : List Entry) (held : List (HeldKey Entry)) where
     abbrev alone : List Entry → Type 0
-    alone log = IsSole n.gate p → log ≡ seen
+    alone log = IsSole p → log ≡ seen
 
     -- the gate tells a pass that is alone that it has seen all; and with each value that was named something is lent where it has to be
     abbrev Now : List Entry → Type 0
-    Now log = alone log × AllLentIn n (after st log).named
+    Now log = alone log × AllCarryOne (after st log).named
 
     tells : (own log : List Entry) → Known (rules st) (pass_key p own ∷ held) seen log → ⟦ beside n log ⟧ ∗ ⟦ gives seen ⟧ ⊢ guard 𝓤 (Now log) (⟦ beside n log ⟧ ∗ ⟦ gives seen ⟧)
     tells own log known = qed 𝓛 (‵ (beside n log) ∷ ‵ (gives seen) ∷ []) ∵ fsplit ! $ move ! (1 ∷ []) $ fsplit ! $ move ! (0 ∷ 3 ∷ []) $
         use2 𝓛 (given (alone log) (‵ (gate_keeps n.gate log) ⊛ ‵ (gives seen))) (agrees 𝓛 n.gate p log seen) $ learn ! (λ same. split ! $
         -- [the book's copy; the pass's; where all is found; what has ended]
-        move ! (2 ∷ []) $ use1 𝓛 (given (AllLentIn n (after st log).named) (‵ (found n (after st log)))) (found_lent 𝓛 n (after st log)) $ learn ! (λ lent. check ! (same, lent) $
+        move ! (2 ∷ []) $ use1 𝓛 (given (AllCarryOne (after st log).named) (‵ (places_known n (after st log)))) (found_lent 𝓛 n (after st log)) $ learn ! (λ lent. check ! (same, lent) $
         move ! (1 ∷ 0 ∷ []) $ fjoin ! $ move ! (2 ∷ 0 ∷ []) $ fjoin ! $ done !))
 
     before : (own log : List Entry) → mine st p own ≡ mine st p seen → Known (rules st) (pass_key p own ∷ held) seen log → Now log → Before n p seen held log
@@ -137,7 +138,7 @@ module _ {M : Type 1} {𝓤 : Ura M} (𝓛 : Logic 𝓤) (n : Name) (p : ℕ) wh
     -- The invariant is opened: what is brought tells more of what is found by the list, and more is had afterwards.
     module _ (Told : List Entry → Type 0) (X : Pr) (Y : List Entry → Pr) where
       abbrev all : List Entry → Fml
-      all log = found n (after st log)
+      all log = places_known n (after st log)
 
       abbrev pub Asks : Type 1
       Asks = (log : List Entry) → IsPrefix seen log → IsLegalList st log → ⟦ all log ⟧ ∗ X ⊢ guard 𝓤 (Told log) (⟦ all log ⟧ ∗ Y log)
@@ -147,7 +148,7 @@ module _ {M : Type 1} {𝓤 : Ura M} (𝓛 : Logic 𝓤) (n : Name) (p : ℕ) wh
           -- [the pass's copy; X; the book's copy; where all is found; what has ended]
           move ! (3 ∷ 1 ∷ []) $ use2 𝓛 (given (Told log) (‵ (all log) ⊛ raw (Y log))) (asks log known.1 known.0.0) $ learn ! (λ told. split ! $
           -- [where all is found; Y; the pass's copy; the book's; what has ended]
-          use1 𝓛 (given (AllLentIn n (after st log).named) (‵ (all log))) (found_lent 𝓛 n (after st log)) $ learn ! (λ lent.
+          use1 𝓛 (given (AllCarryOne (after st log).named) (‵ (all log))) (found_lent 𝓛 n (after st log)) $ learn ! (λ lent.
           move ! (3 ∷ 2 ∷ []) $ use2 𝓛 (given (alone log) (‵ (gate_keeps n.gate log) ⊛ ‵ (gives seen))) (agrees 𝓛 n.gate p log seen) $ learn ! (λ same. check ! ((same, lent), told) $ split ! $
           -- [the book's copy; the pass's; where all is found; Y; what has ended]
           move ! (0 ∷ 2 ∷ []) $ fjoin ! $ move ! (3 ∷ 0 ∷ []) $ fjoin ! $ move ! (1 ∷ 2 ∷ []) $ join ! $ move ! (1 ∷ 0 ∷ []) $ done !)))
@@ -195,7 +196,7 @@ module _ {M : Type 1} {𝓤 : Ura M} (𝓛 : Logic 𝓤) (n : Name) (p : ℕ) wh
     looks_now within = qed 𝓛 ((‵ (knows n) ⊛ ‵ (pass_holds n p seen)) ∷ ‵ (keys held) ∷ []) ∵ updating ! $ split ! $
         use1 𝓛 (given (IsDistinct 𝓛 n) (‵ (knows n))) (distinct_links 𝓛 n) $ learn ! (λ distinct. fjoin ! $ nothing ! $ move ! (1 ∷ 2 ∷ 0 ∷ []) $
         use3 𝓛 (later (some (λ (log : List Entry). given (Before n p seen held log × Unit {0}) (‵ (pass_owns n p log) ⊛ ‵ (keys (renewed held log)) ⊛ ‵ ftrue))))
-        (looks_with (λ _. Unit {0}) ⟦ ftrue ⟧ (λ _. ⟦ ftrue ⟧) (λ log grows legal. qed 𝓛 (‵ (found n (after st log)) ∷ ‵ ftrue ∷ []) ∵ check ! tt $ done !) within) $
+        (looks_with (λ _. Unit {0}) ⟦ ftrue ⟧ (λ _. ⟦ ftrue ⟧) (λ log grows legal. qed 𝓛 (‵ (places_known n (after st log)) ∷ ‵ ftrue ∷ []) ∵ check ! tt $ done !) within) $
         await ! tt $ pick ! (λ log. learn ! (λ so. split3 ! $ now ! $ show ! Looked log $ check ! (so.0, distinct) $ keep ! (0 ∷ 1 ∷ []) $ done !)))
 
   -- each value that was named lies in the block that a row shows at its number, if its number is one of the row's
@@ -205,7 +206,7 @@ module _ {M : Type 1} {𝓤 : Ura M} (𝓛 : Logic 𝓤) (n : Name) (p : ℕ) wh
   abbrev pub FoundHomes : List Entry → ℕ → List (Ptr × ℕ) → List Entry → Pr
   FoundHomes seen row chunks log = guard 𝓤 (Before n p seen [] log × SeesHomes row chunks log × IsDistinct 𝓛 n) ⟦ pass_owns n p log ⟧
 
-  pub finds : (seen : List Entry) (store : List ℕ) (row : ℕ) (chunks : List (Ptr × ℕ)) → IsRowIn store row chunks → n.store ≡ Some store
+  pub finds : (seen : List Entry) (store : List ℕ) (row : ℕ) (chunks : List (Ptr × ℕ)) → IsRowIn store row chunks → n.store ≡ store
       → ⟦ pass_owns n p seen ⟧ ∗ ⟦ known_row store row chunks ⟧ ⊢ H.⇛ (ex 𝓤 (FoundHomes seen row chunks))
   finds seen store row chunks made is = qed 𝓛 ((‵ (knows n) ⊛ ‵ (pass_holds n p seen)) ∷ ‵ (known_row store row chunks) ∷ []) ∵ updating ! $ split ! $
       use1 𝓛 (given (IsDistinct 𝓛 n) (‵ (knows n))) (distinct_links 𝓛 n) $ learn ! (λ distinct. fjoin ! $ nothing ! $ move ! (1 ∷ 0 ∷ 2 ∷ []) $
@@ -216,42 +217,42 @@ module _ {M : Type 1} {𝓤 : Ura M} (𝓛 : Logic 𝓤) (n : Name) (p : ℕ) wh
       await ! tt $ pick ! (λ log. learn ! (λ so. split3 ! $ now ! $ show ! (FoundHomes seen row chunks) log $ check ! (so.0, so.1, distinct) $ keep ! (0 ∷ []) $ done !)))
 
   -- where the number of a value leads that was named
-  abbrev pub FoundRow : List Entry → List ℕ → ℕ → List Entry → Pr
-  FoundRow seen store v log = guard 𝓤 (Before n p seen [] log × IsDistinct 𝓛 n) (⟦ pass_owns n p log ⟧ ∗ ⟦ chunk_tells store (block_of v) (told_of n v) ⟧)
+  abbrev pub FoundRow : List Entry → ℕ → List Entry → Pr
+  FoundRow seen v log = guard 𝓤 (Before n p seen [] log × IsDistinct 𝓛 n) (⟦ pass_owns n p log ⟧ ∗ ⟦ leads n v ⟧)
 
-  pub finds_row : (seen : List Entry) (store : List ℕ) (v : ℕ) → n.store ≡ Some store → has v (after st seen).named ≡ true → ⟦ pass_owns n p seen ⟧ ⊢ H.⇛ (ex 𝓤 (FoundRow seen store v))
-  finds_row seen store v is named = let L : Fml = chunk_tells store (block_of v) (told_of n v) in qed 𝓛 ((‵ (knows n) ⊛ ‵ (pass_holds n p seen)) ∷ []) ∵ updating ! $ split ! $
+  pub finds_row : (seen : List Entry) (v : ℕ) → has v (after st seen).named ≡ true → ⟦ pass_owns n p seen ⟧ ⊢ H.⇛ (ex 𝓤 (FoundRow seen v))
+  finds_row seen v named = let L : Fml = leads n v in qed 𝓛 ((‵ (knows n) ⊛ ‵ (pass_holds n p seen)) ∷ []) ∵ updating ! $ split ! $
       use1 𝓛 (given (IsDistinct 𝓛 n) (‵ (knows n))) (distinct_links 𝓛 n) $ learn ! (λ distinct. fjoin ! $ nothing ! $ nothing ! $ move ! (2 ∷ 0 ∷ 1 ∷ []) $
       use3 𝓛 (later (some (λ (log : List Entry). given (Before n p seen [] log × Unit {0}) (‵ (pass_owns n p log) ⊛ ‵ ftrue ⊛ ‵ L))))
       (looks_with seen [] (λ _. Unit {0}) ⟦ ftrue ⟧ (λ _. ⟦ L ⟧) (of_values seen [] (λ _. Unit {0}) ⟦ ftrue ⟧ (λ _. ⟦ L ⟧) leads_there) tt) $
-      await ! tt $ pick ! (λ log. learn ! (λ so. split3 ! $ now ! $ show ! (FoundRow seen store v) log $ check ! (so.0, distinct) $ keep ! (0 ∷ 2 ∷ []) $ done !)))
+      await ! tt $ pick ! (λ log. learn ! (λ so. split3 ! $ now ! $ show ! (FoundRow seen v) log $ check ! (so.0, distinct) $ keep ! (0 ∷ 2 ∷ []) $ done !)))
     where
-      leads_there : (log : List Entry) → IsPrefix seen log → IsLegalList st log → ⟦ all_lead n (after st log).named ⟧ ∗ ⟦ ftrue ⟧ ⊢ guard 𝓤 (Unit {0}) (⟦ all_lead n (after st log).named ⟧ ∗ ⟦ chunk_tells store (block_of v) (told_of n v) ⟧)
+      leads_there : (log : List Entry) → IsPrefix seen log → IsLegalList st log → ⟦ all_lead n (after st log).named ⟧ ∗ ⟦ ftrue ⟧ ⊢ guard 𝓤 (Unit {0}) (⟦ all_lead n (after st log).named ⟧ ∗ ⟦ leads n v ⟧)
       leads_there log grows legal = let vs : List ℕ = (after st log).named in qed 𝓛 (‵ (all_lead n vs) ∷ ‵ ftrue ∷ []) ∵ keep ! (0 ∷ []) $
           use1 𝓛 (‵ (all_lead n vs) ⊛ ‵ (all_lead n vs)) (all_twice 𝓛 n vs) $ split ! $
           use1 𝓛 (‵ (leads n v)) (one_leads 𝓛 n vs v (named_later st seen log v grows legal named)) $
-          rewrite ! 0 (λ (s : Option (List ℕ)). ‵ (leads_in s (block_of v) (told_of n v))) is refl $ check ! tt $ move ! (1 ∷ 0 ∷ []) $ done !
+          check ! tt $ move ! (1 ∷ 0 ∷ []) $ done !
 
   -- where the heads lie of all slots that there are
-  abbrev pub FoundSlots : List Entry → List ℕ → List Entry → Pr
-  FoundSlots seen table log = guard 𝓤 (Before n p seen [] log × IsDistinct 𝓛 n) (⟦ pass_owns n p log ⟧ ∗ ⟦ all_filled table (slot_labels n (length (after st log).slots)) ⟧)
+  abbrev pub FoundSlots : List Entry → List Entry → Pr
+  FoundSlots seen log = guard 𝓤 (Before n p seen [] log × IsDistinct 𝓛 n) (⟦ pass_owns n p log ⟧ ∗ ⟦ all_lie n (length (after st log).slots) ⟧)
 
-  pub finds_slots : (seen : List Entry) (table : List ℕ) → n.table ≡ Some table → ⟦ pass_owns n p seen ⟧ ⊢ H.⇛ (ex 𝓤 (FoundSlots seen table))
-  finds_slots seen table is = qed 𝓛 ((‵ (knows n) ⊛ ‵ (pass_holds n p seen)) ∷ []) ∵ updating ! $ split ! $
+  pub finds_slots : (seen : List Entry) → ⟦ pass_owns n p seen ⟧ ⊢ H.⇛ (ex 𝓤 (FoundSlots seen))
+  finds_slots seen = qed 𝓛 ((‵ (knows n) ⊛ ‵ (pass_holds n p seen)) ∷ []) ∵ updating ! $ split ! $
       use1 𝓛 (given (IsDistinct 𝓛 n) (‵ (knows n))) (distinct_links 𝓛 n) $ learn ! (λ distinct. fjoin ! $ nothing ! $ nothing ! $ move ! (2 ∷ 0 ∷ 1 ∷ []) $
-      use3 𝓛 (later (some (λ (log : List Entry). given (Before n p seen [] log × Unit {0}) (‵ (pass_owns n p log) ⊛ ‵ ftrue ⊛ ‵ (all_filled table (slot_labels n (length (after st log).slots)))))))
-      (looks_with seen [] (λ _. Unit {0}) ⟦ ftrue ⟧ (λ log. ⟦ all_filled table (slot_labels n (length (after st log).slots)) ⟧) lie_there tt) $
-      await ! tt $ pick ! (λ log. learn ! (λ so. split3 ! $ now ! $ show ! (FoundSlots seen table) log $ check ! (so.0, distinct) $ keep ! (0 ∷ 2 ∷ []) $ done !)))
+      use3 𝓛 (later (some (λ (log : List Entry). given (Before n p seen [] log × Unit {0}) (‵ (pass_owns n p log) ⊛ ‵ ftrue ⊛ ‵ (all_lie n (length (after st log).slots))))))
+      (looks_with seen [] (λ _. Unit {0}) ⟦ ftrue ⟧ (λ log. ⟦ all_lie n (length (after st log).slots) ⟧) lie_there tt) $
+      await ! tt $ pick ! (λ log. learn ! (λ so. split3 ! $ now ! $ show ! (FoundSlots seen) log $ check ! (so.0, distinct) $ keep ! (0 ∷ 2 ∷ []) $ done !)))
     where
       lie_there : (log : List Entry) → IsPrefix seen log → IsLegalList st log
-          → ⟦ found n (after st log) ⟧ ∗ ⟦ ftrue ⟧ ⊢ guard 𝓤 (Unit {0}) (⟦ found n (after st log) ⟧ ∗ ⟦ all_filled table (slot_labels n (length (after st log).slots)) ⟧)
-      lie_there log grows legal = let m : ℕ = length (after st log).slots in qed 𝓛 (‵ (found n (after st log)) ∷ ‵ ftrue ∷ []) ∵ keep ! (0 ∷ []) $ fsplit ! $ move ! (1 ∷ []) $ fsplit ! $
-          use1 𝓛 (‵ (all_lie n m) ⊛ ‵ (all_lie n m)) (all_lie_twice 𝓛 n m) $ split ! $ rewrite ! 0 (λ (t : Option (List ℕ)). ‵ (all_lie_in t (slot_labels n m))) is refl $
+          → ⟦ places_known n (after st log) ⟧ ∗ ⟦ ftrue ⟧ ⊢ guard 𝓤 (Unit {0}) (⟦ places_known n (after st log) ⟧ ∗ ⟦ all_lie n (length (after st log).slots) ⟧)
+      lie_there log grows legal = let m : ℕ = length (after st log).slots in qed 𝓛 (‵ (places_known n (after st log)) ∷ ‵ ftrue ∷ []) ∵ keep ! (0 ∷ []) $ fsplit ! $ move ! (1 ∷ []) $ fsplit ! $
+          use1 𝓛 (‵ (all_lie n m) ⊛ ‵ (all_lie n m)) (all_lie_twice 𝓛 n m) $ split ! $
           -- [what is known of the table; where all lie; that all are lent; where all lead]
           check ! tt $ move ! (1 ∷ 2 ∷ []) $ fjoin ! $ move ! (2 ∷ 0 ∷ []) $ fjoin ! $ done !
 
   -- a lifetime that the pass has seen ended is over
-  pub is_over : (seen : List Entry) (a : ℕ) → IsIn (ended seen) a → ⟦ pass_owns n p seen ⟧ ⊢ H.⇛ (⟦ pass_owns n p seen ⟧ ∗ ⟦ fdead (a ∷ []) ⟧)
+  pub is_over : (seen : List Entry) (a : ℕ) → IsAmong (ended seen) a → ⟦ pass_owns n p seen ⟧ ⊢ H.⇛ (⟦ pass_owns n p seen ⟧ ∗ ⟦ fdead (a ∷ []) ⟧)
   is_over seen a there = let Z : Pr = ⟦ pass_owns n p seen ⟧ ∗ ⟦ fdead (a ∷ []) ⟧ in qed 𝓛 ((‵ (knows n) ⊛ ‵ (pass_holds n p seen)) ∷ []) ∵ split ! $ use1 𝓛 (‵ (knows n) ⊛ ‵ (knows n)) (knows_twice 𝓛 n) $ split ! $ use1 𝓛 (‵ (finv J)) (opens 𝓛 n) $
       suffices ! _ (𝓛.invs.inv_acc J Z) $ frame ! $ assume ! (‵ J) $ move ! (2 ∷ []) $
       -- [the pass; J; the book]
@@ -271,7 +272,7 @@ module _ {M : Type 1} {𝓤 : Ura M} (𝓛 : Logic 𝓤) (n : Name) (p : ℕ) wh
 
   -- and one whose token is at hand has not ended in what the pass has seen
   abbrev pub Lasts : List Entry → ℕ → Share → Pr
-  Lasts seen a q = guard 𝓤 (¬ (IsIn (ended seen) a)) (⟦ pass_owns n p seen ⟧ ∗ ⟦ flft (a ∷ []) q ⟧)
+  Lasts seen a q = guard 𝓤 (¬ (IsAmong (ended seen) a)) (⟦ pass_owns n p seen ⟧ ∗ ⟦ flft (a ∷ []) q ⟧)
 
   pub lasts : (seen : List Entry) (a : ℕ) (q : Share) → ⟦ pass_owns n p seen ⟧ ∗ ⟦ flft (a ∷ []) q ⟧ ⊢ H.⇛ (Lasts seen a q)
   lasts seen a q = let Z : Pr = Lasts seen a q in let T : Fml = flft (a ∷ []) q in qed 𝓛 ((‵ (knows n) ⊛ ‵ (pass_holds n p seen)) ∷ ‵ T ∷ []) ∵ split ! $ use1 𝓛 (‵ (knows n) ⊛ ‵ (knows n)) (knows_twice 𝓛 n) $ split ! $ use1 𝓛 (‵ (finv J)) (opens 𝓛 n) $
@@ -283,13 +284,13 @@ module _ {M : Type 1} {𝓤 : Ura M} (𝓛 : Logic 𝓤) (n : Name) (p : ℕ) wh
       move ! (2 ∷ 0 ∷ 3 ∷ []) $ use3 𝓛 (‵ (pass_holds n p seen)) (together seen own past) $ move ! (3 ∷ 0 ∷ []) $ fjoin ! $
       -- [the pass; what it has seen; J; the token]
       move ! (1 ∷ 3 ∷ []) $ join ! $ nothing ! $ move ! (3 ∷ 0 ∷ 1 ∷ []) $
-      use3 𝓛 (some (λ (log : List Entry). given (Known (rules st) [] seen log × (¬ (IsIn (ended seen) a))) (‵ J ⊛ ‵ ftrue ⊛ ‵ (had log) ⊛ ‵ T)))
-      (looks_beside entry_coded (rules st) (beside n) n.log (rows n) 𝓛 [] seen (λ _. ¬ (IsIn (ended seen) a)) ⟦ T ⟧ (λ _. ⟦ T ⟧) tt alive) $
+      use3 𝓛 (some (λ (log : List Entry). given (Known (rules st) [] seen log × (¬ (IsAmong (ended seen) a))) (‵ J ⊛ ‵ ftrue ⊛ ‵ (had log) ⊛ ‵ T)))
+      (looks_beside entry_coded (rules st) (beside n) n.log (rows n) 𝓛 [] seen (λ _. ¬ (IsAmong (ended seen) a)) ⟦ T ⟧ (λ _. ⟦ T ⟧) tt alive) $
       suffices ! _ (upd_i 𝓤 (⟦ J ⟧ ∗ Z)) $ pick ! (λ log. learn ! (λ known. split ! $ frame ! $ split3 ! $ check ! known.1 $ keep ! (3 ∷ 2 ∷ []) $ done !))))
     where
-      alive : (log : List Entry) → Known (rules st) [] seen log → ⟦ beside n log ⟧ ∗ ⟦ flft (a ∷ []) q ⟧ ⊢ guard 𝓤 (¬ (IsIn (ended seen) a)) (⟦ beside n log ⟧ ∗ ⟦ flft (a ∷ []) q ⟧)
+      alive : (log : List Entry) → Known (rules st) [] seen log → ⟦ beside n log ⟧ ∗ ⟦ flft (a ∷ []) q ⟧ ⊢ guard 𝓤 (¬ (IsAmong (ended seen) a)) (⟦ beside n log ⟧ ∗ ⟦ flft (a ∷ []) q ⟧)
       alive log known = qed 𝓛 (‵ (beside n log) ∷ ‵ (flft (a ∷ []) q) ∷ []) ∵ fsplit ! $ nothing ! $ move ! (3 ∷ 0 ∷ []) $ fjoin ! $ move ! (1 ∷ 0 ∷ []) $
-          use2 𝓛 (given ((b : ℕ) → IsIn (a ∷ []) b → ¬ (IsIn (ended log) b)) (‵ (over (ended log)) ⊛ ‵ (living 𝓛 (a ∷ []) q))) (none_over 𝓛 (a ∷ []) (ended log) q) $ learn ! (λ none.
+          use2 𝓛 (given ((b : ℕ) → IsAmong (a ∷ []) b → ¬ (IsAmong (ended log) b)) (‵ (over (ended log)) ⊛ ‵ (living 𝓛 (a ∷ []) q))) (none_over 𝓛 (a ∷ []) (ended log) q) $ learn ! (λ none.
           check ! (λ there. none a (inl refl) (ended_grows seen log a known.1 there)) $ split ! $ move ! (1 ∷ []) $ fsplit ! $
           -- [the token; nothing; what has ended; the rest]
           move ! (2 ∷ 3 ∷ []) $ fjoin ! $ keep ! (0 ∷ 1 ∷ []) $ done !)

@@ -9,7 +9,7 @@ use types.Logic.{Logic, sem}
 use types.Growing.{at_least_dup, at_least_join}
 use types.Kit.{‵, ◌⊛◌, some, given, later, ◌$◌, ◌∵◌, !, qed, move, keep, split, split3, join, fsplit, fjoin, pick, learn, show, check, frame, assume, suffices, done, use1, use2, use3, updating, await, now}
 use Rattle.seize_machine.specs.Machine.State.{State}
-use Rattle.seize_book.specs.Ledger.{AllApart, Held, logs, reached, WithKinds, Known}
+use Rattle.seize_book.specs.Ledger.{AllApart, HeldKey, logs, reached, WithKinds, Known}
 use Rattle.seize_book.specs.Entry.{Entry, entry_coded}
 use Rattle.seize_book.specs.Book.{mine, rules, kinds}
 use Rattle.seize_book.specs.Fair.{pass_key}
@@ -74,14 +74,14 @@ module _ {M : Type 1} {𝓤 : Ura M} (𝓛 : Logic 𝓤) (n : Name) where
   abbrev gives : ℕ → List Entry → Fml
   gives p seen = gate_gives n.gate p seen
 
-  abbrev Knows : List (Held Entry) → List Entry → List Entry → Type 0
+  abbrev Knows : List (HeldKey Entry) → List Entry → List Entry → Type 0
   Knows held seen log = Known (rules st) held seen log
 
   -- what the holders of keys know, with no event
-  abbrev Peeked : List (Held Entry) → List Entry → List Entry → Pr
+  abbrev Peeked : List (HeldKey Entry) → List Entry → List Entry → Pr
   Peeked held seen log = guard 𝓤 (Knows held seen log) (⟦ rights 𝓛 n held ⟧ ∗ ⟦ had log ⟧)
 
-  pub peeks : (held : List (Held Entry)) (seen : List Entry) → WithKinds kinds held → ⟦ knows n ⟧ ∗ ⟦ rights 𝓛 n held ⟧ ∗ ⟦ had seen ⟧ ⊢ H.⇛ (ex 𝓤 (Peeked held seen))
+  pub peeks : (held : List (HeldKey Entry)) (seen : List Entry) → WithKinds kinds held → ⟦ knows n ⟧ ∗ ⟦ rights 𝓛 n held ⟧ ∗ ⟦ had seen ⟧ ⊢ H.⇛ (ex 𝓤 (Peeked held seen))
   peeks held seen w = let J : Fml = inside n in let Z : Pr = ex 𝓤 (Peeked held seen) in
       qed 𝓛 (‵ (knows n) ∷ ‵ (rights 𝓛 n held) ∷ ‵ (had seen) ∷ []) ∵ use1 𝓛 (‵ (finv J)) (opens 𝓛 n) $ suffices ! _ (𝓛.invs.inv_acc J Z) $ frame ! $ assume ! (‵ J) $
       use3 𝓛 (some (λ (log : List Entry). given (Knows held seen log) (‵ J ⊛ ‵ (rights 𝓛 n held) ⊛ ‵ (had log)))) (looks entry_coded (rules st) (beside n) n.log (rows n) 𝓛 held seen w) $
@@ -89,21 +89,21 @@ module _ {M : Type 1} {𝓤 : Ura M} (𝓛 : Logic 𝓤) (n : Name) where
 
   -- and what the gate says of two passes
   abbrev Alone : ℕ → ℕ → List Entry → List Entry → List Entry → Type 0
-  Alone p q x y log = (IsSole n.gate p → log ≡ x) × (IsSole n.gate q → log ≡ y)
+  Alone p q x y log = (IsSole p → log ≡ x) × (IsSole q → log ≡ y)
 
-  abbrev PeekedBy : List (Held Entry) → List Entry → ℕ → ℕ → List Entry → List Entry → List Entry → Pr
+  abbrev PeekedBy : List (HeldKey Entry) → List Entry → ℕ → ℕ → List Entry → List Entry → List Entry → Pr
   PeekedBy held seen p q x y log = guard 𝓤 (Knows held seen log × Alone p q x y log) (⟦ rights 𝓛 n held ⟧ ∗ ⟦ gives p x ⟧ ∗ ⟦ gives q y ⟧)
 
   alone_both : (p q : ℕ) (x y log : List Entry) → ⟦ beside n log ⟧ ∗ (⟦ gives p x ⟧ ∗ ⟦ gives q y ⟧) ⊢ guard 𝓤 (Alone p q x y log) (⟦ beside n log ⟧ ∗ (⟦ gives p x ⟧ ∗ ⟦ gives q y ⟧))
   alone_both p q x y log = let keeps : Fml = gate_keeps n.gate log in qed 𝓛 (‵ (beside n log) ∷ (‵ (gives p x) ⊛ ‵ (gives q y)) ∷ []) ∵ fsplit ! $ move ! (1 ∷ []) $ fsplit ! $ move ! (3 ∷ []) $ split ! $
       -- [p's copy; q's; the book's; where all is found; what has ended]
-      move ! (2 ∷ 0 ∷ []) $ use2 𝓛 (given (IsSole n.gate p → log ≡ x) (‵ keeps ⊛ ‵ (gives p x))) (agrees 𝓛 n.gate p log x) $ learn ! (λ one. split ! $
+      move ! (2 ∷ 0 ∷ []) $ use2 𝓛 (given (IsSole p → log ≡ x) (‵ keeps ⊛ ‵ (gives p x))) (agrees 𝓛 n.gate p log x) $ learn ! (λ one. split ! $
       -- [the book's copy; p's; q's; where all is found; what has ended]
-      move ! (0 ∷ 2 ∷ []) $ use2 𝓛 (given (IsSole n.gate q → log ≡ y) (‵ keeps ⊛ ‵ (gives q y))) (agrees 𝓛 n.gate q log y) $ learn ! (λ two. check ! (one, two) $ split ! $
+      move ! (0 ∷ 2 ∷ []) $ use2 𝓛 (given (IsSole q → log ≡ y) (‵ keeps ⊛ ‵ (gives q y))) (agrees 𝓛 n.gate q log y) $ learn ! (λ two. check ! (one, two) $ split ! $
       -- [the book's copy; q's; p's; where all is found; what has ended]
       move ! (0 ∷ 3 ∷ []) $ fjoin ! $ move ! (3 ∷ 0 ∷ []) $ fjoin ! $ move ! (2 ∷ 1 ∷ []) $ join ! $ move ! (1 ∷ 0 ∷ []) $ done !))
 
-  peeks_by : (held : List (Held Entry)) (seen : List Entry) (p q : ℕ) (x y : List Entry) → WithKinds kinds held
+  peeks_by : (held : List (HeldKey Entry)) (seen : List Entry) (p q : ℕ) (x y : List Entry) → WithKinds kinds held
       → ⟦ knows n ⟧ ∗ ⟦ rights 𝓛 n held ⟧ ∗ ⟦ had seen ⟧ ∗ (⟦ gives p x ⟧ ∗ ⟦ gives q y ⟧) ⊢ H.⇛ (ex 𝓤 (PeekedBy held seen p q x y))
   peeks_by held seen p q x y w = let J : Fml = inside n in let Z : Pr = ex 𝓤 (PeekedBy held seen p q x y) in
       qed 𝓛 (‵ (knows n) ∷ ‵ (rights 𝓛 n held) ∷ ‵ (had seen) ∷ (‵ (gives p x) ⊛ ‵ (gives q y)) ∷ []) ∵ use1 𝓛 (‵ (finv J)) (opens 𝓛 n) $ suffices ! _ (𝓛.invs.inv_acc J Z) $ frame ! $ assume ! (‵ J) $
@@ -132,7 +132,7 @@ module _ {M : Type 1} {𝓤 : Ura M} (𝓛 : Logic 𝓤) (n : Name) where
       -- [the book, twice; z was reached, three times; q's key; q's copy; p's key; p's copy; the book]
       move ! (5 ∷ 7 ∷ []) $ fsplit ! $ move ! (2 ∷ []) $ fsplit ! $
       -- [p's key; nothing; q's key; nothing; the book, twice; z, three times; q's copy; p's copy; the book]
-      let held : List (Held Entry) = pass_key p a ∷ pass_key q b ∷ [] in
+      let held : List (HeldKey Entry) = pass_key p a ∷ pass_key q b ∷ [] in
       move ! (2 ∷ 3 ∷ []) $ fjoin ! $ move ! (1 ∷ 0 ∷ []) $ fjoin ! $
       -- [the keys; nothing; the book, twice; z, three times; q's copy; p's copy; the book]
       use1 𝓛 (given (AllApart held) (‵ (rights 𝓛 n held))) (all_apart entry_coded (rows n) 𝓛 held) $ learn ! (λ apart_are. let differ : ¬ (p ≡ q) = λ e. apart_are.0.0 (refl, e) in

@@ -8,11 +8,11 @@ use types.Logic.{Logic, sem}
 use types.Kit.{‵, raw, ◌⊛◌, some, given, later, ◌$◌, ◌∵◌, !, qed, move, keep, drop, split, split3, join, fsplit, fjoin, fpick, fpack, pick, learn, show, check, frame, assume, suffices, settle, done, use1, use2, use3, updating, await, now}
 use types.Tokens.{res_dup}
 use denote.Steps.{nothing}
-use Rattle.seize_machine.specs.Machine.State.{State, linked, are_distinct}
-use Rattle.seize_book.specs.Ledger.{fact, Held, reached, WithKinds, born}
+use Rattle.seize_machine.specs.Machine.State.{State, linked_values, are_distinct}
+use Rattle.seize_book.specs.Ledger.{fact, HeldKey, reached, WithKinds, born}
 use Rattle.seize_book.specs.Entry.{Entry, entry_coded}
 use Rattle.seize_book.specs.Book.{mine, rules, passes, kinds}
-use Rattle.seize_book.specs.Tokens.{Name, rows, start, beside, inside, called, knows, Gate, many, gate_gives, rights_own, pass_at, pass_holds, pass_owns}
+use Rattle.seize_book.specs.Tokens.{Name, rows, start, beside, inside, called, knows, Gate, gate_gives, rights_own, pass_at, pass_holds, pass_owns}
 use Rattle.seize_book.proofs.Append.{MayMint, mint, Minted}
 use Rattle.seize_book.proofs.Goes.{kept_now}
 use Rattle.seize_book.proofs.Passes.{IsDistinct, keys, by_pass, MayMake, Tells, Trades, keys_after, Made}
@@ -44,7 +44,7 @@ module _ {M : Type 1} {𝓤 : Ura M} (𝓛 : Logic 𝓤) (n : Name) where
   had log = reached entry_coded n.log log
 
   abbrev distinct : Fml
-  distinct = fact (are_distinct (linked n.links) ≡ Rattle.std.specs.Prelude.true)
+  distinct = fact (are_distinct (linked_values n.links) ≡ Rattle.std.specs.Prelude.true)
 
   abbrev calls : Fml
   calls = fsep (called n) distinct
@@ -69,7 +69,7 @@ module _ {M : Type 1} {𝓤 : Ura M} (𝓛 : Logic 𝓤) (n : Name) where
   pub opens : ⟦ knows n ⟧ ⊢ ⟦ finv J ⟧
   opens = qed 𝓛 (‵ (knows n) ∷ []) ∵ fsplit ! $ keep ! (0 ∷ []) $ use1 𝓛 (‵ (finv J)) (𝓛.invs.named_inv n.number J) $ done !
 
-  module _ (p : ℕ) (seen : List Entry) (held : List (Held Entry)) (ev : List Entry → Entry) (Told : List Entry → Type 0) (X : Pr) (Y : List Entry → Pr) where
+  module _ (p : ℕ) (seen : List Entry) (held : List (HeldKey Entry)) (ev : List Entry → Entry) (Told : List Entry → Type 0) (X : Pr) (Y : List Entry → Pr) where
     abbrev now_at : List Entry → List Entry
     now_at log = log ++ ev log ∷ []
 
@@ -107,15 +107,3 @@ module _ {M : Type 1} {𝓤 : Ura M} (𝓛 : Logic 𝓤) (n : Name) where
   -- what it gives, in a walk
   abbrev pub minted : List Entry → Picks → types.Kit.Item 𝓤
   minted seen births = later (some (λ (t : (ℕ → ℕ) × List Entry). given (IsPrefix seen t.1 × ((r : ℕ) → (rules st).Sized r (t.0 r) t.1)) (‵ (rights_own n (born (births t.0) t.1)) ⊛ ‵ (had t.1))))
-
-  -- a pass that has made nothing yet and has seen as much, where many may append
-  abbrev pub Another : List Entry → ℕ × List Entry → Pr
-  Another seen t = guard 𝓤 (IsPrefix seen t.1 × (mine st t.0 t.1 ≡ [])) ⟦ pass_owns n t.0 t.1 ⟧
-
-  pub another : (seen : List Entry) → n.gate ≡ many → ⟦ knows n ⟧ ∗ ⟦ had seen ⟧ ⊢ H.⇛ (ex 𝓤 (Another seen))
-  another seen free = let births : Picks = λ sizes. (passes, sizes passes) ∷ [] in qed 𝓛 (‵ (knows n) ∷ ‵ (had seen) ∷ []) ∵ updating ! $ use1 𝓛 (‵ (knows n) ⊛ ‵ (knows n)) knows_twice $ split ! $
-      move ! (0 ∷ 2 ∷ []) $ use2 𝓛 (minted seen births) (new_keys seen births (λ sizes. (omega arith, (λ log j h p le. h p (omega (arith, le))), omega arith, tt))) $ await ! tt $ pick ! (λ t. learn ! (λ so. let p : ℕ = t.0 passes in split ! $ fsplit ! $ move ! (0 ∷ 2 ∷ 3 ∷ []) $
-      -- [its key; what was reached; the book]
-      now ! $ show ! (Another seen) (p, t.1) $ check ! (so.0, so.1 passes p (omega arith)) $ nothing ! $ fpack ! (IsPrefix t.1 t.1 × (mine st p t.1 ≡ mine st p t.1)) (λ _. ftrue) (([], append-nil t.1), refl) $
-      nothing ! $ types.Kit.rewrite ! 0 (λ (g : Gate). ‵ (gate_gives g p t.1)) (sym free) refl $ move ! (0 ∷ 1 ∷ []) $ fjoin ! $ move ! (2 ∷ 0 ∷ []) $ fjoin ! $ move ! (1 ∷ 0 ∷ []) $ fjoin ! $
-      fpack ! (List Entry) (pass_at n p t.1) t.1 $ move ! (1 ∷ 0 ∷ []) $ fjoin ! $ keep ! (0 ∷ []) $ done !))

@@ -12,10 +12,10 @@ use Rattle.seize_book.specs.Book.{after, numbers, slots}
 use Rattle.seize_book.specs.Adding.{private}
 use Rattle.seize_book.specs.Entry.{Entry, Made}
 use Rattle.seize_book.specs.Fair.{Before}
-use Rattle.seize_book.specs.Ledger.{Held}
-use Rattle.seize_book.specs.Others.{AreNumbersOf, Follows, Knew, MayTake, in_use, least_unused, state_of}
+use Rattle.seize_book.specs.Ledger.{HeldKey}
+use Rattle.seize_book.specs.Others.{AreNumbersOf, Follows, Knew, MayTake, first_false, state_of, use_flags}
 use Rattle.seize_book.specs.Private.{own_of}
-use Rattle.seize_book.specs.Slots.{IsOf, Notes, number_of}
+use Rattle.seize_book.specs.Slots.{IsKeyOfBook, Notes, slot_number}
 use Rattle.seize_book.specs.Tokens.{Name, start}
 use Rattle.seize_book.specs.declared.book.keys.Keys.{Keys}
 use Rattle.seize_book.specs.declared.book.numbers_key.NumbersKey.{NumbersKey}
@@ -35,7 +35,7 @@ takes size st s _ below (Step.took_new _ at least) = absurd (omega (arith, below
 takes size st s _ below (Step.took_old _ l free least) = set_used st s (record (slot_at st s) { used = true })
 
 -- what the key of the numbers knew is so just before the event, and what it knows after it is so then
-module _ (key key' : SlotKey) (its_numbers : NumbersKey) (keys' : Keys) (pass pass' : Pass) (event : Event) (book : IsOf key pass) (its : AreNumbersOf its_numbers pass)
+module _ (key key' : SlotKey) (its_numbers : NumbersKey) (keys' : Keys) (pass pass' : Pass) (event : Event) (book : IsKeyOfBook key pass) (its : AreNumbersOf its_numbers pass)
     (knew : Knew key its_numbers.keys pass pass' (private pass event)) (noted : Notes key pass key' pass' event) (follows : Follows its_numbers.keys pass' keys') where
   abbrev st : State
   st = after (start pass.name) noted.2.0.before
@@ -43,11 +43,11 @@ module _ (key key' : SlotKey) (its_numbers : NumbersKey) (keys' : Keys) (pass pa
   same_log : knew.0 ≡ noted.2.0.before
   same_log = append_cancel_right knew.0 noted.2.0.before (Made (private pass event) ∷ []) (sym knew.1 ∙ noted.2.0.appended)
 
-  known : in_use its_numbers ≡ used st
+  known : use_flags its_numbers ≡ used st
   known =
       let a = key.keys.held in let b = its_numbers.keys.held in
-      let held = subst (λ (hs : List (Held Entry)). Before pass.name pass.id pass.seen (only slots a ++ hs) knew.0) (only_is numbers b its_numbers.one)
-      (subst (λ (hs : List (Held Entry)). Before pass.name pass.id pass.seen (hs ++ b) knew.0) (only_is slots a key.one) knew.2) in
+      let held = subst (λ (hs : List (HeldKey Entry)). Before pass.name pass.id pass.seen (only slots a ++ hs) knew.0) (only_is numbers b its_numbers.one)
+      (subst (λ (hs : List (HeldKey Entry)). Before pass.name pass.id pass.seen (hs ++ b) knew.0) (only_is slots a key.one) knew.2) in
       ap (λ (n : Name). used (after (start n) (own_of b))) its ∙ held.kept.1.0.1 ∙ ap (λ (log : List Entry). used (after (start pass.name) log)) same_log
 
   knows : used (state_of keys') ≡ used noted.2.0.later
@@ -56,35 +56,35 @@ module _ (key key' : SlotKey) (its_numbers : NumbersKey) (keys' : Keys) (pass pa
       ∙ ap used noted.2.0.leads
 
   -- how many there are, as that key knows
-  slots_known : length (in_use its_numbers) ≡ length st.slots
+  slots_known : length (use_flags its_numbers) ≡ length st.slots
   slots_known = ap (λ (us : List Bool). length us) known ∙ length-map st.slots (λ slot. slot.used)
 
-  step : Step pass.name.size st event (noted.2.0.later, noted.2.0.answer)
-  step = step_of _ _ _ _ (subst (λ (n : Name). next n.size (after (start n) noted.2.0.before) event ≡ Some (noted.2.0.later, noted.2.0.answer)) book noted.2.1.legal)
+  step : Step pass.size st event (noted.2.0.later, noted.2.0.answer)
+  step = step_of _ _ _ _ (subst (λ (n : Name). next pass.size (after (start n) noted.2.0.before) event ≡ Some (noted.2.0.later, noted.2.0.answer)) book noted.2.1.legal)
 
-pub gives_used : (key key' : SlotKey) (its_numbers : NumbersKey) (keys' : Keys) (pass pass' : Pass) → IsOf key pass → AreNumbersOf its_numbers pass
-    → Knew key its_numbers.keys pass pass' (private pass (Give (number_of key))) → Notes key pass key' pass' (Give (number_of key)) → Follows its_numbers.keys pass' keys'
-    → used (state_of keys') ≡ slice_set (in_use its_numbers) (number_of key) false
+pub gives_used : (key key' : SlotKey) (its_numbers : NumbersKey) (keys' : Keys) (pass pass' : Pass) → IsKeyOfBook key pass → AreNumbersOf its_numbers pass
+    → Knew key its_numbers.keys pass pass' (private pass (Give (slot_number key))) → Notes key pass key' pass' (Give (slot_number key)) → Follows its_numbers.keys pass' keys'
+    → used (state_of keys') ≡ slice_set (use_flags its_numbers) (slot_number key) false
 gives_used key key' its_numbers keys' pass pass' book its knew noted follows =
-    let s = number_of key in let event = Give s in
+    let s = slot_number key in let event = Give s in
     knows key key' its_numbers keys' pass pass' event book its knew noted follows
-    ∙ gives pass.name.size (st key key' its_numbers keys' pass pass' event book its knew noted follows) s (noted.2.0.later, noted.2.0.answer) (step key key' its_numbers keys' pass pass' event book its knew noted follows)
+    ∙ gives pass.size (st key key' its_numbers keys' pass pass' event book its knew noted follows) s (noted.2.0.later, noted.2.0.answer) (step key key' its_numbers keys' pass pass' event book its knew noted follows)
     ∙ ap (λ (us : List Bool). slice_set us s false) (sym (known key key' its_numbers keys' pass pass' event book its knew noted follows))
 
-pub takes_used : (key key' : SlotKey) (its_numbers : NumbersKey) (keys' : Keys) (pass pass' : Pass) → IsOf key pass → AreNumbersOf its_numbers pass → MayTake its_numbers key
-    → Knew key its_numbers.keys pass pass' (private pass (Take (number_of key))) → Notes key pass key' pass' (Take (number_of key)) → Follows its_numbers.keys pass' keys'
-    → used (state_of keys') ≡ slice_set (in_use its_numbers) (number_of key) true
+pub takes_used : (key key' : SlotKey) (its_numbers : NumbersKey) (keys' : Keys) (pass pass' : Pass) → IsKeyOfBook key pass → AreNumbersOf its_numbers pass → MayTake its_numbers key
+    → Knew key its_numbers.keys pass pass' (private pass (Take (slot_number key))) → Notes key pass key' pass' (Take (slot_number key)) → Follows its_numbers.keys pass' keys'
+    → used (state_of keys') ≡ slice_set (use_flags its_numbers) (slot_number key) true
 takes_used key key' its_numbers keys' pass pass' book its may knew noted follows =
-    let s = number_of key in let event = Take s in let there : s < length (state_of its_numbers.keys).slots = may.1 in
+    let s = slot_number key in let event = Take s in let there : s < length (state_of its_numbers.keys).slots = may.1 in
     let long = slots_known key key' its_numbers keys' pass pass' event book its knew noted follows in
-    let many : length (in_use its_numbers) ≡ length (state_of its_numbers.keys).slots = length-map (state_of its_numbers.keys).slots (λ slot. slot.used) in
+    let many : length (use_flags its_numbers) ≡ length (state_of its_numbers.keys).slots = length-map (state_of its_numbers.keys).slots (λ slot. slot.used) in
     knows key key' its_numbers keys' pass pass' event book its knew noted follows
-    ∙ takes pass.name.size (st key key' its_numbers keys' pass pass' event book its knew noted follows) s (noted.2.0.later, noted.2.0.answer) (omega (arith, there, long, many)) (step key key' its_numbers keys' pass pass' event book its knew noted follows)
+    ∙ takes pass.size (st key key' its_numbers keys' pass pass' event book its knew noted follows) s (noted.2.0.later, noted.2.0.answer) (omega (arith, there, long, many)) (step key key' its_numbers keys' pass pass' event book its knew noted follows)
     ∙ ap (λ (us : List Bool). slice_set us s true) (sym (known key key' its_numbers keys' pass pass' event book its knew noted follows))
 
 -- the least number that is not in use
-pub may_take_by : (its_numbers : NumbersKey) (key : SlotKey) → number_of key ≡ least_unused (in_use its_numbers) → number_of key < length (in_use its_numbers) → number_of key < all_numbers
+pub may_take_by : (its_numbers : NumbersKey) (key : SlotKey) → slot_number key ≡ first_false (use_flags its_numbers) → slot_number key < length (use_flags its_numbers) → slot_number key < all_numbers
     → MayTake its_numbers key
 may_take_by its_numbers key least below few =
     let st : State = after (start its_numbers.keys.name) (own_of its_numbers.keys.held) in
-    (least ∙ sym (free_by st.slots), subst (λ (m : ℕ). number_of key < m) (length-map st.slots (λ slot. slot.used)) below, few)
+    (least ∙ sym (free_by st.slots), subst (λ (m : ℕ). slot_number key < m) (length-map st.slots (λ slot. slot.used)) below, few)

@@ -5,7 +5,7 @@ use Rattle.std.proofs.Common.{◌≡◌, ◌≢◌, ℕ, ◌<◌, ◌≤◌, Boo
 use Rattle.std.proofs.lemmas.Bool.{cases_lt, or_from}
 use Rattle.std.proofs.lemmas.List.{get_or-set_other, get_or-set_same, get_or_past, length-set}
 use native.Mathlib.Decide.{ℕ_discrete}
-use Rattle.seize_machine.specs.Machine.State.{State, are_distinct, has, link_at, linked}
+use Rattle.seize_machine.specs.Machine.State.{State, are_distinct, has, link_at, linked_values}
 use Rattle.seize_machine.specs.Machine.Event.{Event, Begin, Hand}
 use Rattle.seize_machine.specs.Machine.Frames.{changes_value, is_number}
 use Rattle.seize_machine.specs.Machine.History.{IsReached}
@@ -15,7 +15,7 @@ use Rattle.seize_machine.specs.declared.machine.event.Job.{Job}
 use Rattle.seize_machine.specs.declared.machine.event.Job.TheVariants.{Retire}
 use Rattle.seize_machine.proofs.Facts.{Step, and_true, beginning, eq_true, is_true, linked_named, linked_not_loose, loose_named, not_true, opening_reached, reached_next, some_is, step_of, value_frame}
 use Rattle.seize_book.specs.Book.{IsLegalList}
-use Rattle.seize_book.specs.Entry.{Entry, Made, Used, timed}
+use Rattle.seize_book.specs.Entry.{Entry, Made, Used, timed_deed}
 use Rattle.seize_book.specs.Kept.{IsTold, Says, retires_by}
 use Rattle.seize_book.specs.Others.{IsSpent}
 use Rattle.seize_book.specs.Tokens.{Name, start}
@@ -186,7 +186,7 @@ once_from st [] v k l reached legal told too = absurd told
 once_from st (Used u ∷ log) v k l reached legal told too = once_from st log v k l reached legal told too
 once_from st (Made e ∷ log) v k l reached legal told too =
     let first = legal_first st e log legal in let step = step_of e.size st e.event first.0 first.1 in
-    go first.0 step first.3 (once_from (first.0).0 log v k l (reached_next st (timed e) first.0 reached first.1) first.3) told too
+    go first.0 step first.3 (once_from (first.0).0 log v k l (reached_next st (timed_deed e) first.0 reached first.1) first.3) told too
   where
     never : (d : State × Answer) → Step e.size st e.event d → IsLegalList d.0 log → (m n : ℕ) → Says (retires_by e.event) e.kepts v m → IsTold log v n → ⊥
     never d step rest m n says more = never_told d.0 log v n rest (retired_by v e.size st e.event d reached step (says_in (retires_by e.event) e.kepts v m says)) more
@@ -198,5 +198,5 @@ once_from st (Made e ∷ log) v k l reached legal told too =
     go d step rest later (inr a) (inl b) = absurd (never d step rest l k b a)
     go d step rest later (inr a) (inr b) = later a b
 
-pub told_once : (n : Name) (log : List Entry) (v k l : ℕ) → are_distinct (linked n.links) ≡ true → IsLegalList (start n) log → IsTold log v k → IsTold log v l → k ≡ l
+pub told_once : (n : Name) (log : List Entry) (v k l : ℕ) → are_distinct (linked_values n.links) ≡ true → IsLegalList (start n) log → IsTold log v k → IsTold log v l → k ≡ l
 told_once n log v k l distinct legal = once_from (start n) log v k l (opening_reached n.slots n.links distinct) legal

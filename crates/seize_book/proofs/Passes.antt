@@ -8,13 +8,14 @@ use base.Fml.{Fml, ftrue}
 use types.Logic.{Logic, sem}
 use types.Kit.{‵, raw, ◌⊛◌, some, given, ◌$◌, ◌∵◌, !, qed, move, drop, split, split3, join, fsplit, fjoin, fpick, fpack, pick, learn, show, check, suffices, settle, done, rewrite, use1, use2, use3}
 use denote.Steps.{nothing}
-use Rattle.seize_machine.specs.Machine.State.{State, has, linked, are_distinct}
-use Rattle.seize_book.specs.Ledger.{Held, reached, WithKinds, renewed, born, Known}
+use Rattle.seize_machine.specs.Machine.State.{State, has, linked_values, are_distinct}
+use Rattle.seize_book.specs.Ledger.{HeldKey, reached, WithKinds, renewed, born, Known}
 use Rattle.seize_book.specs.Entry.{Entry, entry_coded, maker}
 use Rattle.seize_book.specs.Book.{after, blocks, mine, passes, rules, kinds, slots}
 use Rattle.seize_book.specs.Fair.{Before, Fair, HasPlace, IsLabel, pass_key}
 use Rattle.seize_book.specs.Laws.{ended}
-use Rattle.seize_book.specs.Tokens.{AllLentIn, Name, rows, start, keys_own, rights_own, found, over, beside, inside, IsSole, gate_keeps, gate_gives, pass_at, pass_holds, Noted}
+use Rattle.seize_book.specs.Loans.{AllCarryOne}
+use Rattle.seize_book.specs.Tokens.{Name, rows, start, keys_own, rights_own, places_known, over, beside, inside, IsSole, gate_keeps, gate_gives, pass_at, pass_holds, Noted}
 use Rattle.seize_book.proofs.Append.{appends, Appended}
 use Rattle.seize_book.proofs.Goes.{chained_push, goes, kept_now, births_of, births_below, births_free, slots_after}
 use Rattle.seize_book.proofs.Gates.{agrees, follows}
@@ -46,38 +47,38 @@ module _ {M : Type 1} {𝓤 : Ura M} (𝓛 : Logic 𝓤) (n : Name) where
   abbrev had : List Entry → Fml
   had log = reached entry_coded n.log log
 
-  abbrev pub keys : List (Held Entry) → Fml
+  abbrev pub keys : List (HeldKey Entry) → Fml
   keys held = keys_own n held
 
-  abbrev pub rights : List (Held Entry) → Fml
+  abbrev pub rights : List (HeldKey Entry) → Fml
   rights held = rights_own n held
 
   -- the event is fair with the pass and these keys
-  abbrev pub MayMake : ℕ → List Entry → List (Held Entry) → (List Entry → Entry) → (List Entry → Type 0) → Type 0
+  abbrev pub MayMake : ℕ → List Entry → List (HeldKey Entry) → (List Entry → Entry) → (List Entry → Type 0) → Type 0
   MayMake p seen held ev Told = (own log : List Entry) → Before n p seen held log → Told log → Fair n (pass_key p own ∷ held) log (ev log) × (maker (ev log) ≡ p)
 
   -- what its maker brings tells more of the list, beside what has ended; and it is traded
-  abbrev pub Tells : ℕ → List Entry → List (Held Entry) → (List Entry → Type 0) → Pr → Type 1
+  abbrev pub Tells : ℕ → List Entry → List (HeldKey Entry) → (List Entry → Type 0) → Pr → Type 1
   Tells p seen held Told X = (log : List Entry) → Before n p seen held log → ⟦ over (ended log) ⟧ ∗ X ⊢ guard 𝓤 (Told log) (⟦ over (ended log) ⟧ ∗ X)
 
-  abbrev pub Trades : ℕ → List Entry → List (Held Entry) → (List Entry → Entry) → (List Entry → Type 0) → Pr → (List Entry → Pr) → Type 1
+  abbrev pub Trades : ℕ → List Entry → List (HeldKey Entry) → (List Entry → Entry) → (List Entry → Type 0) → Pr → (List Entry → Pr) → Type 1
   Trades p seen held ev Told X Y = (log : List Entry) → Before n p seen held log → Told log
       → ⟦ over (ended log) ⟧ ∗ X ⊢ upd 𝓤 (⟦ over (ended (log ++ ev log ∷ [])) ⟧ ∗ Y log)
 
   -- what is had afterwards, where the list was `log` before
-  abbrev pub keys_after : List (Held Entry) → (List Entry → Entry) → List Entry → Fml
+  abbrev pub keys_after : List (HeldKey Entry) → (List Entry → Entry) → List Entry → Fml
   keys_after held ev log = keys (renewed held (log ++ ev log ∷ []) ++ born (births_of st ev log) (log ++ ev log ∷ []))
 
-  abbrev pub Made : ℕ → List Entry → List (Held Entry) → (List Entry → Entry) → (List Entry → Type 0) → List Entry → Type 0
+  abbrev pub Made : ℕ → List Entry → List (HeldKey Entry) → (List Entry → Entry) → (List Entry → Type 0) → List Entry → Type 0
   Made p seen held ev Told log = (noted : Noted n p seen (log ++ ev log ∷ []) (ev log)) × (noted.before ≡ log) × Before n p seen held log × Told log
 
-  abbrev After : ℕ → List Entry → List (Held Entry) → (List Entry → Entry) → (List Entry → Type 0) → (List Entry → Pr) → List Entry → Pr
+  abbrev After : ℕ → List Entry → List (HeldKey Entry) → (List Entry → Entry) → (List Entry → Type 0) → (List Entry → Pr) → List Entry → Pr
   After p seen held ev Told Y log = guard 𝓤 (Made p seen held ev Told log) (⟦ J ⟧ ∗ ⟦ pass_holds n p (log ++ ev log ∷ []) ⟧ ∗ ⟦ keys_after held ev log ⟧ ∗ Y log)
 
   abbrev pub IsDistinct : Type 0
-  IsDistinct = are_distinct (linked n.links) ≡ true
+  IsDistinct = are_distinct (linked_values n.links) ≡ true
 
-  made_now : IsDistinct → (p : ℕ) (seen : List Entry) (held : List (Held Entry)) (ev : List Entry → Entry) (log own : List Entry) → Before n p seen held log → Fair n (pass_key p own ∷ held) log (ev log) × (maker (ev log) ≡ p)
+  made_now : IsDistinct → (p : ℕ) (seen : List Entry) (held : List (HeldKey Entry)) (ev : List Entry → Entry) (log own : List Entry) → Before n p seen held log → Fair n (pass_key p own ∷ held) log (ev log) × (maker (ev log) ≡ p)
       → Noted n p seen (log ++ ev log ∷ []) (ev log)
   made_now distinct p seen held ev log own before f =
       let fair : Fair n (pass_key p own ∷ held) log (ev log) = f.0 in
@@ -101,13 +102,13 @@ module _ {M : Type 1} {𝓤 : Ura M} (𝓛 : Logic 𝓤) (n : Name) where
       is : (p q : ℕ) → q ≡ p → (q == p) ≡ true
       is p q e = grind arith
 
-  module _ (p : ℕ) (seen : List Entry) (held : List (Held Entry)) (ev : List Entry → Entry) (Told : List Entry → Type 0) (X : Pr) (Y : List Entry → Pr) where
+  module _ (p : ℕ) (seen : List Entry) (held : List (HeldKey Entry)) (ev : List Entry → Entry) (Told : List Entry → Type 0) (X : Pr) (Y : List Entry → Pr) where
     module _ (own : List Entry) (past : IsPrefix own seen × (mine st p own ≡ mine st p seen)) where
-      abbrev all : List (Held Entry)
+      abbrev all : List (HeldKey Entry)
       all = pass_key p own ∷ held
 
       abbrev Now : List Entry → Type 0
-      Now log = (IsSole n.gate p → log ≡ seen) × AllLentIn n (after st log).named
+      Now log = (IsSole p → log ≡ seen) × AllCarryOne (after st log).named
 
       abbrev ToldAll : List Entry → Type 0
       ToldAll log = Now log × Told log
@@ -134,9 +135,9 @@ module _ {M : Type 1} {𝓤 : Ura M} (𝓛 : Logic 𝓤) (n : Name) where
       tells_all : Tells p seen held Told X → (log : List Entry) → Known (rules st) all seen log → ⟦ beside n log ⟧ ∗ (⟦ gives seen ⟧ ∗ ⟦ its_ways ⟧ ∗ X) ⊢ guard 𝓤 (ToldAll log) (⟦ beside n log ⟧ ∗ (⟦ gives seen ⟧ ∗ ⟦ its_ways ⟧ ∗ X))
       tells_all tells log known = qed 𝓛 (‵ (beside n log) ∷ (‵ (gives seen) ⊛ ‵ its_ways ⊛ raw X) ∷ []) ∵ fsplit ! $ move ! (1 ∷ []) $ fsplit ! $ move ! (3 ∷ []) $ split3 ! $
           -- [the pass's copy; the ways; X; the book's copy; where all is found; what has ended]
-          move ! (3 ∷ 0 ∷ []) $ use2 𝓛 (given (IsSole n.gate p → log ≡ seen) (‵ (keeps log) ⊛ ‵ (gives seen))) (agrees 𝓛 n.gate p log seen) $ learn ! (λ alone. split ! $
+          move ! (3 ∷ 0 ∷ []) $ use2 𝓛 (given (IsSole p → log ≡ seen) (‵ (keeps log) ⊛ ‵ (gives seen))) (agrees 𝓛 n.gate p log seen) $ learn ! (λ alone. split ! $
           -- [the book's copy; the pass's; the ways; X; where all is found; what has ended]
-          move ! (4 ∷ []) $ use1 𝓛 (given (AllLentIn n (after st log).named) (‵ (found n (after st log)))) (found_lent 𝓛 n (after st log)) $ learn ! (λ lent.
+          move ! (4 ∷ []) $ use1 𝓛 (given (AllCarryOne (after st log).named) (‵ (places_known n (after st log)))) (found_lent 𝓛 n (after st log)) $ learn ! (λ lent.
           move ! (5 ∷ 4 ∷ []) $ use2 𝓛 (given (Told log) (‵ (over (ended log)) ⊛ raw X)) (tells log (before log known (alone, lent))) $ learn ! (λ told. split ! $
           -- [what has ended; X; where all is found; the book's copy; the pass's; the ways]
           check ! ((alone, lent), told) $ move ! (3 ∷ 2 ∷ []) $ fjoin ! $ move ! (1 ∷ 0 ∷ []) $ fjoin ! $ move ! (3 ∷ 1 ∷ []) $ join ! $ move ! (2 ∷ 0 ∷ []) $ join ! $ move ! (1 ∷ []) $ done !)))
@@ -151,7 +152,7 @@ module _ {M : Type 1} {𝓤 : Ura M} (𝓛 : Logic 𝓤) (n : Name) where
           qed 𝓛 (‵ (beside n log) ∷ (‵ (gives seen) ⊛ ‵ its_ways ⊛ raw X) ∷ []) ∵ fsplit ! $ move ! (1 ∷ []) $ fsplit ! $ move ! (3 ∷ []) $ split3 ! $
           -- [the pass's copy; the ways; X; the book's copy; where all is found; what has ended]
           move ! (1 ∷ []) $ use1 𝓛 (‵ (paths 𝓛 n held) ⊛ ‵ its_ways) (ways_tell 𝓛 n held) $ split ! $
-          move ! (5 ∷ 0 ∷ []) $ let new = names log (before log known told.0) told.1 in use2 𝓛 (‵ (found n (after st (now log)))) (found_more 𝓛 n (after st log) (after st (now log)) held new.0 new.1) $
+          move ! (5 ∷ 0 ∷ []) $ let new = names log (before log known told.0) told.1 in use2 𝓛 (‵ (places_known n (after st (now log)))) (found_more 𝓛 n (after st log) (after st (now log)) held new.0 new.1) $
           -- [where all is found then; the ways; the pass's copy; X; the book's copy; what has ended]
           move ! (4 ∷ 2 ∷ []) $ use2 𝓛 (raw (upd 𝓤 (⟦ keeps (now log) ⟧ ∗ ⟦ gives (now log) ⟧))) (follows 𝓛 n.gate p log seen (now log) (ev log ∷ [], refl) told.0.0) $ settle 𝓛 Z (‵ (keeps (now log)) ⊛ ‵ (gives (now log))) $ split ! $
           -- [the book's copy; the pass's; where all is found then; the ways; X; what has ended]

@@ -18,17 +18,17 @@ use types.Logic.{Logic, sem, lfts}
 use types.Na.{before-Incl, before_lent, before_dup}
 use types.Tokens.{bor_open, obor_alter, bor_fracture, one_token}
 use Rattle.seize_content.specs.Contents.{sight_owns, stay, ticket_owns}
-use Rattle.seize_content.specs.Readers.{left_of, pool}
+use Rattle.seize_content.specs.Readers.{pool, share_left}
 use Rattle.seize_content.specs.Stages.{lent}
 use Rattle.seize_content.proofs.Places.{stay_twice}
 use Rattle.seize_machine.specs.Machine.State.{State}
 use Rattle.seize_book.specs.Book.{blocks}
 use Rattle.seize_book.specs.Entry.{Entry}
-use Rattle.seize_book.specs.Ledger.{Held}
+use Rattle.seize_book.specs.Ledger.{HeldKey}
 use Rattle.seize_book.specs.Loans.{Carries, CarriesNone, Loan, lent_as, loan_if, loan_of, readers}
 use Rattle.seize_book.specs.Peeks.{keys_show, show_if, sight_if, sight_of}
 use Rattle.seize_book.specs.Private.{is_one, label_of}
-use Rattle.seize_book.specs.Tokens.{Name, key, keys_own, leads, lies_if, is_placed, note, start, way, way_if}
+use Rattle.seize_book.specs.Tokens.{Name, key, keys_own, leads, lies_if, is_placed, key_note, start, way, way_if}
 use Rattle.seize_book.proofs.Sharing.{lends_twice}
 use Rattle.seize_book.proofs.Ways.{lead_twice}
 
@@ -57,7 +57,7 @@ show_laws : (b : Bool) (n : Name) (v : ℕ) → ShrLaws (show_if b n v)
 show_laws true n v = beside_shr_laws (said (leads n v)) (λ κ. sight_if (loan_of v) κ v) (lead_laws n v) (sight_laws (loan_of v) v)
 show_laws false n v = nothing_shr_laws
 
-pub keys_laws : (n : Name) (held : List (Held Entry)) → ShrLaws (keys_show n held)
+pub keys_laws : (n : Name) (held : List (HeldKey Entry)) → ShrLaws (keys_show n held)
 keys_laws n [] = nothing_shr_laws
 keys_laws n (h ∷ held) = beside_shr_laws (show_if (h.kind == blocks) n h.label) (keys_show n held) (show_laws (h.kind == blocks) n h.label) (keys_laws n held)
 
@@ -78,15 +78,15 @@ module _ {M : Type 1} {𝓤 : Ura M} (𝓛 : Logic 𝓤) where
   infix 26 ◌⊢◌
   infixr 35 ◌∗◌
   abbrev Left : ℕ → Share → List (Lft × ℕ) → SProp 𝓤
-  Left a r ds = wand 𝓤 (A.lft (a ∷ []) (left_of r ds)) ⟦ pool a r ds ⟧
+  Left a r ds = wand 𝓤 (A.lft (a ∷ []) (share_left r ds)) ⟦ pool a r ds ⟧
 
-  pool_left : (a : ℕ) (r : Share) (ds : List (Lft × ℕ)) → ⟦ pool a r ds ⟧ ⊢ A.lft (a ∷ []) (left_of r ds) ∗ Left a r ds
+  pool_left : (a : ℕ) (r : Share) (ds : List (Lft × ℕ)) → ⟦ pool a r ds ⟧ ⊢ A.lft (a ∷ []) (share_left r ds) ∗ Left a r ds
   pool_left a r [] = qed 𝓛 (‵ (flft (a ∷ []) r) ∷ []) ∵ frame ! $ assume ! (‵ (flft (a ∷ []) r)) $ done !
   pool_left a r (d ∷ ds) = qed 𝓛 (‵ (pool a r (d ∷ ds)) ∷ []) ∵ fsplit ! $ move ! (1 ∷ []) $
-      use1 𝓛 (‵ (flft (a ∷ []) (left_of (Share.left r) ds)) ⊛ raw (Left a (Share.left r) ds)) (pool_left a (Share.left r) ds) $ split ! $ frame ! $
+      use1 𝓛 (‵ (flft (a ∷ []) (share_left (Share.left r) ds)) ⊛ raw (Left a (Share.left r) ds)) (pool_left a (Share.left r) ds) $ split ! $ frame ! $
       -- [the way back; the right to the escrow]
-      assume ! (‵ (flft (a ∷ []) (left_of (Share.left r) ds))) $ move ! (0 ∷ 1 ∷ []) $
-      use2 𝓛 (‵ (pool a (Share.left r) ds)) (apply∗ 𝓤 (A.lft (a ∷ []) (left_of (Share.left r) ds)) ⟦ pool a (Share.left r) ds ⟧) $ move ! (1 ∷ 0 ∷ []) $ fjoin ! $ done !
+      assume ! (‵ (flft (a ∷ []) (share_left (Share.left r) ds))) $ move ! (0 ∷ 1 ∷ []) $
+      use2 𝓛 (‵ (pool a (Share.left r) ds)) (apply∗ 𝓤 (A.lft (a ∷ []) (share_left (Share.left r) ds)) ⟦ pool a (Share.left r) ds ⟧) $ move ! (1 ∷ 0 ∷ []) $ fjoin ! $ done !
 
   module _ (st : State) (η v : ℕ) where
     abbrev Owns : Fml
@@ -97,7 +97,7 @@ module _ {M : Type 1} {𝓤 : Ura M} (𝓛 : Logic 𝓤) where
       α = l.life ∷ []
 
       abbrev e : Share
-      e = left_of full_share l.readers
+      e = share_left full_share l.readers
 
       abbrev Again : Lft → Fml
       Again κ = fwand (fsep (fdead κ) (fseps (flft α e ∷ []))) (fupd Owns)
@@ -113,7 +113,7 @@ module _ {M : Type 1} {𝓤 : Ura M} (𝓛 : Logic 𝓤) where
     by_token : (k : ℕ) (κ : Lft) (q : Share) → A.bor κ Owns ∗ A.lft κ q ⊢ H.⇛ (⟦ sight_if (suc k) κ v ⟧ ∗ A.lft κ q)
     unfolding fseps
     by_token k κ q = qed 𝓛 (‵ (fbor κ Owns) ∷ ‵ (flft κ q) ∷ []) ∵ updating ! $ bor_open ! tt $ move ! (1 ∷ []) $ fpick ! (λ l. fsplit ! $ fpick ! (λ carries. drop ! $
-        let c : ℕ = l.content in let a : ℕ = l.life in let g : Gv = l.code in let ν : Lft = a ∷ [] in let r : Share = left_of full_share l.readers in
+        let c : ℕ = l.content in let a : ℕ = l.life in let g : Gv = l.code in let ν : Lft = a ∷ [] in let r : Share = share_left full_share l.readers in
         fsplit ! $ move ! (1 ∷ []) $ fsplit ! $ fsplit ! $
         -- [the pool; what is known; the readers; the ticket; the open borrow]
         use1 𝓛 (‵ (flft ν r) ⊛ raw (Left a full_share l.readers)) (pool_left a full_share l.readers) $ split ! $ move ! (2 ∷ []) $
@@ -151,10 +151,10 @@ module _ {M : Type 1} {𝓤 : Ura M} (𝓛 : Logic 𝓤) where
         (lends_twice 𝓛 (leads n v) (lead_twice 𝓛 n v) l) (Lends-loan (start n) n.log v (loan_of v) l)
     Lends-way false v = Lends-nothing 𝓛 ftrue l
 
-    pub Lends-keys : (held : List (Held Entry)) → Lends 𝓛 (keys_own n held) (keys_show n held) l
+    pub Lends-keys : (held : List (HeldKey Entry)) → Lends 𝓛 (keys_own n held) (keys_show n held) l
     Lends-keys [] = Lends-nothing 𝓛 ftrue l
     Lends-keys (h ∷ held) =
-        let b : Bool = h.kind == blocks in let rest : Fml = fsep (lies_if (is_placed h) n h.key) (note n h) in
+        let b : Bool = h.kind == blocks in let rest : Fml = fsep (lies_if (is_placed h) n h.key) (key_note h) in
         Lends-both 𝓛 (fsep (key n h.kind h.key h.own) (way n h)) (keys_own n held) (show_if b n h.label) (keys_show n held) l
         (Lends-second (key n h.kind h.key h.own) (way n h) (show_if b n h.label) l (Lends-first 𝓛 (way_if b n h.label) rest (show_if b n h.label) l (Lends-way b h.label)))
         (Lends-keys held)
@@ -179,7 +179,7 @@ module _ {M : Type 1} {𝓤 : Ura M} (𝓛 : Logic 𝓤) (n : Name) (κ : Lft) w
   shows_if true v is = qed 𝓛 (‵ (show_if true n v κ) ∷ []) ∵ fsplit ! $ done !
   shows_if false v is = absurd (cc)
 
-  pub shows : (held : List (Held Entry)) → is_one blocks held ≡ true → ent 𝓤 (sem 𝓛 (keys_show n held κ)) (sep 𝓤 (sem 𝓛 (leads n (label_of held))) (sem 𝓛 (sight_if (loan_of (label_of held)) κ (label_of held))))
+  pub shows : (held : List (HeldKey Entry)) → is_one blocks held ≡ true → ent 𝓤 (sem 𝓛 (keys_show n held κ)) (sep 𝓤 (sem 𝓛 (leads n (label_of held))) (sem 𝓛 (sight_if (loan_of (label_of held)) κ (label_of held))))
   shows [] one = absurd (cc)
   shows (x ∷ y ∷ held) one = absurd (cc)
   shows (h ∷ []) one = qed 𝓛 (‵ (keys_show n (h ∷ []) κ) ∷ []) ∵ fsplit ! $ use1 𝓛 (‵ (leads n h.label) ⊛ ‵ (sight_if (loan_of h.label) κ h.label)) (shows_if (h.kind == blocks) h.label one) $ split ! $ keep ! (0 ∷ 1 ∷ []) $ done !

@@ -15,25 +15,21 @@ use types.Logic.{Logic, sem}
 use Rattle.seize_book.specs.Entry.{Entry}
 use Rattle.seize_book.specs.Fair.{pass_key}
 use Rattle.seize_book.specs.Ledger.{piece, roster}
-use Rattle.seize_book.specs.Tokens.{Gate, IsTurns, Name, gate_gives, gate_leaves, gate_lends, porter_at, porter_owns}
+use Rattle.seize_book.specs.Tokens.{Gate, Name, gate_gives, gate_leaves, gate_lends, porter_at, porter_owns}
 use Rattle.seize_book.proofs.Gates.{takes_one}
 use Rattle.seize_book.proofs.Passes.{rights}
 use Rattle.seize_book.proofs.Roster.{has, mints, sets}
-use Rattle.seize_book.proofs.Turns.{out_one}
+use Rattle.seize_book.proofs.Porters.{out_one}
 use Rattle.seize_book.specs.Shared.{the_ticket, rows_have, period, row_has, side}
 
 -- the ticket of a pass that isn't the first is the same, whichever pass it is
-same_ticket : (g : Gate) (p : ℕ) → IsTurns g → ¬ (p ≡ 0) → gate_gives g p [] ≡ gate_gives g 1 []
-same_ticket Gate.many p is other = absurd is
-same_ticket (Gate.sole η) p is other = absurd is
-same_ticket (Gate.turns η δ) zero is other = absurd (other refl)
-same_ticket (Gate.turns η δ) (suc p) is other = refl
+same_ticket : (g : Gate) (p : ℕ) → ¬ (p ≡ 0) → gate_gives g p [] ≡ gate_gives g 1 []
+same_ticket g zero other = absurd (other refl)
+same_ticket g (suc p) other = refl
 
-pub same_loan : (g : Gate) (κ : Lft) (p : ℕ) (seen : List Entry) → IsTurns g → ¬ (p ≡ 0) → gate_lends g κ p seen ≡ fbor κ (gate_gives g 1 [])
-same_loan Gate.many κ p seen is other = absurd is
-same_loan (Gate.sole η) κ p seen is other = absurd is
-same_loan (Gate.turns η δ) κ zero seen is other = absurd (other refl)
-same_loan (Gate.turns η δ) κ (suc p) seen is other = refl
+pub same_loan : (g : Gate) (κ : Lft) (p : ℕ) (seen : List Entry) → ¬ (p ≡ 0) → gate_lends g κ p seen ≡ fbor κ (gate_gives g 1 [])
+same_loan g κ zero seen other = absurd (other refl)
+same_loan g κ (suc p) seen other = refl
 
 abbrev Rows : Type 0
 Rows = List (List Share)
@@ -116,7 +112,7 @@ module _ {M : Type 1} {𝓤 : Ura M} (𝓛 : Logic 𝓤) (n : Name) (seen : List
   all_lent ((r ∷ rs) ∷ rows) = qed 𝓛 (‵ (haves ((r ∷ rs) ∷ rows)) ∷ ‵ (fdead μ) ∷ []) ∵ fsplit ! $ keep ! (0 ∷ 2 ∷ []) $ suffices ! (never 𝓤) (never_e 𝓤 _) $ by ! (𝓛.lfts.lft-dead μ r)
 
   abbrev pub Begun : ℕ → List Entry → Share → Share → ℕ → Pr
-  Begun p own r s i = guard 𝓤 (IsTurns n.gate × ¬ (p ≡ 0)) (⟦ its_key p own ⟧ ∗ ⟦ Tk ⟧ ∗ ⟦ mark (suc i) (r ∷ []) ⟧ ∗ ⟦ flft μ s ⟧)
+  Begun p own r s i = guard 𝓤 (¬ (p ≡ 0)) (⟦ its_key p own ⟧ ∗ ⟦ Tk ⟧ ∗ ⟦ mark (suc i) (r ∷ []) ⟧ ∗ ⟦ flft μ s ⟧)
 
   pub begins : (p : ℕ) (own : List Entry) (r s : Share) → ⟦ J ⟧ ∗ ⟦ its_key p own ⟧ ∗ ⟦ flft μ r ⟧ ∗ ⟦ flft μ s ⟧ ⊢ upd 𝓤 (⟦ J ⟧ ∗ ex 𝓤 (Begun p own r s))
   begins p own r s = let Z : Pr = ⟦ J ⟧ ∗ ex 𝓤 (Begun p own r s) in qed 𝓛 (‵ J ∷ ‵ (its_key p own) ∷ ‵ (flft μ r) ∷ ‵ (flft μ s) ∷ []) ∵ fpick ! (λ all. fsplit ! $
@@ -128,11 +124,11 @@ module _ {M : Type 1} {𝓤 : Ura M} (𝓛 : Logic 𝓤) (n : Name) (seen : List
       use1 𝓛 (raw (upd 𝓤 (⟦ keys new ⟧ ∗ ⟦ mark (suc (length rows)) (r ∷ []) ⟧))) (mints coded_share 𝓛 δ ([] ∷ rows) 0 (suc (length rows)) (r ∷ []) (omega arith)) $ settle 𝓛 Z (‵ (keys new) ⊛ ‵ (mark (suc (length rows)) (r ∷ []))) $ suffices ! _ (upd_i 𝓤 Z) $ split ! $
       -- [the keys; the mark; the loans; the porter; the share that is kept; the pass's key; the share]
       move ! (2 ∷ 6 ∷ []) $ use2 𝓛 (‵ (haves rows')) (have_more rows r) $ move ! (3 ∷ 5 ∷ []) $
-      use2 𝓛 (given (IsTurns n.gate × ¬ (p ≡ 0)) (‵ (porter_owns n false (suc (length rows)) seen) ⊛ ‵ (its_key p own) ⊛ ‵ (gate_gives n.gate p []))) (out_one 𝓛 n (length rows) p seen own []) $ learn ! (λ so. split3 ! $
+      use2 𝓛 (given (¬ (p ≡ 0)) (‵ (porter_owns n false (suc (length rows)) seen) ⊛ ‵ (its_key p own) ⊛ ‵ (gate_gives n.gate p []))) (out_one 𝓛 n (length rows) p seen own []) $ learn ! (λ so. split3 ! $
       -- [the porter; the pass's key; its ticket; the loans; the keys; the mark; the share that is kept]
       rewrite ! 0 (λ (k : ℕ). ‵ (porter_owns n false k seen)) (let e : suc (length rows) ≡ length rows' = sym (longer rows (r ∷ [])) in e) refl $ move ! (3 ∷ 0 ∷ []) $ fjoin ! $ move ! (3 ∷ 0 ∷ []) $ fjoin ! $
       fpack ! Rows (λ xs. fsep (keys xs) (side n seen μ xs)) new $ frame ! $ show ! (Begun p own r s) (length rows) $ check ! so $
-      move ! (1 ∷ []) $ rewrite ! 0 (λ (P : Fml). ‵ P) (same_ticket n.gate p so.0 so.1) refl $ move ! (1 ∷ 0 ∷ []) $ done !))))
+      move ! (1 ∷ []) $ rewrite ! 0 (λ (P : Fml). ‵ P) (same_ticket n.gate p so) refl $ move ! (1 ∷ 0 ∷ []) $ done !))))
 
   pub settles : (r s : Share) (i : ℕ) → ⟦ J ⟧ ∗ ⟦ mark (suc i) (r ∷ []) ⟧ ∗ ⟦ flent μ Tk ⟧ ∗ ⟦ flft μ s ⟧ ⊢ upd 𝓤 (⟦ J ⟧ ∗ ⟦ flft μ r ⟧ ∗ ⟦ flft μ s ⟧)
   settles r s i = let Z : Pr = ⟦ J ⟧ ∗ ⟦ flft μ r ⟧ ∗ ⟦ flft μ s ⟧ in qed 𝓛 (‵ J ∷ ‵ (mark (suc i) (r ∷ [])) ∷ ‵ (flent μ Tk) ∷ ‵ (flft μ s) ∷ []) ∵ fpick ! (λ all. fsplit ! $

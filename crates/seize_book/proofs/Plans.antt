@@ -4,8 +4,8 @@ use Rattle.std.proofs.lemmas.List.{get_or_past, get_or_append_left, get_or-set_s
 use Rattle.std.proofs.lemmas.Bool.{cases_lt}
 use mathlib.Core.List.{IsPrefix}
 use native.Mathlib.Decide.{ℕ_discrete}
-use Rattle.seize_machine.specs.Machine.State.{State, Slot, Call, Head, Inactive, Active, Mark, Try, Rest, no_batch, no_slot, slot_at, is_active, head_at, batch_at, waiting_at, linked, are_distinct, opening}
-use Rattle.seize_machine.specs.Machine.Event.{Event, slot_of}
+use Rattle.seize_machine.specs.Machine.State.{State, Slot, Call, Head, Inactive, Active, Mark, Try, Rest, no_batch, no_slot, slot_at, is_active, head_at, batch_at, waiting_at, linked_values, are_distinct, opening}
+use Rattle.seize_machine.specs.Machine.Event.{Event, event_slot}
 use Rattle.seize_machine.specs.Machine.Next.{next, look, looked, marked_place}
 use Rattle.seize_machine.specs.Machine.History.{IsReached, Timed, done_by}
 use Rattle.seize_machine.specs.Machine.Frames.{batches_added, changes_head_of, changes_slot}
@@ -13,7 +13,7 @@ use Rattle.seize_machine.specs.declared.machine.event.Answer.{Answer}
 use Rattle.seize_machine.proofs.Facts.{Step, Stands, counted, eq_true, slot_frame, some_is, step_of, batches_length, reached_holds, tries_tidy, head_frame, is_true, and_true}
 use Rattle.seize_book.specs.Blocks.{Plan, no_plan, planned_by, plans, block_in, block_for, list_word, word_of, head_word}
 use Rattle.seize_book.specs.Book.{Kept, TheHead, IsLegalList, after}
-use Rattle.seize_book.specs.Entry.{Entry, Made, Used, timed}
+use Rattle.seize_book.specs.Entry.{Entry, Made, Used, timed_deed}
 use Rattle.seize_book.specs.Tokens.{Name, start}
 use Rattle.seize_book.proofs.Lists.{reached_after}
 use Rattle.seize_book.proofs.Lives.{legal_first}
@@ -24,7 +24,7 @@ pub plans_append : (st : State) (a b : List Entry) → plans st (a ++ b) ≡ pla
 plans_append st [] b = refl
 plans_append st (Used u ∷ a) b = plans_append st a b
 plans_append st (Made e ∷ a) b =
-    let now = (done_by next st (timed e)).0 in
+    let now = (done_by next st (timed_deed e)).0 in
     ap (λ (ps : List Plan). planned_by st e.event ++ ps) (plans_append now a b) ∙ sym (append_assoc (planned_by st e.event) (plans now a) (plans (after now a) b))
 
 pub planned_many : (st : State) (event : Event) → length (planned_by st event) ≡ batches_added event
@@ -39,7 +39,7 @@ many_plans : (st : State) (log : List Entry) → IsLegalList st log → length s
 many_plans st [] l = omega arith
 many_plans st (Used u ∷ log) l = many_plans st log l
 many_plans st (Made e ∷ log) l =
-    let w = legal_first st e log l in let now = (done_by next st (timed e)).0 in
+    let w = legal_first st e log l in let now = (done_by next st (timed_deed e)).0 in
     let same : length now.batches ≡ length st.batches + length (planned_by st e.event) =
     ap (λ (d : State × Answer). length d.0.batches) w.2 ∙ batches_length e.size st e.event w.0 (step_of _ _ _ _ w.1) ∙ ap (λ (k : ℕ). length st.batches + k) (sym (planned_many st e.event)) in
     let rest : length now.batches + length (plans now log) ≡ length (after now log).batches = many_plans now log (subst (λ (d : State × Answer). IsLegalList d.0 log) (sym w.2) w.3) in
@@ -96,7 +96,7 @@ tried_there st s b won m later saw queue r stands = has_values st b (let t = (tr
 pub waiting_there : (st : State) → IsReached st → WaitingThere st
 waiting_there = reached_holds WaitingThere begins goes
   where
-    begins : (slots : ℕ) (links : List (Option ℕ)) → are_distinct (linked links) ≡ true → WaitingThere (opening slots links)
+    begins : (slots : ℕ) (links : List (Option ℕ)) → are_distinct (linked_values links) ≡ true → WaitingThere (opening slots links)
     begins slots links distinct m = subst (λ (h : Head). AllLess 0 (waiting_at h)) (sym (all_inactive slots m)) tt
       where
         all_inactive : (slots m : ℕ) → get_or (replicate slots Inactive) m Inactive ≡ Inactive
@@ -177,7 +177,7 @@ module _ (size : ℕ) (st : State) (waiting : WaitingThere st) (old : SawThere s
   counted_rest s c count walk q d is h =
       let same = some_is _ _ is in let p = at_try _ (written st.slots s _ tries (ap (λ (x : State × Answer). (slot_at x.0 s).call) same ∙ h)) in cc
 
-  saw_step : (event : Event) (d : State × Answer) → Step size st event d → Stands d.0 (slot_of event) (Try b won m later saw) queue → Goal
+  saw_step : (event : Event) (d : State × Answer) → Step size st event d → Stands d.0 (event_slot event) (Try b won m later saw) queue → Goal
   saw_step event _ (Step.took_new s is free) h = old s b won m later saw queue (added_none st.slots _ s tries refl h)
   saw_step event _ (Step.took_old s there off free) h = old s b won m later saw queue (written st.slots s _ tries h)
   saw_step event _ (Step.gave s idle off) h = old s b won m later saw queue (written st.slots s _ tries h)
@@ -207,7 +207,7 @@ module _ (size : ℕ) (st : State) (waiting : WaitingThere st) (old : SawThere s
 pub saw_there : (st : State) → IsReached st → SawThere st
 saw_there = reached_holds SawThere begins goes
   where
-    begins : (slots : ℕ) (links : List (Option ℕ)) → are_distinct (linked links) ≡ true → SawThere (opening slots links)
+    begins : (slots : ℕ) (links : List (Option ℕ)) → are_distinct (linked_values links) ≡ true → SawThere (opening slots links)
     begins slots links distinct s b won m later saw queue h = absurd (none slots s h)
       where
         none : (slots s : ℕ) → (get_or (replicate slots no_slot) s no_slot).call ≡ Some (record { place = Try b won m later saw; queue = queue }) → ⊥
@@ -216,16 +216,16 @@ saw_there = reached_holds SawThere begins goes
         none (suc slots) (suc s) h = none slots s h
 
     goes : (st : State) (t : Timed) (d : State × Answer) → IsReached st → Step t.size st t.event d → SawThere st → SawThere d.0
-    goes st t d r step old s b won m later saw queue h = more_less (length st.batches) (length d.0.batches) saw many (go (is_true (slot_of t.event == s)))
+    goes st t d r step old s b won m later saw queue h = more_less (length st.batches) (length d.0.batches) saw many (go (is_true (event_slot t.event == s)))
       where
         many : length st.batches ≤ length d.0.batches
         many = let is : length d.0.batches ≡ length st.batches + batches_added t.event = batches_length t.size st t.event d step in omega (arith, is)
 
-        go : ((slot_of t.event == s) ≡ true) ⊎ ((slot_of t.event == s) ≡ false) → AllLess (length st.batches) saw
-        go (inl c) = saw_step t.size st (waiting_there st r) old b won m later saw queue t.event d step (subst (λ (k : ℕ). Stands d.0 k (Try b won m later saw) queue) (sym (eq_true (slot_of t.event) s c)) h)
+        go : ((event_slot t.event == s) ≡ true) ⊎ ((event_slot t.event == s) ≡ false) → AllLess (length st.batches) saw
+        go (inl c) = saw_step t.size st (waiting_there st r) old b won m later saw queue t.event d step (subst (λ (k : ℕ). Stands d.0 k (Try b won m later saw) queue) (sym (eq_true (event_slot t.event) s c)) h)
         go (inr n) = old s b won m later saw queue (ap (λ (x : Slot). x.call) (sym (slot_frame s t.size st t.event d step (other t.event n))) ∙ h)
           where
-            other : (event : Event) → (slot_of event == s) ≡ false → changes_slot s event ≡ false
+            other : (event : Event) → (event_slot event == s) ≡ false → changes_slot s event ≡ false
             other (Event.ReadLink i l) n = refl
             other (Event.ExchangeLink i l exchange) n = refl
             other _ n = n
@@ -251,12 +251,12 @@ both_true false y e f = absurd (cc)
 legal_beginning : (st : State) (own more : List Entry) → IsLegalList st (own ++ more) → IsLegalList st own
 legal_beginning st [] more l = refl
 legal_beginning st (Used u ∷ own) more l = legal_beginning st own more l
-legal_beginning st (Made e ∷ own) more l = let a = and_true _ _ l in both_true _ _ a.0 (legal_beginning (done_by next st (timed e)).0 own more a.1)
+legal_beginning st (Made e ∷ own) more l = let a = and_true _ _ l in both_true _ _ a.0 (legal_beginning (done_by next st (timed_deed e)).0 own more a.1)
 
 pub legal_prefix : (st : State) (own log : List Entry) → IsPrefix own log → IsLegalList st log → IsLegalList st own
 legal_prefix st own log grows l = legal_beginning st own grows.0 (subst (IsLegalList st) (sym grows.1) l)
 
-pub head_stays : (n : Name) (m : ℕ) (since log : List Entry) → are_distinct (linked n.links) ≡ true → IsLegalList (start n) log → Kept (start n) TheHead m since log → head_word (start n) since m ≡ head_word (start n) log m
+pub head_stays : (n : Name) (m : ℕ) (since log : List Entry) → are_distinct (linked_values n.links) ≡ true → IsLegalList (start n) log → Kept (start n) TheHead m since log → head_word (start n) since m ≡ head_word (start n) log m
 head_stays n m since log distinct l kept =
     let own = legal_prefix (start n) since log kept.0 l in
     let there = subst (λ (k : ℕ). AllLess k (waiting_at (head_at (after (start n) since) m))) (sym (plans_long n since own)) (waiting_there (after (start n) since) (reached_after n since distinct own) m) in

@@ -9,26 +9,27 @@ use types.Logic.{Logic, sem}
 use types.Kit.{‵, ◌$◌, ◌∵◌, !, qed, move, drop, fsplit, fjoin, rewrite, use1, use2, done}
 use native.Mathlib.Decide.{ℕ_discrete}
 use base.Stored.{Gv}
+use Rattle.seize_content.specs.Cells.{cell_token}
 use Rattle.seize_content.specs.declared.loan.Pool.{Pool}
-use Rattle.seize_store.specs.Known.{content_in, entry_of}
+use Rattle.seize_store.specs.Known.{content_in, entry_of, tells}
 use Rattle.seize_store.specs.declared.known.Known.{Known}
 use Rattle.seize_machine.specs.Machine.State.{State, has, slot_at}
 use Rattle.seize_content.specs.declared.ticket.Ticket.{Ticket}
-use Rattle.seize_book.specs.Adding.{Joins, Parts}
-use Rattle.seize_book.specs.Bare.{Numbers, Places}
-use Rattle.seize_book.specs.Blocks.{block_of}
+use Rattle.seize_book.specs.Adding.{JoinsKeys, Parts}
+use Rattle.seize_book.specs.Bare.{Places}
+use Rattle.seize_book.specs.Blocks.{block_number}
 use Rattle.seize_book.specs.Book.{Kept, TheBlock, after, blocks, rules, slots}
 use Rattle.seize_book.specs.Entry.{Entry}
 use Rattle.seize_book.specs.Fair.{Before}
 use Rattle.seize_book.specs.Homes.{IsVacant, home_of}
-use Rattle.seize_book.specs.Ledger.{AllKept, Held, renewed}
+use Rattle.seize_book.specs.Ledger.{AllKept, HeldKey, renewed}
 use Rattle.seize_book.specs.Lending.{IsHandedBy, IsLentKey, Lends, MayRedeem, Redeems}
 use Rattle.seize_book.specs.Loans.{Carries, CarriesNone, cell_of, loan_number, loan_of, place_of}
 use Rattle.seize_book.specs.Books.{IsNextIn, MaySettle}
 use Rattle.seize_book.specs.Others.{FollowsValue, IsLast, IsLastIn, Renames, labelled, state_of, value_of}
 use Rattle.seize_book.specs.Private.{is_one, key_of, label_of, own_of}
-use Rattle.seize_book.specs.Slots.{hands_next, number_of, own_list, slot_of}
-use Rattle.seize_book.specs.Tokens.{Name, chunk_label, leads, leads_in, note_in, told_of, rights_own, keys_own, start, way}
+use Rattle.seize_book.specs.Slots.{hands_next, own_list, slot_number, slot_of}
+use Rattle.seize_book.specs.Tokens.{Name, chunk_label, leads, chunk_tag, rights_own, keys_own, start, way}
 use Rattle.seize_book.specs.declared.book.keys.Keys.{Keys}
 use Rattle.seize_book.specs.declared.book.pass.Pass.{Pass}
 use Rattle.seize_book.specs.declared.book.slot_key.SlotKey.{SlotKey}
@@ -45,49 +46,42 @@ past [] = (0, λ v le. refl)
 past (x ∷ xs) = let rest = past xs in
     (suc x + rest.0, λ v le. or_from (x == v) (has v xs) (unequal x v (λ e. omega (arith, le, e))) (rest.1 v (omega (arith, le))))
 
-small : (v : ℕ) → block_of v < 2 ^ 64
+small : (v : ℕ) → block_number v < 2 ^ 64
 small v = omega arith
 
 -- a value of the same block that was never named
-another : (n : Name) (held : List (Held Entry))
-    → (v : ℕ) × (home_of v ≡ home_of (label_of held)) × (block_of v ≡ block_of (label_of held)) × ((past (after (start n) (own_of held)).named).0 ≤ v)
+another : (n : Name) (held : List (HeldKey Entry))
+    → (v : ℕ) × (home_of v ≡ home_of (label_of held)) × (block_number v ≡ block_number (label_of held)) × ((past (after (start n) (own_of held)).named).0 ≤ v)
     × (place_of v ≡ place_of (label_of held)) × (loan_of v ≡ 0) × (cell_of v ≡ cell_of (label_of held))
 another n held =
-    another_with (home_of (label_of held)) (place_of (label_of held)) 0 (cell_of (label_of held)) (block_of (label_of held)) (past (after (start n) (own_of held)).named).0 (small (label_of held))
+    another_with (home_of (label_of held)) (place_of (label_of held)) 0 (cell_of (label_of held)) (block_number (label_of held)) (past (after (start n) (own_of held)).named).0 (small (label_of held))
 
-pub fresh : Name → List (Held Entry) → ℕ
+pub fresh : Name → List (HeldKey Entry) → ℕ
 fresh n held = (another n held).0
 
-pub fresh_home : (n : Name) (held : List (Held Entry)) → (home_of (label_of held) ≡ home_of (fresh n held)) × (block_of (label_of held) ≡ block_of (fresh n held)) × (place_of (label_of held) ≡ place_of (fresh n held)) × CarriesNone (fresh n held) × (cell_of (label_of held) ≡ cell_of (fresh n held))
+pub fresh_home : (n : Name) (held : List (HeldKey Entry)) → (home_of (label_of held) ≡ home_of (fresh n held)) × (block_number (label_of held) ≡ block_number (fresh n held)) × (place_of (label_of held) ≡ place_of (fresh n held)) × CarriesNone (fresh n held) × (cell_of (label_of held) ≡ cell_of (fresh n held))
 unfolding fresh
 fresh_home n held = let v = another n held in (sym v.1, sym v.2, sym v.4, v.5, sym v.6)
 
-pub renames : (marker : _) (n : Name) (held : List (Held Entry))
+pub renames : (marker : _) (n : Name) (held : List (HeldKey Entry))
     → Renames (record { marker = marker; name = n; held = held }) (record { marker = marker; name = n; held = labelled (fresh n held) held })
 unfolding fresh
 renames marker n held = let v = another n held in
     record { value = v.0; book = refl; held = refl; home = v.1; numbered = v.2; unnamed = (past (after (start n) (own_of held)).named).1 v.0 v.3; place = v.4; cell = v.6; free = v.5 }
 
 -- the same, where the book is named by another
-pub renames_in : (marker : _) (n m : Name) → n ≡ m → (held : List (Held Entry))
+pub renames_in : (marker : _) (n m : Name) → n ≡ m → (held : List (HeldKey Entry))
     → Renames (record { marker = marker; name = n; held = held }) (record { marker = marker; name = m; held = labelled (fresh n held) held })
 unfolding fresh
 renames_in marker n m same held = let r = renames marker n held in
     record { value = r.value; book = sym same; held = r.held; home = r.home; numbered = r.numbered; unnamed = r.unnamed; place = r.place; cell = r.cell; free = r.free }
 
 -- of a block whose number is still to be said, one with this number and this place
-pub fresh_at : (n : Name) (held : List (Held Entry)) (place number : ℕ) → number < 2 ^ 64 → ℕ
+pub fresh_at : (n : Name) (held : List (HeldKey Entry)) (place number : ℕ) → number < 2 ^ 64 → ℕ
 fresh_at n held place number fits = (another_with (key_of held) place 0 (cell_of (label_of held)) number (past (after (start n) (own_of held)).named).0 fits).0
 
-pub numbers : (marker : _) (n : Name) (held : List (Held Entry)) (number : ℕ) (fits : number < 2 ^ 64)
-    → Numbers (record { marker = marker; name = n; held = held }) (record { marker = marker; name = n; held = labelled (fresh_at n held (place_of (label_of held)) number fits) held }) number
-unfolding fresh_at
-numbers marker n held number fits =
-    let bound = past (after (start n) (own_of held)).named in let v = another_with (key_of held) (place_of (label_of held)) 0 (cell_of (label_of held)) number bound.0 fits in
-    record { value = v.0; book = refl; held = refl; home = v.1; numbered = v.2; unnamed = bound.1 v.0 v.3; place = v.4; cell = v.6; free = v.5 }
-
 -- of a block in a store, one with this number and with the place of the content there
-pub places : (r m : _) (n : Name) (held : List (Held Entry)) (number : ℕ) (fits : number < 2 ^ 64) (known : Known)
+pub places : (r m : _) (n : Name) (held : List (HeldKey Entry)) (number : ℕ) (fits : number < 2 ^ 64) (known : Known)
     → let place : ℕ = content_in known.chunks (entry_of known.row number) in
     Places (record { marker = r; name = n; held = held }) number known (record { marker = m; name = n; held = labelled (fresh_at n held place number fits) held })
 unfolding fresh_at
@@ -95,69 +89,54 @@ places r m n held number fits known =
     let bound = past (after (start n) (own_of held)).named in let v = another_with (key_of held) (content_in known.chunks (entry_of known.row number)) 0 (cell_of (label_of held)) number bound.0 fits in
     record { value = v.0; book = refl; held = refl; home = v.1; numbered = v.2; unnamed = bound.1 v.0 v.3; place = v.4; cell = v.6; free = v.5 }
 
-pub placed_at : (n : Name) (held : List (Held Entry)) (place number : ℕ) (fits : number < 2 ^ 64)
-    → let v : ℕ = fresh_at n held place number fits in (home_of v ≡ key_of held) × (block_of v ≡ number) × (place_of v ≡ place) × CarriesNone v × (cell_of (label_of held) ≡ cell_of v)
+pub placed_at : (n : Name) (held : List (HeldKey Entry)) (place number : ℕ) (fits : number < 2 ^ 64)
+    → let v : ℕ = fresh_at n held place number fits in (home_of v ≡ key_of held) × (block_number v ≡ number) × (place_of v ≡ place) × CarriesNone v × (cell_of (label_of held) ≡ cell_of v)
 unfolding fresh_at
 placed_at n held place number fits = let v = another_with (key_of held) place 0 (cell_of (label_of held)) number (past (after (start n) (own_of held)).named).0 fits in (v.1, v.2, v.4, v.5, sym v.6)
 
 -- one with which a content is lent
-pub fresh_lent : Name → List (Held Entry) → ℕ → Gv → ℕ
+pub fresh_lent : Name → List (HeldKey Entry) → ℕ → Gv → ℕ
 fresh_lent n held c g =
-    (another_with (home_of (label_of held)) c (loan_number g) (cell_of (label_of held)) (block_of (label_of held)) (past (after (start n) (own_of held)).named).0 (small (label_of held))).0
+    (another_with (home_of (label_of held)) c (loan_number g) (cell_of (label_of held)) (block_number (label_of held)) (past (after (start n) (own_of held)).named).0 (small (label_of held))).0
 
-pub fresh_lent_is : (n : Name) (held : List (Held Entry)) (c : ℕ) (g : Gv)
-    → (home_of (label_of held) ≡ home_of (fresh_lent n held c g)) × (block_of (label_of held) ≡ block_of (fresh_lent n held c g)) × Carries (fresh_lent n held c g) c g × (cell_of (label_of held) ≡ cell_of (fresh_lent n held c g))
+pub fresh_lent_is : (n : Name) (held : List (HeldKey Entry)) (c : ℕ) (g : Gv)
+    → (home_of (label_of held) ≡ home_of (fresh_lent n held c g)) × (block_number (label_of held) ≡ block_number (fresh_lent n held c g)) × Carries (fresh_lent n held c g) c g × (cell_of (label_of held) ≡ cell_of (fresh_lent n held c g))
 unfolding fresh_lent
 fresh_lent_is n held c g =
-    let v = another_with (home_of (label_of held)) c (loan_number g) (cell_of (label_of held)) (block_of (label_of held)) (past (after (start n) (own_of held)).named).0 (small (label_of held)) in
+    let v = another_with (home_of (label_of held)) c (loan_number g) (cell_of (label_of held)) (block_number (label_of held)) (past (after (start n) (own_of held)).named).0 (small (label_of held)) in
     (sym v.1, sym v.2, (v.4, v.5), sym v.6)
 
-pub lends : (marker : _) (n : Name) (held : List (Held Entry)) (pool : Pool)
+pub lends : (marker : _) (n : Name) (held : List (HeldKey Entry)) (pool : Pool)
     → Lends (record { marker = marker; name = n; held = held }) pool (record { marker = marker; name = n; held = labelled (fresh_lent n held pool.name pool.value) held })
 unfolding fresh_lent
 lends marker n held pool =
-    let named = past (after (start n) (own_of held)).named in let v = another_with (home_of (label_of held)) pool.name (loan_number pool.value) (cell_of (label_of held)) (block_of (label_of held)) named.0 (small (label_of held)) in
+    let named = past (after (start n) (own_of held)).named in let v = another_with (home_of (label_of held)) pool.name (loan_number pool.value) (cell_of (label_of held)) (block_number (label_of held)) named.0 (small (label_of held)) in
     record { value = v.0; book = refl; held = refl; home = v.1; numbered = v.2; unnamed = named.1 v.0 v.3; cell = v.6; carries = (v.4, v.5) }
 
--- the place of the content that is lent, where blocks lie in a store
-pub at_place : (store : Option (List ℕ)) (w c d v : ℕ) → (store ≡ None) ⊎ (place_of w ≡ c) → c ≡ d → place_of v ≡ d → (store ≡ None) ⊎ (place_of w ≡ place_of v)
-at_place store w c d v (inl none) same is = inl none
-at_place store w c d v (inr place) same is = inr (place ∙ (same ∙ sym is))
-
-own_labelled : (v : ℕ) (held : List (Held Entry)) → own_of (labelled v held) ≡ own_of held
+own_labelled : (v : ℕ) (held : List (HeldKey Entry)) → own_of (labelled v held) ≡ own_of held
 own_labelled v [] = refl
 own_labelled v (h ∷ held) = refl
 
-label_one : (held : List (Held Entry)) (v : ℕ) → is_one blocks held ≡ true → label_of (labelled v held) ≡ v
+label_one : (held : List (HeldKey Entry)) (v : ℕ) → is_one blocks held ≡ true → label_of (labelled v held) ≡ v
 label_one [] v one = absurd (cc)
 label_one (h ∷ held) v one = refl
 
 module _ {M : Type 1} {𝓤 : Ura M} (𝓛 : Logic 𝓤) (n : Name) where
-  pub same_lead : (v w : ℕ) → home_of v ≡ home_of w → block_of v ≡ block_of w → place_of v ≡ place_of w → cell_of v ≡ cell_of w → leads n v ≡ leads n w
-  same_lead v w home block place cell = ap (λ (t : (ℕ × ℕ) × (ℕ × ℕ)). leads_in n.store t.0.0 (chunk_label n t.1.0 t.0.1, t.1.1)) (λ j. ((block j, cell j), (home j, place j)))
-
-  -- where blocks lie in no store, nothing is said of the place
-  pub lent_lead : (v w : ℕ) → home_of v ≡ home_of w → block_of v ≡ block_of w → (n.store ≡ None) ⊎ (place_of v ≡ place_of w) → cell_of v ≡ cell_of w → leads n v ≡ leads n w
-  lent_lead v w home block (inl none) cell =
-      ap (λ (s : Option (List ℕ)). leads_in s (block_of v) (told_of n v)) none ∙ sym (ap (λ (s : Option (List ℕ)). leads_in s (block_of w) (told_of n w)) none)
-  lent_lead v w home block (inr place) cell = same_lead v w home block place cell
-
-  pub right_labelled : (held : List (Held Entry)) (v : ℕ) → ent 𝓤 (sem 𝓛 (rights_own n held)) (sem 𝓛 (rights_own n (labelled v held)))
-  right_labelled [] v = qed 𝓛 (‵ (rights_own n []) ∷ []) ∵ done !
-  right_labelled (h ∷ held) v = qed 𝓛 (‵ (rights_own n (h ∷ held)) ∷ []) ∵ done !
+  pub same_lead : (v w : ℕ) → home_of v ≡ home_of w → block_number v ≡ block_number w → place_of v ≡ place_of w → cell_of v ≡ cell_of w → leads n v ≡ leads n w
+  same_lead v w home block place cell = ap (λ (t : (ℕ × ℕ) × (ℕ × ℕ)). tells n.store t.0.0 (chunk_label n t.1.0 t.0.1, t.1.1)) (λ j. ((block j, cell j), (home j, place j)))
 
   -- a label is no part of the right, and its number leads to the same home
-  pub relabels : (held : List (Held Entry)) (v : ℕ) → is_one blocks held ≡ true → home_of (label_of held) ≡ home_of v → block_of (label_of held) ≡ block_of v → place_of (label_of held) ≡ place_of v → CarriesNone v → cell_of (label_of held) ≡ cell_of v
+  pub relabels : (held : List (HeldKey Entry)) (v : ℕ) → is_one blocks held ≡ true → home_of (label_of held) ≡ home_of v → block_number (label_of held) ≡ block_number v → place_of (label_of held) ≡ place_of v → CarriesNone v → cell_of (label_of held) ≡ cell_of v
       → ent 𝓤 (sem 𝓛 (keys_own n held)) (sem 𝓛 (keys_own n (labelled v held)))
   relabels [] v one home block place none cell = absurd (cc)
   relabels (h ∷ g ∷ held) v one home block place none cell = absurd (cc)
-  relabels (h ∷ []) v one home block place none cell = let h' : Held Entry = record { kind = h.kind; key = h.key; own = h.own; label = v; note = h.note } in let L : Fml = leads n h.label in
+  relabels (h ∷ []) v one home block place none cell = let h' : HeldKey Entry = record { kind = h.kind; key = h.key; own = h.own; label = v; note = h.note } in let L : Fml = leads n h.label in
       qed 𝓛 (‵ (keys_own n (h ∷ [])) ∷ []) ∵ fsplit ! $ fsplit ! $ move ! (1 ∷ []) $ use1 𝓛 (‵ (block_ways 𝓛 n h.label h.note)) (way_opens 𝓛 n h one) $ fsplit ! $ fsplit ! $ move ! (1 ∷ []) $ drop ! $
       -- [where it leads; the note; the right; nothing], for what was lent is let go
-      rewrite ! 0 (λ (F : Fml). ‵ F) (same_lead h.label v home block place cell) refl $ rewrite ! 1 (λ (c : ℕ). ‵ (note_in n.store c h.note)) cell refl $ use2 𝓛 (‵ (way n h')) (bare_way 𝓛 n h' none one) $ move ! (1 ∷ 0 ∷ []) $ fjoin ! $ fjoin ! $ done !
+      rewrite ! 0 (λ (F : Fml). ‵ F) (same_lead h.label v home block place cell) refl $ rewrite ! 1 (λ (c : ℕ). ‵ (cell_token c h.note)) cell refl $ use2 𝓛 (‵ (way n h')) (bare_way 𝓛 n h' none one) $ move ! (1 ∷ 0 ∷ []) $ fjoin ! $ fjoin ! $ done !
 
 -- the first of several keys, which is a block's: it is renamed by itself
-pub first_labelled : (held more : List (Held Entry)) (v : ℕ) → is_one blocks held ≡ true
+pub first_labelled : (held more : List (HeldKey Entry)) (v : ℕ) → is_one blocks held ≡ true
     → (label_of (held ++ more) ≡ label_of held) × (own_of (held ++ more) ≡ own_of held)
     × (take 1 (labelled v (held ++ more)) ≡ labelled v held) × (past_first 1 (labelled v (held ++ more)) ≡ more)
 first_labelled [] more v one = absurd (cc)
@@ -165,7 +144,7 @@ first_labelled (x ∷ y ∷ held) more v one = absurd (cc)
 first_labelled (x ∷ []) more v one = (refl, refl, refl, refl)
 
 module _ (keys other all none redeemed parted other' : Keys) (ticket : Ticket) (pool : Pool) (one : is_one blocks keys.held ≡ true)
-    (joins : Joins keys other all none) (redeems : Redeems all redeemed ticket pool) (parts : Parts redeemed parted other') where
+    (joins : JoinsKeys keys other all none) (redeems : Redeems all redeemed ticket pool) (parts : Parts redeemed parted other') where
   abbrev r : Renames all redeemed
   r = redeems.0
 
@@ -182,7 +161,7 @@ module _ (keys other all none redeemed parted other' : Keys) (ticket : Ticket) (
     book = parts.0 ∙ r.book ∙ joins.0;
     held = parts.2 ∙ ap (take 1) (r.held ∙ ap (labelled r.value) joins.2) ∙ first.2;
     home = r.home ∙ ap home_of label;
-    numbered = r.numbered ∙ ap block_of label;
+    numbered = r.numbered ∙ ap block_number label;
     unnamed = subst (λ (st : State). has r.value st.named ≡ false) (ap (λ (t : Name × List Entry). after (start t.0) t.1) (λ j. (joins.0 j, (ap own_of joins.2 ∙ first.1) j))) r.unnamed;
     place = r.place ∙ ap place_of label;
     cell = r.cell ∙ ap cell_of label;
@@ -220,12 +199,12 @@ module _ (value : ValueKey) (renamed : Keys) (is : Renames value.keys renamed) w
   pub renamed_free : CarriesNone (label_of renamed.held)
   renamed_free = ap loan_of its_value ∙ is.free
 
-  pub renamed_number : block_of (label_of renamed.held) ≡ block_of u
-  renamed_number = ap block_of its_value ∙ is.numbered
+  pub renamed_number : block_number (label_of renamed.held) ≡ block_number u
+  renamed_number = ap block_number its_value ∙ is.numbered
 
   pub next_after : IsLast value
       → (has (label_of renamed.held) (state_of renamed).named ≡ false) × IsLastIn u (state_of renamed) × (home_of (label_of renamed.held) ≡ home_of u)
-      × (block_of (label_of renamed.held) ≡ block_of u)
+      × (block_number (label_of renamed.held) ≡ block_number u)
   next_after last = (
     subst (λ (t : ℕ × State). has t.0 t.1.named ≡ false) (λ j. (sym its_value j, sym state_same j)) is.unnamed,
     subst (IsLastIn u) (sym state_same) last,
@@ -243,7 +222,7 @@ module _ (value : ValueKey) (pass : Pass) (seen' : List Entry) (looked : Keys) (
   w = label_of value.keys.held
 
   kept : Kept st TheBlock (key_of value.keys.held) (own_of value.keys.held) seen'
-  kept = (subst (λ (hs : List (Held Entry)). AllKept (rules st) hs seen') (only_is blocks value.keys.held value.one) before.kept).0
+  kept = (subst (λ (hs : List (HeldKey Entry)). AllKept (rules st) hs seen') (only_is blocks value.keys.held value.one) before.kept).0
 
   in_book : state_of value.keys ≡ after st (own_of value.keys.held)
   in_book = ap (λ (n : Name). after (start n) (own_of value.keys.held)) book
@@ -272,11 +251,11 @@ module _ (value : ValueKey) (pass : Pass) (seen' : List Entry) (looked : Keys) (
   unnamed false named new = named
 
   pub settled : MaySettle value pass
-      → (has (label_of looked.held) (state_of looked).named ≡ false) × IsVacant (state_of looked) (home_of (label_of looked.held)) × (block_of (label_of looked.held) ≡ block_of w)
+      → (has (label_of looked.held) (state_of looked).named ≡ false) × IsVacant (state_of looked) (home_of (label_of looked.held)) × (block_number (label_of looked.held) ≡ block_number w)
   settled may = (
     subst (λ (t : ℕ × State). has t.0 t.1.named ≡ false) (λ j. (sym same_label j, sym state_looked j)) (unnamed (has w (after st seen').named) refl may.1.0),
     subst (λ (t : ℕ × State). IsVacant t.1 (home_of t.0)) (λ j. (sym same_label j, sym state_looked j)) (all_gone may),
-    ap block_of same_label,
+    ap block_number same_label,
   )
 
 -- what follows is for the same value
@@ -285,7 +264,7 @@ follows_value value value' pass' follows = ap label_of follows.1 ∙ renewed_lab
 
 -- what a key knows that was labelled with another value of its block, which was never named
 module _ (value : ValueKey) (renamed : Keys) (v : ℕ) (book : renamed.name ≡ value.keys.name) (held : renamed.held ≡ labelled v value.keys.held) (home : home_of v ≡ home_of (value_of value))
-    (numbered : block_of v ≡ block_of (value_of value)) (unnamed : has v (state_of value.keys).named ≡ false) (next : IsNextIn value (block_of (value_of value))) where
+    (numbered : block_number v ≡ block_number (value_of value)) (unnamed : has v (state_of value.keys).named ≡ false) (next : IsNextIn value (block_number (value_of value))) where
   new_value : label_of renamed.held ≡ v
   new_value = ap label_of held ∙ label_one value.keys.held v value.one
 
@@ -295,19 +274,19 @@ module _ (value : ValueKey) (renamed : Keys) (v : ℕ) (book : renamed.name ≡ 
   new_home : home_of (label_of renamed.held) ≡ home_of (value_of value)
   new_home = ap home_of new_value ∙ home
 
-  new_next : (has (label_of renamed.held) (state_of renamed).named ≡ false) × IsVacant (state_of renamed) (home_of (label_of renamed.held)) × (block_of (label_of renamed.held) ≡ block_of (value_of value))
+  new_next : (has (label_of renamed.held) (state_of renamed).named ≡ false) × IsVacant (state_of renamed) (home_of (label_of renamed.held)) × (block_number (label_of renamed.held) ≡ block_number (value_of value))
   new_next = (
     subst (λ (t : ℕ × State). has t.0 t.1.named ≡ false) (λ j. (sym new_value j, sym new_state j)) unnamed,
     subst (λ (t : ℕ × State). IsVacant t.1 t.0) (λ j. (sym new_home j, sym new_state j)) next.1,
-    ap block_of new_value ∙ numbered,
+    ap block_number new_value ∙ numbered,
   )
 
 -- one with which a content is lent
-module _ (value : ValueKey) (pool : Pool) (lent : Keys) (is : Lends value.keys pool lent) (next : IsNextIn value (block_of (value_of value))) where
+module _ (value : ValueKey) (pool : Pool) (lent : Keys) (is : Lends value.keys pool lent) (next : IsNextIn value (block_number (value_of value))) where
   pub lent_home : home_of (label_of lent.held) ≡ home_of (value_of value)
   lent_home = new_home value lent is.value is.book is.held is.home is.numbered is.unnamed next
 
-  pub lent_next : (has (label_of lent.held) (state_of lent).named ≡ false) × IsVacant (state_of lent) (home_of (label_of lent.held)) × (block_of (label_of lent.held) ≡ block_of (value_of value))
+  pub lent_next : (has (label_of lent.held) (state_of lent).named ≡ false) × IsVacant (state_of lent) (home_of (label_of lent.held)) × (block_number (label_of lent.held) ≡ block_number (value_of value))
   lent_next = new_next value lent is.value is.book is.held is.home is.numbered is.unnamed next
 
   pub lent_cell : cell_of (label_of lent.held) ≡ cell_of (value_of value)
@@ -317,14 +296,14 @@ module _ (value : ValueKey) (pool : Pool) (lent : Keys) (is : Lends value.keys p
   lent_goes = subst (λ (v : ℕ). Carries v pool.name pool.value) (sym (new_value value lent is.value is.book is.held is.home is.numbered is.unnamed next)) is.carries
 
 -- and one from which what was lent came back, with no look at the list
-module _ (value : ValueKey) (back : Keys) (is : Renames value.keys back) (next : IsNextIn value (block_of (value_of value))) where
+module _ (value : ValueKey) (back : Keys) (is : Renames value.keys back) (next : IsNextIn value (block_number (value_of value))) where
   back_value : label_of back.held ≡ is.value
   back_value = new_value value back is.value is.book is.held is.home is.numbered is.unnamed next
 
   pub back_home : home_of (label_of back.held) ≡ home_of (value_of value)
   back_home = new_home value back is.value is.book is.held is.home is.numbered is.unnamed next
 
-  pub back_next : (has (label_of back.held) (state_of back).named ≡ false) × IsVacant (state_of back) (home_of (label_of back.held)) × (block_of (label_of back.held) ≡ block_of (value_of value))
+  pub back_next : (has (label_of back.held) (state_of back).named ≡ false) × IsVacant (state_of back) (home_of (label_of back.held)) × (block_number (label_of back.held) ≡ block_number (value_of value))
   back_next = new_next value back is.value is.book is.held is.home is.numbered is.unnamed next
 
   pub back_place : place_of (label_of back.held) ≡ place_of (value_of value)
@@ -341,10 +320,10 @@ pub may_redeem : (value : ValueKey) (slot : SlotKey) (pass : Pass) (both : Keys)
     → hands_next (slot_of slot) ≡ Some (value_of value) → IsLentKey value → MayRedeem both pass
 may_redeem value slot pass both book of name held soon lent = (
   name ∙ book,
-  subst (IsHandedBy pass.name) (sym (held ∙ ap (λ (t : List (Held Entry) × List (Held Entry)). t.0 ++ t.1) (λ j. (only_is blocks value.keys.held value.one j, only_is slots slot.keys.held slot.one j)))) (
+  subst (IsHandedBy pass.name) (sym (held ∙ ap (λ (t : List (HeldKey Entry) × List (HeldKey Entry)). t.0 ++ t.1) (λ j. (only_is blocks value.keys.held value.one j, only_is slots slot.keys.held slot.one j)))) (
     refl,
     refl,
     lent,
-    subst (λ (n : Name). hands_next (slot_at (after (start n) (own_list slot)) (number_of slot)) ≡ Some (value_of value)) of soon,
+    subst (λ (n : Name). hands_next (slot_at (after (start n) (own_list slot)) (slot_number slot)) ≡ Some (value_of value)) of soon,
   ),
 )

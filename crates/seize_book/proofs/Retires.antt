@@ -10,15 +10,16 @@ use Rattle.seize_machine.specs.declared.machine.event.Answer.TheVariants.{Done}
 use Rattle.seize_machine.specs.declared.machine.event.Job.{Job}
 use Rattle.seize_machine.specs.declared.machine.event.Job.TheVariants.{Retire}
 use Rattle.seize_machine.proofs.Facts.{Step, next_of, step_of, beginning, eq_true, gone_named, is_true, loose_named}
-use Rattle.seize_book.specs.Ledger.{Held, renewed}
+use Rattle.seize_book.specs.Ledger.{HeldKey, renewed}
 use Rattle.seize_book.specs.Entry.{Entry, Made, Deed}
 use Rattle.seize_book.specs.Book.{IsLegalList, after, blocks, slots}
 use Rattle.seize_book.specs.Fair.{Before, Covers, Fair, MayAdd, pass_key}
 use Rattle.seize_book.specs.Homes.{HasOne, IsVacant, home_of}
 use Rattle.seize_book.specs.Others.{IsLastIn, IsSpent, MayBegin, state_of, value_of}
 use Rattle.seize_book.specs.Private.{is_one, key_of, label_of, own_of}
-use Rattle.seize_book.specs.Tokens.{IsLentIn, Name, Noted, start}
-use Rattle.seize_book.specs.Adding.{telling}
+use Rattle.seize_book.specs.Loans.{CarriesOne}
+use Rattle.seize_book.specs.Tokens.{Name, Noted, start}
+use Rattle.seize_book.specs.Adding.{deed_with_words}
 use Rattle.seize_book.specs.declared.book.keys.Keys.{Keys}
 use Rattle.seize_book.specs.declared.book.pass.Pass.{Pass}
 use Rattle.seize_book.specs.declared.book.value_key.ValueKey.{ValueKey}
@@ -29,7 +30,7 @@ use Rattle.seize_book.proofs.Sound.{has_last, new_named, old_named, pushed, vaca
 retires : ℕ → ℕ → ℕ → ℕ → List ℕ → Deed
 retires p size s v kepts = record { pass = p; size = size; event = Begin s (Retire v); life = 0; kepts = kepts }
 
-covers : (st : State) (log : List Entry) (p size v : ℕ) (kepts : List ℕ) (mine : List Entry) (a b : List (Held Entry)) → key_of b ≡ home_of v
+covers : (st : State) (log : List Entry) (p size v : ℕ) (kepts : List ℕ) (mine : List Entry) (a b : List (HeldKey Entry)) → key_of b ≡ home_of v
     → Covers st (pass_key p mine ∷ (only slots a ++ only blocks b)) log (Made (retires p size (key_of a) v kepts))
 unfolding retires
 covers st log p size v kepts mine a b home zero k other there = differ p k (λ i. other.0 (refl, i))
@@ -54,12 +55,12 @@ added v named u = go (has v named)
 later : (v k n : ℕ) → v < n → n ≤ k → (v == k) ≡ false
 later v k n l le = grind arith
 
-pub may_retire : (n : Name) (p size : ℕ) (kepts : List ℕ) (seen : List Entry) (a b : List (Held Entry)) → is_one slots a ≡ true → is_one blocks b ≡ true → key_of b ≡ home_of (label_of b) → is_idle (slot_at (after (start n) (own_of a)) (key_of a)) ≡ true → MayBegin n (label_of b) (after (start n) (own_of b))
+pub may_retire : (n : Name) (p size : ℕ) (kepts : List ℕ) (seen : List Entry) (a b : List (HeldKey Entry)) → is_one slots a ≡ true → is_one blocks b ≡ true → key_of b ≡ home_of (label_of b) → is_idle (slot_at (after (start n) (own_of a)) (key_of a)) ≡ true → MayBegin (label_of b) (after (start n) (own_of b))
     → MayAdd n p seen (a ++ b) (record { pass = p; size = size; event = Begin (key_of a) (Retire (label_of b)); life = 0; kepts = kepts })
 unfolding retires
 may_retire n p size kepts seen a b one one' home idle may =
-    subst (λ (hs : List (Held Entry)). MayAdd n p seen (hs ++ b) (retires p size (key_of a) (label_of b) kepts)) (sym (only_is slots a one))
-    (subst (λ (hs : List (Held Entry)). MayAdd n p seen (only slots a ++ hs) (retires p size (key_of a) (label_of b) kepts)) (sym (only_is blocks b one'))
+    subst (λ (hs : List (HeldKey Entry)). MayAdd n p seen (hs ++ b) (retires p size (key_of a) (label_of b) kepts)) (sym (only_is slots a one))
+    (subst (λ (hs : List (HeldKey Entry)). MayAdd n p seen (only slots a ++ hs) (retires p size (key_of a) (label_of b) kepts)) (sym (only_is blocks b one'))
     ((omega arith, (omega arith, tt)), (λ lives. refl), (λ s. refl), fair))
   where
     fair : (mine log : List Entry) → Before n p seen (only slots a ++ only blocks b) log → Fair n (pass_key p mine ∷ (only slots a ++ only blocks b)) log (Made (retires p size (key_of a) (label_of b) kepts))
@@ -76,7 +77,7 @@ may_retire n p size kepts seen a b one one' home idle may =
           names = λ many was there. (there.0, (λ k le. refl), (λ k le. later (home_of v) k (many blocks) (subst (λ (z : ℕ). z < many blocks) home there.1.1.0) le), λ f le. refl);
           leads = tt;
           labels = λ u named. ⊎_elim
-              (λ is. ⊎_elim (λ h. inr (inr (inr (inl (refl, sym is))), subst (IsLentIn n) (sym is) h.2)) (λ h. inl (subst (λ (w : ℕ). has w st.named ≡ true) (sym is) (sym value.0 ∙ h.0))) may)
+              (λ is. ⊎_elim (λ h. inr (inr (inr (inl (refl, sym is))), subst CarriesOne (sym is) h.2)) (λ h. inl (subst (λ (w : ℕ). has w st.named ≡ true) (sym is) (sym value.0 ∙ h.0))) may)
               (λ was. inl was) (added v st.named u named);
           places = λ makes. absurd (cc);
           one = ⊎_elim (λ h. new_named size st (Begin s (Retire v)) d v step (added v st.named)
@@ -112,10 +113,10 @@ spends size st v event _ (Step.begun_other s job place idle which from) h = othe
 spends size st v event _ _ h = absurd (cc)
 
 -- and so does its key know
-pub spent : (pass : Pass) (seen' : List Entry) (value value' : Keys) (s : ℕ) (kepts : List ℕ) (noted : Noted pass.name pass.id pass.seen seen' (Made (telling pass (Begin s (Retire (label_of value.held))) kepts)))
+pub spent : (pass : Pass) (seen' : List Entry) (value value' : Keys) (s : ℕ) (kepts : List ℕ) (noted : Noted pass.name pass.id pass.seen seen' (Made (deed_with_words pass (Begin s (Retire (label_of value.held))) kepts)))
     → is_one blocks value.held ≡ true → value.name ≡ pass.name → value'.name ≡ value.name → value'.held ≡ renewed value.held seen' → IsSpent (label_of value'.held) (state_of value')
 spent pass seen' value value' s kepts noted one book name held =
-    let v : ℕ = label_of value.held in let e : Deed = telling pass (Begin s (Retire v)) kepts in
+    let v : ℕ = label_of value.held in let e : Deed = deed_with_words pass (Begin s (Retire v)) kepts in
     let now = subst (IsSpent v) (sym noted.leads) (spends e.size (after (start pass.name) noted.before) v e.event (noted.later, noted.answer) (step_of _ _ _ _ noted.does) (itself v)) in
     let known = ap own_of held ∙ renewed_own value.held seen' one in
     subst (λ (st : State). IsSpent (label_of value'.held) st) (sym (ap (λ (n : Name). after (start n) (own_of value'.held)) (name ∙ book) ∙ ap (λ (l : List Entry). after (start pass.name) l) known))
@@ -124,7 +125,7 @@ spent pass seen' value value' s kepts noted one book name held =
     itself : (v : ℕ) → (v == v) ≡ true
     itself v = grind arith
 
-    renewed_own : (held : List (Held Entry)) (seen : List Entry) → is_one blocks held ≡ true → own_of (renewed held seen) ≡ seen
+    renewed_own : (held : List (HeldKey Entry)) (seen : List Entry) → is_one blocks held ≡ true → own_of (renewed held seen) ≡ seen
     renewed_own [] seen h = absurd (cc)
     renewed_own (x ∷ xs) seen h = refl
 
@@ -138,7 +139,7 @@ not_gone size st _ _ _ r (Step.begun_retire s v idle may) = ⊎_elim (λ unnamed
 not_gone size st _ _ _ r (Step.begun_other s job place idle which from) = absurd (let x : Option.None ≡ Some place = from.1 in cc)
 
 -- and all others of its block were, as its key knows
-pub last : (pass : Pass) (seen' : List Entry) (value : ValueKey) (keys' : Keys) (s : ℕ) (kepts : List ℕ) (noted : Noted pass.name pass.id pass.seen seen' (Made (telling pass (Begin s (Retire (value_of value))) kepts))) → value.keys.name ≡ pass.name
+pub last : (pass : Pass) (seen' : List Entry) (value : ValueKey) (keys' : Keys) (s : ℕ) (kepts : List ℕ) (noted : Noted pass.name pass.id pass.seen seen' (Made (deed_with_words pass (Begin s (Retire (value_of value))) kepts))) → value.keys.name ≡ pass.name
     → IsSpent (label_of keys'.held) (state_of keys') → keys'.name ≡ value.keys.name → keys'.held ≡ renewed value.keys.held seen' → IsLastIn (label_of keys'.held) (state_of keys')
 last pass seen' value keys' s kepts noted book spent name held w home other named = go (is_true (has w now.gone))
   where
@@ -156,7 +157,7 @@ last pass seen' value keys' s kepts noted book spent name held w home other name
 
     alive : has v now.gone ≡ false
     alive =
-        let st : State = after (start pass.name) noted.before in let e = telling pass (Begin s (Retire (value_of value))) kepts in
+        let st : State = after (start pass.name) noted.before in let e = deed_with_words pass (Begin s (Retire (value_of value))) kepts in
         let legal = legal_front (start pass.name) noted.before (Made e) (subst (IsLegalList (start pass.name)) noted.appended noted.legal) in
         subst (λ (t : ℕ × State). has t.0 t.1.gone ≡ false) (λ j. (sym its j, sym (is_now ∙ noted.leads) j))
         (not_gone e.size st s (value_of value) (noted.later, noted.answer) (reached_after pass.name noted.before noted.distinct legal) (step_of _ _ _ _ noted.does))

@@ -1,5 +1,5 @@
 -- What the tokens own may go to another thread.
-use Rattle.std.proofs.Common.{ℕ, zero, suc, Bool, true, false, ◌==◌, List, [], ◌∷◌, length, Option, Some, None}
+use Rattle.std.proofs.Common.{ℕ, zero, suc, Bool, true, false, ◌==◌, List, [], ◌∷◌, length}
 use base.Growing.{latest, at_least}
 use base.Stored.{Gv}
 use base.Fml.{Lft, Share}
@@ -8,7 +8,7 @@ use base.Shift.{Keyless}
 use types.Keyed.{entry_keyless, entries_keyless, token}
 use Rattle.core.proofs.atomic.Sent.{chain-Keyless}
 use Rattle.seize_table.specs.Filled.{all_from}
-use Rattle.seize_book.specs.Ledger.{Held, halved, roster, rosters, first, rest}
+use Rattle.seize_book.specs.Ledger.{HeldKey, halved, roster, rosters, first_row, rest}
 use Rattle.seize_book.specs.Entry.{Entry, entry_coded}
 use Rattle.seize_book.specs.Book.{after, blocks}
 use Rattle.seize_content.specs.Stages.{lent}
@@ -18,7 +18,7 @@ use Rattle.seize_book.specs.Laws.{ended}
 use Rattle.seize_book.specs.Loans.{cell_of, loan_if, loan_of, readers}
 use Rattle.seize_book.specs.Peeks.{keys_show, show_if, sight_if}
 use Rattle.seize_book.specs.Shared.{period, porter_has, porter_shares, row_has, rows_have, side}
-use Rattle.seize_book.specs.Tokens.{Name, rows, start, inside, over, Gate, many, sole, turns, all_but, turned, tickets, gate_keeps, gate_gives, gate_leaves, gate_lends, knows, lent_pass, porter_owns, leads_in, all_lead, lies_in, all_lie_in, lies_if, is_placed, slot_labels, note_if, note_in, notes_own, way_if, rights_own, keys_own}
+use Rattle.seize_book.specs.Tokens.{Gate, Name, all_but, all_lead, gate_gives, gate_leaves, gate_lends, inside, is_placed, keys_own, knows, lent_pass, lies_if, note_if, notes_own, over, porter_owns, rights_own, rows, slot_labels, start, tickets, turned, way_if}
 use Rattle.seize_book.specs.Begin.{book_owns}
 
 roster_keyless : (δ k : ℕ) (owns : List (List Entry)) → Keyless (roster entry_coded δ k owns)
@@ -27,7 +27,7 @@ roster_keyless δ k (o ∷ owns) = (entry_keyless (halved entry_coded) δ k _, r
 
 rosters_keyless : (δs : List ℕ) (rows : List (List (List Entry))) → Keyless (rosters entry_coded δs rows)
 rosters_keyless [] rows = tt
-rosters_keyless (δ ∷ δs) rows = (roster_keyless δ 0 (first rows), rosters_keyless δs (rest rows))
+rosters_keyless (δ ∷ δs) rows = (roster_keyless δ 0 (first_row rows), rosters_keyless δs (rest rows))
 
 pub over_keyless : (lives : List ℕ) → Keyless (over lives)
 over_keyless [] = tt
@@ -40,38 +40,24 @@ tickets_keyless κ (k ∷ ks) = (entry_keyless token κ k tt, tickets_keyless κ
 all_but_keyless : (κ out : ℕ) → Keyless (all_but κ out)
 all_but_keyless κ out = λ t. (tickets_keyless κ t.1, (entries_keyless token κ t.0 _, λ _. tt))
 
-turned_keyless : (η κ : ℕ) (log : List Entry) (b : Bool) → Keyless (turned η κ log b)
+turned_keyless : (g : Gate) (log : List Entry) (b : Bool) → Keyless (turned g log b)
 unfolding latest
-turned_keyless η κ log true = (tt, all_but_keyless κ 0)
-turned_keyless η κ log false = tt
-
-keeps_keyless : (g : Gate) (log : List Entry) → Keyless (gate_keeps g log)
-unfolding latest
-keeps_keyless many log = tt
-keeps_keyless (sole η) log = tt
-keeps_keyless (turns η κ) log = turned_keyless η κ log
+turned_keyless g log true = (tt, all_but_keyless g.tickets 0)
+turned_keyless g log false = tt
 
 gives_keyless : (g : Gate) (p : ℕ) (seen : List Entry) → Keyless (gate_gives g p seen)
 unfolding latest
-gives_keyless many p seen = tt
-gives_keyless (sole η) p seen = tt
-gives_keyless (turns η κ) zero seen = tt
-gives_keyless (turns η κ) (suc p) seen = λ k. entry_keyless token κ k tt
+gives_keyless g zero seen = tt
+gives_keyless g (suc p) seen = λ k. entry_keyless token g.tickets k tt
 
 leaves_keyless : (g : Gate) (home : Bool) (out : ℕ) (seen : List Entry) → Keyless (gate_leaves g home out seen)
 unfolding latest
-leaves_keyless many home out seen = λ _. tt
-leaves_keyless (sole η) home out seen = λ _. tt
-leaves_keyless (turns η κ) true out seen = (tt, λ _. tt)
-leaves_keyless (turns η κ) false out seen = all_but_keyless κ out
-
-lead_keyless : (store : Option (List ℕ)) (b : ℕ) (t : ℕ × ℕ) → Keyless (leads_in store b t)
-lead_keyless None b t = tt
-lead_keyless (Some store) b t = λ way. tt
+leaves_keyless g true out seen = (tt, λ _. tt)
+leaves_keyless g false out seen = all_but_keyless g.tickets out
 
 leads_keyless : (n : Name) (vs : List ℕ) → Keyless (all_lead n vs)
 leads_keyless n [] = tt
-leads_keyless n (v ∷ vs) = (lead_keyless n.store _ _, leads_keyless n vs)
+leads_keyless n (v ∷ vs) = ((λ way. tt), leads_keyless n vs)
 
 readers_keyless : (st : State) (η v : ℕ) (ds : List (Lft × ℕ)) → Keyless (readers st η v ds)
 unfolding at_least
@@ -83,28 +69,20 @@ loan_keyless zero st η v = tt
 loan_keyless (suc k) st η v = λ l. ((λ _. tt), (ticket_sent l.content (lent l.life l.code), (lent_sent l.content l.life l.code l.readers, readers_keyless st η v l.readers)))
 
 way_keyless : (b : Bool) (n : Name) (v : ℕ) → Keyless (way_if b n v)
-way_keyless true n v = (lead_keyless n.store _ _, loan_keyless (loan_of v) (start n) n.log v)
+way_keyless true n v = ((λ way. tt), loan_keyless (loan_of v) (start n) n.log v)
 way_keyless false n v = tt
-
-lies_keyless : (table : Option (List ℕ)) (s label : ℕ) → Keyless (lies_in table s label)
-lies_keyless None s label = tt
-lies_keyless (Some table) s label = λ way. (tt, tt)
 
 filled_keyless : (table : List ℕ) (from : ℕ) (labels : List ℕ) → Keyless (all_from table from labels)
 filled_keyless table from [] = tt
 filled_keyless table from (label ∷ labels) = ((λ way. (tt, tt)), filled_keyless table (suc from) labels)
 
-all_lie_keyless : (table : Option (List ℕ)) (labels : List ℕ) → Keyless (all_lie_in table labels)
-all_lie_keyless None labels = tt
-all_lie_keyless (Some table) labels = filled_keyless table 0 labels
-
 lies_if_keyless : (b : Bool) (n : Name) (s : ℕ) → Keyless (lies_if b n s)
-lies_if_keyless true n s = lies_keyless n.table s _
+lies_if_keyless true n s = λ way. (tt, tt)
 lies_if_keyless false n s = tt
 
 inside_keyless : (n : Name) → Keyless (inside n)
 unfolding latest
-inside_keyless n = λ s. (rosters_keyless (rows n) s.0, (tt, ((over_keyless (ended s.1), (keeps_keyless n.gate s.1, (leads_keyless n (after (start n) s.1).named, (all_lie_keyless n.table (slot_labels n (length (after (start n) s.1).slots)), λ _. tt)))), (λ _. tt))))
+inside_keyless n = λ s. (rosters_keyless (rows n) s.0, (tt, ((over_keyless (ended s.1), ((λ b. turned_keyless n.gate s.1 b), (leads_keyless n (after (start n) s.1).named, (filled_keyless n.table 0 (slot_labels n (length (after (start n) s.1).slots)), λ _. tt)))), (λ _. tt))))
 
 pub book_keyless : (n : Name) (seen : List Entry) → Keyless (book_owns n seen)
 unfolding at_least
@@ -119,10 +97,8 @@ porter_keyless n home out seen = ((inside_keyless n, (tt, λ _. tt)), λ own. (e
 
 lends_keyless : (g : Gate) (κ : Lft) (p : ℕ) (seen : List Entry) → Keyless (gate_lends g κ p seen)
 unfolding latest
-lends_keyless many κ p seen = tt
-lends_keyless (sole η) κ p seen = gives_keyless (sole η) p seen
-lends_keyless (turns η δ) κ zero seen = gives_keyless (turns η δ) zero seen
-lends_keyless (turns η δ) κ (suc p) seen = gives_keyless (turns η δ) 1 []
+lends_keyless g κ zero seen = gives_keyless g zero seen
+lends_keyless g κ (suc p) seen = gives_keyless g 1 []
 
 pub lent_keyless : (n : Name) (κ : Lft) (p : ℕ) (seen : List Entry) → Keyless (lent_pass n κ p seen)
 unfolding at_least
@@ -160,21 +136,17 @@ unfolding at_least
 porter_shown n true seen κ = tt
 porter_shown n false seen κ = λ t. ((λ νs. chain-Keyless νs κ _), (period_keyless n seen _ t.1.1, (knows_keyless n, tt)))
 
-note_in_keyless : (store : Option (List ℕ)) (c : ℕ) (g : Gv) → Keyless (note_in store c g)
-note_in_keyless None c g = tt
-note_in_keyless (Some store) c g = token_sent c g
+note_keyless : (b : Bool) (v : ℕ) (g : Gv) → Keyless (note_if b v g)
+note_keyless true v g = token_sent (cell_of v) g
+note_keyless false v g = tt
 
-note_keyless : (b : Bool) (n : Name) (v : ℕ) (g : Gv) → Keyless (note_if b n v g)
-note_keyless true n v g = note_in_keyless n.store (cell_of v) g
-note_keyless false n v g = tt
+pub notes_keyless : (held : List (HeldKey Entry)) → Keyless (notes_own held)
+notes_keyless [] = tt
+notes_keyless (h ∷ held) = (note_keyless (h.kind == blocks) h.label h.note, notes_keyless held)
 
-pub notes_keyless : (n : Name) (held : List (Held Entry)) → Keyless (notes_own n held)
-notes_keyless n [] = tt
-notes_keyless n (h ∷ held) = (note_keyless (h.kind == blocks) n h.label h.note, notes_keyless n held)
-
-pub keys_keyless : (n : Name) (held : List (Held Entry)) → Keyless (keys_own n held)
+pub keys_keyless : (n : Name) (held : List (HeldKey Entry)) → Keyless (keys_own n held)
 keys_keyless n [] = tt
-keys_keyless n (h ∷ held) = ((entry_keyless (halved entry_coded) _ h.key _, (way_keyless (h.kind == blocks) n h.label, (lies_if_keyless (is_placed h) n h.key, note_keyless (h.kind == blocks) n h.label h.note))), keys_keyless n held)
+keys_keyless n (h ∷ held) = ((entry_keyless (halved entry_coded) _ h.key _, (way_keyless (h.kind == blocks) n h.label, (lies_if_keyless (is_placed h) n h.key, note_keyless (h.kind == blocks) h.label h.note))), keys_keyless n held)
 
 -- and so does what is shown of them
 
@@ -183,13 +155,13 @@ sight_keyless zero κ v = tt
 sight_keyless (suc k) κ v = λ t. ((λ _. tt), sight_sent κ t.0 t.1.0 t.1.1)
 
 show_keyless : (b : Bool) (n : Name) (v : ℕ) (κ : Lft) → Keyless (show_if b n v κ)
-show_keyless true n v κ = (lead_keyless n.store _ _, sight_keyless (loan_of v) κ v)
+show_keyless true n v κ = ((λ way. tt), sight_keyless (loan_of v) κ v)
 show_keyless false n v κ = tt
 
-pub keys_shown : (n : Name) (held : List (Held Entry)) (κ : Lft) → Keyless (keys_show n held κ)
+pub keys_shown : (n : Name) (held : List (HeldKey Entry)) (κ : Lft) → Keyless (keys_show n held κ)
 keys_shown n [] κ = tt
 keys_shown n (h ∷ held) κ = (show_keyless (h.kind == blocks) n h.label κ, keys_shown n held κ)
 
-pub rights_keyless : (n : Name) (held : List (Held Entry)) → Keyless (rights_own n held)
+pub rights_keyless : (n : Name) (held : List (HeldKey Entry)) → Keyless (rights_own n held)
 rights_keyless n [] = tt
 rights_keyless n (h ∷ held) = (entry_keyless (halved entry_coded) _ h.key _, rights_keyless n held)

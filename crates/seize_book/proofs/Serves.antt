@@ -7,7 +7,7 @@ use Rattle.std.proofs.lemmas.List.{get_or_past, get_or_append_left, get_or_push,
 use Rattle.std.proofs.lemmas.List.Folds.{list_any_at}
 use Rattle.std.proofs.lemmas.Bool.{cases_lt, true≢false}
 use native.Mathlib.Decide.{ℕ_discrete}
-use Rattle.seize_machine.specs.Machine.State.{State, Slot, Call, Head, Inactive, Active, Place, Mark, Look, Try, Out, Rest, no_slot, slot_at, head_at, batch_at, is_active, waiting_at, has, linked, are_distinct, opening}
+use Rattle.seize_machine.specs.Machine.State.{State, Slot, Call, Head, Inactive, Active, Place, Mark, Look, Try, Out, Rest, no_slot, slot_at, head_at, batch_at, is_active, waiting_at, has, linked_values, are_distinct, opening}
 use Rattle.seize_machine.specs.Machine.Event.{Event}
 use Rattle.seize_machine.specs.Machine.Next.{next, of_call, look, looked, marked_place}
 use Rattle.seize_machine.specs.Machine.History.{IsReached, done_by}
@@ -18,7 +18,7 @@ use Rattle.seize_book.specs.Blocks.{Plan, no_plan, marked_at, plan_of, planned_b
 use Rattle.seize_book.specs.Chains.{served}
 use Rattle.seize_book.specs.Homes.{home_of, HasOne}
 use Rattle.seize_book.specs.Book.{after, IsLegalList}
-use Rattle.seize_book.specs.Entry.{Entry, Made, Used, timed}
+use Rattle.seize_book.specs.Entry.{Entry, Made, Used, timed_deed}
 use Rattle.seize_book.specs.Tokens.{Name, start}
 use Rattle.seize_book.proofs.Lists.{equal, unequal}
 use Rattle.seize_book.proofs.Lives.{legal_first}
@@ -299,12 +299,12 @@ marked_on st [] ps r l old = subst (Marked st) (sym (append-nil ps)) old
 marked_on st (Used u ∷ log) ps r l old = marked_on st log ps r l old
 marked_on st (Made e ∷ log) ps r l old =
     let w = legal_first st e log l in
-    let now = (done_by next st (timed e)).0 in
-    let reached : IsReached now = subst (λ (d : State × Answer). IsReached d.0) (sym w.2) (reached_next st (timed e) w.0 r w.1) in
+    let now = (done_by next st (timed_deed e)).0 in
+    let reached : IsReached now = subst (λ (d : State × Answer). IsReached d.0) (sym w.2) (reached_next st (timed_deed e) w.0 r w.1) in
     let stepped : Marked now (ps ++ planned_by st e.event) = subst (λ (d : State × Answer). Marked d.0 (ps ++ planned_by st e.event)) (sym w.2) (marked_step e.size st e.event w.0 ps r (step_of e.size st e.event w.0 w.1) old) in
     subst (Marked (after now log)) (append_assoc ps (planned_by st e.event) (plans now log)) (marked_on now log (ps ++ planned_by st e.event) reached (subst (λ (d : State × Answer). IsLegalList d.0 log) (sym w.2) w.3) stepped)
 
-pub marked_after : (n : Name) (log : List Entry) → are_distinct (linked n.links) ≡ true → IsLegalList (start n) log → Marked (after (start n) log) (plans (start n) log)
+pub marked_after : (n : Name) (log : List Entry) → are_distinct (linked_values n.links) ≡ true → IsLegalList (start n) log → Marked (after (start n) log) (plans (start n) log)
 marked_after n log distinct l = marked_on (start n) log [] (opening_reached n.slots n.links distinct) l (opening_marked n.slots n.links)
 
 -- A plan serves each of its slots with a value of its own.

@@ -36,14 +36,14 @@ use Rattle.seize_book.specs.Book.{mine, passes}
 use Rattle.seize_book.specs.Entry.{Entry, entry_coded}
 use Rattle.seize_book.specs.Ledger.{halved, logs, piece, reached, roster}
 use Rattle.seize_book.specs.Fair.{Before}
-use Rattle.seize_book.specs.Tokens.{IsTurns, Name, knows, lent_at, lent_pass, pass_owns, porter_owns, start}
-use Rattle.seize_book.specs.Turns.{GoesOnTo}
+use Rattle.seize_book.specs.Tokens.{Name, knows, lent_at, lent_pass, pass_owns, porter_owns, start}
+use Rattle.seize_book.specs.Porters.{GoesOnTo}
 use Rattle.seize_book.proofs.Borrowed.{closed, opened as ticket_opened, waits}
 use Rattle.seize_book.proofs.Looks.{looks_now}
 use Rattle.seize_book.proofs.Passes.{IsDistinct}
 use Rattle.seize_book.proofs.Notes.{knows_twice, minted, new_keys, Picks}
 use Rattle.seize_book.proofs.Roster.{mints}
-use Rattle.seize_book.proofs.Turns.{IsHome, porter_home, porter_knows, porter_off}
+use Rattle.seize_book.proofs.Porters.{IsHome, porter_home, porter_knows, porter_off}
 use Rattle.seize_book.specs.Shared.{the_ticket, known, porter_has, porter_shares, lending, lending_shown, period, side}
 use Rattle.seize_book.proofs.Periods.{Begun, Gathered, begins, gathers, had_back, its_key, lents, mark, same_loan, settles}
 
@@ -167,7 +167,7 @@ module _ {M : Type 1} {𝓤 : Ura M} (𝓛 : Logic 𝓤) where
     -- ---- through a `&`
     module _ (𝓜 : Model 𝓤 𝓛.H) (𝓡 : Running 𝓤 𝓛.H 𝓜) (κ : Lft) (q : Share) where
       abbrev pub IsFresh : ℕ × List Entry → Type 0
-      IsFresh t = IsTurns n.gate × ¬ (t.0 ≡ 0) × IsPrefix seen t.1 × (mine (start n) t.0 t.1 ≡ [])
+      IsFresh t = ¬ (t.0 ≡ 0) × IsPrefix seen t.1 × (mine (start n) t.0 t.1 ≡ [])
 
       abbrev pub Lent : ℕ × List Entry → Pr
       Lent t = guard 𝓤 (IsFresh t) (⟦ lent_pass n κ t.0 t.1 ⟧ ∗ A.lft κ q)
@@ -187,7 +187,7 @@ module _ {M : Type 1} {𝓤 : Ura M} (𝓛 : Logic 𝓤) where
           move ! (0 ∷ 8 ∷ []) $ use2 𝓛 (minted 𝓛 n seen births) (new_keys 𝓛 n seen births (λ sizes. (omega arith, (λ log j h p le. h p (omega (arith, le))), omega arith, tt))) $ await ! tt $ pick ! (λ u. learn ! (λ so. let p : ℕ = u.0 passes in let x : List Entry = u.1 in split ! $
           -- [the new key; what was reached; the book; the invariant, twice; the share to be left; another; the way back; half of κ's token; κ]
           move ! (3 ∷ 0 ∷ 5 ∷ 6 ∷ []) $ group ! 4 $
-          use1 𝓛 (later (some (λ (j : ℕ). given (IsTurns n.gate × ¬ (p ≡ 0)) (‵ (its_key 𝓛 n seen μ δ p x) ⊛ ‵ Tk ⊛ ‵ (mark 𝓛 n seen μ δ (suc j) (l ∷ [])) ⊛ ‵ (flft μ r)))))
+          use1 𝓛 (later (some (λ (j : ℕ). given (¬ (p ≡ 0)) (‵ (its_key 𝓛 n seen μ δ p x) ⊛ ‵ Tk ⊛ ‵ (mark 𝓛 n seen μ δ (suc j) (l ∷ [])) ⊛ ‵ (flft μ r)))))
           (opened i B (⟦ its_key 𝓛 n seen μ δ p x ⟧ ∗ ⟦ flft μ l ⟧ ∗ ⟦ flft μ r ⟧) (ex 𝓤 (Begun 𝓛 n seen μ δ p x l r)) (begins 𝓛 n seen μ δ p x l r)) $ await ! tt $ pick ! (λ j. learn ! (λ is. split3 ! $ move ! (2 ∷ []) $ split ! $
           -- [the mark; a share; the pass's key; its ticket; what was reached; the book; the invariant; the way back; half of κ's token; κ]
           move ! (3 ∷ []) $ bor_new ! tt μ $ move ! (10 ∷ 0 ∷ 9 ∷ []) $ use3 𝓛 (later (‵ (fbor κ Tk) ⊛ ‵ (flft κ qr))) (bor-before 𝓛 κ μ qr Tk) $ await ! tt $ split ! $
@@ -198,13 +198,13 @@ module _ {M : Type 1} {𝓤 : Ura M} (𝓛 : Logic 𝓤) where
           -- [its token; the ticket's borrow; half of κ's token; the pass's key; what was reached; the book; the way back]
           move ! (0 ∷ 6 ∷ []) $ use2 𝓛 (later (‵ (flft κ ql))) (apply∗ 𝓤 (A.lft μ s) (H.⇛ (A.lft κ ql))) $ await ! tt $ move ! (0 ∷ 2 ∷ []) $ use2 𝓛 (‵ (flft κ q)) (𝓛.lfts.lft_join κ q) $
           -- [κ's token; the ticket's borrow; the pass's key; what was reached; the book]
-          move ! (1 ∷ []) $ rewrite ! 0 (λ (P : Fml). ‵ P) (sym (same_loan n.gate κ p x is.0 is.1)) refl $
+          move ! (1 ∷ []) $ rewrite ! 0 (λ (P : Fml). ‵ P) (sym (same_loan n.gate κ p x is)) refl $
           nothing ! $ fpack ! (IsPrefix x x × (mine (start n) p x ≡ mine (start n) p x)) (λ _. ftrue) (prefix_refl x, refl) $ move ! (1 ∷ 0 ∷ []) $ fjoin ! $ move ! (2 ∷ []) $ fsplit ! $ move ! (0 ∷ 4 ∷ 2 ∷ []) $ fjoin3 ! $ fpack ! (List Entry) (lent_at n κ p x) x $ move ! (3 ∷ 0 ∷ []) $ fjoin ! $
-          now ! $ show ! Lent (p, x) $ check ! (is.0, is.1, so.0, so.1 passes p (omega arith)) $ keep ! (0 ∷ 2 ∷ []) $ done !))))))
+          now ! $ show ! Lent (p, x) $ check ! (is, so.0, so.1 passes p (omega arith)) $ keep ! (0 ∷ 2 ∷ []) $ done !))))))
 
       -- and it looks at the list
       abbrev pub IsGiven : ℕ × List Entry → Type 0
-      IsGiven t = (IsTurns n.gate × ¬ (t.0 ≡ 0)) × (mine (start n) t.0 t.1 ≡ []) × GoesOnTo n seen t.1
+      IsGiven t = ¬ (t.0 ≡ 0) × (mine (start n) t.0 t.1 ≡ []) × GoesOnTo n seen t.1
 
       abbrev pub Given : ℕ × List Entry → Pr
       Given t = guard 𝓤 (IsGiven t) (⟦ lent_pass n κ t.0 t.1 ⟧ ∗ A.lft κ q)
@@ -215,9 +215,9 @@ module _ {M : Type 1} {𝓤 : Ura M} (𝓛 : Logic 𝓤) where
           use2 𝓛 (later (‵ (pass_owns n t.0 t.1) ⊛ ‵ (waits n.gate κ q t.0))) (ticket_opened 𝓛 n t.0 t.1 κ q) $ await ! tt $ split ! $ nothing ! $ move ! (1 ∷ 0 ∷ []) $
           use2 𝓛 (later (some (λ (log : List Entry). given (Before n t.0 t.1 [] log × IsDistinct 𝓛 n) (‵ (pass_owns n t.0 log) ⊛ ‵ ftrue)))) (looks_now 𝓛 n t.0 t.1 [] tt) $ await ! tt $ pick ! (λ log. learn ! (λ is. split ! $
           -- [the pass; nothing; what waits]
-          let on : GoesOnTo n seen log = record { grows = prefix_trans seen t.1 log so.2 is.0.grows; legal = is.0.legal; sound = is.0.sound; lent = is.0.lent; distinct = is.1 } in
+          let on : GoesOnTo n seen log = record { grows = prefix_trans seen t.1 log so.1 is.0.grows; legal = is.0.legal; sound = is.0.sound; lent = is.0.lent; distinct = is.1 } in
           move ! (0 ∷ 2 ∷ []) $ use2 𝓛 (later (‵ (lent_pass n κ t.0 log) ⊛ ‵ (flft κ q))) (closed 𝓛 n t.0 log κ q) $ await ! tt $ split ! $
-          now ! $ show ! Given (t.0, log) $ check ! ((so.0, so.1), is.0.none_made ∙ so.3, on) $ keep ! (0 ∷ 1 ∷ []) $ done !))))
+          now ! $ show ! Given (t.0, log) $ check ! (so.0, is.0.none_made ∙ so.2, on) $ keep ! (0 ∷ 1 ∷ []) $ done !))))
 
   -- ---- whatever it is
   module _ (n : Name) (seen : List Entry) where

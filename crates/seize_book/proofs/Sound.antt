@@ -9,9 +9,9 @@ use Rattle.seize_machine.specs.Machine.History.{done_by}
 use Rattle.seize_machine.specs.Machine.Next.{next}
 use Rattle.seize_machine.specs.declared.machine.event.Answer.{Answer}
 use Rattle.seize_machine.proofs.Facts.{Step, eq_true, gone_grows, is_true, named_grows, slots_length, some_is, step_of, value_frame}
-use Rattle.seize_book.specs.Entry.{Entry, Made, Used, timed}
+use Rattle.seize_book.specs.Entry.{Entry, Made, Used, timed_deed}
 use Rattle.seize_book.specs.Book.{IsLegalList, Does, Kept, TheBlock, after}
-use Rattle.seize_book.specs.Ledger.{Held}
+use Rattle.seize_book.specs.Ledger.{HeldKey}
 use Rattle.seize_book.specs.Fair.{NamesLabels}
 use Rattle.seize_book.specs.Tokens.{Name}
 use Rattle.seize_book.specs.Homes.{HasOne, IsSound, IsVacant, changes_home, home_of}
@@ -39,7 +39,7 @@ module _ (Is : State → Type 0) (stays : (size : ℕ) (st : State) (event : Eve
   stays_on st [] more l h = stays_after st more l h
   stays_on st (Used u ∷ own) more l h = stays_on st own more l h
   stays_on st (Made e ∷ own) more l h =
-      let w = legal_first st e (own ++ more) l in stays_on (done_by next st (timed e)).0 own more (subst (λ (d : State × Answer). IsLegalList d.0 (own ++ more)) (sym w.2) w.3) h
+      let w = legal_first st e (own ++ more) l in stays_on (done_by next st (timed_deed e)).0 own more (subst (λ (d : State × Answer). IsLegalList d.0 (own ++ more)) (sym w.2) w.3) h
 
   stays_later : (st : State) (own log : List Entry) → IsPrefix own log → IsLegalList st log → Is (after st own) → Is (after st log)
   stays_later st own log grows l h = subst (λ (x : List Entry). Is (after st x)) grows.1 (stays_on st own grows.0 (subst (IsLegalList st) (sym grows.1) l) h)
@@ -64,8 +64,8 @@ old_named size st event d step names one = λ v w home a b c e. one v w home (na
 pub same_named : (size : ℕ) (st : State) (event : Event) (d : State × Answer) → Step size st event d → ((k : ℕ) → changes_home st k event ≡ false) → (v : ℕ) → has v (d.0).named ≡ has v st.named
 same_named size st event d step none v = (value_frame v size st event d step (home_value st v event (none (home_of v)))).0
 
-pub no_labels : (n : Name) (held : List (Held Entry)) (size : ℕ) (st : State) (event : Event) (d : State × Answer) → Step size st event d → ((k : ℕ) → changes_home st k event ≡ false) → NamesLabels n st held d.0
-no_labels n held size st event d step none v named = inl (sym (same_named size st event d step none v) ∙ named)
+pub no_labels : (held : List (HeldKey Entry)) (size : ℕ) (st : State) (event : Event) (d : State × Answer) → Step size st event d → ((k : ℕ) → changes_home st k event ≡ false) → NamesLabels st held d.0
+no_labels held size st event d step none v named = inl (sym (same_named size st event d step none v) ∙ named)
 
 pub none_named : (size : ℕ) (st : State) (event : Event) (d : State × Answer) → Step size st event d → ((k : ℕ) → changes_home st k event ≡ false) → HasOne st → HasOne d.0
 none_named size st event d step none = old_named size st event d step (λ v a. sym (same_named size st event d step none v) ∙ a)

@@ -3,12 +3,12 @@
 use Rattle.std.proofs.Common.{◌≡◌, ℕ, suc, zero, ◌<◌, Bool, true, false, ◌||◌, ◌==◌, List, [], ◌∷◌, ◌++◌, length, Option, None, Some, refl, sym, ◌∙◌, ap, subst, ◌⊎◌, inl, inr, arith}
 use Rattle.std.specs.Prelude.{option_to_list}
 use Rattle.std.proofs.lemmas.Option.{slice_get_within}
-use Rattle.seize_machine.specs.Machine.State.{State, are_distinct, has, linked}
+use Rattle.seize_machine.specs.Machine.State.{State, are_distinct, has, linked_values}
 use Rattle.seize_machine.specs.Machine.History.{Moment, Reclaimed, answers_of, handed, handed_value}
 use Rattle.seize_machine.proofs.Facts.{eq_true, is_true, law_gone, law_protection}
 use Rattle.seize_book.specs.Entry.{Entry, deeds, events_of}
 use Rattle.seize_book.specs.Book.{IsLegalList, after, moments}
-use Rattle.seize_book.specs.Laws.{AllParted, IsIn, Reader, ended}
+use Rattle.seize_book.specs.Laws.{AllParted, IsAmong, Reader, ended}
 use Rattle.seize_book.specs.Tokens.{Name, start}
 use Rattle.seize_book.proofs.Handed.{moments_length}
 use Rattle.seize_book.proofs.Lists.{as_legal}
@@ -33,7 +33,7 @@ handed_by v (m ∷ ms) h = go (λ there. handed_by v ms there) (handed_value m.a
     go more None is there = later more (subst (λ (o : Option ℕ). has v (option_to_list o ++ handed (answers_of ms)) ≡ true) is there)
     go more (Some w) is there = first more w is (is_true (w == v)) (subst (λ (o : Option ℕ). has v (option_to_list o ++ handed (answers_of ms)) ≡ true) is there)
 
-module _ (n : Name) (log : List Entry) (distinct : are_distinct (linked n.links) ≡ true) (legal : IsLegalList (start n) log) where
+module _ (n : Name) (log : List Entry) (distinct : are_distinct (linked_values n.links) ≡ true) (legal : IsLegalList (start n) log) where
   abbrev st : State
   st = start n
 
@@ -46,10 +46,10 @@ module _ (n : Name) (log : List Entry) (distinct : are_distinct (linked n.links)
       let within : by.0 < length (moments st log) = slice_get_within (moments st log) by.0 m.0 m.1 in let long = moments_length st (deeds log) in
       (parted.0, parted.1, omega (arith, parted.2, within, long), parted.3)
 
-  pub gone_over : (v a : ℕ) → has v (after st log).gone ≡ true → Reader st log v a → IsIn (ended log) a
+  pub gone_over : (v a : ℕ) → has v (after st log).gone ≡ true → Reader st log v a → IsAmong (ended log) a
   gone_over v a gone = all_over st log v legal (gone_parted v gone) a
 
-  pub found_stands : (v a : ℕ) → Reader st log v a → ¬ (IsIn (ended log) a) → has v (after st log).gone ≡ false
+  pub found_stands : (v a : ℕ) → Reader st log v a → ¬ (IsAmong (ended log) a) → has v (after st log).gone ≡ false
   found_stands v a reader_ lasts = go (is_true (has v (after st log).gone))
     where
       go : (has v (after st log).gone ≡ true) ⊎ (has v (after st log).gone ≡ false) → has v (after st log).gone ≡ false

@@ -1,15 +1,16 @@
--- Where heads lie: what the book has of the entries of its table, where it has one. Assumes `Logic`.
-use Rattle.std.proofs.Common.{◌≡◌, ℕ, suc, ◌+◌, ◌<◌, ◌++◌, List, [], ◌∷◌, length, get_or, Option, Some, None, sym, ◌∙◌, ap, subst, arith}
+-- Where heads lie: what the book has of the entries of its table. Assumes `Logic`.
+use Rattle.std.proofs.Common.{◌≡◌, ℕ, suc, ◌+◌, ◌<◌, ◌++◌, List, [], ◌∷◌, length, get_or, sym, ◌∙◌, ap, subst, arith}
 use Rattle.std.proofs.lemmas.List.FromFn.{get_or-map-range_with_len, length-map-range_with_len, map-range_with_len_more}
 use base.Logic.{SProp, ent, sep, emp}
-use base.Fml.{Fml, ftrue}
+use base.Fml.{Fml}
 use seplogic.Ra.Ura.{Ura}
 use types.Logic.{Logic, sem}
-use types.Kit.{‵, ◌$◌, ◌∵◌, !, qed, drop, done}
+use types.Kit.{‵, ◌$◌, ◌∵◌, !, qed, done}
 use denote.Steps.{nothing}
 use Rattle.seize_table.proofs.AllEntries.{all_twice, first_more}
 use Rattle.seize_table.proofs.Entries.{filled_twice}
-use Rattle.seize_book.specs.Tokens.{Name, label_at, lies, lies_in, slot_labels, all_lie, all_lie_in}
+use Rattle.seize_table.specs.Filled.{all_filled}
+use Rattle.seize_book.specs.Tokens.{Name, label_at, lies, slot_labels, all_lie}
 
 -- so many labels, of which each is that of its slot
 pub labels_long : (n : Name) (m : ℕ) → length (slot_labels n m) ≡ m
@@ -36,31 +37,16 @@ module _ {M : Type 1} {𝓤 : Ura M} (𝓛 : Logic 𝓤) where
 
   infix 26 ◌⊢◌
   infixr 35 ◌∗◌
-  lies_twice_in : (table : Option (List ℕ)) (s label : ℕ) → ⟦ lies_in table s label ⟧ ⊢ ⟦ lies_in table s label ⟧ ∗ ⟦ lies_in table s label ⟧
-  lies_twice_in None s label = qed 𝓛 (‵ ftrue ∷ []) ∵ nothing ! $ done !
-  lies_twice_in (Some table) s label = filled_twice 𝓛 table s label
-
-  more_in : (table : Option (List ℕ)) (labels : List ℕ) (s label : ℕ) → s ≡ length labels → ⟦ all_lie_in table labels ⟧ ∗ ⟦ lies_in table s label ⟧ ⊢ ⟦ all_lie_in table (labels ++ label ∷ []) ⟧
-  more_in None labels s label is = qed 𝓛 (‵ ftrue ∷ ‵ ftrue ∷ []) ∵ drop ! $ done !
-  more_in (Some table) labels s label is = first_more 𝓛 table labels label s is
-
-  all_twice_in : (table : Option (List ℕ)) (labels : List ℕ) → ⟦ all_lie_in table labels ⟧ ⊢ ⟦ all_lie_in table labels ⟧ ∗ ⟦ all_lie_in table labels ⟧
-  all_twice_in None labels = qed 𝓛 (‵ ftrue ∷ []) ∵ nothing ! $ done !
-  all_twice_in (Some table) labels = all_twice 𝓛 table 0 labels
-
-  none_in : (table : Option (List ℕ)) → emp 𝓤 ⊢ ⟦ all_lie_in table [] ⟧
-  none_in None = qed 𝓛 [] ∵ nothing ! $ done !
-  none_in (Some table) = qed 𝓛 [] ∵ nothing ! $ done !
-
   module _ (n : Name) where
     pub lies_twice : (s : ℕ) → ⟦ lies n s ⟧ ⊢ ⟦ lies n s ⟧ ∗ ⟦ lies n s ⟧
-    lies_twice s = lies_twice_in n.table s (label_at n s)
+    lies_twice s = filled_twice 𝓛 n.table s (label_at n s)
 
     pub all_lie_twice : (m : ℕ) → ⟦ all_lie n m ⟧ ⊢ ⟦ all_lie n m ⟧ ∗ ⟦ all_lie n m ⟧
-    all_lie_twice m = all_twice_in n.table (slot_labels n m)
+    all_lie_twice m = all_twice 𝓛 n.table 0 (slot_labels n m)
 
     pub none_lie : emp 𝓤 ⊢ ⟦ all_lie n 0 ⟧
-    none_lie = none_in n.table
+    none_lie = qed 𝓛 [] ∵ nothing ! $ done !
 
     pub one_more : (m : ℕ) → ⟦ all_lie n m ⟧ ∗ ⟦ lies n m ⟧ ⊢ ⟦ all_lie n (suc m) ⟧
-    one_more m = subst (λ (labels : List ℕ). ⟦ all_lie n m ⟧ ∗ ⟦ lies n m ⟧ ⊢ ⟦ all_lie_in n.table labels ⟧) (sym (labels_more n m)) (more_in n.table (slot_labels n m) m (label_at n m) (sym (labels_long n m)))
+    one_more m = subst (λ (labels : List ℕ). ⟦ all_lie n m ⟧ ∗ ⟦ lies n m ⟧ ⊢ ⟦ all_filled n.table labels ⟧) (sym (labels_more n m))
+        (first_more 𝓛 n.table (slot_labels n m) (label_at n m) m (sym (labels_long n m)))

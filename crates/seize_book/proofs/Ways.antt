@@ -1,6 +1,6 @@
 -- Where the numbers of values lead, and where heads lie: what goes with keys beside the rights, and what the book has of all that were named and
 -- of all slots. Assumes `Logic`.
-use Rattle.std.proofs.Common.{◌≡◌, ℕ, zero, suc, Bool, true, false, ◌||◌, ◌&&◌, ◌==◌, List, [], ◌∷◌, ◌++◌, length, take, Option, Some, None, ◌⊎◌, inl, inr, ⊎_elim, refl, sym, ◌∙◌, ap, subst, nat_lt, ◌+◌, ◌^◌, ◌<◌, arith}
+use Rattle.std.proofs.Common.{◌≡◌, ℕ, zero, suc, Bool, true, false, ◌||◌, ◌&&◌, ◌==◌, List, [], ◌∷◌, ◌++◌, length, take, ◌⊎◌, inl, inr, ⊎_elim, refl, sym, ◌∙◌, ap, subst, nat_lt, ◌+◌, ◌^◌, ◌<◌, arith}
 use base.Stored.{Gv, gnil}
 use Rattle.std.specs.Prelude.{drop as past}
 use seplogic.Ra.Ura.{Ura}
@@ -19,19 +19,19 @@ use Rattle.seize_store.proofs.Leads.{known_tells, tells_agree, tells_twice}
 use Rattle.seize_store.proofs.Tokens.{row_twice}
 use native.Mathlib.Decide.{ℕ_discrete}
 use contract.Monad.{fact}
-use Rattle.seize_book.specs.Blocks.{block_of}
+use Rattle.seize_book.specs.Blocks.{block_number}
 use Rattle.seize_content.specs.Cells.{cell_token}
 use Rattle.seize_book.specs.Bare.{of_values}
 use Rattle.seize_book.specs.Book.{blocks, slots}
 use Rattle.seize_book.specs.Entry.{Entry}
 use Rattle.seize_book.specs.Fair.{HasPlace, IsLabel}
 use Rattle.seize_book.specs.Homes.{home_of}
-use Rattle.seize_book.specs.Ledger.{Held, born, renewed}
+use Rattle.seize_book.specs.Ledger.{HeldKey, born, renewed}
 use Rattle.seize_book.specs.Others.{labelled}
 use Rattle.seize_book.specs.Notes.{with_note}
 use Rattle.seize_book.specs.Private.{is_one, key_of, label_of, note_of}
-use Rattle.seize_book.specs.Loans.{CarriesNone, cell_of, loan, loan_if, loan_of, place_of}
-use Rattle.seize_book.specs.Tokens.{AllLentIn, IsLentIn, Name, start, leads, label_at, chunk_label, leads_in, told_of, all_lead, lies, lies_in, lies_if, all_lie, found, is_placed, rights_own, keys_own, one_key, key, way, way_if, opened_own, note, note_if, note_in, noted, notes_own}
+use Rattle.seize_book.specs.Loans.{CarriesNone, cell_of, loan, loan_if, loan_of, place_of, AllCarryOne, CarriesOne}
+use Rattle.seize_book.specs.Tokens.{Name, start, leads, label_at, chunk_label, chunk_tag, all_lead, lies, lies_if, all_lie, places_known, is_placed, rights_own, keys_own, one_key, key, way, way_if, opened_own, key_note, note_if, note_at, notes_own}
 use Rattle.seize_book.proofs.Goes.{AllFree}
 use Rattle.seize_book.proofs.Tables.{lies_twice, one_more}
 
@@ -64,7 +64,7 @@ is_place b row e = go (ℕ_discrete (2 ^ (row + 5) + e) (b + 32)) (is_true (nat_
 -- its block has the label there
 abbrev pub IsIn : Name → ℕ → List (Ptr × ℕ) → ℕ → Type 0
 IsIn n row chunks v =
-    IsPlace (block_of v) row (entry_of row (block_of v)) → (label_in chunks (entry_of row (block_of v)) ≡ chunk_label n (home_of v) (cell_of v)) × (content_in chunks (entry_of row (block_of v)) ≡ place_of v)
+    IsPlace (block_number v) row (entry_of row (block_number v)) → (label_in chunks (entry_of row (block_number v)) ≡ chunk_label n (home_of v) (cell_of v)) × (content_in chunks (entry_of row (block_number v)) ≡ place_of v)
 
 abbrev pub AreIn : Name → ℕ → List (Ptr × ℕ) → List ℕ → Type 0
 AreIn n row chunks vs = (v : ℕ) → has v vs ≡ true → IsIn n row chunks v
@@ -92,7 +92,7 @@ module _ {M : Type 1} {𝓤 : Ura M} (𝓛 : Logic 𝓤) (n : Name) where
   infix 26 ◌⊢◌
   infixr 35 ◌∗◌
   abbrev Keys : Type 0
-  Keys = List (Held Entry)
+  Keys = List (HeldKey Entry)
 
   -- what goes with some keys beside the rights
   abbrev pub ways : Keys → Fml
@@ -106,11 +106,11 @@ module _ {M : Type 1} {𝓤 : Ura M} (𝓛 : Logic 𝓤) (n : Name) where
       move ! (2 ∷ 0 ∷ []) $ fjoin ! $ move ! (2 ∷ 1 ∷ []) $ fjoin ! $ move ! (1 ∷ 0 ∷ []) $ done !
 
   -- the rights, with what their holder notes
-  pub keys_bared : (held : Keys) → ⟦ keys_own n held ⟧ ⊢ ⟦ rights_own n held ⟧ ∗ ⟦ notes_own n held ⟧
+  pub keys_bared : (held : Keys) → ⟦ keys_own n held ⟧ ⊢ ⟦ rights_own n held ⟧ ∗ ⟦ notes_own held ⟧
   keys_bared [] = qed 𝓛 (‵ ftrue ∷ []) ∵ nothing ! $ done !
   keys_bared (h ∷ held) = qed 𝓛 (‵ (keys_own n (h ∷ held)) ∷ []) ∵ fsplit ! $ fsplit ! $ move ! (1 ∷ []) $ fsplit ! $ drop ! $ fsplit ! $ drop ! $
       -- [the note; the right; the other keys]
-      move ! (2 ∷ []) $ use1 𝓛 (‵ (rights_own n held) ⊛ ‵ (notes_own n held)) (keys_bared held) $ split ! $ move ! (3 ∷ 0 ∷ []) $ fjoin ! $ move ! (2 ∷ 1 ∷ []) $ fjoin ! $ move ! (1 ∷ 0 ∷ []) $ done !
+      move ! (2 ∷ []) $ use1 𝓛 (‵ (rights_own n held) ⊛ ‵ (notes_own held)) (keys_bared held) $ split ! $ move ! (3 ∷ 0 ∷ []) $ fjoin ! $ move ! (2 ∷ 1 ∷ []) $ fjoin ! $ move ! (1 ∷ 0 ∷ []) $ done !
 
   pub keys_whole : (held : Keys) → ⟦ rights_own n held ⟧ ∗ ⟦ ways held ⟧ ⊢ ⟦ keys_own n held ⟧
   keys_whole [] = qed 𝓛 (‵ ftrue ∷ ‵ ftrue ∷ []) ∵ keep ! (0 ∷ []) $ done !
@@ -132,12 +132,8 @@ module _ {M : Type 1} {𝓤 : Ura M} (𝓛 : Logic 𝓤) (n : Name) where
   first_parted (suc m) [] = qed 𝓛 (‵ ftrue ∷ []) ∵ nothing ! $ done !
   first_parted (suc m) (x ∷ held) = qed 𝓛 ((‵ (one_key n x) ⊛ ‵ (keys_own n held)) ∷ []) ∵ split ! $ move ! (1 ∷ []) $ use1 𝓛 (‵ (keys_own n (take m held)) ⊛ ‵ (keys_own n (past m held))) (first_parted m held) $ split ! $ move ! (2 ∷ 0 ∷ []) $ fjoin ! $ done !
 
-  lead_twice_in : (store : Option (List ℕ)) (b : ℕ) (t : ℕ × ℕ) → ⟦ leads_in store b t ⟧ ⊢ ⟦ leads_in store b t ⟧ ∗ ⟦ leads_in store b t ⟧
-  lead_twice_in None b t = qed 𝓛 (‵ ftrue ∷ []) ∵ nothing ! $ done !
-  lead_twice_in (Some store) b t = tells_twice 𝓛 store b t
-
   pub lead_twice : (v : ℕ) → ⟦ leads n v ⟧ ⊢ ⟦ leads n v ⟧ ∗ ⟦ leads n v ⟧
-  lead_twice v = lead_twice_in n.store (block_of v) (told_of n v)
+  lead_twice v = tells_twice 𝓛 n.store (block_number v) (chunk_tag n v)
 
   -- of what goes with a key, what lasts for good: where the number leads of the value that it is labelled with, and that a slot's head lies in
   -- the table
@@ -145,7 +141,7 @@ module _ {M : Type 1} {𝓤 : Ura M} (𝓛 : Logic 𝓤) (n : Name) where
   path_if true v = leads n v
   path_if false v = ftrue
 
-  abbrev pub path : Held Entry → Fml
+  abbrev pub path : HeldKey Entry → Fml
   path h = fsep (path_if (h.kind == blocks) h.label) (lies_if (is_placed h) n h.key)
 
   abbrev pub paths : Keys → Fml
@@ -160,7 +156,7 @@ module _ {M : Type 1} {𝓤 : Ura M} (𝓛 : Logic 𝓤) (n : Name) where
   lies_if_twice true s = lies_twice 𝓛 n s
   lies_if_twice false s = qed 𝓛 (‵ ftrue ∷ []) ∵ nothing ! $ done !
 
-  path_twice : (h : Held Entry) → ⟦ path h ⟧ ⊢ ⟦ path h ⟧ ∗ ⟦ path h ⟧
+  path_twice : (h : HeldKey Entry) → ⟦ path h ⟧ ⊢ ⟦ path h ⟧ ∗ ⟦ path h ⟧
   path_twice h = let A : Fml = path_if (h.kind == blocks) h.label in let B : Fml = lies_if (is_placed h) n h.key in
       qed 𝓛 (‵ (path h) ∷ []) ∵ fsplit ! $ use1 𝓛 (‵ A ⊛ ‵ A) (path_if_twice (h.kind == blocks) h.label) $ split ! $ move ! (2 ∷ []) $
       use1 𝓛 (‵ B ⊛ ‵ B) (lies_if_twice (is_placed h) h.key) $ split ! $ move ! (2 ∷ 0 ∷ []) $ fjoin ! $ move ! (2 ∷ 1 ∷ []) $ fjoin ! $ done !
@@ -176,7 +172,7 @@ module _ {M : Type 1} {𝓤 : Ura M} (𝓛 : Logic 𝓤) (n : Name) where
   lead_tells true v = qed 𝓛 (‵ (way_if true n v) ∷ []) ∵ fsplit ! $ use1 𝓛 (‵ (leads n v) ⊛ ‵ (leads n v)) (lead_twice v) $ split ! $ move ! (1 ∷ 2 ∷ []) $ fjoin ! $ move ! (1 ∷ 0 ∷ []) $ done !
   lead_tells false v = qed 𝓛 (‵ ftrue ∷ []) ∵ nothing ! $ done !
 
-  way_tells : (h : Held Entry) → ⟦ way n h ⟧ ⊢ ⟦ path h ⟧ ∗ ⟦ way n h ⟧
+  way_tells : (h : HeldKey Entry) → ⟦ way n h ⟧ ⊢ ⟦ path h ⟧ ∗ ⟦ way n h ⟧
   way_tells h = let A : Fml = way_if (h.kind == blocks) n h.label in let B : Fml = lies_if (is_placed h) n h.key in
       qed 𝓛 (‵ (way n h) ∷ []) ∵ fsplit ! $ use1 𝓛 (‵ (path_if (h.kind == blocks) h.label) ⊛ ‵ A) (lead_tells (h.kind == blocks) h.label) $ split ! $ move ! (2 ∷ []) $ fsplit ! $
       use1 𝓛 (‵ B ⊛ ‵ B) (lies_if_twice (is_placed h) h.key) $ split ! $
@@ -196,7 +192,7 @@ module _ {M : Type 1} {𝓤 : Ura M} (𝓛 : Logic 𝓤) (n : Name) where
   ways_renewed (h ∷ held) log = ap (λ (F : Fml). fsep (way n h) F) (ways_renewed held log)
 
   -- new keys of other kinds need none, nor does the key of a slot whose head lies nowhere yet
-  abbrev pub needs : Held Entry → Bool
+  abbrev pub needs : HeldKey Entry → Bool
   needs h = (h.kind == blocks) || is_placed h
 
   lead_free : (b c : Bool) → (b || c) ≡ false → (v : ℕ) (P : Fml) → ⟦ P ⟧ ⊢ ⟦ way_if b n v ⟧ ∗ ⟦ P ⟧
@@ -207,13 +203,13 @@ module _ {M : Type 1} {𝓤 : Ura M} (𝓛 : Logic 𝓤) (n : Name) where
   lies_free b true e s P = absurd (let t : true ≡ false = sym (or_true b) ∙ e in cc)
   lies_free b false e s P = qed 𝓛 (‵ P ∷ []) ∵ nothing ! $ done !
 
-  note_free : (b c : Bool) → (b || c) ≡ false → (v : ℕ) (g : Gv) (P : Fml) → ⟦ P ⟧ ⊢ ⟦ note_if b n v g ⟧ ∗ ⟦ P ⟧
+  note_free : (b c : Bool) → (b || c) ≡ false → (v : ℕ) (g : Gv) (P : Fml) → ⟦ P ⟧ ⊢ ⟦ note_if b v g ⟧ ∗ ⟦ P ⟧
   note_free true c e v g P = absurd (cc)
   note_free false c e v g P = qed 𝓛 (‵ P ∷ []) ∵ nothing ! $ done !
 
-  way_free : (h : Held Entry) → needs h ≡ false → (P : Fml) → ⟦ P ⟧ ⊢ ⟦ way n h ⟧ ∗ ⟦ P ⟧
+  way_free : (h : HeldKey Entry) → needs h ≡ false → (P : Fml) → ⟦ P ⟧ ⊢ ⟦ way n h ⟧ ∗ ⟦ P ⟧
   way_free h e P = let A : Fml = way_if (h.kind == blocks) n h.label in let B : Fml = lies_if (is_placed h) n h.key in
-      qed 𝓛 (‵ P ∷ []) ∵ use1 𝓛 (‵ (note n h) ⊛ ‵ P) (note_free (h.kind == blocks) (is_placed h) e h.label h.note P) $ split ! $
+      qed 𝓛 (‵ P ∷ []) ∵ use1 𝓛 (‵ (key_note h) ⊛ ‵ P) (note_free (h.kind == blocks) (is_placed h) e h.label h.note P) $ split ! $
       move ! (1 ∷ []) $ use1 𝓛 (‵ B ⊛ ‵ P) (lies_free (h.kind == blocks) (is_placed h) e h.key P) $ split ! $
       -- [where it lies; P; the note]
       move ! (0 ∷ 2 ∷ []) $ fjoin ! $ move ! (1 ∷ []) $ use1 𝓛 (‵ A ⊛ ‵ P) (lead_free (h.kind == blocks) (is_placed h) e h.label P) $ split ! $
@@ -226,7 +222,7 @@ module _ {M : Type 1} {𝓤 : Ura M} (𝓛 : Logic 𝓤) (n : Name) where
   pub ways_born : (held : Keys) (births : List (ℕ × ℕ)) (log : List Entry) → AllFree births → ⟦ ways held ⟧ ⊢ ⟦ ways (held ++ born births log) ⟧
   ways_born (h ∷ held) births log free = qed 𝓛 (‵ (ways (h ∷ held)) ∷ []) ∵ fsplit ! $ move ! (1 ∷ []) $ use1 𝓛 (‵ (ways (held ++ born births log))) (ways_born held births log free) $ move ! (1 ∷ 0 ∷ []) $ fjoin ! $ done !
   ways_born [] [] log free = qed 𝓛 (‵ ftrue ∷ []) ∵ done !
-  ways_born [] (b ∷ births) log free = let h : Held Entry = record { kind = b.0; key = b.1; own = log; label = 0; note = gnil } in qed 𝓛 (‵ ftrue ∷ []) ∵
+  ways_born [] (b ∷ births) log free = let h : HeldKey Entry = record { kind = b.0; key = b.1; own = log; label = 0; note = gnil } in qed 𝓛 (‵ ftrue ∷ []) ∵
       use1 𝓛 (‵ (ways (born births log))) (ways_born [] births log free.1) $
       use1 𝓛 (‵ (way n h) ⊛ ‵ (ways (born births log))) (way_free h (new_free b.0 b.1 log free.0) (ways (born births log))) $ split ! $ fjoin ! $ done !
 
@@ -243,109 +239,75 @@ module _ {M : Type 1} {𝓤 : Ura M} (𝓛 : Logic 𝓤) (n : Name) where
 
   -- the way of a key of a block: where its label's number leads, what is lent with that, and what is noted
   abbrev pub block_ways : ℕ → Gv → Fml
-  block_ways v g = fsep (fsep (leads n v) (loan (start n) n.log v)) (noted n v g)
+  block_ways v g = fsep (fsep (leads n v) (loan (start n) n.log v)) (note_at v g)
 
-  block_way : (h : Held Entry) → (h.kind == blocks) ≡ true → way n h ≡ fsep (fsep (leads n h.label) (loan (start n) n.log h.label)) (fsep ftrue (noted n h.label h.note))
+  block_way : (h : HeldKey Entry) → (h.kind == blocks) ≡ true → way n h ≡ fsep (fsep (leads n h.label) (loan (start n) n.log h.label)) (fsep ftrue (note_at h.label h.note))
   block_way h is =
       let kind : h.kind ≡ blocks = eq_true h.kind blocks is in
-      ap (λ (t : Bool × Bool). fsep (way_if t.0 n h.label) (fsep (lies_if t.1 n h.key) (note_if t.0 n h.label h.note))) (λ j. (is j, ap (λ (k : ℕ). (k == slots) && (h.label == 1)) kind j))
+      ap (λ (t : Bool × Bool). fsep (way_if t.0 n h.label) (fsep (lies_if t.1 n h.key) (note_if t.0 h.label h.note))) (λ j. (is j, ap (λ (k : ℕ). (k == slots) && (h.label == 1)) kind j))
 
-  pub way_opens : (h : Held Entry) → (h.kind == blocks) ≡ true → ⟦ way n h ⟧ ⊢ ⟦ block_ways h.label h.note ⟧
+  pub way_opens : (h : HeldKey Entry) → (h.kind == blocks) ≡ true → ⟦ way n h ⟧ ⊢ ⟦ block_ways h.label h.note ⟧
   way_opens h is = qed 𝓛 (‵ (way n h) ∷ []) ∵ rewrite ! 0 (λ (F : Fml). ‵ F) (block_way h is) refl $ fsplit ! $ move ! (1 ∷ []) $ fsplit ! $ move ! (2 ∷ 1 ∷ []) $ fjoin ! $ keep ! (0 ∷ []) $ done !
 
-  pub way_closes : (h : Held Entry) → (h.kind == blocks) ≡ true → ⟦ block_ways h.label h.note ⟧ ⊢ ⟦ way n h ⟧
+  pub way_closes : (h : HeldKey Entry) → (h.kind == blocks) ≡ true → ⟦ block_ways h.label h.note ⟧ ⊢ ⟦ way n h ⟧
   way_closes h is = qed 𝓛 (‵ (block_ways h.label h.note) ∷ []) ∵ fsplit ! $ nothing ! $ move ! (0 ∷ 2 ∷ []) $ fjoin ! $ move ! (1 ∷ 0 ∷ []) $ fjoin ! $ rewrite ! 0 (λ (F : Fml). ‵ F) (sym (block_way h is)) refl $ done !
-
-  -- where the value's number leads, beside the key
-  pub its_lead : (held : Keys) → is_one blocks held ≡ true → ⟦ keys_own n held ⟧ ⊢ ⟦ leads n (label_of held) ⟧ ∗ ⟦ keys_own n held ⟧
-  its_lead [] one = absurd (cc)
-  its_lead (x ∷ y ∷ held) one = absurd (cc)
-  its_lead (h ∷ []) one = qed 𝓛 (‵ (keys_own n (h ∷ [])) ∷ []) ∵ fsplit ! $ fsplit ! $ move ! (1 ∷ []) $ use1 𝓛 (‵ (block_ways h.label h.note)) (way_opens h one) $ fsplit ! $ fsplit ! $
-      use1 𝓛 (‵ (leads n h.label) ⊛ ‵ (leads n h.label)) (lead_twice h.label) $ split ! $
-      -- [where it leads, twice; the loan; the note; the right; nothing]
-      move ! (1 ∷ 2 ∷ []) $ fjoin ! $ move ! (0 ∷ 2 ∷ []) $ fjoin ! $ use1 𝓛 (‵ (way n h)) (way_closes h one) $ move ! (2 ∷ 0 ∷ []) $ fjoin ! $ move ! (0 ∷ 2 ∷ []) $ fjoin ! $ move ! (1 ∷ 0 ∷ []) $ done !
 
   none_lent : (k v : ℕ) → k ≡ 0 → (P : Fml) → ⟦ P ⟧ ⊢ ⟦ loan_if k (start n) n.log v ⟧ ∗ ⟦ P ⟧
   none_lent zero v none P = qed 𝓛 (‵ P ∷ []) ∵ nothing ! $ done !
   none_lent (suc k) v none P = absurd (let e : suc k ≡ 0 = none in omega (arith, e))
 
   -- of a value with which nothing is lent
-  pub bare_way : (h : Held Entry) → CarriesNone h.label → (h.kind == blocks) ≡ true → ⟦ leads n h.label ⟧ ∗ ⟦ noted n h.label h.note ⟧ ⊢ ⟦ way n h ⟧
-  bare_way h none is = let L : Fml = leads n h.label in qed 𝓛 (‵ L ∷ ‵ (noted n h.label h.note) ∷ []) ∵ use1 𝓛 (‵ (loan (start n) n.log h.label) ⊛ ‵ L) (none_lent (loan_of h.label) h.label none L) $ split ! $ move ! (1 ∷ 0 ∷ []) $ fjoin ! $ fjoin ! $
+  pub bare_way : (h : HeldKey Entry) → CarriesNone h.label → (h.kind == blocks) ≡ true → ⟦ leads n h.label ⟧ ∗ ⟦ note_at h.label h.note ⟧ ⊢ ⟦ way n h ⟧
+  bare_way h none is = let L : Fml = leads n h.label in qed 𝓛 (‵ L ∷ ‵ (note_at h.label h.note) ∷ []) ∵ use1 𝓛 (‵ (loan (start n) n.log h.label) ⊛ ‵ L) (none_lent (loan_of h.label) h.label none L) $ split ! $ move ! (1 ∷ 0 ∷ []) $ fjoin ! $ fjoin ! $
       use1 𝓛 (‵ (way n h)) (way_closes h is) $ done !
 
   -- and what lasts of these
-  lead_path : (h : Held Entry) (v : ℕ) → (h.kind ≡ blocks) × (h.label ≡ v) → path h ≡ fsep (leads n v) ftrue
+  lead_path : (h : HeldKey Entry) (v : ℕ) → (h.kind ≡ blocks) × (h.label ≡ v) → path h ≡ fsep (leads n v) ftrue
   lead_path h v is =
       ap (λ (t : Bool × Bool × ℕ). fsep (path_if t.0 t.2) (lies_if t.1 n h.key)) (λ j. (ap (λ (k : ℕ). k == blocks) is.0 j, ap (λ (k : ℕ). (k == slots) && (h.label == 1)) is.0 j, is.1 j))
 
-  slot_path : (h : Held Entry) (s : ℕ) → (h.kind ≡ slots) × (h.key ≡ s) × (h.label ≡ 1) → path h ≡ fsep ftrue (lies n s)
+  slot_path : (h : HeldKey Entry) (s : ℕ) → (h.kind ≡ slots) × (h.key ≡ s) × (h.label ≡ 1) → path h ≡ fsep ftrue (lies n s)
   slot_path h s is =
       ap (λ (t : Bool × Bool × ℕ). fsep (path_if t.0 h.label) (lies_if t.1 n t.2)) (λ j. (ap (λ (k : ℕ). k == blocks) is.0 j, ap (λ (t : ℕ × ℕ). (t.0 == slots) && (t.1 == 1)) (λ i. (is.0 i, is.2 i)) j, is.1 j))
 
-  slot_way : (h : Held Entry) (s : ℕ) → (h.kind ≡ slots) × (h.key ≡ s) × (h.label ≡ 1) → way n h ≡ fsep ftrue (fsep (lies n s) ftrue)
+  slot_way : (h : HeldKey Entry) (s : ℕ) → (h.kind ≡ slots) × (h.key ≡ s) × (h.label ≡ 1) → way n h ≡ fsep ftrue (fsep (lies n s) ftrue)
   slot_way h s is =
-      ap (λ (t : Bool × Bool × ℕ). fsep (way_if t.0 n h.label) (fsep (lies_if t.1 n t.2) (note_if t.0 n h.label h.note))) (λ j. (ap (λ (k : ℕ). k == blocks) is.0 j, ap (λ (t : ℕ × ℕ). (t.0 == slots) && (t.1 == 1)) (λ i. (is.0 i, is.2 i)) j, is.1 j))
+      ap (λ (t : Bool × Bool × ℕ). fsep (way_if t.0 n h.label) (fsep (lies_if t.1 n t.2) (note_if t.0 h.label h.note))) (λ j. (ap (λ (k : ℕ). k == blocks) is.0 j, ap (λ (t : ℕ × ℕ). (t.0 == slots) && (t.1 == 1)) (λ i. (is.0 i, is.2 i)) j, is.1 j))
 
   -- a key whose value's number leads to its home
-  way_placed : (h : Held Entry) → (h.kind == blocks) ≡ true → CarriesNone h.label → ⟦ key n h.kind h.key h.own ⟧ ∗ ⟦ leads n h.label ⟧ ∗ ⟦ noted n h.label h.note ⟧ ⊢ ⟦ keys_own n (h ∷ []) ⟧
-  way_placed h is none = qed 𝓛 (‵ (key n h.kind h.key h.own) ∷ ‵ (leads n h.label) ∷ ‵ (noted n h.label h.note) ∷ []) ∵ move ! (1 ∷ 2 ∷ []) $ use2 𝓛 (‵ (way n h)) (bare_way h none is) $
+  way_placed : (h : HeldKey Entry) → (h.kind == blocks) ≡ true → CarriesNone h.label → ⟦ key n h.kind h.key h.own ⟧ ∗ ⟦ leads n h.label ⟧ ∗ ⟦ note_at h.label h.note ⟧ ⊢ ⟦ keys_own n (h ∷ []) ⟧
+  way_placed h is none = qed 𝓛 (‵ (key n h.kind h.key h.own) ∷ ‵ (leads n h.label) ∷ ‵ (note_at h.label h.note) ∷ []) ∵ move ! (1 ∷ 2 ∷ []) $ use2 𝓛 (‵ (way n h)) (bare_way h none is) $
       move ! (1 ∷ 0 ∷ []) $ fjoin ! $ nothing ! $ move ! (1 ∷ 0 ∷ []) $ fjoin ! $ done !
 
   -- the key of a slot, with where its head lies
-  relabelled : (h : Held Entry) → is_one slots (h ∷ []) ≡ true → ⟦ keys_own n (h ∷ []) ⟧ ∗ ⟦ lies n h.key ⟧ ⊢ ⟦ keys_own n (labelled 1 (h ∷ [])) ⟧
-  relabelled h one = let h' : Held Entry = record { kind = h.kind; key = h.key; own = h.own; label = 1; note = h.note } in let W : Fml = way n h' in
+  relabelled : (h : HeldKey Entry) → is_one slots (h ∷ []) ≡ true → ⟦ keys_own n (h ∷ []) ⟧ ∗ ⟦ lies n h.key ⟧ ⊢ ⟦ keys_own n (labelled 1 (h ∷ [])) ⟧
+  relabelled h one = let h' : HeldKey Entry = record { kind = h.kind; key = h.key; own = h.own; label = 1; note = h.note } in let W : Fml = way n h' in
       qed 𝓛 (‵ (keys_own n (h ∷ [])) ∷ ‵ (lies n h.key) ∷ []) ∵ nothing ! $ move ! (2 ∷ 0 ∷ []) $ fjoin ! $ nothing ! $ fjoin ! $ rewrite ! 0 (λ (F : Fml). ‵ F) (sym (slot_way h' h.key (eq_true h.kind slots one, refl, refl))) refl $
       -- [the new way; the key, with its own]
       move ! (1 ∷ []) $ fsplit ! $ fsplit ! $ move ! (0 ∷ 3 ∷ []) $ fjoin ! $ move ! (0 ∷ 2 ∷ []) $ fjoin ! $ keep ! (0 ∷ []) $ done !
 
-  leads_anywhere : n.store ≡ None → (v : ℕ) (P : Fml) → ⟦ P ⟧ ⊢ ⟦ leads n v ⟧ ∗ ⟦ P ⟧
-  leads_anywhere none v P = qed 𝓛 (‵ P ∷ []) ∵ nothing ! $ rewrite ! 0 (λ (store : Option (List ℕ)). ‵ (leads_in store (block_of v) (told_of n v))) (sym none) refl $ done !
-
-  -- a note is of a cell, whichever value the key is for
-  note_same : (b : Bool) (v w : ℕ) (g : Gv) → cell_of v ≡ cell_of w → note_if b n v g ≡ note_if b n w g
-  note_same true v w g cell = ap (λ (c : ℕ). note_in n.store c g) cell
-  note_same false v w g cell = refl
-
-  pub notes_labelled : (held : Keys) (v : ℕ) → cell_of (label_of held) ≡ cell_of v → ⟦ notes_own n held ⟧ ⊢ ⟦ notes_own n (labelled v held) ⟧
-  notes_labelled [] v cell = qed 𝓛 (‵ ftrue ∷ []) ∵ done !
-  notes_labelled (h ∷ held) v cell = qed 𝓛 (‵ (notes_own n (h ∷ held)) ∷ []) ∵ fsplit ! $ rewrite ! 0 (λ (F : Fml). ‵ F) (note_same (h.kind == blocks) h.label v h.note cell) refl $ fjoin ! $ done !
-
-  note_new_in : (store : Option (List ℕ)) (c : ℕ) (g : Gv) → ⟦ cell_token c g ⟧ ⊢ ⟦ note_in store c g ⟧
-  note_new_in None c g = qed 𝓛 (‵ (cell_token c g) ∷ []) ∵ nothing ! $ keep ! (0 ∷ []) $ done !
-  note_new_in (Some store) c g = qed 𝓛 (‵ (cell_token c g) ∷ []) ∵ done !
-
-  pub note_new : (k c v : ℕ) (g : Gv) (own : List Entry) → c ≡ cell_of v → ⟦ cell_token c g ⟧ ⊢ ⟦ notes_own n (of_values v k g own) ⟧
-  note_new k c v g own cell = qed 𝓛 (‵ (cell_token c g) ∷ []) ∵ use1 𝓛 (‵ (note_in n.store c g)) (note_new_in n.store c g) $ rewrite ! 0 (λ (d : ℕ). ‵ (note_in n.store d g)) cell refl $
+  pub note_new : (k c v : ℕ) (g : Gv) (own : List Entry) → c ≡ cell_of v → ⟦ cell_token c g ⟧ ⊢ ⟦ notes_own (of_values v k g own) ⟧
+  note_new k c v g own cell = qed 𝓛 (‵ (cell_token c g) ∷ []) ∵ rewrite ! 0 (λ (d : ℕ). ‵ (cell_token d g)) cell refl $
       nothing ! $ move ! (1 ∷ 0 ∷ []) $ fjoin ! $ done !
 
   -- the note of a key of a block, which may be for another value of the block then
-  one_note : (h : Held Entry) (v : ℕ) → (h.kind == blocks) ≡ true → cell_of h.label ≡ cell_of v → ⟦ notes_own n (h ∷ []) ⟧ ⊢ ⟦ noted n v h.note ⟧
-  one_note h v one cell = qed 𝓛 (‵ (notes_own n (h ∷ [])) ∷ []) ∵ fsplit ! $ keep ! (0 ∷ []) $ rewrite ! 0 (λ (b : Bool). ‵ (note_if b n h.label h.note)) one refl $
-      rewrite ! 0 (λ (c : ℕ). ‵ (note_in n.store c h.note)) cell refl $ done !
-
-  -- where blocks lie in no store
-  pub all_anywhere : n.store ≡ None → (held : Keys) → is_one blocks held ≡ true → CarriesNone (label_of held) → ⟦ rights_own n held ⟧ ∗ ⟦ notes_own n held ⟧ ⊢ ⟦ keys_own n held ⟧
-  all_anywhere none [] one free = absurd (cc)
-  all_anywhere none (h ∷ g ∷ held) one free = absurd (cc)
-  all_anywhere none (h ∷ []) one free = let K : Fml = key n h.kind h.key h.own in qed 𝓛 (‵ (rights_own n (h ∷ [])) ∷ ‵ (notes_own n (h ∷ [])) ∷ []) ∵ move ! (1 ∷ []) $
-      use1 𝓛 (‵ (noted n h.label h.note)) (one_note h h.label one refl) $ move ! (1 ∷ []) $ fsplit ! $ use1 𝓛 (‵ (leads n h.label) ⊛ ‵ K) (leads_anywhere none h.label K) $ split ! $
-      -- [where it leads; the right; nothing; the note]
-      keep ! (1 ∷ 0 ∷ 3 ∷ []) $ by ! (way_placed h one free)
+  one_note : (h : HeldKey Entry) (v : ℕ) → (h.kind == blocks) ≡ true → cell_of h.label ≡ cell_of v → ⟦ notes_own (h ∷ []) ⟧ ⊢ ⟦ note_at v h.note ⟧
+  one_note h v one cell = qed 𝓛 (‵ (notes_own (h ∷ [])) ∷ []) ∵ fsplit ! $ keep ! (0 ∷ []) $ rewrite ! 0 (λ (b : Bool). ‵ (note_if b h.label h.note)) one refl $
+      rewrite ! 0 (λ (c : ℕ). ‵ (cell_token c h.note)) cell refl $ done !
 
   -- the key of a block, whose token is out
-  pub opens_key : (store : List ℕ) (held : Keys) → n.store ≡ Some store → is_one blocks held ≡ true → ⟦ keys_own n held ⟧ ⊢ ⟦ opened_own n held ⟧ ∗ ⟦ cell_token (cell_of (label_of held)) (note_of held) ⟧
-  opens_key store [] is one = absurd (cc)
-  opens_key store (h ∷ g ∷ held) is one = absurd (cc)
-  opens_key store (h ∷ []) is one = qed 𝓛 (‵ (keys_own n (h ∷ [])) ∷ []) ∵ fsplit ! $ fsplit ! $ move ! (1 ∷ []) $ use1 𝓛 (‵ (block_ways h.label h.note)) (way_opens h one) $ fsplit ! $
+  pub opens_key : (held : Keys) → is_one blocks held ≡ true → ⟦ keys_own n held ⟧ ⊢ ⟦ opened_own n held ⟧ ∗ ⟦ cell_token (cell_of (label_of held)) (note_of held) ⟧
+  opens_key [] one = absurd (cc)
+  opens_key (h ∷ g ∷ held) one = absurd (cc)
+  opens_key (h ∷ []) one = qed 𝓛 (‵ (keys_own n (h ∷ [])) ∷ []) ∵ fsplit ! $ fsplit ! $ move ! (1 ∷ []) $ use1 𝓛 (‵ (block_ways h.label h.note)) (way_opens h one) $ fsplit ! $
       -- [where it leads, and what is lent; the note; the right; nothing]
-      move ! (2 ∷ 0 ∷ []) $ fjoin ! $ move ! (1 ∷ []) $ rewrite ! 0 (λ (s : Option (List ℕ)). ‵ (note_in s (cell_of h.label) h.note)) is refl $ keep ! (1 ∷ 0 ∷ []) $ done !
+      move ! (2 ∷ 0 ∷ []) $ fjoin ! $ move ! (1 ∷ []) $ keep ! (1 ∷ 0 ∷ []) $ done !
 
-  pub closes_key : (store : List ℕ) (held : Keys) (g : Gv) → n.store ≡ Some store → is_one blocks held ≡ true → ⟦ opened_own n held ⟧ ∗ ⟦ cell_token (cell_of (label_of held)) g ⟧ ⊢ ⟦ keys_own n (with_note g held) ⟧
-  closes_key store [] g is one = absurd (cc)
-  closes_key store (h ∷ k ∷ held) g is one = absurd (cc)
-  closes_key store (h ∷ []) g is one = let h' : Held Entry = record { kind = h.kind; key = h.key; own = h.own; label = h.label; note = g } in
-      qed 𝓛 (‵ (opened_own n (h ∷ [])) ∷ ‵ (cell_token (cell_of h.label) g) ∷ []) ∵ fsplit ! $ move ! (2 ∷ []) $ rewrite ! 0 (λ (s : Option (List ℕ)). ‵ (note_in s (cell_of h.label) g)) (sym is) refl $
+  pub closes_key : (held : Keys) (g : Gv) → is_one blocks held ≡ true → ⟦ opened_own n held ⟧ ∗ ⟦ cell_token (cell_of (label_of held)) g ⟧ ⊢ ⟦ keys_own n (with_note g held) ⟧
+  closes_key [] g one = absurd (cc)
+  closes_key (h ∷ k ∷ held) g one = absurd (cc)
+  closes_key (h ∷ []) g one = let h' : HeldKey Entry = record { kind = h.kind; key = h.key; own = h.own; label = h.label; note = g } in
+      qed 𝓛 (‵ (opened_own n (h ∷ [])) ∷ ‵ (cell_token (cell_of h.label) g) ∷ []) ∵ fsplit ! $ move ! (2 ∷ []) $
       -- [the note; the right; where it leads, and what is lent]
       move ! (2 ∷ 0 ∷ []) $ fjoin ! $ use1 𝓛 (‵ (way n h')) (way_closes h' one) $ move ! (1 ∷ 0 ∷ []) $ fjoin ! $ nothing ! $ move ! (1 ∷ 0 ∷ []) $ fjoin ! $ done !
 
@@ -361,35 +323,28 @@ module _ {M : Type 1} {𝓤 : Ura M} (𝓛 : Logic 𝓤) (n : Name) where
   label_lies (h ∷ held) s (inr is) = qed 𝓛 (‵ (paths (h ∷ held)) ∷ []) ∵ fsplit ! $ drop ! $ by ! (label_lies held s is)
 
   -- the key of a slot whose head lies in the table, as a token of its entry shows
-  pub laid : (table : List ℕ) (s label : ℕ) (held : Keys) → is_one slots held ≡ true → n.table ≡ Some table → s ≡ key_of held → label ≡ label_at n (key_of held)
+  pub laid : (table : List ℕ) (s label : ℕ) (held : Keys) → is_one slots held ≡ true → n.table ≡ table → s ≡ key_of held → label ≡ label_at n (key_of held)
       → ⟦ keys_own n held ⟧ ∗ ⟦ filled_at table s label ⟧ ⊢ ⟦ keys_own n (labelled 1 held) ⟧
   laid table s label [] one is entry head = absurd (cc)
   laid table s label (h ∷ g ∷ held) one is entry head = absurd (cc)
   laid table s label (h ∷ []) one is entry head =
       qed 𝓛 (‵ (keys_own n (h ∷ [])) ∷ ‵ (filled_at table s label) ∷ []) ∵ move ! (1 ∷ []) $ rewrite ! 0 (λ (t : ℕ × ℕ). ‵ (filled_at table t.0 t.1)) (λ j. (entry j, head j)) refl $
-      rewrite ! 0 (λ (t : Option (List ℕ)). ‵ (lies_in t h.key (label_at n h.key))) (sym is) refl $
+      rewrite ! 0 (λ (t : List ℕ). ‵ (filled_at t h.key (label_at n h.key))) (sym is) refl $
       -- [where the head lies; the key]
       move ! (1 ∷ 0 ∷ []) $ by ! (relabelled h one)
 
-  -- or lies in none
-  pub laid_anywhere : n.table ≡ None → (held : Keys) → is_one slots held ≡ true → ⟦ keys_own n held ⟧ ⊢ ⟦ keys_own n (labelled 1 held) ⟧
-  laid_anywhere none [] one = absurd (cc)
-  laid_anywhere none (h ∷ g ∷ held) one = absurd (cc)
-  laid_anywhere none (h ∷ []) one = qed 𝓛 (‵ (keys_own n (h ∷ [])) ∷ []) ∵ nothing ! $
-      rewrite ! 0 (λ (t : Option (List ℕ)). ‵ (lies_in t h.key (label_at n h.key))) (sym none) refl $ move ! (1 ∷ 0 ∷ []) $ by ! (relabelled h one)
-
   -- a key whose value's number leads to its home, as a token of the number's row shows
-  pub placed : (store : List ℕ) (row : ℕ) (chunks : List (Ptr × ℕ)) (held : Keys) (v : ℕ) → is_one blocks held ≡ true → n.store ≡ Some store → IsRowIn store row chunks
-      → IsPlace (block_of v) row (entry_of row (block_of v)) → (label_in chunks (entry_of row (block_of v)) ≡ chunk_label n (home_of v) (cell_of v)) × (content_in chunks (entry_of row (block_of v)) ≡ place_of v) → CarriesNone v
-      → cell_of (label_of held) ≡ cell_of v → ⟦ rights_own n held ⟧ ∗ ⟦ notes_own n held ⟧ ∗ ⟦ known_row store row chunks ⟧ ⊢ ⟦ keys_own n (labelled v held) ⟧
+  pub placed : (store : List ℕ) (row : ℕ) (chunks : List (Ptr × ℕ)) (held : Keys) (v : ℕ) → is_one blocks held ≡ true → n.store ≡ store → IsRowIn store row chunks
+      → IsPlace (block_number v) row (entry_of row (block_number v)) → (label_in chunks (entry_of row (block_number v)) ≡ chunk_label n (home_of v) (cell_of v)) × (content_in chunks (entry_of row (block_number v)) ≡ place_of v) → CarriesNone v
+      → cell_of (label_of held) ≡ cell_of v → ⟦ rights_own n held ⟧ ∗ ⟦ notes_own held ⟧ ∗ ⟦ known_row store row chunks ⟧ ⊢ ⟦ keys_own n (labelled v held) ⟧
   placed store row chunks [] v one is made place there free cell = absurd (cc)
   placed store row chunks (h ∷ g ∷ held) v one is made place there free cell = absurd (cc)
-  placed store row chunks (h ∷ []) v one is made place there free cell = let b : ℕ = block_of v in let h' : Held Entry = record { kind = h.kind; key = h.key; own = h.own; label = v; note = h.note } in
-      let t : ℕ × ℕ = (label_in chunks (entry_of row b), content_in chunks (entry_of row b)) in let same : t ≡ told_of n v = λ j. (there.0 j, there.1 j) in
-      qed 𝓛 (‵ (rights_own n (h ∷ [])) ∷ ‵ (notes_own n (h ∷ [])) ∷ ‵ (known_row store row chunks) ∷ []) ∵ move ! (2 ∷ []) $ use1 𝓛 (‵ (tells store b t)) (known_tells 𝓛 store b row chunks made place) $
-      rewrite ! 0 (λ (u : ℕ × ℕ). ‵ (tells store b u)) same refl $ rewrite ! 0 (λ (s : Option (List ℕ)). ‵ (leads_in s b (told_of n v))) (sym is) refl $
+  placed store row chunks (h ∷ []) v one is made place there free cell = let b : ℕ = block_number v in let h' : HeldKey Entry = record { kind = h.kind; key = h.key; own = h.own; label = v; note = h.note } in
+      let t : ℕ × ℕ = (label_in chunks (entry_of row b), content_in chunks (entry_of row b)) in let same : t ≡ chunk_tag n v = λ j. (there.0 j, there.1 j) in
+      qed 𝓛 (‵ (rights_own n (h ∷ [])) ∷ ‵ (notes_own (h ∷ [])) ∷ ‵ (known_row store row chunks) ∷ []) ∵ move ! (2 ∷ []) $ use1 𝓛 (‵ (tells store b t)) (known_tells 𝓛 store b row chunks made place) $
+      rewrite ! 0 (λ (u : ℕ × ℕ). ‵ (tells store b u)) same refl $ rewrite ! 0 (λ (s : List ℕ). ‵ (tells s b (chunk_tag n v))) (sym is) refl $
       -- [where it leads; the right; the note]
-      move ! (2 ∷ []) $ use1 𝓛 (‵ (noted n v h.note)) (one_note h v one cell) $ move ! (2 ∷ []) $ fsplit ! $ keep ! (0 ∷ 3 ∷ 2 ∷ []) $ by ! (way_placed h' one free)
+      move ! (2 ∷ []) $ use1 𝓛 (‵ (note_at v h.note)) (one_note h v one cell) $ move ! (2 ∷ []) $ fsplit ! $ keep ! (0 ∷ 3 ∷ 2 ∷ []) $ by ! (way_placed h' one free)
 
   -- that of a value among others
   pub one_leads : (vs : List ℕ) (v : ℕ) → has v vs ≡ true → ⟦ all_lead n vs ⟧ ⊢ ⟦ leads n v ⟧
@@ -402,19 +357,19 @@ module _ {M : Type 1} {𝓤 : Ura M} (𝓛 : Logic 𝓤) (n : Name) where
 
   -- A value whose number is one of a row that a token shows lies in the block with the label that the row has there.
 
-  in_one : (store : List ℕ) (row : ℕ) (chunks : List (Ptr × ℕ)) → IsRowIn store row chunks → n.store ≡ Some store → (v : ℕ)
+  in_one : (store : List ℕ) (row : ℕ) (chunks : List (Ptr × ℕ)) → IsRowIn store row chunks → n.store ≡ store → (v : ℕ)
       → ⟦ leads n v ⟧ ∗ ⟦ known_row store row chunks ⟧ ⊢ guard 𝓤 (IsIn n row chunks v) (⟦ leads n v ⟧ ∗ ⟦ known_row store row chunks ⟧)
-  in_one store row chunks made is v = go (is_place (block_of v) row (entry_of row (block_of v)))
+  in_one store row chunks made is v = go (is_place (block_number v) row (entry_of row (block_number v)))
     where
-      go : Dec (IsPlace (block_of v) row (entry_of row (block_of v))) → ⟦ leads n v ⟧ ∗ ⟦ known_row store row chunks ⟧ ⊢ guard 𝓤 (IsIn n row chunks v) (⟦ leads n v ⟧ ∗ ⟦ known_row store row chunks ⟧)
+      go : Dec (IsPlace (block_number v) row (entry_of row (block_number v))) → ⟦ leads n v ⟧ ∗ ⟦ known_row store row chunks ⟧ ⊢ guard 𝓤 (IsIn n row chunks v) (⟦ leads n v ⟧ ∗ ⟦ known_row store row chunks ⟧)
       go (no out) = qed 𝓛 (‵ (leads n v) ∷ ‵ (known_row store row chunks) ∷ []) ∵ check ! (λ place. absurd (out place)) $ done !
-      go (yes place) = let b : ℕ = block_of v in let K : Fml = known_row store row chunks in let t : ℕ × ℕ = (label_in chunks (entry_of row b), content_in chunks (entry_of row b)) in let Same : Type 0 = t ≡ told_of n v in
-          qed 𝓛 (‵ (leads n v) ∷ ‵ K ∷ []) ∵ use1 𝓛 (‵ (leads n v) ⊛ ‵ (leads n v)) (lead_twice v) $ split ! $ rewrite ! 0 (λ (s : Option (List ℕ)). ‵ (leads_in s b (told_of n v))) is refl $
+      go (yes place) = let b : ℕ = block_number v in let K : Fml = known_row store row chunks in let t : ℕ × ℕ = (label_in chunks (entry_of row b), content_in chunks (entry_of row b)) in let Same : Type 0 = t ≡ chunk_tag n v in
+          qed 𝓛 (‵ (leads n v) ∷ ‵ K ∷ []) ∵ use1 𝓛 (‵ (leads n v) ⊛ ‵ (leads n v)) (lead_twice v) $ split ! $ rewrite ! 0 (λ (s : List ℕ). ‵ (tells s b (chunk_tag n v))) is refl $
           move ! (2 ∷ []) $ use1 𝓛 (‵ K ⊛ ‵ K) (row_twice 𝓛 store row chunks) $ split ! $ use1 𝓛 (‵ (tells store b t)) (known_tells 𝓛 store b row chunks made place) $
           -- [where the number leads by the row; the row; where it leads by the book; that once more]
-          move ! (0 ∷ 2 ∷ []) $ use2 𝓛 (raw (fact 𝓤 Same)) (tells_agree 𝓛 store b t (told_of n v)) $ heard ! Same (λ same. check ! (λ _. (ap (λ (u : ℕ × ℕ). u.0) same, ap (λ (u : ℕ × ℕ). u.1) same)) $ move ! (1 ∷ 0 ∷ []) $ done !)
+          move ! (0 ∷ 2 ∷ []) $ use2 𝓛 (raw (fact 𝓤 Same)) (tells_agree 𝓛 store b t (chunk_tag n v)) $ heard ! Same (λ same. check ! (λ _. (ap (λ (u : ℕ × ℕ). u.0) same, ap (λ (u : ℕ × ℕ). u.1) same)) $ move ! (1 ∷ 0 ∷ []) $ done !)
 
-  pub all_in : (store : List ℕ) (row : ℕ) (chunks : List (Ptr × ℕ)) → IsRowIn store row chunks → n.store ≡ Some store → (vs : List ℕ) → ⟦ all_lead n vs ⟧ ∗ ⟦ known_row store row chunks ⟧ ⊢ guard 𝓤 (AreIn n row chunks vs) ⟦ all_lead n vs ⟧
+  pub all_in : (store : List ℕ) (row : ℕ) (chunks : List (Ptr × ℕ)) → IsRowIn store row chunks → n.store ≡ store → (vs : List ℕ) → ⟦ all_lead n vs ⟧ ∗ ⟦ known_row store row chunks ⟧ ⊢ guard 𝓤 (AreIn n row chunks vs) ⟦ all_lead n vs ⟧
   all_in store row chunks made is [] = qed 𝓛 (‵ ftrue ∷ ‵ (known_row store row chunks) ∷ []) ∵ check ! (λ v named. absurd (cc)) $ keep ! (0 ∷ []) $ done !
   all_in store row chunks made is (u ∷ vs) = let K : Fml = known_row store row chunks in qed 𝓛 (‵ (all_lead n (u ∷ vs)) ∷ ‵ K ∷ []) ∵ fsplit ! $ move ! (0 ∷ 2 ∷ []) $
       use2 𝓛 (given (IsIn n row chunks u) (‵ (leads n u) ⊛ ‵ K)) (in_one store row chunks made is u) $ learn ! (λ one. split ! $
@@ -430,12 +385,12 @@ module _ {M : Type 1} {𝓤 : Ura M} (𝓛 : Logic 𝓤) (n : Name) where
 
   -- values that were named, or that keys are labelled with, something being lent with them where it has to be
   abbrev pub Among : List ℕ → Keys → List ℕ → Type 0
-  Among vs held us = (v : ℕ) → has v us ≡ true → (has v vs ≡ true) ⊎ (IsLabel held v × IsLentIn n v)
+  Among vs held us = (v : ℕ) → has v us ≡ true → (has v vs ≡ true) ⊎ (IsLabel held v × CarriesOne v)
 
-  lent_more : (vs : List ℕ) (held : Keys) (us : List ℕ) → Among vs held us → AllLentIn n vs → AllLentIn n us
+  lent_more : (vs : List ℕ) (held : Keys) (us : List ℕ) → Among vs held us → AllCarryOne vs → AllCarryOne us
   lent_more vs held us among lent v named = ⊎_elim (λ was. lent v was) (λ is. is.1) (among v named)
 
-  from_either : (vs : List ℕ) (held : Keys) (v : ℕ) → (has v vs ≡ true) ⊎ (IsLabel held v × IsLentIn n v) → ⟦ all_lead n vs ⟧ ∗ ⟦ paths held ⟧ ⊢ ⟦ leads n v ⟧
+  from_either : (vs : List ℕ) (held : Keys) (v : ℕ) → (has v vs ≡ true) ⊎ (IsLabel held v × CarriesOne v) → ⟦ all_lead n vs ⟧ ∗ ⟦ paths held ⟧ ⊢ ⟦ leads n v ⟧
   from_either vs held v (inl named) = qed 𝓛 (‵ (all_lead n vs) ∷ ‵ (paths held) ∷ []) ∵ keep ! (0 ∷ []) $ by ! (one_leads vs v named)
   from_either vs held v (inr is) = qed 𝓛 (‵ (all_lead n vs) ∷ ‵ (paths held) ∷ []) ∵ keep ! (1 ∷ []) $ by ! (label_leads held v is.0)
 
@@ -448,10 +403,10 @@ module _ {M : Type 1} {𝓤 : Ura M} (𝓛 : Logic 𝓤) (n : Name) where
       move ! (2 ∷ 1 ∷ []) $ use2 𝓛 (‵ (all_lead n us)) (all_more vs held us (λ v h. among v (there u v us h))) $ move ! (1 ∷ 0 ∷ []) $ fjoin ! $ done !
 
   -- with each that was named something is lent where it has to be
-  pub found_lent : (st : State) → ⟦ found n st ⟧ ⊢ guard 𝓤 (AllLentIn n st.named) ⟦ found n st ⟧
-  found_lent st = qed 𝓛 (‵ (found n st) ∷ []) ∵ fsplit ! $ move ! (1 ∷ []) $ fsplit ! $ move ! (1 ∷ []) $ fpick ! (λ lent. drop ! $ check ! lent $
+  pub found_lent : (st : State) → ⟦ places_known n st ⟧ ⊢ guard 𝓤 (AllCarryOne st.named) ⟦ places_known n st ⟧
+  found_lent st = qed 𝓛 (‵ (places_known n st) ∷ []) ∵ fsplit ! $ move ! (1 ∷ []) $ fsplit ! $ move ! (1 ∷ []) $ fpick ! (λ lent. drop ! $ check ! lent $
       -- [where all lie; where all lead]
-      nothing ! $ fpack ! (AllLentIn n st.named) (λ _. ftrue) lent $ move ! (1 ∷ 0 ∷ []) $ fjoin ! $ move ! (1 ∷ 0 ∷ []) $ fjoin ! $ done !)
+      nothing ! $ fpack ! (AllCarryOne st.named) (λ _. ftrue) lent $ move ! (1 ∷ 0 ∷ []) $ fjoin ! $ move ! (1 ∷ 0 ∷ []) $ fjoin ! $ done !)
 
   -- there are as many slots as before; or one more, whose key says where its head lies
   abbrev pub MorePlaced : ℕ → Keys → ℕ → Type 0
@@ -462,11 +417,11 @@ module _ {M : Type 1} {𝓤 : Ura M} (𝓛 : Logic 𝓤) (n : Name) where
   lie_more m held more (inr (is, has)) = qed 𝓛 (‵ (all_lie n m) ∷ ‵ (paths held) ∷ []) ∵ move ! (1 ∷ []) $ use1 𝓛 (‵ (lies n m)) (label_lies held m has) $ move ! (1 ∷ 0 ∷ []) $
       use2 𝓛 (‵ (all_lie n (suc m))) (one_more 𝓛 n m) $ rewrite ! 0 (λ (k : ℕ). ‵ (all_lie n k)) (sym is) refl $ done !
 
-  pub found_more : (a b : State) (held : Keys) → Among a.named held b.named → MorePlaced (length a.slots) held (length b.slots) → ⟦ found n a ⟧ ∗ ⟦ paths held ⟧ ⊢ ⟦ found n b ⟧
-  found_more a b held among placed = qed 𝓛 (‵ (found n a) ∷ ‵ (paths held) ∷ []) ∵ fsplit ! $ move ! (1 ∷ []) $ fsplit ! $ move ! (1 ∷ []) $ fpick ! (λ lent. drop ! $
+  pub found_more : (a b : State) (held : Keys) → Among a.named held b.named → MorePlaced (length a.slots) held (length b.slots) → ⟦ places_known n a ⟧ ∗ ⟦ paths held ⟧ ⊢ ⟦ places_known n b ⟧
+  found_more a b held among placed = qed 𝓛 (‵ (places_known n a) ∷ ‵ (paths held) ∷ []) ∵ fsplit ! $ move ! (1 ∷ []) $ fsplit ! $ move ! (1 ∷ []) $ fpick ! (λ lent. drop ! $
       -- [where all lie; where all lead; the paths]
       move ! (2 ∷ []) $ use1 𝓛 (‵ (paths held) ⊛ ‵ (paths held)) (paths_twice held) $ split ! $
       -- [the paths, twice; where all lie; where all lead]
       move ! (3 ∷ 0 ∷ []) $ use2 𝓛 (‵ (all_lead n b.named)) (all_more a.named held b.named among) $
       move ! (2 ∷ 1 ∷ []) $ use2 𝓛 (‵ (all_lie n (length b.slots))) (lie_more (length a.slots) held (length b.slots) placed) $
-      nothing ! $ fpack ! (AllLentIn n b.named) (λ _. ftrue) (lent_more a.named held b.named among lent) $ move ! (1 ∷ 0 ∷ []) $ fjoin ! $ move ! (1 ∷ 0 ∷ []) $ fjoin ! $ done !)
+      nothing ! $ fpack ! (AllCarryOne b.named) (λ _. ftrue) (lent_more a.named held b.named among lent) $ move ! (1 ∷ 0 ∷ []) $ fjoin ! $ move ! (1 ∷ 0 ∷ []) $ fjoin ! $ done !)

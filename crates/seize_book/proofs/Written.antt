@@ -1,7 +1,7 @@
 -- What is stored in fields: chains stay as entries are added, and so does what was written for an insertion that another slot tries.
 use Rattle.std.proofs.Common.{◌≡◌, ◌≢◌, ℕ, ◌<◌, ◌==◌, Bool, true, false, if◌then◌else◌, List, [], ◌∷◌, ◌++◌, length, Option, Some, None, refl, sym, ◌∙◌, ap, subst, append-nil, ⊎_elim}
 use Rattle.std.proofs.lemmas.List.{get_or_append_left}
-use Rattle.seize_machine.specs.Machine.State.{State, Slot, Call, Place, Try, slot_at, linked, are_distinct}
+use Rattle.seize_machine.specs.Machine.State.{State, Slot, Call, Place, Try, slot_at, linked_values, are_distinct}
 use Rattle.seize_machine.specs.Machine.Next.{of_call}
 use Rattle.seize_machine.specs.Machine.Frames.{changes_slot}
 use Rattle.seize_machine.specs.Machine.History.{IsReached}
@@ -9,7 +9,7 @@ use Rattle.seize_machine.specs.declared.machine.event.Answer.{Answer}
 use Rattle.seize_machine.proofs.Facts.{Stands, slot_frame, step_of}
 use Rattle.seize_book.specs.Blocks.{Plan, no_plan, planned_by, plans, serving}
 use Rattle.seize_book.specs.Book.{IsLegalList, Does, after}
-use Rattle.seize_book.specs.Chains.{Chained, IsLed, IsWriting, first_field, next_field, served, told, told_after, told_from, uses, written, written_at}
+use Rattle.seize_book.specs.Chains.{Chained, IsLed, IsWriting, first_field, insertion_fields, next_field, served, told, told_after, told_from, uses, written_at}
 use Rattle.seize_book.specs.Entry.{Entry, Made, Used, Deed, Use}
 use Rattle.seize_book.specs.Homes.{HasOne, IsSound, home_of}
 use Rattle.seize_book.specs.Tokens.{Name, start}
@@ -45,7 +45,7 @@ plans_made st log x = plans_append st log (Made x ∷ []) ∙ ap (λ (ps : List 
 pub plans_used : (st : State) (log : List Entry) (u : Use) → plans st (log ++ Used u ∷ []) ≡ plans st log
 plans_used st log u = plans_append st log (Used u ∷ []) ∙ append-nil (plans st log)
 
-module _ (n : Name) (log : List Entry) (distinct : are_distinct (linked n.links) ≡ true) (legal : IsLegalList (start n) log) where
+module _ (n : Name) (log : List Entry) (distinct : are_distinct (linked_values n.links) ≡ true) (legal : IsLegalList (start n) log) where
   abbrev st : State
   st = start n
 
@@ -77,7 +77,7 @@ module _ (n : Name) (log : List Entry) (distinct : are_distinct (linked n.links)
         (λ m b used. off (home_of (served ps b m)) (tried_apart now ps reached one (marked_after n log distinct legal) (held_values n log distinct legal) u.slot w.batch w.at b m tries used)) old
 
     -- what another slot wrote stays
-    still_written : (k : ℕ) → k ≢ u.slot → written now ps (told (log ++ Used u ∷ [])) k ≡ written now ps (told log) k
+    still_written : (k : ℕ) → k ≢ u.slot → insertion_fields now ps (told (log ++ Used u ∷ [])) k ≡ insertion_fields now ps (told log) k
     still_written k other = by_call (slot_at now k).call refl
       where
         by_place : (place : Place) (queue : List ℕ) → Stands now k place queue → written_at ps (told (log ++ Used u ∷ [])) place queue ≡ written_at ps (told log) place queue
@@ -99,9 +99,9 @@ module _ (n : Name) (log : List Entry) (distinct : are_distinct (linked n.links)
   chained_used u one led old = chained_stored one u led old
 
   pub written_by_event_ : (x : Deed) (d : State × Answer) (k : ℕ) → Does st log (Made x) d → changes_slot k x.event ≡ false
-      → written (after st (log ++ Made x ∷ [])) (plans st (log ++ Made x ∷ [])) (told (log ++ Made x ∷ [])) k ≡ written now ps (told log) k
+      → insertion_fields (after st (log ++ Made x ∷ [])) (plans st (log ++ Made x ∷ [])) (told (log ++ Made x ∷ [])) k ≡ insertion_fields now ps (told log) k
   written_by_event_ x d k does out =
-      (λ i. written (after_push st log (Made x) d legal does i) (plans_made st log x i) (λ f. told_same log (Made x) f refl i) k)
+      (λ i. insertion_fields (after_push st log (Made x) d legal does i) (plans_made st log x i) (λ f. told_same log (Made x) f refl i) k)
       ∙ ap (λ (slot : Slot). of_call (written_at (ps ++ planned_by now x.event) (told log)) slot.call) (slot_frame k x.size now x.event d (step_of x.size now x.event d does) out)
       ∙ by_call (slot_at now k).call refl
     where
@@ -116,13 +116,13 @@ module _ (n : Name) (log : List Entry) (distinct : are_distinct (linked n.links)
       by_call (Some call) e = by_place call.place call.queue e
 
   pub written_by_use_ : (u : Use) (k : ℕ) → HasOne now → IsLed now ps (told log) (Used u) → (u.slot == k) ≡ false
-      → written (after st (log ++ Used u ∷ [])) (plans st (log ++ Used u ∷ [])) (told (log ++ Used u ∷ [])) k ≡ written now ps (told log) k
-  written_by_use_ u k one led out = (λ i. written (after_used st log u i) (plans_used st log u i) (told (log ++ Used u ∷ [])) k) ∙ still_written one u led k other
+      → insertion_fields (after st (log ++ Used u ∷ [])) (plans st (log ++ Used u ∷ [])) (told (log ++ Used u ∷ [])) k ≡ insertion_fields now ps (told log) k
+  written_by_use_ u k one led out = (λ i. insertion_fields (after_used st log u i) (plans_used st log u i) (told (log ++ Used u ∷ [])) k) ∙ still_written one u led k other
     where
       other : k ≢ u.slot
       other e = let x : (u.slot == k) ≡ true = Rattle.seize_book.proofs.Lists.equal u.slot k (sym e) in let y : true ≡ false = sym x ∙ out in cc
 
-pub chained_push : (n : Name) (log : List Entry) (e : Entry) (d : State × Answer) → are_distinct (linked n.links) ≡ true → IsLegalList (start n) log → IsSound (after (start n) log) → Chained (after (start n) log) (plans (start n) log) (told log)
+pub chained_push : (n : Name) (log : List Entry) (e : Entry) (d : State × Answer) → are_distinct (linked_values n.links) ≡ true → IsLegalList (start n) log → IsSound (after (start n) log) → Chained (after (start n) log) (plans (start n) log) (told log)
     → Does (start n) log e d → IsLed (after (start n) log) (plans (start n) log) (told log) e → Chained (after (start n) (log ++ e ∷ [])) (plans (start n) (log ++ e ∷ [])) (told (log ++ e ∷ []))
 chained_push n log (Made x) d distinct legal sound old does led =
     subst (λ (z : State × (List Plan × (ℕ → ℕ))). Chained z.0 z.1.0 z.1.1)
@@ -130,10 +130,10 @@ chained_push n log (Made x) d distinct legal sound old does led =
 chained_push n log (Used u) d distinct legal sound old does led =
     subst (λ (z : State × List Plan). Chained z.0 z.1 (told (log ++ Used u ∷ []))) (λ i. (sym (after_used (start n) log u) i, sym (plans_used (start n) log u) i)) (chained_used n log distinct legal u sound.one led old)
 
-pub written_by_event : (n : Name) (log : List Entry) (x : Deed) (d : State × Answer) (k : ℕ) → are_distinct (linked n.links) ≡ true → IsLegalList (start n) log → Does (start n) log (Made x) d → changes_slot k x.event ≡ false
-    → written (after (start n) (log ++ Made x ∷ [])) (plans (start n) (log ++ Made x ∷ [])) (told (log ++ Made x ∷ [])) k ≡ written (after (start n) log) (plans (start n) log) (told log) k
+pub written_by_event : (n : Name) (log : List Entry) (x : Deed) (d : State × Answer) (k : ℕ) → are_distinct (linked_values n.links) ≡ true → IsLegalList (start n) log → Does (start n) log (Made x) d → changes_slot k x.event ≡ false
+    → insertion_fields (after (start n) (log ++ Made x ∷ [])) (plans (start n) (log ++ Made x ∷ [])) (told (log ++ Made x ∷ [])) k ≡ insertion_fields (after (start n) log) (plans (start n) log) (told log) k
 written_by_event n log x d k distinct legal does out = written_by_event_ n log distinct legal x d k does out
 
-pub written_by_use : (n : Name) (log : List Entry) (u : Use) (k : ℕ) → are_distinct (linked n.links) ≡ true → IsLegalList (start n) log → HasOne (after (start n) log) → IsLed (after (start n) log) (plans (start n) log) (told log) (Used u)
-    → (u.slot == k) ≡ false → written (after (start n) (log ++ Used u ∷ [])) (plans (start n) (log ++ Used u ∷ [])) (told (log ++ Used u ∷ [])) k ≡ written (after (start n) log) (plans (start n) log) (told log) k
+pub written_by_use : (n : Name) (log : List Entry) (u : Use) (k : ℕ) → are_distinct (linked_values n.links) ≡ true → IsLegalList (start n) log → HasOne (after (start n) log) → IsLed (after (start n) log) (plans (start n) log) (told log) (Used u)
+    → (u.slot == k) ≡ false → insertion_fields (after (start n) (log ++ Used u ∷ [])) (plans (start n) (log ++ Used u ∷ [])) (told (log ++ Used u ∷ [])) k ≡ insertion_fields (after (start n) log) (plans (start n) log) (told log) k
 written_by_use n log u k distinct legal one led out = written_by_use_ n log distinct legal u k one led out

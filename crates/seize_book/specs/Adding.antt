@@ -1,47 +1,47 @@
 -- The words in which the contracts of keys speak.
---     telling pass event kepts      the entry of an event that is made with the pass, begins no activation, and says these words of the
---                                   values that it retires or puts;  private pass event     it says none
+--     deed_with_words pass event kepts     the entry of an event that is made with the pass, begins no activation, and says these words of
+--                                   the values that it retires or puts;  private pass event     it says none
 --     Asks keys pass d              the holder of the keys may add it with the pass
 --     Adds keys pass keys' pass' d  it was added: see Added
 --     MayLook keys pass             the holder of the keys may look at the list with the pass
---     Looks keys pass keys' pass'      the pass has seen a legal list, as in Before, and nothing was made with it; the keys know all of it;
---                                      the links of the book's opening are distinct
---     Joins keys other keys' other'    the other's keys come after its own, and the other has none
+--     LooksWithKeys keys pass keys' pass'     the pass has seen a legal list, as in Before, and nothing was made with it; the keys know all
+--                                      of it; the links of the book's opening are distinct
+--     JoinsKeys keys other keys' other'    the other's keys come after its own, and the other has none
 --     Parts keys keys' other'          the other has all but the first;  PartsLast keys keys' other'    the other has the last
 use Rattle.std.specs.Prelude.{◌≡◌, ℕ, suc, true, List, [], ◌∷◌, ◌++◌, take, drop}
 use Rattle.seize_machine.specs.Machine.Event.{Event}
-use Rattle.seize_machine.specs.Machine.State.{are_distinct, linked}
+use Rattle.seize_machine.specs.Machine.State.{are_distinct, linked_values}
 use Rattle.seize_book.specs.Entry.{Deed}
 use Rattle.seize_book.specs.Ledger.{WithKinds, renewed}
 use Rattle.seize_book.specs.Book.{kinds}
 use Rattle.seize_book.specs.Fair.{Before, MayAdd, Added}
-use Rattle.seize_book.specs.Passes.{IsSame}
+use Rattle.seize_book.specs.Passes.{IsSamePass}
 use Rattle.seize_book.specs.declared.book.keys.Keys.{Keys}
 use Rattle.seize_book.specs.declared.book.pass.Pass.{Pass}
 
-abbrev pub telling : Pass → Event → List ℕ → Deed
-telling pass event kepts = record { pass = pass.id; size = pass.name.size; event = event; life = 0; kepts = kepts }
+abbrev pub deed_with_words : Pass → Event → List ℕ → Deed
+deed_with_words pass event kepts = record { pass = pass.id; size = pass.size; event = event; life = 0; kepts = kepts }
 
 abbrev pub private : Pass → Event → Deed
-private pass event = telling pass event []
+private pass event = deed_with_words pass event []
 
 abbrev pub Asks : Keys → Pass → Deed → Type 0
 Asks keys pass d = (keys.name ≡ pass.name) × MayAdd pass.name pass.id pass.seen keys.held d
 
 abbrev pub Adds : Keys → Pass → Keys → Pass → Deed → Type 0
 Adds keys pass keys' pass' d =
-    IsSame pass pass' × (keys'.name ≡ keys.name) × Added pass.name pass.id pass.seen pass'.seen keys.held keys'.held d
+    IsSamePass pass pass' × (keys'.name ≡ keys.name) × Added pass.name pass.id pass.seen pass'.seen keys.held keys'.held d
 
 abbrev pub MayLook : Keys → Pass → Type 0
 MayLook keys pass = (keys.name ≡ pass.name) × WithKinds kinds keys.held
 
-abbrev pub Looks : Keys → Pass → Keys → Pass → Type 0
-Looks keys pass keys' pass' =
-    IsSame pass pass' × ((keys'.name ≡ keys.name) × (keys'.held ≡ renewed keys.held pass'.seen))
-    × Before pass.name pass.id pass.seen keys.held pass'.seen × (are_distinct (linked pass.name.links) ≡ true)
+abbrev pub LooksWithKeys : Keys → Pass → Keys → Pass → Type 0
+LooksWithKeys keys pass keys' pass' =
+    IsSamePass pass pass' × ((keys'.name ≡ keys.name) × (keys'.held ≡ renewed keys.held pass'.seen))
+    × Before pass.name pass.id pass.seen keys.held pass'.seen × (are_distinct (linked_values pass.name.links) ≡ true)
 
-abbrev pub Joins : Keys → Keys → Keys → Keys → Type 0
-Joins keys other keys' other' =
+abbrev pub JoinsKeys : Keys → Keys → Keys → Keys → Type 0
+JoinsKeys keys other keys' other' =
     (keys'.name ≡ keys.name) × (other'.name ≡ keys.name) × (keys'.held ≡ keys.held ++ other.held) × (other'.held ≡ [])
 
 abbrev pub Parts : Keys → Keys → Keys → Type 0

@@ -1,13 +1,11 @@
 -- The words in which the contracts of bare keys speak: keys of blocks before it is said by which number words hold the block.
 --     state_in rights                what the rights know of the machine
---     Numbers rights rights' number  the first key's label is a value of its block, with this number, that was never named, as it knows
 --     IsWay rights number known      there is one key, and the number leads to its block in the store of their book
---     Gives rights keys              the keys are these
---     Places rights number known keys    so they are, but for the label: that is a value of the block, with this number and with the place
---                                    of the content that the block has in the store; it was never named, and nothing is lent with it
---     bare_book key, bare_home key   the book of a bare key, and the home that its values have;  bare_label key   the label of that
+--     Places rights number known keys    the keys are these, but for the label: that is a value of the block, with this number and with the
+--                                    place of the content that the block has in the store; it was never named, and nothing is lent with it
+--     bare_book key, bare_home key   the book of a bare key, and the home that its values have;  bare_key_label key   the label of that
 --     Becomes key value number       it is the key of a value of this block now, with this number, as IsNextIn says; and it knows no more
---     IsLaid value key               it is the key of the value's block
+--     IsBareKeyOf value key          it is the key of the value's block
 --     IsNewChunk cell g rights keys  the key of a block of which no value was ever named, with this cell, in which g is noted; and those
 --                                    of its count and of its fields
 --     IsChunkOf book cell keys       they are the keys of a new block of the book with this cell
@@ -17,14 +15,14 @@ use Rattle.seize_machine.specs.Machine.State.{State, has}
 use Rattle.seize_store.specs.Known.{content_in, entry_of, label_in}
 use Rattle.seize_store.specs.declared.known.Known.{Known}
 use Rattle.seize_table.specs.Place.{IsPlace}
-use Rattle.seize_book.specs.Blocks.{block_of}
+use Rattle.seize_book.specs.Blocks.{block_number}
 use Rattle.seize_book.specs.Book.{after, blocks, counts, fields}
 use Rattle.seize_book.specs.Books.{IsCountAt, IsFieldAt, IsNextIn}
 use Rattle.seize_book.specs.Chains.{first_field, next_field, told}
 use Rattle.seize_book.specs.Deposits.{deposit}
 use Rattle.seize_book.specs.Entry.{Entry}
 use Rattle.seize_book.specs.Homes.{count_in, home_of}
-use Rattle.seize_book.specs.Ledger.{Held}
+use Rattle.seize_book.specs.Ledger.{HeldKey}
 use Rattle.seize_book.specs.Loans.{CarriesNone, cell_of, place_of}
 use Rattle.seize_book.specs.Others.{book_of, labelled, state_of, value_of}
 use Rattle.seize_book.specs.Private.{is_one, key_of, label_of, own_of}
@@ -39,37 +37,19 @@ use Rattle.seize_book.specs.declared.book.value_key.ValueKey.{ValueKey}
 abbrev pub state_in : Rights → State
 state_in rights = after (start rights.name) (own_of rights.held)
 
-pub record Numbers (rights rights' : Rights) (number : ℕ) : Type 0 where
-  pub value : ℕ
-  pub book : rights'.name ≡ rights.name
-  pub held : rights'.held ≡ labelled value rights.held
-  pub home : home_of value ≡ key_of rights.held
-  pub numbered : block_of value ≡ number
-  pub unnamed : has value (state_in rights).named ≡ false
-  pub place : place_of value ≡ place_of (label_of rights.held)
-  pub cell : cell_of value ≡ cell_of (label_of rights.held)
-  pub free : CarriesNone value
-
 pub record IsWay (rights : Rights) (number : ℕ) (known : Known) : Type 0 where
   pub one : is_one blocks rights.held ≡ true
-  pub store : rights.name.store ≡ Some known.store
+  pub store : rights.name.store ≡ known.store
   pub placed : IsPlace number known.row (entry_of known.row number)
   pub home : label_in known.chunks (entry_of known.row number)
       ≡ chunk_label rights.name (key_of rights.held) (cell_of (label_of rights.held))
-
--- there is one key, and nothing is lent with its value
-abbrev pub IsFree : Rights → Type 0
-IsFree rights = (is_one blocks rights.held ≡ true) × CarriesNone (label_of rights.held)
-
-abbrev pub Gives : Rights → Keys → Type 0
-Gives rights keys = (keys.name ≡ rights.name) × (keys.held ≡ rights.held)
 
 pub record Places (rights : Rights) (number : ℕ) (known : Known) (keys : Keys) : Type 0 where
   pub value : ℕ
   pub book : keys.name ≡ rights.name
   pub held : keys.held ≡ labelled value rights.held
   pub home : home_of value ≡ key_of rights.held
-  pub numbered : block_of value ≡ number
+  pub numbered : block_number value ≡ number
   pub unnamed : has value (state_in rights).named ≡ false
   pub place : place_of value ≡ content_in known.chunks (entry_of known.row number)
   pub cell : cell_of value ≡ cell_of (label_of rights.held)
@@ -84,8 +64,8 @@ bare_home key = key_of key.rights.held
 abbrev pub bare_cell : BareKey → ℕ
 bare_cell key = cell_of (label_of key.rights.held)
 
-abbrev pub bare_label : BareKey → ℕ
-bare_label key = chunk_label (bare_book key) (bare_home key) (bare_cell key)
+abbrev pub bare_key_label : BareKey → ℕ
+bare_key_label key = chunk_label (bare_book key) (bare_home key) (bare_cell key)
 
 pub record Becomes (key : BareKey) (value : ValueKey) (number : ℕ) : Type 0 where
   pub book : book_of value ≡ bare_book key
@@ -95,15 +75,15 @@ pub record Becomes (key : BareKey) (value : ValueKey) (number : ℕ) : Type 0 wh
   pub cell : cell_of (value_of value) ≡ bare_cell key
   pub free : CarriesNone (value_of value)
 
-abbrev pub IsLaid : ValueKey → BareKey → Type 0
-IsLaid value key =
+abbrev pub IsBareKeyOf : ValueKey → BareKey → Type 0
+IsBareKeyOf value key =
     (bare_book key ≡ book_of value) × (bare_home key ≡ home_of (value_of value)) × (bare_cell key ≡ cell_of (value_of value))
 
 -- the key of the values of the block with home k, labelled with this one; and those of its count and of its fields
-abbrev pub of_values : ℕ → ℕ → Gv → List Entry → List (Held Entry)
+abbrev pub of_values : ℕ → ℕ → Gv → List Entry → List (HeldKey Entry)
 of_values value k g own = record { kind = blocks; key = k; own = own; label = value; note = g } ∷ []
 
-abbrev pub of_header : ℕ → List Entry → List (Held Entry)
+abbrev pub of_header : ℕ → List Entry → List (HeldKey Entry)
 of_header k own =
     record { kind = counts; key = k; own = own; label = 0; note = gnil }
     ∷ record { kind = fields; key = next_field k; own = own; label = 0; note = gnil }

@@ -1,5 +1,5 @@
 -- How words show what the machine has: they hold numbers of blocks.
---     block_of v             the number of the block that a value lies in: its name says it
+--     block_number v         the number of the block that a value lies in: its name says it
 --     Plan, plans st log     each batch as it was detached, in order: the slots where it is to be inserted, and its values
 --     block_for log b m      the block with which batch b is inserted at slot m: that of the value with the slot's place
 --     front_of st log b      the first value of batch b, as it was detached: the count of the batch stands with its block
@@ -10,13 +10,13 @@ use Rattle.seize_table.specs.Place.{all_numbers}
 use Rattle.seize_machine.specs.Machine.State.{State, Slot, Place, Mark, Head, Inactive, Active, slot_at, head_at}
 use Rattle.seize_machine.specs.Machine.Event.{Event, Detach}
 use Rattle.seize_machine.specs.Machine.Next.{next, of_call}
-use Rattle.seize_machine.specs.Machine.History.{done_by, first_of}
+use Rattle.seize_machine.specs.Machine.History.{done_by, first_or_none}
 use Rattle.seize_book.specs.After.{after}
-use Rattle.seize_book.specs.Entry.{Entry, Made, Used, timed}
+use Rattle.seize_book.specs.Entry.{Entry, Made, Used, timed_deed}
 
 -- Two values that were in one block one after the other have names that differ by a multiple of this.
-abbrev pub block_of : ℕ → ℕ
-block_of v = v % 2 ^ 64
+abbrev pub block_number : ℕ → ℕ
+block_number v = v % 2 ^ 64
 
 pub record Plan : Type 0 where
   pub slots : List ℕ
@@ -38,7 +38,7 @@ planned_by st _ = []
 
 abbrev pub plans : State → List Entry → List Plan
 plans st [] = []
-plans st (Made d ∷ log) = planned_by st d.event ++ plans (done_by next st (timed d)).0 log
+plans st (Made d ∷ log) = planned_by st d.event ++ plans (done_by next st (timed_deed d)).0 log
 plans st (Used u ∷ log) = plans st log
 
 -- the value with which a plan is carried out at slot m
@@ -47,13 +47,13 @@ serving m (k ∷ slots) (v ∷ values) = if k == m then v else serving m slots v
 serving m _ _ = 0
 
 abbrev pub block_in : Plan → ℕ → ℕ
-block_in plan m = block_of (serving m plan.slots plan.values)
+block_in plan m = block_number (serving m plan.slots plan.values)
 
 abbrev pub block_for : State → List Entry → ℕ → ℕ → ℕ
 block_for st log b m = block_in (slice_index_or (plans st log) b no_plan) m
 
 abbrev pub front_of : State → List Entry → ℕ → Option ℕ
-front_of st log b = first_of (slice_index_or (plans st log) b no_plan).values
+front_of st log b = first_or_none (slice_index_or (plans st log) b no_plan).values
 
 -- A head's word is 0 where the slot is inactive, 1 where it is active and its list is empty, and else 2 and the number of the block with
 -- which the first batch of the list was inserted.
@@ -72,7 +72,7 @@ head_word st log m = word_of (λ b. block_for st log b m) (head_at (after st log
 -- A link's word is 0 where it holds nothing, and else 1 and the number of the value's block.
 abbrev pub link_word : Option ℕ → ℕ
 link_word None = 0
-link_word (Some v) = block_of v + 1
+link_word (Some v) = block_number v + 1
 
 -- A count's word is the count modulo 2^64.
 abbrev pub count_word : ℤ → ℕ

@@ -14,7 +14,7 @@ use Rattle.seize_book.specs.Ledger.{Rules}
 pub use Rattle.seize_book.specs.After.{moments, after, IsLegalList, outcome, Does, answered}
 use Rattle.seize_book.specs.Entry.{Entry, Made, Used, maker}
 use Rattle.seize_book.specs.Blocks.{plans}
-use Rattle.seize_book.specs.Chains.{Chained, told, uses, written}
+use Rattle.seize_book.specs.Chains.{Chained, insertion_fields, told, uses}
 use Rattle.seize_book.specs.Deposits.{deposit}
 use Rattle.seize_book.specs.Homes.{IsSound, changes_count, changes_home, count_in, home_of}
 
@@ -96,7 +96,7 @@ Same st TheSlot s a b =
     (by_slot st s a ≡ by_slot st s b)
     × (slot_at (after st a) s ≡ slot_at (after st b) s)
     × (is_active (head_at (after st a) s) ≡ is_active (head_at (after st b) s))
-    × (written (after st a) (plans st a) (told a) s ≡ written (after st b) (plans st b) (told b) s)
+    × (insertion_fields (after st a) (plans st a) (told a) s ≡ insertion_fields (after st b) (plans st b) (told b) s)
 Same st TheHead m a b = head_at (after st a) m ≡ head_at (after st b) m
 Same st TheLink l a b = link_at (after st a) l ≡ link_at (after st b) l
 Same st TheCount k a b = (count_in (after st a) k ≡ count_in (after st b) k) × (deposit (after st a) k ≡ deposit (after st b) k)
@@ -130,23 +130,23 @@ touches st _ _ k = false
 
 -- how many keys of a kind there are: of passes more than made an event, of slots and heads one more than there are slots, of blocks more
 -- than have values that were named, counts, or fields that were used
-abbrev pub Sized : State → Kind → ℕ → List Entry → Type 0
-Sized st ThePass n log = (p : ℕ) → n ≤ p → mine st p log ≡ []
-Sized st TheNumbers n log = n ≡ 1
-Sized st TheSlot n log = n ≡ suc (length (after st log).slots)
-Sized st TheHead n log = n ≡ suc (length (after st log).slots)
-Sized st TheLink n log = n ≡ length (after st log).links
-Sized st TheCount n log = (k : ℕ) → n ≤ k → (count_in (after st log) k ≡ pos 0) × (deposit (after st log) k ≡ [])
-Sized st TheBlock n log = (v : ℕ) → n ≤ home_of v → has v (after st log).named ≡ false
-Sized st TheField n log = (f : ℕ) → n ≤ f → told log f ≡ 0
-Sized st TheTotal n log = n ≡ 1
-Sized st Nothing n log = Unit {0}
+abbrev pub IsKeyCount : State → Kind → ℕ → List Entry → Type 0
+IsKeyCount st ThePass n log = (p : ℕ) → n ≤ p → mine st p log ≡ []
+IsKeyCount st TheNumbers n log = n ≡ 1
+IsKeyCount st TheSlot n log = n ≡ suc (length (after st log).slots)
+IsKeyCount st TheHead n log = n ≡ suc (length (after st log).slots)
+IsKeyCount st TheLink n log = n ≡ length (after st log).links
+IsKeyCount st TheCount n log = (k : ℕ) → n ≤ k → (count_in (after st log) k ≡ pos 0) × (deposit (after st log) k ≡ [])
+IsKeyCount st TheBlock n log = (v : ℕ) → n ≤ home_of v → has v (after st log).named ≡ false
+IsKeyCount st TheField n log = (f : ℕ) → n ≤ f → told log f ≡ 0
+IsKeyCount st TheTotal n log = n ≡ 1
+IsKeyCount st Nothing n log = Unit {0}
 
 abbrev pub rules : State → Rules Entry
 rules st = record {
   Legal = λ log. IsLegalList st log × IsSound (after st log) × Chained (after st log) (plans st log) (told log);
   Kept = λ r. Kept st (kind_of r);
-  Sized = λ r. Sized st (kind_of r);
+  Sized = λ r. IsKeyCount st (kind_of r);
 }
 
 -- The keys that an entry makes, by kind and number: where it makes a slot, those of the slot that comes next and of that one's head.

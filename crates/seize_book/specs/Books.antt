@@ -1,36 +1,32 @@
 -- The words in which the contracts of books speak.
---     Opens book keys links size store table     a new book to which many may append, with so many links, which are empty; and its keys
---     OpensAlone book pass keys links size store table     a new book to which this pass alone may append
+--     HasKeys book keys links store table      a new book with so many links, which are empty; and its keys
 --     AreFirst keys, AreApart keys all         those that a book begins with;  the same, each by itself
---     IsNew pass                               nothing was made with it
+--     IsNewPass pass                           nothing was made with it
 --     Learns pass book pass'                   it has seen the longer of what it had and the book has, a legal list, which is what it had
 --                                              where it is alone; and nothing was made with it
 --     IsNextIn value number                    it was never named, all values that lay in its block before were reclaimed, and this is the
 --                                              number by which words hold the block
---     IsFirstIn value number                   and no value of its home was ever named
 --     IsNextAfter value last number            it was never named, and of all that were ever named in its block this last one alone may not
 --                                              have been reclaimed; words hold the block by this number
 --     MaySettle value pass                     it is so after a value that was reclaimed since, as the pass has seen
---     MakesNext value pass value' pass'        it is for the next value of the block, and the pass has looked at the list
+--     MakesNextValue value pass value' pass'   it is for the next value of the block, and the pass has looked at the list
 --     home_in count, count_known count         the block whose count it is the key of, and the count, as the key knows
 --     deposit_known count, told_known field    the values whose keys stand beside it;  what was last stored in the field, as its key knows
 --     IsCountAt count home                     it is that of the block with this home, the count is 0, and no keys stand beside it
---     AreOf book keys                          these keys are of the book
 --     IsFieldAt which field home               it is that of this field of the block with this home, and nothing was stored there
-use Rattle.std.specs.Prelude.{◌≡◌, ℕ, ℤ, pos, true, false, Option, List, [], drop, take}
+use Rattle.std.specs.Prelude.{◌≡◌, ℕ, ℤ, pos, true, false, List, [], drop, take}
 use Rattle.seize_machine.specs.Machine.State.{has}
-use Rattle.seize_book.specs.Blocks.{block_of}
+use Rattle.seize_book.specs.Blocks.{block_number}
 use Rattle.seize_book.specs.Chains.{told}
 use Rattle.seize_book.specs.Deposits.{deposit}
 use Rattle.seize_book.specs.Homes.{IsVacant, count_in, home_of}
 use Rattle.seize_book.specs.Loans.{cell_of}
 use Rattle.seize_book.specs.Book.{IsLegalList, after}
 use Rattle.seize_book.specs.Others.{IsLastIn, book_of, is_named, state_of, value_of}
-use Rattle.seize_book.specs.Tokens.{many, IsSole, start}
+use Rattle.seize_book.specs.Tokens.{IsSole, start}
 use Rattle.seize_book.specs.Private.{key_of, own_of}
 use Rattle.seize_book.specs.Begin.{BeganWith, first_keys, first_links}
-use Rattle.seize_book.specs.Passes.{IsSame, Longer, LooksOn, MadeNone, mine_of}
-use Rattle.seize_book.specs.declared.book.block_keys.BlockKeys.{BlockKeys}
+use Rattle.seize_book.specs.Passes.{IsSamePass, Longer, LooksOn, MadeNone, mine_of}
 use Rattle.seize_book.specs.declared.book.book_keys.BookKeys.{BookKeys}
 use Rattle.seize_book.specs.declared.book.count_key.CountKey.{CountKey}
 use Rattle.seize_book.specs.declared.book.field_key.FieldKey.{FieldKey}
@@ -40,23 +36,17 @@ use Rattle.seize_book.specs.declared.book.token.Book.{Book}
 use Rattle.seize_book.specs.declared.book.value_key.ValueKey.{ValueKey}
 
 -- the keys are all those of the book at its beginning, of which it has seen nothing more
-abbrev pub Begins : Book → Keys → ℕ → ℕ → Option (List ℕ) → Option (List ℕ) → Type 0
-Begins book keys links size store table =
-    BeganWith book.name links size store table × (book.seen ≡ []) × (keys.name ≡ book.name) × (keys.held ≡ first_keys links)
+abbrev pub BeginsWithKeys : Book → Keys → ℕ → List ℕ → List ℕ → Type 0
+BeginsWithKeys book keys links store table =
+    BeganWith book.name links store table × (book.seen ≡ []) × (keys.name ≡ book.name) × (keys.held ≡ first_keys links)
 
-abbrev pub IsNew : Pass → Type 0
-IsNew pass = mine_of pass ≡ []
+abbrev pub IsNewPass : Pass → Type 0
+IsNewPass pass = mine_of pass ≡ []
 
 abbrev pub Learns : Pass → Book → Pass → Type 0
 Learns pass book pass' =
-    IsSame pass pass' × MadeNone pass pass' × Longer pass.seen book.seen pass'.seen
-    × (IsSole pass.name.gate pass.id → pass'.seen ≡ pass.seen) × IsLegalList (start pass.name) pass'.seen
-
-abbrev pub IsMany : Book → Type 0
-IsMany book = book.name.gate ≡ many
-
-abbrev pub IsAlone : Book → Pass → Type 0
-IsAlone book pass = IsSole book.name.gate pass.id × (pass.name ≡ book.name) × (pass.seen ≡ [])
+    IsSamePass pass pass' × MadeNone pass pass' × Longer pass.seen book.seen pass'.seen
+    × (IsSole pass.id → pass'.seen ≡ pass.seen) × IsLegalList (start pass.name) pass'.seen
 
 -- with so many links, those that a book begins with
 abbrev pub AreFirst : Keys → Type 0
@@ -76,44 +66,33 @@ IsUnused keys book = (keys.name ≡ book.name) × (own_of keys.held ≡ [])
 
 -- It begins with so many links, which are empty, and has seen nothing more. These are its keys: those of the numbers, of the total, of the
 -- first slot and its head, and of all links.
-pub record HasKeys (book : Book) (keys : BookKeys) (many size : ℕ) (store table : Option (List ℕ)) : Type 0 where
-  pub began : BeganWith book.name many size store table × (book.seen ≡ [])
+pub record HasKeys (book : Book) (keys : BookKeys) (many : ℕ) (store table : List ℕ) : Type 0 where
+  pub began : BeganWith book.name many store table × (book.seen ≡ [])
   pub numbers : IsUnused keys.numbers.keys book
   pub total : IsUnused keys.total.keys book
   pub slot : IsUnused keys.next.slot.keys book × (key_of keys.next.slot.keys.held ≡ 0)
   pub head : IsUnused keys.next.head.keys book × (key_of keys.next.head.keys.held ≡ 0)
   pub links : (keys.links.keys.name ≡ book.name) × (keys.links.keys.held ≡ first_links 0 many)
 
-abbrev pub Opens : Book → BookKeys → ℕ → ℕ → Option (List ℕ) → Option (List ℕ) → Type 0
-Opens book keys links size store table = IsMany book × HasKeys book keys links size store table
-
-abbrev pub OpensAlone : Book → Pass → BookKeys → ℕ → ℕ → Option (List ℕ) → Option (List ℕ) → Type 0
-OpensAlone book pass keys links size store table = IsAlone book pass × HasKeys book keys links size store table
-
 -- it was never named, all values that lay in its block before were reclaimed, and words hold the block by this number
 abbrev pub IsNextIn : ValueKey → ℕ → Type 0
 IsNextIn value number =
-    (is_named value ≡ false) × IsVacant (state_of value.keys) (home_of (value_of value)) × (block_of (value_of value) ≡ number)
-
--- nor was any other value of its home
-abbrev pub IsFirstIn : ValueKey → ℕ → Type 0
-IsFirstIn value number =
-    IsNextIn value number × ((w : ℕ) → home_of w ≡ home_of (value_of value) → has w (state_of value.keys).named ≡ false)
+    (is_named value ≡ false) × IsVacant (state_of value.keys) (home_of (value_of value)) × (block_number (value_of value) ≡ number)
 
 -- it was never named, all others than this last one that were named in its block were reclaimed, and words hold the block by this number
 abbrev pub IsNextAfter : ValueKey → ℕ → ℕ → Type 0
 IsNextAfter value last number =
     (is_named value ≡ false) × IsLastIn last (state_of value.keys) × (home_of (value_of value) ≡ home_of last)
-    × (block_of (value_of value) ≡ number)
+    × (block_number (value_of value) ≡ number)
 
 -- and this last one was reclaimed too, as the pass has seen
 abbrev pub MaySettle : ValueKey → Pass → Type 0
 MaySettle value pass =
-    (last : ℕ) × IsNextAfter value last (block_of (value_of value)) × (has last (after (start pass.name) pass.seen).gone ≡ true)
+    (last : ℕ) × IsNextAfter value last (block_number (value_of value)) × (has last (after (start pass.name) pass.seen).gone ≡ true)
 
 -- it is for another value of the same block, and the pass has seen a legal list that goes on
-abbrev pub MakesNext : ValueKey → Pass → ValueKey → Pass → Type 0
-MakesNext value pass value' pass' =
+abbrev pub MakesNextValue : ValueKey → Pass → ValueKey → Pass → Type 0
+MakesNextValue value pass value' pass' =
     LooksOn pass pass' × (value'.keys.name ≡ value.keys.name) × (home_of (value_of value') ≡ home_of (value_of value))
     × (cell_of (value_of value') ≡ cell_of (value_of value))
 
@@ -135,8 +114,3 @@ IsCountAt count home = (home_in count ≡ home) × (count_known count ≡ pos 0)
 
 abbrev pub IsFieldAt : (ℕ → ℕ) → FieldKey → ℕ → Type 0
 IsFieldAt which field home = (key_of field.keys.held ≡ which home) × (told_known field ≡ 0)
-
-abbrev pub AreOf : Book → BlockKeys → Type 0
-AreOf book keys =
-    (book_of keys.value ≡ book.name) × (keys.count.keys.name ≡ book.name) × (keys.next.keys.name ≡ book.name)
-    × (keys.first.keys.name ≡ book.name)

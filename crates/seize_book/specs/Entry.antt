@@ -44,36 +44,36 @@ deeds [] = []
 deeds (Made d ∷ log) = d ∷ deeds log
 deeds (Used u ∷ log) = deeds log
 
-abbrev pub timed : Deed → Timed
-timed d = record { size = d.size; event = d.event }
+abbrev pub timed_deed : Deed → Timed
+timed_deed d = record { size = d.size; event = d.event }
 
 abbrev pub events_of : List Entry → List Timed
-events_of log = map timed (deeds log)
+events_of log = map timed_deed (deeds log)
 
 -- The code: that of the event as programs write it, but for a Hand, whose list programs have elsewhere.
 
-abbrev pub written : Event → Written ⊎ (ℕ × List ℕ)
-written (Take s) = inl (WTake s)
-written (Give s) = inl (WGive s)
-written (Enter s) = inl (WEnter s)
-written (Begin s job) = inl (WBegin s job)
-written (Put s) = inl (WPut s)
-written (ReadHead s n) = inl (WReadHead s n)
-written (Detach s) = inl (WDetach s)
-written (Insert s m ends) = inl (WInsert s m ends)
-written (AddCount s) = inl (WAddCount s)
-written (SwapOut s) = inl (WSwapOut s)
-written (SubCount s) = inl (WSubCount s)
-written (Hand s puts) = inr (s, puts)
-written (Return s) = inl (WReturn s)
-written (ReadLink s l) = inl (WReadLink s l)
-written (ExchangeLink s l exchange) = inl (WExchangeLink s l exchange)
+abbrev pub written_event : Event → Written ⊎ (ℕ × List ℕ)
+written_event (Take s) = inl (WTake s)
+written_event (Give s) = inl (WGive s)
+written_event (Enter s) = inl (WEnter s)
+written_event (Begin s job) = inl (WBegin s job)
+written_event (Put s) = inl (WPut s)
+written_event (ReadHead s n) = inl (WReadHead s n)
+written_event (Detach s) = inl (WDetach s)
+written_event (Insert s m ends) = inl (WInsert s m ends)
+written_event (AddCount s) = inl (WAddCount s)
+written_event (SwapOut s) = inl (WSwapOut s)
+written_event (SubCount s) = inl (WSubCount s)
+written_event (Hand s puts) = inr (s, puts)
+written_event (Return s) = inl (WReturn s)
+written_event (ReadLink s l) = inl (WReadLink s l)
+written_event (ExchangeLink s l exchange) = inl (WExchangeLink s l exchange)
 
 abbrev pub read_back : Written ⊎ (ℕ × List ℕ) → Event
 read_back (inl event) = event_of event
 read_back (inr hand) = Hand hand.0 hand.1
 
-pub back : (event : Event) → read_back (written event) ≡ event
+pub back : (event : Event) → read_back (written_event event) ≡ event
 back (Take s) = refl
 back (Give s) = refl
 back (Enter s) = refl
@@ -91,7 +91,7 @@ back (ReadLink s l) = refl
 back (ExchangeLink s l exchange) = refl
 
 abbrev pub event_coded : Coded Event
-event_coded = code_by (Written ⊎ (ℕ × List ℕ)) (coded⊎ the_row.coded (coded× coded_ℕ (coded_list coded_ℕ))) written read_back back
+event_coded = code_by (Written ⊎ (ℕ × List ℕ)) (coded⊎ the_row.coded (coded× coded_ℕ (coded_list coded_ℕ))) written_event read_back back
 
 abbrev pub deed_coded : Coded Deed
 deed_coded =

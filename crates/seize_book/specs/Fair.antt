@@ -2,8 +2,8 @@
 --     Before n p seen held log   what is known of the list just before the entry
 --     Fair n held log e          the entry is legal then; the keys that it touches are held, and it changes no block but theirs; and it
 --                                keeps what the list keeps beside being legal
---     NamesLabels n before held later  each value that it names is one with which a held key of a block is labelled; and something is lent
---                                with it, if the blocks of the book lie in a store
+--     NamesLabels before held later  each value that it names is one with which a held key of a block is labelled; and something is lent
+--                                with it
 --     MakesPlaced st held e      where it makes a slot, the slot's key is held, and is labelled 1: the slot's head lies in the table
 --     MayAdd n p seen held e     it is fair whatever the list is by then, and it neither ends nor begins an activation
 --     Added n p seen seen' held held' e     it was added: see Noted; the keys know of it, and its own keys were made
@@ -13,57 +13,58 @@ use mathlib.Core.List.{IsPrefix}
 use Rattle.seize_machine.specs.Machine.State.{State, has}
 use Rattle.seize_machine.specs.Machine.Event.{Event}
 use Rattle.seize_machine.specs.declared.machine.event.Answer.{Answer}
-use Rattle.seize_book.specs.Ledger.{Held, Beside, IsThere, AllThere, AllKept, WithKinds, renewed, born}
+use Rattle.seize_book.specs.Ledger.{HeldKey, Beside, IsThere, AllThere, AllKept, WithKinds, renewed, born}
 use Rattle.seize_book.specs.Entry.{Entry, Made, Deed, maker}
-use Rattle.seize_book.specs.Book.{after, IsLegalList, Does, mine, TheCount, TheBlock, TheField, TheTotal, kind_of, touches, Sized, rules, births, passes, slots, counts, blocks, fields, kinds}
+use Rattle.seize_book.specs.Book.{after, IsLegalList, Does, mine, TheCount, TheBlock, TheField, TheTotal, kind_of, touches, IsKeyCount, rules, births, passes, slots, counts, blocks, fields, kinds}
 use Rattle.seize_book.specs.Blocks.{plans}
 use Rattle.seize_book.specs.Chains.{Chained, IsLed, told}
 use Rattle.seize_book.specs.Homes.{HasOne, IsSound}
 use Rattle.seize_book.specs.Laws.{ended_by, starts}
-use Rattle.seize_book.specs.Tokens.{Name, start, AllLentIn, IsLentIn, IsSole, Noted}
+use Rattle.seize_book.specs.Loans.{AllCarryOne, CarriesOne}
+use Rattle.seize_book.specs.Tokens.{Name, start, IsSole, Noted}
 
-abbrev pub pass_key : ℕ → List Entry → Held Entry
+abbrev pub pass_key : ℕ → List Entry → HeldKey Entry
 pass_key p own = record { kind = passes; key = p; own = own; label = 0; note = gnil }
 
-pub record Before (n : Name) (p : ℕ) (seen : List Entry) (held : List (Held Entry)) (log : List Entry) : Type 0 where
+pub record Before (n : Name) (p : ℕ) (seen : List Entry) (held : List (HeldKey Entry)) (log : List Entry) : Type 0 where
   pub legal : IsLegalList (start n) log
   pub sound : IsSound (after (start n) log)
   pub chained : Chained (after (start n) log) (plans (start n) log) (told log)
   pub grows : IsPrefix seen log
   pub none_made : mine (start n) p log ≡ mine (start n) p seen
   pub kept : AllKept (rules (start n)) held log
-  pub alone : IsSole n.gate p → log ≡ seen
-  pub lent : AllLentIn n (after (start n) log).named
+  pub alone : IsSole p → log ≡ seen
+  pub lent : AllCarryOne (after (start n) log).named
 
-abbrev pub Covers : State → List (Held Entry) → List Entry → Entry → Type 0
+abbrev pub Covers : State → List (HeldKey Entry) → List Entry → Entry → Type 0
 Covers st held log e = (r k : ℕ) → Beside held r k → IsThere (rules st) r k log → touches (after st log) e (kind_of r) k ≡ false
 
 -- the pass has a key; and no entry is of the values, the count or a field of a block but those that have keys
-abbrev pub NamesHeld : State → List (Held Entry) → List Entry → Entry → Type 0
-NamesHeld st held log e = (many : ℕ → ℕ) → ((r : ℕ) → Sized st (kind_of r) (many r) log) → AllThere many held
+abbrev pub NamesHeld : State → List (HeldKey Entry) → List Entry → Entry → Type 0
+NamesHeld st held log e = (many : ℕ → ℕ) → ((r : ℕ) → IsKeyCount st (kind_of r) (many r) log) → AllThere many held
     → (maker e < many passes)
     × ((k : ℕ) → many counts ≤ k → touches (after st log) e TheCount k ≡ false)
     × ((k : ℕ) → many blocks ≤ k → touches (after st log) e TheBlock k ≡ false)
     × ((f : ℕ) → many fields ≤ f → touches (after st log) e TheField f ≡ false)
 
 -- a key of a block's values is labelled with the value
-abbrev pub IsLabel : List (Held Entry) → ℕ → Type 0
+abbrev pub IsLabel : List (HeldKey Entry) → ℕ → Type 0
 IsLabel [] v = ⊥
 IsLabel (h ∷ held) v = ((h.kind ≡ blocks) × (h.label ≡ v)) ⊎ IsLabel held v
 
-abbrev pub NamesLabels : Name → State → List (Held Entry) → State → Type 0
-NamesLabels n before held later =
-    (v : ℕ) → has v later.named ≡ true → (has v before.named ≡ true) ⊎ (IsLabel held v × IsLentIn n v)
+abbrev pub NamesLabels : State → List (HeldKey Entry) → State → Type 0
+NamesLabels before held later =
+    (v : ℕ) → has v later.named ≡ true → (has v before.named ≡ true) ⊎ (IsLabel held v × CarriesOne v)
 
 -- the slot's key is there, and labelled 1
-abbrev pub HasPlace : List (Held Entry) → ℕ → Type 0
+abbrev pub HasPlace : List (HeldKey Entry) → ℕ → Type 0
 HasPlace [] s = ⊥
 HasPlace (h ∷ held) s = ((h.kind ≡ slots) × (h.key ≡ s) × (h.label ≡ 1)) ⊎ HasPlace held s
 
-abbrev pub MakesPlaced : State → List (Held Entry) → Entry → Type 0
+abbrev pub MakesPlaced : State → List (HeldKey Entry) → Entry → Type 0
 MakesPlaced st held e = touches st e TheTotal 0 ≡ true → HasPlace held (length st.slots)
 
-pub record Fair (n : Name) (held : List (Held Entry)) (log : List Entry) (e : Entry) : Type 0 where
+pub record Fair (n : Name) (held : List (HeldKey Entry)) (log : List Entry) (e : Entry) : Type 0 where
   pub done : State × Answer
   pub legal : Does (start n) log e done
   pub covers : Covers (start n) held log e
@@ -71,7 +72,7 @@ pub record Fair (n : Name) (held : List (Held Entry)) (log : List Entry) (e : En
   -- all earlier values of a home were reclaimed where it names one
   pub one : HasOne (after (start n) log) → HasOne done.0
   pub leads : IsLed (after (start n) log) (plans (start n) log) (told log) e
-  pub labels : NamesLabels n (after (start n) log) held done.0
+  pub labels : NamesLabels (after (start n) log) held done.0
   pub places : MakesPlaced (after (start n) log) held e
 
 -- it neither ends nor begins an activation
@@ -81,12 +82,12 @@ EndsNone event = (lives : ℕ → ℕ) → ended_by lives event ≡ []
 abbrev pub StartsNone : Event → Type 0
 StartsNone event = (s : ℕ) → starts s event ≡ false
 
-abbrev pub MayAdd : Name → ℕ → List Entry → List (Held Entry) → Deed → Type 0
+abbrev pub MayAdd : Name → ℕ → List Entry → List (HeldKey Entry) → Deed → Type 0
 MayAdd n p seen held d =
     WithKinds kinds held × EndsNone d.event × StartsNone d.event
     × ((own log : List Entry) → Before n p seen held log → Fair n (pass_key p own ∷ held) log (Made d))
 
-pub record Added (n : Name) (p : ℕ) (seen seen' : List Entry) (held held' : List (Held Entry)) (d : Deed) : Type 0 where
+pub record Added (n : Name) (p : ℕ) (seen seen' : List Entry) (held held' : List (HeldKey Entry)) (d : Deed) : Type 0 where
   pub noted : Noted n p seen seen' (Made d)
   pub before : Before n p seen held noted.before
   pub keys : held' ≡ renewed held seen' ++ born (births (after (start n) noted.before) d.event) seen'

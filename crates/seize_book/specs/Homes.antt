@@ -1,5 +1,5 @@
--- Homes: the blocks in which values lie, each by a number of its own, for good. Words hold other numbers for blocks (see `block_of`), of
--- which a store may give one to a second block.
+-- Homes: the blocks in which values lie, each by a number of its own, for good. Words hold other numbers for blocks (see `block_number`),
+-- of which a store may give one to a second block.
 --     home_of v                  the home of a value: its name says it, as one of endlessly many
 --     is_home k o                there is a value, and its home is k
 --     HasOne st                  of the values of one home that were ever named, at most one was not reclaimed
@@ -16,7 +16,7 @@ use Rattle.seize_table.specs.Place.{all_numbers}
 use Rattle.seize_machine.specs.Machine.State.{State, Batch, slot_at, link_at, batch_at, has}
 use Rattle.seize_machine.specs.Machine.Event.{Event, Begin, AddCount, SubCount, Hand, ExchangeLink}
 use Rattle.seize_machine.specs.Machine.Next.{of_call, walking_at, new_link}
-use Rattle.seize_machine.specs.Machine.History.{first_of}
+use Rattle.seize_machine.specs.Machine.History.{first_or_none}
 use Rattle.seize_machine.specs.Machine.Laws.{added_batch}
 use Rattle.seize_machine.specs.declared.machine.event.Job.TheVariants.{Retire}
 
@@ -43,7 +43,7 @@ changes_home st k (ExchangeLink s l exchange) = is_home k (new_link exchange) ||
 changes_home st k _ = false
 
 abbrev pub is_in : ℕ → Batch → Bool
-is_in k batch = is_home k (first_of batch.values)
+is_in k batch = is_home k (first_or_none batch.values)
 
 abbrev pub counts_in : ℕ → List Batch → ℤ
 counts_in k [] = pos 0

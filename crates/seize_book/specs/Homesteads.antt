@@ -9,7 +9,7 @@ use Rattle.seize_machine.specs.Machine.State.{State, has}
 use Rattle.seize_store.specs.Known.{content_in, entry_of, label_in}
 use Rattle.seize_store.specs.declared.known.Known.{Known}
 use Rattle.seize_table.specs.Place.{IsPlace}
-use Rattle.seize_book.specs.Blocks.{block_of}
+use Rattle.seize_book.specs.Blocks.{block_number}
 use Rattle.seize_book.specs.Book.{after}
 use Rattle.seize_book.specs.Homes.{home_of}
 use Rattle.seize_book.specs.Loans.{cell_of, place_of}
@@ -17,16 +17,16 @@ use Rattle.seize_book.specs.Tokens.{Name, chunk_label, start}
 use Rattle.seize_book.specs.declared.book.pass.Pass.{Pass}
 
 abbrev pub entry_in : Known → ℕ → ℕ
-entry_in known v = entry_of known.row (block_of v)
+entry_in known v = entry_of known.row (block_number v)
 
 abbrev pub AreAt : Name → Known → State → Type 0
 AreAt n known st =
-    (v : ℕ) → has v st.named ≡ true → IsPlace (block_of v) known.row (entry_in known v)
+    (v : ℕ) → has v st.named ≡ true → IsPlace (block_number v) known.row (entry_in known v)
     → (label_in known.chunks (entry_in known v) ≡ chunk_label n (home_of v) (cell_of v))
     × (content_in known.chunks (entry_in known v) ≡ place_of v)
 
 abbrev pub HasNumber : ℕ → State → Type 0
-HasNumber number st = (v : ℕ) × (has v st.named ≡ true) × (block_of v ≡ number)
+HasNumber number st = (v : ℕ) × (has v st.named ≡ true) × (block_number v ≡ number)
 
 abbrev pub state_seen : Pass → State
 state_seen pass = after (start pass.name) pass.seen

@@ -5,15 +5,14 @@
 --     retires_by event       the values of which it may say something
 --     IsTold log v k         an event of the list said that k is kept of value v
 --     AllTold log vs ks      it said so of each of these values, in order: the first word of the first value, and so on
---     AreToldIn store log held     of each of the values whose keys these are the list says what is noted of it, where their blocks lie in
---                            a store; where they lie in none nothing is noted, and nothing is asked
+--     AreToldIn log held     of each of the values whose keys these are the list says the word that is noted of it
 --     AreTold keys pass      so it is in what the pass has seen
-use Rattle.std.specs.Prelude.{◌≡◌, ℕ, List, [], ◌∷◌, map, Option, Some, None, ◌⊎◌}
+use Rattle.std.specs.Prelude.{◌≡◌, ℕ, List, [], ◌∷◌, map, ◌⊎◌}
 use base.Stored.{Gv, gnum, gcons}
 use Rattle.seize_machine.specs.Machine.Event.{Event, Begin, Hand}
 use Rattle.seize_machine.specs.declared.machine.event.Job.TheVariants.{Retire}
 use Rattle.seize_book.specs.Entry.{Entry, Made, Used}
-use Rattle.seize_book.specs.Ledger.{Held}
+use Rattle.seize_book.specs.Ledger.{HeldKey}
 use Rattle.seize_book.specs.declared.book.pass.Pass.{Pass}
 use Rattle.seize_book.specs.declared.book.value_keys.ValueKeys.{ValueKeys}
 
@@ -21,7 +20,7 @@ abbrev pub kept_in : Gv → ℕ
 kept_in (gcons a (gcons b (gcons (gnum k) g))) = k
 kept_in g = 0
 
-abbrev pub kepts_in : List (Held Entry) → List ℕ
+abbrev pub kepts_in : List (HeldKey Entry) → List ℕ
 kepts_in held = map (λ h. kept_in h.note) held
 
 abbrev pub kepts_of : ValueKeys → List ℕ
@@ -47,13 +46,9 @@ AllTold log [] [] = Unit {0}
 AllTold log (v ∷ vs) (k ∷ ks) = IsTold log v k × AllTold log vs ks
 AllTold log _ _ = ⊥
 
-abbrev pub EachTold : List Entry → List (Held Entry) → Type 0
-EachTold log [] = Unit {0}
-EachTold log (h ∷ held) = IsTold log h.label (kept_in h.note) × EachTold log held
-
-abbrev pub AreToldIn : Option (List ℕ) → List Entry → List (Held Entry) → Type 0
-AreToldIn None log held = Unit {0}
-AreToldIn (Some store) log held = EachTold log held
+abbrev pub AreToldIn : List Entry → List (HeldKey Entry) → Type 0
+AreToldIn log [] = Unit {0}
+AreToldIn log (h ∷ held) = IsTold log h.label (kept_in h.note) × AreToldIn log held
 
 abbrev pub AreTold : ValueKeys → Pass → Type 0
-AreTold keys pass = AreToldIn keys.keys.name.store pass.seen keys.keys.held
+AreTold keys pass = AreToldIn pass.seen keys.keys.held

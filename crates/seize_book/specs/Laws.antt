@@ -68,9 +68,9 @@ ended log = ended_from none_alive (deeds log)
 abbrev pub Reader : State → List Entry → ℕ → ℕ → Type 0
 Reader st log v a = (i : ℕ) × (s : ℕ) × Found (moments st log) s v i × (a ≡ life_from 0 s (take i (deeds log)))
 
-abbrev pub IsIn : List ℕ → ℕ → Type 0
-IsIn [] a = ⊥
-IsIn (x ∷ xs) a = (x ≡ a) ⊎ IsIn xs a
+abbrev pub IsAmong : List ℕ → ℕ → Type 0
+IsAmong [] a = ⊥
+IsAmong (x ∷ xs) a = (x ≡ a) ⊎ IsAmong xs a
 
 abbrev pub AllOver : State → List Entry → ℕ → Type 0
-AllOver st log v = (a : ℕ) → Reader st log v a → IsIn (ended log) a
+AllOver st log v = (a : ℕ) → Reader st log v a → IsAmong (ended log) a

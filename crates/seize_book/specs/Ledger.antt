@@ -1,7 +1,7 @@
 -- A list that many append to, and keys: whoever holds a key knows what the list says of it, whatever others append. A key is a kind
 -- and a number. The list and a quarter of each key stand in one invariant, which names no memory; the other three quarters are the
 -- holder's, and with all four the key is set anew. Nothing here is of the machine.
---     Held             a key, with what the list was when its holder last appended
+--     HeldKey          a key, with what the list was when its holder last appended
 --     Rules            which lists are legal, what the holder of a key knows of a later list, and how many keys of a kind there are
 --     Holds            what the invariant holds of the list and of each key
 --     contents         what stands in the invariant
@@ -20,11 +20,9 @@ use base.Growing.{Order, prefixes, latest, at_least}
 use base.Fml.{Share, Fml, ftrue, fsep, fex}
 use types.Keyed.{entry, entries_from}
 use Rattle.core.specs.declared.option.Option.TheVariants.{Some}
+pub use Rattle.seize_content.specs.Contents.{fact}
 
-abbrev pub fact : Type 0 → Fml
-fact φ = fex φ (λ _. ftrue)
-
-pub record Held (E : Type 0) : Type 0 where
+pub record HeldKey (E : Type 0) : Type 0 where
   pub kind : ℕ
   pub key : ℕ
   pub own : List E
@@ -34,16 +32,16 @@ pub record Held (E : Type 0) : Type 0 where
   pub note : Gv
 
 -- the keys of the kinds, a row each: those past the last are empty
-abbrev pub first : {X : Type 0} → List (List X) → List X
-first [] = []
-first (xs ∷ rows) = xs
+abbrev pub first_row : {X : Type 0} → List (List X) → List X
+first_row [] = []
+first_row (xs ∷ rows) = xs
 
 abbrev pub rest : {X : Type 0} → List (List X) → List (List X)
 rest [] = []
 rest (xs ∷ rows) = rows
 
 abbrev pub row : {X : Type 0} → List (List X) → ℕ → List X
-row rows zero = first rows
+row rows zero = first_row rows
 row rows (suc r) = row (rest rows) r
 
 module _ {E : Type 0} (c : Coded E) where
@@ -64,12 +62,12 @@ module _ {E : Type 0} (c : Coded E) where
   -- of all kinds, each with a name of its own
   abbrev pub rosters : List ℕ → List (List (List E)) → Fml
   rosters [] rows = ftrue
-  rosters (δ ∷ δs) rows = fsep (roster δ 0 (first rows)) (rosters δs (rest rows))
+  rosters (δ ∷ δs) rows = fsep (roster δ 0 (first_row rows)) (rosters δs (rest rows))
 
   abbrev pub right : List ℕ → ℕ → ℕ → List E → Fml
   right δs r k own = piece (slice_index_or δs r 0) k three_quarters own
 
-  abbrev pub rights : List ℕ → List (Held E) → Fml
+  abbrev pub rights : List ℕ → List (HeldKey E) → Fml
   rights δs [] = ftrue
   rights δs (h ∷ hs) = fsep (right δs h.kind h.key h.own) (rights δs hs)
 
@@ -96,20 +94,20 @@ module _ {E : Type 0} (c : Coded E) (rules : Rules E) (extra : List E → Fml) (
 -- What an event has to be. It may be picked by the list as it is when it is appended.
 
 -- not one of the keys that are held
-abbrev pub Beside : {E : Type 0} → List (Held E) → ℕ → ℕ → Type 0
+abbrev pub Beside : {E : Type 0} → List (HeldKey E) → ℕ → ℕ → Type 0
 Beside [] r k = Unit {0}
 Beside (h ∷ hs) r k = (¬ ((r ≡ h.kind) × (k ≡ h.key))) × Beside hs r k
 
 -- no two of them are one
-abbrev pub AllApart : {E : Type 0} → List (Held E) → Type 0
+abbrev pub AllApart : {E : Type 0} → List (HeldKey E) → Type 0
 AllApart [] = Unit {0}
 AllApart (h ∷ hs) = Beside hs h.kind h.key × AllApart hs
 
-abbrev pub WithKinds : {E : Type 0} → ℕ → List (Held E) → Type 0
+abbrev pub WithKinds : {E : Type 0} → ℕ → List (HeldKey E) → Type 0
 WithKinds n [] = Unit {0}
 WithKinds n (h ∷ hs) = (h.kind < n) × WithKinds n hs
 
-abbrev pub renewed : {E : Type 0} → List (Held E) → List E → List (Held E)
+abbrev pub renewed : {E : Type 0} → List (HeldKey E) → List E → List (HeldKey E)
 renewed [] log = []
 renewed (h ∷ hs) log = record { kind = h.kind; key = h.key; own = log; label = h.label; note = h.note } ∷ renewed hs log
 
@@ -119,7 +117,7 @@ abbrev pub AllBelow : ℕ → List (ℕ × ℕ) → Type 0
 AllBelow n [] = Unit {0}
 AllBelow n (b ∷ births) = (b.0 < n) × AllBelow n births
 
-abbrev pub born : {E : Type 0} → List (ℕ × ℕ) → List E → List (Held E)
+abbrev pub born : {E : Type 0} → List (ℕ × ℕ) → List E → List (HeldKey E)
 born [] own = []
 born (b ∷ births) own = record { kind = b.0; key = b.1; own = own; label = 0; note = gnil } ∷ born births own
 
@@ -128,25 +126,25 @@ abbrev pub bumped : ℕ → (ℕ → ℕ) → ℕ → ℕ
 bumped b many r = if r == b then many r + 1 else many r
 
 -- each is the next number of its kind
-abbrev pub AreNext : (ℕ → ℕ) → List (ℕ × ℕ) → Type 0
-AreNext many [] = Unit {0}
-AreNext many (b ∷ births) = (many b.0 ≡ b.1) × AreNext (bumped b.0 many) births
+abbrev pub AreNextNumbers : (ℕ → ℕ) → List (ℕ × ℕ) → Type 0
+AreNextNumbers many [] = Unit {0}
+AreNextNumbers many (b ∷ births) = (many b.0 ≡ b.1) × AreNextNumbers (bumped b.0 many) births
 
 abbrev pub all_bumped : List (ℕ × ℕ) → (ℕ → ℕ) → ℕ → ℕ
 all_bumped [] many = many
 all_bumped (b ∷ births) many = all_bumped births (bumped b.0 many)
 
 -- each key that is held is one of those
-abbrev pub AllThere : {E : Type 0} → (ℕ → ℕ) → List (Held E) → Type 0
+abbrev pub AllThere : {E : Type 0} → (ℕ → ℕ) → List (HeldKey E) → Type 0
 AllThere many [] = Unit {0}
 AllThere many (h ∷ hs) = (h.key < many h.kind) × AllThere many hs
 
 module _ {E : Type 0} (rules : Rules E) where
-  abbrev pub AllKept : List (Held E) → List E → Type 0
+  abbrev pub AllKept : List (HeldKey E) → List E → Type 0
   AllKept [] log = Unit {0}
   AllKept (h ∷ hs) log = rules.Kept h.kind h.key h.own log × AllKept hs log
 
-  abbrev pub Known : List (Held E) → List E → List E → Type 0
+  abbrev pub Known : List (HeldKey E) → List E → List E → Type 0
   Known held seen log = rules.Legal log × IsPrefix seen log × AllKept held log
 
   -- the key is there
@@ -154,13 +152,13 @@ module _ {E : Type 0} (rules : Rules E) where
   IsThere r k log = (j : ℕ) × rules.Sized r j log × (k < j)
 
   -- the numbers of the keys that are made, and of how many there are then
-  abbrev pub MakesKeys : List (Held E) → List (ℕ × ℕ) → List E → List E → Type 0
+  abbrev pub MakesKeys : List (HeldKey E) → List (ℕ × ℕ) → List E → List E → Type 0
   MakesKeys held births log log' =
       (many : ℕ → ℕ) → ((r : ℕ) → rules.Sized r (many r) log) → AllThere many held
-      → AreNext many births × ((r : ℕ) → rules.Sized r (all_bumped births many r) log')
+      → AreNextNumbers many births × ((r : ℕ) → rules.Sized r (all_bumped births many r) log')
 
   -- whatever the list is, and whatever the maker tells of it
-  abbrev pub Goes : List (Held E) → List E → (List E → E) → (List E → List (ℕ × ℕ)) → (List E → Type 0) → Type 0
+  abbrev pub Goes : List (HeldKey E) → List E → (List E → E) → (List E → List (ℕ × ℕ)) → (List E → Type 0) → Type 0
   Goes held seen ev births Told = (log : List E) → Known held seen log → Told log
       → rules.Legal (log ++ ev log ∷ [])
       × ((r k : ℕ) (own : List E) → Beside held r k → IsThere r k log → rules.Kept r k own log → rules.Kept r k own (log ++ ev log ∷ []))

@@ -1,8 +1,7 @@
 -- The words in which contracts speak of contents that are lent with values: before a value is named, when it was reclaimed, and where it
 -- was never named and is not to be.
 --     MayLend keys ticket pool          there is one key of a block, with whose value nothing is lent; and the ticket is that of the pool
---     IsOfPlace n v ticket              the ticket is of the content that the block of the value v has in the store of book n, if it has
---                                       one
+--     IsOfPlace v ticket                the ticket is of the content that the block of the value v has in the store
 --     Lends keys pool keys'             the first key's label is another value of its block, which was never named, as it knows, and with
 --                                       which the pool's content is lent
 --     IsHandedBy n held                 there are two keys: one of a block, with whose value something is lent, and one of a slot, whose
@@ -15,8 +14,7 @@
 --     IsInBlockOf value value'          it is of a value in the same block of the same book, with the same cell
 --     GoesWith value pool               the pool's content is lent with the value
 --     IsFreeKey value, IsLentKey value  nothing is lent with it;  something is
---     IsLentInBook value                something is, if the blocks of its book lie in a store
-use Rattle.std.specs.Prelude.{◌≡◌, ℕ, ◌⊎◌, List, [], ◌∷◌, None, Some, true, false}
+use Rattle.std.specs.Prelude.{◌≡◌, ℕ, List, [], ◌∷◌, Some, true, false}
 use Rattle.seize_content.specs.Loans.{IsLent}
 use Rattle.seize_content.specs.declared.loan.Pool.{Pool}
 use Rattle.seize_content.specs.declared.ticket.Ticket.{Ticket}
@@ -24,42 +22,41 @@ use Rattle.seize_machine.specs.Machine.State.{has, slot_at}
 use Rattle.seize_store.specs.Known.{content_in, entry_of, label_in}
 use Rattle.seize_store.specs.Named.{IsRowOf}
 use Rattle.seize_store.specs.declared.known.Known.{Known}
-use Rattle.seize_book.specs.Blocks.{block_of}
+use Rattle.seize_book.specs.Blocks.{block_number}
 use Rattle.seize_book.specs.Book.{after, blocks, slots}
 use Rattle.seize_book.specs.Entry.{Entry}
 use Rattle.seize_book.specs.Homes.{home_of}
-use Rattle.seize_book.specs.Ledger.{Held}
-use Rattle.seize_book.specs.Loans.{Carries, CarriesNone, cell_of, place_of}
+use Rattle.seize_book.specs.Ledger.{HeldKey}
+use Rattle.seize_book.specs.Loans.{Carries, CarriesNone, cell_of, place_of, CarriesOne}
 use Rattle.seize_book.specs.Others.{Renames, book_of, labelled, state_of, value_of}
 use Rattle.seize_book.specs.Private.{is_one, key_of, label_of}
 use Rattle.seize_book.specs.Slots.{hands_next}
-use Rattle.seize_book.specs.Tokens.{Name, IsLentIn, chunk_label, start}
+use Rattle.seize_book.specs.Tokens.{Name, chunk_label, start}
 use Rattle.seize_book.specs.declared.book.keys.Keys.{Keys}
 use Rattle.seize_book.specs.declared.book.pass.Pass.{Pass}
 use Rattle.seize_book.specs.declared.book.value_key.ValueKey.{ValueKey}
 
--- where the blocks of the book lie in a store, its block has this content
-abbrev pub IsOfPlace : Name → ℕ → Ticket → Type 0
-IsOfPlace n v ticket = (n.store ≡ None) ⊎ (place_of v ≡ ticket.name)
+abbrev pub IsOfPlace : ℕ → Ticket → Type 0
+IsOfPlace v ticket = place_of v ≡ ticket.name
 
 abbrev pub MayLend : Keys → Ticket → Pool → Type 0
 MayLend keys ticket pool =
     (is_one blocks keys.held ≡ true) × CarriesNone (label_of keys.held) × IsLent ticket pool
-    × IsOfPlace keys.name (label_of keys.held) ticket
+    × IsOfPlace (label_of keys.held) ticket
 
 pub record Lends (keys : Keys) (pool : Pool) (keys' : Keys) : Type 0 where
   pub value : ℕ
   pub book : keys'.name ≡ keys.name
   pub held : keys'.held ≡ labelled value keys.held
   pub home : home_of value ≡ home_of (label_of keys.held)
-  pub numbered : block_of value ≡ block_of (label_of keys.held)
+  pub numbered : block_number value ≡ block_number (label_of keys.held)
   pub unnamed : has value (state_of keys).named ≡ false
   pub cell : cell_of value ≡ cell_of (label_of keys.held)
   pub carries : Carries value pool.name pool.value
 
-abbrev pub IsHandedBy : Name → List (Held Entry) → Type 0
+abbrev pub IsHandedBy : Name → List (HeldKey Entry) → Type 0
 IsHandedBy n (h ∷ k ∷ []) =
-    (is_one blocks (h ∷ []) ≡ true) × (is_one slots (k ∷ []) ≡ true) × (¬ (CarriesNone h.label))
+    (is_one blocks (h ∷ []) ≡ true) × (is_one slots (k ∷ []) ≡ true) × CarriesOne h.label
     × (hands_next (slot_at (after (start n) k.own) k.key) ≡ Some h.label)
 IsHandedBy n _ = ⊥
 
@@ -72,13 +69,13 @@ Redeems keys keys' ticket pool = Renames keys keys' × IsLent ticket pool × Car
 abbrev pub MayWithdraw : Keys → Pass → Type 0
 MayWithdraw keys pass =
     (keys.name ≡ pass.name) × (is_one blocks keys.held ≡ true) × (key_of keys.held ≡ home_of (label_of keys.held))
-    × (¬ (CarriesNone (label_of keys.held))) × (has (label_of keys.held) (state_of keys).named ≡ false)
+    × CarriesOne (label_of keys.held) × (has (label_of keys.held) (state_of keys).named ≡ false)
 
 abbrev pub IsRowAt : Name → ℕ → Known → Type 0
 IsRowAt n v known =
-    (Some known.store ≡ n.store) × IsRowOf known (block_of v)
-    × (label_in known.chunks (entry_of known.row (block_of v)) ≡ chunk_label n (home_of v) (cell_of v))
-    × (content_in known.chunks (entry_of known.row (block_of v)) ≡ place_of v)
+    (known.store ≡ n.store) × IsRowOf known (block_number v)
+    × (label_in known.chunks (entry_of known.row (block_number v)) ≡ chunk_label n (home_of v) (cell_of v))
+    × (content_in known.chunks (entry_of known.row (block_number v)) ≡ place_of v)
 
 abbrev pub GoesWith : ValueKey → Pool → Type 0
 GoesWith value pool = Carries (value_of value) pool.name pool.value
@@ -92,7 +89,4 @@ abbrev pub IsFreeKey : ValueKey → Type 0
 IsFreeKey value = CarriesNone (value_of value)
 
 abbrev pub IsLentKey : ValueKey → Type 0
-IsLentKey value = ¬ (CarriesNone (value_of value))
-
-abbrev pub IsLentInBook : ValueKey → Type 0
-IsLentInBook value = IsLentIn (book_of value) (value_of value)
+IsLentKey value = CarriesOne (value_of value)

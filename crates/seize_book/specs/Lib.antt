@@ -25,7 +25,7 @@ pub mod Deposits
 pub mod Bare
 pub mod Batches
 pub mod Books
-pub mod Turns
+pub mod Porters
 pub mod Blocks
 pub mod Values
 pub mod Kept

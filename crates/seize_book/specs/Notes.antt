@@ -1,45 +1,39 @@
 -- The words in which contracts speak of notes: what the holder of the key of a block's values writes beside the block, in the cell of its
 -- chunk. Others see the value meanwhile.
---     IsStored n              the blocks of the book lie in a store
---     MayOpen keys            there is one key of a block, which lies in a store
---     Opens keys keys' opened token     the token of its cell is out, and says what is noted
+--     MayOpen keys            there is one key of a block
+--     OpensNote keys keys' opened token     the token of its cell is out, and says what is noted
 --     MayClose, Closes        and back: what the token says then is noted
 --     noted_in value          what is noted of a value's block
 --     cell_in value           the name of the cell
 --     IsUnchanged value value'     it is the same key, and knows what it knew
 --     HasNoted g value value'     it is the same key, but that g is noted of its block
-use Rattle.std.specs.Prelude.{◌≡◌, ℕ, Some, true, List, [], ◌∷◌}
+use Rattle.std.specs.Prelude.{◌≡◌, ℕ, true, List, [], ◌∷◌}
 use base.Stored.{Gv}
 use Rattle.seize_content.specs.declared.token_cell.CellToken.{CellToken}
 use Rattle.seize_book.specs.Book.{blocks}
 use Rattle.seize_book.specs.Entry.{Entry}
-use Rattle.seize_book.specs.Ledger.{Held}
+use Rattle.seize_book.specs.Ledger.{HeldKey}
 use Rattle.seize_book.specs.Loans.{cell_of}
 use Rattle.seize_book.specs.Others.{value_of}
 use Rattle.seize_book.specs.Private.{is_one, label_of, note_of}
-use Rattle.seize_book.specs.Tokens.{Name}
 use Rattle.seize_book.specs.declared.book.keys.Keys.{Keys}
 use Rattle.seize_book.specs.declared.book.opened.Opened.{Opened}
 use Rattle.seize_book.specs.declared.book.value_key.ValueKey.{ValueKey}
 
-abbrev pub IsStored : Name → Type 0
-IsStored n = (store : List ℕ) × (n.store ≡ Some store)
-
-abbrev pub with_note : Gv → List (Held Entry) → List (Held Entry)
+abbrev pub with_note : Gv → List (HeldKey Entry) → List (HeldKey Entry)
 with_note g [] = []
 with_note g (h ∷ held) = record { kind = h.kind; key = h.key; own = h.own; label = h.label; note = g } ∷ held
 
 abbrev pub MayOpen : Keys → Type 0
-MayOpen keys = (is_one blocks keys.held ≡ true) × IsStored keys.name
+MayOpen keys = is_one blocks keys.held ≡ true
 
-abbrev pub Opens : Keys → Keys → Opened → CellToken → Type 0
-Opens keys keys' opened token =
+abbrev pub OpensNote : Keys → Keys → Opened → CellToken → Type 0
+OpensNote keys keys' opened token =
     (keys'.name ≡ keys.name) × (keys'.held ≡ []) × (opened.name ≡ keys.name) × (opened.held ≡ keys.held)
     × (token.name ≡ cell_of (label_of keys.held)) × (token.value ≡ note_of keys.held)
 
 abbrev pub MayClose : Opened → CellToken → Type 0
-MayClose opened token =
-    (is_one blocks opened.held ≡ true) × IsStored opened.name × (token.name ≡ cell_of (label_of opened.held))
+MayClose opened token = (is_one blocks opened.held ≡ true) × (token.name ≡ cell_of (label_of opened.held))
 
 abbrev pub Closes : Opened → CellToken → Keys → Type 0
 Closes opened token keys = (keys.name ≡ opened.name) × (keys.held ≡ with_note token.value opened.held)

@@ -1,13 +1,13 @@
 -- The words in which contracts speak of the keys that a slot's holder needs beside its own.
 --     is_named value                    whether the value was ever named, as its key knows
 --     book_of value                     its book
---     MayBegin n v st                   it was never named, all values that lay in its block before were reclaimed, and something is lent
---                                       with it, if the blocks of the book lie in a store; or it was named, and is loose;
+--     MayBegin v st                     it was never named, all values that lay in its block before were reclaimed, and something is lent
+--                                       with it; or it was named, and is loose;
 --                                       MayRetire value    so it is, as its key knows
 --     IsSpent v st                      it was named, and it is not loose;  CannotRetire value   so it is, as its key knows
 --     IsLeast s st                      slot s is there, and its number is the least that is not in use and one of a table;
 --     MayTake numbers key               so it is for this slot, as the key of the numbers knows
---     in_use numbers                    which numbers are in use, as this key knows;  least_unused us     the least that is not
+--     use_flags numbers                 which numbers are in use, as this key knows;  first_false us     the least that is not
 --     IsOfBook keys pass                they are of one book;  IsValueOf value pass, AreNumbersOf numbers pass     so is this key
 --     state_of keys, value_of value     where the keys' list leads, and which value it is
 --     MakesNone n p seen held event     wherever the list is by then, the event makes no keys
@@ -26,7 +26,7 @@
 use Rattle.std.specs.Prelude.{◌≡◌, ◌≢◌, ℕ, ◌<◌, Bool, true, false, not, List, [], ◌∷◌, ◌++◌, length, ◌⊎◌}
 use Rattle.std.specs.List.{position_or_len}
 use Rattle.seize_machine.specs.Machine.State.{State, has}
-use Rattle.seize_book.specs.Blocks.{block_of}
+use Rattle.seize_book.specs.Blocks.{block_number}
 use Rattle.seize_book.specs.Book.{after, births}
 use Rattle.seize_book.specs.Private.{is_one, key_of, label_of, own_of}
 use Rattle.seize_machine.specs.Machine.Event.{Event}
@@ -34,11 +34,11 @@ use Rattle.seize_machine.specs.Machine.Frames.{used}
 use Rattle.seize_machine.specs.Machine.Next.{first_free}
 use Rattle.seize_table.specs.Place.{all_numbers}
 use Rattle.seize_book.specs.Homes.{IsVacant, home_of}
-use Rattle.seize_book.specs.Loans.{CarriesNone, cell_of, place_of}
-use Rattle.seize_book.specs.Ledger.{Held, renewed}
+use Rattle.seize_book.specs.Loans.{CarriesNone, cell_of, place_of, CarriesOne}
+use Rattle.seize_book.specs.Ledger.{HeldKey, renewed}
 use Rattle.seize_book.specs.Entry.{Deed, Entry, Made}
 use Rattle.seize_book.specs.Fair.{Before, MayAdd}
-use Rattle.seize_book.specs.Tokens.{Name, start, IsLentIn}
+use Rattle.seize_book.specs.Tokens.{Name, start}
 use Rattle.seize_book.specs.declared.book.keys.Keys.{Keys}
 use Rattle.seize_book.specs.declared.book.numbers_key.NumbersKey.{NumbersKey}
 use Rattle.seize_book.specs.declared.book.pass.Pass.{Pass}
@@ -57,12 +57,12 @@ book_of value = value.keys.name
 abbrev pub is_named : ValueKey → Bool
 is_named value = has (value_of value) (state_of value.keys).named
 
-abbrev pub MayBegin : Name → ℕ → State → Type 0
-MayBegin n v st =
-    ((has v st.named ≡ false) × IsVacant st (home_of v) × IsLentIn n v) ⊎ ((has v st.named ≡ true) × (has v st.loose ≡ true))
+abbrev pub MayBegin : ℕ → State → Type 0
+MayBegin v st =
+    ((has v st.named ≡ false) × IsVacant st (home_of v) × CarriesOne v) ⊎ ((has v st.named ≡ true) × (has v st.loose ≡ true))
 
 abbrev pub MayRetire : ValueKey → Type 0
-MayRetire value = MayBegin (book_of value) (value_of value) (state_of value.keys)
+MayRetire value = MayBegin (value_of value) (state_of value.keys)
 
 abbrev pub IsSpent : ℕ → State → Type 0
 IsSpent v st = (has v st.named ≡ true) × (has v st.loose ≡ false)
@@ -89,14 +89,14 @@ abbrev pub MayTake : NumbersKey → SlotKey → Type 0
 MayTake numbers key = IsLeast (key_of key.keys.held) (state_of numbers.keys)
 
 -- which numbers are in use, as the key of the numbers knows, and which is the least that is not
-abbrev pub in_use : NumbersKey → List Bool
-in_use numbers = used (state_of numbers.keys)
+abbrev pub use_flags : NumbersKey → List Bool
+use_flags numbers = used (state_of numbers.keys)
 
-abbrev pub least_unused : List Bool → ℕ
-least_unused us = position_or_len (λ u. not u) us
+abbrev pub first_false : List Bool → ℕ
+first_false us = position_or_len (λ u. not u) us
 
 -- wherever the list is by then, the event makes no keys
-abbrev pub MakesNone : Name → ℕ → List Entry → List (Held Entry) → Event → Type 0
+abbrev pub MakesNone : Name → ℕ → List Entry → List (HeldKey Entry) → Event → Type 0
 MakesNone n p seen held event = (log : List Entry) → Before n p seen held log → births (after (start n) log) event ≡ []
 
 -- the event makes no keys, and may be added with the slot's and the other keys
@@ -120,7 +120,7 @@ IsLast value = IsLastIn (value_of value) (state_of value.keys)
 abbrev pub HasGone : ValueKey → Pass → Type 0
 HasGone value pass = has (value_of value) (after (start pass.name) pass.seen).gone ≡ true
 
-abbrev pub labelled : ℕ → List (Held Entry) → List (Held Entry)
+abbrev pub labelled : ℕ → List (HeldKey Entry) → List (HeldKey Entry)
 labelled v [] = []
 labelled v (h ∷ held) = record { kind = h.kind; key = h.key; own = h.own; label = v; note = h.note } ∷ held
 
@@ -129,7 +129,7 @@ pub record Renames (keys keys' : Keys) : Type 0 where
   pub book : keys'.name ≡ keys.name
   pub held : keys'.held ≡ labelled value keys.held
   pub home : home_of value ≡ home_of (label_of keys.held)
-  pub numbered : block_of value ≡ block_of (label_of keys.held)
+  pub numbered : block_number value ≡ block_number (label_of keys.held)
   pub unnamed : has value (state_of keys).named ≡ false
   pub place : place_of value ≡ place_of (label_of keys.held)
   pub cell : cell_of value ≡ cell_of (label_of keys.held)

@@ -8,7 +8,7 @@ use base.Stored.{Gv}
 use Rattle.seize_content.specs.Contents.{sight_owns}
 use Rattle.seize_book.specs.Book.{blocks}
 use Rattle.seize_book.specs.Entry.{Entry}
-use Rattle.seize_book.specs.Ledger.{Held, fact}
+use Rattle.seize_book.specs.Ledger.{HeldKey, fact}
 use Rattle.seize_book.specs.Loans.{Carries, loan_of}
 use Rattle.seize_book.specs.Tokens.{Name, leads}
 
@@ -23,6 +23,6 @@ abbrev pub show_if : Bool → Name → ℕ → Lft → Fml
 show_if true n v κ = fsep (leads n v) (sight_if (loan_of v) κ v)
 show_if false n v κ = ftrue
 
-abbrev pub keys_show : Name → List (Held Entry) → Lft → Fml
+abbrev pub keys_show : Name → List (HeldKey Entry) → Lft → Fml
 keys_show n [] κ = ftrue
 keys_show n (h ∷ held) κ = fsep (show_if (h.kind == blocks) n h.label κ) (keys_show n held κ)

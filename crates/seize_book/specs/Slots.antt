@@ -1,14 +1,16 @@
 -- The words in which the contracts of slots' keys speak.
---     IsOf key pass        they are of one book
---     number_of key        the slot
---     own_list key         the list at the slot's last event;  start_of key, size_of key     its book's opening and batch size
+--     IsKeyOfBook key pass     they are of one book
+--     slot_number key      the slot
+--     own_list key         the list at the slot's last event;  start_of key     its book's opening
 --     IsAfter key pass' key'     it is the same key, and knows all that the pass has seen
 --     IsStill key key'     nothing was added with it, and it knows what it knew
 --     slot_of key, active_of key     the slot's record as its key knows it, and whether it is active
 --     written_of key       what was last stored in the fields of the block with which the slot's call is about to insert its batch
 --     life_of key          the lifetime of the slot's last activation, as its key knows
---     Moves key key' log event later answer     after this list, which goes on from what the key knew, with the same last activation of
---                          the slot, the event took the slot from where its key knew it to where it knows it now
+--     acts_of key          the slot's own entries, with their answers, as its key knows
+--     Moves key key' log d later answer     after this list, which goes on from what the key knew, with the same last activation of the
+--                          slot, the event took the slot from where its key knew it to where it knows it now; and of the slot's own
+--                          entries this is the one that was added
 --     NotesAs key pass key' pass' d     the slot's holder added this one event with the pass: see Noted and Moves
 --     Notes key pass key' pass' event     and it is one of an event that begins no activation
 --     Looks key pass key' pass'     the pass has looked at the list (LooksOn), and so has the key; the list goes on from what it knew, and
@@ -26,69 +28,70 @@ use Rattle.seize_machine.specs.Machine.Next.{next, of_call, handing_at}
 use Rattle.seize_machine.specs.declared.machine.event.Answer.{Answer}
 use Rattle.seize_machine.specs.Machine.History.{done_by, handed_value}
 use Rattle.seize_book.specs.Blocks.{plans}
-use Rattle.seize_book.specs.Chains.{told, written}
-use Rattle.seize_book.specs.Entry.{Entry, Made, Deed, timed}
-use Rattle.seize_book.specs.Book.{after}
+use Rattle.seize_book.specs.Chains.{insertion_fields, told}
+use Rattle.seize_book.specs.Entry.{Entry, Made, Deed, timed_deed}
+use Rattle.seize_book.specs.Book.{after, by_slot}
 use Rattle.seize_book.specs.Laws.{NotHanded, WasRetired, AllLeft, AllParted, AllOver, life}
 use Rattle.seize_book.specs.Tokens.{Noted, start}
 use Rattle.seize_book.specs.Private.{key_of, own_of}
-use Rattle.seize_book.specs.Passes.{IsSame, LooksOn}
+use Rattle.seize_book.specs.Passes.{IsSamePass, LooksOn}
 use Rattle.seize_book.specs.Adding.{private}
 use Rattle.seize_book.specs.declared.book.pass.Pass.{Pass}
 use Rattle.seize_book.specs.declared.book.slot_key.SlotKey.{SlotKey}
 
-abbrev pub IsOf : SlotKey → Pass → Type 0
-IsOf key pass = key.keys.name ≡ pass.name
+abbrev pub IsKeyOfBook : SlotKey → Pass → Type 0
+IsKeyOfBook key pass = key.keys.name ≡ pass.name
 
-abbrev pub number_of : SlotKey → ℕ
-number_of key = key_of key.keys.held
+abbrev pub slot_number : SlotKey → ℕ
+slot_number key = key_of key.keys.held
 
 abbrev pub own_list : SlotKey → List Entry
 own_list key = own_of key.keys.held
 
-abbrev pub size_of : SlotKey → ℕ
-size_of key = key.keys.name.size
-
 abbrev pub start_of : SlotKey → State
 start_of key = start key.keys.name
 
+abbrev pub acts_of : SlotKey → List (Entry × Answer)
+acts_of key = by_slot (start_of key) (slot_number key) (own_list key)
+
 abbrev pub slot_of : SlotKey → Slot
-slot_of key = slot_at (after (start_of key) (own_list key)) (number_of key)
+slot_of key = slot_at (after (start_of key) (own_list key)) (slot_number key)
 
 -- what was last stored in the next and first fields of the block with which the slot's call is about to insert its batch
 abbrev pub written_of : SlotKey → Option (ℕ × ℕ)
 written_of key =
-    let own = own_list key in written (after (start_of key) own) (plans (start_of key) own) (told own) (number_of key)
+    let own = own_list key in insertion_fields (after (start_of key) own) (plans (start_of key) own) (told own) (slot_number key)
 
 abbrev pub active_of : SlotKey → Bool
-active_of key = is_active (head_at (after (start_of key) (own_list key)) (number_of key))
+active_of key = is_active (head_at (after (start_of key) (own_list key)) (slot_number key))
 
 -- the lifetime of the slot's last activation, as its key knows
 abbrev pub life_of : SlotKey → ℕ
-life_of key = life (number_of key) (own_list key)
+life_of key = life (slot_number key) (own_list key)
 
 -- it is the key of the same slot, and knows all that the pass has seen
 abbrev pub IsAfter : SlotKey → Pass → SlotKey → Type 0
-IsAfter key pass' key' = (key'.keys.name ≡ key.keys.name) × (number_of key' ≡ number_of key) × (own_list key' ≡ pass'.seen)
+IsAfter key pass' key' = (key'.keys.name ≡ key.keys.name) × (slot_number key' ≡ slot_number key) × (own_list key' ≡ pass'.seen)
 
 abbrev pub IsStill : SlotKey → SlotKey → Type 0
 IsStill key key' = key'.keys ≡ key.keys
 
 -- After this list, the event took the machine to `later` with this answer, and the slot from where its key knew it to where it knows it
--- now.
-pub record Moves (key key' : SlotKey) (log : List Entry) (event : Event) (later : State) (answer : Answer) : Type 0 where
+-- now. The slot's own entries are longer by this one.
+pub record Moves (key key' : SlotKey) (log : List Entry) (d : Deed) (later : State) (answer : Answer) : Type 0 where
   pub knew : IsPrefix (own_list key) log
-  pub lived : life (number_of key) log ≡ life_of key
-  pub was : slot_at (after (start_of key) log) (number_of key) ≡ slot_of key
-  pub was_active : is_active (head_at (after (start_of key) log) (number_of key)) ≡ active_of key
-  pub legal : next (size_of key) (after (start_of key) log) event ≡ Some (later, answer)
-  pub is : slot_of key' ≡ slot_at later (number_of key)
-  pub is_now_active : active_of key' ≡ is_active (head_at later (number_of key))
+  pub lived : life (slot_number key) log ≡ life_of key
+  pub was : slot_at (after (start_of key) log) (slot_number key) ≡ slot_of key
+  pub was_active : is_active (head_at (after (start_of key) log) (slot_number key)) ≡ active_of key
+  pub legal : next d.size (after (start_of key) log) d.event ≡ Some (later, answer)
+  pub is : slot_of key' ≡ slot_at later (slot_number key)
+  pub is_now_active : active_of key' ≡ is_active (head_at later (slot_number key))
+  pub acts : acts_of key' ≡ acts_of key ++ (Made d, answer) ∷ []
 
 abbrev pub NotesAs : SlotKey → Pass → SlotKey → Pass → Deed → Type 0
 NotesAs key pass key' pass' d =
-    IsSame pass pass' × IsAfter key pass' key'
-    × ((noted : Noted pass.name pass.id pass.seen pass'.seen (Made d)) × Moves key key' noted.before d.event noted.later noted.answer)
+    IsSamePass pass pass' × IsAfter key pass' key'
+    × ((noted : Noted pass.name pass.id pass.seen pass'.seen (Made d)) × Moves key key' noted.before d noted.later noted.answer)
 
 abbrev pub Notes : SlotKey → Pass → SlotKey → Pass → Event → Type 0
 Notes key pass key' pass' event = NotesAs key pass key' pass' (private pass event)
@@ -97,10 +100,11 @@ pub record Looks (key : SlotKey) (pass : Pass) (key' : SlotKey) (pass' : Pass) :
   pub on : LooksOn pass pass'
   pub seen_by : IsAfter key pass' key'
   pub knows : IsPrefix (own_list key) pass'.seen
-  pub lives : life (number_of key) pass'.seen ≡ life_of key
-  pub slot : slot_at (after (start_of key) pass'.seen) (number_of key) ≡ slot_of key
-  pub active : is_active (head_at (after (start_of key) pass'.seen) (number_of key)) ≡ active_of key
+  pub lives : life (slot_number key) pass'.seen ≡ life_of key
+  pub slot : slot_at (after (start_of key) pass'.seen) (slot_number key) ≡ slot_of key
+  pub active : is_active (head_at (after (start_of key) pass'.seen) (slot_number key)) ≡ active_of key
   pub written : written_of key' ≡ written_of key
+  pub acts : acts_of key' ≡ acts_of key
 
 -- the value that the slot's call is about to hand to its reclaimer
 abbrev pub hands_next : Slot → Option ℕ
@@ -112,7 +116,7 @@ pub record HandsOnce (key : SlotKey) (pass' : Pass) (v : ℕ) : Type 0 where
   pub before : List Entry
   pub last : Deed
   pub ends : pass'.seen ≡ before ++ Made last ∷ []
-  pub hands : handed_value (done_by next (after (start_of key) before) (timed last)).1 ≡ Some v
+  pub hands : handed_value (done_by next (after (start_of key) before) (timed_deed last)).1 ≡ Some v
   pub not_handed : NotHanded (start_of key) before v
   pub retired : WasRetired (start_of key) before v
   pub all_left : AllLeft (start_of key) before retired.0

@@ -5,13 +5,13 @@
 --     GetsPlace keys keys'     they are the same keys, and the first says that the head of its slot lies in the table
 --     AreSlotsOf pass all      these are the first entries of the table of the pass's book, one for each slot that the pass has seen, and
 --                              each has its slot's label
-use Rattle.std.specs.Prelude.{◌≡◌, true, length, Some}
+use Rattle.std.specs.Prelude.{◌≡◌, true, length}
 use Rattle.seize_table.specs.declared.tls.all_filled.AllFilled.{AllFilled}
 use Rattle.seize_table.specs.declared.tls.filled_at.FilledAt.{FilledAt}
 use Rattle.seize_book.specs.Book.{after, slots}
 use Rattle.seize_book.specs.Others.{labelled}
 use Rattle.seize_book.specs.Private.{is_one, key_of, label_of}
-use Rattle.seize_book.specs.Slots.{number_of, own_list}
+use Rattle.seize_book.specs.Slots.{own_list, slot_number}
 use Rattle.seize_book.specs.Tokens.{label_at, slot_labels, start}
 use Rattle.seize_book.specs.declared.book.keys.Keys.{Keys}
 use Rattle.seize_book.specs.declared.book.pass.Pass.{Pass}
@@ -22,11 +22,11 @@ IsPlaced key = label_of key.keys.held ≡ 1
 
 abbrev pub IsLike : SlotKey → SlotKey → Type 0
 IsLike key key' =
-    (key'.keys.name ≡ key.keys.name) × (number_of key' ≡ number_of key) × (own_list key' ≡ own_list key)
+    (key'.keys.name ≡ key.keys.name) × (slot_number key' ≡ slot_number key) × (own_list key' ≡ own_list key)
 
 pub record LiesAt (keys : Keys) (token : FilledAt) : Type 0 where
   pub one : is_one slots keys.held ≡ true
-  pub table : keys.name.table ≡ Some token.table
+  pub table : keys.name.table ≡ token.table
   pub entry : token.number ≡ key_of keys.held
   pub head : token.label ≡ label_at keys.name (key_of keys.held)
 
@@ -35,4 +35,4 @@ GetsPlace keys keys' = (keys'.name ≡ keys.name) × (keys'.held ≡ labelled 1 
 
 abbrev pub AreSlotsOf : Pass → AllFilled → Type 0
 AreSlotsOf pass all =
-    (Some all.table ≡ pass.name.table) × (all.labels ≡ slot_labels pass.name (length (after (start pass.name) pass.seen).slots))
+    (all.table ≡ pass.name.table) × (all.labels ≡ slot_labels pass.name (length (after (start pass.name) pass.seen).slots))

@@ -1,25 +1,24 @@
 -- What the tokens of a book own. None of them has bytes.
---     Name          a book: the number of its invariant, its names, who may append, and the opening of its list
+--     Name          a book: the number of its invariant, its names, where its blocks and heads lie, and the opening of its list
 --     called        the book's family is the number by which labels say that something is of it: it stands for this name alone, for good;
 --                   uncalled   for none yet
 --     label_at n k  the label of what is of the book and has the number k
 --     chunk_label n k c   that of a chunk of the book's store with the home k and the cell c
 --     inside        what stands in its invariant;  knows   that there is this invariant, for good
---     pass_owns     a pass: its key, a beginning of the list that it has seen, and where it alone may append the list itself
---     lent_pass n κ p seen     the same where its ticket is lent to it for κ, as those of a porter are that threads share
+--     pass_owns     a pass within a walk, with its ticket in hand: its key, a beginning of the list that it has seen, and where it alone
+--                   may append the list itself
+--     lent_pass n κ p seen     a pass: the same, with its ticket lent to it for κ
 --     porter_owns   a porter: the key of the first pass, a beginning of the list that it has seen, and all tickets but those of so many
 --                   passes; or, where it is at home, the copy of the whole list, which is what it has seen
---     IsSole g p    at this gate pass p alone may append, whenever someone has it;  IsTurns g   passes come from a porter there
---     leads n v     the value's number leads to the label of its home and cell, in the store where the book's blocks lie; and nothing where
---                   they lie in none
---     noted n v g   the token of the cell where the holder of the value's key makes notes, in which g is noted; and nothing where the
---                   book's blocks lie in no store.  notes_own    those of some keys
+--     IsSole p      pass p alone may append, for as long as it lasts: it is the first one, which nobody has while the gate is open
+--     leads n v     the value's number leads to the label of its home and cell, in the store where the book's blocks lie
+--     note_at v g   the token of the cell where the holder of the value's key makes notes, in which g is noted.  notes_own    those of some
+--                   keys
 --     all_lead n vs     so do the numbers of all these values
---     IsLentIn n v       something is lent with the value, if the blocks of the book lie in a store;  AllLentIn n vs   with each of these
---     lies n s      the entry of slot s, in the table where the heads of the book lie, has the slot's label for good; and nothing where
---                   they lie in none
+--     lies n s      the entry of slot s, in the table where the heads of the book lie, has the slot's label for good
 --     all_lie n m   so do those of the first m slots, in their order;  slot_labels n m   their labels
---     found n st    both, of all that were ever named and of all slots that there are; and with each that was named something is lent
+--     places_known n st    both, of all that were ever named and of all slots that there are; and with each that was named something is
+--                          lent
 --     is_placed h   it is the key of a slot whose head lies in the table, as the label 1 says
 --     rights_own    the rights to some keys, in a given order;  keys_own   and with each key of a block, where its value's number leads,
 --                   what is lent with the value, and what is noted; and with that of a slot whose head lies in the table, that it does
@@ -38,56 +37,28 @@ use base.Fml.{Lft, Fml, ffalse, ftrue, fsep, fex, fbor, fdead, fnamed, fobs, fau
 use types.Keyed.{ticket, tickets_from}
 use denote.Struct.Codes.{itself}
 use Rattle.seize_content.specs.Cells.{cell_token}
-use Rattle.seize_machine.specs.Machine.State.{State, opening, linked, are_distinct, has}
+use Rattle.seize_machine.specs.Machine.State.{State, opening, linked_values, are_distinct, has}
 use Rattle.seize_machine.specs.declared.machine.event.Answer.{Answer}
 use Rattle.seize_store.specs.Known.{tells}
 use Rattle.seize_table.specs.Filled.{all_filled, filled_at}
 use Rattle.seize_table.specs.Pairs.{pair}
-use Rattle.seize_book.specs.Ledger.{Held, fact, logs, right, rights, reached, contents}
+use Rattle.seize_book.specs.Ledger.{HeldKey, fact, logs, right, rights, reached, contents}
 use Rattle.seize_book.specs.Entry.{Entry, entry_coded}
 use Rattle.seize_book.specs.Book.{IsLegalList, Does, after, mine, blocks, passes, slots, rules}
-use Rattle.seize_book.specs.Blocks.{block_of, plans}
+use Rattle.seize_book.specs.Blocks.{block_number, plans}
 use Rattle.seize_book.specs.Chains.{Chained, told}
 use Rattle.seize_book.specs.Homes.{IsSound, home_of}
 use Rattle.seize_book.specs.Laws.{ended}
-use Rattle.seize_book.specs.Loans.{CarriesNone, cell_of, loan, place_of}
+use Rattle.seize_book.specs.Loans.{AllCarryOne, cell_of, loan, place_of}
 
--- Who may append: whoever has a pass; or one pass alone, whose copy of the list has this name; or, in turns, whoever has a pass that a
--- porter gave out, and the first pass alone while none is out. Then the copy of the list has the first name, and the tickets that are
--- counted have the second.
-pub data Gate : Type 0 where
-  many : Gate
-  sole : ℕ → Gate
-  turns : ℕ → ℕ → Gate
+-- Who may append: at the open gate each pass that the porter lent, at the shut gate the first pass alone, and at home none. The copy of
+-- the list by which the first pass is alone has one name, and the tickets that the others are given have another.
+pub record Gate : Type 0 where
+  pub copy : ℕ
+  pub tickets : ℕ
 
-abbrev pub IsSole : Gate → ℕ → Type 0
-IsSole many p = ⊥
-IsSole (sole η) p = Unit {0}
-IsSole (turns η κ) zero = Unit {0}
-IsSole (turns η κ) (suc p) = ⊥
-
-abbrev pub IsTurns : Gate → Type 0
-IsTurns many = ⊥
-IsTurns (sole η) = ⊥
-IsTurns (turns η κ) = Unit {0}
-
-abbrev pub gate_code : Gate → Option (ℕ × Option ℕ)
-gate_code many = Option.None
-gate_code (sole η) = Option.Some (η, Option.None)
-gate_code (turns η κ) = Option.Some (η, Option.Some κ)
-
-abbrev pub gate_of : Option (ℕ × Option ℕ) → Gate
-gate_of Option.None = many
-gate_of (Option.Some (η, Option.None)) = sole η
-gate_of (Option.Some (η, Option.Some κ)) = turns η κ
-
-pub gate_back : (g : Gate) → gate_of (gate_code g) ≡ g
-gate_back many = refl
-gate_back (sole η) = refl
-gate_back (turns η κ) = refl
-
-abbrev pub gate_coded : Coded Gate
-gate_coded = code_by (Option (ℕ × Option ℕ)) (coded_option (coded× coded_ℕ (coded_option coded_ℕ))) gate_code gate_of gate_back
+abbrev pub IsSole : ℕ → Type 0
+IsSole p = p ≡ 0
 
 pub record Name : Type 0 where
   pub number : ℕ
@@ -104,12 +75,10 @@ pub record Name : Type 0 where
   pub field_keys : ℕ
   pub total_keys : ℕ
   pub gate : Gate
-  -- the batch size at each event that is added
-  pub size : ℕ
-  -- the store where the blocks lie, if they lie in one: then their numbers are the store's
-  pub store : Option (List ℕ)
-  -- the table where the heads of its slots lie, if they lie in one
-  pub table : Option (List ℕ)
+  -- the store where the blocks lie, whose numbers words hold
+  pub store : List ℕ
+  -- the table where the heads of its slots lie
+  pub table : List ℕ
   -- the opening
   pub slots : ℕ
   pub links : List (Option ℕ)
@@ -121,33 +90,29 @@ abbrev pub rows : Name → List ℕ
 rows n =
     n.pass_keys ∷ n.number_keys ∷ n.slot_keys ∷ n.head_keys ∷ n.link_keys ∷ n.count_keys ∷ n.block_keys ∷ n.field_keys ∷ n.total_keys ∷ []
 
-abbrev places_coded : Coded (Option (List ℕ))
-places_coded = coded_option (coded_list coded_ℕ)
-
 abbrev pub name_coded : Coded Name
 name_coded =
-    code_by (List ℕ × (Gate × (List (Option ℕ) × (Option (List ℕ) × Option (List ℕ)))))
-    (coded× (coded_list coded_ℕ) (coded× gate_coded (coded× (coded_list (coded_option coded_ℕ)) (coded× places_coded places_coded))))
-    (λ n. (n.number ∷ n.log ∷ n.family ∷ n.slots ∷ n.size ∷ rows n, (n.gate, (n.links, (n.store, n.table)))))
+    code_by (List ℕ × (List (Option ℕ) × (List ℕ × List ℕ)))
+    (coded× (coded_list coded_ℕ) (coded× (coded_list (coded_option coded_ℕ)) (coded× (coded_list coded_ℕ) (coded_list coded_ℕ))))
+    (λ n. (n.number ∷ n.log ∷ n.family ∷ n.slots ∷ n.gate.copy ∷ n.gate.tickets ∷ rows n, (n.links, (n.store, n.table))))
     (λ t. record {
       number = nth t.0 0;
       log = nth t.0 1;
       family = nth t.0 2;
       slots = nth t.0 3;
-      size = nth t.0 4;
-      pass_keys = nth t.0 5;
-      number_keys = nth t.0 6;
-      slot_keys = nth t.0 7;
-      head_keys = nth t.0 8;
-      link_keys = nth t.0 9;
-      count_keys = nth t.0 10;
-      block_keys = nth t.0 11;
-      field_keys = nth t.0 12;
-      total_keys = nth t.0 13;
-      gate = t.1.0;
-      links = t.1.1.0;
-      store = t.1.1.1.0;
-      table = t.1.1.1.1;
+      gate = record { copy = nth t.0 4; tickets = nth t.0 5 };
+      pass_keys = nth t.0 6;
+      number_keys = nth t.0 7;
+      slot_keys = nth t.0 8;
+      head_keys = nth t.0 9;
+      link_keys = nth t.0 10;
+      count_keys = nth t.0 11;
+      block_keys = nth t.0 12;
+      field_keys = nth t.0 13;
+      total_keys = nth t.0 14;
+      links = t.1.0;
+      store = t.1.1.0;
+      table = t.1.1.1;
     })
     (λ _. refl)
 
@@ -171,7 +136,7 @@ abbrev pub over : List ℕ → Fml
 over [] = ftrue
 over (a ∷ lives) = fsep (fdead (a ∷ [])) (over lives)
 
--- what is given out at the gate `turns` has a ticket each, which it can't be without
+-- each pass that was lent has a ticket, which it can't be without
 abbrev pub tickets : ℕ → List ℕ → Fml
 tickets κ [] = ftrue
 tickets κ (k ∷ ks) = fsep (ticket κ k) (tickets κ ks)
@@ -186,93 +151,64 @@ left_of_all κ out t = fsep (tickets κ t.1) (fsep (tickets_from κ t.0) (fact (
 abbrev pub all_but : ℕ → ℕ → Fml
 all_but κ out = fex (ℕ × List ℕ) (left_of_all κ out)
 
--- in turns: the book's share of the copy of the list, and all tickets, while none is out and the gate is shut; or the whole copy
-abbrev pub turned : ℕ → ℕ → List Entry → Bool → Fml
-turned η κ log true = fsep (latest (logs entry_coded) quarter η log) (all_but κ 0)
-turned η κ log false = latest (logs entry_coded) full_share η log
+-- the book's share of the copy of the list, and all tickets, while none is out and the gate is shut; or the whole copy
+abbrev pub turned : Gate → List Entry → Bool → Fml
+turned g log true = fsep (latest (logs entry_coded) quarter g.copy log) (all_but g.tickets 0)
+turned g log false = latest (logs entry_coded) full_share g.copy log
 
--- where one pass is alone: the book's share of its copy of the list, and the pass's
 abbrev pub gate_keeps : Gate → List Entry → Fml
-gate_keeps many log = ftrue
-gate_keeps (sole η) log = latest (logs entry_coded) quarter η log
-gate_keeps (turns η κ) log = fex Bool (turned η κ log)
+gate_keeps g log = fex Bool (turned g log)
 
 abbrev pub gate_gives : Gate → ℕ → List Entry → Fml
-gate_gives many p seen = ftrue
-gate_gives (sole η) p seen = latest (logs entry_coded) three_quarters η seen
-gate_gives (turns η κ) zero seen = latest (logs entry_coded) three_quarters η seen
-gate_gives (turns η κ) (suc p) seen = one_out κ
+gate_gives g zero seen = latest (logs entry_coded) three_quarters g.copy seen
+gate_gives g (suc p) seen = one_out g.tickets
 
 -- of these a ticket is lent
 abbrev pub gate_lends : Gate → Lft → ℕ → List Entry → Fml
-gate_lends many κ p seen = ftrue
-gate_lends (sole η) κ p seen = latest (logs entry_coded) three_quarters η seen
-gate_lends (turns η δ) κ zero seen = latest (logs entry_coded) three_quarters η seen
-gate_lends (turns η δ) κ (suc p) seen = fbor κ (one_out δ)
+gate_lends g κ zero seen = latest (logs entry_coded) three_quarters g.copy seen
+gate_lends g κ (suc p) seen = fbor κ (one_out g.tickets)
 
 -- what a porter has: while so many passes are out, the other tickets; or, at home, what the first pass has, and no pass is out
 abbrev pub gate_leaves : Gate → Bool → ℕ → List Entry → Fml
-gate_leaves many home out seen = fact ⊥
-gate_leaves (sole η) home out seen = fact ⊥
-gate_leaves (turns η κ) true out seen = fsep (latest (logs entry_coded) three_quarters η seen) (fact (out ≡ 0))
-gate_leaves (turns η κ) false out seen = all_but κ out
+gate_leaves g true out seen = fsep (latest (logs entry_coded) three_quarters g.copy seen) (fact (out ≡ 0))
+gate_leaves g false out seen = all_but g.tickets out
 
 -- a number leads to one label and one content for good, since a chunk of a store keeps its header and its content
-abbrev pub leads_in : Option (List ℕ) → ℕ → ℕ × ℕ → Fml
-leads_in Option.None b t = ftrue
-leads_in (Option.Some store) b t = tells store b t
-
 -- what the chunk of a value's block says
-abbrev pub told_of : Name → ℕ → ℕ × ℕ
-told_of n v = (chunk_label n (home_of v) (cell_of v), place_of v)
+abbrev pub chunk_tag : Name → ℕ → ℕ × ℕ
+chunk_tag n v = (chunk_label n (home_of v) (cell_of v), place_of v)
 
 abbrev pub leads : Name → ℕ → Fml
-leads n v = leads_in n.store (block_of v) (told_of n v)
+leads n v = tells n.store (block_number v) (chunk_tag n v)
 
 abbrev pub all_lead : Name → List ℕ → Fml
 all_lead n [] = ftrue
 all_lead n (v ∷ vs) = fsep (leads n v) (all_lead n vs)
 
--- where the blocks of the book lie in a store, something is lent with the value
-abbrev pub IsLentIn : Name → ℕ → Type 0
-IsLentIn n v = (n.store ≡ None) ⊎ (¬ (CarriesNone v))
-
-abbrev pub AllLentIn : Name → List ℕ → Type 0
-AllLentIn n vs = (v : ℕ) → has v vs ≡ true → IsLentIn n v
-
 -- an entry of a table has one label for good, since it is filled once
-
-abbrev pub lies_in : Option (List ℕ) → ℕ → ℕ → Fml
-lies_in Option.None s label = ftrue
-lies_in (Option.Some table) s label = filled_at table s label
-
 abbrev pub lies : Name → ℕ → Fml
-lies n s = lies_in n.table s (label_at n s)
+lies n s = filled_at n.table s (label_at n s)
 
 abbrev pub slot_labels : Name → ℕ → List ℕ
 slot_labels n m = map (label_at n) (range_with_len 0 m)
 
-abbrev pub all_lie_in : Option (List ℕ) → List ℕ → Fml
-all_lie_in Option.None labels = ftrue
-all_lie_in (Option.Some table) labels = all_filled table labels
-
 abbrev pub all_lie : Name → ℕ → Fml
-all_lie n m = all_lie_in n.table (slot_labels n m)
+all_lie n m = all_filled n.table (slot_labels n m)
 
-abbrev pub found : Name → State → Fml
-found n st = fsep (all_lead n st.named) (fsep (all_lie n (length st.slots)) (fact (AllLentIn n st.named)))
+abbrev pub places_known : Name → State → Fml
+places_known n st = fsep (all_lead n st.named) (fsep (all_lie n (length st.slots)) (fact (AllCarryOne st.named)))
 
 -- what the invariant holds beside the list and the keys: each activation that has ended is over; the gate; and where all is found that was
 -- ever named or made
 abbrev pub beside : Name → List Entry → Fml
-beside n log = fsep (over (ended log)) (fsep (gate_keeps n.gate log) (found n (after (start n) log)))
+beside n log = fsep (over (ended log)) (fsep (gate_keeps n.gate log) (places_known n (after (start n) log)))
 
 abbrev pub inside : Name → Fml
 inside n = contents entry_coded (rules (start n)) (beside n) n.log (rows n)
 
 -- it lasts for good, and may be had twice; and the links of the opening are distinct
 abbrev pub knows : Name → Fml
-knows n = fsep (fnamed n.number (inside n)) (fsep (called n) (fact (are_distinct (linked n.links) ≡ true)))
+knows n = fsep (fnamed n.number (inside n)) (fsep (called n) (fact (are_distinct (linked_values n.links) ≡ true)))
 
 abbrev pub key : Name → ℕ → ℕ → List Entry → Fml
 key n r k own = right entry_coded (rows n) r k own
@@ -305,7 +241,7 @@ porter_at n home out seen own = stands n 0 seen (gate_leaves n.gate home out see
 abbrev pub porter_owns : Name → Bool → ℕ → List Entry → Fml
 porter_owns n home out seen = fsep (knows n) (fex (List Entry) (porter_at n home out seen))
 
-abbrev pub rights_own : Name → List (Held Entry) → Fml
+abbrev pub rights_own : Name → List (HeldKey Entry) → Fml
 rights_own n held = rights entry_coded (rows n) held
 
 -- with the key of a block's values goes where the number leads of the value that it is labelled with, and what is lent with that
@@ -314,7 +250,7 @@ way_if true n v = fsep (leads n v) (loan (start n) n.log v)
 way_if false n v = ftrue
 
 -- and with that of a slot that is labelled 1 goes that its head lies in the table
-abbrev pub is_placed : Held Entry → Bool
+abbrev pub is_placed : HeldKey Entry → Bool
 is_placed h = (h.kind == slots) && (h.label == 1)
 
 abbrev pub lies_if : Bool → Name → ℕ → Fml
@@ -322,41 +258,37 @@ lies_if true n s = lies n s
 lies_if false n s = ftrue
 
 -- what its holder notes, in a cell of its chunk
-abbrev pub note_in : Option (List ℕ) → ℕ → Gv → Fml
-note_in Option.None c g = ftrue
-note_in (Option.Some store) c g = cell_token c g
+abbrev pub note_at : ℕ → Gv → Fml
+note_at v g = cell_token (cell_of v) g
 
-abbrev pub noted : Name → ℕ → Gv → Fml
-noted n v g = note_in n.store (cell_of v) g
+abbrev pub note_if : Bool → ℕ → Gv → Fml
+note_if true v g = note_at v g
+note_if false v g = ftrue
 
-abbrev pub note_if : Bool → Name → ℕ → Gv → Fml
-note_if true n v g = noted n v g
-note_if false n v g = ftrue
+abbrev pub key_note : HeldKey Entry → Fml
+key_note h = note_if (h.kind == blocks) h.label h.note
 
-abbrev pub note : Name → Held Entry → Fml
-note n h = note_if (h.kind == blocks) n h.label h.note
+abbrev pub notes_own : List (HeldKey Entry) → Fml
+notes_own [] = ftrue
+notes_own (h ∷ held) = fsep (key_note h) (notes_own held)
 
-abbrev pub notes_own : Name → List (Held Entry) → Fml
-notes_own n [] = ftrue
-notes_own n (h ∷ held) = fsep (note n h) (notes_own n held)
+abbrev pub way : Name → HeldKey Entry → Fml
+way n h = fsep (way_if (h.kind == blocks) n h.label) (fsep (lies_if (is_placed h) n h.key) (key_note h))
 
-abbrev pub way : Name → Held Entry → Fml
-way n h = fsep (way_if (h.kind == blocks) n h.label) (fsep (lies_if (is_placed h) n h.key) (note n h))
-
-abbrev pub one_key : Name → Held Entry → Fml
+abbrev pub one_key : Name → HeldKey Entry → Fml
 one_key n h = fsep (key n h.kind h.key h.own) (way n h)
 
-abbrev pub keys_own : Name → List (Held Entry) → Fml
+abbrev pub keys_own : Name → List (HeldKey Entry) → Fml
 keys_own n [] = ftrue
 keys_own n (h ∷ held) = fsep (one_key n h) (keys_own n held)
 
 -- the key of a block, but for the note
-abbrev pub opened_own : Name → List (Held Entry) → Fml
+abbrev pub opened_own : Name → List (HeldKey Entry) → Fml
 opened_own n [] = ftrue
 opened_own n (h ∷ []) = fsep (key n h.kind h.key h.own) (fsep (leads n h.label) (loan (start n) n.log h.label))
 opened_own n (h ∷ g ∷ held) = ffalse
 
-abbrev pub held_coded : Coded (Held Entry)
+abbrev pub held_coded : Coded (HeldKey Entry)
 held_coded =
     code_by (ℕ × (ℕ × (ℕ × (Gv × List Entry)))) (coded× coded_ℕ (coded× coded_ℕ (coded× coded_ℕ (coded× itself (coded_list entry_coded)))))
     (λ h. (h.kind, (h.key, (h.label, (h.note, h.own)))))
@@ -364,7 +296,7 @@ held_coded =
 
 -- Entry e was added with pass p. It took the machine to this state, with this answer, and this state is where all that the pass has seen
 -- leads. Nothing had been made with the pass since it had seen its beginning, and where it is alone nothing at all had been added. With
--- each value that was named something is lent, if the blocks of the book lie in a store. The links of the book's opening are distinct, so
+-- each value that was named something is lent. The links of the book's opening are distinct, so
 -- that the laws hold of its list.
 pub record Noted (n : Name) (p : ℕ) (seen seen' : List Entry) (e : Entry) : Type 0 where
   pub before : List Entry
@@ -378,6 +310,6 @@ pub record Noted (n : Name) (p : ℕ) (seen seen' : List Entry) (e : Entry) : Ty
   pub does : Does (start n) before e (later, answer)
   pub leads : after (start n) seen' ≡ later
   pub made : mine (start n) p seen' ≡ mine (start n) p seen ++ (e, answer) ∷ []
-  pub alone : IsSole n.gate p → before ≡ seen
-  pub lent : AllLentIn n later.named
-  pub distinct : are_distinct (linked n.links) ≡ true
+  pub alone : IsSole p → before ≡ seen
+  pub lent : AllCarryOne later.named
+  pub distinct : are_distinct (linked_values n.links) ≡ true

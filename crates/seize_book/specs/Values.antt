@@ -1,7 +1,7 @@
 -- The words in which the contracts of values' keys speak.
 --     values_of keys                 the values whose keys they are, in order;  book_in keys     their book
 --     AreOfBook keys pass            they are of the pass's book
---     IsEmpty keys pass, IsOfBook value keys     there are none, of the pass's book;  the value's key is of the same book
+--     IsEmpty keys pass, IsOfSameBook value keys     there are none, of the pass's book;  the value's key is of the same book
 --     IsKeyOfOne value keys          it is the value's alone
 --     Pushes keys value keys'        the value's key comes last
 --     LeadsTo keys value, LeadsOn keys other    the last key leads on to this one, or to the first of the others
@@ -12,7 +12,7 @@
 --     AreStill keys keys'            they are the same, and know what they knew
 --     LieApart values                no two of them lie in one block
 --     AllNew n held, AreNew keys     each of the values was never named, and all that lay in its block before were reclaimed, as its key
---                                    knows; and something is lent with it, if the blocks of the book lie in a store
+--                                    knows; and something is lent with it
 --     Keep keys pass' keys'          they are the same keys, and know all that the pass has seen
 --     AreSpent keys pass             each value was named, and no call may begin to retire it, as the pass has seen
 --     AreLast keys pass              all others that lay in the blocks of these values were reclaimed, as the pass has seen
@@ -22,10 +22,11 @@ use Rattle.seize_machine.specs.Machine.State.{are_distinct, has}
 use Rattle.seize_book.specs.Book.{after}
 use Rattle.seize_book.specs.Entry.{Entry}
 use Rattle.seize_book.specs.Homes.{IsVacant, home_of}
-use Rattle.seize_book.specs.Ledger.{Held, renewed}
+use Rattle.seize_book.specs.Ledger.{HeldKey, renewed}
 use Rattle.seize_book.specs.Linked.{are_joined}
 use Rattle.seize_book.specs.Others.{IsLastIn, IsSpent, book_of, value_of}
-use Rattle.seize_book.specs.Tokens.{Name, start, IsLentIn}
+use Rattle.seize_book.specs.Loans.{CarriesOne}
+use Rattle.seize_book.specs.Tokens.{Name, start}
 use Rattle.seize_book.specs.Private.{labels_of}
 use Rattle.seize_book.specs.declared.book.pass.Pass.{Pass}
 use Rattle.seize_book.specs.declared.book.value_key.ValueKey.{ValueKey}
@@ -43,8 +44,8 @@ AreOfBook values pass = book_in values ≡ pass.name
 abbrev pub IsEmpty : ValueKeys → Pass → Type 0
 IsEmpty keys pass = (book_in keys ≡ pass.name) × (keys.keys.held ≡ [])
 
-abbrev pub IsOfBook : ValueKey → ValueKeys → Type 0
-IsOfBook value keys = book_of value ≡ book_in keys
+abbrev pub IsOfSameBook : ValueKey → ValueKeys → Type 0
+IsOfSameBook value keys = book_of value ≡ book_in keys
 
 abbrev pub IsKeyOfOne : ValueKey → ValueKeys → Type 0
 IsKeyOfOne value keys = (keys.keys ≡ value.keys) × (values_of keys ≡ value_of value ∷ [])
@@ -54,16 +55,16 @@ Pushes keys value keys' =
     (book_in keys' ≡ book_in keys) × (values_of keys' ≡ values_of keys ++ value_of value ∷ [])
     × (keys'.keys.held ≡ keys.keys.held ++ value.keys.held)
 
--- what is noted of the last one's block says the number of this block, where their blocks lie in a store
+-- what is noted of the last one's block says the number of this block
 abbrev pub LeadsTo : ValueKeys → ValueKey → Type 0
-LeadsTo keys value = are_joined (book_in keys).store keys.keys.held value.keys.held ≡ true
+LeadsTo keys value = are_joined keys.keys.held value.keys.held ≡ true
 
 abbrev pub LeadsOn : ValueKeys → ValueKeys → Type 0
-LeadsOn keys other = are_joined (book_in keys).store keys.keys.held other.keys.held ≡ true
+LeadsOn keys other = are_joined keys.keys.held other.keys.held ≡ true
 
 -- what is noted of the last one's block says that none comes after it
 abbrev pub AreClosed : ValueKeys → Type 0
-AreClosed keys = are_joined (book_in keys).store keys.keys.held [] ≡ true
+AreClosed keys = are_joined keys.keys.held [] ≡ true
 
 abbrev pub Appends : ValueKeys → ValueKeys → ValueKeys → ValueKeys → Type 0
 Appends keys other keys' other' =
@@ -87,10 +88,10 @@ Pops keys value keys' =
     × (keys.keys.held ≡ keys'.keys.held ++ value.keys.held)
 
 -- as each key knows, of its own value
-abbrev pub AllNew : Name → List (Held Entry) → Type 0
+abbrev pub AllNew : Name → List (HeldKey Entry) → Type 0
 AllNew n [] = Unit {0}
 AllNew n (h ∷ held) =
-    ((has h.label (after (start n) h.own).named ≡ false) × IsVacant (after (start n) h.own) (home_of h.label) × IsLentIn n h.label)
+    ((has h.label (after (start n) h.own).named ≡ false) × IsVacant (after (start n) h.own) (home_of h.label) × CarriesOne h.label)
     × AllNew n held
 
 abbrev pub AreNew : ValueKeys → Type 0

@@ -1,12 +1,11 @@
 //! The book: one list of entries, which all threads share, and the rights to add to it. Nothing here has bytes.
 //!
-//! An entry is an event of the machine, or a use of a field of a block, which is none. A `Book` shows that there is one list, and begins
-//! it. A `Pass` has seen a beginning of the list, and its holder adds entries under its id. A key lets its holder make the entries of what
-//! it is the key of, and know what the list says of it, whatever others add: a `SlotKey` those of a slot. An entry by a step on a word is
-//! added in that very step; a private event, which no word shows, by a call that does nothing else.
+//! An entry is an event of the machine, or a use of a field of a block, which is none. `Unopened` begins the list, and a `Book` shows that
+//! there is one. A `Pass` has seen a beginning of it, and its holder adds entries under its id. A key lets its holder make the entries of
+//! what it is the key of, and know what the list says of it, whatever others add: a `SlotKey` those of a slot. An entry by a step on a
+//! word is added in that very step; a private event, which no word shows, by a call that does nothing else.
 
 mod bare_key;
-mod block_keys;
 mod book_keys;
 mod chunk_keys;
 mod count_key;
@@ -28,7 +27,6 @@ mod value_key;
 mod value_keys;
 
 pub use bare_key::BareKey;
-pub use block_keys::BlockKeys;
 pub use book_keys::BookKeys;
 pub use chunk_keys::ChunkKeys;
 pub use count_key::CountKey;

@@ -8,8 +8,8 @@ use Rattle.seize_machine.specs.Machine.History.{done_by}
 use Rattle.seize_machine.specs.declared.machine.event.Answer.{Answer}
 use Rattle.seize_machine.specs.declared.machine.event.Answer.TheVariants.{Done}
 use Rattle.seize_book.specs.Book.{after, answered, mine}
-use Rattle.seize_book.specs.Entry.{Deed, Entry, Made, Used, deeds, maker, timed}
-use Rattle.seize_book.specs.Passes.{IsSame, LooksOn, events_by, events_in, mine_of}
+use Rattle.seize_book.specs.Entry.{Deed, Entry, Made, Used, deeds, maker, timed_deed}
+use Rattle.seize_book.specs.Passes.{IsSamePass, LooksOn, events_by, events_in, mine_of}
 use Rattle.seize_book.specs.Tokens.{IsSole, Name, Noted, start}
 use Rattle.seize_book.specs.declared.book.pass.Pass.{Pass}
 use Rattle.seize_book.proofs.Facts.{deeds_append}
@@ -28,9 +28,9 @@ all_append : (p : ℕ) (a b : List Entry) → AllBy p a → AllBy p b → AllBy 
 all_append p [] b one two = two
 all_append p (e ∷ a) b one two = (one.0, all_append p a b one.1 two)
 
-pub alone_twice : (one two three : Pass) → IsSame one two → AddsAlone one two → AddsAlone two three → AddsAlone one three
+pub alone_twice : (one two three : Pass) → IsSamePass one two → AddsAlone one two → AddsAlone two three → AddsAlone one three
 alone_twice one two three same first second = λ sole.
-    let a = first sole in let b = second (subst (λ (t : Name × ℕ). IsSole t.0.gate t.1) (λ j. (sym same.0 j, sym same.1 j)) sole) in (
+    let a = first sole in let b = second (subst IsSole (sym same.1) sole) in (
       a.0 ++ b.0,
       b.1 ∙ ap (λ (log : List Entry). log ++ b.0) a.1 ∙ append_assoc one.seen a.0 b.0,
       all_append one.id a.0 b.0 a.2 (subst (λ (p : ℕ). AllBy p b.0) same.1 b.2),
@@ -40,7 +40,7 @@ alone_twice one two three same first second = λ sole.
 
 answered_append : (st : State) (a b : List Entry) → answered st (a ++ b) ≡ answered st a ++ answered (after st a) b
 answered_append st [] b = refl
-answered_append st (Made d ∷ a) b = ap (λ (more : List (Entry × Answer)). (Made d, (done_by next st (timed d)).1) ∷ more) (answered_append (done_by next st (timed d)).0 a b)
+answered_append st (Made d ∷ a) b = ap (λ (more : List (Entry × Answer)). (Made d, (done_by next st (timed_deed d)).1) ∷ more) (answered_append (done_by next st (timed_deed d)).0 a b)
 answered_append st (Used u ∷ a) b = ap (λ (more : List (Entry × Answer)). (Used u, Done) ∷ more) (answered_append st a b)
 
 same_number : (a b : ℕ) → a ≡ b → (a == b) ≡ true
@@ -49,9 +49,9 @@ same_number a b e = grind arith
 all_mine : (st : State) (p : ℕ) (log : List Entry) → AllBy p log → filter (λ a. maker a.0 == p) (answered st log) ≡ answered st log
 all_mine st p [] all = refl
 all_mine st p (Made d ∷ log) all =
-    let st1 = (done_by next st (timed d)).0 in let more = filter (λ a. maker a.0 == p) (answered st1 log) in
-    ap (λ (b : Bool). cond b ((Made d, (done_by next st (timed d)).1) ∷ more) more) (same_number d.pass p all.0)
-    ∙ ap (λ (rest : List (Entry × Answer)). (Made d, (done_by next st (timed d)).1) ∷ rest) (all_mine st1 p log all.1)
+    let st1 = (done_by next st (timed_deed d)).0 in let more = filter (λ a. maker a.0 == p) (answered st1 log) in
+    ap (λ (b : Bool). cond b ((Made d, (done_by next st (timed_deed d)).1) ∷ more) more) (same_number d.pass p all.0)
+    ∙ ap (λ (rest : List (Entry × Answer)). (Made d, (done_by next st (timed_deed d)).1) ∷ rest) (all_mine st1 p log all.1)
 all_mine st p (Used u ∷ log) all =
     let more = filter (λ a. maker a.0 == p) (answered st log) in
     ap (λ (b : Bool). cond b ((Used u, Done) ∷ more) more) (same_number u.pass p all.0) ∙ ap (λ (rest : List (Entry × Answer)). (Used u, Done) ∷ rest) (all_mine st p log all.1)
@@ -63,11 +63,11 @@ events_append ((Used u, answer) ∷ a) b = events_append a b
 
 their_deeds : (st : State) (log : List Entry) → map (λ a. a.0) (events_in (answered st log)) ≡ deeds log
 their_deeds st [] = refl
-their_deeds st (Made d ∷ log) = ap (λ (ds : List Deed). d ∷ ds) (their_deeds (done_by next st (timed d)).0 log)
+their_deeds st (Made d ∷ log) = ap (λ (ds : List Deed). d ∷ ds) (their_deeds (done_by next st (timed_deed d)).0 log)
 their_deeds st (Used u ∷ log) = their_deeds st log
 
 -- and with their answers
-pub made_there : (pass pass' : Pass) (made : List (Deed × Answer)) → IsSame pass pass' → (adds : AddsAlone pass pass') (sole : IsSole pass.name.gate pass.id) → events_by pass' ≡ events_by pass ++ made
+pub made_there : (pass pass' : Pass) (made : List (Deed × Answer)) → IsSamePass pass pass' → (adds : AddsAlone pass pass') (sole : IsSole pass.id) → events_by pass' ≡ events_by pass ++ made
     → events_in (answered (after (start pass.name) pass.seen) (adds sole).0) ≡ made
 made_there pass pass' made same adds sole events =
     append_cancel_left (events_by pass) (events_in (answered st more.0)) made (sym (events_append (mine_of pass) (answered st more.0)) ∙ sym (ap events_in mine_now) ∙ events)
@@ -86,7 +86,7 @@ made_there pass pass' made same adds sole events =
         ∙ filter-append (λ a. maker a.0 == pass.id) (answered (start pass.name) pass.seen) (answered st more.0)
         ∙ ap (λ (log : List (Entry × Answer)). mine_of pass ++ log) (all_mine st pass.id more.0 more.2)
 
-pub made_alone : (pass pass' : Pass) (made : List (Deed × Answer)) → IsSame pass pass' → AddsAlone pass pass' → IsSole pass.name.gate pass.id → events_by pass' ≡ events_by pass ++ made
+pub made_alone : (pass pass' : Pass) (made : List (Deed × Answer)) → IsSamePass pass pass' → AddsAlone pass pass' → IsSole pass.id → events_by pass' ≡ events_by pass ++ made
     → deeds pass'.seen ≡ deeds pass.seen ++ map (λ a. a.0) made
 made_alone pass pass' made same adds sole events =
     let more = adds sole in let st = after (start pass.name) pass.seen in

@@ -6,7 +6,7 @@ use base.Growing.{prefix_trans}
 use Rattle.std.proofs.lemmas.List.{get_or-set_same, length_push}
 use Rattle.seize_machine.specs.Machine.State.{Add, Call, Head, Inactive, Mark, Rest, Slot, State, are_distinct, has, is_active, no_slot, slot_at}
 use Rattle.seize_machine.specs.Machine.Event.{AddCount, Detach, Event}
-use Rattle.seize_machine.specs.Machine.History.{first_of}
+use Rattle.seize_machine.specs.Machine.History.{first_or_none}
 use Rattle.seize_machine.specs.Machine.Laws.{detached_by}
 use Rattle.seize_machine.specs.Machine.Next.{detached_on, look, of_call}
 use Rattle.seize_machine.specs.declared.machine.event.Answer.{Answer}
@@ -14,17 +14,17 @@ use Rattle.seize_machine.specs.declared.machine.event.Answer.TheVariants.{Count 
 use Rattle.seize_machine.proofs.Facts.{Step, and_true, eq_true, marking_full, marks_tidy, not_true, some_is, step_of}
 use Rattle.seize_book.specs.Adding.{private}
 use Rattle.seize_book.specs.Batches.{Detaches}
-use Rattle.seize_book.specs.Blocks.{Plan, block_of, marked_at, no_plan, plans, serving}
+use Rattle.seize_book.specs.Blocks.{Plan, block_number, marked_at, no_plan, plans, serving}
 use Rattle.seize_book.specs.Book.{after}
 use Rattle.seize_words.specs.Chunks.{IsHeaderOf}
-use Rattle.seize_words.specs.Counts.{AddsTo, Counts, GivesUp, Leaves, values_in}
+use Rattle.seize_words.specs.Counts.{AddsTo, Counts, GivesUp, LeavesKeys, values_in}
 use Rattle.seize_book.specs.Entry.{Deed, Entry as Logged, Made}
 use Rattle.seize_words.specs.Headers.{IsFrontBlock}
 use Rattle.seize_book.specs.Homesteads.{HasNumber, state_seen}
-use Rattle.seize_book.specs.Ledger.{Held}
+use Rattle.seize_book.specs.Ledger.{HeldKey}
 use Rattle.seize_book.specs.Private.{labels_of}
-use Rattle.seize_book.specs.Passes.{IsSame, LooksOn, events_by}
-use Rattle.seize_book.specs.Slots.{IsOf, Notes, number_of, own_list, size_of, slot_of, start_of}
+use Rattle.seize_book.specs.Passes.{IsSamePass, LooksOn, events_by}
+use Rattle.seize_book.specs.Slots.{IsKeyOfBook, Notes, own_list, slot_number, slot_of, start_of}
 use Rattle.seize_book.specs.Tokens.{Name, start}
 use Rattle.seize_words.specs.Totals.{slots_seen}
 use Rattle.seize_words.specs.Walks.{Knows}
@@ -37,9 +37,9 @@ use Rattle.seize_calls.proofs.Alone.{alone_looked, alone_noted, alone_twice}
 use Rattle.seize_calls.specs.Attempts.{Retires}
 use Rattle.seize_book.specs.Kept.{AreTold, AreToldIn}
 use Rattle.seize_calls.proofs.Batches.{remarked_kepts, remarked_labels}
-use Rattle.seize_calls.specs.Batches.{AreRemarked, Spot, slots_of, spots_of}
+use Rattle.seize_calls.specs.Batches.{AreRemarked, SlotMark, marked_slots, slot_marks_of}
 use Rattle.seize_calls.specs.Inserts.{ArePlanned, InsertedAll, IsInserting, plan_in, turns_at}
-use Rattle.seize_calls.specs.Marks.{BeginsToMark, Ends, actives, readings}
+use Rattle.seize_calls.specs.Marks.{BeginsToMark, EndsMarks, actives, readings}
 use Rattle.seize_calls.specs.Numbered.{starts_at}
 use Rattle.seize_calls.specs.declared.marking.Marked.TheVariants.{Ready, TooMany}
 use Rattle.seize_calls.proofs.Inserts.{detached_look}
@@ -64,15 +64,15 @@ actives_below n (true ∷ finds) = (omega arith, more_below (suc n + length find
 actives_below n (false ∷ finds) = more_below (suc n + length finds) (n + suc (length finds)) (actives (suc n) finds) (omega arith) (actives_below (suc n) finds)
 
 abbrev Keys : Type 0
-Keys = List (Held Logged)
+Keys = List (HeldKey Logged)
 
 -- these are the blocks of the first of these values
-abbrev pub AreFirst : List Spot → List ℕ → Type 0
+abbrev pub AreFirst : List SlotMark → List ℕ → Type 0
 AreFirst [] values = Unit {0}
 AreFirst (spot ∷ spots) [] = ⊥
-AreFirst (spot ∷ spots) (v ∷ values) = (spot.block ≡ block_of v) × AreFirst spots values
+AreFirst (spot ∷ spots) (v ∷ values) = (spot.block ≡ block_number v) × AreFirst spots values
 
-pub are_first : (held : Keys) (k : ℕ) → AreFirst (take k (spots_of held)) (labels_of held)
+pub are_first : (held : Keys) (k : ℕ) → AreFirst (take k (slot_marks_of held)) (labels_of held)
 are_first [] zero = tt
 are_first [] (suc k) = tt
 are_first (h ∷ held) zero = tt
@@ -82,36 +82,36 @@ both_false : (a b : Bool) → (a || b) ≡ false → (a ≡ false) × (b ≡ fal
 both_false false b e = (refl, e)
 both_false true b e = absurd (cc)
 
-planned_later : (k v seen : ℕ) (slots values : List ℕ) (spots : List Spot) → has k (slots_of spots) ≡ false → ArePlanned (record { slots = slots; values = values }) seen spots
+planned_later : (k v seen : ℕ) (slots values : List ℕ) (spots : List SlotMark) → has k (marked_slots spots) ≡ false → ArePlanned (record { slots = slots; values = values }) seen spots
     → ArePlanned (record { slots = k ∷ slots; values = v ∷ values }) seen spots
 planned_later k v seen slots values [] none are = tt
 planned_later k v seen slots values (spot ∷ spots) none are =
-    let other = both_false (spot.slot == k) (has k (slots_of spots)) none in
+    let other = both_false (spot.slot == k) (has k (marked_slots spots)) none in
     let apart : (k == spot.slot) ≡ false = turned k spot.slot other.0 in
-    ((are.0.0 ∙ ap (λ (b : Bool). block_of (if b then v else serving spot.slot slots values)) (sym apart), are.0.1), planned_later k v seen slots values spots other.1 are.1)
+    ((are.0.0 ∙ ap (λ (b : Bool). block_number (if b then v else serving spot.slot slots values)) (sym apart), are.0.1), planned_later k v seen slots values spots other.1 are.1)
   where
     turned : (a b : ℕ) → (b == a) ≡ false → (a == b) ≡ false
     turned a b e = grind arith
 
-pub planned_all : (spots : List Spot) (values : List ℕ) (seen : ℕ) → AreFirst spots values → are_distinct (slots_of spots) ≡ true → AllBelow seen (slots_of spots)
-    → ArePlanned (record { slots = slots_of spots; values = values }) seen spots
+pub planned_all : (spots : List SlotMark) (values : List ℕ) (seen : ℕ) → AreFirst spots values → are_distinct (marked_slots spots) ≡ true → AllBelow seen (marked_slots spots)
+    → ArePlanned (record { slots = marked_slots spots; values = values }) seen spots
 planned_all [] values seen are distinct below = tt
 planned_all (spot ∷ spots) [] seen are distinct below = absurd are
 planned_all (spot ∷ spots) (v ∷ values) seen are distinct below =
-    let parts = and_true (not (has spot.slot (slots_of spots))) (are_distinct (slots_of spots)) distinct in (
-      (are.0 ∙ ap (λ (b : Bool). block_of (if b then v else serving spot.slot (slots_of spots) values)) (sym (itself spot.slot)), below.0),
-      planned_later spot.slot v seen (slots_of spots) values spots (not_true _ parts.0) (planned_all spots values seen are.1 parts.1 below.1),
+    let parts = and_true (not (has spot.slot (marked_slots spots))) (are_distinct (marked_slots spots)) distinct in (
+      (are.0 ∙ ap (λ (b : Bool). block_number (if b then v else serving spot.slot (marked_slots spots) values)) (sym (itself spot.slot)), below.0),
+      planned_later spot.slot v seen (marked_slots spots) values spots (not_true _ parts.0) (planned_all spots values seen are.1 parts.1 below.1),
     )
   where
     itself : (n : ℕ) → (n == n) ≡ true
     itself n = grind arith
 
 -- the number of the batch's first block
-pub first_block : (n : ℕ) (values : List ℕ) → starts_at n values ≡ true → 1 ≤ length values → (v : ℕ) × (first_of values ≡ Some v) × (n ≡ block_of v)
+pub first_block : (n : ℕ) (values : List ℕ) → starts_at n values ≡ true → 1 ≤ length values → (v : ℕ) × (first_or_none values ≡ Some v) × (n ≡ block_number v)
 first_block n [] starts full = absurd (omega (arith, full))
-first_block n (v ∷ values) starts full = (v, refl, eq_true n (block_of v) starts)
+first_block n (v ∷ values) starts full = (v, refl, eq_true n (block_number v) starts)
 
-first_in : (values : List ℕ) (v : ℕ) → first_of values ≡ Some v → Contains values v
+first_in : (values : List ℕ) (v : ℕ) → first_or_none values ≡ Some v → Contains values v
 first_in [] v e = absurd (let none : Option.None ≡ Some v = e in cc)
 first_in (x ∷ values) v e = (zero, omega arith, ap (λ (o : Option ℕ). unwrap_or o 0) e)
 
@@ -145,26 +145,26 @@ after_add size st _ d (Step.added s b won queue _ stands is) =
     )
 
 -- The batch is detached.
-module _ (key0 : SlotKey) (at : BeginsToMark key0) (pass0 : Pass) (key : SlotKey) (pass : Pass) (held : Keys) (front marked : ℕ) (ends : Ends at pass0 key pass (spots_of held) (Ready marked)) (book : IsOf key pass) (knows : Knows key pass)
-    (same : IsSame pass0 pass) (its : (key.keys.name ≡ key0.keys.name) × (number_of key ≡ number_of key0)) (are : labels_of held ≡ (slot_of key0).batch) (starts : starts_at front (labels_of held) ≡ true) where
+module _ (key0 : SlotKey) (at : BeginsToMark key0) (pass0 : Pass) (key : SlotKey) (pass : Pass) (held : Keys) (front marked : ℕ) (ends : EndsMarks at pass0 key pass (slot_marks_of held) (Ready marked)) (book : IsKeyOfBook key pass) (knows : Knows key pass)
+    (same : IsSamePass pass0 pass) (its : (key.keys.name ≡ key0.keys.name) × (slot_number key ≡ slot_number key0)) (are : labels_of held ≡ (slot_of key0).batch) (starts : starts_at front (labels_of held) ≡ true) where
   abbrev marks : List ℕ
   marks = actives 0 ends.finds
 
   abbrev batch : List ℕ
   batch = (slot_of key0).batch
 
-  abbrev first : List Spot
-  first = take marked (spots_of held)
+  abbrev first : List SlotMark
+  first = take marked (slot_marks_of held)
 
   pub full : 1 ≤ length batch
   full =
-      let some = marking_full (after (start_of key) (own_list key)) (number_of key) (length ends.finds) at.note marks at.queue (own_reached key pass book knows) ends.stands.1 in
+      let some = marking_full (after (start_of key) (own_list key)) (slot_number key) (length ends.finds) at.note marks at.queue (own_reached key pass book knows) ends.stands.1 in
       subst (λ (vs : List ℕ). 1 ≤ length vs) ends.batch some
 
   pub distinct : are_distinct marks ≡ true
-  distinct = (marks_tidy (after (start_of key) (own_list key)) (number_of key) (length ends.finds) at.note marks at.queue (own_reached key pass book knows) ends.stands.1).0
+  distinct = (marks_tidy (after (start_of key) (own_list key)) (slot_number key) (length ends.finds) at.note marks at.queue (own_reached key pass book knows) ends.stands.1).0
 
-  module _ (key1 : SlotKey) (pass1 : Pass) (notes : Notes key pass key1 pass1 (Detach (number_of key))) (detaches : Detaches key pass1) where
+  module _ (key1 : SlotKey) (pass1 : Pass) (notes : Notes key pass key1 pass1 (Detach (slot_number key))) (detaches : Detaches key pass1) where
     abbrev st : State
     st = after (start_of key) notes.2.0.before
 
@@ -174,10 +174,10 @@ module _ (key0 : SlotKey) (at : BeginsToMark key0) (pass0 : Pass) (key : SlotKey
     abbrev b : ℕ
     b = detaches.0
 
-    pub done : ((slot_at d.0 (number_of key)).call ≡ Some (record { place = look (length st.batches) 0 marks; queue = at.queue })) × ((slot_at d.0 (number_of key)).batch ≡ [])
-        × ((slot_at d.0 (number_of key)).used ≡ (slot_at st (number_of key)).used) × (d.0.heads ≡ st.heads) × (length d.0.batches ≡ length st.batches + 1) × (d.1 ≡ Done)
+    pub done : ((slot_at d.0 (slot_number key)).call ≡ Some (record { place = look (length st.batches) 0 marks; queue = at.queue })) × ((slot_at d.0 (slot_number key)).batch ≡ [])
+        × ((slot_at d.0 (slot_number key)).used ≡ (slot_at st (slot_number key)).used) × (d.0.heads ≡ st.heads) × (length d.0.batches ≡ length st.batches + 1) × (d.1 ≡ Done)
     done =
-        after_detach (size_of key) st (number_of key) d (length ends.finds) at.note marks at.queue (step_of (size_of key) st (Detach (number_of key)) d notes.2.1.legal)
+        after_detach pass.size st (slot_number key) d (length ends.finds) at.note marks at.queue (step_of pass.size st (Detach (slot_number key)) d notes.2.1.legal)
         (ap (λ (z : Slot). z.call) notes.2.1.was ∙ ends.stands.1)
 
     pub is_newest : length st.batches ≡ b
@@ -197,17 +197,17 @@ module _ (key0 : SlotKey) (at : BeginsToMark key0) (pass0 : Pass) (key : SlotKey
         subst (λ (z : Name). slots_seen pass ≤ length (after (start z) pass1.seen).slots) (sym notes.0.0)
         (more_slots pass.name pass.seen pass1.seen (seen_grows pass.name pass.id pass.seen pass1.seen _ notes.2.0) notes.2.0.legal)
 
-    pub same_one : IsSame pass0 pass1
-    same_one = (notes.0.0 ∙ same.0, notes.0.1 ∙ same.1)
+    pub same_one : IsSamePass pass0 pass1
+    same_one = (notes.0.0 ∙ same.0, notes.0.1 ∙ same.1, notes.0.2 ∙ same.2)
 
-    pub its_one : (key1.keys.name ≡ key0.keys.name) × (number_of key1 ≡ number_of key0)
+    pub its_one : (key1.keys.name ≡ key0.keys.name) × (slot_number key1 ≡ slot_number key0)
     its_one = (notes.1.0 ∙ its.0, notes.1.1 ∙ its.1)
 
-    pub book_one : IsOf key1 pass1
+    pub book_one : IsKeyOfBook key1 pass1
     book_one = notes.1.0 ∙ book ∙ sym notes.0.0
 
     pub front_one : IsFrontBlock key1 b front
-    front_one = let its_first = first_block front batch (subst (λ (vs : List ℕ). starts_at front vs ≡ true) are starts) full in (its_first.0, ap (λ (plan : Plan). first_of plan.values) plan_is ∙ its_first.1, its_first.2)
+    front_one = let its_first = first_block front batch (subst (λ (vs : List ℕ). starts_at front vs ≡ true) are starts) full in (its_first.0, ap (λ (plan : Plan). first_or_none plan.values) plan_is ∙ its_first.1, its_first.2)
 
     abbrev pub inserts : IsInserting key1 pass1 first front
     inserts = record {
@@ -229,11 +229,11 @@ module _ (key0 : SlotKey) (at : BeginsToMark key0) (pass0 : Pass) (key : SlotKey
     its_values a =
         are ∙ ap (λ (plan : Plan). plan.values) (sym plan_is)
         ∙ ap (values_in key1)
-        (some_is b a.batch (sym (detached_look b 0 (slots_of first) at.queue) ∙ ap detached_by (sym inserts.stands ∙ a.stands) ∙ detached_look a.batch a.won (slots_of first) a.queue))
+        (some_is b a.batch (sym (detached_look b 0 (marked_slots first) at.queue) ∙ ap detached_by (sym inserts.stands ∙ a.stands) ∙ detached_look a.batch a.won (marked_slots first) a.queue))
 
     -- The insertions were made.
     module _ (key2 : SlotKey) (pass2 : Pass) (won : ℕ) (all : InsertedAll inserts key2 pass2 won) (knows2 : Knows key2 pass2) where
-      pub book_two : IsOf key2 pass2
+      pub book_two : IsKeyOfBook key2 pass2
       book_two = keeps_book key1 key2 pass1 pass2 all.keeps book_one
 
       abbrev stands_two : (slot_of key2).call ≡ Some (record { place = Add b (0 + won); queue = at.queue })
@@ -243,7 +243,7 @@ module _ (key0 : SlotKey) (at : BeginsToMark key0) (pass0 : Pass) (key : SlotKey
       front_two = front_same key1 key2 b front all.planned front_one
 
       -- the first block is found by its number
-      pub named_two : (pass' : Pass) → IsOf key2 pass' → Knows key2 pass' → has front_two.0 (state_seen pass').named ≡ true
+      pub named_two : (pass' : Pass) → IsKeyOfBook key2 pass' → Knows key2 pass' → has front_two.0 (state_seen pass').named ≡ true
       named_two pass' book' knows' =
           detached_named key2 pass' book' knows' b front_two.0 (ap detached_by stands_two) (first_in (plan_in key2 b).values front_two.0 front_two.1)
 
@@ -251,7 +251,7 @@ module _ (key0 : SlotKey) (at : BeginsToMark key0) (pass0 : Pass) (key : SlotKey
       has_front = (front_two.0, named_two pass2 book_two knows2, sym front_two.2)
 
       module _ (pass3 : Pass) (header : Header) (looks : LooksOn pass2 pass3) (is : IsHeaderOf header front pass3) where
-        pub book_three : IsOf key2 pass3
+        pub book_three : IsKeyOfBook key2 pass3
         book_three = book_two ∙ sym looks.same.0
 
         abbrev pub adds : AddsTo key2 header.count won
@@ -270,61 +270,59 @@ module _ (key0 : SlotKey) (at : BeginsToMark key0) (pass0 : Pass) (key : SlotKey
         -- the list says what is kept of each value, whatever slots were noted
         pub told_three : (before values : ValueKeys) → AreRemarked before values → AreTold before pass0 → AreTold values pass3
         told_three before values remarked told =
-            let store = before.keys.name.store in
-            subst (λ (n : Name). AreToldIn n.store pass3.seen values.keys.held) (sym remarked.0)
-            (alike_told store pass3.seen before.keys.held values.keys.held (sym (remarked_labels values.keys.held before.keys.held remarked.1)) (sym (remarked_kepts values.keys.held before.keys.held remarked.1))
-            (all_told_later store pass0.seen pass3.seen before.keys.held
+            (alike_told pass3.seen before.keys.held values.keys.held (sym (remarked_labels values.keys.held before.keys.held remarked.1)) (sym (remarked_kepts values.keys.held before.keys.held remarked.1))
+            (all_told_later pass0.seen pass3.seen before.keys.held
             (prefix_trans pass0.seen pass.seen pass3.seen ends.grows
             (prefix_trans pass.seen pass1.seen pass3.seen (seen_grows pass.name pass.id pass.seen pass1.seen _ notes.2.0) (prefix_trans pass1.seen pass2.seen pass3.seen all.keeps.grows looks.grows))) told))
 
         -- The insertions were added.
-        module _ (before : ValueKeys) (values : ValueKeys) (remarked : AreRemarked before values) (values' : ValueKeys) (key' : SlotKey) (pass' : Pass) (zero' : Bool) (counts : Counts key2 pass3 key' pass' (AddCount (number_of key2)) zero')
-            (gives : GivesUp key2 key' b [] at.queue zero') (leaves : Leaves values pass' values' zero') where
-          abbrev added : Notes key2 pass3 key' pass' (AddCount (number_of key2))
+        module _ (before : ValueKeys) (values : ValueKeys) (remarked : AreRemarked before values) (values' : ValueKeys) (key' : SlotKey) (pass' : Pass) (zero' : Bool) (counts : Counts key2 pass3 key' pass' (AddCount (slot_number key2)) zero')
+            (gives : GivesUp key2 key' b [] at.queue zero') (leaves : LeavesKeys values pass' values' zero') where
+          abbrev added : Notes key2 pass3 key' pass' (AddCount (slot_number key2))
           added = counts.0
 
           abbrev here : State
           here = after (start_of key2) added.2.0.before
 
-          kept : ((slot_at added.2.0.later (number_of key2)).batch ≡ (slot_at here (number_of key2)).batch) × ((slot_at added.2.0.later (number_of key2)).used ≡ (slot_at here (number_of key2)).used) × (added.2.0.later.heads ≡ here.heads)
-          kept = after_add (size_of key2) here (number_of key2) (added.2.0.later, added.2.0.answer) (step_of (size_of key2) here (AddCount (number_of key2)) (added.2.0.later, added.2.0.answer) added.2.1.legal)
+          kept : ((slot_at added.2.0.later (slot_number key2)).batch ≡ (slot_at here (slot_number key2)).batch) × ((slot_at added.2.0.later (slot_number key2)).used ≡ (slot_at here (slot_number key2)).used) × (added.2.0.later.heads ≡ here.heads)
+          kept = after_add pass3.size here (slot_number key2) (added.2.0.later, added.2.0.answer) (step_of pass3.size here (AddCount (slot_number key2)) (added.2.0.later, added.2.0.answer) added.2.1.legal)
 
           abbrev s : ℕ
-          s = number_of key0
+          s = slot_number key0
 
-          one_deed : (event : ℕ → Event) (key'' : SlotKey) (pass'' : Pass) (answer : Answer) → IsSame pass0 pass'' → number_of key'' ≡ s → answered (private pass'' (event (number_of key''))) answer ≡ answered (private pass0 (event s)) answer
+          one_deed : (event : ℕ → Event) (key'' : SlotKey) (pass'' : Pass) (answer : Answer) → IsSamePass pass0 pass'' → slot_number key'' ≡ s → answered (private pass'' (event (slot_number key''))) answer ≡ answered (private pass0 (event s)) answer
           one_deed event key'' pass'' answer same'' its'' =
-              ap (λ (x : Deed). (x, answer)) (same_private pass0 pass'' same'' (event (number_of key''))) ∙ ap (λ (k : ℕ). (private pass0 (event k), answer)) its''
+              ap (λ (x : Deed). (x, answer)) (same_private pass0 pass'' same'' (event (slot_number key''))) ∙ ap (λ (k : ℕ). (private pass0 (event k), answer)) its''
 
-          same_two : IsSame pass0 pass2
-          same_two = (all.keeps.same.0 ∙ same_one.0, all.keeps.same.1 ∙ same_one.1)
+          same_two : IsSamePass pass0 pass2
+          same_two = (all.keeps.same.0 ∙ same_one.0, all.keeps.same.1 ∙ same_one.1, all.keeps.same.2 ∙ same_one.2)
 
-          same_three : IsSame pass0 pass3
-          same_three = (looks.same.0 ∙ same_two.0, looks.same.1 ∙ same_two.1)
+          same_three : IsSamePass pass0 pass3
+          same_three = (looks.same.0 ∙ same_two.0, looks.same.1 ∙ same_two.1, looks.same.2 ∙ same_two.2)
 
           abbrev events : List (Deed × Answer)
           events = events_by pass0 ++ readings pass0 s 0 ends.finds
 
           made_one : events_by pass1 ≡ events ++ (private pass0 (Detach s), Done) ∷ []
           made_one =
-              events_grew pass pass1 (Detach (number_of key)) notes.0 notes.2.0
-              ∙ ap (λ (log : List (Deed × Answer)). log ++ (private pass (Detach (number_of key)), notes.2.0.answer) ∷ []) ends.made
-              ∙ ap (λ (a : Answer). events ++ (private pass (Detach (number_of key)), a) ∷ []) done.5
+              events_grew pass pass1 (Detach (slot_number key)) notes.0 notes.2.0
+              ∙ ap (λ (log : List (Deed × Answer)). log ++ (private pass (Detach (slot_number key)), notes.2.0.answer) ∷ []) ends.made
+              ∙ ap (λ (a : Answer). events ++ (private pass (Detach (slot_number key)), a) ∷ []) done.5
               ∙ ap (λ (x : Deed × Answer). events ++ x ∷ []) (one_deed Detach key pass Done same its.1)
 
           made_two : events_by pass2 ≡ (events ++ (private pass0 (Detach s), Done) ∷ []) ++ turns_at pass0 s marks all.turns
           made_two =
               all.made
-              ∙ ap (λ (log : List (Deed × Answer)). log ++ turns_at pass1 (number_of key1) (slots_of first) all.turns) made_one
+              ∙ ap (λ (log : List (Deed × Answer)). log ++ turns_at pass1 (slot_number key1) (marked_slots first) all.turns) made_one
               ∙ ap (λ (log : List (Deed × Answer)). (events ++ (private pass0 (Detach s), Done) ∷ []) ++ log)
-              (same_turns pass0 pass1 same_one (number_of key1) (slots_of first) all.turns ∙ ap (λ (k : ℕ). turns_at pass0 k (slots_of first) all.turns) its_one.1
+              (same_turns pass0 pass1 same_one (slot_number key1) (marked_slots first) all.turns ∙ ap (λ (k : ℕ). turns_at pass0 k (marked_slots first) all.turns) its_one.1
               ∙ ap (λ (ms : List ℕ). turns_at pass0 s ms all.turns) ends.stands.3)
 
           made_all : events_by pass' ≡ ((events ++ (private pass0 (Detach s), Done) ∷ []) ++ turns_at pass0 s marks all.turns) ++ (private pass0 (AddCount s), Counted counts.1.0) ∷ []
           made_all =
-              events_grew pass3 pass' (AddCount (number_of key2)) added.0 added.2.0
-              ∙ ap (λ (log : List (Deed × Answer)). log ++ (private pass3 (AddCount (number_of key2)), added.2.0.answer) ∷ []) (looked_same pass2 pass3 looks ∙ made_two)
-              ∙ ap (λ (a : Answer). ((events ++ (private pass0 (Detach s), Done) ∷ []) ++ turns_at pass0 s marks all.turns) ++ (private pass3 (AddCount (number_of key2)), a) ∷ []) counts.1.1
+              events_grew pass3 pass' (AddCount (slot_number key2)) added.0 added.2.0
+              ∙ ap (λ (log : List (Deed × Answer)). log ++ (private pass3 (AddCount (slot_number key2)), added.2.0.answer) ∷ []) (looked_same pass2 pass3 looks ∙ made_two)
+              ∙ ap (λ (a : Answer). ((events ++ (private pass0 (Detach s), Done) ∷ []) ++ turns_at pass0 s marks all.turns) ++ (private pass3 (AddCount (slot_number key2)), a) ∷ []) counts.1.1
               ∙ ap (λ (x : Deed × Answer). ((events ++ (private pass0 (Detach s), Done) ∷ []) ++ turns_at pass0 s marks all.turns) ++ x ∷ [])
               (one_deed AddCount key2 pass3 (Counted counts.1.0) same_three (all.keeps.its.1 ∙ its_one.1))
 
@@ -341,34 +339,34 @@ module _ (key0 : SlotKey) (at : BeginsToMark key0) (pass0 : Pass) (key : SlotKey
                 (prefix_trans pass1.seen pass2.seen pass'.seen all.keeps.grows (prefix_trans pass2.seen pass3.seen pass'.seen looks.grows (seen_grows pass3.name pass3.id pass3.seen pass'.seen _ added.2.0))));
             alone =
                 alone_twice pass0 pass pass' same ends.alone
-                (alone_twice pass pass1 pass' notes.0 (alone_noted pass pass1 (Made (private pass (Detach (number_of key)))) refl notes.2.0)
-                (alone_twice pass1 pass2 pass' all.keeps.same all.keeps.alone (alone_twice pass2 pass3 pass' looks.same (alone_looked pass2 pass3 looks) (alone_noted pass3 pass' (Made (private pass3 (AddCount (number_of key2)))) refl added.2.0))));
+                (alone_twice pass pass1 pass' notes.0 (alone_noted pass pass1 (Made (private pass (Detach (slot_number key)))) refl notes.2.0)
+                (alone_twice pass1 pass2 pass' all.keeps.same all.keeps.alone (alone_twice pass2 pass3 pass' looks.same (alone_looked pass2 pass3 looks) (alone_noted pass3 pass' (Made (private pass3 (AddCount (slot_number key2)))) refl added.2.0))));
             made = made_all;
             batch = ap (λ (z : Slot). z.batch) added.2.1.is ∙ kept.0 ∙ ap (λ (z : Slot). z.batch) added.2.1.was ∙ all.keeps.batch ∙ ap (λ (z : Slot). z.batch) notes.2.1.is ∙ done.1;
             used =
                 ap (λ (z : Slot). z.used) added.2.1.is ∙ kept.1 ∙ ap (λ (z : Slot). z.used) added.2.1.was ∙ all.keeps.used ∙ ap (λ (z : Slot). z.used) notes.2.1.is ∙ done.2 ∙ ap (λ (z : Slot). z.used) notes.2.1.was
                 ∙ ends.used;
             active =
-                added.2.1.is_now_active ∙ ap (λ (hs : List Head). is_active (get_or hs (number_of key2) Inactive)) kept.2 ∙ added.2.1.was_active ∙ all.keeps.active
-                ∙ notes.2.1.is_now_active ∙ ap (λ (hs : List Head). is_active (get_or hs (number_of key) Inactive)) done.3 ∙ notes.2.1.was_active ∙ ends.active;
+                added.2.1.is_now_active ∙ ap (λ (hs : List Head). is_active (get_or hs (slot_number key2) Inactive)) kept.2 ∙ added.2.1.was_active ∙ all.keeps.active
+                ∙ notes.2.1.is_now_active ∙ ap (λ (hs : List Head). is_active (get_or hs (slot_number key) Inactive)) done.3 ∙ notes.2.1.was_active ∙ ends.active;
             life =
-                life_kept key2 key' pass3 pass' (private pass3 (AddCount (number_of key2))) added refl ∙ all.keeps.life ∙ life_kept key key1 pass pass1 (private pass (Detach (number_of key))) notes refl ∙ ends.life;
+                life_kept key2 key' pass3 pass' (private pass3 (AddCount (slot_number key2))) added refl ∙ all.keeps.life ∙ life_kept key key1 pass pass1 (private pass (Detach (slot_number key))) notes refl ∙ ends.life;
             stands = gives ∙ ap (λ (vs : List ℕ). Some (record { place = Rest (if zero' then vs else []) []; queue = at.queue })) values_are;
             marked = values;
             remarked = remarked;
             keys = leaves;
           }
             where
-              many_slots : (es : List Spot) → length (slots_of es) ≡ length es
+              many_slots : (es : List SlotMark) → length (marked_slots es) ≡ length es
               many_slots [] = refl
               many_slots (e ∷ es) = ap suc (many_slots es)
 
-          pub same_last : IsSame pass0 pass'
-          same_last = (added.0.0 ∙ same_three.0, added.0.1 ∙ same_three.1)
+          pub same_last : IsSamePass pass0 pass'
+          same_last = (added.0.0 ∙ same_three.0, added.0.1 ∙ same_three.1, added.0.2 ∙ same_three.2)
 
-          pub its_last : (key'.keys.name ≡ key0.keys.name) × (number_of key' ≡ number_of key0)
+          pub its_last : (key'.keys.name ≡ key0.keys.name) × (slot_number key' ≡ slot_number key0)
           its_last = (added.1.0 ∙ all.keeps.its.0 ∙ its_one.0, added.1.1 ∙ all.keeps.its.1 ∙ its_one.1)
 
 -- A call that has given up says nothing of its blocks.
-pub stays_so : {key : SlotKey} (at : BeginsToMark key) (pass : Pass) (key' : SlotKey) (pass' : Pass) (spots : List Spot) → Ends at pass key' pass' spots TooMany → Ends at pass key' pass' [] TooMany
+pub stays_so : {key : SlotKey} (at : BeginsToMark key) (pass : Pass) (key' : SlotKey) (pass' : Pass) (spots : List SlotMark) → EndsMarks at pass key' pass' spots TooMany → EndsMarks at pass key' pass' [] TooMany
 stays_so at pass key' pass' spots e = record { finds = e.finds; within = e.within; grows = e.grows; alone = e.alone; made = e.made; batch = e.batch; used = e.used; active = e.active; life = e.life; stands = e.stands }

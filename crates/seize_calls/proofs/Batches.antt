@@ -4,10 +4,10 @@ use Rattle.std.specs.List.{Contains}
 use Rattle.std.proofs.lemmas.List.{length_push}
 use base.Stored.{Gv, gcons, gnil, gnum}
 use Rattle.seize_machine.proofs.Facts.{eq_true}
-use Rattle.seize_book.specs.Blocks.{block_of}
+use Rattle.seize_book.specs.Blocks.{block_number}
 use Rattle.seize_book.specs.Book.{blocks}
 use Rattle.seize_book.specs.Entry.{Entry}
-use Rattle.seize_book.specs.Ledger.{Held, renewed}
+use Rattle.seize_book.specs.Ledger.{HeldKey, renewed}
 use Rattle.seize_book.specs.Linked.{are_joined, are_linked, next_in}
 use Rattle.seize_book.specs.Private.{is_one, label_of, labels_of, note_of}
 use Rattle.seize_words.proofs.Facts.{parted_joined}
@@ -16,21 +16,21 @@ use Rattle.seize_book.specs.Values.{Keep}
 use Rattle.seize_book.specs.declared.book.pass.Pass.{Pass}
 use Rattle.seize_book.specs.declared.book.value_keys.ValueKeys.{ValueKeys}
 use Rattle.seize_calls.specs.Batches.{unslotted, without_slot}
-use Rattle.seize_calls.specs.Numbered.{counted, ends_at, starts_at}
+use Rattle.seize_calls.specs.Numbered.{ends_at, is_count_of, starts_at}
 use Rattle.seize_calls.proofs.Rounds.{joined_past, leads_to}
 
 abbrev Keys : Type 0
-Keys = List (Held Entry)
+Keys = List (HeldKey Entry)
 
 -- Numbers.
 
-pub ends_last : (n : ℕ) (vs : List ℕ) (v : ℕ) → ends_at n (vs ++ v ∷ []) ≡ true → block_of v ≡ n
-ends_last n [] v e = sym (eq_true n (block_of v) e)
-ends_last n (w ∷ []) v e = sym (eq_true n (block_of v) e)
+pub ends_last : (n : ℕ) (vs : List ℕ) (v : ℕ) → ends_at n (vs ++ v ∷ []) ≡ true → block_number v ≡ n
+ends_last n [] v e = sym (eq_true n (block_number v) e)
+ends_last n (w ∷ []) v e = sym (eq_true n (block_number v) e)
 ends_last n (w ∷ x ∷ vs) v e = ends_last n (x ∷ vs) v e
 
-pub last_ends : (n : ℕ) (vs : List ℕ) (v : ℕ) → block_of v ≡ n → ends_at n (vs ++ v ∷ []) ≡ true
-last_ends n [] v e = same n (block_of v) e
+pub last_ends : (n : ℕ) (vs : List ℕ) (v : ℕ) → block_number v ≡ n → ends_at n (vs ++ v ∷ []) ≡ true
+last_ends n [] v e = same n (block_number v) e
   where
     same : (a b : ℕ) → b ≡ a → (a == b) ≡ true
     same a b e = grind arith
@@ -41,23 +41,23 @@ pub starts_push : (n : ℕ) (vs : List ℕ) (v : ℕ) → starts_at n vs ≡ tru
 starts_push n [] v e some = absurd (omega (arith, some))
 starts_push n (w ∷ vs) v e some = e
 
-pub counted_is : (n : ℕ) (vs : List ℕ) → counted n vs ≡ true → n ≡ min (length vs) (2 ^ 64 - 1)
+pub counted_is : (n : ℕ) (vs : List ℕ) → is_count_of n vs ≡ true → n ≡ min (length vs) (2 ^ 64 - 1)
 counted_is n vs e = eq_true n (min (length vs) (2 ^ 64 - 1)) e
 
-pub is_counted : (n : ℕ) (vs : List ℕ) → n ≡ min (length vs) (2 ^ 64 - 1) → counted n vs ≡ true
+pub is_counted : (n : ℕ) (vs : List ℕ) → n ≡ min (length vs) (2 ^ 64 - 1) → is_count_of n vs ≡ true
 is_counted n vs e = same n (min (length vs) (2 ^ 64 - 1)) e
   where
     same : (a b : ℕ) → a ≡ b → (a == b) ≡ true
     same a b e = grind arith
 
-pub counted_push : (n k : ℕ) (vs : List ℕ) (v : ℕ) → counted n vs ≡ true → k ≡ min (n + 1) (2 ^ 64 - 1) → counted k (vs ++ v ∷ []) ≡ true
+pub counted_push : (n k : ℕ) (vs : List ℕ) (v : ℕ) → is_count_of n vs ≡ true → k ≡ min (n + 1) (2 ^ 64 - 1) → is_count_of k (vs ++ v ∷ []) ≡ true
 counted_push n k vs v e is = let was = counted_is n vs e in let long = length_push vs v in is_counted k (vs ++ v ∷ []) (omega (arith, is, was, long))
 
-pub none_counted : (n : ℕ) (vs : List ℕ) → counted n vs ≡ true → n ≡ 0 → vs ≡ []
+pub none_counted : (n : ℕ) (vs : List ℕ) → is_count_of n vs ≡ true → n ≡ 0 → vs ≡ []
 none_counted n [] e none = refl
 none_counted n (v ∷ vs) e none = absurd (let is = counted_is n (v ∷ vs) e in omega (arith, is, none))
 
-pub some_counted : (n : ℕ) (vs : List ℕ) → counted n vs ≡ true → n ≢ 0 → 1 ≤ length vs
+pub some_counted : (n : ℕ) (vs : List ℕ) → is_count_of n vs ≡ true → n ≢ 0 → 1 ≤ length vs
 some_counted n vs e some = go vs (counted_is n vs e)
   where
     go : (vs : List ℕ) → n ≡ min (length vs) (2 ^ 64 - 1) → 1 ≤ length vs
@@ -70,22 +70,21 @@ contains_last (w ∷ vs) v = let rest = contains_last vs v in (suc rest.0, omega
 
 -- The last key.
 
-before_one : (store : Option (List ℕ)) (init one : Keys) → is_one blocks one ≡ true → are_linked store (init ++ one) ≡ true → are_joined store init one ≡ true
-before_one store init [] is linked = absurd (cc)
-before_one store init (h ∷ x ∷ one) is linked = absurd (cc)
-before_one store init (h ∷ []) is linked = parted_joined store init h [] linked
+before_one : (init one : Keys) → is_one blocks one ≡ true → are_linked (init ++ one) ≡ true → are_joined init one ≡ true
+before_one init [] is linked = absurd (cc)
+before_one init (h ∷ x ∷ one) is linked = absurd (cc)
+before_one init (h ∷ []) is linked = parted_joined init h [] linked
 
-pub joined_last : (store : Option (List ℕ)) (all init one one' : Keys) → is_one blocks one ≡ true → is_one blocks one' ≡ true → label_of one' ≡ label_of one → all ≡ init ++ one → are_linked store all ≡ true
-    → are_joined store init one' ≡ true
-joined_last store all init one one' is is' same parts linked =
-    leads_to store init (one ++ []) one one' [] is is' same refl
-    (subst (λ (r : Keys). are_joined store init r ≡ true) (sym (append-nil one)) (before_one store init one is (subst (λ (r : Keys). are_linked store r ≡ true) parts linked)))
+pub joined_last : (all init one one' : Keys) → is_one blocks one ≡ true → is_one blocks one' ≡ true → label_of one' ≡ label_of one → all ≡ init ++ one → are_linked all ≡ true
+    → are_joined init one' ≡ true
+joined_last all init one one' is is' same parts linked =
+    leads_to init (one ++ []) one one' [] is is' same refl
+    (subst (λ (r : Keys). are_joined init r ≡ true) (sym (append-nil one)) (before_one init one is (subst (λ (r : Keys). are_linked r ≡ true) parts linked)))
 
-pub last_joined : (store : Option (List ℕ)) (init one : Keys) (h : Held Entry) (n : ℕ) → is_one blocks one ≡ true → next_in (note_of one) ≡ n + 1 → block_of h.label ≡ n → are_joined store (init ++ one) (h ∷ []) ≡ true
-last_joined store init [] h n is next number = absurd (cc)
-last_joined store init (k ∷ x ∷ one) h n is next number = absurd (cc)
-last_joined None init (k ∷ []) h n is next number = refl
-last_joined (Some store) init (k ∷ []) h n is next number = joined_past init k (h ∷ []) (same (next_in k.note) (block_of h.label) n next number)
+pub last_joined : (init one : Keys) (h : HeldKey Entry) (n : ℕ) → is_one blocks one ≡ true → next_in (note_of one) ≡ n + 1 → block_number h.label ≡ n → are_joined (init ++ one) (h ∷ []) ≡ true
+last_joined init [] h n is next number = absurd (cc)
+last_joined init (k ∷ x ∷ one) h n is next number = absurd (cc)
+last_joined init (k ∷ []) h n is next number = joined_past init k (h ∷ []) (same (next_in k.note) (block_number h.label) n next number)
   where
     same : (a b n : ℕ) → a ≡ n + 1 → b ≡ n → (a == suc b) ≡ true
     same a b n next number = grind (arith, next, number)

@@ -10,15 +10,15 @@ use Rattle.seize_machine.specs.declared.machine.event.Answer.TheVariants.{Done}
 use Rattle.seize_machine.specs.declared.machine.event.Job.{Job}
 use Rattle.seize_machine.specs.declared.machine.event.Job.TheVariants.{Flush, Leave, Refresh, Retire}
 use Rattle.seize_machine.proofs.Facts.{Step, after_put, beginning, next_of, some_is, step_put}
-use Rattle.seize_book.specs.Adding.{private, telling}
+use Rattle.seize_book.specs.Adding.{deed_with_words, private}
 use Rattle.seize_book.specs.Entry.{Deed, Made}
-use Rattle.seize_book.specs.Passes.{IsSame, events_by}
-use Rattle.seize_book.specs.Slots.{Notes, NotesAs, number_of, size_of, slot_of}
+use Rattle.seize_book.specs.Passes.{IsSamePass, events_by}
+use Rattle.seize_book.specs.Slots.{Notes, NotesAs, slot_number, slot_of}
 use Rattle.seize_book.specs.declared.book.pass.Pass.{Pass}
 use Rattle.seize_book.specs.declared.book.slot_key.SlotKey.{SlotKey}
 use Rattle.seize_words.proofs.Facts.{deeds_grew, events_grew, life_kept, seen_grows}
 use Rattle.seize_calls.specs.Calls.{Begins}
-use Rattle.seize_calls.specs.Settling.{Puts, done}
+use Rattle.seize_calls.specs.Settling.{PutsValue, done_event}
 use Rattle.seize_calls.specs.Inserts.{Keeps}
 use Rattle.seize_calls.proofs.Alone.{alone_noted}
 use Rattle.seize_calls.proofs.Keeps.{keeps_from, outcome, same_private, state_before, step_noted}
@@ -30,27 +30,27 @@ after_return : (size : ℕ) (st : State) (s : ℕ) (d : State × Answer) → Ste
 after_return size st _ _ (Step.returned s stands) =
     let same = get_or-set_same st.slots s _ no_slot (within st s _ stands) in (ap (λ (z : Slot). z.call) same, ap (λ (z : Slot). z.batch) same, ap (λ (z : Slot). z.used) same, refl, refl)
 
-module _ (key key' : SlotKey) (pass pass' : Pass) (notes : Notes key pass key' pass' (Return (number_of key))) where
+module _ (key key' : SlotKey) (pass pass' : Pass) (notes : Notes key pass key' pass' (Return (slot_number key))) where
   abbrev event : Event
-  event = Return (number_of key)
+  event = Return (slot_number key)
 
-  so : ((slot_at (outcome key key' pass pass' event [] notes).0 (number_of key)).call ≡ None) × ((slot_at (outcome key key' pass pass' event [] notes).0 (number_of key)).batch ≡ (slot_at (state_before key key' pass pass' event [] notes) (number_of key)).batch)
-      × ((slot_at (outcome key key' pass pass' event [] notes).0 (number_of key)).used ≡ (slot_at (state_before key key' pass pass' event [] notes) (number_of key)).used)
+  so : ((slot_at (outcome key key' pass pass' event [] notes).0 (slot_number key)).call ≡ None) × ((slot_at (outcome key key' pass pass' event [] notes).0 (slot_number key)).batch ≡ (slot_at (state_before key key' pass pass' event [] notes) (slot_number key)).batch)
+      × ((slot_at (outcome key key' pass pass' event [] notes).0 (slot_number key)).used ≡ (slot_at (state_before key key' pass pass' event [] notes) (slot_number key)).used)
       × ((outcome key key' pass pass' event [] notes).0.heads ≡ (state_before key key' pass pass' event [] notes).heads) × ((outcome key key' pass pass' event [] notes).1 ≡ Done)
-  so = after_return (size_of key) (state_before key key' pass pass' event [] notes) (number_of key) (outcome key key' pass pass' event [] notes) (step_noted key key' pass pass' event [] notes)
+  so = after_return pass.size (state_before key key' pass pass' event [] notes) (slot_number key) (outcome key key' pass pass' event [] notes) (step_noted key key' pass pass' event [] notes)
 
   pub keeps_returned : Keeps key pass key' pass'
-  keeps_returned = keeps_from key key' pass pass' event [] notes so.1 so.2 (ap (λ (hs : List Head). is_active (get_or hs (number_of key) Inactive)) so.3) refl
+  keeps_returned = keeps_from key key' pass pass' event [] notes so.1 so.2 (ap (λ (hs : List Head). is_active (get_or hs (slot_number key) Inactive)) so.3) refl
 
   pub call_returned : (slot_of key').call ≡ None
   call_returned = ap (λ (z : Slot). z.call) notes.2.1.is ∙ so.0
 
-  pub made_returned : events_by pass' ≡ events_by pass ++ done pass event
+  pub made_returned : events_by pass' ≡ events_by pass ++ done_event pass event
   made_returned = events_grew pass pass' event notes.0 notes.2.0 ∙ ap (λ (a : Answer). events_by pass ++ (private pass event, a) ∷ []) so.4
 
 -- an event by itself is the same with a pass as it was before, of a slot by the same number
-pub same_done : (pass pass' : Pass) → IsSame pass pass' → (event : ℕ → Event) (s s' : ℕ) → s' ≡ s → done pass' (event s') ≡ done pass (event s)
-same_done pass pass' same event s s' is = ap (λ (d : Deed). (d, Done) ∷ []) (same_private pass pass' same (event s')) ∙ ap (λ (k : ℕ). done pass (event k)) is
+pub same_done : (pass pass' : Pass) → IsSamePass pass pass' → (event : ℕ → Event) (s s' : ℕ) → s' ≡ s → done_event pass' (event s') ≡ done_event pass (event s)
+same_done pass pass' same event s s' is = ap (λ (d : Deed). (d, Done) ∷ []) (same_private pass pass' same (event s')) ∙ ap (λ (k : ℕ). done_event pass (event k)) is
 
 -- A call begins.
 
@@ -82,12 +82,12 @@ retire_so size st _ _ _ (Step.begun_retire s v idle may) =
     (ap (λ (z : Slot). z.call) same, ap (λ (z : Slot). z.batch) same, ap (λ (z : Slot). z.used) same, refl, refl)
 retire_so size st _ _ _ (Step.begun_other s (Retire v) place idle which may) = absurd (let none : Option.None ≡ Some place = may.1 in cc)
 
-module _ (key key' : SlotKey) (pass pass' : Pass) (job : Job) (kepts : List ℕ) (notes : NotesAs key pass key' pass' (telling pass (Begin (number_of key) job) kepts)) (call : Call)
-    (so : Kept (state_before key key' pass pass' (Begin (number_of key) job) kepts notes) (number_of key) (outcome key key' pass pass' (Begin (number_of key) job) kepts notes) call) where
+module _ (key key' : SlotKey) (pass pass' : Pass) (job : Job) (kepts : List ℕ) (notes : NotesAs key pass key' pass' (deed_with_words pass (Begin (slot_number key) job) kepts)) (call : Call)
+    (so : Kept (state_before key key' pass pass' (Begin (slot_number key) job) kepts notes) (slot_number key) (outcome key key' pass pass' (Begin (slot_number key) job) kepts notes) call) where
   pub begins_so : Begins key pass job kepts key' pass'
   begins_so = record {
-    keeps = keeps_from key key' pass pass' (Begin (number_of key) job) kepts notes so.1 so.2 (ap (λ (hs : List Head). is_active (get_or hs (number_of key) Inactive)) so.3) refl;
-    made = deeds_grew pass pass' (telling pass (Begin (number_of key) job) kepts) notes.0 notes.2.0 ∙ ap (λ (a : Answer). events_by pass ++ (telling pass (Begin (number_of key) job) kepts, a) ∷ []) so.4;
+    keeps = keeps_from key key' pass pass' (Begin (slot_number key) job) kepts notes so.1 so.2 (ap (λ (hs : List Head). is_active (get_or hs (slot_number key) Inactive)) so.3) refl;
+    made = deeds_grew pass pass' (deed_with_words pass (Begin (slot_number key) job) kepts) notes.0 notes.2.0 ∙ ap (λ (a : Answer). events_by pass ++ (deed_with_words pass (Begin (slot_number key) job) kepts, a) ∷ []) so.4;
   }
 
   pub call_begun : (slot_of key').call ≡ Some call
@@ -98,30 +98,30 @@ module _ (key key' : SlotKey) (pass pass' : Pass) where
   abbrev out_call : Bool → Call
   out_call stays = record { place = Out stays; queue = [] }
 
-  pub leave_so : (notes : Notes key pass key' pass' (Begin (number_of key) Leave)) → Kept (state_before key key' pass pass' (Begin (number_of key) Leave) [] notes) (number_of key) (outcome key key' pass pass' (Begin (number_of key) Leave) [] notes) (out_call false)
-  leave_so notes = begun_so (size_of key) (state_before key key' pass pass' (Begin (number_of key) Leave) [] notes) (number_of key) Leave _ (Out false) (step_noted key key' pass pass' (Begin (number_of key) Leave) [] notes) refl
+  pub leave_so : (notes : Notes key pass key' pass' (Begin (slot_number key) Leave)) → Kept (state_before key key' pass pass' (Begin (slot_number key) Leave) [] notes) (slot_number key) (outcome key key' pass pass' (Begin (slot_number key) Leave) [] notes) (out_call false)
+  leave_so notes = begun_so pass.size (state_before key key' pass pass' (Begin (slot_number key) Leave) [] notes) (slot_number key) Leave _ (Out false) (step_noted key key' pass pass' (Begin (slot_number key) Leave) [] notes) refl
 
-  pub refresh_so : (notes : Notes key pass key' pass' (Begin (number_of key) Refresh)) → Kept (state_before key key' pass pass' (Begin (number_of key) Refresh) [] notes) (number_of key) (outcome key key' pass pass' (Begin (number_of key) Refresh) [] notes) (out_call true)
-  refresh_so notes = begun_so (size_of key) (state_before key key' pass pass' (Begin (number_of key) Refresh) [] notes) (number_of key) Refresh _ (Out true) (step_noted key key' pass pass' (Begin (number_of key) Refresh) [] notes) refl
+  pub refresh_so : (notes : Notes key pass key' pass' (Begin (slot_number key) Refresh)) → Kept (state_before key key' pass pass' (Begin (slot_number key) Refresh) [] notes) (slot_number key) (outcome key key' pass pass' (Begin (slot_number key) Refresh) [] notes) (out_call true)
+  refresh_so notes = begun_so pass.size (state_before key key' pass pass' (Begin (slot_number key) Refresh) [] notes) (slot_number key) Refresh _ (Out true) (step_noted key key' pass pass' (Begin (slot_number key) Refresh) [] notes) refl
 
-  abbrev pub flush_call : (notes : Notes key pass key' pass' (Begin (number_of key) Flush)) → Call
-  flush_call notes = record { place = flushing_at (length (state_before key key' pass pass' (Begin (number_of key) Flush) [] notes).slots) (slot_of key).batch; queue = [] }
+  abbrev pub flush_call : (notes : Notes key pass key' pass' (Begin (slot_number key) Flush)) → Call
+  flush_call notes = record { place = flushing_at (length (state_before key key' pass pass' (Begin (slot_number key) Flush) [] notes).slots) (slot_of key).batch; queue = [] }
 
-  pub flush_so : (notes : Notes key pass key' pass' (Begin (number_of key) Flush)) → Kept (state_before key key' pass pass' (Begin (number_of key) Flush) [] notes) (number_of key) (outcome key key' pass pass' (Begin (number_of key) Flush) [] notes) (flush_call notes)
+  pub flush_so : (notes : Notes key pass key' pass' (Begin (slot_number key) Flush)) → Kept (state_before key key' pass pass' (Begin (slot_number key) Flush) [] notes) (slot_number key) (outcome key key' pass pass' (Begin (slot_number key) Flush) [] notes) (flush_call notes)
   flush_so notes =
-      let st = state_before key key' pass pass' (Begin (number_of key) Flush) [] notes in
-      begun_so (size_of key) st (number_of key) Flush _ (flushing_at (length st.slots) (slot_of key).batch) (step_noted key key' pass pass' (Begin (number_of key) Flush) [] notes)
+      let st = state_before key key' pass pass' (Begin (slot_number key) Flush) [] notes in
+      begun_so pass.size st (slot_number key) Flush _ (flushing_at (length st.slots) (slot_of key).batch) (step_noted key key' pass pass' (Begin (slot_number key) Flush) [] notes)
       (ap (λ (z : Slot). Some (flushing_at (length st.slots) z.batch)) notes.2.1.was)
 
-  pub begun_retire_so : (v kept : ℕ) (notes : NotesAs key pass key' pass' (telling pass (Begin (number_of key) (Retire v)) (kept ∷ [])))
-      → Kept (state_before key key' pass pass' (Begin (number_of key) (Retire v)) (kept ∷ []) notes) (number_of key) (outcome key key' pass pass' (Begin (number_of key) (Retire v)) (kept ∷ []) notes) (record { place = Append v; queue = [] })
-  begun_retire_so v kept notes = retire_so (size_of key) _ (number_of key) v _ (step_noted key key' pass pass' (Begin (number_of key) (Retire v)) (kept ∷ []) notes)
+  pub begun_retire_so : (v kept : ℕ) (notes : NotesAs key pass key' pass' (deed_with_words pass (Begin (slot_number key) (Retire v)) (kept ∷ [])))
+      → Kept (state_before key key' pass pass' (Begin (slot_number key) (Retire v)) (kept ∷ []) notes) (slot_number key) (outcome key key' pass pass' (Begin (slot_number key) (Retire v)) (kept ∷ []) notes) (record { place = Append v; queue = [] })
+  begun_retire_so v kept notes = retire_so pass.size _ (slot_number key) v _ (step_noted key key' pass pass' (Begin (slot_number key) (Retire v)) (kept ∷ []) notes)
 
 -- A value is put.
-module _ (key key' : SlotKey) (pass pass' : Pass) (notes : Notes key pass key' pass' (Put (number_of key))) (v : ℕ) (from : Place) (before after : List ℕ)
+module _ (key key' : SlotKey) (pass pass' : Pass) (notes : Notes key pass key' pass' (Put (slot_number key))) (v : ℕ) (from : Place) (before after : List ℕ)
     (stands : (slot_of key).call ≡ Some (record { place = from; queue = before })) (turn : ((from ≡ Append v) × (before ≡ after)) ⊎ ((from ≡ Rest [] []) × (before ≡ v ∷ after))) where
   abbrev put : Event
-  put = Put (number_of key)
+  put = Put (slot_number key)
 
   abbrev pub put_st : State
   put_st = state_before key key' pass pass' put [] notes
@@ -130,24 +130,24 @@ module _ (key key' : SlotKey) (pass pass' : Pass) (notes : Notes key pass key' p
   batch = (slot_of key).batch
 
   abbrev new : Slot
-  new = let z = slot_at put_st (number_of key) in record { used = z.used; batch = z.batch ++ v ∷ []; call = Some (record { place = after_put (size_of key) (length put_st.slots) (z.batch ++ v ∷ []); queue = after }) }
+  new = let z = slot_at put_st (slot_number key) in record { used = z.used; batch = z.batch ++ v ∷ []; call = Some (record { place = after_put pass.size (length put_st.slots) (z.batch ++ v ∷ []); queue = after }) }
 
-  here : (slot_at put_st (number_of key)).call ≡ Some (record { place = from; queue = before })
+  here : (slot_at put_st (slot_number key)).call ≡ Some (record { place = from; queue = before })
   here = ap (λ (z : Slot). z.call) notes.2.1.was ∙ stands
 
-  is_put : outcome key key' pass pass' put [] notes ≡ (set_slot put_st (number_of key) new, Done)
-  is_put = some_is _ _ (sym notes.2.1.legal ∙ next_of (size_of key) put_st put _ (step_put (size_of key) put_st (number_of key) v from before after here turn))
+  is_put : outcome key key' pass pass' put [] notes ≡ (set_slot put_st (slot_number key) new, Done)
+  is_put = some_is _ _ (sym notes.2.1.legal ∙ next_of pass.size put_st put _ (step_put pass.size put_st (slot_number key) v from before after here turn))
 
   slot_put : slot_of key' ≡ new
-  slot_put = notes.2.1.is ∙ ap (λ (x : State × Answer). slot_at x.0 (number_of key)) is_put ∙ get_or-set_same put_st.slots (number_of key) new no_slot (within put_st (number_of key) _ here)
+  slot_put = notes.2.1.is ∙ ap (λ (x : State × Answer). slot_at x.0 (slot_number key)) is_put ∙ get_or-set_same put_st.slots (slot_number key) new no_slot (within put_st (slot_number key) _ here)
 
-  pub puts_so : Puts key pass v key' pass'
+  pub puts_so : PutsValue key pass v key' pass'
   puts_so = record {
     on = record {
       same = notes.0;
       its = (notes.1.0, notes.1.1);
       used = ap (λ (z : Slot). z.used) slot_put ∙ ap (λ (z : Slot). z.used) notes.2.1.was;
-      active = notes.2.1.is_now_active ∙ ap (λ (x : State × Answer). is_active (head_at x.0 (number_of key))) is_put ∙ notes.2.1.was_active;
+      active = notes.2.1.is_now_active ∙ ap (λ (x : State × Answer). is_active (head_at x.0 (slot_number key))) is_put ∙ notes.2.1.was_active;
       life = life_kept key key' pass pass' (private pass put) notes refl;
       grows = seen_grows pass.name pass.id pass.seen pass'.seen _ notes.2.0;
       alone = alone_noted pass pass' (Made (private pass put)) refl notes.2.0;
@@ -156,5 +156,5 @@ module _ (key key' : SlotKey) (pass pass' : Pass) (notes : Notes key pass key' p
     made = events_grew pass pass' put notes.0 notes.2.0 ∙ ap (λ (x : State × Answer). events_by pass ++ (private pass put, x.1) ∷ []) is_put;
   }
 
-  pub call_put : (slot_of key').call ≡ Some (record { place = after_put (size_of key) (length put_st.slots) (batch ++ v ∷ []); queue = after })
-  call_put = ap (λ (z : Slot). z.call) slot_put ∙ ap (λ (z : Slot). Some (record { place = after_put (size_of key) (length put_st.slots) (z.batch ++ v ∷ []); queue = after })) notes.2.1.was
+  pub call_put : (slot_of key').call ≡ Some (record { place = after_put pass.size (length put_st.slots) (batch ++ v ∷ []); queue = after })
+  call_put = ap (λ (z : Slot). z.call) slot_put ∙ ap (λ (z : Slot). Some (record { place = after_put pass.size (length put_st.slots) (z.batch ++ v ∷ []); queue = after })) notes.2.1.was

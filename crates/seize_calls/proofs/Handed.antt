@@ -7,23 +7,23 @@ use Rattle.seize_machine.specs.Machine.Next.{handing_at, of_call}
 use Rattle.seize_machine.specs.declared.machine.event.Answer.{Answer}
 use Rattle.seize_machine.specs.declared.machine.event.Answer.TheVariants.{Handed}
 use Rattle.seize_machine.proofs.Facts.{Step, some_is}
-use Rattle.seize_book.specs.Adding.{telling}
+use Rattle.seize_book.specs.Adding.{deed_with_words}
 use Rattle.seize_book.specs.Entry.{Deed}
 use Rattle.seize_book.specs.Kept.{kepts_of}
 use Rattle.seize_book.specs.Lending.{IsLentKey}
 use Rattle.seize_book.specs.Others.{IsValueOf, value_of}
 use Rattle.seize_book.specs.Passes.{LooksOn, events_by}
-use Rattle.seize_book.specs.Slots.{IsOf, NotesAs, hands_next, number_of, size_of, slot_of}
+use Rattle.seize_book.specs.Slots.{IsKeyOfBook, NotesAs, hands_next, slot_number, slot_of}
 use Rattle.seize_book.specs.Tokens.{Name}
 use Rattle.seize_words.specs.Walks.{Knows}
 use Rattle.seize_book.specs.Values.{values_of}
 use Rattle.seize_book.specs.declared.book.pass.Pass.{Pass}
 use Rattle.seize_book.specs.declared.book.slot_key.SlotKey.{SlotKey}
 use Rattle.seize_book.specs.declared.book.value_key.ValueKey.{ValueKey}
-use Rattle.seize_words.proofs.Facts.{deeds_grew, hand_leaves, handing_named, knows_noted, knows_still, lent_key, named_lent}
+use Rattle.seize_words.proofs.Facts.{deeds_grew, hand_leaves, handing_named, knows_noted, knows_still, named_lent}
 use Rattle.seize_book.specs.declared.book.value_keys.ValueKeys.{ValueKeys}
 use Rattle.seize_calls.specs.Handing.{AreTheirs, Had, Handings, HasHad, Queues, values_handed, values_put, words_put}
-use Rattle.seize_calls.specs.Walking.{GoesOn, HandsOne}
+use Rattle.seize_calls.specs.Walking.{HandsOne, KeepsAndKnows}
 use Rattle.seize_calls.proofs.Keeps.{keeps_from, keeps_looked, keeps_twice, looked_same, outcome, own_grows, same_telling, state_before, step_noted}
 use Rattle.seize_calls.proofs.Marks.{within}
 
@@ -39,21 +39,21 @@ after_hand size st _ v _ _ (Step.handed s w puts given walk queue stands fresh) 
     )
 
 -- The event, with the looks before and after it.
-module _ (key key' : SlotKey) (pass looked handed pass' : Pass) (v : ℕ) (puts words : List ℕ) (before : LooksOn pass looked) (notes : NotesAs key looked key' handed (telling looked (Hand (number_of key) puts) words)) (behind : LooksOn handed pass') (soon : hands_next (slot_of key) ≡ Some v) where
+module _ (key key' : SlotKey) (pass looked handed pass' : Pass) (v : ℕ) (puts words : List ℕ) (before : LooksOn pass looked) (notes : NotesAs key looked key' handed (deed_with_words looked (Hand (slot_number key) puts) words)) (behind : LooksOn handed pass') (soon : hands_next (slot_of key) ≡ Some v) where
   abbrev event : Event
-  event = Hand (number_of key) puts
+  event = Hand (slot_number key) puts
 
-  pub so : ((slot_at (outcome key key' looked handed event words notes).0 (number_of key)).batch ≡ (slot_at (state_before key key' looked handed event words notes) (number_of key)).batch)
-      × ((slot_at (outcome key key' looked handed event words notes).0 (number_of key)).used ≡ (slot_at (state_before key key' looked handed event words notes) (number_of key)).used)
+  pub so : ((slot_at (outcome key key' looked handed event words notes).0 (slot_number key)).batch ≡ (slot_at (state_before key key' looked handed event words notes) (slot_number key)).batch)
+      × ((slot_at (outcome key key' looked handed event words notes).0 (slot_number key)).used ≡ (slot_at (state_before key key' looked handed event words notes) (slot_number key)).used)
       × ((outcome key key' looked handed event words notes).0.heads ≡ (state_before key key' looked handed event words notes).heads) × ((outcome key key' looked handed event words notes).1 ≡ Handed v)
   so =
-      after_hand (size_of key) (state_before key key' looked handed event words notes) (number_of key) v puts (outcome key key' looked handed event words notes) (step_noted key key' looked handed event words notes)
+      after_hand looked.size (state_before key key' looked handed event words notes) (slot_number key) v puts (outcome key key' looked handed event words notes) (step_noted key key' looked handed event words notes)
       (ap hands_next notes.2.1.was ∙ soon)
 
-  pub goes_on : GoesOn key pass key' pass'
+  pub goes_on : KeepsAndKnows key pass key' pass'
   goes_on = (
     keeps_twice key key key' pass looked pass' (keeps_looked key pass looked before)
-        (keeps_twice key key' key' looked handed pass' (keeps_from key key' looked handed event words notes so.0 so.1 (ap (λ (hs : List Head). is_active (get_or hs (number_of key) Inactive)) so.2) refl) (keeps_looked key' handed pass' behind)),
+        (keeps_twice key key' key' looked handed pass' (keeps_from key key' looked handed event words notes so.0 so.1 (ap (λ (hs : List Head). is_active (get_or hs (slot_number key) Inactive)) so.2) refl) (keeps_looked key' handed pass' behind)),
     own_grows key key' looked handed event words notes,
   )
 
@@ -64,22 +64,18 @@ module _ (key key' : SlotKey) (pass looked handed pass' : Pass) (v : ℕ) (puts 
     words = words;
     queued = queued;
     made =
-        looked_same handed pass' behind ∙ deeds_grew looked handed (telling looked event words) notes.0 notes.2.0
-        ∙ ap (λ (a : Answer). events_by looked ++ (telling looked event words, a) ∷ []) so.3
-        ∙ ap (λ (log : List (Deed × Answer)). log ++ (telling looked event words, Handed v) ∷ []) (looked_same pass looked before)
+        looked_same handed pass' behind ∙ deeds_grew looked handed (deed_with_words looked event words) notes.0 notes.2.0
+        ∙ ap (λ (a : Answer). events_by looked ++ (deed_with_words looked event words, a) ∷ []) so.3
+        ∙ ap (λ (log : List (Deed × Answer)). log ++ (deed_with_words looked event words, Handed v) ∷ []) (looked_same pass looked before)
         ∙ ap (λ (d : Deed). events_by pass ++ (d, Handed v) ∷ []) (same_telling pass looked before.same event words);
     stands = λ given walk waits is. hand_leaves key key' looked handed puts words given walk waits v notes is;
   }
 
-  pub knows_after : Knows key' pass'
-  knows_after = knows_still key' handed pass' (knows_noted key key' looked handed (telling looked event words) notes) behind
-
 -- with a value that is about to be handed something is lent
-pub soon_lent : (value : ValueKey) (key : SlotKey) (pass pass' : Pass) → is_some pass'.name.store ≡ true → IsValueOf value pass' → IsOf key pass → Knows key pass → LooksOn pass pass'
+pub soon_lent : (value : ValueKey) (key : SlotKey) (pass pass' : Pass) → IsValueOf value pass' → IsKeyOfBook key pass → Knows key pass → LooksOn pass pass'
     → hands_next (slot_of key) ≡ Some (value_of value) → IsLentKey value
-soon_lent value key pass pass' store its book knows looks soon =
-    lent_key value (ap (λ (n : Name). is_some n.store) its ∙ store)
-    (named_lent value pass pass' looks its (handing_named key pass' (book ∙ sym looks.same.0) (knows_still key pass pass' knows looks) (value_of value) soon))
+soon_lent value key pass pass' its book knows looks soon =
+    named_lent value pass pass' looks its (handing_named key pass' (book ∙ sym looks.same.0) (knows_still key pass pass' knows looks) (value_of value) soon)
 
 -- What was had of some values, and of more.
 

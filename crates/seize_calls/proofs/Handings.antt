@@ -3,20 +3,20 @@ use Rattle.std.proofs.Common.{◌≡◌, ◌≢◌, ℕ, zero, suc, ◌-◌, tru
 use Rattle.std.specs.List.{Contains}
 use base.Stored.{Gv}
 use Rattle.seize_machine.specs.Machine.State.{Rest}
-use Rattle.seize_machine.specs.Machine.History.{first_of}
+use Rattle.seize_machine.specs.Machine.History.{first_or_none}
 use Rattle.seize_machine.specs.Machine.Next.{handing_at, of_call}
 use Rattle.seize_machine.specs.declared.machine.event.Answer.{Answer}
 use Rattle.seize_machine.proofs.Facts.{and_true, eq_true, some_is}
-use Rattle.seize_book.specs.Blocks.{block_of}
+use Rattle.seize_book.specs.Blocks.{block_number}
 use Rattle.seize_book.specs.Book.{after, blocks}
 use Rattle.seize_book.specs.Entry.{Deed, Entry}
-use Rattle.seize_book.specs.Ledger.{Held, renewed}
+use Rattle.seize_book.specs.Ledger.{HeldKey, renewed}
 use Rattle.seize_book.specs.Linked.{are_joined, are_linked, leads_first, next_in}
 use Rattle.seize_book.specs.Notes.{noted_in}
 use Rattle.seize_book.specs.Others.{IsLast, IsLastIn, IsValueOf, value_of}
 use Rattle.seize_book.specs.Passes.{events_by}
 use Rattle.seize_book.specs.Private.{is_one, labels_of, note_of}
-use Rattle.seize_book.specs.Slots.{hands_next, number_of, own_list, slot_of}
+use Rattle.seize_book.specs.Slots.{hands_next, own_list, slot_number, slot_of}
 use Rattle.seize_book.specs.Tokens.{Name, start}
 use Rattle.seize_book.specs.Values.{AreClosed, AreLast, Nexts, book_in, values_of}
 use Rattle.seize_book.specs.declared.book.pass.Pass.{Pass}
@@ -26,14 +26,14 @@ use Rattle.seize_book.specs.declared.book.value_keys.ValueKeys.{ValueKeys}
 use Rattle.seize_calls.proofs.Alone.{alone_none}
 use Rattle.seize_calls.specs.Handing.{Had, Handings, HasHad, Queues, values_handed, values_put, words_put}
 use Rattle.seize_book.specs.Kept.{kept_in, kepts_of}
-use Rattle.seize_calls.specs.Walking.{GoesOn, HandsAll, HandsOne, IsGiven, hands}
+use Rattle.seize_calls.specs.Walking.{HandsAll, HandsOne, IsGiven, KeepsAndKnows, hands}
 use Rattle.seize_calls.proofs.Batches.{kept_one, kepts, kepts_append}
 use Rattle.seize_calls.proofs.Handed.{had_more, had_none, handed_append, put_append, queues_more, queues_none}
 use Rattle.seize_words.proofs.Facts.{labels_append, one_label, others_closed, others_know, own_is}
 use Rattle.seize_calls.proofs.Strolls.{goes_twice, same_hands}
 
 abbrev Keys : Type 0
-Keys = List (Held Entry)
+Keys = List (HeldKey Entry)
 
 -- The events of some, and of more.
 
@@ -42,33 +42,32 @@ hands_append pass s [] two = refl
 hands_append pass s (first ∷ one) two = ap (λ (log : List (Deed × Answer)). hands pass s (first ∷ []) ++ log) (hands_append pass s one two)
 
 -- what is noted of the first one's block leads to the next, or to none
-leads_on : (store : Option (List ℕ)) (held rest : Keys) → is_some store ≡ true → is_one blocks held ≡ true → are_linked store (held ++ rest) ≡ true → are_joined store (held ++ rest) [] ≡ true
+leads_on : (held rest : Keys) → is_one blocks held ≡ true → are_linked (held ++ rest) ≡ true → are_joined (held ++ rest) [] ≡ true
     → leads_first (note_of held) rest ≡ true
-leads_on None held rest some one linked closed = absurd (cc)
-leads_on (Some store) [] rest some one linked closed = absurd (cc)
-leads_on (Some store) (h ∷ []) [] some one linked closed = closed
-leads_on (Some store) (h ∷ []) (k ∷ rest) some one linked closed = (and_true _ _ linked).0
-leads_on (Some store) (h ∷ g ∷ held) rest some one linked closed = absurd (cc)
+leads_on [] rest one linked closed = absurd (cc)
+leads_on (h ∷ []) [] one linked closed = closed
+leads_on (h ∷ []) (k ∷ rest) one linked closed = (and_true _ _ linked).0
+leads_on (h ∷ g ∷ held) rest one linked closed = absurd (cc)
 
 none_after : (g : Gv) (rest : Keys) → leads_first g rest ≡ true → next_in g ≡ 0 → rest ≡ []
 none_after g [] leads none = refl
-none_after g (h ∷ rest) leads none = absurd (let e : next_in g ≡ suc (block_of h.label) = eq_true (next_in g) (suc (block_of h.label)) leads in omega (arith, e, none))
+none_after g (h ∷ rest) leads none = absurd (let e : next_in g ≡ suc (block_number h.label) = eq_true (next_in g) (suc (block_number h.label)) leads in omega (arith, e, none))
 
-first_after : (g : Gv) (rest : Keys) → leads_first g rest ≡ true → next_in g ≢ 0 → (first : ℕ) × (first_of (labels_of rest) ≡ Some first) × (next_in g - 1 ≡ block_of first)
+first_after : (g : Gv) (rest : Keys) → leads_first g rest ≡ true → next_in g ≢ 0 → (first : ℕ) × (first_or_none (labels_of rest) ≡ Some first) × (next_in g - 1 ≡ block_number first)
 first_after g [] leads some = absurd (some (eq_true (next_in g) 0 leads))
-first_after g (h ∷ rest) leads some = (h.label, refl, let e : next_in g ≡ suc (block_of h.label) = eq_true (next_in g) (suc (block_of h.label)) leads in omega (arith, e))
+first_after g (h ∷ rest) leads some = (h.label, refl, let e : next_in g ≡ suc (block_number h.label) = eq_true (next_in g) (suc (block_number h.label)) leads in omega (arith, e))
 
 among_all : (v u : ℕ) (us vs : List ℕ) → vs ≡ u ∷ us → Contains us v → Contains vs v
 among_all v u us vs is among = subst (λ (ws : List ℕ). Contains ws v) (sym is) (suc among.0, let less = among.1 in omega (arith, less), among.2)
 
 -- some were handed, and some are left
 pub record IsHanding {key : SlotKey} {pass : Pass} {values : ValueKeys} {front : ℕ} (given : IsGiven key pass values front) (queue : ValueKeys) (had : Had) (key' : SlotKey) (pass' : Pass) (values' queue' : ValueKeys) (number : ℕ) (had' : Had) : Type 0 where
-  pub goes_on : GoesOn key pass key' pass'
+  pub goes_on : KeepsAndKnows key pass key' pass'
   pub done : Keys
   pub split : values.keys.held ≡ done ++ values'.keys.held
   pub handed : Handings
   pub which : values_handed handed ≡ labels_of done
-  pub made : events_by pass' ≡ events_by pass ++ hands pass (number_of key) handed
+  pub made : events_by pass' ≡ events_by pass ++ hands pass (slot_number key) handed
   pub stands : (slot_of key').call ≡ Some (record { place = Rest (values_of values') given.walk; queue = given.queue ++ values_put handed })
   pub queued : Queues queue (values_put handed) (words_put handed) queue'
   pub book : book_in values' ≡ pass.name
@@ -76,13 +75,13 @@ pub record IsHanding {key : SlotKey} {pass : Pass} {values : ValueKeys} {front :
   pub last : AreLast values' pass
   pub closed : AreClosed values'
   pub first : ℕ
-  pub is_first : first_of (values_of values') ≡ Some first
-  pub its_block : number ≡ block_of first
+  pub is_first : first_or_none (values_of values') ≡ Some first
+  pub its_block : number ≡ block_number first
   pub theirs : HasHad handed (kepts done) had had'
 
 abbrev pub none_handed : (key : SlotKey) (pass : Pass) (values : ValueKeys) (front : ℕ) (given : IsGiven key pass values front) (queue : ValueKeys) (had : Had) → IsHanding given queue had key pass values queue front had
 none_handed key pass values front given queue had = record {
-  goes_on = (record { same = (refl, refl); its = (refl, refl); batch = refl; used = refl; active = refl; life = refl; seen = omega arith; grows = ([], append-nil pass.seen); alone = alone_none pass }, ([], append-nil (own_list key)));
+  goes_on = (record { same = (refl, refl, refl); its = (refl, refl); batch = refl; used = refl; active = refl; life = refl; seen = omega arith; grows = ([], append-nil pass.seen); alone = alone_none pass }, ([], append-nil (own_list key)));
   done = [];
   split = refl;
   handed = [];
@@ -103,7 +102,7 @@ none_handed key pass values front given queue had = record {
 module _ (key0 : SlotKey) (pass0 : Pass) (values0 : ValueKeys) (front : ℕ) (given : IsGiven key0 pass0 values0 front) (queue0 : ValueKeys) (had0 : Had) (key : SlotKey) (pass : Pass) (values queue : ValueKeys) (number : ℕ) (had : Had)
     (r : IsHanding given queue0 had0 key pass values queue number had) where
   pub some_left : values_of values ≢ []
-  some_left none = absurd (let e : None ≡ Some r.first = sym (ap first_of none) ∙ r.is_first in cc)
+  some_left none = absurd (let e : None ≡ Some r.first = sym (ap first_or_none none) ∙ r.is_first in cc)
 
   module _ (value : ValueKey) (rest : ValueKeys) (nexts : Nexts values value rest) where
     whole : value.keys.held ++ rest.keys.held ≡ renewed (value.keys.held ++ rest.keys.held) pass0.seen
@@ -129,16 +128,16 @@ module _ (key0 : SlotKey) (pass0 : Pass) (values0 : ValueKeys) (front : ℕ) (gi
     pub is_soon : hands_next (slot_of key) ≡ Some (value_of value)
     is_soon = ap (of_call handing_at) here
 
-    pub is_there : block_of (value_of value) ≡ number
-    is_there = ap block_of (some_is _ _ (sym (ap first_of nexts.2) ∙ r.is_first)) ∙ sym r.its_block
+    pub is_there : block_number (value_of value) ≡ number
+    is_there = ap block_number (some_is _ _ (sym (ap first_or_none nexts.2) ∙ r.is_first)) ∙ sym r.its_block
 
-    module _ (store : is_some pass0.name.store ≡ true) (key' : SlotKey) (pass' : Pass) (queue' : ValueKeys) (had' : Had) (hand : HandsOne key pass (value_of value) queue key' pass' queue') (more : HasHad ((value_of value, hand.puts, hand.words) ∷ []) (kept_in (noted_in value) ∷ []) had had') where
+    module _ (key' : SlotKey) (pass' : Pass) (queue' : ValueKeys) (had' : Had) (hand : HandsOne key pass (value_of value) queue key' pass' queue') (more : HasHad ((value_of value, hand.puts, hand.words) ∷ []) (kept_in (noted_in value) ∷ []) had had') where
       leads : leads_first (noted_in value) rest.keys.held ≡ true
       leads =
-          leads_on (book_in values).store value.keys.held rest.keys.held (ap (λ (n : Name). is_some n.store) r.book ∙ store) value.one
-          (subst (λ (held : Keys). are_linked (book_in values).store held ≡ true) nexts.3 values.linked) (subst (λ (held : Keys). are_joined (book_in values).store held [] ≡ true) nexts.3 r.closed)
+          leads_on value.keys.held rest.keys.held value.one
+          (subst (λ (held : Keys). are_linked held ≡ true) nexts.3 values.linked) (subst (λ (held : Keys). are_joined held [] ≡ true) nexts.3 r.closed)
 
-      goes : GoesOn key0 pass0 key' pass'
+      goes : KeepsAndKnows key0 pass0 key' pass'
       goes = goes_twice key0 key key' pass0 pass pass' r.goes_on hand.goes_on
 
       split_more : values0.keys.held ≡ (r.done ++ value.keys.held) ++ rest.keys.held
@@ -152,11 +151,11 @@ module _ (key0 : SlotKey) (pass0 : Pass) (values0 : ValueKeys) (front : ℕ) (gi
           handed_append r.handed one
           ∙ (λ i. r.which i ++ sym (one_label value.keys.held value.one) i) ∙ sym (labels_append r.done value.keys.held)
 
-      made_more : events_by pass' ≡ events_by pass0 ++ hands pass0 (number_of key0) (r.handed ++ one)
+      made_more : events_by pass' ≡ events_by pass0 ++ hands pass0 (slot_number key0) (r.handed ++ one)
       made_more =
-          let s = number_of key0 in let behind = hands pass0 s r.handed in
-          hand.made ∙ ap (λ (log : List (Deed × Answer)). log ++ hands pass (number_of key) one) r.made
-          ∙ ap (λ (log : List (Deed × Answer)). (events_by pass0 ++ behind) ++ log) (same_hands pass0 pass r.goes_on.0.same (number_of key) one ∙ ap (λ (k : ℕ). hands pass0 k one) r.goes_on.0.its.1)
+          let s = slot_number key0 in let behind = hands pass0 s r.handed in
+          hand.made ∙ ap (λ (log : List (Deed × Answer)). log ++ hands pass (slot_number key) one) r.made
+          ∙ ap (λ (log : List (Deed × Answer)). (events_by pass0 ++ behind) ++ log) (same_hands pass0 pass r.goes_on.0.same (slot_number key) one ∙ ap (λ (k : ℕ). hands pass0 k one) r.goes_on.0.its.1)
           ∙ append_assoc (events_by pass0) behind (hands pass0 s one)
           ∙ ap (λ (log : List (Deed × Answer)). events_by pass0 ++ log) (sym (hands_append pass0 s r.handed one))
 
@@ -194,8 +193,7 @@ module _ (key0 : SlotKey) (pass0 : Pass) (values0 : ValueKeys) (front : ℕ) (gi
             book = nexts.0 ∙ r.book;
             knows = others_know value.keys.held rest.keys.held pass0.seen value.one whole;
             last = λ v there. r.last v (among v there);
-            closed = subst (λ (n : Name). are_joined n.store rest.keys.held [] ≡ true) (sym nexts.0)
-                (others_closed (book_in values).store value.keys.held rest.keys.held value.one (subst (λ (held : Keys). are_joined (book_in values).store held [] ≡ true) nexts.3 r.closed));
+            closed = (others_closed value.keys.held rest.keys.held value.one (subst (λ (held : Keys). are_joined held [] ≡ true) nexts.3 r.closed));
             first = first.0;
             is_first = first.1;
             its_block = first.2;

@@ -6,13 +6,13 @@ use Rattle.seize_machine.specs.Machine.State.{has}
 use Rattle.seize_machine.specs.Machine.Laws.{detached_by}
 use Rattle.seize_machine.specs.Machine.Next.{look}
 use Rattle.seize_machine.specs.declared.machine.event.Answer.{Answer}
-use Rattle.seize_book.specs.Blocks.{Plan, block_in, block_of}
+use Rattle.seize_book.specs.Blocks.{Plan, block_in, block_number}
 use Rattle.seize_book.specs.Entry.{Deed, Entry}
-use Rattle.seize_book.specs.Ledger.{Held}
+use Rattle.seize_book.specs.Ledger.{HeldKey}
 use Rattle.seize_book.specs.Private.{labels_of}
 use Rattle.seize_book.specs.Homesteads.{state_seen}
 use Rattle.seize_book.specs.Passes.{events_by}
-use Rattle.seize_book.specs.Slots.{IsOf, number_of, slot_of}
+use Rattle.seize_book.specs.Slots.{IsKeyOfBook, slot_number, slot_of}
 use Rattle.seize_words.specs.Counts.{values_in}
 use Rattle.seize_words.specs.Walks.{Knows}
 use Rattle.seize_words.proofs.Facts.{detached_named}
@@ -20,8 +20,8 @@ use Rattle.seize_words.specs.Totals.{slots_seen}
 use Rattle.seize_book.specs.declared.book.pass.Pass.{Pass}
 use Rattle.seize_book.specs.declared.book.slot_key.SlotKey.{SlotKey}
 use Rattle.seize_calls.proofs.Alone.{alone_none}
-use Rattle.seize_calls.specs.Batches.{Spot, slot_noted, slots_of, spots_of}
-use Rattle.seize_calls.specs.Inserts.{ArePlanned, GoesPast, IsAtNext, Inserted, InsertedAll, IsAtSlot, IsInserting, Keeps, Turn, plan_in, turn_at, turns_at, won_in}
+use Rattle.seize_calls.specs.Batches.{SlotMark, marked_slots, slot_marks_of, slot_noted}
+use Rattle.seize_calls.specs.Inserts.{ArePlanned, GoesPast, IsAtNext, Inserted, InsertedAll, IsAtSlot, IsInserting, Keeps, InsertTries, plan_in, turn_at, turns_at, won_in}
 use Rattle.seize_calls.specs.Rounds.{done_in, rest_in}
 use Rattle.seize_calls.specs.declared.round.Round.{Round}
 use Rattle.seize_calls.proofs.Keeps.{keeps_twice}
@@ -30,7 +30,7 @@ use Rattle.seize_calls.proofs.Turns.{same_turn}
 
 -- Lists of turns.
 
-pub turns_push : (pass : Pass) (s : ℕ) (ms : List ℕ) (turns : List Turn) (m : ℕ) (turn : Turn) → length turns ≡ length ms → turns_at pass s (ms ++ m ∷ []) (turns ++ turn ∷ []) ≡ turns_at pass s ms turns ++ turn_at pass s m turn
+pub turns_push : (pass : Pass) (s : ℕ) (ms : List ℕ) (turns : List InsertTries) (m : ℕ) (turn : InsertTries) → length turns ≡ length ms → turns_at pass s (ms ++ m ∷ []) (turns ++ turn ∷ []) ≡ turns_at pass s ms turns ++ turn_at pass s m turn
 turns_push pass s [] [] m turn long = append-nil (turn_at pass s m turn)
 turns_push pass s [] (t ∷ turns) m turn long = absurd (omega (arith, long))
 turns_push pass s (k ∷ ms) [] m turn long = absurd (omega (arith, long))
@@ -38,7 +38,7 @@ turns_push pass s (k ∷ ms) (t ∷ turns) m turn long =
     ap (λ (log : List (Deed × Answer)). turn_at pass s k t ++ log) (turns_push pass s ms turns m turn (omega (arith, long)))
     ∙ sym (append_assoc (turn_at pass s k t) (turns_at pass s ms turns) (turn_at pass s m turn))
 
-pub won_push : (turns : List Turn) (turn : Turn) → won_in (turns ++ turn ∷ []) ≡ won_in turns + (if turn.won then 1 else 0)
+pub won_push : (turns : List InsertTries) (turn : InsertTries) → won_in (turns ++ turn ∷ []) ≡ won_in turns + (if turn.won then 1 else 0)
 won_push [] turn = let n : ℕ = if turn.won then 1 else 0 in let e : n + 0 ≡ 0 + n = omega arith in e
 won_push (t ∷ turns) turn =
     let e = won_push turns turn in let a : ℕ = if t.won then 1 else 0 in let b : ℕ = if turn.won then 1 else 0 in
@@ -46,31 +46,31 @@ won_push (t ∷ turns) turn =
 
 -- Spots at which the call has been, and those to come.
 
-pub slots_more : (spots : List Spot) (i : ℕ) (d : Spot) → i < length spots → slots_of (take (i + 1) spots) ≡ slots_of (take i spots) ++ (get_or spots i d).slot ∷ []
+pub slots_more : (spots : List SlotMark) (i : ℕ) (d : SlotMark) → i < length spots → marked_slots (take (i + 1) spots) ≡ marked_slots (take i spots) ++ (get_or spots i d).slot ∷ []
 slots_more [] i d less = absurd (omega (arith, less))
 slots_more (spot ∷ spots) zero d less = refl
 slots_more (spot ∷ spots) (suc i) d less =
-    ap (λ (k : ℕ). slots_of (take k (spot ∷ spots))) (let same : suc i + 1 ≡ suc (i + 1) = omega arith in same) ∙ ap (λ (ms : List ℕ). spot.slot ∷ ms) (slots_more spots i d (omega (arith, less)))
+    ap (λ (k : ℕ). marked_slots (take k (spot ∷ spots))) (let same : suc i + 1 ≡ suc (i + 1) = omega arith in same) ∙ ap (λ (ms : List ℕ). spot.slot ∷ ms) (slots_more spots i d (omega (arith, less)))
 
-pub slots_left : (spots : List Spot) (i : ℕ) (d : Spot) → i < length spots → slots_of (drop i spots) ≡ (get_or spots i d).slot ∷ slots_of (drop (i + 1) spots)
+pub slots_left : (spots : List SlotMark) (i : ℕ) (d : SlotMark) → i < length spots → marked_slots (drop i spots) ≡ (get_or spots i d).slot ∷ marked_slots (drop (i + 1) spots)
 slots_left [] i d less = absurd (omega (arith, less))
 slots_left (spot ∷ spots) zero d less = refl
 slots_left (spot ∷ spots) (suc i) d less =
-    slots_left spots i d (omega (arith, less)) ∙ ap (λ (k : ℕ). (get_or spots i d).slot ∷ slots_of (drop k (spot ∷ spots))) (let same : suc (i + 1) ≡ suc i + 1 = omega arith in same)
+    slots_left spots i d (omega (arith, less)) ∙ ap (λ (k : ℕ). (get_or spots i d).slot ∷ marked_slots (drop k (spot ∷ spots))) (let same : suc (i + 1) ≡ suc i + 1 = omega arith in same)
 
-pub none_left : (spots : List Spot) (i : ℕ) → length spots ≤ i → slots_of (drop i spots) ≡ []
+pub none_left : (spots : List SlotMark) (i : ℕ) → length spots ≤ i → marked_slots (drop i spots) ≡ []
 none_left [] zero le = refl
 none_left [] (suc i) le = refl
 none_left (spot ∷ spots) zero le = absurd (omega (arith, le))
 none_left (spot ∷ spots) (suc i) le = none_left spots i (omega (arith, le))
 
-pub all_taken : (spots : List Spot) (i : ℕ) → length spots ≤ i → take i spots ≡ spots
+pub all_taken : (spots : List SlotMark) (i : ℕ) → length spots ≤ i → take i spots ≡ spots
 all_taken [] zero le = refl
 all_taken [] (suc i) le = refl
 all_taken (spot ∷ spots) zero le = absurd (omega (arith, le))
-all_taken (spot ∷ spots) (suc i) le = ap (λ (es : List Spot). spot ∷ es) (all_taken spots i (omega (arith, le)))
+all_taken (spot ∷ spots) (suc i) le = ap (λ (es : List SlotMark). spot ∷ es) (all_taken spots i (omega (arith, le)))
 
-pub planned_at : (plan : Plan) (seen : ℕ) (spots : List Spot) (i : ℕ) (d : Spot) → ArePlanned plan seen spots → i < length spots
+pub planned_at : (plan : Plan) (seen : ℕ) (spots : List SlotMark) (i : ℕ) (d : SlotMark) → ArePlanned plan seen spots → i < length spots
     → ((get_or spots i d).block ≡ block_in plan (get_or spots i d).slot) × ((get_or spots i d).slot < seen)
 planned_at plan seen [] i d are less = absurd (omega (arith, less))
 planned_at plan seen (spot ∷ spots) zero d are less = are.0
@@ -79,10 +79,10 @@ planned_at plan seen (spot ∷ spots) (suc i) d are less = planned_at plan seen 
 -- The keys through which the round goes.
 
 abbrev Keys : Type 0
-Keys = List (Held Entry)
+Keys = List (HeldKey Entry)
 
-pub round_step : (held : Keys) (k i : ℕ) (d : Spot) → i < k → k ≤ length (spots_of held)
-    → (h : Held Entry) × (drop i held ≡ h ∷ drop (i + 1) held) × (take (i + 1) held ≡ take i held ++ h ∷ []) × (get_or (take k (spots_of held)) i d ≡ record { block = block_of h.label; slot = slot_noted h.note }) × Contains (labels_of held) h.label
+pub round_step : (held : Keys) (k i : ℕ) (d : SlotMark) → i < k → k ≤ length (slot_marks_of held)
+    → (h : HeldKey Entry) × (drop i held ≡ h ∷ drop (i + 1) held) × (take (i + 1) held ≡ take i held ++ h ∷ []) × (get_or (take k (slot_marks_of held)) i d ≡ record { block = block_number h.label; slot = slot_noted h.note }) × Contains (labels_of held) h.label
 round_step [] k i d less le = absurd (omega (arith, less, le))
 round_step (h ∷ held) zero i d less le = absurd (omega (arith, less))
 round_step (h ∷ held) (suc k) zero d less le = (h, refl, refl, refl, (0, omega arith, refl))
@@ -96,40 +96,40 @@ round_step (h ∷ held) (suc k) (suc i) d less le =
     )
 
 -- the call has taken a turn at so many of them, and won so many insertions
-pub record HasTurned {key : SlotKey} {pass : Pass} {spots : List Spot} {front : ℕ} (at : IsInserting key pass spots front) (count won : ℕ) (key' : SlotKey) (pass' : Pass) : Type 0 where
+pub record HasTurned {key : SlotKey} {pass : Pass} {spots : List SlotMark} {front : ℕ} (at : IsInserting key pass spots front) (count won : ℕ) (key' : SlotKey) (pass' : Pass) : Type 0 where
   pub keeps : Keeps key pass key' pass'
-  pub turns : List Turn
+  pub turns : List InsertTries
   pub each : length turns ≡ count
   pub within : count ≤ length spots
-  pub made : events_by pass' ≡ events_by pass ++ turns_at pass (number_of key) (slots_of (take count spots)) turns
+  pub made : events_by pass' ≡ events_by pass ++ turns_at pass (slot_number key) (marked_slots (take count spots)) turns
   pub many : won ≡ won_in turns
   pub few : won ≤ count
   pub planned : plan_in key' at.batch ≡ plan_in key at.batch
-  pub stands : (slot_of key').call ≡ Some (record { place = look at.batch (at.won + won) (slots_of (drop count spots)); queue = at.queue })
+  pub stands : (slot_of key').call ≡ Some (record { place = look at.batch (at.won + won) (marked_slots (drop count spots)); queue = at.queue })
 
-abbrev pub none_turned : (key : SlotKey) (pass : Pass) (spots : List Spot) (front : ℕ) (at : IsInserting key pass spots front) → HasTurned at 0 0 key pass
+abbrev pub none_turned : (key : SlotKey) (pass : Pass) (spots : List SlotMark) (front : ℕ) (at : IsInserting key pass spots front) → HasTurned at 0 0 key pass
 none_turned key pass spots front at = record {
-  keeps = record { same = (refl, refl); its = (refl, refl); batch = refl; used = refl; active = refl; life = refl; seen = omega arith; grows = ([], append-nil pass.seen); alone = alone_none pass };
+  keeps = record { same = (refl, refl, refl); its = (refl, refl); batch = refl; used = refl; active = refl; life = refl; seen = omega arith; grows = ([], append-nil pass.seen); alone = alone_none pass };
   turns = [];
   each = refl;
   within = omega arith;
-  made = sym (append-nil (events_by pass)) ∙ ap (λ (log : List (Deed × Answer)). events_by pass ++ log) (sym (no_turns (slots_of (take 0 spots))));
+  made = sym (append-nil (events_by pass)) ∙ ap (λ (log : List (Deed × Answer)). events_by pass ++ log) (sym (no_turns (marked_slots (take 0 spots))));
   many = refl;
   few = omega arith;
   planned = refl;
-  stands = at.stands ∙ ap (λ (w : ℕ). Some (record { place = look at.batch w (slots_of spots); queue = at.queue })) (let same : at.won ≡ at.won + 0 = omega arith in same);
+  stands = at.stands ∙ ap (λ (w : ℕ). Some (record { place = look at.batch w (marked_slots spots); queue = at.queue })) (let same : at.won ≡ at.won + 0 = omega arith in same);
 }
   where
-    no_turns : (ms : List ℕ) → turns_at pass (number_of key) ms [] ≡ []
+    no_turns : (ms : List ℕ) → turns_at pass (slot_number key) ms [] ≡ []
     no_turns [] = refl
     no_turns (m ∷ ms) = refl
 
-module _ (key : SlotKey) (pass : Pass) (spots : List Spot) (front : ℕ) (at : IsInserting key pass spots front) (i won : ℕ) (now : SlotKey) (pass1 : Pass) (r : HasTurned at i won now pass1) (d : Spot) (less : i < length spots) where
-  abbrev spot : Spot
+module _ (key : SlotKey) (pass : Pass) (spots : List SlotMark) (front : ℕ) (at : IsInserting key pass spots front) (i won : ℕ) (now : SlotKey) (pass1 : Pass) (r : HasTurned at i won now pass1) (d : SlotMark) (less : i < length spots) where
+  abbrev spot : SlotMark
   spot = get_or spots i d
 
   abbrev later : List ℕ
-  later = slots_of (drop (i + 1) spots)
+  later = marked_slots (drop (i + 1) spots)
 
   -- the next turn
   abbrev pub at_next : IsAtSlot now spot.slot spot.block front
@@ -149,7 +149,7 @@ module _ (key : SlotKey) (pass : Pass) (spots : List Spot) (front : ℕ) (at : I
   next_seen = let its = planned_at (plan_in key at.batch) (slots_seen pass) spots i d at.planned less in let more = r.keeps.seen in omega (arith, its.1, more)
 
   module _ (key' : SlotKey) (pass' : Pass) (one : Bool) (turned : Inserted at_next pass1 key' pass' one) where
-    abbrev turn : Turn
+    abbrev turn : InsertTries
     turn = record { lost = turned.lost; won = one }
 
     abbrev more : ℕ
@@ -165,16 +165,16 @@ module _ (key : SlotKey) (pass : Pass) (spots : List Spot) (front : ℕ) (at : I
 
     pub turned_next : HasTurned at (i + 1) (won + more) key' pass'
     turned_next =
-        let before = events_by pass in let s = number_of key in let ms = slots_of (take i spots) in
+        let before = events_by pass in let s = slot_number key in let ms = marked_slots (take i spots) in
         record {
           keeps = keeps_twice key now key' pass pass1 pass' r.keeps turned.keeps;
           turns = r.turns ++ turn ∷ [];
           each = length_push r.turns turn ∙ ap (λ (n : ℕ). n + 1) r.each;
           within = omega (arith, less);
           made = turned.made
-              ∙ ap (λ (log : List (Deed × Answer)). log ++ turn_at pass1 (number_of now) spot.slot turn) r.made
+              ∙ ap (λ (log : List (Deed × Answer)). log ++ turn_at pass1 (slot_number now) spot.slot turn) r.made
               ∙ ap (λ (log : List (Deed × Answer)). (before ++ turns_at pass s ms r.turns) ++ log)
-              (same_turn pass pass1 r.keeps.same (number_of now) spot.slot turn ∙ ap (λ (k : ℕ). turn_at pass k spot.slot turn) r.keeps.its.1)
+              (same_turn pass pass1 r.keeps.same (slot_number now) spot.slot turn ∙ ap (λ (k : ℕ). turn_at pass k spot.slot turn) r.keeps.its.1)
               ∙ append_assoc before (turns_at pass s ms r.turns) (turn_at pass s spot.slot turn)
               ∙ ap (λ (log : List (Deed × Answer)). before ++ log)
               (sym (turns_push pass s ms r.turns spot.slot turn (r.each ∙ sym (many_taken spots i less)))
@@ -185,23 +185,17 @@ module _ (key : SlotKey) (pass : Pass) (spots : List Spot) (front : ℕ) (at : I
           stands = turned.stands ∙ ap (λ (w : ℕ). Some (record { place = look at.batch w later; queue = at.queue })) (plus one (at.won + won) ∙ (let same : (at.won + won) + more ≡ at.won + (won + more) = omega arith in same));
         }
       where
-        many_taken : (es : List Spot) (k : ℕ) → k < length es → length (slots_of (take k es)) ≡ k
+        many_taken : (es : List SlotMark) (k : ℕ) → k < length es → length (marked_slots (take k es)) ≡ k
         many_taken [] k l = absurd (omega (arith, l))
         many_taken (e ∷ es) zero l = refl
         many_taken (e ∷ es) (suc k) l = ap suc (many_taken es k (omega (arith, l)))
 
-    pub turned_won : one ≡ true → HasTurned at (i + 1) (won + 1) key' pass'
-    turned_won is = subst (λ (b : Bool). HasTurned at (i + 1) (won + (if b then 1 else 0)) key' pass') is turned_next
-
-    pub turned_off : one ≡ false → HasTurned at (i + 1) won key' pass'
-    turned_off is = subst (λ (n : ℕ). HasTurned at (i + 1) n key' pass') (let none : won + 0 ≡ won = omega arith in none) (subst (λ (b : Bool). HasTurned at (i + 1) (won + (if b then 1 else 0)) key' pass') is turned_next)
-
-pub all_turned : (key : SlotKey) (pass : Pass) (spots : List Spot) (front : ℕ) (at : IsInserting key pass spots front) (i won : ℕ) (key' : SlotKey) (pass' : Pass) → HasTurned at i won key' pass' → length spots ≤ i → InsertedAll at key' pass' won
+pub all_turned : (key : SlotKey) (pass : Pass) (spots : List SlotMark) (front : ℕ) (at : IsInserting key pass spots front) (i won : ℕ) (key' : SlotKey) (pass' : Pass) → HasTurned at i won key' pass' → length spots ≤ i → InsertedAll at key' pass' won
 all_turned key pass spots front at i won key' pass' r past = record {
   keeps = r.keeps;
   turns = r.turns;
   each = let each = r.each in let within = r.within in omega (arith, each, within, past);
-  made = r.made ∙ ap (λ (es : List Spot). events_by pass ++ turns_at pass (number_of key) (slots_of es) r.turns) (all_taken spots i past);
+  made = r.made ∙ ap (λ (es : List SlotMark). events_by pass ++ turns_at pass (slot_number key) (marked_slots es) r.turns) (all_taken spots i past);
   many = r.many;
   planned = r.planned;
   stands = r.stands ∙ ap (λ (ms : List ℕ). Some (record { place = look at.batch (at.won + won) ms; queue = at.queue })) (none_left spots i past);
@@ -213,39 +207,39 @@ pub detached_look : (b won : ℕ) (ms queue : List ℕ) → detached_by (Some (r
 detached_look b won [] queue = refl
 detached_look b won (m ∷ ms) queue = refl
 
-module _ (key : SlotKey) (pass : Pass) (held : Keys) (k front : ℕ) (at : IsInserting key pass (take k (spots_of held)) front) (values : labels_of held ≡ values_in key at.batch) (enough : k ≤ length (spots_of held))
-    (i won : ℕ) (now : SlotKey) (pass1 : Pass) (r : HasTurned at i won now pass1) (less : i < k) (book : IsOf now pass1) (knows : Knows now pass1) (round : Round) (rest_is : rest_in round ≡ drop i held) where
-  abbrev none : Spot
+module _ (key : SlotKey) (pass : Pass) (held : Keys) (k front : ℕ) (at : IsInserting key pass (take k (slot_marks_of held)) front) (values : labels_of held ≡ values_in key at.batch) (enough : k ≤ length (slot_marks_of held))
+    (i won : ℕ) (now : SlotKey) (pass1 : Pass) (r : HasTurned at i won now pass1) (less : i < k) (book : IsKeyOfBook now pass1) (knows : Knows now pass1) (round : Round) (rest_is : rest_in round ≡ drop i held) where
+  abbrev none : SlotMark
   none = record { block = 0; slot = 0 }
 
-  abbrev step : (h : Held Entry) × (drop i held ≡ h ∷ drop (i + 1) held) × (take (i + 1) held ≡ take i held ++ h ∷ []) × (get_or (take k (spots_of held)) i none ≡ record { block = block_of h.label; slot = slot_noted h.note }) × Contains (labels_of held) h.label
+  abbrev step : (h : HeldKey Entry) × (drop i held ≡ h ∷ drop (i + 1) held) × (take (i + 1) held ≡ take i held ++ h ∷ []) × (get_or (take k (slot_marks_of held)) i none ≡ record { block = block_number h.label; slot = slot_noted h.note }) × Contains (labels_of held) h.label
   step = round_step held k i none less enough
 
-  pub within : i < length (take k (spots_of held))
-  within = let long = length-take-le k (spots_of held) enough in omega (arith, long, less)
+  pub within : i < length (take k (slot_marks_of held))
+  within = let long = length-take-le k (slot_marks_of held) enough in omega (arith, long, less)
 
   pub next_named : has step.0.label (state_seen pass1).named ≡ true
   next_named =
-      detached_named now pass1 book knows at.batch step.0.label (ap detached_by r.stands ∙ detached_look at.batch (at.won + won) (slots_of (drop i (take k (spots_of held)))) at.queue)
+      detached_named now pass1 book knows at.batch step.0.label (ap detached_by r.stands ∙ detached_look at.batch (at.won + won) (marked_slots (drop i (take k (slot_marks_of held)))) at.queue)
       (subst (λ (vs : List ℕ). Contains vs step.0.label) (values ∙ ap (λ (plan : Plan). plan.values) (sym r.planned)) step.4)
 
-  abbrev pub with_at : IsAtSlot now (slot_noted step.0.note) (block_of step.0.label) front → IsAtNext now pass1 round front
+  abbrev pub with_at : IsAtSlot now (slot_noted step.0.note) (block_number step.0.label) front → IsAtNext now pass1 round front
   with_at a = record {
     first = step.0;
     others = drop (i + 1) held;
     is_first = rest_is ∙ step.1;
     at = a;
-    seen = subst (λ (s : Spot). s.slot < slots_seen pass1) step.3 (next_seen key pass (take k (spots_of held)) front at i won now pass1 r none within);
+    seen = subst (λ (s : SlotMark). s.slot < slots_seen pass1) step.3 (next_seen key pass (take k (slot_marks_of held)) front at i won now pass1 r none within);
     named = next_named;
   }
 
   abbrev pub round_next : IsAtNext now pass1 round front
-  round_next = with_at (subst (λ (s : Spot). IsAtSlot now s.slot s.block front) step.3 (at_next key pass (take k (spots_of held)) front at i won now pass1 r none within))
+  round_next = with_at (subst (λ (s : SlotMark). IsAtSlot now s.slot s.block front) step.3 (at_next key pass (take k (slot_marks_of held)) front at i won now pass1 r none within))
 
   pub round_turned : (key' : SlotKey) (pass' : Pass) (one : Bool) → ((next : IsAtNext now pass1 round front) → Inserted next.at pass1 key' pass' one) → HasTurned at (i + 1) (won + (if one then 1 else 0)) key' pass'
   round_turned key' pass' one all =
-      turned_next key pass (take k (spots_of held)) front at i won now pass1 r none within key' pass' one
-      (subst (λ (s : Spot). (a : IsAtSlot now s.slot s.block front) → Inserted a pass1 key' pass' one) (sym step.3) (λ a. all (with_at a)) (at_next key pass (take k (spots_of held)) front at i won now pass1 r none within))
+      turned_next key pass (take k (slot_marks_of held)) front at i won now pass1 r none within key' pass' one
+      (subst (λ (s : SlotMark). (a : IsAtSlot now s.slot s.block front) → Inserted a pass1 key' pass' one) (sym step.3) (λ a. all (with_at a)) (at_next key pass (take k (slot_marks_of held)) front at i won now pass1 r none within))
 
   pub round_done : (round' : Round) → GoesPast round_next round' → done_in round ≡ take i held → (done_in round' ≡ take (i + 1) held) × (rest_in round' ≡ drop (i + 1) held)
   round_done round' past is = (past.1 ∙ ap (λ (hs : Keys). hs ++ step.0 ∷ []) is ∙ sym step.2, past.2)

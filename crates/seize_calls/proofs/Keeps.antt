@@ -12,13 +12,13 @@ use Rattle.seize_machine.specs.declared.machine.event.Answer.{Answer}
 use Rattle.seize_machine.specs.declared.machine.event.Answer.TheVariants.{Done, Head as HeadRead}
 use Rattle.seize_machine.specs.declared.machine.event.Try.TheVariants.{Won, Lost}
 use Rattle.seize_machine.proofs.Facts.{Step, some_is, step_of}
-use Rattle.seize_book.specs.Adding.{private, telling}
+use Rattle.seize_book.specs.Adding.{deed_with_words, private}
 use Rattle.seize_book.specs.Book.{after}
 use Rattle.seize_book.specs.Entry.{Made}
 use Rattle.seize_words.specs.Headers.{Uses, using}
 use Rattle.seize_book.specs.Laws.{starts}
-use Rattle.seize_book.specs.Passes.{IsSame, LooksOn, events_by, events_in}
-use Rattle.seize_book.specs.Slots.{IsOf, NotesAs, number_of, own_list, size_of, slot_of, start_of}
+use Rattle.seize_book.specs.Passes.{IsSamePass, LooksOn, events_by, events_in}
+use Rattle.seize_book.specs.Slots.{IsKeyOfBook, NotesAs, own_list, slot_number, slot_of, start_of}
 use Rattle.seize_book.specs.Tokens.{Name, start}
 use Rattle.seize_book.specs.declared.book.pass.Pass.{Pass}
 use Rattle.seize_book.specs.declared.book.slot_key.SlotKey.{SlotKey}
@@ -84,48 +84,48 @@ insert_lost size st _ _ call _ (Step.lost s m b won later saw queue e other) is 
     written st _ s _ _ _ _ is refl (ap (λ (c : Call). Some (goes lost_on c)) (some_is _ _ (sym e ∙ is))) refl refl refl
 
 -- What the slot's key knows of it.
-module _ (key key' : SlotKey) (pass pass' : Pass) (event : Event) (kepts : List ℕ) (notes : NotesAs key pass key' pass' (telling pass event kepts)) where
+module _ (key key' : SlotKey) (pass pass' : Pass) (event : Event) (kepts : List ℕ) (notes : NotesAs key pass key' pass' (deed_with_words pass event kepts)) where
   abbrev pub state_before : State
   state_before = after (start_of key) notes.2.0.before
 
   abbrev pub outcome : State × Answer
   outcome = (notes.2.0.later, notes.2.0.answer)
 
-  pub step_noted : Step (size_of key) state_before event outcome
-  step_noted = step_of (size_of key) state_before event outcome notes.2.1.legal
+  pub step_noted : Step pass.size state_before event outcome
+  step_noted = step_of pass.size state_before event outcome notes.2.1.legal
 
-  pub call_before : (call : Call) → (slot_of key).call ≡ Some call → (slot_at state_before (number_of key)).call ≡ Some call
+  pub call_before : (call : Call) → (slot_of key).call ≡ Some call → (slot_at state_before (slot_number key)).call ≡ Some call
   call_before call is = ap (λ (z : Slot). z.call) notes.2.1.was ∙ is
 
-  pub keeps_from : ((slot_at outcome.0 (number_of key)).batch ≡ (slot_at state_before (number_of key)).batch) → ((slot_at outcome.0 (number_of key)).used ≡ (slot_at state_before (number_of key)).used)
-      → (is_active (head_at outcome.0 (number_of key)) ≡ is_active (head_at state_before (number_of key))) → starts (number_of key) event ≡ false → Keeps key pass key' pass'
+  pub keeps_from : ((slot_at outcome.0 (slot_number key)).batch ≡ (slot_at state_before (slot_number key)).batch) → ((slot_at outcome.0 (slot_number key)).used ≡ (slot_at state_before (slot_number key)).used)
+      → (is_active (head_at outcome.0 (slot_number key)) ≡ is_active (head_at state_before (slot_number key))) → starts (slot_number key) event ≡ false → Keeps key pass key' pass'
   keeps_from batch used active none = record {
     same = notes.0;
     its = (notes.1.0, notes.1.1);
     batch = ap (λ (z : Slot). z.batch) notes.2.1.is ∙ batch ∙ ap (λ (z : Slot). z.batch) notes.2.1.was;
     used = ap (λ (z : Slot). z.used) notes.2.1.is ∙ used ∙ ap (λ (z : Slot). z.used) notes.2.1.was;
     active = notes.2.1.is_now_active ∙ active ∙ notes.2.1.was_active;
-    life = life_kept key key' pass pass' (telling pass event kepts) notes none;
+    life = life_kept key key' pass pass' (deed_with_words pass event kepts) notes none;
     seen =
         subst (λ (z : Name). length (after (start pass.name) pass.seen).slots ≤ length (after (start z) pass'.seen).slots) (sym notes.0.0)
         (more_slots pass.name pass.seen pass'.seen (seen_grows pass.name pass.id pass.seen pass'.seen _ notes.2.0) notes.2.0.legal);
     grows = seen_grows pass.name pass.id pass.seen pass'.seen _ notes.2.0;
-    alone = alone_noted pass pass' (Made (telling pass event kepts)) refl notes.2.0;
+    alone = alone_noted pass pass' (Made (deed_with_words pass event kepts)) refl notes.2.0;
   }
 
   -- it knows all that it knew
   pub own_grows : IsPrefix (own_list key) (own_list key')
-  own_grows = subst (IsPrefix (own_list key)) (sym notes.1.2) (prefix_trans (own_list key) notes.2.0.before pass'.seen notes.2.1.knew (Made (telling pass event kepts) ∷ [], sym notes.2.0.appended))
+  own_grows = subst (IsPrefix (own_list key)) (sym notes.1.2) (prefix_trans (own_list key) notes.2.0.before pass'.seen notes.2.1.knew (Made (deed_with_words pass event kepts) ∷ [], sym notes.2.0.appended))
 
-  module _ (call : Call) (on : Place → Place) (answer : Answer) (goes_so : Goes state_before (number_of key) call on outcome answer) where
-    pub keeps_noted : starts (number_of key) event ≡ false → Keeps key pass key' pass'
+  module _ (call : Call) (on : Place → Place) (answer : Answer) (goes_so : Goes state_before (slot_number key) call on outcome answer) where
+    pub keeps_noted : starts (slot_number key) event ≡ false → Keeps key pass key' pass'
     keeps_noted none = keeps_from goes_so.batch goes_so.used goes_so.active none
 
     pub call_after : (slot_of key').call ≡ Some (goes on call)
     call_after = ap (λ (z : Slot). z.call) notes.2.1.is ∙ goes_so.stands
 
-    pub made_noted : events_by pass' ≡ events_by pass ++ (telling pass event kepts, answer) ∷ []
-    made_noted = deeds_grew pass pass' (telling pass event kepts) notes.0 notes.2.0 ∙ ap (λ (a : Answer). events_by pass ++ (telling pass event kepts, a) ∷ []) goes_so.told
+    pub made_noted : events_by pass' ≡ events_by pass ++ (deed_with_words pass event kepts, answer) ∷ []
+    made_noted = deeds_grew pass pass' (deed_with_words pass event kepts) notes.0 notes.2.0 ∙ ap (λ (a : Answer). events_by pass ++ (deed_with_words pass event kepts, a) ∷ []) goes_so.told
 
 pub keeps_used : (key key' : SlotKey) (pass pass' : Pass) (f v : ℕ) → Uses key pass key' pass' f v → Keeps key pass key' pass'
 keeps_used key key' pass pass' f v uses = record {
@@ -147,7 +147,7 @@ keeps_looked key pass pass' looks = record { same = looks.same; its = (refl, ref
 
 pub keeps_twice : (key one two : SlotKey) (pass pass1 pass2 : Pass) → Keeps key pass one pass1 → Keeps one pass1 two pass2 → Keeps key pass two pass2
 keeps_twice key one two pass pass1 pass2 first second = record {
-  same = (second.same.0 ∙ first.same.0, second.same.1 ∙ first.same.1);
+  same = (second.same.0 ∙ first.same.0, second.same.1 ∙ first.same.1, second.same.2 ∙ first.same.2);
   its = (second.its.0 ∙ first.its.0, second.its.1 ∙ first.its.1);
   batch = second.batch ∙ first.batch;
   used = second.used ∙ first.used;
@@ -158,16 +158,16 @@ keeps_twice key one two pass pass1 pass2 first second = record {
   alone = alone_twice pass pass1 pass2 first.same first.alone second.alone;
 }
 
-pub keeps_book : (key key' : SlotKey) (pass pass' : Pass) → Keeps key pass key' pass' → IsOf key pass → IsOf key' pass'
+pub keeps_book : (key key' : SlotKey) (pass pass' : Pass) → Keeps key pass key' pass' → IsKeyOfBook key pass → IsKeyOfBook key' pass'
 keeps_book key key' pass pass' keeps book = keeps.its.0 ∙ book ∙ sym keeps.same.0
 
 -- the entry of an event is the same with a pass as it was before
-pub same_telling : (pass pass' : Pass) → IsSame pass pass' → (event : Event) (kepts : List ℕ) → telling pass' event kepts ≡ telling pass event kepts
+pub same_telling : (pass pass' : Pass) → IsSamePass pass pass' → (event : Event) (kepts : List ℕ) → deed_with_words pass' event kepts ≡ deed_with_words pass event kepts
 same_telling pass pass' same event kepts =
-    ap (λ (p : ℕ). record { pass = p; size = pass'.name.size; event = event; life = 0; kepts = kepts }) same.1
-    ∙ ap (λ (z : Name). record { pass = pass.id; size = z.size; event = event; life = 0; kepts = kepts }) same.0
+    ap (λ (p : ℕ). record { pass = p; size = pass'.size; event = event; life = 0; kepts = kepts }) same.1
+    ∙ ap (λ (k : ℕ). record { pass = pass.id; size = k; event = event; life = 0; kepts = kepts }) same.2
 
-pub same_private : (pass pass' : Pass) → IsSame pass pass' → (event : Event) → private pass' event ≡ private pass event
+pub same_private : (pass pass' : Pass) → IsSamePass pass pass' → (event : Event) → private pass' event ≡ private pass event
 same_private pass pass' same event = same_telling pass pass' same event []
 
 pub looked_same : (pass pass' : Pass) → LooksOn pass pass' → events_by pass' ≡ events_by pass

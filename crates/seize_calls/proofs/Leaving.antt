@@ -13,19 +13,19 @@ use Rattle.seize_machine.proofs.Facts.{Step, some_is, step_of}
 use Rattle.seize_book.specs.Blocks.{block_for, list_word}
 use Rattle.seize_book.specs.Book.{after}
 use Rattle.seize_book.specs.Entry.{Deed, Entry, Made}
-use Rattle.seize_book.specs.Passes.{IsSame, events_by}
-use Rattle.seize_words.specs.Reservations.{WalksOn, beginning, slot}
-use Rattle.seize_book.specs.Slots.{Notes, NotesAs, active_of, number_of, own_list, size_of, slot_of, start_of}
+use Rattle.seize_book.specs.Passes.{IsSamePass, events_by}
+use Rattle.seize_words.specs.Reservations.{WalksFrom, beginning, slot}
+use Rattle.seize_book.specs.Slots.{Notes, NotesAs, active_of, own_list, slot_number, slot_of, start_of}
 use Rattle.seize_book.specs.Tokens.{Name}
 use Rattle.seize_book.specs.declared.book.pass.Pass.{Pass}
 use Rattle.seize_book.specs.declared.book.slot_key.SlotKey.{SlotKey}
 use Rattle.seize_words.specs.declared.reservation.Head.{Head as Word}
 use Rattle.seize_words.proofs.Facts.{all_told_later, deeds_grew, seen_grows}
 use Rattle.seize_calls.proofs.Alone.{alone_noted, alone_twice}
-use Rattle.seize_book.specs.Slots.{IsOf}
+use Rattle.seize_book.specs.Slots.{IsKeyOfBook}
 use mathlib.Core.List.{IsPrefix}
 use Rattle.seize_book.specs.Kept.{AreTold, kepts_in, kepts_of}
-use Rattle.seize_book.specs.Ledger.{Held}
+use Rattle.seize_book.specs.Ledger.{HeldKey}
 use Rattle.seize_book.specs.Private.{labels_of}
 use Rattle.seize_book.specs.Values.{IsEmpty, values_of}
 use Rattle.seize_book.specs.declared.book.value_keys.ValueKeys.{ValueKeys}
@@ -33,16 +33,16 @@ use Rattle.seize_words.specs.Walks.{Knows}
 use Rattle.seize_machine.specs.Machine.State.{Rest}
 use Rattle.seize_calls.specs.Calls.{Begins, Leaves}
 use Rattle.seize_calls.specs.Handing.{Had, values_put, words_put}
-use Rattle.seize_calls.specs.Settling.{Drains, HasBatch, HasQueue, Onward, Sits, Stand, done}
+use Rattle.seize_calls.specs.Settling.{CallState, Drains, HasBatch, HasQueue, IsWellFormed, Onward, done_event}
 use Rattle.seize_calls.specs.Walking.{IsAtWalk, WalksAll, handed_in, steps}
 use Rattle.seize_calls.proofs.Events.{keeps_returned}
 use Rattle.seize_calls.proofs.Whole.{returned, whole_rests}
 use Rattle.seize_calls.proofs.Marks.{within}
 use Rattle.seize_calls.proofs.Strolls.{same_steps}
 
-pub same_beginning : (pass pass' : Pass) → IsSame pass pass' → (life : ℕ) (event : Event) → beginning pass' life event ≡ beginning pass life event
+pub same_beginning : (pass pass' : Pass) → IsSamePass pass pass' → (life : ℕ) (event : Event) → beginning pass' life event ≡ beginning pass life event
 same_beginning pass pass' same life event =
-    ap (λ (p : ℕ). record { pass = p; size = pass'.name.size; event = event; life = life; kepts = [] }) same.1 ∙ ap (λ (z : Name). record { pass = pass.id; size = z.size; event = event; life = life; kepts = [] }) same.0
+    ap (λ (p : ℕ). record { pass = p; size = pass'.size; event = event; life = life; kepts = [] }) same.1 ∙ ap (λ (k : ℕ). record { pass = pass.id; size = k; event = event; life = life; kepts = [] }) same.2
 
 -- the machine swaps the head out
 after_swap : (size : ℕ) (st : State) (s : ℕ) (stays : Bool) (queue : List ℕ) (d : State × Answer) → Step size st (SwapOut s) d → (slot_at st s).call ≡ Some (record { place = Out stays; queue = queue }) → is_active (head_at st s) ≡ true
@@ -65,9 +65,9 @@ after_swap size st _ stays queue _ (Step.swapped_out s other q stands) is on =
     which false = refl
 
 module _ (key one two : SlotKey) (pass pass1 pass2 : Pass) (job : Job) (stays : Bool) (life : ℕ) (begins : Begins key pass job [] one pass1) (on : active_of key ≡ true) (out : (slot_of one).call ≡ Some (record { place = Out stays; queue = [] }))
-    (notes : NotesAs one pass1 two pass2 (beginning pass1 life (SwapOut (number_of one)))) (head : Word) (word : ℕ) (walks : WalksOn head two word []) (own : slot head ≡ number_of key) where
+    (notes : NotesAs one pass1 two pass2 (beginning pass1 life (SwapOut (slot_number one)))) (head : Word) (word : ℕ) (walks : WalksFrom head two word []) (own : slot head ≡ slot_number key) where
   abbrev s : ℕ
-  s = number_of key
+  s = slot_number key
 
   abbrev st : State
   st = after (start_of one) notes.2.0.before
@@ -75,9 +75,9 @@ module _ (key one two : SlotKey) (pass pass1 pass2 : Pass) (job : Job) (stays : 
   abbrev d : State × Answer
   d = (notes.2.0.later, notes.2.0.answer)
 
-  so : ((slot_at d.0 (number_of one)).batch ≡ (slot_at st (number_of one)).batch) × ((slot_at d.0 (number_of one)).used ≡ (slot_at st (number_of one)).used) × (is_active (head_at d.0 (number_of one)) ≡ stays) × (d.1 ≡ Done)
+  so : ((slot_at d.0 (slot_number one)).batch ≡ (slot_at st (slot_number one)).batch) × ((slot_at d.0 (slot_number one)).used ≡ (slot_at st (slot_number one)).used) × (is_active (head_at d.0 (slot_number one)) ≡ stays) × (d.1 ≡ Done)
   so =
-      after_swap (size_of one) st (number_of one) stays [] d (step_of (size_of one) st (SwapOut (number_of one)) d notes.2.1.legal) (ap (λ (z : Slot). z.call) notes.2.1.was ∙ out)
+      after_swap pass1.size st (slot_number one) stays [] d (step_of pass1.size st (SwapOut (slot_number one)) d notes.2.1.legal) (ap (λ (z : Slot). z.call) notes.2.1.was ∙ out)
       (notes.2.1.was_active ∙ begins.keeps.active ∙ on)
 
   abbrev pub at_walk : IsAtWalk two word
@@ -88,36 +88,36 @@ module _ (key one two : SlotKey) (pass pass1 pass2 : Pass) (job : Job) (stays : 
     leads = walks.2 ∙ ap (λ (m : ℕ). list_word (λ b. block_for (start_of two) (own_list two) b m) walks.0) (own ∙ sym begins.keeps.its.1 ∙ sym notes.1.1);
   }
 
-  same_two : IsSame pass pass2
-  same_two = (notes.0.0 ∙ begins.keeps.same.0, notes.0.1 ∙ begins.keeps.same.1)
+  same_two : IsSamePass pass pass2
+  same_two = (notes.0.0 ∙ begins.keeps.same.0, notes.0.1 ∙ begins.keeps.same.1, notes.0.2 ∙ begins.keeps.same.2)
 
-  its_two : (two.keys.name ≡ key.keys.name) × (number_of two ≡ s)
+  its_two : (two.keys.name ≡ key.keys.name) × (slot_number two ≡ s)
   its_two = (notes.1.0 ∙ begins.keeps.its.0, notes.1.1 ∙ begins.keeps.its.1)
 
   abbrev swap : Deed
   swap = beginning pass life (SwapOut s)
 
-  made_two : events_by pass2 ≡ (events_by pass ++ done pass (Begin s job)) ++ (swap, Done) ∷ []
+  made_two : events_by pass2 ≡ (events_by pass ++ done_event pass (Begin s job)) ++ (swap, Done) ∷ []
   made_two =
-      deeds_grew pass1 pass2 (beginning pass1 life (SwapOut (number_of one))) notes.0 notes.2.0
-      ∙ ap (λ (log : List (Deed × Answer)). log ++ (beginning pass1 life (SwapOut (number_of one)), notes.2.0.answer) ∷ []) begins.made
-      ∙ ap (λ (a : Answer). (events_by pass ++ done pass (Begin s job)) ++ (beginning pass1 life (SwapOut (number_of one)), a) ∷ []) so.3
-      ∙ ap (λ (x : Deed). (events_by pass ++ done pass (Begin s job)) ++ (x, Done) ∷ []) (same_beginning pass pass1 begins.keeps.same life (SwapOut (number_of one)) ∙ ap (λ (k : ℕ). beginning pass life (SwapOut k)) begins.keeps.its.1)
+      deeds_grew pass1 pass2 (beginning pass1 life (SwapOut (slot_number one))) notes.0 notes.2.0
+      ∙ ap (λ (log : List (Deed × Answer)). log ++ (beginning pass1 life (SwapOut (slot_number one)), notes.2.0.answer) ∷ []) begins.made
+      ∙ ap (λ (a : Answer). (events_by pass ++ done_event pass (Begin s job)) ++ (beginning pass1 life (SwapOut (slot_number one)), a) ∷ []) so.3
+      ∙ ap (λ (x : Deed). (events_by pass ++ done_event pass (Begin s job)) ++ (x, Done) ∷ []) (same_beginning pass pass1 begins.keeps.same life (SwapOut (slot_number one)) ∙ ap (λ (k : ℕ). beginning pass life (SwapOut k)) begins.keeps.its.1)
 
   module _ (three : SlotKey) (pass3 : Pass) (values queue0 queue3 : ValueKeys) (had had3 : Had) (empty0 : queue0.keys.held ≡ []) (all : WalksAll at_walk pass2 queue0 had three pass3 queue3 had3) where
-    abbrev pub behind : Stand
+    abbrev pub behind : CallState
     behind = record { key = three; pass = pass3; batch = values; queue = queue3; had = had3 }
 
-    pub same_three : IsSame pass pass3
-    same_three = (all.goes_on.0.same.0 ∙ same_two.0, all.goes_on.0.same.1 ∙ same_two.1)
+    pub same_three : IsSamePass pass pass3
+    same_three = (all.goes_on.0.same.0 ∙ same_two.0, all.goes_on.0.same.1 ∙ same_two.1, all.goes_on.0.same.2 ∙ same_two.2)
 
-    its_three : (three.keys.name ≡ key.keys.name) × (number_of three ≡ s)
+    its_three : (three.keys.name ≡ key.keys.name) × (slot_number three ≡ s)
     its_three = (all.goes_on.0.its.0 ∙ its_two.0, all.goes_on.0.its.1 ∙ its_two.1)
 
     walked_queue : (values_of queue3 ≡ values_put (handed_in all.walked)) × (kepts_of queue3 ≡ words_put (handed_in all.walked))
     walked_queue = (
-      all.queued.1 ∙ ap (λ (held : List (Held Entry)). labels_of held ++ values_put (handed_in all.walked)) empty0,
-      all.queued.2 ∙ ap (λ (held : List (Held Entry)). kepts_in held ++ words_put (handed_in all.walked)) empty0,
+      all.queued.1 ∙ ap (λ (held : List (HeldKey Entry)). labels_of held ++ values_put (handed_in all.walked)) empty0,
+      all.queued.2 ∙ ap (λ (held : List (HeldKey Entry)). kepts_in held ++ words_put (handed_in all.walked)) empty0,
     )
 
     grows_three : IsPrefix pass.seen pass3.seen
@@ -131,23 +131,23 @@ module _ (key one two : SlotKey) (pass pass1 pass2 : Pass) (job : Job) (stays : 
     batch_three : (slot_of three).batch ≡ (slot_of key).batch
     batch_three = all.goes_on.0.batch ∙ ap (λ (z : Slot). z.batch) notes.2.1.is ∙ so.0 ∙ ap (λ (z : Slot). z.batch) notes.2.1.was ∙ begins.keeps.batch
 
-    pub walked_sits : IsOf key pass → Knows three pass3 → HasBatch key pass values → IsEmpty queue0 pass → AreTold queue3 pass3 → Sits behind
+    pub walked_sits : IsKeyOfBook key pass → Knows three pass3 → HasBatch key pass values → IsEmpty queue0 pass → AreTold queue3 pass3 → IsWellFormed behind
     walked_sits book knows batch queue told = record {
       its = its_three.0 ∙ (book ∙ sym same_three.0);
       knows = knows;
-      batch = (batch.0 ∙ sym same_three.0, batch.1 ∙ sym batch_three, all_told_later values.keys.name.store pass.seen pass3.seen values.keys.held grows_three batch.2);
+      batch = (batch.0 ∙ sym same_three.0, batch.1 ∙ sym batch_three, all_told_later pass.seen pass3.seen values.keys.held grows_three batch.2);
       queue = (all.queued.0 ∙ (queue.0 ∙ sym same_three.0), told);
     }
 
-    module _ (b : Stand) (drains : Drains behind b) (onward : Onward three pass3 b.key b.pass) (sits : Sits b) (empty : values_of b.queue ≡ []) (key' : SlotKey) (pass' : Pass) (last : Notes b.key b.pass key' pass' (Return (number_of b.key))) where
+    module _ (b : CallState) (drains : Drains behind b) (onward : Onward three pass3 b.key b.pass) (sits : IsWellFormed b) (empty : values_of b.queue ≡ []) (key' : SlotKey) (pass' : Pass) (last : Notes b.key b.pass key' pass' (Return (slot_number b.key))) where
       pub has_left : Leaves job stays swap key pass values had key' pass' b.batch b.had
       has_left = record {
         walked = all.walked;
         kepts = all.kepts;
         behind = behind;
-        made = all.made ∙ ap (λ (log : List (Deed × Answer)). log ++ steps pass2 (number_of two) all.walked) made_two
-            ∙ ap (λ (log : List (Deed × Answer)). ((events_by pass ++ done pass (Begin s job)) ++ (swap, Done) ∷ []) ++ log)
-            (same_steps pass pass2 same_two (number_of two) all.walked ∙ ap (λ (k : ℕ). steps pass k all.walked) its_two.1);
+        made = all.made ∙ ap (λ (log : List (Deed × Answer)). log ++ steps pass2 (slot_number two) all.walked) made_two
+            ∙ ap (λ (log : List (Deed × Answer)). ((events_by pass ++ done_event pass (Begin s job)) ++ (swap, Done) ∷ []) ++ log)
+            (same_steps pass pass2 same_two (slot_number two) all.walked ∙ ap (λ (k : ℕ). steps pass k all.walked) its_two.1);
         has_had = all.has_had;
         told = all.told;
         queued = walked_queue;
@@ -156,11 +156,11 @@ module _ (key one two : SlotKey) (pass pass1 pass2 : Pass) (job : Job) (stays : 
         drains = drains;
         returns = returned b key' pass' last empty;
         rests =
-            whole_rests key pass b key' pass' (onward.same.0 ∙ same_three.0, onward.same.1 ∙ same_three.1)
+            whole_rests key pass b key' pass' (onward.same.0 ∙ same_three.0, onward.same.1 ∙ same_three.1, onward.same.2 ∙ same_three.2)
             (prefix_trans pass.seen pass1.seen b.pass.seen begins.keeps.grows
             (prefix_trans pass1.seen pass2.seen b.pass.seen (seen_grows pass1.name pass1.id pass1.seen pass2.seen _ notes.2.0) (prefix_trans pass2.seen pass3.seen b.pass.seen all.goes_on.0.grows onward.grows)))
             (alone_twice pass pass1 b.pass begins.keeps.same begins.keeps.alone
-            (alone_twice pass1 pass2 b.pass notes.0 (alone_noted pass1 pass2 (Made (beginning pass1 life (SwapOut (number_of one)))) refl notes.2.0)
+            (alone_twice pass1 pass2 b.pass notes.0 (alone_noted pass1 pass2 (Made (beginning pass1 life (SwapOut (slot_number one)))) refl notes.2.0)
             (alone_twice pass2 pass3 b.pass all.goes_on.0.same all.goes_on.0.alone onward.alone)))
             (onward.its.0 ∙ its_three.0, onward.its.1 ∙ its_three.1)
             (onward.used ∙ all.goes_on.0.used ∙ ap (λ (z : Slot). z.used) notes.2.1.is ∙ so.1 ∙ ap (λ (z : Slot). z.used) notes.2.1.was ∙ begins.keeps.used)

@@ -6,22 +6,22 @@ use base.Growing.{prefix_trans}
 use base.Stored.{Gv}
 use Rattle.std.specs.List.{Contains}
 use mathlib.Core.List.{IsPrefix}
-use Rattle.seize_machine.specs.Machine.State.{State, Slot, Call, Head, Inactive, Active, Place, Mark, Look, Rest, no_slot, slot_at, head_at, is_active, are_distinct, linked}
+use Rattle.seize_machine.specs.Machine.State.{State, Slot, Call, Head, Inactive, Active, Place, Mark, Look, Rest, no_slot, slot_at, head_at, is_active, are_distinct, linked_values}
 use Rattle.seize_machine.specs.Machine.Event.{ReadHead}
 use Rattle.seize_machine.specs.Machine.Next.{can_detach_at, in_turn, marked_place, of_call}
 use Rattle.seize_machine.specs.declared.machine.event.Answer.{Answer}
 use Rattle.seize_machine.specs.declared.machine.event.Answer.TheVariants.{Head as HeadRead}
 use Rattle.seize_machine.proofs.Facts.{Step, Stands, some_is, step_of}
 use Rattle.seize_book.specs.Adding.{private}
-use Rattle.seize_book.specs.Blocks.{block_for, block_of, word_of}
+use Rattle.seize_book.specs.Blocks.{block_for, block_number, word_of}
 use Rattle.seize_book.specs.Book.{IsLegalList, after}
 use Rattle.seize_book.specs.Entry.{Deed, Entry as Logged, Made}
-use Rattle.seize_book.specs.Ledger.{Held}
+use Rattle.seize_book.specs.Ledger.{HeldKey}
 use Rattle.seize_book.specs.Private.{labels_of}
 use Rattle.seize_words.specs.Heads.{reads_at}
-use Rattle.seize_book.specs.Passes.{IsSame, LooksOn, events_by, events_in}
-use Rattle.seize_words.specs.Reservations.{MayRead, Shows, slot}
-use Rattle.seize_book.specs.Slots.{IsOf, Notes, active_of, life_of, number_of, own_list, size_of, slot_of, start_of}
+use Rattle.seize_book.specs.Passes.{IsSamePass, LooksOn, events_by, events_in}
+use Rattle.seize_words.specs.Reservations.{MayRead, ShowsHead, slot}
+use Rattle.seize_book.specs.Slots.{IsKeyOfBook, Notes, active_of, life_of, own_list, slot_number, slot_of, start_of}
 use Rattle.seize_book.specs.Tokens.{Name, start}
 use Rattle.seize_words.specs.Totals.{slots_seen}
 use Rattle.seize_words.specs.Walks.{Knows}
@@ -33,10 +33,10 @@ use Rattle.seize_calls.specs.Alone.{AddsAlone}
 use Rattle.seize_calls.proofs.Alone.{alone_looked, alone_none, alone_noted, alone_twice}
 use Rattle.seize_calls.proofs.Batches.{counted_is}
 use Rattle.seize_calls.proofs.Named.{batch_named}
-use Rattle.seize_calls.specs.Batches.{Spot, slot_noted, slots_of, spots_of, unslotted, without_slot}
-use Rattle.seize_calls.specs.Marks.{BeginsToMark, Ends, actives, reading, readings}
-use Rattle.seize_calls.specs.Numbered.{counted}
-use Rattle.seize_calls.specs.Rounds.{HasNext, IsRoundOf, Remarks, all_in, book_at, done_in, remarked, rest_in}
+use Rattle.seize_calls.specs.Batches.{SlotMark, marked_slots, slot_marks_of, slot_noted, unslotted, without_slot}
+use Rattle.seize_calls.specs.Marks.{BeginsToMark, EndsMarks, actives, reading, readings}
+use Rattle.seize_calls.specs.Numbered.{is_count_of}
+use Rattle.seize_calls.specs.Rounds.{HasNextValue, IsRoundOf, Remarks, all_in, book_at, done_in, remarked, rest_in}
 use Rattle.seize_calls.specs.declared.marking.Marked.{Marked}
 use Rattle.seize_calls.specs.declared.round.Round.{Round}
 use Rattle.seize_calls.specs.declared.marking.Marked.TheVariants.{Ready, TooMany}
@@ -68,27 +68,27 @@ actives_few n (false ∷ finds) = let rest = actives_few (suc n) finds in omega 
 -- A round goes past a value whose block is noted anew.
 
 abbrev Keys : Type 0
-Keys = List (Held Logged)
+Keys = List (HeldKey Logged)
 
-all_same : {B : Type 0} (f : Held Logged → B) (done rest : Keys) (x y : Held Logged) → f x ≡ f y → map f ((done ++ x ∷ []) ++ rest) ≡ map f (done ++ y ∷ rest)
+all_same : {B : Type 0} (f : HeldKey Logged → B) (done rest : Keys) (x y : HeldKey Logged) → f x ≡ f y → map f ((done ++ x ∷ []) ++ rest) ≡ map f (done ++ y ∷ rest)
 all_same f [] rest x y e = ap (λ b. b ∷ map f rest) e
 all_same f (h ∷ done) rest x y e = ap (λ bs. f h ∷ bs) (all_same f done rest x y e)
 
-slots_push : (done : Keys) (x : Held Logged) → slots_of (spots_of (done ++ x ∷ [])) ≡ slots_of (spots_of done) ++ slot_noted x.note ∷ []
+slots_push : (done : Keys) (x : HeldKey Logged) → marked_slots (slot_marks_of (done ++ x ∷ [])) ≡ marked_slots (slot_marks_of done) ++ slot_noted x.note ∷ []
 slots_push [] x = refl
 slots_push (h ∷ done) x = ap (λ (ms : List ℕ). slot_noted h.note ∷ ms) (slots_push done x)
 
-many_slots : (held : Keys) → length (slots_of (spots_of held)) ≡ length held
+many_slots : (held : Keys) → length (marked_slots (slot_marks_of held)) ≡ length held
 many_slots [] = refl
 many_slots (h ∷ held) = ap suc (many_slots held)
 
-pub take_done : (done rest : Keys) (k : ℕ) → length done ≡ k → take k (spots_of (done ++ rest)) ≡ spots_of done
+pub take_done : (done rest : Keys) (k : ℕ) → length done ≡ k → take k (slot_marks_of (done ++ rest)) ≡ slot_marks_of done
 take_done [] rest zero e = refl
 take_done [] rest (suc k) e = absurd (omega (arith, e))
 take_done (h ∷ done) rest zero e = absurd (omega (arith, e))
-take_done (h ∷ done) rest (suc k) e = ap (λ (spots : List Spot). record { block = block_of h.label; slot = slot_noted h.note } ∷ spots) (take_done done rest k (omega (arith, e)))
+take_done (h ∷ done) rest (suc k) e = ap (λ (spots : List SlotMark). record { block = block_number h.label; slot = slot_noted h.note } ∷ spots) (take_done done rest k (omega (arith, e)))
 
-done_within : (done rest : Keys) → length done ≤ length (spots_of (done ++ rest))
+done_within : (done rest : Keys) → length done ≤ length (slot_marks_of (done ++ rest))
 done_within [] rest = omega arith
 done_within (h ∷ done) rest = let less = done_within done rest in omega (arith, less)
 
@@ -105,9 +105,9 @@ next_of done (h ∷ rest) batch e less = (h.label, labels_of rest, refl, subst (
     there (x ∷ done) = let more = there done in (suc more.0, omega (arith, more.1), more.2)
 
 -- so many heads were read, and so many slots marked
-pub record IsReading {key : SlotKey} (at : BeginsToMark key) (end : ℕ) (pass : Pass) (held : List (Held Logged)) (count marked : ℕ) (key' : SlotKey) (pass' : Pass) (round : Round) : Type 0 where
-  pub same : IsSame pass pass'
-  pub its : (key'.keys.name ≡ key.keys.name) × (number_of key' ≡ number_of key)
+pub record IsReading {key : SlotKey} (at : BeginsToMark key) (end : ℕ) (pass : Pass) (held : List (HeldKey Logged)) (count marked : ℕ) (key' : SlotKey) (pass' : Pass) (round : Round) : Type 0 where
+  pub same : IsSamePass pass pass'
+  pub its : (key'.keys.name ≡ key.keys.name) × (slot_number key' ≡ slot_number key)
   pub knows : Knows key' pass'
   pub there : end ≤ slots_seen pass'
   pub grows : IsPrefix pass.seen pass'.seen
@@ -121,11 +121,11 @@ pub record IsReading {key : SlotKey} (at : BeginsToMark key) (end : ℕ) (pass :
   pub many : length (actives 0 finds) ≡ marked
   pub few : marked ≤ length (slot_of key).batch
   pub stands : (slot_of key').call ≡ Some (record { place = Mark count at.note (actives 0 finds); queue = at.queue })
-  pub made : events_by pass' ≡ events_by pass ++ readings pass (number_of key) 0 finds
+  pub made : events_by pass' ≡ events_by pass ++ readings pass (slot_number key) 0 finds
   pub book : book_at round ≡ pass.name
   pub values : labels_of (all_in round) ≡ (slot_of key).batch
   pub remarked : unslotted (all_in round) ≡ unslotted held
-  pub slots : slots_of (spots_of (done_in round)) ≡ actives 0 finds
+  pub slots : marked_slots (slot_marks_of (done_in round)) ≡ actives 0 finds
 
 -- none was read
 abbrev pub none_read : (key : SlotKey) (at : BeginsToMark key) (end : ℕ) (pass : Pass) (round : Round) → Knows key pass → end ≤ slots_seen pass → book_at round ≡ pass.name → IsRoundOf round (slot_of key).batch
@@ -133,7 +133,7 @@ abbrev pub none_read : (key : SlotKey) (at : BeginsToMark key) (end : ℕ) (pass
 none_read key at end pass round knows there book is =
     let all = ap (λ (held : Keys). held ++ rest_in round) is.0 in
     record {
-      same = (refl, refl);
+      same = (refl, refl, refl);
       its = (refl, refl);
       knows = knows;
       there = there;
@@ -152,7 +152,7 @@ none_read key at end pass round knows there book is =
       book = book;
       values = ap labels_of all ∙ is.1;
       remarked = ap unslotted all;
-      slots = ap (λ (held : Keys). slots_of (spots_of held)) is.0;
+      slots = ap (λ (held : Keys). marked_slots (slot_marks_of held)) is.0;
     }
 
 -- a slot with a call is there
@@ -198,11 +198,11 @@ word_some block (Active waiting) n = refl
 
 -- The next head is read.
 module _ (key0 : SlotKey) (at : BeginsToMark key0) (end : ℕ) (pass0 : Pass) (held : Keys) (i k : ℕ) (key : SlotKey) (pass : Pass) (round : Round) (r : IsReading at end pass0 held i k key pass round) (head : Word)
-    (head_is : (head.word.name ≡ pass0.name) × (slot head ≡ i)) (less : i < end) (book : IsOf key0 pass0) where
+    (head_is : (head.word.name ≡ pass0.name) × (slot head ≡ i)) (less : i < end) (book : IsKeyOfBook key0 pass0) where
   is_head : head.word.name ≡ pass.name
   is_head = head_is.0 ∙ sym r.same.0
 
-  pub may_read : IsOf key pass × (head.word.name ≡ pass.name)
+  pub may_read : IsKeyOfBook key pass × (head.word.name ≡ pass.name)
   may_read = (r.its.0 ∙ book ∙ sym r.same.0, is_head)
 
   pub reads_next : MayRead key head pass
@@ -214,7 +214,7 @@ module _ (key0 : SlotKey) (at : BeginsToMark key0) (end : ℕ) (pass0 : Pass) (h
       in_turn_now : (i note : ℕ) → in_turn i note i ≡ true
       in_turn_now i note = grind arith
 
-  module _ (key' : SlotKey) (pass' : Pass) (v : ℕ) (noted : Notes key pass key' pass' (ReadHead (number_of key) (slot head))) (shows : Shows head pass'.seen v) where
+  module _ (key' : SlotKey) (pass' : Pass) (v : ℕ) (noted : Notes key pass key' pass' (ReadHead (slot_number key) (slot head))) (shows : ShowsHead head pass'.seen v) where
     abbrev st : State
     st = after (start_of key) noted.2.0.before
 
@@ -224,11 +224,11 @@ module _ (key0 : SlotKey) (at : BeginsToMark key0) (end : ℕ) (pass0 : Pass) (h
     abbrev d : State × Answer
     d = (noted.2.0.later, noted.2.0.answer)
 
-    read : Stands d.0 (number_of key) (marked_place (is_active (head_at st (slot head))) (slot head) at.note (actives 0 r.finds) (slot_at st (number_of key)).batch) at.queue
-        × ((slot_at d.0 (number_of key)).batch ≡ (slot_at st (number_of key)).batch) × ((slot_at d.0 (number_of key)).used ≡ (slot_at st (number_of key)).used)
+    read : Stands d.0 (slot_number key) (marked_place (is_active (head_at st (slot head))) (slot head) at.note (actives 0 r.finds) (slot_at st (slot_number key)).batch) at.queue
+        × ((slot_at d.0 (slot_number key)).batch ≡ (slot_at st (slot_number key)).batch) × ((slot_at d.0 (slot_number key)).used ≡ (slot_at st (slot_number key)).used)
         × (d.0.heads ≡ st.heads) × (d.1 ≡ HeadRead (is_active (head_at st (slot head))))
     read =
-        after_read (size_of key) st (number_of key) (slot head) d i at.note (actives 0 r.finds) at.queue (step_of (size_of key) st (ReadHead (number_of key) (slot head)) d noted.2.1.legal) (ap (λ (z : Slot). z.call) noted.2.1.was ∙ r.stands)
+        after_read pass.size st (slot_number key) (slot head) d i at.note (actives 0 r.finds) at.queue (step_of pass.size st (ReadHead (slot_number key) (slot head)) d noted.2.1.legal) (ap (λ (z : Slot). z.call) noted.2.1.was ∙ r.stands)
 
     -- what the word showed is what the machine read
     abbrev block : ℕ → ℕ
@@ -244,32 +244,32 @@ module _ (key0 : SlotKey) (at : BeginsToMark key0) (end : ℕ) (pass0 : Pass) (h
     same_used = ap (λ (z : Slot). z.used) noted.2.1.is ∙ read.2 ∙ ap (λ (z : Slot). z.used) noted.2.1.was ∙ r.used
 
     pub same_active : active_of key' ≡ active_of key0
-    same_active = noted.2.1.is_now_active ∙ ap (λ (hs : List Head). is_active (get_or hs (number_of key) Inactive)) read.3 ∙ noted.2.1.was_active ∙ r.active
+    same_active = noted.2.1.is_now_active ∙ ap (λ (hs : List Head). is_active (get_or hs (slot_number key) Inactive)) read.3 ∙ noted.2.1.was_active ∙ r.active
 
     pub same_life : life_of key' ≡ life_of key0
-    same_life = life_kept key key' pass pass' (private pass (ReadHead (number_of key) (slot head))) noted refl ∙ r.life
+    same_life = life_kept key key' pass pass' (private pass (ReadHead (slot_number key) (slot head))) noted refl ∙ r.life
 
     goes_on : (active : Bool) → is_active (head_at st (slot head)) ≡ active → (slot_of key').call ≡ Some (record { place = marked_place active i at.note (actives 0 r.finds) batch; queue = at.queue })
     goes_on active e =
         ap (λ (z : Slot). z.call) noted.2.1.is ∙ read.0
-        ∙ ap (λ (b : Bool). Some (record { place = marked_place b (slot head) at.note (actives 0 r.finds) (slot_at st (number_of key)).batch; queue = at.queue })) e
-        ∙ ap (λ (m : ℕ). Some (record { place = marked_place active m at.note (actives 0 r.finds) (slot_at st (number_of key)).batch; queue = at.queue })) head_is.1
+        ∙ ap (λ (b : Bool). Some (record { place = marked_place b (slot head) at.note (actives 0 r.finds) (slot_at st (slot_number key)).batch; queue = at.queue })) e
+        ∙ ap (λ (m : ℕ). Some (record { place = marked_place active m at.note (actives 0 r.finds) (slot_at st (slot_number key)).batch; queue = at.queue })) head_is.1
         ∙ ap (λ (vs : List ℕ). Some (record { place = marked_place active i at.note (actives 0 r.finds) vs; queue = at.queue })) (ap (λ (z : Slot). z.batch) noted.2.1.was ∙ r.batch)
 
-    pub same : IsSame pass0 pass'
-    same = (noted.0.0 ∙ r.same.0, noted.0.1 ∙ r.same.1)
+    pub same : IsSamePass pass0 pass'
+    same = (noted.0.0 ∙ r.same.0, noted.0.1 ∙ r.same.1, noted.0.2 ∙ r.same.2)
 
-    pub same_key : (key'.keys.name ≡ key0.keys.name) × (number_of key' ≡ number_of key0)
+    pub same_key : (key'.keys.name ≡ key0.keys.name) × (slot_number key' ≡ slot_number key0)
     same_key = (noted.1.0 ∙ r.its.0, noted.1.1 ∙ r.its.1)
 
     pub knows : Knows key' pass'
-    knows = knows_noted key key' pass pass' (private pass (ReadHead (number_of key) (slot head))) noted
+    knows = knows_noted key key' pass pass' (private pass (ReadHead (slot_number key) (slot head))) noted
 
     pub grown : IsPrefix pass0.seen pass'.seen
     grown = prefix_trans pass0.seen pass.seen pass'.seen r.grows (seen_grows pass.name pass.id pass.seen pass'.seen _ noted.2.0)
 
     adds_alone : AddsAlone pass0 pass'
-    adds_alone = alone_twice pass0 pass pass' r.same r.alone (alone_noted pass pass' (Made (private pass (ReadHead (number_of key) (slot head)))) refl noted.2.0)
+    adds_alone = alone_twice pass0 pass pass' r.same r.alone (alone_noted pass pass' (Made (private pass (ReadHead (slot_number key) (slot head)))) refl noted.2.0)
 
     pub there : end ≤ slots_seen pass'
     there =
@@ -277,21 +277,21 @@ module _ (key0 : SlotKey) (at : BeginsToMark key0) (end : ℕ) (pass0 : Pass) (h
         subst (λ (z : Name). end ≤ length (after (start z) pass'.seen).slots) (sym noted.0.0)
         (omega (arith, r.there, more_slots n pass.seen pass'.seen (seen_grows n pass.id pass.seen pass'.seen _ noted.2.0) noted.2.0.legal))
 
-    made : (active : Bool) → is_active (head_at st (slot head)) ≡ active → events_by pass' ≡ events_by pass0 ++ readings pass0 (number_of key0) 0 (r.finds ++ active ∷ [])
+    made : (active : Bool) → is_active (head_at st (slot head)) ≡ active → events_by pass' ≡ events_by pass0 ++ readings pass0 (slot_number key0) 0 (r.finds ++ active ∷ [])
     made active e =
-        let event = ReadHead (number_of key) (slot head) in let before = events_by pass0 in let s0 = number_of key0 in
+        let event = ReadHead (slot_number key) (slot head) in let before = events_by pass0 in let s0 = slot_number key0 in
         events_grew pass pass' event noted.0 noted.2.0
         ∙ ap (λ (log : List (Deed × Answer)). log ++ (private pass event, noted.2.0.answer) ∷ []) r.made
         ∙ append_assoc before (readings pass0 s0 0 r.finds) ((private pass event, noted.2.0.answer) ∷ [])
         ∙ ap (λ (x : Deed × Answer). before ++ (readings pass0 s0 0 r.finds ++ x ∷ [])) is
         ∙ ap (λ (log : List (Deed × Answer)). before ++ log) (sym (readings_push pass0 s0 0 r.finds active))
       where
-        is : (private pass (ReadHead (number_of key) (slot head)), noted.2.0.answer) ≡ reading pass0 (number_of key0) (0 + length r.finds) active
-        is = ap (λ (p : ℕ). (record { pass = p; size = pass.name.size; event = ReadHead (number_of key) (slot head); life = 0; kepts = [] }, noted.2.0.answer)) r.same.1
-            ∙ ap (λ (n : Name). (record { pass = pass0.id; size = n.size; event = ReadHead (number_of key) (slot head); life = 0; kepts = [] }, noted.2.0.answer)) r.same.0
+        is : (private pass (ReadHead (slot_number key) (slot head)), noted.2.0.answer) ≡ reading pass0 (slot_number key0) (0 + length r.finds) active
+        is = ap (λ (p : ℕ). (record { pass = p; size = pass.size; event = ReadHead (slot_number key) (slot head); life = 0; kepts = [] }, noted.2.0.answer)) r.same.1
+            ∙ ap (λ (k : ℕ). (record { pass = pass0.id; size = k; event = ReadHead (slot_number key) (slot head); life = 0; kepts = [] }, noted.2.0.answer)) r.same.2
             ∙ ap (λ (s : ℕ). (private pass0 (ReadHead s (slot head)), noted.2.0.answer)) r.its.1
-            ∙ ap (λ (m : ℕ). (private pass0 (ReadHead (number_of key0) m), noted.2.0.answer)) (head_is.1 ∙ sym r.read ∙ zero_plus (length r.finds))
-            ∙ ap (λ (a : Answer). (private pass0 (ReadHead (number_of key0) (0 + length r.finds)), a)) (read.4 ∙ ap HeadRead e)
+            ∙ ap (λ (m : ℕ). (private pass0 (ReadHead (slot_number key0) m), noted.2.0.answer)) (head_is.1 ∙ sym r.read ∙ zero_plus (length r.finds))
+            ∙ ap (λ (a : Answer). (private pass0 (ReadHead (slot_number key0) (0 + length r.finds)), a)) (read.4 ∙ ap HeadRead e)
           where
             zero_plus : (n : ℕ) → n ≡ 0 + n
             zero_plus n = omega arith
@@ -339,11 +339,11 @@ module _ (key0 : SlotKey) (at : BeginsToMark key0) (end : ℕ) (pass0 : Pass) (h
     many_done = sym (many_slots (done_in round)) ∙ ap (λ (ms : List ℕ). length ms) r.slots ∙ r.many
 
     -- an active one is marked while there is a value for it
-    module _ (some : v ≢ 0) (len : ℕ) (counts : counted len batch ≡ true) (room : k < len) where
+    module _ (some : v ≢ 0) (len : ℕ) (counts : is_count_of len batch ≡ true) (room : k < len) where
       short : k + 1 ≤ length batch
       short = let is = counted_is len batch counts in omega (arith, room, is)
 
-      pub has_next : HasNext round pass'
+      pub has_next : HasNextValue round pass'
       has_next =
           let next = next_of (done_in round) (rest_in round) batch r.values (omega (arith, many_done, short)) in
           (next.0, next.1, next.2, batch_named key' pass' (same_key.0 ∙ book ∙ sym same.0) knows next.0 (subst (λ (vs : List ℕ). Contains vs next.0) (sym same_batch) next.3))
@@ -357,7 +357,7 @@ module _ (key0 : SlotKey) (at : BeginsToMark key0) (end : ℕ) (pass0 : Pass) (h
 
         pub one_marked : IsReading at end pass0 held (i + 1) (k + 1) key' pass'' round'
         one_marked = record {
-          same = (looks.same.0 ∙ same.0, looks.same.1 ∙ same.1);
+          same = (looks.same.0 ∙ same.0, looks.same.1 ∙ same.1, looks.same.2 ∙ same.2);
           its = same_key;
           knows = knows_still key' pass' pass'' knows looks;
           there = let more = more_seen pass' pass'' looks in omega (arith, there, more);
@@ -379,20 +379,20 @@ module _ (key0 : SlotKey) (at : BeginsToMark key0) (end : ℕ) (pass0 : Pass) (h
           remarked = ap unslotted now
               ∙ all_same plain (done_in round) (rest_in round') (remarked i marks.note marks.first) marks.first (ap (λ (g : Gv). plain (anew g)) (sym marks.noted))
               ∙ ap unslotted (sym was) ∙ r.remarked;
-          slots = ap (λ (held : Keys). slots_of (spots_of held)) marks.now ∙ slots_push (done_in round) (remarked i marks.note marks.first) ∙ ap (λ (ms : List ℕ). ms ++ i ∷ []) r.slots ∙ sym one_on;
+          slots = ap (λ (held : Keys). marked_slots (slot_marks_of held)) marks.now ∙ slots_push (done_in round) (remarked i marks.note marks.first) ∙ ap (λ (ms : List ℕ). ms ++ i ∷ []) r.slots ∙ sym one_on;
         }
           where
             is_short : (a b : ℕ) → a < b → nat_lt a b ≡ true
             is_short a b l = grind arith
 
-            plain : Held Logged → Held Logged
+            plain : HeldKey Logged → HeldKey Logged
             plain h = record { kind = h.kind; key = h.key; own = h.own; label = h.label; note = without_slot h.note }
 
-            anew : Gv → Held Logged
+            anew : Gv → HeldKey Logged
             anew g = record { kind = marks.first.kind; key = marks.first.key; own = marks.first.own; label = marks.first.label; note = g }
 
     -- and else the call gives up
-    pub stops : v ≢ 0 → (len : ℕ) → counted len batch ≡ true → len ≤ k → end < 2 ^ 64 → (others : List Spot) → Ends at pass0 key' pass' others TooMany
+    pub stops : v ≢ 0 → (len : ℕ) → is_count_of len batch ≡ true → len ≤ k → end < 2 ^ 64 → (others : List SlotMark) → EndsMarks at pass0 key' pass' others TooMany
     stops some len counts full bounded others =
         let all : k ≡ length batch = let is = counted_is len batch counts in let fewer = actives_few 0 r.finds in omega (arith, is, fewer, full, bounded, less, r.read, r.many, r.few) in
         record {
@@ -416,7 +416,7 @@ module _ (key0 : SlotKey) (at : BeginsToMark key0) (end : ℕ) (pass0 : Pass) (h
 
 -- All heads were read.
 pub all_read : {key0 : SlotKey} (at : BeginsToMark key0) (end : ℕ) (pass0 : Pass) (held : Keys) (i k : ℕ) (key : SlotKey) (pass : Pass) (round : Round) → IsReading at end pass0 held i k key pass round → i ≡ end → at.note ≤ end
-    → Ends at pass0 key pass (spots_of (all_in round)) (Ready k)
+    → EndsMarks at pass0 key pass (slot_marks_of (all_in round)) (Ready k)
 all_read {key0} at end pass0 held i k key pass round r all le = record {
   finds = r.finds;
   within = let there = r.there in let read = r.read in omega (arith, all, there, read);
@@ -431,7 +431,7 @@ all_read {key0} at end pass0 held i k key pass round r all le = record {
     ap (λ (o : Option Call). unwrap_or (of_call can_detach_at o) false) r.stands ∙ is_le at.note i (omega (arith, all, le)),
     r.stands ∙ ap (λ (n : ℕ). Some (record { place = Mark n at.note (actives 0 r.finds); queue = at.queue })) (sym r.read),
     (let within = done_within (done_in round) (rest_in round) in omega (arith, within, many)),
-    ap slots_of (take_done (done_in round) (rest_in round) k many) ∙ r.slots,
+    ap marked_slots (take_done (done_in round) (rest_in round) k many) ∙ r.slots,
   );
 }
   where
@@ -442,15 +442,15 @@ all_read {key0} at end pass0 held i k key pass round r all le = record {
     many = sym (many_slots (done_in round)) ∙ ap (λ (ms : List ℕ). length ms) r.slots ∙ r.many
 
 -- The same is so from before a look on.
-pub ends_before : {key0 : SlotKey} (at : BeginsToMark key0) (pass0 pass1 : Pass) (key : SlotKey) (pass : Pass) (spots : List Spot) (ends : Marked) → LooksOn pass0 pass1 → Ends at pass1 key pass spots ends → Ends at pass0 key pass spots ends
+pub ends_before : {key0 : SlotKey} (at : BeginsToMark key0) (pass0 pass1 : Pass) (key : SlotKey) (pass : Pass) (spots : List SlotMark) (ends : Marked) → LooksOn pass0 pass1 → EndsMarks at pass1 key pass spots ends → EndsMarks at pass0 key pass spots ends
 ends_before {key0} at pass0 pass1 key pass spots ends looks e =
     record {
       finds = e.finds;
       within = e.within;
       grows = prefix_trans pass0.seen pass1.seen pass.seen looks.grows e.grows;
       alone = alone_twice pass0 pass1 pass looks.same (alone_looked pass0 pass1 looks) e.alone;
-      made = e.made ∙ ap (λ (log : List (Deed × Answer)). log ++ readings pass1 (number_of key0) 0 e.finds) (ap events_in looks.none_made)
-          ∙ ap (λ (log : List (Deed × Answer)). events_by pass0 ++ log) (same_readings (number_of key0) 0 e.finds);
+      made = e.made ∙ ap (λ (log : List (Deed × Answer)). log ++ readings pass1 (slot_number key0) 0 e.finds) (ap events_in looks.none_made)
+          ∙ ap (λ (log : List (Deed × Answer)). events_by pass0 ++ log) (same_readings (slot_number key0) 0 e.finds);
       batch = e.batch;
       used = e.used;
       active = e.active;
@@ -462,20 +462,20 @@ ends_before {key0} at pass0 pass1 key pass spots ends looks e =
     same_readings s n [] = refl
     same_readings s n (found ∷ finds) =
         ap (λ (log : List (Deed × Answer)). reading pass1 s n found ∷ log) (same_readings s (suc n) finds)
-        ∙ ap (λ (p : ℕ). (record { pass = p; size = pass1.name.size; event = ReadHead s n; life = 0; kepts = [] }, HeadRead found) ∷ readings pass0 s (suc n) finds) looks.same.1
-        ∙ ap (λ (z : Name). (record { pass = pass0.id; size = z.size; event = ReadHead s n; life = 0; kepts = [] }, HeadRead found) ∷ readings pass0 s (suc n) finds) looks.same.0
+        ∙ ap (λ (p : ℕ). (record { pass = p; size = pass1.size; event = ReadHead s n; life = 0; kepts = [] }, HeadRead found) ∷ readings pass0 s (suc n) finds) looks.same.1
+        ∙ ap (λ (k : ℕ). (record { pass = pass0.id; size = k; event = ReadHead s n; life = 0; kepts = [] }, HeadRead found) ∷ readings pass0 s (suc n) finds) looks.same.2
 
 -- A pass that has looked knows of no fewer slots than the slot's call has to read.
-pub note_seen_then : (key : SlotKey) (at : BeginsToMark key) (pass pass' : Pass) → IsOf key pass → IsPrefix (own_list key) pass.seen → LooksOn pass pass' → at.note ≤ slots_seen pass'
+pub note_seen_then : (key : SlotKey) (at : BeginsToMark key) (pass pass' : Pass) → IsKeyOfBook key pass → IsPrefix (own_list key) pass.seen → LooksOn pass pass' → at.note ≤ slots_seen pass'
 note_seen_then key at pass pass' book knows looks =
     let here = sym looks.same.0 in
     note_seen key pass' 0 at.note [] at.queue (book ∙ here) (prefix_trans (own_list key) pass.seen pass'.seen knows looks.grows) (subst (λ (n : Name). IsLegalList (start n) pass'.seen) here looks.legal)
-    (subst (λ (n : Name). are_distinct (linked n.links) ≡ true) here looks.distinct) at.marking
+    (subst (λ (n : Name). are_distinct (linked_values n.links) ≡ true) here looks.distinct) at.marking
 
 -- and has seen what the slot's key knows
 pub knows_looked : (key : SlotKey) (pass pass' : Pass) → IsPrefix (own_list key) pass.seen → LooksOn pass pass' → Knows key pass'
 knows_looked key pass pass' knows looks = record {
   seen = prefix_trans (own_list key) pass.seen pass'.seen knows looks.grows;
   legal = subst (λ (n : Name). IsLegalList (start n) pass'.seen) (sym looks.same.0) looks.legal;
-  distinct = subst (λ (n : Name). are_distinct (linked n.links) ≡ true) (sym looks.same.0) looks.distinct;
+  distinct = subst (λ (n : Name). are_distinct (linked_values n.links) ≡ true) (sym looks.same.0) looks.distinct;
 }

@@ -7,7 +7,7 @@ use Rattle.seize_machine.specs.Machine.Next.{of_call}
 use Rattle.seize_machine.proofs.Facts.{after_put}
 use Rattle.seize_book.specs.Passes.{events_by}
 use Rattle.seize_book.specs.Private.{next_at, puts_next}
-use Rattle.seize_book.specs.Slots.{Notes, number_of, size_of, slot_of}
+use Rattle.seize_book.specs.Slots.{Notes, slot_number, slot_of}
 use Rattle.seize_book.specs.Values.{values_of}
 use Rattle.seize_book.specs.declared.book.pass.Pass.{Pass}
 use Rattle.seize_book.specs.declared.book.slot_key.SlotKey.{SlotKey}
@@ -18,17 +18,17 @@ use Rattle.seize_words.proofs.Facts.{all_told_later, pushed_told, told_later}
 use Rattle.seize_words.specs.Walks.{Knows}
 use Rattle.seize_calls.specs.Batches.{IsPushed}
 use Rattle.seize_calls.specs.Inserts.{Keeps}
-use Rattle.seize_calls.specs.Settling.{Drains, HasQueue, Marking, MayPut, Onward, Puts, Round, Settles, Sits, Stand, Stays}
+use Rattle.seize_calls.specs.Settling.{CallState, Drains, DrainsOne, HasQueue, IsWellFormed, Marking, MayPut, Onward, PutsValue, Settles, Stays}
 use Rattle.seize_calls.proofs.Alone.{alone_none, alone_twice}
 use Rattle.seize_calls.proofs.Events.{call_put, put_st, puts_so}
 use Rattle.seize_calls.proofs.Handed.{queues_none}
 
 abbrev pub onward_none : (key : SlotKey) (pass : Pass) → Onward key pass key pass
-onward_none key pass = record { same = (refl, refl); its = (refl, refl); used = refl; active = refl; life = refl; grows = ([], append-nil pass.seen); alone = alone_none pass }
+onward_none key pass = record { same = (refl, refl, refl); its = (refl, refl); used = refl; active = refl; life = refl; grows = ([], append-nil pass.seen); alone = alone_none pass }
 
 pub onward_twice : (key one two : SlotKey) (pass pass1 pass2 : Pass) → Onward key pass one pass1 → Onward one pass1 two pass2 → Onward key pass two pass2
 onward_twice key one two pass pass1 pass2 first second = record {
-  same = (second.same.0 ∙ first.same.0, second.same.1 ∙ first.same.1);
+  same = (second.same.0 ∙ first.same.0, second.same.1 ∙ first.same.1, second.same.2 ∙ first.same.2);
   its = (second.its.0 ∙ first.its.0, second.its.1 ∙ first.its.1);
   used = second.used ∙ first.used;
   active = second.active ∙ first.active;
@@ -40,19 +40,19 @@ onward_twice key one two pass pass1 pass2 first second = record {
 pub keeps_onward : (key key' : SlotKey) (pass pass' : Pass) → Keeps key pass key' pass' → Onward key pass key' pass'
 keeps_onward key key' pass pass' keeps = record { same = keeps.same; its = keeps.its; used = keeps.used; active = keeps.active; life = keeps.life; grows = keeps.grows; alone = keeps.alone }
 
-pub settles_on : (a b : Stand) (retired : Bool) → Settles a b retired → Onward a.key a.pass b.key b.pass
+pub settles_on : (a b : CallState) (retired : Bool) → Settles a b retired → Onward a.key a.pass b.key b.pass
 settles_on a b false stays = stays.on
 settles_on a b true went = went.on
 
-pub settles_rest : (a b : Stand) (retired : Bool) → Settles a b retired → HasQueue b.key b.queue
+pub settles_rest : (a b : CallState) (retired : Bool) → Settles a b retired → HasQueue b.key b.queue
 settles_rest a b false stays = stays.rests
 settles_rest a b true went = went.rests
 
-pub round_on : (a : Stand) (v kept : ℕ) (b : Stand) (retired : Bool) → Round a v kept b retired → Onward a.key a.pass b.key b.pass
+pub round_on : (a : CallState) (v kept : ℕ) (b : CallState) (retired : Bool) → DrainsOne a v kept b retired → Onward a.key a.pass b.key b.pass
 round_on a v kept b retired r = onward_twice a.key r.full.key b.key a.pass r.full.pass b.pass r.puts.on (settles_on r.full b retired r.settles)
 
 -- nothing was attempted
-pub only_stays : (a : Stand) → HasQueue a.key a.queue → Stays a a
+pub only_stays : (a : CallState) → HasQueue a.key a.queue → Stays a a
 only_stays a rests = record {
   on = onward_none a.key a.pass;
   batch = refl;
@@ -66,10 +66,10 @@ only_stays a rests = record {
 }
 
 -- with an empty queue there are no rounds
-pub no_rounds : (a b : Stand) → Drains a b → values_of a.queue ≡ [] → b ≡ a
+pub no_rounds : (a b : CallState) → Drains a b → values_of a.queue ≡ [] → b ≡ a
 no_rounds a _ Drains.over none = refl
 no_rounds a _ (Drains.round b c queue v kept retired drains takes round) none =
-    absurd (let same = no_rounds a b drains none in let e : v ∷ values_of queue ≡ [] = sym takes.1 ∙ ap (λ (x : Stand). values_of x.queue) same ∙ none in cc)
+    absurd (let same = no_rounds a b drains none in let e : v ∷ values_of queue ≡ [] = sym takes.1 ∙ ap (λ (x : CallState). values_of x.queue) same ∙ none in cc)
 
 -- A value is put.
 
@@ -82,8 +82,8 @@ may_put key v queue may = go may.0 may.1 may.2 may.3
     go from before is (inr turn) =
         ap (λ (o : Option Call). is_some (of_call next_at o)) (is ∙ (λ i. Some (record { place = turn.0 i; queue = turn.1 i })))
 
-module _ (key key' : SlotKey) (pass pass' : Pass) (v : ℕ) (queue : ValueKeys) (may : MayPut key v queue) (notes : Notes key pass key' pass' (Put (number_of key))) where
-  pub is_put : Puts key pass v key' pass'
+module _ (key key' : SlotKey) (pass pass' : Pass) (v : ℕ) (queue : ValueKeys) (may : MayPut key v queue) (notes : Notes key pass key' pass' (Put (slot_number key))) where
+  pub is_put : PutsValue key pass v key' pass'
   is_put = puts_so key key' pass pass' notes v may.0 may.1 (values_of queue) may.2 may.3
 
   abbrev batch : List ℕ
@@ -92,18 +92,18 @@ module _ (key key' : SlotKey) (pass pass' : Pass) (v : ℕ) (queue : ValueKeys) 
   abbrev slots : ℕ
   slots = length (put_st key key' pass pass' notes v may.0 may.1 (values_of queue) may.2 may.3).slots
 
-  stands : (slot_of key').call ≡ Some (record { place = after_put (size_of key) slots batch; queue = values_of queue })
+  stands : (slot_of key').call ≡ Some (record { place = after_put pass.size slots batch; queue = values_of queue })
   stands = call_put key key' pass pass' notes v may.0 may.1 (values_of queue) may.2 may.3
 
   many : length batch ≡ length (slot_of key').batch
   many = ap (λ (vs : List ℕ). length vs) (sym is_put.batch)
 
-  pub put_marks : size_of key ≤ length (slot_of key').batch → 1 ≤ length (slot_of key').batch → Marking key' queue
+  pub put_marks : pass.size ≤ length (slot_of key').batch → 1 ≤ length (slot_of key').batch → Marking key' queue
   put_marks full some = (
     record {
       note = slots;
       queue = values_of queue;
-      marking = stands ∙ ap (λ (b : Bool). Some (record { place = if b then Mark 0 slots [] else Rest [] []; queue = values_of queue })) (reaches (size_of key) (length batch) (omega (arith, many, full)) (omega (arith, many, some)));
+      marking = stands ∙ ap (λ (b : Bool). Some (record { place = if b then Mark 0 slots [] else Rest [] []; queue = values_of queue })) (reaches pass.size (length batch) (omega (arith, many, full)) (omega (arith, many, some)));
     },
     refl,
   )
@@ -111,25 +111,24 @@ module _ (key key' : SlotKey) (pass pass' : Pass) (v : ℕ) (queue : ValueKeys) 
       reaches : (size k : ℕ) → size ≤ k → 1 ≤ k → nat_le (max 1 size) k ≡ true
       reaches size k le some = grind arith
 
-  pub put_rests : length (slot_of key').batch < size_of key → HasQueue key' queue
-  put_rests few = stands ∙ ap (λ (b : Bool). Some (record { place = if b then Mark 0 slots [] else Rest [] []; queue = values_of queue })) (short (max 1 (size_of key)) (length batch) (omega (arith, many, few)))
+  pub put_rests : length (slot_of key').batch < pass.size → HasQueue key' queue
+  put_rests few = stands ∙ ap (λ (b : Bool). Some (record { place = if b then Mark 0 slots [] else Rest [] []; queue = values_of queue })) (short (max 1 pass.size) (length batch) (omega (arith, many, few)))
     where
       short : (a b : ℕ) → b < a → nat_le a b ≡ false
       short a b less = grind arith
 
-pub put_sits : (a b : Stand) (v kept : ℕ) → Puts a.key a.pass v b.key b.pass → IsPushed a.batch v kept b.batch → b.queue ≡ a.queue → Sits a → Knows b.key b.pass → IsTold a.pass.seen v kept → Sits b
+pub put_sits : (a b : CallState) (v kept : ℕ) → PutsValue a.key a.pass v b.key b.pass → IsPushed a.batch v kept b.batch → b.queue ≡ a.queue → IsWellFormed a → Knows b.key b.pass → IsTold a.pass.seen v kept → IsWellFormed b
 put_sits a b v kept puts pushed queue sits knows told = record {
   its = puts.on.its.0 ∙ (sits.its ∙ sym puts.on.same.0);
   knows = knows;
   batch = (
     pushed.0 ∙ (sits.batch.0 ∙ sym puts.on.same.0),
     pushed.1 ∙ (ap (λ (vs : List ℕ). vs ++ v ∷ []) sits.batch.1 ∙ sym puts.batch),
-    subst (λ (n : Name). AreToldIn n.store b.pass.seen b.batch.keys.held) (sym pushed.0)
-        (pushed_told a.batch.keys.name.store b.pass.seen a.batch.keys.held b.batch.keys.held v kept pushed.1 pushed.2
-        (all_told_later a.batch.keys.name.store a.pass.seen b.pass.seen a.batch.keys.held puts.on.grows sits.batch.2) (told_later a.pass.seen b.pass.seen v kept puts.on.grows told)),
+    (pushed_told b.pass.seen a.batch.keys.held b.batch.keys.held v kept pushed.1 pushed.2
+        (all_told_later a.pass.seen b.pass.seen a.batch.keys.held puts.on.grows sits.batch.2) (told_later a.pass.seen b.pass.seen v kept puts.on.grows told)),
   );
   queue = (
     ap (λ (keys : ValueKeys). keys.keys.name) queue ∙ (sits.queue.0 ∙ sym puts.on.same.0),
-    subst (λ (keys : ValueKeys). AreTold keys b.pass) (sym queue) (all_told_later a.queue.keys.name.store a.pass.seen b.pass.seen a.queue.keys.held puts.on.grows sits.queue.1),
+    subst (λ (keys : ValueKeys). AreTold keys b.pass) (sym queue) (all_told_later a.pass.seen b.pass.seen a.queue.keys.held puts.on.grows sits.queue.1),
   );
 }

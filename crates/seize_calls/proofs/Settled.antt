@@ -3,16 +3,16 @@ use Rattle.std.proofs.Common.{◌≡◌, ℕ, ◌≤◌, Bool, true, false, if�
 use base.Growing.{prefix_trans}
 use Rattle.seize_machine.specs.Machine.State.{Rest}
 use Rattle.seize_machine.specs.Machine.Event.{AddCount, Detach}
-use Rattle.seize_machine.specs.Machine.History.{first_of}
+use Rattle.seize_machine.specs.Machine.History.{first_or_none}
 use Rattle.seize_machine.specs.declared.machine.event.Answer.{Answer}
 use Rattle.seize_machine.specs.declared.machine.event.Answer.TheVariants.{Count}
 use Rattle.seize_machine.proofs.Facts.{marking_full}
 use Rattle.seize_book.specs.Adding.{private}
 use Rattle.seize_book.specs.Book.{after}
 use Rattle.seize_book.specs.Entry.{Deed, Entry as Logged}
-use Rattle.seize_book.specs.Ledger.{Held, renewed}
-use Rattle.seize_book.specs.Passes.{IsSame, events_by}
-use Rattle.seize_book.specs.Slots.{IsOf, number_of, own_list, slot_of, start_of}
+use Rattle.seize_book.specs.Ledger.{HeldKey, renewed}
+use Rattle.seize_book.specs.Passes.{IsSamePass, events_by}
+use Rattle.seize_book.specs.Slots.{IsKeyOfBook, own_list, slot_number, slot_of, start_of}
 use Rattle.seize_book.specs.Tokens.{Name}
 use Rattle.seize_book.specs.Values.{values_of}
 use Rattle.seize_words.specs.Walks.{Knows}
@@ -20,14 +20,14 @@ use Rattle.seize_book.specs.Private.{labels_of}
 use Rattle.seize_book.specs.declared.book.pass.Pass.{Pass}
 use Rattle.seize_book.specs.declared.book.slot_key.SlotKey.{SlotKey}
 use Rattle.seize_book.specs.declared.book.value_keys.ValueKeys.{ValueKeys}
-use Rattle.seize_words.proofs.Facts.{alike_told, all_of_told, all_told_grow, all_told_later, all_told_renewed, none_told, own_reached}
+use Rattle.seize_words.proofs.Facts.{alike_told, all_of_told, all_told_grow, all_told_later, all_told_renewed, own_reached}
 use Rattle.seize_calls.specs.Attempts.{Retires}
 use Rattle.seize_book.specs.Kept.{AllTold, AreTold, AreToldIn, kepts_of}
 use Rattle.seize_calls.specs.Batches.{AreRemarked}
 use Rattle.seize_calls.specs.Handing.{Had, HasHad, values_handed, values_put}
 use Rattle.seize_calls.specs.Inserts.{turns_at}
-use Rattle.seize_calls.specs.Marks.{BeginsToMark, Ends, actives, readings}
-use Rattle.seize_calls.specs.Settling.{Goes, HasBatch, Marking, Sits, Stand, Stays, done}
+use Rattle.seize_calls.specs.Marks.{BeginsToMark, EndsMarks, actives, readings}
+use Rattle.seize_calls.specs.Settling.{CallState, HasBatch, IsWellFormed, Marking, RetiresBatch, Stays, done_event}
 use Rattle.seize_calls.specs.Walking.{HandsAll, IsGiven, hands}
 use Rattle.seize_calls.specs.Numbered.{starts_at}
 use Rattle.seize_calls.specs.declared.marking.Marked.TheVariants.{TooMany}
@@ -37,21 +37,21 @@ use Rattle.seize_calls.proofs.Batches.{kepts, remarked_kepts, remarked_labels, r
 use Rattle.seize_calls.proofs.Handed.{had_none, queues_none}
 use Rattle.seize_calls.proofs.Strolls.{same_hands}
 
-module _ (a : Stand) (m : Marking a.key a.queue) where
+module _ (a : CallState) (m : Marking a.key a.queue) where
   abbrev at : BeginsToMark a.key
   at = m.0
 
   abbrev s : ℕ
-  s = number_of a.key
+  s = slot_number a.key
 
   abbrev batch : List ℕ
   batch = (slot_of a.key).batch
 
-  pub has_values : IsOf a.key a.pass → Knows a.key a.pass → 1 ≤ length batch
+  pub has_values : IsKeyOfBook a.key a.pass → Knows a.key a.pass → 1 ≤ length batch
   has_values book knows = marking_full (after (start_of a.key) (own_list a.key)) s 0 at.note [] at.queue (own_reached a.key a.pass book knows) at.marking
 
   -- the batch stays
-  pub has_stayed : (key1 : SlotKey) (pass1 : Pass) → IsSame a.pass pass1 → (key1.keys.name ≡ a.key.keys.name) × (number_of key1 ≡ s) → Ends at a.pass key1 pass1 [] TooMany → (values1 : ValueKeys) → AreRemarked a.batch values1
+  pub has_stayed : (key1 : SlotKey) (pass1 : Pass) → IsSamePass a.pass pass1 → (key1.keys.name ≡ a.key.keys.name) × (slot_number key1 ≡ s) → EndsMarks at a.pass key1 pass1 [] TooMany → (values1 : ValueKeys) → AreRemarked a.batch values1
       → Stays a (record { key = key1; pass = pass1; batch = values1; queue = a.queue; had = a.had })
   has_stayed key1 pass1 same its ends values1 remarked = record {
     on = record { same = same; its = its; used = ends.used; active = ends.active; life = ends.life; grows = ends.grows; alone = ends.alone };
@@ -66,12 +66,12 @@ module _ (a : Stand) (m : Marking a.key a.queue) where
   }
 
   -- or it was retired
-  module _ (key1 : SlotKey) (pass1 : Pass) (values1 : ValueKeys) (zero : Bool) (same : IsSame a.pass pass1) (its : (key1.keys.name ≡ a.key.keys.name) × (number_of key1 ≡ s)) (r : Retires at a.pass a.batch key1 pass1 values1 zero) where
+  module _ (key1 : SlotKey) (pass1 : Pass) (values1 : ValueKeys) (zero : Bool) (same : IsSamePass a.pass pass1) (its : (key1.keys.name ≡ a.key.keys.name) × (slot_number key1 ≡ s)) (r : Retires at a.pass a.batch key1 pass1 values1 zero) where
     abbrev before : List (Deed × Answer)
-    before = (((events_by a.pass ++ readings a.pass s 0 r.finds) ++ done a.pass (Detach s)) ++ turns_at a.pass s (actives 0 r.finds) r.turns) ++ (private a.pass (AddCount s), Count r.count) ∷ []
+    before = (((events_by a.pass ++ readings a.pass s 0 r.finds) ++ done_event a.pass (Detach s)) ++ turns_at a.pass s (actives 0 r.finds) r.turns) ++ (private a.pass (AddCount s), Count r.count) ∷ []
 
     -- and waits
-    pub has_waited : zero ≡ false → Goes a (record { key = key1; pass = pass1; batch = values1; queue = a.queue; had = a.had })
+    pub has_waited : zero ≡ false → RetiresBatch a (record { key = key1; pass = pass1; batch = values1; queue = a.queue; had = a.had })
     has_waited off = let none = sym r.is_count ∙ off in
         record {
           on = record { same = same; its = its; used = r.used; active = r.active; life = r.life; grows = r.grows; alone = r.alone };
@@ -94,9 +94,9 @@ module _ (a : Stand) (m : Marking a.key a.queue) where
 
     -- or its values are given up to the call
     module _ (on : zero ≡ true) (front : ℕ) (starts : starts_at front (values_of values1) ≡ true) (full : 1 ≤ length batch) (its_batch : HasBatch a.key a.pass a.batch) where
-      pub renewed_twice : (held : List (Held Logged)) (seen : List Logged) → renewed held seen ≡ renewed (renewed held seen) seen
+      pub renewed_twice : (held : List (HeldKey Logged)) (seen : List Logged) → renewed held seen ≡ renewed (renewed held seen) seen
       renewed_twice [] seen = refl
-      renewed_twice (h ∷ held) seen = ap (λ (hs : List (Held Logged)). record { kind = h.kind; key = h.key; own = seen; label = h.label; note = h.note } ∷ hs) (renewed_twice held seen)
+      renewed_twice (h ∷ held) seen = ap (λ (hs : List (HeldKey Logged)). record { kind = h.kind; key = h.key; own = seen; label = h.label; note = h.note } ∷ hs) (renewed_twice held seen)
 
       pub kept_keys : values1.keys.held ≡ renewed r.marked.keys.held pass1.seen
       kept_keys = r.keys.1 ∙ ap (λ (z : Bool). renewed (if z then r.marked.keys.held else []) pass1.seen) on
@@ -109,11 +109,11 @@ module _ (a : Stand) (m : Marking a.key a.queue) where
 
       pub still_told : AreTold values1 pass1
       still_told =
-          let store = a.batch.keys.name.store in let held = r.marked.keys.held in
-          subst (λ (t : Name × List (Held Logged)). AreToldIn t.0.store pass1.seen t.1) (λ j. ((its_batch.0 ∙ sym same.0 ∙ sym r.keys.0) j, sym kept_keys j))
-          (all_told_renewed store pass1.seen held pass1.seen
-          (alike_told store pass1.seen a.batch.keys.held held (sym (remarked_labels held a.batch.keys.held r.remarked.1)) (sym (remarked_kepts held a.batch.keys.held r.remarked.1))
-          (all_told_later store a.pass.seen pass1.seen a.batch.keys.held r.grows its_batch.2)))
+          let held = r.marked.keys.held in
+          subst (λ (t : Name × List (HeldKey Logged)). AreToldIn pass1.seen t.1) (λ j. ((its_batch.0 ∙ sym same.0 ∙ sym r.keys.0) j, sym kept_keys j))
+          (all_told_renewed pass1.seen held pass1.seen
+          (alike_told pass1.seen a.batch.keys.held held (sym (remarked_labels held a.batch.keys.held r.remarked.1)) (sym (remarked_kepts held a.batch.keys.held r.remarked.1))
+          (all_told_later a.pass.seen pass1.seen a.batch.keys.held r.grows its_batch.2)))
 
       abbrev pub given_now : IsGiven key1 pass1 values1 front
       given_now =
@@ -123,22 +123,22 @@ module _ (a : Stand) (m : Marking a.key a.queue) where
             queue = at.queue;
             given_up = r.stands ∙ ap (λ (z : Bool). Some (record { place = Rest (if z then batch else []) []; queue = at.queue })) on ∙ ap (λ (vs : List ℕ). Some (record { place = Rest vs []; queue = at.queue })) (sym same_values);
             first = its_first.0;
-            is_first = ap first_of same_values ∙ its_first.1;
+            is_first = ap first_or_none same_values ∙ its_first.1;
             its_block = its_first.2;
             book = r.keys.0;
-            keys = (refl, refl, kept_keys ∙ renewed_twice r.marked.keys.held pass1.seen ∙ ap (λ (hs : List (Held Logged)). renewed hs pass1.seen) (sym kept_keys));
+            keys = (refl, refl, kept_keys ∙ renewed_twice r.marked.keys.held pass1.seen ∙ ap (λ (hs : List (HeldKey Logged)). renewed hs pass1.seen) (sym kept_keys));
             last = r.keys.2;
             closed = r.keys.3;
             told = still_told;
           }
 
-      pub has_handed : is_some pass1.name.store ≡ true → (key2 : SlotKey) (pass2 : Pass) (values2 queue2 : ValueKeys) (had2 : Had) → (all_of : HandsAll given_now a.queue key2 pass2 values2 queue2) → HasHad all_of.handed (kepts_of values1) a.had had2
-          → Goes a (record { key = key2; pass = pass2; batch = values2; queue = queue2; had = had2 })
-      has_handed store key2 pass2 values2 queue2 had2 handed theirs =
+      pub has_handed : (key2 : SlotKey) (pass2 : Pass) (values2 queue2 : ValueKeys) (had2 : Had) → (all_of : HandsAll given_now a.queue key2 pass2 values2 queue2) → HasHad all_of.handed (kepts_of values1) a.had had2
+          → RetiresBatch a (record { key = key2; pass = pass2; batch = values2; queue = queue2; had = had2 })
+      has_handed key2 pass2 values2 queue2 had2 handed theirs =
           let keeps = handed.goes_on.0 in let all = sym r.is_count ∙ on in
           record {
             on = record {
-              same = (keeps.same.0 ∙ same.0, keeps.same.1 ∙ same.1);
+              same = (keeps.same.0 ∙ same.0, keeps.same.1 ∙ same.1, keeps.same.2 ∙ same.2);
               its = (keeps.its.0 ∙ its.0, keeps.its.1 ∙ its.1);
               used = keeps.used ∙ r.used;
               active = keeps.active ∙ r.active;
@@ -154,46 +154,44 @@ module _ (a : Stand) (m : Marking a.key a.queue) where
             count = r.count;
             handed = handed.handed;
             which = handed.which ∙ (same_values ∙ ap (λ (z : Bool). if z then batch else []) (sym all));
-            made = handed.made ∙ ap (λ (log : List (Deed × Answer)). log ++ hands pass1 (number_of key1) handed.handed) r.made
-                ∙ ap (λ (log : List (Deed × Answer)). before ++ log) (same_hands a.pass pass1 same (number_of key1) handed.handed ∙ ap (λ (k : ℕ). hands a.pass k handed.handed) its.1);
+            made = handed.made ∙ ap (λ (log : List (Deed × Answer)). log ++ hands pass1 (slot_number key1) handed.handed) r.made
+                ∙ ap (λ (log : List (Deed × Answer)). before ++ log) (same_hands a.pass pass1 same (slot_number key1) handed.handed ∙ ap (λ (k : ℕ). hands a.pass k handed.handed) its.1);
             none = handed.none;
             queued = handed.queued;
             told = subst (λ (ks : List ℕ). AllTold pass2.seen (values_handed handed.handed) ks) (same_kepts ∙ ap (λ (z : Bool). if z then kepts_of a.batch else []) (sym all))
                 (subst (λ (vs : List ℕ). AllTold pass2.seen vs (kepts_of values1)) (sym handed.which)
                 (all_told_grow pass1.seen pass2.seen (values_of values1) (kepts_of values1) keeps.grows
-                (all_of_told values1.keys.name.store pass1.seen values1.keys.held (ap (λ (n : Name). is_some n.store) r.keys.0 ∙ store) still_told)));
+                (all_of_told pass1.seen values1.keys.held still_told)));
             has_had = subst (λ (ks : List ℕ). HasHad handed.handed ks a.had had2) (same_kepts ∙ ap (λ (z : Bool). if z then kepts_of a.batch else []) (sym all)) theirs;
           }
 
 -- What the call's holder has then is as it was.
 
-pub stays_sits : (a b : Stand) → Stays a b → Sits a → Knows b.key b.pass → Sits b
+pub stays_sits : (a b : CallState) → Stays a b → IsWellFormed a → Knows b.key b.pass → IsWellFormed b
 stays_sits a b stays sits knows = record {
   its = stays.on.its.0 ∙ (sits.its ∙ sym stays.on.same.0);
   knows = knows;
   batch = (
     stays.keys.0 ∙ (sits.batch.0 ∙ sym stays.on.same.0),
     remarked_labels b.batch.keys.held a.batch.keys.held stays.keys.1 ∙ (sits.batch.1 ∙ sym stays.batch),
-    subst (λ (n : Name). AreToldIn n.store b.pass.seen b.batch.keys.held) (sym stays.keys.0)
-        (alike_told a.batch.keys.name.store b.pass.seen a.batch.keys.held b.batch.keys.held (sym (remarked_labels b.batch.keys.held a.batch.keys.held stays.keys.1)) (sym (remarked_kepts b.batch.keys.held a.batch.keys.held stays.keys.1))
-        (all_told_later a.batch.keys.name.store a.pass.seen b.pass.seen a.batch.keys.held stays.on.grows sits.batch.2)),
+    (alike_told b.pass.seen a.batch.keys.held b.batch.keys.held (sym (remarked_labels b.batch.keys.held a.batch.keys.held stays.keys.1)) (sym (remarked_kepts b.batch.keys.held a.batch.keys.held stays.keys.1))
+        (all_told_later a.pass.seen b.pass.seen a.batch.keys.held stays.on.grows sits.batch.2)),
   );
   queue = (
     stays.queued.0 ∙ (sits.queue.0 ∙ sym stays.on.same.0),
-    subst (λ (n : Name). AreToldIn n.store b.pass.seen b.queue.keys.held) (sym stays.queued.0)
-        (alike_told a.queue.keys.name.store b.pass.seen a.queue.keys.held b.queue.keys.held (sym (stays.queued.1 ∙ append-nil (values_of a.queue))) (sym (stays.queued.2 ∙ append-nil (kepts_of a.queue)))
-        (all_told_later a.queue.keys.name.store a.pass.seen b.pass.seen a.queue.keys.held stays.on.grows sits.queue.1)),
+    (alike_told b.pass.seen a.queue.keys.held b.queue.keys.held (sym (stays.queued.1 ∙ append-nil (values_of a.queue))) (sym (stays.queued.2 ∙ append-nil (kepts_of a.queue)))
+        (all_told_later a.pass.seen b.pass.seen a.queue.keys.held stays.on.grows sits.queue.1)),
   );
 }
 
-pub goes_sits : (a b : Stand) → Goes a b → Sits a → Knows b.key b.pass → AreTold b.queue b.pass → Sits b
+pub goes_sits : (a b : CallState) → RetiresBatch a b → IsWellFormed a → Knows b.key b.pass → AreTold b.queue b.pass → IsWellFormed b
 goes_sits a b went sits knows told = record {
   its = went.on.its.0 ∙ (sits.its ∙ sym went.on.same.0);
   knows = knows;
   batch = (
     went.none.0,
     ap labels_of went.none.1 ∙ sym went.batch,
-    subst (λ (held : List (Held Logged)). AreToldIn b.batch.keys.name.store b.pass.seen held) (sym went.none.1) (none_told b.batch.keys.name.store b.pass.seen),
+    subst (λ (held : List (HeldKey Logged)). AreToldIn b.pass.seen held) (sym went.none.1) tt,
   );
   queue = (went.queued.0 ∙ (sits.queue.0 ∙ sym went.on.same.0), told);
 }

@@ -9,8 +9,8 @@ use Rattle.seize_machine.specs.Machine.Laws.{walk_of}
 use Rattle.seize_machine.specs.declared.machine.event.Answer.{Answer}
 use Rattle.seize_machine.specs.declared.machine.event.Answer.TheVariants.{Count as Counted, Handed}
 use Rattle.seize_book.specs.Entry.{Deed}
-use Rattle.seize_book.specs.Passes.{IsSame, events_by}
-use Rattle.seize_book.specs.Slots.{IsOf, number_of, own_list, slot_of}
+use Rattle.seize_book.specs.Passes.{IsSamePass, events_by}
+use Rattle.seize_book.specs.Slots.{IsKeyOfBook, own_list, slot_number, slot_of}
 use Rattle.seize_book.specs.Tokens.{Name}
 use Rattle.seize_book.specs.Values.{values_of}
 use Rattle.seize_words.specs.Walks.{Knows}
@@ -21,29 +21,29 @@ use Rattle.seize_words.proofs.Facts.{all_of_told, all_told_append, all_told_grow
 use Rattle.seize_calls.proofs.Alone.{alone_none}
 use Rattle.seize_calls.specs.Handing.{Had, Handings, HasHad, Queues, values_handed, values_put, words_put}
 use Rattle.seize_book.specs.Kept.{AllTold, kepts_of}
-use Rattle.seize_calls.specs.Walking.{Ends, GoesOn, HandsAll, IsAtWalk, IsGiven, Stops, WalksAll, WalksTo, counting, countings, handed_in, hands, steps}
+use Rattle.seize_calls.specs.Walking.{EndsWalk, HandsAll, IsAtWalk, IsGiven, KeepsAndKnows, Stops, WalksAll, WalksTo, counting, countings, handed_in, hands, steps}
 use Rattle.seize_calls.specs.declared.walking.Walked.TheVariants.{GivesUp, Over}
 use Rattle.seize_calls.proofs.Handed.{had_more, had_none, handed_append, put_append, queues_more, queues_none}
 use Rattle.seize_calls.proofs.Keeps.{keeps_twice, same_private, same_telling}
 
-pub goes_twice : (key one two : SlotKey) (pass pass1 pass2 : Pass) → GoesOn key pass one pass1 → GoesOn one pass1 two pass2 → GoesOn key pass two pass2
+pub goes_twice : (key one two : SlotKey) (pass pass1 pass2 : Pass) → KeepsAndKnows key pass one pass1 → KeepsAndKnows one pass1 two pass2 → KeepsAndKnows key pass two pass2
 goes_twice key one two pass pass1 pass2 first second = (keeps_twice key one two pass pass1 pass2 first.0 second.0, prefix_trans (own_list key) (own_list one) (own_list two) first.1 second.1)
 
 -- The events of a walk are the same with a pass as it was before.
 
-same_counting : (pass pass' : Pass) → IsSame pass pass' → (s : ℕ) (count : ℤ) → counting pass' s count ≡ counting pass s count
+same_counting : (pass pass' : Pass) → IsSamePass pass pass' → (s : ℕ) (count : ℤ) → counting pass' s count ≡ counting pass s count
 same_counting pass pass' same s count = ap (λ (d : Deed). (d, Counted count)) (same_private pass pass' same (SubCount s))
 
-pub same_countings : (pass pass' : Pass) → IsSame pass pass' → (s : ℕ) (counts : List ℤ) → countings pass' s counts ≡ countings pass s counts
+pub same_countings : (pass pass' : Pass) → IsSamePass pass pass' → (s : ℕ) (counts : List ℤ) → countings pass' s counts ≡ countings pass s counts
 same_countings pass pass' same s [] = refl
 same_countings pass pass' same s (count ∷ counts) =
     ap (λ (x : Deed × Answer). x ∷ countings pass' s counts) (same_counting pass pass' same s count) ∙ ap (λ (log : List (Deed × Answer)). counting pass s count ∷ log) (same_countings pass pass' same s counts)
 
-pub same_hands : (pass pass' : Pass) → IsSame pass pass' → (s : ℕ) (handed : Handings) → hands pass' s handed ≡ hands pass s handed
+pub same_hands : (pass pass' : Pass) → IsSamePass pass pass' → (s : ℕ) (handed : Handings) → hands pass' s handed ≡ hands pass s handed
 same_hands pass pass' same s [] = refl
 same_hands pass pass' same s (one ∷ handed) = λ i. (same_telling pass pass' same (Hand s one.1) one.2 i, Handed one.0) ∷ same_hands pass pass' same s handed i
 
-pub same_steps : (pass pass' : Pass) → IsSame pass pass' → (s : ℕ) (walked : List (ℤ × Handings)) → steps pass' s walked ≡ steps pass s walked
+pub same_steps : (pass pass' : Pass) → IsSamePass pass pass' → (s : ℕ) (walked : List (ℤ × Handings)) → steps pass' s walked ≡ steps pass s walked
 same_steps pass pass' same s [] = refl
 same_steps pass pass' same s (step ∷ walked) =
     ap (λ (x : Deed × Answer). (x ∷ hands pass' s step.1) ++ steps pass' s walked) (same_counting pass pass' same s step.0)
@@ -93,12 +93,12 @@ handed_last walked counts zero values =
 
 -- some of the walk is behind
 pub record IsStrolling {key : SlotKey} {word : ℕ} (at : IsAtWalk key word) (pass : Pass) (queue : ValueKeys) (had : Had) (key' : SlotKey) (pass' : Pass) (leads' : ℕ) (queue' : ValueKeys) (had' : Had) : Type 0 where
-  pub goes_on : GoesOn key pass key' pass'
+  pub goes_on : KeepsAndKnows key pass key' pass'
   pub walked : List (ℤ × Handings)
   pub kepts : List ℕ
   pub has_had : HasHad (handed_in walked) kepts had had'
   pub told : AllTold pass'.seen (values_handed (handed_in walked)) kepts
-  pub made : events_by pass' ≡ events_by pass ++ steps pass (number_of key) walked
+  pub made : events_by pass' ≡ events_by pass ++ steps pass (slot_number key) walked
   pub here : IsAtWalk key' leads'
   pub each : length walked + length here.walk ≡ length at.walk
   pub same_queue : here.queue ≡ at.queue ++ values_put (handed_in walked)
@@ -106,7 +106,7 @@ pub record IsStrolling {key : SlotKey} {word : ℕ} (at : IsAtWalk key word) (pa
 
 abbrev pub none_strolled : (key : SlotKey) (word : ℕ) (at : IsAtWalk key word) (pass : Pass) (queue : ValueKeys) (had : Had) → IsStrolling at pass queue had key pass word queue had
 none_strolled key word at pass queue had = record {
-  goes_on = (record { same = (refl, refl); its = (refl, refl); batch = refl; used = refl; active = refl; life = refl; seen = omega arith; grows = ([], append-nil pass.seen); alone = alone_none pass }, ([], append-nil (own_list key)));
+  goes_on = (record { same = (refl, refl, refl); its = (refl, refl); batch = refl; used = refl; active = refl; life = refl; seen = omega arith; grows = ([], append-nil pass.seen); alone = alone_none pass }, ([], append-nil (own_list key)));
   walked = [];
   kepts = [];
   has_had = had_none had;
@@ -120,18 +120,18 @@ none_strolled key word at pass queue had = record {
 
 module _ (key0 : SlotKey) (word : ℕ) (at : IsAtWalk key0 word) (pass0 : Pass) (queue0 : ValueKeys) (had0 : Had) (key : SlotKey) (pass : Pass) (leads : ℕ) (queue : ValueKeys) (had : Had) (r : IsStrolling at pass0 queue0 had0 key pass leads queue had) (key1 : SlotKey) (pass1 : Pass) (values : ValueKeys) where
   abbrev s : ℕ
-  s = number_of key0
+  s = slot_number key0
 
   abbrev behind : List (Deed × Answer)
   behind = steps pass0 s r.walked
 
-  goes : (counts : List ℤ) → IsSame pass0 pass → number_of key ≡ s → countings pass (number_of key) counts ≡ countings pass0 s counts
-  goes counts same its = same_countings pass0 pass same (number_of key) counts ∙ ap (λ (k : ℕ). countings pass0 k counts) its
+  goes : (counts : List ℤ) → IsSamePass pass0 pass → slot_number key ≡ s → countings pass (slot_number key) counts ≡ countings pass0 s counts
+  goes counts same its = same_countings pass0 pass same (slot_number key) counts ∙ ap (λ (k : ℕ). countings pass0 k counts) its
 
   -- the walk is over
   pub strolled : WalksTo r.here pass key1 pass1 values Over → WalksAll at pass0 queue0 had0 key1 pass1 queue had
   strolled w =
-      let ends : Ends r.here w.held pass key1 pass1 values = w.ends_so in
+      let ends : EndsWalk r.here w.held pass key1 pass1 values = w.ends_so in
       record {
         goes_on = goes_twice key0 key key1 pass0 pass pass1 r.goes_on w.goes_on;
         walked = r.walked ++ plain w.held;
@@ -139,8 +139,8 @@ module _ (key0 : SlotKey) (word : ℕ) (at : IsAtWalk key0 word) (pass0 : Pass) 
         has_had = subst (λ (vs : Handings). HasHad vs r.kepts had0 had) (handed_plain r.walked w.held) r.has_had;
         told = subst (λ (vs : Handings). AllTold pass1.seen (values_handed vs) r.kepts) (handed_plain r.walked w.held) (all_told_grow pass.seen pass1.seen (values_handed (handed_in r.walked)) r.kepts w.goes_on.0.grows r.told);
         each = length-append r.walked (plain w.held) ∙ ap (λ (n : ℕ). length r.walked + n) (plain_many w.held ∙ ends.each) ∙ r.each;
-        made = ends.made ∙ ap (λ (log : List (Deed × Answer)). log ++ countings pass (number_of key) w.held) r.made
-            ∙ append_assoc (events_by pass0) behind (countings pass (number_of key) w.held)
+        made = ends.made ∙ ap (λ (log : List (Deed × Answer)). log ++ countings pass (slot_number key) w.held) r.made
+            ∙ append_assoc (events_by pass0) behind (countings pass (slot_number key) w.held)
             ∙ ap (λ (log : List (Deed × Answer)). events_by pass0 ++ log)
             (ap (λ (log : List (Deed × Answer)). behind ++ log) (goes w.held r.goes_on.0.same r.goes_on.0.its.1 ∙ sym (plain_steps pass0 s w.held)) ∙ sym (steps_append pass0 s r.walked (plain w.held)));
         over = ends.over ∙ ap (λ (q : List ℕ). Some (record { place = Rest [] []; queue = q })) (r.same_queue ∙ ap (λ (vs : Handings). at.queue ++ values_put vs) (handed_plain r.walked w.held));
@@ -148,7 +148,7 @@ module _ (key0 : SlotKey) (word : ℕ) (at : IsAtWalk key0 word) (pass0 : Pass) 
       }
 
   -- or a batch was given up, and is handed
-  module _ (front rest : ℕ) (w : WalksTo r.here pass key1 pass1 values (GivesUp front rest)) (book : IsOf key1 pass1) (knows : Knows key1 pass1) (store : is_some pass1.name.store ≡ true) where
+  module _ (front rest : ℕ) (w : WalksTo r.here pass key1 pass1 values (GivesUp front rest)) (book : IsKeyOfBook key1 pass1) (knows : Knows key1 pass1) where
     abbrev stop : Stops r.here w.held pass key1 pass1 values front rest
     stop = w.ends_so
 
@@ -170,13 +170,13 @@ module _ (key0 : SlotKey) (word : ℕ) (at : IsAtWalk key0 word) (pass0 : Pass) 
                 (all_told_append pass2.seen (values_handed (handed_in r.walked)) r.kepts (values_handed vs) (kepts_of values)
                 (all_told_grow pass.seen pass2.seen (values_handed (handed_in r.walked)) r.kepts (prefix_trans pass.seen pass1.seen pass2.seen w.goes_on.0.grows handed.goes_on.0.grows) r.told)
                 (subst (λ (us : List ℕ). AllTold pass2.seen us (kepts_of values)) (sym handed.which)
-                (all_told_grow pass1.seen pass2.seen (values_of values) (kepts_of values) handed.goes_on.0.grows (all_of_told values.keys.name.store pass1.seen values.keys.held (ap (λ (n : Name). is_some n.store) given_now.book ∙ store) given_now.told)))));
+                (all_told_grow pass1.seen pass2.seen (values_of values) (kepts_of values) handed.goes_on.0.grows (all_of_told pass1.seen values.keys.held given_now.told)))));
             queued = subst (λ (us : Handings). Queues queue0 (values_put us) (words_put us) queue2) (handed_last r.walked w.held stop.zero vs) (queues_more queue0 queue queue2 (handed_in r.walked) vs r.queued handed.queued);
             made = handed.made
-                ∙ ap (λ (log : List (Deed × Answer)). log ++ hands pass1 (number_of key1) vs) (stop.made ∙ ap (λ (log : List (Deed × Answer)). log ++ countings pass (number_of key) (w.held ++ stop.zero ∷ [])) r.made
+                ∙ ap (λ (log : List (Deed × Answer)). log ++ hands pass1 (slot_number key1) vs) (stop.made ∙ ap (λ (log : List (Deed × Answer)). log ++ countings pass (slot_number key) (w.held ++ stop.zero ∷ [])) r.made
                 ∙ ap (λ (log : List (Deed × Answer)). (events_by pass0 ++ behind) ++ log) (goes (w.held ++ stop.zero ∷ []) r.goes_on.0.same r.goes_on.0.its.1))
                 ∙ ap (λ (log : List (Deed × Answer)). ((events_by pass0 ++ behind) ++ countings pass0 s (w.held ++ stop.zero ∷ [])) ++ log)
-                (same_hands pass0 pass1 one.0.same (number_of key1) vs ∙ ap (λ (k : ℕ). hands pass0 k vs) one.0.its.1)
+                (same_hands pass0 pass1 one.0.same (slot_number key1) vs ∙ ap (λ (k : ℕ). hands pass0 k vs) one.0.its.1)
                 ∙ append_assoc (events_by pass0 ++ behind) (countings pass0 s (w.held ++ stop.zero ∷ [])) (hands pass0 s vs)
                 ∙ ap (λ (log : List (Deed × Answer)). (events_by pass0 ++ behind) ++ log) (last_step pass0 s w.held stop.zero vs)
                 ∙ append_assoc (events_by pass0) behind (steps pass0 s (plain w.held ++ (stop.zero, vs) ∷ []))

@@ -14,9 +14,9 @@ use Rattle.seize_words.specs.Chunks.{IsHeaderOf}
 use Rattle.seize_book.specs.Entry.{Deed, Entry}
 use Rattle.seize_words.specs.Heads.{IsTrying, reads_at}
 use Rattle.seize_book.specs.Homes.{home_of}
-use Rattle.seize_book.specs.Passes.{IsSame, LooksOn, events_by}
-use Rattle.seize_words.specs.Reservations.{MayRead, Shows, slot}
-use Rattle.seize_book.specs.Slots.{IsOf, Notes, number_of, own_list, slot_of, start_of}
+use Rattle.seize_book.specs.Passes.{IsSamePass, LooksOn, events_by}
+use Rattle.seize_words.specs.Reservations.{MayRead, ShowsHead, slot}
+use Rattle.seize_book.specs.Slots.{IsKeyOfBook, Notes, own_list, slot_number, slot_of, start_of}
 use Rattle.seize_book.specs.Tokens.{Name, start}
 use Rattle.seize_words.specs.Totals.{slots_seen}
 use Rattle.seize_words.specs.Walks.{Knows}
@@ -25,7 +25,7 @@ use Rattle.seize_book.specs.declared.book.slot_key.SlotKey.{SlotKey}
 use Rattle.seize_words.specs.declared.chunk.Header.{Header}
 use Rattle.seize_words.specs.declared.reservation.Head.{Head}
 use Rattle.seize_words.proofs.Facts.{looked_named, plan_kept}
-use Rattle.seize_calls.specs.Inserts.{HasHome, Inserted, IsAtSlot, IsAtTry, Keeps, Tried, Turn, last_at, losses, plan_in, trying, turn_at, turns_at}
+use Rattle.seize_calls.specs.Inserts.{HasHome, InsertTries, Inserted, IsAtSlot, IsAtTry, Keeps, Tried, last_at, losses, plan_in, trying, turn_at, turns_at}
 use Rattle.seize_calls.specs.Marks.{reading}
 use Rattle.seize_calls.proofs.Keeps.{Goes, call_after, call_before, heads_read, keeps_book, keeps_looked, keeps_noted, keeps_twice, looked_again, looked_same, made_noted, outcome, same_private, state_before, step_noted}
 use Rattle.seize_calls.proofs.Marks.{word_none, word_some}
@@ -35,7 +35,7 @@ use Rattle.seize_calls.proofs.Tries.{front_same}
 pub record IsTurning {key : SlotKey} {m block front : ℕ} (at : IsAtSlot key m block front) (pass : Pass) (key' : SlotKey) (pass' : Pass) : Type 0 where
   pub keeps : Keeps key pass key' pass'
   pub lost : ℕ
-  pub made : events_by pass' ≡ events_by pass ++ losses pass (number_of key) m lost
+  pub made : events_by pass' ≡ events_by pass ++ losses pass (slot_number key) m lost
   pub planned : plan_in key' at.batch ≡ plan_in key at.batch
   pub looking : (slot_of key').call ≡ Some (record { place = Look at.batch at.won m at.later; queue = at.queue })
 
@@ -44,30 +44,30 @@ turns_begin key at pass keeps = record { keeps = keeps; lost = 0; made = sym (ap
 
 -- The events of a turn are the same with a pass as it was before.
 
-same_reading : (pass pass' : Pass) → IsSame pass pass' → (s m : ℕ) (found : Bool) → reading pass' s m found ≡ reading pass s m found
+same_reading : (pass pass' : Pass) → IsSamePass pass pass' → (s m : ℕ) (found : Bool) → reading pass' s m found ≡ reading pass s m found
 same_reading pass pass' same s m found = ap (λ (d : Deed). (d, HeadRead found)) (same_private pass pass' same (ReadHead s m))
 
-same_trying : (pass pass' : Pass) → IsSame pass pass' → (s m : ℕ) (ends : Insertion) → trying pass' s m ends ≡ trying pass s m ends
+same_trying : (pass pass' : Pass) → IsSamePass pass pass' → (s m : ℕ) (ends : Insertion) → trying pass' s m ends ≡ trying pass s m ends
 same_trying pass pass' same s m ends = ap (λ (d : Deed). (d, Done)) (same_private pass pass' same (Event.Insert s m ends))
 
-same_losses : (pass pass' : Pass) → IsSame pass pass' → (s m lost : ℕ) → losses pass' s m lost ≡ losses pass s m lost
+same_losses : (pass pass' : Pass) → IsSamePass pass pass' → (s m lost : ℕ) → losses pass' s m lost ≡ losses pass s m lost
 same_losses pass pass' same s m zero = refl
 same_losses pass pass' same s m (suc lost) =
     ap (λ (log : List (Deed × Answer)). log ++ reading pass' s m true ∷ trying pass' s m Lost ∷ []) (same_losses pass pass' same s m lost)
     ∙ ap (λ (x : Deed × Answer). losses pass s m lost ++ x ∷ trying pass' s m Lost ∷ []) (same_reading pass pass' same s m true)
     ∙ ap (λ (x : Deed × Answer). losses pass s m lost ++ reading pass s m true ∷ x ∷ []) (same_trying pass pass' same s m Lost)
 
-same_last : (pass pass' : Pass) → IsSame pass pass' → (s m : ℕ) (won : Bool) → last_at pass' s m won ≡ last_at pass s m won
+same_last : (pass pass' : Pass) → IsSamePass pass pass' → (s m : ℕ) (won : Bool) → last_at pass' s m won ≡ last_at pass s m won
 same_last pass pass' same s m true =
     ap (λ (x : Deed × Answer). x ∷ trying pass' s m Won ∷ []) (same_reading pass pass' same s m true) ∙ ap (λ (x : Deed × Answer). reading pass s m true ∷ x ∷ []) (same_trying pass pass' same s m Won)
 same_last pass pass' same s m false = ap (λ (x : Deed × Answer). x ∷ []) (same_reading pass pass' same s m false)
 
-pub same_turn : (pass pass' : Pass) → IsSame pass pass' → (s m : ℕ) (turn : Turn) → turn_at pass' s m turn ≡ turn_at pass s m turn
+pub same_turn : (pass pass' : Pass) → IsSamePass pass pass' → (s m : ℕ) (turn : InsertTries) → turn_at pass' s m turn ≡ turn_at pass s m turn
 same_turn pass pass' same s m turn =
     ap (λ (log : List (Deed × Answer)). log ++ last_at pass' s m turn.won) (same_losses pass pass' same s m turn.lost)
     ∙ ap (λ (log : List (Deed × Answer)). losses pass s m turn.lost ++ log) (same_last pass pass' same s m turn.won)
 
-pub same_turns : (pass pass' : Pass) → IsSame pass pass' → (s : ℕ) (ms : List ℕ) (turns : List Turn) → turns_at pass' s ms turns ≡ turns_at pass s ms turns
+pub same_turns : (pass pass' : Pass) → IsSamePass pass pass' → (s : ℕ) (ms : List ℕ) (turns : List InsertTries) → turns_at pass' s ms turns ≡ turns_at pass s ms turns
 same_turns pass pass' same s [] turns = refl
 same_turns pass pass' same s (m ∷ ms) [] = refl
 same_turns pass pass' same s (m ∷ ms) (turn ∷ turns) =
@@ -75,7 +75,7 @@ same_turns pass pass' same s (m ∷ ms) (turn ∷ turns) =
     ∙ ap (λ (log : List (Deed × Answer)). turn_at pass s m turn ++ log) (same_turns pass pass' same s ms turns)
 
 -- the header is that of the block for the slot
-pub its_home : (key : SlotKey) (pass : Pass) (m block front : ℕ) (header : Header) (at : IsAtSlot key m block front) → IsOf key pass → Knows key pass → IsHeaderOf header block pass
+pub its_home : (key : SlotKey) (pass : Pass) (m block front : ℕ) (header : Header) (at : IsAtSlot key m block front) → IsKeyOfBook key pass → Knows key pass → IsHeaderOf header block pass
     → HasHome at header
 its_home key pass m block front header at book knows is =
     is.1 (serving m (plan_in key at.batch).slots (plan_in key at.batch).values) (looked_named key pass book knows at.batch at.won m at.later at.queue at.looking) (sym at.its_block)
@@ -88,7 +88,7 @@ inactive_is : (h : MachineHead) → is_active h ≡ false → h ≡ Inactive
 inactive_is Inactive e = refl
 inactive_is (Active waiting) e = absurd (cc)
 
-module _ (key0 : SlotKey) (pass0 : Pass) (head : Head) (block front : ℕ) (at : IsAtSlot key0 (slot head) block front) (book : IsOf key0 pass0) (head_is : head.word.name ≡ pass0.name) (seen0 : slot head < slots_seen pass0)
+module _ (key0 : SlotKey) (pass0 : Pass) (head : Head) (block front : ℕ) (at : IsAtSlot key0 (slot head) block front) (book : IsKeyOfBook key0 pass0) (head_is : head.word.name ≡ pass0.name) (seen0 : slot head < slots_seen pass0)
     (key : SlotKey) (pass : Pass) (r : IsTurning at pass0 key pass) where
   abbrev m : ℕ
   m = slot head
@@ -99,7 +99,7 @@ module _ (key0 : SlotKey) (pass0 : Pass) (head : Head) (block front : ℕ) (at :
   is_head : head.word.name ≡ pass.name
   is_head = head_is ∙ sym r.keeps.same.0
 
-  pub may_read : IsOf key pass × (head.word.name ≡ pass.name)
+  pub may_read : IsKeyOfBook key pass × (head.word.name ≡ pass.name)
   may_read = (keeps_book key0 key pass0 pass r.keeps book, is_head)
 
   pub reads_again : MayRead key head pass
@@ -111,9 +111,9 @@ module _ (key0 : SlotKey) (pass0 : Pass) (head : Head) (block front : ℕ) (at :
       itself : (n : ℕ) → (n == n) ≡ true
       itself n = grind arith
 
-  module _ (key' : SlotKey) (pass' : Pass) (v : ℕ) (noted : Notes key pass key' pass' (ReadHead (number_of key) m)) (shows : Shows head pass'.seen v) where
+  module _ (key' : SlotKey) (pass' : Pass) (v : ℕ) (noted : Notes key pass key' pass' (ReadHead (slot_number key) m)) (shows : ShowsHead head pass'.seen v) where
     abbrev event : Event
-    event = ReadHead (number_of key) m
+    event = ReadHead (slot_number key) m
 
     abbrev st : State
     st = state_before key key' pass pass' event [] noted
@@ -121,8 +121,8 @@ module _ (key0 : SlotKey) (pass0 : Pass) (head : Head) (block front : ℕ) (at :
     abbrev h : MachineHead
     h = head_at st m
 
-    goes_so : Goes st (number_of key) call (looked_on scheme h) (outcome key key' pass pass' event [] noted) (HeadRead (is_active h))
-    goes_so = looked_again _ st (number_of key) m at.batch at.won at.later at.queue _ (step_noted key key' pass pass' event [] noted) (call_before key key' pass pass' event [] noted call r.looking)
+    goes_so : Goes st (slot_number key) call (looked_on scheme h) (outcome key key' pass pass' event [] noted) (HeadRead (is_active h))
+    goes_so = looked_again _ st (slot_number key) m at.batch at.won at.later at.queue _ (step_noted key key' pass pass' event [] noted) (call_before key key' pass pass' event [] noted call r.looking)
 
     pub keeps_read : Keeps key0 pass0 key' pass'
     keeps_read = keeps_twice key0 key key' pass0 pass pass' r.keeps (keeps_noted key key' pass pass' event [] noted call (looked_on scheme h) (HeadRead (is_active h)) goes_so refl)
@@ -132,19 +132,19 @@ module _ (key0 : SlotKey) (pass0 : Pass) (head : Head) (block front : ℕ) (at :
 
     -- what the word showed is what the machine read
     head_now : head_at (after (start pass.name) pass'.seen) m ≡ h
-    head_now = ap (λ (now : State). head_at now m) noted.2.0.leads ∙ ap (λ (hs : List MachineHead). get_or hs m Inactive) (heads_read _ st (number_of key) m _ (step_noted key key' pass pass' event [] noted))
+    head_now = ap (λ (now : State). head_at now m) noted.2.0.leads ∙ ap (λ (hs : List MachineHead). get_or hs m Inactive) (heads_read _ st (slot_number key) m _ (step_noted key key' pass pass' event [] noted))
 
     pub word : v ≡ word_of (λ b. block_for (start head.word.name) pass'.seen b m) h
     word = shows ∙ ap (word_of (λ b. block_for (start head.word.name) pass'.seen b m)) (ap (λ (n : Name). head_at (after (start n) pass'.seen) m) is_head ∙ head_now)
 
-    made_read : (active : Bool) → is_active h ≡ active → events_by pass' ≡ (events_by pass0 ++ losses pass0 (number_of key0) m r.lost) ++ reading pass0 (number_of key0) m active ∷ []
+    made_read : (active : Bool) → is_active h ≡ active → events_by pass' ≡ (events_by pass0 ++ losses pass0 (slot_number key0) m r.lost) ++ reading pass0 (slot_number key0) m active ∷ []
     made_read active e =
         made_noted key key' pass pass' event [] noted call (looked_on scheme h) (HeadRead (is_active h)) goes_so
         ∙ ap (λ (log : List (Deed × Answer)). log ++ (private pass event, HeadRead (is_active h)) ∷ []) r.made
-        ∙ ap (λ (x : Deed × Answer). (events_by pass0 ++ losses pass0 (number_of key0) m r.lost) ++ x ∷ [])
+        ∙ ap (λ (x : Deed × Answer). (events_by pass0 ++ losses pass0 (slot_number key0) m r.lost) ++ x ∷ [])
         (ap (λ (d : Deed). (d, HeadRead (is_active h))) (same_private pass0 pass r.keeps.same event)
         ∙ ap (λ (s : ℕ). (private pass0 (ReadHead s m), HeadRead (is_active h))) r.keeps.its.1
-        ∙ ap (λ (b : Bool). reading pass0 (number_of key0) m b) e)
+        ∙ ap (λ (b : Bool). reading pass0 (slot_number key0) m b) e)
 
     pub planned_read : plan_in key' at.batch ≡ plan_in key0 at.batch
     planned_read = plan_kept key key' pass pass' (private pass event) at.batch at.its_front.0 noted (front_same key0 key at.batch front r.planned at.its_front).1 ∙ r.planned
@@ -156,7 +156,7 @@ module _ (key0 : SlotKey) (pass0 : Pass) (head : Head) (block front : ℕ) (at :
         record {
           keeps = keeps_read;
           lost = r.lost;
-          made = made_read false off ∙ append_assoc (events_by pass0) (losses pass0 (number_of key0) m r.lost) (reading pass0 (number_of key0) m false ∷ []);
+          made = made_read false off ∙ append_assoc (events_by pass0) (losses pass0 (slot_number key0) m r.lost) (reading pass0 (slot_number key0) m false ∷ []);
           planned = planned_read;
           stands = goes_on ∙ ap (λ (x : MachineHead). Some (record { place = looked x at.batch at.won m at.later; queue = at.queue })) (inactive_is h off);
         }
@@ -172,7 +172,7 @@ module _ (key0 : SlotKey) (pass0 : Pass) (head : Head) (block front : ℕ) (at :
       pub names : (start head.word.name ≡ start_of key') × (pass'.seen ≡ own_list key')
       names = (ap start (is_head ∙ sym may_read.0 ∙ sym noted.1.0), sym noted.1.2)
 
-      abbrev pub now_trying : IsTrying (start_of key') (number_of key') (own_list key') m v block
+      abbrev pub now_trying : IsTrying (start_of key') (slot_number key') (own_list key') m v block
       now_trying = record {
         batch = at.batch;
         won = at.won;
@@ -203,13 +203,13 @@ module _ (key0 : SlotKey) (pass0 : Pass) (head : Head) (block front : ℕ) (at :
           planned_all = tried.planned ∙ planned_read
 
           abbrev end : Event
-          end = Event.Insert (number_of key') m (if won then Won else Lost)
+          end = Event.Insert (slot_number key') m (if won then Won else Lost)
 
-          made_all : events_by pass2 ≡ events_by pass0 ++ (losses pass0 (number_of key0) m r.lost ++ reading pass0 (number_of key0) m true ∷ trying pass0 (number_of key0) m (if won then Won else Lost) ∷ [])
+          made_all : events_by pass2 ≡ events_by pass0 ++ (losses pass0 (slot_number key0) m r.lost ++ reading pass0 (slot_number key0) m true ∷ trying pass0 (slot_number key0) m (if won then Won else Lost) ∷ [])
           made_all =
-              let before = events_by pass0 in let lost = losses pass0 (number_of key0) m r.lost in let one = reading pass0 (number_of key0) m true in let two = trying pass0 (number_of key0) m (if won then Won else Lost) in
+              let before = events_by pass0 in let lost = losses pass0 (slot_number key0) m r.lost in let one = reading pass0 (slot_number key0) m true in let two = trying pass0 (slot_number key0) m (if won then Won else Lost) in
               tried.made
-              ∙ ap (λ (log : List (Deed × Answer)). log ++ trying pass' (number_of key') m (if won then Won else Lost) ∷ []) (made_read true on)
+              ∙ ap (λ (log : List (Deed × Answer)). log ++ trying pass' (slot_number key') m (if won then Won else Lost) ∷ []) (made_read true on)
               ∙ ap (λ (x : Deed × Answer). ((before ++ lost) ++ one ∷ []) ++ x ∷ [])
               (ap (λ (d : Deed). (d, Done)) (same_private pass0 pass' keeps_read.same end) ∙ ap (λ (s : ℕ). trying pass0 s m (if won then Won else Lost)) keeps_read.its.1)
               ∙ append_assoc (before ++ lost) (one ∷ []) (two ∷ []) ∙ append_assoc before lost (one ∷ two ∷ [])
@@ -218,7 +218,7 @@ module _ (key0 : SlotKey) (pass0 : Pass) (head : Head) (block front : ℕ) (at :
           won_turn is = record {
             keeps = keeps_all;
             lost = r.lost;
-            made = made_all ∙ ap (λ (w : Bool). events_by pass0 ++ (losses pass0 (number_of key0) m r.lost ++ reading pass0 (number_of key0) m true ∷ trying pass0 (number_of key0) m (if w then Won else Lost) ∷ [])) is;
+            made = made_all ∙ ap (λ (w : Bool). events_by pass0 ++ (losses pass0 (slot_number key0) m r.lost ++ reading pass0 (slot_number key0) m true ∷ trying pass0 (slot_number key0) m (if w then Won else Lost) ∷ [])) is;
             planned = planned_all;
             stands = tried.stands ∙ ap (λ (w : Bool). Some (record { place = if w then look at.batch (at.won + 1) at.later else Look at.batch at.won m at.later; queue = at.queue })) is;
           }
@@ -227,7 +227,7 @@ module _ (key0 : SlotKey) (pass0 : Pass) (head : Head) (block front : ℕ) (at :
           lost_turn is = record {
             keeps = keeps_all;
             lost = suc r.lost;
-            made = made_all ∙ ap (λ (w : Bool). events_by pass0 ++ (losses pass0 (number_of key0) m r.lost ++ reading pass0 (number_of key0) m true ∷ trying pass0 (number_of key0) m (if w then Won else Lost) ∷ [])) is;
+            made = made_all ∙ ap (λ (w : Bool). events_by pass0 ++ (losses pass0 (slot_number key0) m r.lost ++ reading pass0 (slot_number key0) m true ∷ trying pass0 (slot_number key0) m (if w then Won else Lost) ∷ [])) is;
             planned = planned_all;
             looking = tried.stands ∙ ap (λ (w : Bool). Some (record { place = if w then look at.batch (at.won + 1) at.later else Look at.batch at.won m at.later; queue = at.queue })) is;
           }
@@ -237,8 +237,8 @@ pub inserted_before : {key : SlotKey} {m block front : ℕ} (at : IsAtSlot key m
 inserted_before {key} {m} at pass0 pass1 key' pass' won looks r = record {
   keeps = keeps_twice key key key' pass0 pass1 pass' (keeps_looked key pass0 pass1 looks) r.keeps;
   lost = r.lost;
-  made = r.made ∙ ap (λ (log : List (Deed × Answer)). log ++ turn_at pass1 (number_of key) m (record { lost = r.lost; won = won })) (looked_same pass0 pass1 looks)
-      ∙ ap (λ (log : List (Deed × Answer)). events_by pass0 ++ log) (same_turn pass0 pass1 looks.same (number_of key) m (record { lost = r.lost; won = won }));
+  made = r.made ∙ ap (λ (log : List (Deed × Answer)). log ++ turn_at pass1 (slot_number key) m (record { lost = r.lost; won = won })) (looked_same pass0 pass1 looks)
+      ∙ ap (λ (log : List (Deed × Answer)). events_by pass0 ++ log) (same_turn pass0 pass1 looks.same (slot_number key) m (record { lost = r.lost; won = won }));
   planned = r.planned;
   stands = r.stands;
 }

@@ -4,7 +4,7 @@ use Rattle.std.proofs.lemmas.List.{get_or-set_same, length_push}
 use base.Growing.{prefix_trans}
 use Rattle.seize_machine.specs.Machine.State.{Call, Head, Inactive, Rest, Slot, State, is_active, no_slot, slot_at}
 use Rattle.seize_machine.specs.Machine.Event.{SubCount}
-use Rattle.seize_machine.specs.Machine.History.{first_of}
+use Rattle.seize_machine.specs.Machine.History.{first_or_none}
 use Rattle.seize_machine.specs.Machine.Laws.{walk_of}
 use Rattle.seize_machine.specs.Machine.Next.{is_zero}
 use Rattle.seize_machine.specs.declared.machine.event.Answer.{Answer}
@@ -14,9 +14,9 @@ use Rattle.seize_book.specs.Adding.{private}
 use Rattle.seize_words.specs.Counts.{values_in}
 use Rattle.seize_book.specs.Entry.{Deed, Entry}
 use Rattle.seize_words.specs.Headers.{IsFrontBlock}
-use Rattle.seize_book.specs.Ledger.{Held}
-use Rattle.seize_book.specs.Passes.{events_by}
-use Rattle.seize_book.specs.Slots.{Notes, number_of, own_list, size_of, slot_of}
+use Rattle.seize_book.specs.Ledger.{HeldKey}
+use Rattle.seize_book.specs.Passes.{events_by, IsSamePass}
+use Rattle.seize_book.specs.Slots.{Notes, own_list, slot_number, slot_of}
 use Rattle.seize_book.specs.Values.{IsEmpty}
 use Rattle.seize_words.specs.Walks.{CountsDown, IsAtBatch, word_for}
 use Rattle.seize_book.specs.Private.{labels_of}
@@ -26,7 +26,7 @@ use Rattle.seize_book.specs.declared.book.value_keys.ValueKeys.{ValueKeys}
 use Rattle.seize_words.proofs.Facts.{events_grew}
 use Rattle.seize_calls.proofs.Alone.{alone_none}
 use Rattle.seize_calls.specs.Inserts.{Keeps}
-use Rattle.seize_calls.specs.Walking.{AreHeld, Ends, GoesOn, IsAtWalk, Stops, counting, countings}
+use Rattle.seize_calls.specs.Walking.{AreHeld, EndsWalk, IsAtWalk, KeepsAndKnows, Stops, counting, countings}
 use Rattle.seize_calls.proofs.Keeps.{keeps_from, keeps_looked, keeps_twice, looked_same, outcome, own_grows, same_private, state_before, step_noted}
 use Rattle.seize_calls.proofs.Marks.{within}
 
@@ -38,7 +38,7 @@ held_push : (counts : List ℤ) (count : ℤ) → AreHeld counts → is_zero cou
 held_push [] count all more = (more, tt)
 held_push (first ∷ counts) count all more = (all.0, held_push counts count all.1 more)
 
-none_labelled : (held : List (Held Entry)) → labels_of held ≡ [] → held ≡ []
+none_labelled : (held : List (HeldKey Entry)) → labels_of held ≡ [] → held ≡ []
 none_labelled [] e = refl
 none_labelled (h ∷ held) e = absurd (cc)
 
@@ -51,29 +51,29 @@ after_sub size st _ d (Step.subtracted s b walk queue _ stands is) =
       ap (λ (x : State × Answer). x.0.heads) (sym eq),
     )
 
-pub keeps_counted : (key key' : SlotKey) (pass pass' : Pass) → Notes key pass key' pass' (SubCount (number_of key)) → Keeps key pass key' pass'
+pub keeps_counted : (key key' : SlotKey) (pass pass' : Pass) → Notes key pass key' pass' (SubCount (slot_number key)) → Keeps key pass key' pass'
 keeps_counted key key' pass pass' notes =
-    let event = SubCount (number_of key) in
-    let so = after_sub (size_of key) (state_before key key' pass pass' event [] notes) (number_of key) (outcome key key' pass pass' event [] notes) (step_noted key key' pass pass' event [] notes) in
-    keeps_from key key' pass pass' event [] notes so.0 so.1 (ap (λ (hs : List Head). is_active (get_or hs (number_of key) Inactive)) so.2) refl
+    let event = SubCount (slot_number key) in
+    let so = after_sub pass.size (state_before key key' pass pass' event [] notes) (slot_number key) (outcome key key' pass pass' event [] notes) (step_noted key key' pass pass' event [] notes) in
+    keeps_from key key' pass pass' event [] notes so.0 so.1 (ap (λ (hs : List Head). is_active (get_or hs (slot_number key) Inactive)) so.2) refl
 
 -- some batches were counted down, and none was given up
 pub record IsWalking {key : SlotKey} {word : ℕ} (at : IsAtWalk key word) (pass : Pass) (key' : SlotKey) (pass' : Pass) (values' : ValueKeys) (leads' : ℕ) : Type 0 where
-  pub goes_on : GoesOn key pass key' pass'
+  pub goes_on : KeepsAndKnows key pass key' pass'
   pub held : List ℤ
   pub above : AreHeld held
   pub done : List ℕ
   pub left : List ℕ
   pub split : at.walk ≡ done ++ left
   pub each : length held ≡ length done
-  pub made : events_by pass' ≡ events_by pass ++ countings pass (number_of key) held
+  pub made : events_by pass' ≡ events_by pass ++ countings pass (slot_number key) held
   pub walking : (slot_of key').call ≡ Some (record { place = Rest [] left; queue = at.queue })
   pub leads : leads' ≡ word_for key' left
   pub none : IsEmpty values' pass'
 
 abbrev pub none_walked : (key : SlotKey) (word : ℕ) (at : IsAtWalk key word) (pass : Pass) (values : ValueKeys) → IsEmpty values pass → IsWalking at pass key pass values word
 none_walked key word at pass values empty = record {
-  goes_on = (record { same = (refl, refl); its = (refl, refl); batch = refl; used = refl; active = refl; life = refl; seen = omega arith; grows = ([], append-nil pass.seen); alone = alone_none pass }, ([], append-nil (own_list key)));
+  goes_on = (record { same = (refl, refl, refl); its = (refl, refl); batch = refl; used = refl; active = refl; life = refl; seen = omega arith; grows = ([], append-nil pass.seen); alone = alone_none pass }, ([], append-nil (own_list key)));
   held = [];
   above = tt;
   done = [];
@@ -103,7 +103,7 @@ module _ (key0 : SlotKey) (word : ℕ) (at : IsAtWalk key0 word) (pass0 : Pass) 
       go [] is = refl
       go (b ∷ walk) is = absurd (omega (arith, is, none))
 
-  pub walk_over : leads ≡ 1 → Ends at r.held pass0 key pass values
+  pub walk_over : leads ≡ 1 → EndsWalk at r.held pass0 key pass values
   walk_over none = record {
     each = r.each ∙ (let split = ap (λ (bs : List ℕ). length bs) (r.split ∙ ap (λ (bs : List ℕ). r.done ++ bs) (is_over none) ∙ append-nil r.done) in sym split);
     made = r.made;
@@ -129,25 +129,25 @@ module _ (key0 : SlotKey) (word : ℕ) (at : IsAtWalk key0 word) (pass0 : Pass) 
       abbrev count : ℤ
       count = down.counts.1.0
 
-      pub goes_down : GoesOn key0 pass0 key' pass'
+      pub goes_down : KeepsAndKnows key0 pass0 key' pass'
       goes_down = (
         keeps_twice key0 key key' pass0 pass pass' r.goes_on.0 (keeps_twice key key key' pass down.mid pass' (keeps_looked key pass down.mid down.looks) (keeps_counted key key' down.mid pass' down.counts.0)),
-        prefix_trans (own_list key0) (own_list key) (own_list key') r.goes_on.1 (own_grows key key' down.mid pass' (SubCount (number_of key)) [] down.counts.0),
+        prefix_trans (own_list key0) (own_list key) (own_list key') r.goes_on.1 (own_grows key key' down.mid pass' (SubCount (slot_number key)) [] down.counts.0),
       )
 
-      mid_same : (down.mid.name ≡ pass0.name) × (down.mid.id ≡ pass0.id)
-      mid_same = (down.looks.same.0 ∙ r.goes_on.0.same.0, down.looks.same.1 ∙ r.goes_on.0.same.1)
+      mid_same : IsSamePass pass0 down.mid
+      mid_same = (down.looks.same.0 ∙ r.goes_on.0.same.0, down.looks.same.1 ∙ r.goes_on.0.same.1, down.looks.same.2 ∙ r.goes_on.0.same.2)
 
-      made_down : events_by pass' ≡ events_by pass0 ++ countings pass0 (number_of key0) (r.held ++ count ∷ [])
+      made_down : events_by pass' ≡ events_by pass0 ++ countings pass0 (slot_number key0) (r.held ++ count ∷ [])
       made_down =
-          let event = SubCount (number_of key) in let before = events_by pass0 in let old = countings pass0 (number_of key0) r.held in
+          let event = SubCount (slot_number key) in let before = events_by pass0 in let old = countings pass0 (slot_number key0) r.held in
           events_grew down.mid pass' event down.counts.0.0 down.counts.0.2.0
           ∙ ap (λ (log : List (Deed × Answer)). log ++ (private down.mid event, down.counts.0.2.0.answer) ∷ []) (looked_same pass down.mid down.looks ∙ r.made)
           ∙ ap (λ (a : Answer). (before ++ old) ++ (private down.mid event, a) ∷ []) down.counts.1.1
           ∙ ap (λ (d : Deed). (before ++ old) ++ (d, Counted count) ∷ []) (same_private pass0 down.mid mid_same event)
           ∙ ap (λ (s : ℕ). (before ++ old) ++ counting pass0 s count ∷ []) r.goes_on.0.its.1
-          ∙ append_assoc before old (counting pass0 (number_of key0) count ∷ [])
-          ∙ ap (λ (log : List (Deed × Answer)). before ++ log) (sym (countings_push pass0 (number_of key0) r.held count))
+          ∙ append_assoc before old (counting pass0 (slot_number key0) count ∷ [])
+          ∙ ap (λ (log : List (Deed × Answer)). before ++ log) (sym (countings_push pass0 (slot_number key0) r.held count))
 
       split_down : at.walk ≡ (r.done ++ batch.batch ∷ []) ++ batch.walk
       split_down = r.split ∙ ap (λ (bs : List ℕ). r.done ++ bs) (sym same_left) ∙ sym (append_assoc r.done (batch.batch ∷ []) batch.walk)
@@ -187,7 +187,7 @@ module _ (key0 : SlotKey) (word : ℕ) (at : IsAtWalk key0 word) (pass0 : Pass) 
               given_up = down.gives ∙ ap (λ (z : Bool). Some (record { place = Rest (if z then values_in key batch.batch else []) batch.walk; queue = batch.queue })) on
                   ∙ ap (λ (vs : List ℕ). Some (record { place = Rest vs batch.walk; queue = batch.queue })) (sym values);
               first = its.0;
-              is_first = ap first_of values ∙ its.1;
+              is_first = ap first_or_none values ∙ its.1;
               its_block = its.2;
               book = down.takes.0;
               keys = (refl, refl, down.takes.1);

@@ -11,4 +11,4 @@ AllBy p [] = Unit {0}
 AllBy p (e ∷ log) = (maker e ≡ p) × AllBy p log
 
 abbrev pub AddsAlone : Pass → Pass → Type 0
-AddsAlone pass pass' = IsSole pass.name.gate pass.id → (added : List Entry) × (pass'.seen ≡ pass.seen ++ added) × AllBy pass.id added
+AddsAlone pass pass' = IsSole pass.id → (added : List Entry) × (pass'.seen ≡ pass.seen ++ added) × AllBy pass.id added

@@ -1,5 +1,5 @@
 -- A whole attempt: the marks, and then the insertions, and their number added to the count.
---     Attempts at pass values key' pass' values' ends     the call has given up, as after marking (Ends), and the keys of the batch's
+--     Attempts at pass values key' pass' values' ends     the call has given up, as after marking (EndsMarks), and the keys of the batch's
 --                        values stay, with all that is noted but the slots; or the batch was retired: see Retires
 --     Retires at pass values key' pass' values' zero      all that was made with the pass is that the slot read the heads, detached the
 --                        batch, took a turn at each slot whose head was active (`turns_at`), and added the insertions won; the count is 0
@@ -13,16 +13,16 @@ use Rattle.seize_machine.specs.Machine.Next.{is_zero}
 use Rattle.seize_machine.specs.Machine.State.{Rest}
 use Rattle.seize_machine.specs.declared.machine.event.Answer.TheVariants.{Count, Done}
 use Rattle.seize_book.specs.Adding.{private}
-use Rattle.seize_words.specs.Counts.{Leaves}
+use Rattle.seize_words.specs.Counts.{LeavesKeys}
 use Rattle.seize_book.specs.Passes.{events_by}
-use Rattle.seize_book.specs.Slots.{active_of, life_of, number_of, slot_of}
+use Rattle.seize_book.specs.Slots.{active_of, life_of, slot_number, slot_of}
 use Rattle.seize_book.specs.declared.book.pass.Pass.{Pass}
 use Rattle.seize_book.specs.declared.book.slot_key.SlotKey.{SlotKey}
 use Rattle.seize_book.specs.declared.book.value_keys.ValueKeys.{ValueKeys}
 use Rattle.seize_calls.specs.Alone.{AddsAlone}
 use Rattle.seize_calls.specs.Batches.{AreRemarked}
-use Rattle.seize_calls.specs.Inserts.{Turn, turns_at}
-use Rattle.seize_calls.specs.Marks.{BeginsToMark, Ends, actives, readings}
+use Rattle.seize_calls.specs.Inserts.{InsertTries, turns_at}
+use Rattle.seize_calls.specs.Marks.{BeginsToMark, EndsMarks, actives, readings}
 use Rattle.seize_calls.specs.declared.attempt.Attempted.{Attempted}
 use Rattle.seize_calls.specs.declared.attempt.Attempted.TheVariants.{GivenUp, Stays, Waits}
 use Rattle.seize_calls.specs.declared.marking.Marked.TheVariants.{TooMany}
@@ -30,13 +30,13 @@ use Rattle.seize_calls.specs.declared.marking.Marked.TheVariants.{TooMany}
 pub record Retires {key : SlotKey} (at : BeginsToMark key) (pass : Pass) (values : ValueKeys) (key' : SlotKey) (pass' : Pass)
     (values' : ValueKeys) (zero : Bool) : Type 0 where
   pub finds : List Bool
-  pub turns : List Turn
+  pub turns : List InsertTries
   pub each : length turns ≡ length (actives 0 finds)
   pub count : ℤ
   pub is_count : zero ≡ is_zero count
   pub grows : IsPrefix pass.seen pass'.seen
   pub alone : AddsAlone pass pass'
-  pub made : let s = number_of key in
+  pub made : let s = slot_number key in
       events_by pass' ≡ (((events_by pass ++ readings pass s 0 finds) ++ (private pass (Detach s), Done) ∷ [])
       ++ turns_at pass s (actives 0 finds) turns) ++ (private pass (AddCount s), Count count) ∷ []
   pub batch : (slot_of key').batch ≡ []
@@ -46,9 +46,9 @@ pub record Retires {key : SlotKey} (at : BeginsToMark key) (pass : Pass) (values
   pub stands : (slot_of key').call ≡ Some (record { place = Rest (if zero then (slot_of key).batch else []) []; queue = at.queue })
   pub marked : ValueKeys
   pub remarked : AreRemarked values marked
-  pub keys : Leaves marked pass' values' zero
+  pub keys : LeavesKeys marked pass' values' zero
 
 abbrev pub Attempts : {key : SlotKey} → BeginsToMark key → Pass → ValueKeys → SlotKey → Pass → ValueKeys → Attempted → Type 0
-Attempts at pass values key' pass' values' Stays = Ends at pass key' pass' [] TooMany × AreRemarked values values'
+Attempts at pass values key' pass' values' Stays = EndsMarks at pass key' pass' [] TooMany × AreRemarked values values'
 Attempts at pass values key' pass' values' Waits = Retires at pass values key' pass' values' false
 Attempts at pass values key' pass' values' GivenUp = Retires at pass values key' pass' values' true

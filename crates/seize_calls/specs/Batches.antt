@@ -2,22 +2,23 @@
 -- inserted with a block, is noted of the blocks themselves.
 --     keys_in batch            the keys of its values, in order;  first_in batch     the number of the first one's block
 --     slot_noted g             what a note of this code says of the slot
---     Spot                     a value's block, and the slot that is noted of it
---     spots_of held, spots_in batch    those of the values whose keys these are, in order, or of a batch;  slots_of spots   the slots
+--     SlotMark                 a value's block, and the slot that is noted of it
+--     slot_marks_of held, slot_marks_in batch    those of the values whose keys these are, in order, or of a batch;  marked_slots spots
+--                                      the slots
 --     unslotted held           the keys, with all that is noted but the slots
 --     AreRemarked keys keys'   they are the same keys, and all that is noted is the same but the slots
 --     IsAsBefore batch batch'  the keys and the first number are as they were, and what is noted
 --     IsPushed keys v kept keys'    one value more comes last, of which this is kept
 --     LeadsFrom keys number keys'   they are the same keys, and the last one leads on to the block of this number
 --     keys_book keys           the book of the keys
---     IsNew value              its value was never named, all that lay in its block before were reclaimed, and something is lent with
+--     IsNewValue value         its value was never named, all that lay in its block before were reclaimed, and something is lent with
 --                              it, as AreNew says of several
 use Rattle.std.specs.Prelude.{◌≡◌, ℕ, true, map, List, [], ◌∷◌, ◌++◌}
 use base.Stored.{Gv, gnil, gnum, gcons}
-use Rattle.seize_book.specs.Blocks.{block_of}
+use Rattle.seize_book.specs.Blocks.{block_number}
 use Rattle.seize_book.specs.Entry.{Entry}
 use Rattle.seize_book.specs.Kept.{kepts_of}
-use Rattle.seize_book.specs.Ledger.{Held}
+use Rattle.seize_book.specs.Ledger.{HeldKey}
 use Rattle.seize_book.specs.Linked.{are_joined}
 use Rattle.seize_book.specs.Others.{book_of}
 use Rattle.seize_book.specs.Tokens.{Name}
@@ -38,18 +39,18 @@ abbrev pub slot_noted : Gv → ℕ
 slot_noted (gcons a (gcons (gnum m) g)) = m
 slot_noted g = 0
 
-pub record Spot : Type 0 where
+pub record SlotMark : Type 0 where
   pub block : ℕ
   pub slot : ℕ
 
-abbrev pub spots_of : List (Held Entry) → List Spot
-spots_of held = map (λ h. record { block = block_of h.label; slot = slot_noted h.note }) held
+abbrev pub slot_marks_of : List (HeldKey Entry) → List SlotMark
+slot_marks_of held = map (λ h. record { block = block_number h.label; slot = slot_noted h.note }) held
 
-abbrev pub spots_in : Batch → List Spot
-spots_in batch = spots_of batch.values.keys.held
+abbrev pub slot_marks_in : Batch → List SlotMark
+slot_marks_in batch = slot_marks_of batch.values.keys.held
 
-abbrev pub slots_of : List Spot → List ℕ
-slots_of spots = map (λ spot. spot.slot) spots
+abbrev pub marked_slots : List SlotMark → List ℕ
+marked_slots spots = map (λ spot. spot.slot) spots
 
 abbrev pub without_slot : Gv → Gv
 without_slot gnil = gnil
@@ -58,7 +59,7 @@ without_slot (gcons a gnil) = gcons a gnil
 without_slot (gcons a (gnum n)) = gcons a (gnum n)
 without_slot (gcons a (gcons b g)) = gcons a g
 
-abbrev pub unslotted : List (Held Entry) → List (Held Entry)
+abbrev pub unslotted : List (HeldKey Entry) → List (HeldKey Entry)
 unslotted held = map (λ h. record { kind = h.kind; key = h.key; own = h.own; label = h.label; note = without_slot h.note }) held
 
 abbrev pub AreRemarked : ValueKeys → ValueKeys → Type 0
@@ -76,10 +77,10 @@ IsPushed keys v kept keys' =
 abbrev pub LeadsFrom : ValueKeys → ℕ → ValueKeys → Type 0
 LeadsFrom keys number keys' =
     (book_in keys' ≡ book_in keys) × (values_of keys' ≡ values_of keys) × (kepts_of keys' ≡ kepts_of keys)
-    × ((h : Held Entry) → block_of h.label ≡ number → are_joined (book_in keys').store keys'.keys.held (h ∷ []) ≡ true)
+    × ((h : HeldKey Entry) → block_number h.label ≡ number → are_joined keys'.keys.held (h ∷ []) ≡ true)
 
 abbrev pub keys_book : ValueKeys → Name
 keys_book keys = book_in keys
 
-abbrev pub IsNew : ValueKey → Type 0
-IsNew value = AllNew (book_of value) value.keys.held
+abbrev pub IsNewValue : ValueKey → Type 0
+IsNewValue value = AllNew (book_of value) value.keys.held

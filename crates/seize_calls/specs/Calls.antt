@@ -23,14 +23,14 @@ use Rattle.seize_machine.specs.declared.machine.event.Answer.TheVariants.{Done}
 use Rattle.seize_machine.specs.declared.machine.event.Job.{Job}
 use Rattle.seize_machine.specs.declared.machine.event.Job.TheVariants.{Flush, Retire}
 use Rattle.seize_book.specs.Book.{after}
-use Rattle.seize_book.specs.Adding.{telling}
+use Rattle.seize_book.specs.Adding.{deed_with_words}
 use Rattle.seize_book.specs.Entry.{Deed}
 use Rattle.seize_book.specs.Kept.{AllTold, kepts_of}
 use Rattle.seize_book.specs.Laws.{life}
 use Rattle.seize_book.specs.Tokens.{start}
 use Rattle.seize_words.specs.Named.{slot_book}
-use Rattle.seize_book.specs.Passes.{IsSame, events_by}
-use Rattle.seize_book.specs.Slots.{active_of, life_of, number_of, slot_of}
+use Rattle.seize_book.specs.Passes.{IsSamePass, events_by}
+use Rattle.seize_book.specs.Slots.{active_of, life_of, slot_number, slot_of}
 use Rattle.seize_book.specs.Values.{values_of}
 use Rattle.seize_book.specs.declared.book.pass.Pass.{Pass}
 use Rattle.seize_words.specs.declared.activation.Activation.{Activation}
@@ -39,7 +39,7 @@ use Rattle.seize_book.specs.declared.book.value_keys.ValueKeys.{ValueKeys}
 use Rattle.seize_calls.specs.Alone.{AddsAlone}
 use Rattle.seize_calls.specs.Handing.{Had, Handings, HasHad, values_handed, values_put, words_put}
 use Rattle.seize_calls.specs.Inserts.{Keeps}
-use Rattle.seize_calls.specs.Settling.{Drains, HasBatch, Round, Settles, Stand, done}
+use Rattle.seize_calls.specs.Settling.{CallState, Drains, DrainsOne, HasBatch, Settles, done_event}
 use Rattle.seize_calls.specs.Walking.{handed_in, steps}
 
 abbrev pub IsInside : SlotKey → Type 0
@@ -53,37 +53,38 @@ pub record HasBegun (a : Activation) (pass : Pass) : Type 0 where
 
 pub record Begins (key : SlotKey) (pass : Pass) (job : Job) (kepts : List ℕ) (key' : SlotKey) (pass' : Pass) : Type 0 where
   pub keeps : Keeps key pass key' pass'
-  pub made : events_by pass' ≡ events_by pass ++ (telling pass (Begin (number_of key) job) kepts, Done) ∷ []
+  pub made : events_by pass' ≡ events_by pass ++ (deed_with_words pass (Begin (slot_number key) job) kepts, Done) ∷ []
 
-pub record BeginsSo (key : SlotKey) (pass : Pass) (job : Job) (kepts : List ℕ) (values : ValueKeys) (had : Had) (a : Stand) : Type 0 where
+pub record BeginsSo (key : SlotKey) (pass : Pass) (job : Job) (kepts : List ℕ) (values : ValueKeys) (had : Had)
+    (a : CallState) : Type 0 where
   pub begins : Begins key pass job kepts a.key a.pass
   pub batch : a.batch ≡ values
   pub none : values_of a.queue ≡ []
   pub had_none : a.had ≡ had
 
-pub record Returns (a : Stand) (key' : SlotKey) (pass' : Pass) (values : ValueKeys) (had : Had) : Type 0 where
+pub record Returns (a : CallState) (key' : SlotKey) (pass' : Pass) (values : ValueKeys) (had : Had) : Type 0 where
   pub keeps : Keeps a.key a.pass key' pass'
-  pub made : events_by pass' ≡ events_by a.pass ++ done a.pass (Return (number_of a.key))
+  pub made : events_by pass' ≡ events_by a.pass ++ done_event a.pass (Return (slot_number a.key))
   pub batch : values ≡ a.batch
   pub none : values_of a.queue ≡ []
   pub had_none : had ≡ a.had
 
 pub record Rests (key : SlotKey) (pass : Pass) (key' : SlotKey) (pass' : Pass) (values' : ValueKeys) : Type 0 where
-  pub same : IsSame pass pass'
+  pub same : IsSamePass pass pass'
   pub grows : IsPrefix pass.seen pass'.seen
   pub alone : AddsAlone pass pass'
-  pub its : (slot_book key' ≡ slot_book key) × (number_of key' ≡ number_of key)
+  pub its : (slot_book key' ≡ slot_book key) × (slot_number key' ≡ slot_number key)
   pub call : (slot_of key').call ≡ None
   pub used : (slot_of key').used ≡ (slot_of key).used
   pub batch : HasBatch key' pass' values'
 
 pub record Flushes (key : SlotKey) (pass : Pass) (values : ValueKeys) (had : Had) (key' : SlotKey) (pass' : Pass) (values' : ValueKeys)
     (had' : Had) (retired : Bool) : Type 0 where
-  pub begun : Stand
+  pub begun : CallState
   pub begins : BeginsSo key pass Flush [] values had begun
-  pub settled : Stand
+  pub settled : CallState
   pub settles : Settles begun settled retired
-  pub drained : Stand
+  pub drained : CallState
   pub drains : Drains settled drained
   pub returns : Returns drained key' pass' values' had'
   pub rests : Rests key pass key' pass' values'
@@ -92,11 +93,11 @@ pub record Flushes (key : SlotKey) (pass : Pass) (values : ValueKeys) (had : Had
 
 pub record RetiresOne (key : SlotKey) (pass : Pass) (v kept : ℕ) (values : ValueKeys) (had : Had) (key' : SlotKey) (pass' : Pass)
     (values' : ValueKeys) (had' : Had) (retired : Bool) : Type 0 where
-  pub begun : Stand
+  pub begun : CallState
   pub begins : BeginsSo key pass (Retire v) (kept ∷ []) values had begun
-  pub settled : Stand
-  pub round : Round begun v kept settled retired
-  pub drained : Stand
+  pub settled : CallState
+  pub round : DrainsOne begun v kept settled retired
+  pub drained : CallState
   pub drains : Drains settled drained
   pub returns : Returns drained key' pass' values' had'
   pub rests : Rests key pass key' pass' values'
@@ -107,15 +108,15 @@ pub record Leaves (job : Job) (stays : Bool) (swap : Deed) (key : SlotKey) (pass
     (key' : SlotKey) (pass' : Pass) (values' : ValueKeys) (had' : Had) : Type 0 where
   pub walked : List (ℤ × Handings)
   pub kepts : List ℕ
-  pub behind : Stand
-  pub made : let s = number_of key in
-      events_by behind.pass ≡ ((events_by pass ++ done pass (Begin s job)) ++ (swap, Done) ∷ []) ++ steps pass s walked
+  pub behind : CallState
+  pub made : let s = slot_number key in
+      events_by behind.pass ≡ ((events_by pass ++ done_event pass (Begin s job)) ++ (swap, Done) ∷ []) ++ steps pass s walked
   pub has_had : HasHad (handed_in walked) kepts had behind.had
   pub told : AllTold behind.pass.seen (values_handed (handed_in walked)) kepts
   pub queued : let handed = handed_in walked in
       (values_of behind.queue ≡ values_put handed) × (kepts_of behind.queue ≡ words_put handed)
   pub batch : behind.batch ≡ values
-  pub drained : Stand
+  pub drained : CallState
   pub drains : Drains behind drained
   pub returns : Returns drained key' pass' values' had'
   pub rests : Rests key pass key' pass' values'

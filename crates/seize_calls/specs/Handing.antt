@@ -9,7 +9,7 @@
 --     Queues queue puts words queue'     these came to the queue, last, of which this is kept
 --     TakesFirst queue v kept queue'     v was the first of the queue, of which this is kept, and the others are left
 --     IsServed keys name        the keys are of this book, and each of their values may be put by a reclaimer (AreNew)
---     IsLaid spots spots' number     the chunk with this number came to the list, last; a full one gave its last 64 back before
+--     GainsSpot spots spots' number     the chunk with this number came to the list, last; a full one gave its last 64 back before
 use Rattle.std.specs.Prelude.{◌≡◌, ℕ, List, [], ◌∷◌, ◌++◌}
 use base.Stored.{Gv}
 use denote.Struct.Codes.{itself}
@@ -72,7 +72,7 @@ TakesFirst queue v kept queue' =
 abbrev pub IsServed : ValueKeys → Name → Type 0
 IsServed keys name = (book_in keys ≡ name) × AreNew keys
 
-pub record IsLaid {T : Type 0} (spots spots' : Spots Header Part T) (number : ℕ) : Type 0 where
+pub record GainsSpot {T : Type 0} (spots spots' : Spots Header Part T) (number : ℕ) : Type 0 where
   pub hollow : Hollow Header Part T
   pub its : hollow_number hollow ≡ number
   pub last : titles_of spots' ≡ titles_with (titles_of spots) (hollow_title hollow)

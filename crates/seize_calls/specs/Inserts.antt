@@ -1,5 +1,5 @@
 -- How a call inserts the batch that it detached, at the slots that it marked, one after the other.
---     Turn                   what a call did at one slot: the insertions lost there, and whether one was won or the slot was skipped
+--     InsertTries            what a call did at one slot: the insertions lost there, and whether one was won or the slot was skipped
 --     turn_at pass s m turn      its events, with the pass: before each try slot s read the head of slot m; last it won, or found m
 --                            inactive
 --     turns_at pass s ms turns   those of a turn at each of these slots, in order;  won_in turns     how many insertions were won
@@ -27,32 +27,32 @@ use Rattle.seize_machine.specs.declared.machine.event.Answer.TheVariants.{Done}
 use Rattle.seize_machine.specs.declared.machine.event.Try.{Try as Insertion}
 use Rattle.seize_machine.specs.declared.machine.event.Try.TheVariants.{Won, Lost}
 use Rattle.seize_book.specs.Adding.{private}
-use Rattle.seize_book.specs.Blocks.{Plan, block_in, block_of, no_plan, plans, serving}
+use Rattle.seize_book.specs.Blocks.{Plan, block_in, block_number, no_plan, plans, serving}
 use Rattle.seize_words.specs.Chunks.{header_home}
 use Rattle.seize_book.specs.Entry.{Deed, Entry}
 use Rattle.seize_words.specs.Headers.{IsFrontBlock}
 use Rattle.seize_words.specs.Heads.{IsTrying}
 use Rattle.seize_book.specs.Homes.{home_of}
 use Rattle.seize_book.specs.Homesteads.{state_seen}
-use Rattle.seize_book.specs.Ledger.{Held}
+use Rattle.seize_book.specs.Ledger.{HeldKey}
 use Rattle.seize_words.specs.Named.{slot_book}
-use Rattle.seize_book.specs.Passes.{IsSame, events_by}
+use Rattle.seize_book.specs.Passes.{IsSamePass, events_by}
 use Rattle.seize_words.specs.Reservations.{slot}
-use Rattle.seize_book.specs.Slots.{active_of, life_of, number_of, own_list, slot_of, start_of}
+use Rattle.seize_book.specs.Slots.{active_of, life_of, own_list, slot_number, slot_of, start_of}
 use Rattle.seize_words.specs.Totals.{slots_seen}
 use Rattle.seize_book.specs.declared.book.pass.Pass.{Pass}
 use Rattle.seize_book.specs.declared.book.slot_key.SlotKey.{SlotKey}
 use Rattle.seize_words.specs.declared.chunk.Header.{Header}
 use Rattle.seize_words.specs.declared.reservation.Head.{Head}
 use Rattle.seize_calls.specs.Alone.{AddsAlone}
-use Rattle.seize_calls.specs.Batches.{Spot, slot_noted, slots_of}
+use Rattle.seize_calls.specs.Batches.{SlotMark, marked_slots, slot_noted}
 use Rattle.seize_calls.specs.Marks.{reading}
 use Rattle.seize_calls.specs.Rounds.{book_at, done_in, rest_in}
 use Rattle.seize_calls.specs.declared.round.Round.{Round}
 
 -- Events.
 
-pub record Turn : Type 0 where
+pub record InsertTries : Type 0 where
   pub lost : ℕ
   pub won : Bool
 
@@ -67,14 +67,14 @@ abbrev pub last_at : Pass → ℕ → ℕ → Bool → List (Deed × Answer)
 last_at pass s m true = reading pass s m true ∷ trying pass s m Won ∷ []
 last_at pass s m false = reading pass s m false ∷ []
 
-abbrev pub turn_at : Pass → ℕ → ℕ → Turn → List (Deed × Answer)
+abbrev pub turn_at : Pass → ℕ → ℕ → InsertTries → List (Deed × Answer)
 turn_at pass s m turn = losses pass s m turn.lost ++ last_at pass s m turn.won
 
-abbrev pub turns_at : Pass → ℕ → List ℕ → List Turn → List (Deed × Answer)
+abbrev pub turns_at : Pass → ℕ → List ℕ → List InsertTries → List (Deed × Answer)
 turns_at pass s (m ∷ ms) (turn ∷ turns) = turn_at pass s m turn ++ turns_at pass s ms turns
 turns_at pass s _ _ = []
 
-abbrev pub won_in : List Turn → ℕ
+abbrev pub won_in : List InsertTries → ℕ
 won_in [] = 0
 won_in (turn ∷ turns) = (if turn.won then 1 else 0) + won_in turns
 
@@ -84,8 +84,8 @@ abbrev pub plan_in : SlotKey → ℕ → Plan
 plan_in key b = slice_index_or (plans (start_of key) (own_list key)) b no_plan
 
 pub record Keeps (key : SlotKey) (pass : Pass) (key' : SlotKey) (pass' : Pass) : Type 0 where
-  pub same : IsSame pass pass'
-  pub its : (slot_book key' ≡ slot_book key) × (number_of key' ≡ number_of key)
+  pub same : IsSamePass pass pass'
+  pub its : (slot_book key' ≡ slot_book key) × (slot_number key' ≡ slot_number key)
   pub batch : (slot_of key').batch ≡ (slot_of key).batch
   pub used : (slot_of key').used ≡ (slot_of key).used
   pub active : active_of key' ≡ active_of key
@@ -95,7 +95,7 @@ pub record Keeps (key : SlotKey) (pass : Pass) (key' : SlotKey) (pass' : Pass) :
   pub alone : AddsAlone pass pass'
 
 pub record IsAtTry (key : SlotKey) (head : Head) (header : Header) (seen block front : ℕ) : Type 0 where
-  pub tries : IsTrying (start_of key) (number_of key) (own_list key) (slot head) seen block
+  pub tries : IsTrying (start_of key) (slot_number key) (own_list key) (slot head) seen block
   pub fits : block + 2 < 2 ^ 64
   pub its_home : home_of (let plan = plan_in key tries.batch in serving (slot head) plan.slots plan.values) ≡ header_home header
   pub its_front : IsFrontBlock key tries.batch front
@@ -103,7 +103,7 @@ pub record IsAtTry (key : SlotKey) (head : Head) (header : Header) (seen block f
 pub record Tried {key : SlotKey} {head : Head} {header : Header} {seen block front : ℕ} (at : IsAtTry key head header seen block front)
     (pass : Pass) (key' : SlotKey) (pass' : Pass) (won : Bool) : Type 0 where
   pub keeps : Keeps key pass key' pass'
-  pub made : events_by pass' ≡ events_by pass ++ trying pass (number_of key) (slot head) (if won then Won else Lost) ∷ []
+  pub made : events_by pass' ≡ events_by pass ++ trying pass (slot_number key) (slot head) (if won then Won else Lost) ∷ []
   pub planned : plan_in key' at.tries.batch ≡ plan_in key at.tries.batch
   pub stands : let t = at.tries in
       let place = if won then look t.batch (t.won + 1) t.later else Look t.batch t.won (slot head) t.later in
@@ -126,16 +126,16 @@ pub record Inserted {key : SlotKey} {m block front : ℕ} (at : IsAtSlot key m b
     (won : Bool) : Type 0 where
   pub keeps : Keeps key pass key' pass'
   pub lost : ℕ
-  pub made : events_by pass' ≡ events_by pass ++ turn_at pass (number_of key) m (record { lost = lost; won = won })
+  pub made : events_by pass' ≡ events_by pass ++ turn_at pass (slot_number key) m (record { lost = lost; won = won })
   pub planned : plan_in key' at.batch ≡ plan_in key at.batch
   pub stands : (slot_of key').call ≡ Some (record { place = look at.batch (if won then at.won + 1 else at.won) at.later; queue = at.queue })
 
 -- It is about to do so at the slot that is noted of the next block of the round.
 pub record IsAtNext (key : SlotKey) (pass : Pass) (round : Round) (front : ℕ) : Type 0 where
-  pub first : Held Entry
-  pub others : List (Held Entry)
+  pub first : HeldKey Entry
+  pub others : List (HeldKey Entry)
   pub is_first : rest_in round ≡ first ∷ others
-  pub at : IsAtSlot key (slot_noted first.note) (block_of first.label) front
+  pub at : IsAtSlot key (slot_noted first.note) (block_number first.label) front
   pub seen : slot_noted first.note < slots_seen pass
   pub named : has first.label (state_seen pass).named ≡ true
 
@@ -144,25 +144,25 @@ GoesPast {round = round} next round' =
     (book_at round' ≡ book_at round) × (done_in round' ≡ done_in round ++ next.first ∷ []) × (rest_in round' ≡ next.others)
 
 -- each slot is noted of the block for it, and was seen
-abbrev pub ArePlanned : Plan → ℕ → List Spot → Type 0
+abbrev pub ArePlanned : Plan → ℕ → List SlotMark → Type 0
 ArePlanned plan seen [] = Unit {0}
 ArePlanned plan seen (spot ∷ spots) =
     ((spot.block ≡ block_in plan spot.slot) × (spot.slot < seen)) × ArePlanned plan seen spots
 
-pub record IsInserting (key : SlotKey) (pass : Pass) (spots : List Spot) (front : ℕ) : Type 0 where
+pub record IsInserting (key : SlotKey) (pass : Pass) (spots : List SlotMark) (front : ℕ) : Type 0 where
   pub batch : ℕ
   pub won : ℕ
   pub queue : List ℕ
-  pub stands : (slot_of key).call ≡ Some (record { place = look batch won (slots_of spots); queue = queue })
+  pub stands : (slot_of key).call ≡ Some (record { place = look batch won (marked_slots spots); queue = queue })
   pub planned : ArePlanned (plan_in key batch) (slots_seen pass) spots
   pub its_front : IsFrontBlock key batch front
 
-pub record InsertedAll {key : SlotKey} {pass : Pass} {spots : List Spot} {front : ℕ} (at : IsInserting key pass spots front)
+pub record InsertedAll {key : SlotKey} {pass : Pass} {spots : List SlotMark} {front : ℕ} (at : IsInserting key pass spots front)
     (key' : SlotKey) (pass' : Pass) (won : ℕ) : Type 0 where
   pub keeps : Keeps key pass key' pass'
-  pub turns : List Turn
+  pub turns : List InsertTries
   pub each : length turns ≡ length spots
-  pub made : events_by pass' ≡ events_by pass ++ turns_at pass (number_of key) (slots_of spots) turns
+  pub made : events_by pass' ≡ events_by pass ++ turns_at pass (slot_number key) (marked_slots spots) turns
   pub many : won ≡ won_in turns
   pub planned : plan_in key' at.batch ≡ plan_in key at.batch
   pub stands : (slot_of key').call ≡ Some (record { place = Add at.batch (at.won + won); queue = at.queue })

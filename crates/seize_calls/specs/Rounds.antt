@@ -1,17 +1,17 @@
 -- A round through the keys of a batch, from the first one on.
 --     done_in round, rest_in round, all_in round     the keys of the values where it has been, of those to come, and of all
---     book_at round            their book;  number_at round     the number of the block of the next one
---     Begins round held        it has been nowhere, and these are to come
+--     book_at round            their book;  round_number round     the number of the block of the next one
+--     BeginsRound round held   it has been nowhere, and these are to come
 --     IsRoundOf round values   it has been nowhere, and these values are to come
---     HasNext round pass       there is a next value, which was named, as the pass has seen
+--     HasNextValue round pass     there is a next value, which was named, as the pass has seen
 --     IsNextOf header round    there is one, and this is the header of its block
---     Goes round note round'   it went past the next value, of whose block this is noted
+--     MovesPast round note round'   it went past the next value, of whose block this is noted
 --     Remarks round m round'   it went past the next value, and notes this slot of its block in the place of what was noted of slots
 use Rattle.std.specs.Prelude.{◌≡◌, ℕ, true, List, [], ◌∷◌, ◌++◌}
 use Rattle.seize_machine.specs.Machine.State.{has}
 use Rattle.seize_book.specs.Entry.{Entry}
 use Rattle.seize_book.specs.Homesteads.{state_seen}
-use Rattle.seize_book.specs.Ledger.{Held}
+use Rattle.seize_book.specs.Ledger.{HeldKey}
 use Rattle.seize_book.specs.Loans.{cell_of}
 use Rattle.seize_book.specs.Private.{labels_of}
 use Rattle.seize_book.specs.Tokens.{Name}
@@ -22,48 +22,48 @@ use Rattle.seize_words.specs.declared.chunk.Header.{Header}
 use Rattle.seize_words.specs.declared.note.Note.{Note}
 use Rattle.seize_calls.specs.declared.round.Round.{Round}
 
-abbrev pub done_in : Round → List (Held Entry)
+abbrev pub done_in : Round → List (HeldKey Entry)
 done_in round = round.done.keys.held
 
-abbrev pub rest_in : Round → List (Held Entry)
+abbrev pub rest_in : Round → List (HeldKey Entry)
 rest_in round = round.rest.keys.held
 
-abbrev pub all_in : Round → List (Held Entry)
+abbrev pub all_in : Round → List (HeldKey Entry)
 all_in round = done_in round ++ rest_in round
 
 abbrev pub book_at : Round → Name
 book_at round = round.done.keys.name
 
-abbrev pub number_at : Round → ℕ
-number_at round = round.number
+abbrev pub round_number : Round → ℕ
+round_number round = round.number
 
-abbrev pub Begins : Round → List (Held Entry) → Type 0
-Begins round held = (done_in round ≡ []) × (rest_in round ≡ held)
+abbrev pub BeginsRound : Round → List (HeldKey Entry) → Type 0
+BeginsRound round held = (done_in round ≡ []) × (rest_in round ≡ held)
 
 abbrev pub IsRoundOf : Round → List ℕ → Type 0
 IsRoundOf round values = (done_in round ≡ []) × (labels_of (rest_in round) ≡ values)
 
-abbrev pub HasNext : Round → Pass → Type 0
-HasNext round pass = (v : ℕ) × (vs : List ℕ) × (labels_of (rest_in round) ≡ v ∷ vs) × (has v (state_seen pass).named ≡ true)
+abbrev pub HasNextValue : Round → Pass → Type 0
+HasNextValue round pass = (v : ℕ) × (vs : List ℕ) × (labels_of (rest_in round) ≡ v ∷ vs) × (has v (state_seen pass).named ≡ true)
 
 abbrev pub IsNextOf : Header → Round → Type 0
 IsNextOf header round = (v : ℕ) × (vs : List ℕ) × (labels_of (rest_in round) ≡ v ∷ vs) × (header_cell header ≡ cell_of v)
 
-pub record Goes (round : Round) (note : Note) (round' : Round) : Type 0 where
+pub record MovesPast (round : Round) (note : Note) (round' : Round) : Type 0 where
   pub book : book_at round' ≡ book_at round
-  pub first : Held Entry
+  pub first : HeldKey Entry
   pub noted : first.note ≡ note_code note
   pub was : rest_in round ≡ first ∷ rest_in round'
   pub now : done_in round' ≡ done_in round ++ first ∷ []
 
-abbrev pub remarked : ℕ → Note → Held Entry → Held Entry
+abbrev pub remarked : ℕ → Note → HeldKey Entry → HeldKey Entry
 remarked m note h =
     let noted = note_code (record { next = note.next; slot = m; kept = note.kept }) in
     record { kind = h.kind; key = h.key; own = h.own; label = h.label; note = noted }
 
 pub record Remarks (round : Round) (m : ℕ) (round' : Round) : Type 0 where
   pub book : book_at round' ≡ book_at round
-  pub first : Held Entry
+  pub first : HeldKey Entry
   pub note : Note
   pub noted : first.note ≡ note_code note
   pub was : rest_in round ≡ first ∷ rest_in round'

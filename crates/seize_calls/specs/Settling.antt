@@ -1,8 +1,8 @@
 -- What a slot's call does with its slot's batch, and with the further values in its queue.
---     Stand                  where a call stands: the slot's key, its pass, the keys of the slot's batch and of the queue, and what the
---                            reclaimer had so far;  stand key pass batch queue had     by what its caller holds
+--     CallState              where a call stands: the slot's key, its pass, the keys of the slot's batch and of the queue, and what the
+--                            reclaimer had so far;  call_state key pass batch queue had     by what its caller holds
 --     HasBatch key pass values    these are the keys of the values of the slot's batch, and of each the list says what is kept of it
---     Sits a                 all is of one book, the pass has seen what the slot's key knows, and the batch's keys are those of its values;
+--     IsWellFormed a         all is of one book, the pass has seen what the slot's key knows, and the batch's keys are those of its values;
 --                            of these, and of the queue's, the list says what is kept
 --     Onward key pass key' pass'     it is the same slot and pass; whether it is in use and active, and its last activation, are as they
 --                            were. The pass has seen what it had seen, and what was added where it is alone was made with it (AddsAlone)
@@ -11,12 +11,12 @@
 --     MayPut key v queue     it is to put v, which it retires, or which is the first of its queue; then it has these
 --     Stays a b              the batch stays: the heads were read, and one slot more was active than it has values, or none was read. The
 --                            keys are as they were, with all that is noted but the slots, and the reclaimer had nothing more
---     Goes a b               the batch was retired: an attempt with these events, and each value of the batch handed if the count came
+--     RetiresBatch a b       the batch was retired: an attempt with these events, and each value of the batch handed if the count came
 --                            to 0, which the reclaimer had, each with what was kept of it (HasHad), as the list says; what was put came
 --                            to the queue, last
 --     Settles a b retired    one or the other
---     Puts key pass v key' pass'     the call put v to the slot's batch
---     Round a v kept b retired       it put v, of which this is kept, and then it settled with v as the last. Where the batch wasn't full
+--     PutsValue key pass v key' pass'     the call put v to the slot's batch
+--     DrainsOne a v kept b retired   it put v, of which this is kept, and then it settled with v as the last. Where the batch wasn't full
 --                            no head was read
 --     Drains a b             rounds with the values of its queue: as often as they came, with the first of them each time
 use Rattle.std.specs.Prelude.{◌≡◌, ◌⊎◌, ℕ, ℤ, suc, Bool, true, false, if◌then◌else◌, List, [], ◌∷◌, ◌++◌, length, Some}
@@ -29,8 +29,8 @@ use Rattle.seize_machine.specs.declared.machine.event.Answer.TheVariants.{Count,
 use Rattle.seize_book.specs.Adding.{private}
 use Rattle.seize_book.specs.Entry.{Deed}
 use Rattle.seize_words.specs.Named.{slot_book}
-use Rattle.seize_book.specs.Passes.{IsSame, events_by}
-use Rattle.seize_book.specs.Slots.{IsOf, active_of, life_of, number_of, slot_of}
+use Rattle.seize_book.specs.Passes.{IsSamePass, events_by}
+use Rattle.seize_book.specs.Slots.{IsKeyOfBook, active_of, life_of, slot_number, slot_of}
 use Rattle.seize_book.specs.Values.{AreOfBook, IsEmpty, values_of}
 use Rattle.seize_book.specs.declared.book.pass.Pass.{Pass}
 use Rattle.seize_book.specs.declared.book.slot_key.SlotKey.{SlotKey}
@@ -41,34 +41,34 @@ use Rattle.seize_book.specs.Kept.{AllTold, AreTold, kepts_of}
 use Rattle.seize_calls.specs.Batches.{AreRemarked, IsPushed, keys_in}
 use Rattle.seize_calls.specs.Furthers.{further_in}
 use Rattle.seize_calls.specs.Handing.{Had, Handings, HasHad, Queues, TakesFirst, values_handed, values_put, words_put}
-use Rattle.seize_calls.specs.Inserts.{Turn, turns_at}
+use Rattle.seize_calls.specs.Inserts.{InsertTries, turns_at}
 use Rattle.seize_calls.specs.Marks.{BeginsToMark, actives, readings}
 use Rattle.seize_calls.specs.Walking.{hands}
 use Rattle.seize_calls.specs.declared.batch.Batch.{Batch}
 use Rattle.seize_calls.specs.declared.further.Further.{Further}
 
-pub record Stand : Type 0 where
+pub record CallState : Type 0 where
   pub key : SlotKey
   pub pass : Pass
   pub batch : ValueKeys
   pub queue : ValueKeys
   pub had : Had
 
-abbrev pub stand : SlotKey → Pass → Batch → Further → Had → Stand
-stand key pass batch queue had = record { key = key; pass = pass; batch = keys_in batch; queue = further_in queue; had = had }
+abbrev pub call_state : SlotKey → Pass → Batch → Further → Had → CallState
+call_state key pass batch queue had = record { key = key; pass = pass; batch = keys_in batch; queue = further_in queue; had = had }
 
 abbrev pub HasBatch : SlotKey → Pass → ValueKeys → Type 0
 HasBatch key pass values = AreOfBook values pass × (values_of values ≡ (slot_of key).batch) × AreTold values pass
 
-pub record Sits (a : Stand) : Type 0 where
-  pub its : IsOf a.key a.pass
+pub record IsWellFormed (a : CallState) : Type 0 where
+  pub its : IsKeyOfBook a.key a.pass
   pub knows : Knows a.key a.pass
   pub batch : HasBatch a.key a.pass a.batch
   pub queue : AreOfBook a.queue a.pass × AreTold a.queue a.pass
 
 pub record Onward (key : SlotKey) (pass : Pass) (key' : SlotKey) (pass' : Pass) : Type 0 where
-  pub same : IsSame pass pass'
-  pub its : (slot_book key' ≡ slot_book key) × (number_of key' ≡ number_of key)
+  pub same : IsSamePass pass pass'
+  pub its : (slot_book key' ≡ slot_book key) × (slot_number key' ≡ slot_number key)
   pub used : (slot_of key').used ≡ (slot_of key).used
   pub active : active_of key' ≡ active_of key
   pub life : life_of key' ≡ life_of key
@@ -87,32 +87,33 @@ MayPut key v queue =
     × (((from ≡ Append v) × (before ≡ values_of queue)) ⊎ ((from ≡ Rest [] []) × (before ≡ v ∷ values_of queue)))
 
 -- an event by itself, with its answer
-abbrev pub done : Pass → Event → List (Deed × Answer)
-done pass event = (private pass event, Done) ∷ []
+abbrev pub done_event : Pass → Event → List (Deed × Answer)
+done_event pass event = (private pass event, Done) ∷ []
 
-pub record Stays (a b : Stand) : Type 0 where
+pub record Stays (a b : CallState) : Type 0 where
   pub on : Onward a.key a.pass b.key b.pass
   pub batch : (slot_of b.key).batch ≡ (slot_of a.key).batch
   pub rests : HasQueue b.key b.queue
   pub finds : List Bool
-  pub made : events_by b.pass ≡ events_by a.pass ++ readings a.pass (number_of a.key) 0 finds
+  pub made : events_by b.pass ≡ events_by a.pass ++ readings a.pass (slot_number a.key) 0 finds
   pub too_few : (finds ≡ []) ⊎ (length (actives 0 finds) ≡ suc (length (slot_of a.key).batch))
   pub keys : AreRemarked a.batch b.batch
   pub queued : Queues a.queue [] [] b.queue
   pub had_none : b.had ≡ a.had
 
-pub record Goes (a b : Stand) : Type 0 where
+pub record RetiresBatch (a b : CallState) : Type 0 where
   pub on : Onward a.key a.pass b.key b.pass
   pub batch : (slot_of b.key).batch ≡ []
   pub rests : HasQueue b.key b.queue
   pub finds : List Bool
-  pub turns : List Turn
+  pub turns : List InsertTries
   pub each : length turns ≡ length (actives 0 finds)
   pub count : ℤ
   pub handed : Handings
   pub which : values_handed handed ≡ (if is_zero count then (slot_of a.key).batch else [])
-  pub made : let s = number_of a.key in let before = events_by a.pass in
-      events_by b.pass ≡ ((((before ++ readings a.pass s 0 finds) ++ done a.pass (Detach s)) ++ turns_at a.pass s (actives 0 finds) turns)
+  pub made : let s = slot_number a.key in let before = events_by a.pass in
+      events_by b.pass
+      ≡ ((((before ++ readings a.pass s 0 finds) ++ done_event a.pass (Detach s)) ++ turns_at a.pass s (actives 0 finds) turns)
       ++ (private a.pass (AddCount s), Count count) ∷ []) ++ hands a.pass s handed
   pub none : IsEmpty b.batch b.pass
   pub queued : Queues a.queue (values_put handed) (words_put handed) b.queue
@@ -120,23 +121,23 @@ pub record Goes (a b : Stand) : Type 0 where
   pub told : AllTold b.pass.seen (values_handed handed) (if is_zero count then kepts_of a.batch else [])
 
 -- a batch that is not attempted stays as well, and then no head was read
-abbrev pub Settles : Stand → Stand → Bool → Type 0
+abbrev pub Settles : CallState → CallState → Bool → Type 0
 Settles a b false = Stays a b
-Settles a b true = Goes a b
+Settles a b true = RetiresBatch a b
 
-pub record Puts (key : SlotKey) (pass : Pass) (v : ℕ) (key' : SlotKey) (pass' : Pass) : Type 0 where
+pub record PutsValue (key : SlotKey) (pass : Pass) (v : ℕ) (key' : SlotKey) (pass' : Pass) : Type 0 where
   pub on : Onward key pass key' pass'
   pub batch : (slot_of key').batch ≡ (slot_of key).batch ++ v ∷ []
-  pub made : events_by pass' ≡ events_by pass ++ done pass (Put (number_of key))
+  pub made : events_by pass' ≡ events_by pass ++ done_event pass (Put (slot_number key))
 
-pub record Round (a : Stand) (v kept : ℕ) (b : Stand) (retired : Bool) : Type 0 where
-  pub full : Stand
-  pub puts : Puts a.key a.pass v full.key full.pass
+pub record DrainsOne (a : CallState) (v kept : ℕ) (b : CallState) (retired : Bool) : Type 0 where
+  pub full : CallState
+  pub puts : PutsValue a.key a.pass v full.key full.pass
   pub pushed : IsPushed a.batch v kept full.batch
   pub same : (full.queue ≡ a.queue) × (full.had ≡ a.had)
   pub settles : Settles full b retired
 
-pub data Drains (a : Stand) : Stand → Type 0 where
+pub data Drains (a : CallState) : CallState → Type 0 where
   over : Drains a a
-  round : (b c : Stand) (queue : ValueKeys) (v kept : ℕ) (retired : Bool) → Drains a b → TakesFirst b.queue v kept queue
-      → Round (record { key = b.key; pass = b.pass; batch = b.batch; queue = queue; had = b.had }) v kept c retired → Drains a c
+  round : (b c : CallState) (queue : ValueKeys) (v kept : ℕ) (retired : Bool) → Drains a b → TakesFirst b.queue v kept queue
+      → DrainsOne (record { key = b.key; pass = b.pass; batch = b.batch; queue = queue; had = b.had }) v kept c retired → Drains a c

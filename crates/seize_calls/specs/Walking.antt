@@ -1,7 +1,7 @@
 -- How a call walks what came out of its own head, and hands what is given up to it.
 --     countings pass s counts    slot s counted batches down with the pass, and these were the counts then;  hands pass s handed     it
 --                                handed these values to their reclaimers, each of which put those beside it
---     GoesOn key pass key' pass'     as Keeps, and the key knows all that it knew
+--     KeepsAndKnows key pass key' pass'     as Keeps, and the key knows all that it knew
 --     IsAtWalk key word          the slot's call has nothing to hand, and walks some batches, to which this word leads;  walk_at   these
 --     IsGiven key pass values front     these values were given up to the slot's call, which is to hand them next: their keys know all
 --                                that the pass has seen, and that all others that lay in their blocks were reclaimed. This is the number
@@ -19,18 +19,18 @@
 use Rattle.std.specs.Prelude.{◌≡◌, ℕ, ℤ, true, false, List, [], ◌∷◌, ◌++◌, length, Some}
 use mathlib.Core.List.{IsPrefix}
 use Rattle.seize_machine.specs.Machine.Event.{Hand, SubCount}
-use Rattle.seize_machine.specs.Machine.History.{first_of}
+use Rattle.seize_machine.specs.Machine.History.{first_or_none}
 use Rattle.seize_machine.specs.Machine.Next.{is_zero}
 use Rattle.seize_machine.specs.Machine.State.{Rest}
 use Rattle.seize_machine.specs.declared.machine.event.Answer.{Answer}
 use Rattle.seize_machine.specs.declared.machine.event.Answer.TheVariants.{Count, Handed}
-use Rattle.seize_book.specs.Adding.{private, telling}
-use Rattle.seize_book.specs.Blocks.{block_of}
+use Rattle.seize_book.specs.Adding.{deed_with_words, private}
+use Rattle.seize_book.specs.Blocks.{block_number}
 use Rattle.seize_book.specs.Kept.{AllTold, AreTold}
 use Rattle.seize_book.specs.Values.{AreClosed, AreLast, AreOfBook, IsEmpty, Keep, values_of}
 use Rattle.seize_book.specs.Entry.{Deed}
 use Rattle.seize_book.specs.Passes.{events_by}
-use Rattle.seize_book.specs.Slots.{number_of, own_list, slot_of}
+use Rattle.seize_book.specs.Slots.{own_list, slot_number, slot_of}
 use Rattle.seize_words.specs.Walks.{word_for}
 use Rattle.seize_book.specs.declared.book.pass.Pass.{Pass}
 use Rattle.seize_book.specs.declared.book.slot_key.SlotKey.{SlotKey}
@@ -48,14 +48,14 @@ countings pass s [] = []
 countings pass s (count ∷ counts) = counting pass s count ∷ countings pass s counts
 
 abbrev pub handing : Pass → ℕ → ℕ × List ℕ × List ℕ → Deed × Answer
-handing pass s one = (telling pass (Hand s one.1) one.2, Handed one.0)
+handing pass s one = (deed_with_words pass (Hand s one.1) one.2, Handed one.0)
 
 abbrev pub hands : Pass → ℕ → Handings → List (Deed × Answer)
 hands pass s [] = []
 hands pass s (one ∷ handed) = handing pass s one ∷ hands pass s handed
 
-abbrev pub GoesOn : SlotKey → Pass → SlotKey → Pass → Type 0
-GoesOn key pass key' pass' = Keeps key pass key' pass' × IsPrefix (own_list key) (own_list key')
+abbrev pub KeepsAndKnows : SlotKey → Pass → SlotKey → Pass → Type 0
+KeepsAndKnows key pass key' pass' = Keeps key pass key' pass' × IsPrefix (own_list key) (own_list key')
 
 pub record IsAtWalk (key : SlotKey) (word : ℕ) : Type 0 where
   pub walk : List ℕ
@@ -68,8 +68,8 @@ pub record IsGiven (key : SlotKey) (pass : Pass) (values : ValueKeys) (front : �
   pub queue : List ℕ
   pub given_up : (slot_of key).call ≡ Some (record { place = Rest (values_of values) walk; queue = queue })
   pub first : ℕ
-  pub is_first : first_of (values_of values) ≡ Some first
-  pub its_block : front ≡ block_of first
+  pub is_first : first_or_none (values_of values) ≡ Some first
+  pub its_block : front ≡ block_number first
   pub book : AreOfBook values pass
   pub keys : Keep values pass values
   pub last : AreLast values pass
@@ -82,10 +82,10 @@ AreHeld [] = Unit {0}
 AreHeld (count ∷ counts) = (is_zero count ≡ false) × AreHeld counts
 
 -- after these counts, none of which was 0
-pub record Ends {key : SlotKey} {word : ℕ} (at : IsAtWalk key word) (held : List ℤ) (pass : Pass) (key' : SlotKey) (pass' : Pass)
+pub record EndsWalk {key : SlotKey} {word : ℕ} (at : IsAtWalk key word) (held : List ℤ) (pass : Pass) (key' : SlotKey) (pass' : Pass)
     (values' : ValueKeys) : Type 0 where
   pub each : length held ≡ length at.walk
-  pub made : events_by pass' ≡ events_by pass ++ countings pass (number_of key) held
+  pub made : events_by pass' ≡ events_by pass ++ countings pass (slot_number key) held
   pub over : (slot_of key').call ≡ Some (record { place = Rest [] []; queue = at.queue })
   pub none : IsEmpty values' pass'
 
@@ -94,7 +94,7 @@ pub record Stops {key : SlotKey} {word : ℕ} (at : IsAtWalk key word) (held : L
     (values' : ValueKeys) (front rest : ℕ) : Type 0 where
   pub zero : ℤ
   pub is_zero_last : is_zero zero ≡ true
-  pub made : events_by pass' ≡ events_by pass ++ countings pass (number_of key) (held ++ zero ∷ [])
+  pub made : events_by pass' ≡ events_by pass ++ countings pass (slot_number key) (held ++ zero ∷ [])
   pub gives : IsGiven key' pass' values' front
   pub leads : rest ≡ word_for key' gives.walk
   pub done : List ℕ
@@ -103,12 +103,12 @@ pub record Stops {key : SlotKey} {word : ℕ} (at : IsAtWalk key word) (held : L
   pub same_queue : gives.queue ≡ at.queue
 
 abbrev pub EndsSo : {key : SlotKey} {word : ℕ} → IsAtWalk key word → List ℤ → Pass → SlotKey → Pass → ValueKeys → Walked → Type 0
-EndsSo at held pass key' pass' values' Over = Ends at held pass key' pass' values'
+EndsSo at held pass key' pass' values' Over = EndsWalk at held pass key' pass' values'
 EndsSo at held pass key' pass' values' (GivesUp front rest) = Stops at held pass key' pass' values' front rest
 
 pub record WalksTo {key : SlotKey} {word : ℕ} (at : IsAtWalk key word) (pass : Pass) (key' : SlotKey) (pass' : Pass) (values' : ValueKeys)
     (ends : Walked) : Type 0 where
-  pub goes_on : GoesOn key pass key' pass'
+  pub goes_on : KeepsAndKnows key pass key' pass'
   pub held : List ℤ
   pub above : AreHeld held
   pub ends_so : EndsSo at held pass key' pass' values' ends
@@ -117,20 +117,20 @@ pub record WalksTo {key : SlotKey} {word : ℕ} (at : IsAtWalk key word) (pass :
 
 pub record HandsOne (key : SlotKey) (pass : Pass) (v : ℕ) (queue : ValueKeys) (key' : SlotKey) (pass' : Pass)
     (queue' : ValueKeys) : Type 0 where
-  pub goes_on : GoesOn key pass key' pass'
+  pub goes_on : KeepsAndKnows key pass key' pass'
   pub puts : List ℕ
   pub words : List ℕ
-  pub made : events_by pass' ≡ events_by pass ++ hands pass (number_of key) ((v, puts, words) ∷ [])
+  pub made : events_by pass' ≡ events_by pass ++ hands pass (slot_number key) ((v, puts, words) ∷ [])
   pub stands : (given walk waits : List ℕ) → (slot_of key).call ≡ Some (record { place = Rest (v ∷ given) walk; queue = waits })
       → (slot_of key').call ≡ Some (record { place = Rest given walk; queue = waits ++ puts })
   pub queued : Queues queue puts words queue'
 
 pub record HandsAll {key : SlotKey} {pass : Pass} {values : ValueKeys} {front : ℕ} (given : IsGiven key pass values front)
     (queue : ValueKeys) (key' : SlotKey) (pass' : Pass) (values' queue' : ValueKeys) : Type 0 where
-  pub goes_on : GoesOn key pass key' pass'
+  pub goes_on : KeepsAndKnows key pass key' pass'
   pub handed : Handings
   pub which : values_handed handed ≡ values_of values
-  pub made : events_by pass' ≡ events_by pass ++ hands pass (number_of key) handed
+  pub made : events_by pass' ≡ events_by pass ++ hands pass (slot_number key) handed
   pub walks_on : (slot_of key').call ≡ Some (record { place = Rest [] given.walk; queue = given.queue ++ values_put handed })
   pub none : IsEmpty values' pass'
   pub queued : Queues queue (values_put handed) (words_put handed) queue'
@@ -145,12 +145,12 @@ handed_in (step ∷ walked) = step.1 ++ handed_in walked
 
 pub record WalksAll {key : SlotKey} {word : ℕ} (at : IsAtWalk key word) (pass : Pass) (queue : ValueKeys) (had : Had) (key' : SlotKey)
     (pass' : Pass) (queue' : ValueKeys) (had' : Had) : Type 0 where
-  pub goes_on : GoesOn key pass key' pass'
+  pub goes_on : KeepsAndKnows key pass key' pass'
   pub walked : List (ℤ × Handings)
   pub kepts : List ℕ
   pub has_had : HasHad (handed_in walked) kepts had had'
   pub told : AllTold pass'.seen (values_handed (handed_in walked)) kepts
   pub each : length walked ≡ length at.walk
-  pub made : events_by pass' ≡ events_by pass ++ steps pass (number_of key) walked
+  pub made : events_by pass' ≡ events_by pass ++ steps pass (slot_number key) walked
   pub over : (slot_of key').call ≡ Some (record { place = Rest [] []; queue = at.queue ++ values_put (handed_in walked) })
   pub queued : let handed = handed_in walked in Queues queue (values_put handed) (words_put handed) queue'

@@ -6,10 +6,10 @@ ghost use Rattle.seize_calls.specs.Attempts.{Attempts};
 ghost use Rattle.seize_calls.specs.Batches.{keys_in};
 ghost use Rattle.seize_calls.specs.Marks.{BeginsToMark};
 ghost use Rattle.seize_calls.specs.Settling.{HasBatch};
-ghost use Rattle.seize_words.specs.Chunks.{book_in};
-ghost use Rattle.seize_book.specs.Passes.{IsSame};
+ghost use Rattle.seize_words.specs.Chunks.{blocks_book};
+ghost use Rattle.seize_book.specs.Passes.{IsSamePass};
 ghost use Rattle.seize_words.specs.Reserved.{slots_book};
-ghost use Rattle.seize_book.specs.Slots.{IsOf, number_of, own_list};
+ghost use Rattle.seize_book.specs.Slots.{IsKeyOfBook, own_list, slot_number};
 ghost use Rattle.seize_words.specs.Walks.{Knows};
 
 use crate::batch::Batch;
@@ -42,11 +42,11 @@ pub fn attempt<T: Drop>(
     pass: &mut Pass,
     rt: &impl Wait,
 ) -> Attempted
-    requires book { IsOf key.old pass.old × (slots_book slots.now ≡ pass.old.name) × (book_in blocks.now ≡ pass.old.name) }
+    requires book { IsKeyOfBook key.old pass.old × (slots_book slots.now ≡ pass.old.name) × (blocks_book blocks.now ≡ pass.old.name) }
     requires knows { Knows key.old pass.old }
     requires begins { BeginsToMark key.old }
     requires batch { HasBatch key.old pass.old (keys_in batch.old) }
-    ensures book { IsOf key.new pass.new × IsSame pass.old pass.new × (number_of key.new ≡ number_of key.old) }
+    ensures book { IsKeyOfBook key.new pass.new × IsSamePass pass.old pass.new × (slot_number key.new ≡ slot_number key.old) }
     ensures knows { Knows key.new pass.new }
     ensures ends { (at : BeginsToMark key.old) → Attempts at pass.old (keys_in batch.old) key.new pass.new (keys_in batch.new) result }
 {

@@ -1,7 +1,7 @@
 //! The batch of a slot, as its holder keeps it: the keys of its values, and where the first and the last lie. What comes between is noted
 //! of the blocks themselves, so a batch takes no memory, however many values it has.
 ghost use Rattle.std.specs.Prelude.{◌≡◌, true};
-ghost use Rattle.seize_calls.specs.Numbered.{counted, ends_at, starts_at};
+ghost use Rattle.seize_calls.specs.Numbered.{ends_at, is_count_of, starts_at};
 ghost use Rattle.seize_book.specs.Values.{AreClosed, values_of};
 
 use crate::chain::join;
@@ -20,7 +20,7 @@ pub struct Batch {
     pub(crate) last: u64,
     pub(crate) len: usize,
     pub(crate) values: ValueKeys,
-    ghost many: { counted len (values_of values) ≡ true },
+    ghost many: { is_count_of len (values_of values) ≡ true },
     ghost front: { starts_at first (values_of values) ≡ true },
     ghost back: { ends_at last (values_of values) ≡ true },
     ghost closed: { AreClosed values },
@@ -28,11 +28,11 @@ pub struct Batch {
 
 impl Batch {
     ghost use Rattle.std.specs.Prelude.{length, min, ◌-◌, ◌^◌};
-    ghost use Rattle.seize_book.specs.Blocks.{block_of};
+    ghost use Rattle.seize_book.specs.Blocks.{block_number};
     ghost use Rattle.seize_book.specs.Others.{book_of, value_of};
     ghost use Rattle.seize_book.specs.Values.{IsEmpty};
     ghost use Rattle.seize_calls.specs.Batches.{IsPushed, keys_book, keys_in};
-    ghost use Rattle.seize_words.specs.Chunks.{book_in};
+    ghost use Rattle.seize_words.specs.Chunks.{blocks_book};
 
     /// A batch of no values, of the pass's book.
     pub fn new(pass: &mut Pass) -> Batch
@@ -63,8 +63,8 @@ impl Batch {
         kept: u64,
         value: ValueKey,
     )
-        requires book { (keys_book (keys_in self.old) ≡ book_in blocks.now) × (book_of value ≡ book_in blocks.now) }
-        requires number { block_of (value_of value) ≡ number }
+        requires book { (keys_book (keys_in self.old) ≡ blocks_book blocks.now) × (book_of value ≡ blocks_book blocks.now) }
+        requires number { block_number (value_of value) ≡ number }
         ensures { IsPushed (keys_in self.old) (value_of value) kept (keys_in self.new) }
     {
         let empty = self.len == 0;

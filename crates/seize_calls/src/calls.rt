@@ -7,14 +7,14 @@ ghost use Rattle.seize_machine.specs.Machine.Event.{SwapOut};
 ghost use Rattle.seize_calls.specs.Calls.{Flushes, HasBegun, IsInside, Leaves, RetiresOne};
 ghost use Rattle.seize_calls.specs.Batches.{keys_in};
 ghost use Rattle.seize_calls.specs.Settling.{HasBatch};
-ghost use Rattle.seize_book.specs.Blocks.{block_of};
+ghost use Rattle.seize_book.specs.Blocks.{block_number};
 ghost use Rattle.seize_book.specs.Adding.{private};
-ghost use Rattle.seize_words.specs.Chunks.{AreSpotsIn, book_in};
+ghost use Rattle.seize_words.specs.Chunks.{AreSpotsIn, blocks_book};
 ghost use Rattle.seize_machine.specs.Machine.State.{is_idle};
 ghost use Rattle.seize_book.specs.Others.{MayRetire, book_of, value_of};
-ghost use Rattle.seize_words.specs.Reservations.{IsLastOf, IsOfBook, IsOwn, beginning};
+ghost use Rattle.seize_words.specs.Reservations.{IsHeadOfBook, IsLastOf, IsOwnHead, beginning};
 ghost use Rattle.seize_words.specs.Reserved.{slots_book};
-ghost use Rattle.seize_book.specs.Slots.{IsOf, number_of, size_of, slot_of};
+ghost use Rattle.seize_book.specs.Slots.{IsKeyOfBook, slot_number, slot_of};
 ghost use Rattle.seize_words.specs.Walks.{Knows};
 
 use crate::batch::Batch;
@@ -35,8 +35,8 @@ use std::sync::Wait;
 /// Attempts the slot's batch at any length, which is this one. It says whether the batch was retired with the values that it had.
 ///
 /// What reclaimers put meanwhile is retired then, one after the other: the batch may have some of these values afterwards. `size` is the
-/// size of the book, as with `retire`. It takes no memory, but for what the reclaimer does, and ends where reclaimers come to put no more.
-/// An insertion is tried again as often as others change the head between a look at it and the try.
+/// batch size of the pass, as with `retire`. It takes no memory, but for what the reclaimer does, and ends where reclaimers come to put no
+/// more. An insertion is tried again as often as others change the head between a look at it and the try.
 pub fn flush<T: Drop, R: Reclaim<T>>(
     slots: &Slots,
     blocks: &Blocks<T>,
@@ -48,14 +48,14 @@ pub fn flush<T: Drop, R: Reclaim<T>>(
     pass: &mut Pass,
     rt: &impl Wait,
 ) -> bool
-    requires book { IsOf key.old pass.old × (slots_book slots.now ≡ pass.old.name) × (book_in blocks.now ≡ pass.old.name) }
+    requires book { IsKeyOfBook key.old pass.old × (slots_book slots.now ≡ pass.old.name) × (blocks_book blocks.now ≡ pass.old.name) }
     requires inside { IsInside key.old }
-    requires size { size ≡ size_of key.old }
+    requires size { size ≡ pass.old.size }
     requires batch { HasBatch key.old pass.old (keys_in batch.old) }
-    requires serves { R.serves reclaimer.old (book_in blocks.now) }
+    requires serves { R.serves reclaimer.old (blocks_book blocks.now) }
     requires spots { AreSpotsIn blocks.now spots.old }
     ensures knows { Knows key.new pass.new }
-    ensures serves { R.serves reclaimer.new (book_in blocks.now) }
+    ensures serves { R.serves reclaimer.new (blocks_book blocks.now) }
     ensures spots { AreSpotsIn blocks.now spots.new }
     ensures flushes { let had = R.had reclaimer.old in let had' = R.had reclaimer.new in
         Flushes key.old pass.old (keys_in batch.old) had key.new pass.new (keys_in batch.new) had' result }
@@ -78,8 +78,8 @@ pub fn flush<T: Drop, R: Reclaim<T>>(
 
 /// Retires the value of this key, which lies in the block of this number: it joins the slot's batch, which is this one, and comes last.
 /// What its owner keeps of it is noted of its block, and the list says it for good: whoever is given the value hands it to its reclaimer
-/// with this word. Where the batch has `size` values or more, which is the size of the book, it is attempted. It says whether the batch was
-/// retired, with the values that it had then.
+/// with this word. Where the batch has `size` values or more, which is the batch size of the pass, it is attempted. It says whether the
+/// batch was retired, with the values that it had then.
 ///
 /// What reclaimers put meanwhile is retired then, one after the other: the batch may have some of these values afterwards. It takes no
 /// memory, but for what the reclaimer does, and ends where reclaimers come to put no more. An insertion is tried again as often as others
@@ -99,15 +99,15 @@ pub fn retire<T: Drop, R: Reclaim<T>>(
     pass: &mut Pass,
     rt: &impl Wait,
 ) -> bool
-    requires book { IsOf key.old pass.old × (slots_book slots.now ≡ pass.old.name) × (book_in blocks.now ≡ pass.old.name) }
+    requires book { IsKeyOfBook key.old pass.old × (slots_book slots.now ≡ pass.old.name) × (blocks_book blocks.now ≡ pass.old.name) }
     requires idle { is_idle (slot_of key.old) ≡ true }
-    requires value { (book_of value ≡ pass.old.name) × MayRetire value × (block_of (value_of value) ≡ number) }
-    requires size { size ≡ size_of key.old }
+    requires value { (book_of value ≡ pass.old.name) × MayRetire value × (block_number (value_of value) ≡ number) }
+    requires size { size ≡ pass.old.size }
     requires batch { HasBatch key.old pass.old (keys_in batch.old) }
-    requires serves { R.serves reclaimer.old (book_in blocks.now) }
+    requires serves { R.serves reclaimer.old (blocks_book blocks.now) }
     requires spots { AreSpotsIn blocks.now spots.old }
     ensures knows { Knows key.new pass.new }
-    ensures serves { R.serves reclaimer.new (book_in blocks.now) }
+    ensures serves { R.serves reclaimer.new (blocks_book blocks.now) }
     ensures spots { AreSpotsIn blocks.now spots.new }
     ensures retires { let values = keys_in batch.old in let had = R.had reclaimer.old in let had' = R.had reclaimer.new in
         RetiresOne key.old pass.old (value_of value) kept values had key.new pass.new (keys_in batch.new) had' result }
@@ -144,18 +144,18 @@ pub fn leave<T: Drop, R: Reclaim<T>>(
     pass: &mut Pass,
     rt: &impl Wait,
 )
-    requires words { (slots_book slots.now ≡ pass.old.name) × (book_in blocks.now ≡ pass.old.name) }
-    requires book { IsOf key.old pass.old × IsOfBook head.now pass.old × IsOwn head.now key.old }
+    requires words { (slots_book slots.now ≡ pass.old.name) × (blocks_book blocks.now ≡ pass.old.name) }
+    requires book { IsKeyOfBook key.old pass.old × IsHeadOfBook head.now pass.old × IsOwnHead head.now key.old }
     requires inside { IsInside key.old }
     requires last { IsLastOf key.old activation }
-    requires size { size ≡ size_of key.old }
+    requires size { size ≡ pass.old.size }
     requires batch { HasBatch key.old pass.old (keys_in batch.old) }
-    requires serves { R.serves reclaimer.old (book_in blocks.now) }
+    requires serves { R.serves reclaimer.old (blocks_book blocks.now) }
     requires spots { AreSpotsIn blocks.now spots.old }
     ensures knows { Knows key.new pass.new }
-    ensures serves { R.serves reclaimer.new (book_in blocks.now) }
+    ensures serves { R.serves reclaimer.new (blocks_book blocks.now) }
     ensures spots { AreSpotsIn blocks.now spots.new }
-    ensures leaves { let swap = private pass.old (SwapOut (number_of key.old)) in let had = R.had reclaimer.old in
+    ensures leaves { let swap = private pass.old (SwapOut (slot_number key.old)) in let had = R.had reclaimer.old in
         let had' = R.had reclaimer.new in
         Leaves Leave false swap key.old pass.old (keys_in batch.old) had key.new pass.new (keys_in batch.new) had' }
 {
@@ -187,20 +187,20 @@ pub fn refresh<T: Drop, R: Reclaim<T>>(
     pass: &mut Pass,
     rt: &impl Wait,
 )
-    requires words { (slots_book slots.now ≡ pass.old.name) × (book_in blocks.now ≡ pass.old.name) }
-    requires book { IsOf key.old pass.old × IsOfBook head.now pass.old × IsOwn head.now key.old }
+    requires words { (slots_book slots.now ≡ pass.old.name) × (blocks_book blocks.now ≡ pass.old.name) }
+    requires book { IsKeyOfBook key.old pass.old × IsHeadOfBook head.now pass.old × IsOwnHead head.now key.old }
     requires inside { IsInside key.old }
     requires last { IsLastOf key.old activation.old }
-    requires size { size ≡ size_of key.old }
+    requires size { size ≡ pass.old.size }
     requires batch { HasBatch key.old pass.old (keys_in batch.old) }
-    requires serves { R.serves reclaimer.old (book_in blocks.now) }
+    requires serves { R.serves reclaimer.old (blocks_book blocks.now) }
     requires spots { AreSpotsIn blocks.now spots.old }
     ensures knows { Knows key.new pass.new }
     ensures last { IsLastOf key.new activation.new }
     ensures begun { HasBegun activation.new pass.new }
-    ensures serves { R.serves reclaimer.new (book_in blocks.now) }
+    ensures serves { R.serves reclaimer.new (blocks_book blocks.now) }
     ensures spots { AreSpotsIn blocks.now spots.new }
-    ensures leaves { let swap = beginning pass.old activation.new.life (SwapOut (number_of key.old)) in let had = R.had reclaimer.old in
+    ensures leaves { let swap = beginning pass.old activation.new.life (SwapOut (slot_number key.old)) in let had = R.had reclaimer.old in
         let had' = R.had reclaimer.new in
         Leaves Refresh true swap key.old pass.old (keys_in batch.old) had key.new pass.new (keys_in batch.new) had' }
 {

@@ -1,12 +1,12 @@
 //! Chains of values: of each block it is noted which one comes next, and of the last one's that none does. So they take no memory, however
 //! many values there are. Whoever has the keys of the values makes such a chain longer.
 ghost use Rattle.std.specs.Prelude.{◌≡◌, ◌+◌, ◌<◌, ◌^◌, true};
-ghost use Rattle.seize_book.specs.Blocks.{block_of};
+ghost use Rattle.seize_book.specs.Blocks.{block_number};
 ghost use Rattle.seize_book.specs.Others.{book_of, value_of};
 ghost use Rattle.seize_book.specs.Values.{AreClosed, AreNew, values_of};
-ghost use Rattle.seize_calls.specs.Batches.{IsNew, IsPushed, LeadsFrom, keys_book};
+ghost use Rattle.seize_calls.specs.Batches.{IsNewValue, IsPushed, LeadsFrom, keys_book};
 ghost use Rattle.seize_calls.specs.Numbered.{are_none, ends_at};
-ghost use Rattle.seize_words.specs.Chunks.{book_in};
+ghost use Rattle.seize_words.specs.Chunks.{blocks_book};
 
 use seize_words::blocks::Blocks;
 use seize_words::book::{ValueKey, ValueKeys};
@@ -25,13 +25,13 @@ pub(crate) fn join<T: Drop>(
     kept: u64,
     value: ValueKey,
 )
-    requires book { (keys_book values.old ≡ book_in blocks.now) × (book_of value ≡ book_in blocks.now) }
+    requires book { (keys_book values.old ≡ blocks_book blocks.now) × (book_of value ≡ blocks_book blocks.now) }
     requires empty { empty ≡ are_none (values_of values.old) }
     requires last { ends_at last (values_of values.old) ≡ true }
-    requires number { block_of (value_of value) ≡ number }
+    requires number { block_number (value_of value) ≡ number }
     ensures pushes { IsPushed values.old (value_of value) kept values.new }
     ensures closed { AreClosed values.new }
-    ensures new { AreNew values.old → IsNew value → AreNew values.new }
+    ensures new { AreNew values.old → IsNewValue value → AreNew values.new }
     ensures fits { number + 2 < 2 ^ 64 }
 {
     let mut value = value;
@@ -54,7 +54,7 @@ pub(crate) fn lead_on<T: Drop>(
     last: u64,
     number: u64,
 )
-    requires book { keys_book values.old ≡ book_in blocks.now }
+    requires book { keys_book values.old ≡ blocks_book blocks.now }
     requires empty { empty ≡ are_none (values_of values.old) }
     requires last { ends_at last (values_of values.old) ≡ true }
     requires fits { number + 1 < 2 ^ 64 }

@@ -1,11 +1,10 @@
 //! The queue of a slot's call: when the call has nothing else to do it retires what is there, the first first, until none is left. What
 //! goes to its reclaimer meanwhile may put more. Others may add any events meanwhile.
 ghost use Rattle.std.specs.Prelude.{◌≡◌, []};
-ghost use Rattle.seize_book.specs.Slots.{size_of};
 ghost use Rattle.seize_book.specs.Values.{values_of};
 ghost use Rattle.seize_calls.specs.Furthers.{further_in};
-ghost use Rattle.seize_calls.specs.Settling.{Drains, HasQueue, Onward, Sits, stand};
-ghost use Rattle.seize_words.specs.Chunks.{AreSpotsIn, book_in};
+ghost use Rattle.seize_calls.specs.Settling.{Drains, HasQueue, IsWellFormed, Onward, call_state};
+ghost use Rattle.seize_words.specs.Chunks.{AreSpotsIn, blocks_book};
 ghost use Rattle.seize_words.specs.Reserved.{slots_book};
 
 use crate::batch::Batch;
@@ -20,7 +19,7 @@ use seize_words::slots::Slots;
 use std::sync::Wait;
 
 /// Retires the values of the queue, which the slot's call has left to do, until none is left. Each joins the slot's batch, which is
-/// attempted where it has `size` values or more: the size of the book.
+/// attempted where it has `size` values or more: the batch size of the pass.
 ///
 /// It takes no memory, but for what the reclaimer does, and ends where reclaimers come to put no more. An insertion is tried again as often
 /// as others change the head between a look at it and the try.
@@ -36,19 +35,19 @@ pub fn drain<T: Drop, R: Reclaim<T>>(
     pass: &mut Pass,
     rt: &impl Wait,
 )
-    requires words { (slots_book slots.now ≡ pass.old.name) × (book_in blocks.now ≡ pass.old.name) }
-    requires size { size ≡ size_of key.old }
-    requires sits { Sits (stand key.old pass.old batch.old queue.old (R.had reclaimer.old)) }
+    requires words { (slots_book slots.now ≡ pass.old.name) × (blocks_book blocks.now ≡ pass.old.name) }
+    requires size { size ≡ pass.old.size }
+    requires sits { IsWellFormed (call_state key.old pass.old batch.old queue.old (R.had reclaimer.old)) }
     requires rests { HasQueue key.old (further_in queue.old) }
-    requires serves { R.serves reclaimer.old (book_in blocks.now) }
+    requires serves { R.serves reclaimer.old (blocks_book blocks.now) }
     requires spots { AreSpotsIn blocks.now spots.old }
-    ensures sits { Sits (stand key.new pass.new batch.new queue.new (R.had reclaimer.new)) }
-    ensures serves { R.serves reclaimer.new (book_in blocks.now) }
+    ensures sits { IsWellFormed (call_state key.new pass.new batch.new queue.new (R.had reclaimer.new)) }
+    ensures serves { R.serves reclaimer.new (blocks_book blocks.now) }
     ensures spots { AreSpotsIn blocks.now spots.new }
     ensures on { Onward key.old pass.old key.new pass.new }
     ensures over { HasQueue key.new (further_in queue.new) × (values_of (further_in queue.new) ≡ []) }
-    ensures drains { let from = stand key.old pass.old batch.old queue.old (R.had reclaimer.old) in
-        Drains from (stand key.new pass.new batch.new queue.new (R.had reclaimer.new)) }
+    ensures drains { let from = call_state key.old pass.old batch.old queue.old (R.had reclaimer.old) in
+        Drains from (call_state key.new pass.new batch.new queue.new (R.had reclaimer.new)) }
 {
     for _ in rt.forever() {
         if queue.front == 0 {

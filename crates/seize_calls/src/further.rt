@@ -27,16 +27,16 @@ pub struct Further {
 impl Further {
     ghost use Rattle.std.specs.Prelude.{◌≢◌, [], is_some};
     ghost use Rattle.seize_machine.specs.Machine.Event.{Hand};
-    ghost use Rattle.seize_book.specs.Adding.{telling};
+    ghost use Rattle.seize_book.specs.Adding.{deed_with_words};
     ghost use Rattle.seize_book.specs.Books.{IsNextIn};
     ghost use Rattle.seize_book.specs.Kept.{kepts_of};
     ghost use Rattle.seize_book.specs.Lending.{IsLentKey};
     ghost use Rattle.seize_book.specs.Others.{book_of, value_of};
-    ghost use Rattle.seize_book.specs.Slots.{IsOf, NotesAs, hands_next, number_of, slot_of};
+    ghost use Rattle.seize_book.specs.Slots.{IsKeyOfBook, NotesAs, hands_next, slot_number, slot_of};
     ghost use Rattle.seize_book.specs.Values.{AreNew, AreOfBook, IsEmpty, Keep};
     ghost use Rattle.seize_calls.specs.Batches.{IsPushed, keys_book};
-    ghost use Rattle.seize_calls.specs.Furthers.{IsFirstOut, Joins, further_in};
-    ghost use Rattle.seize_words.specs.Chunks.{book_in};
+    ghost use Rattle.seize_calls.specs.Furthers.{IsFirstOut, JoinsValues, further_in};
+    ghost use Rattle.seize_words.specs.Chunks.{blocks_book};
 
     /// No values, of the pass's book.
     pub fn new(pass: &mut Pass) -> Further
@@ -54,7 +54,7 @@ impl Further {
     ///
     /// It takes no memory: two look-ups, a plain read and two plain writes.
     pub fn put<T: Drop>(&mut self, blocks: &Blocks<T>, number: u64, kept: u64, value: ValueKey)
-        requires book { (keys_book (further_in self.old) ≡ book_in blocks.now) × (book_of value ≡ book_in blocks.now) }
+        requires book { (keys_book (further_in self.old) ≡ blocks_book blocks.now) × (book_of value ≡ blocks_book blocks.now) }
         requires value { IsNextIn value number × IsLentKey value }
         requires new { AreNew (further_in self.old) }
         ensures puts { IsPushed (further_in self.old) (value_of value) kept (further_in self.new) }
@@ -78,8 +78,9 @@ impl Further {
     ///
     /// It takes no memory, however many they are: a look-up, a plain read and a plain write.
     pub(crate) fn append<T: Drop>(&mut self, blocks: &Blocks<T>, other: &mut Further)
-        requires book { (keys_book (further_in self.old) ≡ book_in blocks.now) × (keys_book (further_in other.old) ≡ book_in blocks.now) }
-        ensures { Joins (further_in self.old) (further_in other.old) (further_in self.new) }
+        requires book { (keys_book (further_in self.old) ≡ blocks_book blocks.now) ×
+            (keys_book (further_in other.old) ≡ blocks_book blocks.now) }
+        ensures { JoinsValues (further_in self.old) (further_in other.old) (further_in self.new) }
     {
         if other.front == 0 {
             return;
@@ -96,7 +97,7 @@ impl Further {
     ///
     /// It takes no memory: a look-up and a plain read.
     pub(crate) fn next<T: Drop>(&mut self, blocks: &Blocks<T>) -> (ValueKey, u64, u64)
-        requires book { keys_book (further_in self.old) ≡ book_in blocks.now }
+        requires book { keys_book (further_in self.old) ≡ blocks_book blocks.now }
         requires some { values_of (further_in self.old) ≢ [] }
         ensures { IsFirstOut (further_in self.old) result.0 result.1 result.2 (further_in self.new) }
     {
@@ -110,11 +111,11 @@ impl Further {
     /// The event `Hand`: the value that the slot's call is about to hand goes to its reclaimer, which put these. It says what is kept of
     /// each.
     pub(crate) fn hand(&mut self, key: &mut SlotKey, pass: &mut Pass)
-        requires book { IsOf key.old pass.old × AreOfBook (further_in self.old) pass.old }
+        requires book { IsKeyOfBook key.old pass.old × AreOfBook (further_in self.old) pass.old }
         requires next { is_some (hands_next (slot_of key.old)) ≡ true }
         requires new { AreNew (further_in self.old) }
-        ensures noted { let hands = Hand (number_of key.old) (values_of (further_in self.old)) in
-            NotesAs key.old pass.old key.new pass.new (telling pass.old hands (kepts_of (further_in self.old))) }
+        ensures noted { let hands = Hand (slot_number key.old) (values_of (further_in self.old)) in
+            NotesAs key.old pass.old key.new pass.new (deed_with_words pass.old hands (kepts_of (further_in self.old))) }
         ensures keys { Keep (further_in self.old) pass.new (further_in self.new) }
     {
         key.hand_with(&mut self.values, pass);

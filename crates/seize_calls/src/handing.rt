@@ -2,18 +2,18 @@
 //! Others may add any events meanwhile.
 ghost use Rattle.std.specs.Prelude.{◌≡◌, ◌++◌, ◌∷◌, [], ℕ, List, Some};
 ghost use base.Stored.{Gv};
-ghost use Rattle.seize_book.specs.Blocks.{block_of};
+ghost use Rattle.seize_book.specs.Blocks.{block_number};
 ghost use Rattle.seize_book.specs.Linked.{next_in};
 ghost use Rattle.seize_book.specs.Notes.{noted_in};
 ghost use Rattle.seize_book.specs.Others.{IsLast, IsValueOf, value_of};
-ghost use Rattle.seize_book.specs.Slots.{IsOf, hands_next, slot_of};
+ghost use Rattle.seize_book.specs.Slots.{IsKeyOfBook, hands_next, slot_of};
 ghost use Rattle.seize_book.specs.Tokens.{Name};
 ghost use Rattle.seize_book.specs.Values.{AreOfBook, values_of};
 ghost use Rattle.seize_book.specs.Kept.{AreTold, kept_in, kepts_of};
 ghost use Rattle.seize_calls.specs.Furthers.{further_in};
-ghost use Rattle.seize_calls.specs.Handing.{HasHad, IsLaid, IsServed};
+ghost use Rattle.seize_calls.specs.Handing.{GainsSpot, HasHad, IsServed};
 ghost use Rattle.seize_calls.specs.Walking.{HandsAll, HandsOne, IsGiven};
-ghost use Rattle.seize_words.specs.Chunks.{AreSpotsIn, book_in};
+ghost use Rattle.seize_words.specs.Chunks.{AreSpotsIn, blocks_book};
 ghost use Rattle.seize_words.specs.Walks.{Knows};
 
 use crate::further::Further;
@@ -36,12 +36,12 @@ pub trait Reclaim<T> {
     /// is called, before the value's hand is made and its block is laid into the list. It is given no pass: what it puts it has to have,
     /// with its key, or to make with a pass of its own.
     fn reclaim(&mut self, kept: u64, value: T, further: &mut Further, blocks: &Blocks<T>)
-        requires serves { serves self.old (book_in blocks.now) }
-        requires further { IsServed (further_in further.old) (book_in blocks.now) × (values_of (further_in further.old) ≡ []) }
+        requires serves { serves self.old (blocks_book blocks.now) }
+        requires further { IsServed (further_in further.old) (blocks_book blocks.now) × (values_of (further_in further.old) ≡ []) }
         ensures had { let puts = further_in further.new in
             had self.new ≡ had self.old ++ (kept, T.row.coded.code value, values_of puts, kepts_of puts) ∷ [] }
-        ensures serves { serves self.new (book_in blocks.now) }
-        ensures further { IsServed (further_in further.new) (book_in blocks.now) };
+        ensures serves { serves self.new (blocks_book blocks.now) }
+        ensures further { IsServed (further_in further.new) (blocks_book blocks.now) };
 }
 
 /// Hands the value of this block, which is what the slot's call is about to hand: the value goes to the reclaimer, with the word that is
@@ -60,23 +60,23 @@ pub fn hand_one<T: Drop, R: Reclaim<T>>(
     key: &mut SlotKey,
     pass: &mut Pass,
 ) -> u64
-    requires book { IsValueOf value pass.old × IsOf key.old pass.old × (book_in blocks.now ≡ pass.old.name) }
+    requires book { IsValueOf value pass.old × IsKeyOfBook key.old pass.old × (blocks_book blocks.now ≡ pass.old.name) }
     requires queue { AreOfBook (further_in queue.old) pass.old }
     requires told { AreTold (further_in queue.old) pass.old }
     requires knows { Knows key.old pass.old }
     requires soon { hands_next (slot_of key.old) ≡ Some (value_of value) }
     requires last { IsLast value }
-    requires number { block_of (value_of value) ≡ number }
-    requires serves { R.serves reclaimer.old (book_in blocks.now) }
+    requires number { block_number (value_of value) ≡ number }
+    requires serves { R.serves reclaimer.old (blocks_book blocks.now) }
     requires spots { AreSpotsIn blocks.now spots.old }
-    ensures book { IsOf key.new pass.new }
+    ensures book { IsKeyOfBook key.new pass.new }
     ensures knows { Knows key.new pass.new }
     ensures handed { (one : HandsOne key.old pass.old (value_of value) (further_in queue.old) key.new pass.new (further_in queue.new))
         × HasHad ((value_of value, one.puts, one.words) ∷ []) (kept_in (noted_in value) ∷ []) (R.had reclaimer.old) (R.had reclaimer.new) }
     ensures told { AreTold (further_in queue.new) pass.new }
-    ensures serves { R.serves reclaimer.new (book_in blocks.now) }
+    ensures serves { R.serves reclaimer.new (blocks_book blocks.now) }
     ensures spots { AreSpotsIn blocks.now spots.new }
-    ensures laid { IsLaid spots.old spots.new number }
+    ensures laid { GainsSpot spots.old spots.new number }
     ensures next { result ≡ next_in (noted_in value) }
 {
     let mut value = value;
@@ -108,19 +108,19 @@ pub fn hand_all<T: Drop, R: Reclaim<T>>(
     key: &mut SlotKey,
     pass: &mut Pass,
 )
-    requires book { IsOf key.old pass.old × (book_in blocks.now ≡ pass.old.name) }
+    requires book { IsKeyOfBook key.old pass.old × (blocks_book blocks.now ≡ pass.old.name) }
     requires queue { AreOfBook (further_in queue.old) pass.old }
     requires told { AreTold (further_in queue.old) pass.old }
     requires knows { Knows key.old pass.old }
     requires given { IsGiven key.old pass.old values.old front }
-    requires serves { R.serves reclaimer.old (book_in blocks.now) }
+    requires serves { R.serves reclaimer.old (blocks_book blocks.now) }
     requires spots { AreSpotsIn blocks.now spots.old }
     ensures knows { Knows key.new pass.new }
     ensures handed { (given : IsGiven key.old pass.old values.old front)
         → (all : HandsAll given (further_in queue.old) key.new pass.new values.new (further_in queue.new))
         × HasHad all.handed (kepts_of values.old) (R.had reclaimer.old) (R.had reclaimer.new) }
     ensures told { AreTold (further_in queue.new) pass.new }
-    ensures serves { R.serves reclaimer.new (book_in blocks.now) }
+    ensures serves { R.serves reclaimer.new (blocks_book blocks.now) }
     ensures spots { AreSpotsIn blocks.now spots.new }
 {
     let mut number = front;

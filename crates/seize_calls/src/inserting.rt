@@ -1,16 +1,16 @@
 //! What an attempt does between the detach and the add: it inserts the batch at the slots that the call has marked, in their order. Others
 //! may step on all these words meanwhile, and add any events.
 ghost use Rattle.std.specs.Prelude.{◌≡◌, ◌<◌, ◌≤◌, ◌+◌, ◌^◌, [], length, take};
-ghost use Rattle.seize_calls.specs.Batches.{IsAsBefore, first_in, keys_in, spots_in, spots_of};
+ghost use Rattle.seize_calls.specs.Batches.{IsAsBefore, first_in, keys_in, slot_marks_in, slot_marks_of};
 ghost use Rattle.seize_calls.specs.Inserts.{GoesPast, HasHome, Inserted, InsertedAll, IsAtNext, IsAtSlot, IsAtTry, IsInserting, Tried};
 ghost use Rattle.seize_calls.specs.Rounds.{all_in, book_at, done_in, rest_in};
 ghost use Rattle.seize_book.specs.Private.{labels_of};
 ghost use Rattle.seize_book.specs.Values.{AreOfBook, values_of};
 ghost use Rattle.seize_words.specs.Counts.{values_in};
-ghost use Rattle.seize_words.specs.Chunks.{book_in, header_book};
-ghost use Rattle.seize_words.specs.Reservations.{IsOfBook, slot};
+ghost use Rattle.seize_words.specs.Chunks.{blocks_book, header_book};
+ghost use Rattle.seize_words.specs.Reservations.{IsHeadOfBook, slot};
 ghost use Rattle.seize_words.specs.Reserved.{slots_book};
-ghost use Rattle.seize_book.specs.Slots.{IsOf};
+ghost use Rattle.seize_book.specs.Slots.{IsKeyOfBook};
 ghost use Rattle.seize_words.specs.Totals.{slots_seen};
 ghost use Rattle.seize_words.specs.Walks.{Knows};
 
@@ -37,16 +37,16 @@ pub fn insert_each<T: Drop>(
     pass: &mut Pass,
     rt: &impl Wait,
 ) -> u64
-    requires book { IsOf key.old pass.old × (slots_book slots.now ≡ pass.old.name) × (book_in blocks.now ≡ pass.old.name) }
+    requires book { IsKeyOfBook key.old pass.old × (slots_book slots.now ≡ pass.old.name) × (blocks_book blocks.now ≡ pass.old.name) }
     requires knows { Knows key.old pass.old }
-    requires batch { AreOfBook (keys_in batch.old) pass.old × (marked ≤ length (spots_in batch.old)) }
-    requires at { IsInserting key.old pass.old (take marked (spots_in batch.old)) (first_in batch.old) }
-    requires values { (at : IsInserting key.old pass.old (take marked (spots_in batch.old)) (first_in batch.old))
+    requires batch { AreOfBook (keys_in batch.old) pass.old × (marked ≤ length (slot_marks_in batch.old)) }
+    requires at { IsInserting key.old pass.old (take marked (slot_marks_in batch.old)) (first_in batch.old) }
+    requires values { (at : IsInserting key.old pass.old (take marked (slot_marks_in batch.old)) (first_in batch.old))
         → values_of (keys_in batch.old) ≡ values_in key.old at.batch }
-    ensures book { IsOf key.new pass.new }
+    ensures book { IsKeyOfBook key.new pass.new }
     ensures knows { Knows key.new pass.new }
     ensures batch { IsAsBefore batch.old batch.new }
-    ensures all { (at : IsInserting key.old pass.old (take marked (spots_in batch.old)) (first_in batch.old))
+    ensures all { (at : IsInserting key.old pass.old (take marked (slot_marks_in batch.old)) (first_in batch.old))
         → InsertedAll at key.new pass.new result }
 {
     let front = batch.first;
@@ -67,16 +67,17 @@ fn insert_round<T: Drop>(
     pass: &mut Pass,
     rt: &impl Wait,
 ) -> u64
-    requires book { IsOf key.old pass.old × (slots_book slots.now ≡ pass.old.name) × (book_in blocks.now ≡ pass.old.name) }
-    requires round { (book_at round.old ≡ pass.old.name) × (done_in round.old ≡ []) × (marked ≤ length (spots_of (rest_in round.old))) }
+    requires book { IsKeyOfBook key.old pass.old × (slots_book slots.now ≡ pass.old.name) × (blocks_book blocks.now ≡ pass.old.name) }
+    requires round { (book_at round.old ≡ pass.old.name) × (done_in round.old ≡ []) ×
+        (marked ≤ length (slot_marks_of (rest_in round.old))) }
     requires knows { Knows key.old pass.old }
-    requires at { IsInserting key.old pass.old (take marked (spots_of (rest_in round.old))) front }
-    requires values { (at : IsInserting key.old pass.old (take marked (spots_of (rest_in round.old))) front)
+    requires at { IsInserting key.old pass.old (take marked (slot_marks_of (rest_in round.old))) front }
+    requires values { (at : IsInserting key.old pass.old (take marked (slot_marks_of (rest_in round.old))) front)
         → labels_of (rest_in round.old) ≡ values_in key.old at.batch }
-    ensures book { IsOf key.new pass.new }
+    ensures book { IsKeyOfBook key.new pass.new }
     ensures knows { Knows key.new pass.new }
     ensures round { (book_at round.new ≡ pass.new.name) × (all_in round.new ≡ rest_in round.old) }
-    ensures all { (at : IsInserting key.old pass.old (take marked (spots_of (rest_in round.old))) front)
+    ensures all { (at : IsInserting key.old pass.old (take marked (slot_marks_of (rest_in round.old))) front)
         → InsertedAll at key.new pass.new result }
 {
     let mut won: u64 = 0;
@@ -99,11 +100,11 @@ fn insert_at<T: Drop>(
     pass: &mut Pass,
     rt: &impl Wait,
 ) -> bool
-    requires book { IsOf key.old pass.old × (slots_book slots.now ≡ pass.old.name) × (book_in blocks.now ≡ pass.old.name) }
+    requires book { IsKeyOfBook key.old pass.old × (slots_book slots.now ≡ pass.old.name) × (blocks_book blocks.now ≡ pass.old.name) }
     requires round { book_at round.old ≡ pass.old.name }
     requires knows { Knows key.old pass.old }
     requires next { IsAtNext key.old pass.old round.old front }
-    ensures book { IsOf key.new pass.new }
+    ensures book { IsKeyOfBook key.new pass.new }
     ensures knows { Knows key.new pass.new }
     ensures round { (next : IsAtNext key.old pass.old round.old front) → GoesPast next round.new }
     ensures inserted { (next : IsAtNext key.old pass.old round.old front) → Inserted next.at pass.old key.new pass.new result }
@@ -127,13 +128,13 @@ fn insert_by(
     pass: &mut Pass,
     rt: &impl Wait,
 ) -> bool
-    requires book { IsOf key.old pass.old × IsOfBook head.now pass.old × (header_book header.now ≡ pass.old.name) }
+    requires book { IsKeyOfBook key.old pass.old × IsHeadOfBook head.now pass.old × (header_book header.now ≡ pass.old.name) }
     requires fits { block + 2 < 2 ^ 64 }
     requires knows { Knows key.old pass.old }
     requires at { IsAtSlot key.old (slot head.now) block front }
     requires home { (at : IsAtSlot key.old (slot head.now) block front) → HasHome at header.now }
     requires seen { slot head.now < slots_seen pass.old }
-    ensures book { IsOf key.new pass.new }
+    ensures book { IsKeyOfBook key.new pass.new }
     ensures knows { Knows key.new pass.new }
     ensures inserted { (at : IsAtSlot key.old (slot head.now) block front) → Inserted at pass.old key.new pass.new result }
 {
@@ -159,9 +160,9 @@ fn try_once(
     key: &mut SlotKey,
     pass: &mut Pass,
 ) -> bool
-    requires book { IsOf key.old pass.old × IsOfBook head.now pass.old × (header_book header.now ≡ pass.old.name) }
+    requires book { IsKeyOfBook key.old pass.old × IsHeadOfBook head.now pass.old × (header_book header.now ≡ pass.old.name) }
     requires at { IsAtTry key.old head.now header.now seen block front }
-    ensures book { IsOf key.new pass.new }
+    ensures book { IsKeyOfBook key.new pass.new }
     ensures knows { Knows key.new pass.new }
     ensures tried { (at : IsAtTry key.old head.now header.now seen block front) → Tried at pass.old key.new pass.new result }
 {

@@ -2,15 +2,15 @@
 //! active. Others may step on all these words meanwhile, make slots, and add any events.
 ghost use Rattle.std.specs.Prelude.{◌≡◌, ◌≤◌, ◌<◌, ◌^◌, true};
 ghost use mathlib.Core.List.{IsPrefix};
-ghost use Rattle.seize_calls.specs.Batches.{AreRemarked, keys_in, spots_in, spots_of, unslotted};
-ghost use Rattle.seize_calls.specs.Numbered.{counted};
-ghost use Rattle.seize_calls.specs.Marks.{BeginsToMark, Ends};
+ghost use Rattle.seize_calls.specs.Batches.{AreRemarked, keys_in, slot_marks_in, slot_marks_of, unslotted};
+ghost use Rattle.seize_calls.specs.Numbered.{is_count_of};
+ghost use Rattle.seize_calls.specs.Marks.{BeginsToMark, EndsMarks};
 ghost use Rattle.seize_calls.specs.Rounds.{IsRoundOf, all_in, book_at, rest_in};
 ghost use Rattle.seize_book.specs.Values.{AreOfBook, values_of};
-ghost use Rattle.seize_words.specs.Chunks.{book_in};
-ghost use Rattle.seize_book.specs.Passes.{IsSame};
-ghost use Rattle.seize_words.specs.Reserved.{comes_to, ends_at, heads_book, slots_book};
-ghost use Rattle.seize_book.specs.Slots.{IsOf, number_of, own_list, slot_of};
+ghost use Rattle.seize_words.specs.Chunks.{blocks_book};
+ghost use Rattle.seize_book.specs.Passes.{IsSamePass};
+ghost use Rattle.seize_words.specs.Reserved.{comes_to, heads_book, heads_end, slots_book};
+ghost use Rattle.seize_book.specs.Slots.{IsKeyOfBook, own_list, slot_number, slot_of};
 ghost use Rattle.seize_words.specs.Totals.{slots_seen};
 ghost use Rattle.seize_words.specs.Walks.{Knows};
 
@@ -41,14 +41,14 @@ pub fn mark<T: Drop>(
     key: &mut SlotKey,
     pass: &mut Pass,
 ) -> Marked
-    requires book { IsOf key.old pass.old × (slots_book slots.now ≡ pass.old.name) × (book_in blocks.now ≡ pass.old.name) }
+    requires book { IsKeyOfBook key.old pass.old × (slots_book slots.now ≡ pass.old.name) × (blocks_book blocks.now ≡ pass.old.name) }
     requires knows { IsPrefix (own_list key.old) pass.old.seen }
     requires begins { BeginsToMark key.old }
     requires batch { AreOfBook (keys_in batch.old) pass.old × (values_of (keys_in batch.old) ≡ (slot_of key.old).batch) }
-    ensures book { IsOf key.new pass.new × IsSame pass.old pass.new × (number_of key.new ≡ number_of key.old) }
+    ensures book { IsKeyOfBook key.new pass.new × IsSamePass pass.old pass.new × (slot_number key.new ≡ slot_number key.old) }
     ensures knows { Knows key.new pass.new }
     ensures batch { AreRemarked (keys_in batch.old) (keys_in batch.new) }
-    ensures marks { (at : BeginsToMark key.old) → Ends at pass.old key.new pass.new (spots_in batch.new) result }
+    ensures marks { (at : BeginsToMark key.old) → EndsMarks at pass.old key.new pass.new (slot_marks_in batch.new) result }
 {
     let (count, all) = slots.load(pass);
     let mut round = Round::new(batch.first, &mut batch.values, pass);
@@ -73,19 +73,19 @@ fn read_each<T: Drop>(
     key: &mut SlotKey,
     pass: &mut Pass,
 ) -> Marked
-    requires book { IsOf key.old pass.old × (heads_book heads ≡ pass.old.name) × (book_in blocks.now ≡ pass.old.name) }
+    requires book { IsKeyOfBook key.old pass.old × (heads_book heads ≡ pass.old.name) × (blocks_book blocks.now ≡ pass.old.name) }
     requires knows { Knows key.old pass.old }
     requires first { comes_to heads ≡ 0 }
-    requires there { ends_at heads ≤ slots_seen pass.old }
-    requires few { ends_at heads < 2 ^ 64 }
+    requires there { heads_end heads ≤ slots_seen pass.old }
+    requires few { heads_end heads < 2 ^ 64 }
     requires begins { BeginsToMark key.old }
-    requires all { (at : BeginsToMark key.old) → at.note ≤ ends_at heads }
+    requires all { (at : BeginsToMark key.old) → at.note ≤ heads_end heads }
     requires round { (book_at round.old ≡ pass.old.name) × IsRoundOf round.old (slot_of key.old).batch }
-    requires len { counted len (slot_of key.old).batch ≡ true }
-    ensures book { IsOf key.new pass.new × IsSame pass.old pass.new × (number_of key.new ≡ number_of key.old) }
+    requires len { is_count_of len (slot_of key.old).batch ≡ true }
+    ensures book { IsKeyOfBook key.new pass.new × IsSamePass pass.old pass.new × (slot_number key.new ≡ slot_number key.old) }
     ensures knows { Knows key.new pass.new }
     ensures round { (book_at round.new ≡ pass.old.name) × (unslotted (all_in round.new) ≡ unslotted (rest_in round.old)) }
-    ensures ends { (at : BeginsToMark key.old) → Ends at pass.old key.new pass.new (spots_of (all_in round.new)) result }
+    ensures ends { (at : BeginsToMark key.old) → EndsMarks at pass.old key.new pass.new (slot_marks_of (all_in round.new)) result }
 {
     let mut number: usize = 0;
     let mut marked: usize = 0;

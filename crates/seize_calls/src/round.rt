@@ -22,11 +22,10 @@ pub struct Round {
 }
 
 impl Round {
-    ghost use Rattle.seize_book.specs.Notes.{IsStored};
     ghost use Rattle.seize_book.specs.Passes.{LooksOn};
     ghost use Rattle.seize_book.specs.Values.{IsEmpty};
-    ghost use Rattle.seize_calls.specs.Rounds.{Begins, Goes, HasNext, IsNextOf, Remarks, all_in, book_at, number_at};
-    ghost use Rattle.seize_words.specs.Chunks.{book_in};
+    ghost use Rattle.seize_calls.specs.Rounds.{BeginsRound, HasNextValue, IsNextOf, MovesPast, Remarks, all_in, book_at, round_number};
+    ghost use Rattle.seize_words.specs.Chunks.{blocks_book};
 
     /// A round through all these, of which the first has this number.
     pub fn new(first: u64, values: &mut ValueKeys, pass: &mut Pass) -> Round
@@ -35,7 +34,7 @@ impl Round {
         requires closed { AreClosed values.old }
         ensures pass { pass.new ≡ pass.old }
         ensures none { IsEmpty values.new pass.old }
-        ensures begins { (book_at result ≡ pass.old.name) × Begins result values.old.keys.held × (number_at result ≡ first) }
+        ensures begins { (book_at result ≡ pass.old.name) × BeginsRound result values.old.keys.held × (round_number result ≡ first) }
     {
         let done = ValueKeys::new(pass);
         let mut rest = ValueKeys::new(pass);
@@ -49,16 +48,15 @@ impl Round {
 
     /// The number of the block of the next value.
     pub fn number(&self) -> u64
-        ensures { result ≡ number_at self.now }
+        ensures { result ≡ round_number self.now }
     {
         self.number
     }
 
     /// Goes past the next value, and gives what is noted of its block. This is its header.
     pub fn next(&mut self, header: &Header) -> Note
-        requires store { IsStored (book_at self.old) }
         requires header { IsNextOf header.now self.old }
-        ensures { Goes self.old result self.new }
+        ensures { MovesPast self.old result self.new }
     {
         let mut value = self.rest.next();
         let note = value.note(&header.note);
@@ -71,8 +69,8 @@ impl Round {
     ///
     /// It takes no memory: a look-up, a plain read and a plain write.
     pub fn mark<T: Drop>(&mut self, blocks: &Blocks<T>, slot: usize, pass: &mut Pass)
-        requires book { (book_at self.old ≡ pass.old.name) × (book_in blocks.now ≡ pass.old.name) }
-        requires next { HasNext self.old pass.old }
+        requires book { (book_at self.old ≡ pass.old.name) × (blocks_book blocks.now ≡ pass.old.name) }
+        requires next { HasNextValue self.old pass.old }
         ensures looks { LooksOn pass.old pass.new }
         ensures marks { Remarks self.old slot self.new }
     {

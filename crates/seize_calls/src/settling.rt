@@ -1,13 +1,12 @@
 //! What a slot's call does when its slot's batch may be full: it attempts it, and hands its values where they are given up. What their
 //! reclaimers put joins the call's queue. Others may add any events meanwhile.
 ghost use Rattle.std.specs.Prelude.{◌≡◌};
-ghost use Rattle.seize_book.specs.Blocks.{block_of};
+ghost use Rattle.seize_book.specs.Blocks.{block_number};
 ghost use Rattle.seize_book.specs.Kept.{IsTold};
 ghost use Rattle.seize_book.specs.Others.{IsValueOf, value_of};
-ghost use Rattle.seize_book.specs.Slots.{size_of};
 ghost use Rattle.seize_calls.specs.Furthers.{further_in};
-ghost use Rattle.seize_calls.specs.Settling.{Marking, MayPut, Round, Settles, Sits, stand};
-ghost use Rattle.seize_words.specs.Chunks.{AreSpotsIn, book_in};
+ghost use Rattle.seize_calls.specs.Settling.{DrainsOne, IsWellFormed, Marking, MayPut, Settles, call_state};
+ghost use Rattle.seize_words.specs.Chunks.{AreSpotsIn, blocks_book};
 ghost use Rattle.seize_words.specs.Reserved.{slots_book};
 
 use crate::attempt::{Attempted, attempt};
@@ -38,16 +37,16 @@ pub fn settle<T: Drop, R: Reclaim<T>>(
     pass: &mut Pass,
     rt: &impl Wait,
 ) -> bool
-    requires words { (slots_book slots.now ≡ pass.old.name) × (book_in blocks.now ≡ pass.old.name) }
-    requires sits { Sits (stand key.old pass.old batch.old queue.old (R.had reclaimer.old)) }
+    requires words { (slots_book slots.now ≡ pass.old.name) × (blocks_book blocks.now ≡ pass.old.name) }
+    requires sits { IsWellFormed (call_state key.old pass.old batch.old queue.old (R.had reclaimer.old)) }
     requires marking { Marking key.old (further_in queue.old) }
-    requires serves { R.serves reclaimer.old (book_in blocks.now) }
+    requires serves { R.serves reclaimer.old (blocks_book blocks.now) }
     requires spots { AreSpotsIn blocks.now spots.old }
-    ensures sits { Sits (stand key.new pass.new batch.new queue.new (R.had reclaimer.new)) }
-    ensures serves { R.serves reclaimer.new (book_in blocks.now) }
+    ensures sits { IsWellFormed (call_state key.new pass.new batch.new queue.new (R.had reclaimer.new)) }
+    ensures serves { R.serves reclaimer.new (blocks_book blocks.now) }
     ensures spots { AreSpotsIn blocks.now spots.new }
-    ensures settles { let from = stand key.old pass.old batch.old queue.old (R.had reclaimer.old) in
-        Settles from (stand key.new pass.new batch.new queue.new (R.had reclaimer.new)) result }
+    ensures settles { let from = call_state key.old pass.old batch.old queue.old (R.had reclaimer.old) in
+        Settles from (call_state key.new pass.new batch.new queue.new (R.had reclaimer.new)) result }
 {
     match attempt(slots, blocks, batch, key, pass, rt) {
         Attempted::Stays => false,
@@ -71,8 +70,8 @@ pub fn settle<T: Drop, R: Reclaim<T>>(
 }
 
 /// Puts the value of this key, which lies in the block of this number, to the slot's batch: it comes last. What is kept of it is noted of
-/// its block. Where the batch has `size` values or more, which is the size of the book, it is attempted. It says whether the batch was
-/// retired.
+/// its block. Where the batch has `size` values or more, which is the batch size of the pass, it is attempted. It says whether the batch
+/// was retired.
 ///
 /// It takes no memory and waits as `settle` does.
 #[inline]
@@ -91,19 +90,19 @@ pub fn put<T: Drop, R: Reclaim<T>>(
     pass: &mut Pass,
     rt: &impl Wait,
 ) -> bool
-    requires words { (slots_book slots.now ≡ pass.old.name) × (book_in blocks.now ≡ pass.old.name) }
-    requires size { size ≡ size_of key.old }
-    requires sits { Sits (stand key.old pass.old batch.old queue.old (R.had reclaimer.old)) }
+    requires words { (slots_book slots.now ≡ pass.old.name) × (blocks_book blocks.now ≡ pass.old.name) }
+    requires size { size ≡ pass.old.size }
+    requires sits { IsWellFormed (call_state key.old pass.old batch.old queue.old (R.had reclaimer.old)) }
     requires next { MayPut key.old (value_of value) (further_in queue.old) }
-    requires value { IsValueOf value pass.old × (block_of (value_of value) ≡ number) }
+    requires value { IsValueOf value pass.old × (block_number (value_of value) ≡ number) }
     requires told { IsTold pass.old.seen (value_of value) kept }
-    requires serves { R.serves reclaimer.old (book_in blocks.now) }
+    requires serves { R.serves reclaimer.old (blocks_book blocks.now) }
     requires spots { AreSpotsIn blocks.now spots.old }
-    ensures sits { Sits (stand key.new pass.new batch.new queue.new (R.had reclaimer.new)) }
-    ensures serves { R.serves reclaimer.new (book_in blocks.now) }
+    ensures sits { IsWellFormed (call_state key.new pass.new batch.new queue.new (R.had reclaimer.new)) }
+    ensures serves { R.serves reclaimer.new (blocks_book blocks.now) }
     ensures spots { AreSpotsIn blocks.now spots.new }
-    ensures round { let from = stand key.old pass.old batch.old queue.old (R.had reclaimer.old) in
-        Round from (value_of value) kept (stand key.new pass.new batch.new queue.new (R.had reclaimer.new)) result }
+    ensures round { let from = call_state key.old pass.old batch.old queue.old (R.had reclaimer.old) in
+        DrainsOne from (value_of value) kept (call_state key.new pass.new batch.new queue.new (R.had reclaimer.new)) result }
 {
     key.put(pass);
     batch.push(blocks, number, kept, value);

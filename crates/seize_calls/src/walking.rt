@@ -2,8 +2,8 @@
 //! Others may step on all these words meanwhile, and add any events.
 ghost use Rattle.std.specs.Prelude.{◌≡◌};
 ghost use Rattle.seize_calls.specs.Walking.{IsAtWalk, WalksAll, WalksTo};
-ghost use Rattle.seize_words.specs.Chunks.{AreSpotsIn, book_in};
-ghost use Rattle.seize_book.specs.Slots.{IsOf};
+ghost use Rattle.seize_words.specs.Chunks.{AreSpotsIn, blocks_book};
+ghost use Rattle.seize_book.specs.Slots.{IsKeyOfBook};
 ghost use Rattle.seize_book.specs.Kept.{AreTold};
 ghost use Rattle.seize_book.specs.Values.{AreOfBook, IsEmpty};
 ghost use Rattle.seize_calls.specs.Furthers.{further_in};
@@ -36,10 +36,10 @@ pub fn walk<T: Drop>(
     values: &mut ValueKeys,
     pass: &mut Pass,
 ) -> Walked
-    requires book { IsOf key.old pass.old × (book_in blocks.now ≡ pass.old.name) × IsEmpty values.old pass.old }
+    requires book { IsKeyOfBook key.old pass.old × (blocks_book blocks.now ≡ pass.old.name) × IsEmpty values.old pass.old }
     requires knows { Knows key.old pass.old }
     requires at { IsAtWalk key.old word }
-    ensures book { IsOf key.new pass.new }
+    ensures book { IsKeyOfBook key.new pass.new }
     ensures knows { Knows key.new pass.new }
     ensures walks { (at : IsAtWalk key.old word) → WalksTo at pass.old key.new pass.new values.new result }
 {
@@ -68,19 +68,19 @@ pub fn walk_all<T: Drop, R: Reclaim<T>>(
     queue: &mut Further,
     pass: &mut Pass,
 )
-    requires book { IsOf key.old pass.old × (book_in blocks.now ≡ pass.old.name) }
+    requires book { IsKeyOfBook key.old pass.old × (blocks_book blocks.now ≡ pass.old.name) }
     requires queue { AreOfBook (further_in queue.old) pass.old }
     requires told { AreTold (further_in queue.old) pass.old }
     requires knows { Knows key.old pass.old }
     requires at { IsAtWalk key.old word }
-    requires serves { R.serves reclaimer.old (book_in blocks.now) }
+    requires serves { R.serves reclaimer.old (blocks_book blocks.now) }
     requires spots { AreSpotsIn blocks.now spots.old }
-    ensures book { IsOf key.new pass.new }
+    ensures book { IsKeyOfBook key.new pass.new }
     ensures knows { Knows key.new pass.new }
     ensures walks { (at : IsAtWalk key.old word) → let had = R.had reclaimer.old in let had' = R.had reclaimer.new in
         WalksAll at pass.old (further_in queue.old) had key.new pass.new (further_in queue.new) had' }
     ensures told { AreTold (further_in queue.new) pass.new }
-    ensures serves { R.serves reclaimer.new (book_in blocks.now) }
+    ensures serves { R.serves reclaimer.new (blocks_book blocks.now) }
     ensures spots { AreSpotsIn blocks.now spots.new }
 {
     let mut values = ValueKeys::new(pass);

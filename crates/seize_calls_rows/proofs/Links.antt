@@ -12,9 +12,9 @@ use Rattle.seize_machine.specs.declared.machine.event.Answer.{Answer}
 use Rattle.seize_machine.specs.declared.machine.event.Answer.TheVariants.{Link}
 use Rattle.seize_machine.specs.declared.machine.event.Exchange.TheVariants.{Swap}
 use Rattle.seize_book.specs.Book.{after, answered}
-use Rattle.seize_book.specs.Entry.{Deed, Entry, Made, Used, deeds, timed}
+use Rattle.seize_book.specs.Entry.{Deed, Entry, Made, Used, deeds, timed_deed}
 use Rattle.seize_book.specs.Homesteads.{state_seen}
-use Rattle.seize_book.specs.Passes.{IsSame, LooksOn, events_by, events_in}
+use Rattle.seize_book.specs.Passes.{IsSamePass, LooksOn, events_by, events_in}
 use Rattle.seize_book.specs.Tokens.{IsSole, Name, Noted, start}
 use Rattle.seize_book.specs.declared.book.pass.Pass.{Pass}
 use Rattle.seize_book.proofs.Facts.{deeds_append, unequal}
@@ -22,7 +22,7 @@ use Rattle.seize_calls.proofs.Alone.{made_alone, made_there}
 use Rattle.seize_calls.proofs.Handed.{handed_append}
 use Rattle.seize_calls.specs.Alone.{AddsAlone, AllBy}
 use Rattle.seize_calls.specs.Handing.{Handings, values_handed}
-use Rattle.seize_calls.specs.Inserts.{Turn, last_at, losses, turn_at, turns_at}
+use Rattle.seize_calls.specs.Inserts.{InsertTries, last_at, losses, turn_at, turns_at}
 use Rattle.seize_calls.specs.Marks.{readings}
 use Rattle.seize_calls.specs.Walking.{handed_in, hands, steps}
 use Rattle.seize_calls_rows.specs.Turns.{KeepsLinks}
@@ -54,7 +54,7 @@ none_last : (pass : Pass) (s m : ℕ) (won : Bool) → NoneOf (deeds_in (last_at
 none_last pass s m true = ((λ l. refl), ((λ l. refl), tt))
 none_last pass s m false = ((λ l. refl), tt)
 
-pub none_turns : (pass : Pass) (s : ℕ) (ms : List ℕ) (turns : List Turn) → NoneOf (deeds_in (turns_at pass s ms turns))
+pub none_turns : (pass : Pass) (s : ℕ) (ms : List ℕ) (turns : List InsertTries) → NoneOf (deeds_in (turns_at pass s ms turns))
 none_turns pass s [] turns = tt
 none_turns pass s (m ∷ ms) [] = tt
 none_turns pass s (m ∷ ms) (turn ∷ turns) =
@@ -90,7 +90,7 @@ handed_last : (pass : Pass) (s m : ℕ) (won : Bool) → handed_of (last_at pass
 handed_last pass s m true = refl
 handed_last pass s m false = refl
 
-pub handed_turns : (pass : Pass) (s : ℕ) (ms : List ℕ) (turns : List Turn) → handed_of (turns_at pass s ms turns) ≡ []
+pub handed_turns : (pass : Pass) (s : ℕ) (ms : List ℕ) (turns : List InsertTries) → handed_of (turns_at pass s ms turns) ≡ []
 handed_turns pass s [] turns = refl
 handed_turns pass s (m ∷ ms) [] = refl
 handed_turns pass s (m ∷ ms) (turn ∷ turns) =
@@ -136,7 +136,7 @@ on_since was now more vs since none handed = subst (Since was (now ++ more)) (ap
 
 -- The links after such events.
 
-one_kept : (st : State) (d : Deed) (l : ℕ) → changes_link l d.event ≡ false → link_at (done_by next st (timed d)).0 l ≡ link_at st l
+one_kept : (st : State) (d : Deed) (l : ℕ) → changes_link l d.event ≡ false → link_at (done_by next st (timed_deed d)).0 l ≡ link_at st l
 one_kept st d l none = go (next d.size st d.event) refl
   where
     go : (o : Outcome) → next d.size st d.event ≡ o → link_at (or_illegal st o).0 l ≡ link_at st l
@@ -145,15 +145,15 @@ one_kept st d l none = go (next d.size st d.event) refl
 
 links_kept : (st : State) (log : List Entry) (l : ℕ) → NoneOf (deeds log) → link_at (after st log) l ≡ link_at st l
 links_kept st [] l none = refl
-links_kept st (Made d ∷ log) l none = links_kept (done_by next st (timed d)).0 log l none.1 ∙ one_kept st d l (none.0 l)
+links_kept st (Made d ∷ log) l none = links_kept (done_by next st (timed_deed d)).0 log l none.1 ∙ one_kept st d l (none.0 l)
 links_kept st (Used u ∷ log) l none = links_kept st log l none
 
 pub after_both : (st : State) (a b : List Entry) → after st (a ++ b) ≡ after (after st a) b
 after_both st [] b = refl
-after_both st (Made d ∷ a) b = after_both (done_by next st (timed d)).0 a b
+after_both st (Made d ∷ a) b = after_both (done_by next st (timed_deed d)).0 a b
 after_both st (Used u ∷ a) b = after_both st a b
 
-pub none_changed : (pass pass' : Pass) → IsSame pass pass' → AddsAlone pass pass' → (vs : List ℕ) → IsSole pass.name.gate pass.id → Since (events_by pass) (events_by pass') vs → KeepsLinks pass pass'
+pub none_changed : (pass pass' : Pass) → IsSamePass pass pass' → AddsAlone pass pass' → (vs : List ℕ) → IsSole pass.id → Since (events_by pass) (events_by pass') vs → KeepsLinks pass pass'
 none_changed pass pass' same adds vs sole since l =
     ap (λ (n : Name). link_at (after (start n) pass'.seen) l) same.0
     ∙ ap (λ (log : List Entry). link_at (after st log) l) more.1
@@ -177,7 +177,7 @@ gone_by size st event _ (Step.added s b won queue d e h) = subst (λ (d : State 
 gone_by size st event _ (Step.subtracted s b walk queue d e h) = subst (λ (d : State × Answer). (d.0).gone ≡ st.gone ++ option_to_list (handed_value d.1)) (some_is _ _ h) (sym (append-nil st.gone))
 gone_by size st event _ _ = sym (append-nil st.gone)
 
-gone_one : (st : State) (d : Deed) → (done_by next st (timed d)).0.gone ≡ st.gone ++ option_to_list (handed_value (done_by next st (timed d)).1)
+gone_one : (st : State) (d : Deed) → (done_by next st (timed_deed d)).0.gone ≡ st.gone ++ option_to_list (handed_value (done_by next st (timed_deed d)).1)
 gone_one st d = go (next d.size st d.event) refl
   where
     go : (o : Outcome) → next d.size st d.event ≡ o → (or_illegal st o).0.gone ≡ st.gone ++ option_to_list (handed_value (or_illegal st o).1)
@@ -187,11 +187,11 @@ gone_one st d = go (next d.size st d.event) refl
 gone_after : (st : State) (log : List Entry) → (after st log).gone ≡ st.gone ++ handed_of (events_in (answered st log))
 gone_after st [] = sym (append-nil st.gone)
 gone_after st (Made d ∷ log) =
-    let done = done_by next st (timed d) in let more = handed_of (events_in (answered done.0 log)) in
+    let done = done_by next st (timed_deed d) in let more = handed_of (events_in (answered done.0 log)) in
     gone_after done.0 log ∙ ap (λ (gone : List ℕ). gone ++ more) (gone_one st d) ∙ append_assoc st.gone (option_to_list (handed_value done.1)) more
 gone_after st (Used u ∷ log) = gone_after st log
 
-pub gone_since : (pass pass' : Pass) → IsSame pass pass' → AddsAlone pass pass' → (vs : List ℕ) → IsSole pass.name.gate pass.id → Since (events_by pass) (events_by pass') vs → (state_seen pass').gone ≡ (state_seen pass).gone ++ vs
+pub gone_since : (pass pass' : Pass) → IsSamePass pass pass' → AddsAlone pass pass' → (vs : List ℕ) → IsSole pass.id → Since (events_by pass) (events_by pass') vs → (state_seen pass').gone ≡ (state_seen pass).gone ++ vs
 gone_since pass pass' same adds vs sole since =
     let st = after (start pass.name) pass.seen in let more = adds sole in
     ap (λ (n : Name). (after (start n) pass'.seen).gone) same.0
@@ -213,7 +213,7 @@ gone_same size st event _ (Step.added s b won queue d e h) none = subst (λ (d :
 gone_same size st event _ (Step.subtracted s b walk queue d e h) none = subst (λ (d : State × Answer). (d.0).gone ≡ st.gone) (some_is _ _ h) refl
 gone_same size st event _ _ none = refl
 
-pub one_gone : (pass pass' : Pass) (d : Deed) → IsSame pass pass' → Noted pass.name pass.id pass.seen pass'.seen (Made d) → IsSole pass.name.gate pass.id → is_hand d.event ≡ false → (state_seen pass').gone ≡ (state_seen pass).gone
+pub one_gone : (pass pass' : Pass) (d : Deed) → IsSamePass pass pass' → Noted pass.name pass.id pass.seen pass'.seen (Made d) → IsSole pass.id → is_hand d.event ≡ false → (state_seen pass').gone ≡ (state_seen pass).gone
 one_gone pass pass' d same noted sole none =
     ap (λ (n : Name). (after (start n) pass'.seen).gone) same.0
     ∙ ap (λ (s : State). s.gone) noted.leads
@@ -224,11 +224,11 @@ pub kept_twice : (a b c : Pass) → KeepsLinks a b → KeepsLinks b c → KeepsL
 kept_twice a b c one two l = two l ∙ one l
 
 -- a pass that is alone stays so
-pub sole_still : (pass pass' : Pass) → IsSame pass pass' → IsSole pass.name.gate pass.id → IsSole pass'.name.gate pass'.id
-sole_still pass pass' same sole = subst (λ (t : Name × ℕ). IsSole t.0.gate t.1) (λ j. (sym same.0 j, sym same.1 j)) sole
+pub sole_still : (pass pass' : Pass) → IsSamePass pass pass' → IsSole pass.id → IsSole pass'.id
+sole_still pass pass' same sole = subst IsSole (sym same.1) sole
 
 -- a look leaves all
-pub look_keeps : (pass pass' : Pass) → LooksOn pass pass' → IsSole pass.name.gate pass.id → state_seen pass' ≡ state_seen pass
+pub look_keeps : (pass pass' : Pass) → LooksOn pass pass' → IsSole pass.id → state_seen pass' ≡ state_seen pass
 look_keeps pass pass' looks sole = ap (λ (n : Name). after (start n) pass'.seen) looks.same.0 ∙ ap (after (start pass.name)) (looks.alone sole)
 
 -- An exchange with nothing empties its link, and leaves the others.
@@ -243,7 +243,7 @@ emptied size st s n d is =
     let w = if_some (can_link st s n && is_none_or_fresh st None) (swapped scheme st n None, Link (link_at st n)) d is in
     ap (λ (t : State × Answer). link_at t.0 n) (sym w.1) ∙ none_there st.links n
 
-pub takes_out : (pass pass' : Pass) (d : Deed) (s n : ℕ) → d.event ≡ ExchangeLink s n (Swap None) → IsSame pass pass' → Noted pass.name pass.id pass.seen pass'.seen (Made d) → IsSole pass.name.gate pass.id
+pub takes_out : (pass pass' : Pass) (d : Deed) (s n : ℕ) → d.event ≡ ExchangeLink s n (Swap None) → IsSamePass pass pass' → Noted pass.name pass.id pass.seen pass'.seen (Made d) → IsSole pass.id
     → (link_at (state_seen pass') n ≡ None) × ((l : ℕ) → ¬ (l ≡ n) → link_at (state_seen pass') l ≡ link_at (state_seen pass) l)
 takes_out pass pass' d s n is same noted sole = (
   ap (λ (m : Name). link_at (after (start m) pass'.seen) n) same.0 ∙ ap (λ (st : State). link_at st n) noted.leads
@@ -254,7 +254,7 @@ takes_out pass pass' d s n is same noted sole = (
 )
 
 -- after one event that is none on a link
-pub event_keeps : (pass pass' : Pass) (d : Deed) → IsSame pass pass' → Noted pass.name pass.id pass.seen pass'.seen (Made d) → IsSole pass.name.gate pass.id → IsNone d.event → KeepsLinks pass pass'
+pub event_keeps : (pass pass' : Pass) (d : Deed) → IsSamePass pass pass' → Noted pass.name pass.id pass.seen pass'.seen (Made d) → IsSole pass.id → IsNone d.event → KeepsLinks pass pass'
 event_keeps pass pass' d same noted sole none l =
     let st : State = start pass.name in
     ap (λ (n : Name). link_at (after (start n) pass'.seen) l) same.0

@@ -11,9 +11,9 @@ use Rattle.seize_machine.specs.declared.machine.event.Answer.TheVariants.{Done, 
 use Rattle.seize_machine.specs.declared.machine.event.Exchange.TheVariants.{Swap}
 use Rattle.seize_machine.specs.declared.machine.event.Job.TheVariants.{Retire}
 use Rattle.seize_book.specs.Book.{after, answered}
-use Rattle.seize_book.specs.Entry.{Deed, Entry, Made, Used, timed}
+use Rattle.seize_book.specs.Entry.{Deed, Entry, Made, Used, timed_deed}
 use Rattle.seize_book.specs.Homesteads.{state_seen}
-use Rattle.seize_book.specs.Passes.{IsSame, events_by, events_in}
+use Rattle.seize_book.specs.Passes.{IsSamePass, events_by, events_in}
 use Rattle.seize_book.specs.Tokens.{IsSole, Name, Noted, start}
 use Rattle.seize_book.specs.declared.book.pass.Pass.{Pass}
 use Rattle.seize_calls.proofs.Alone.{made_there}
@@ -38,7 +38,7 @@ loose_by v size st event _ (Step.subtracted s b walk queue d e h) none is = subs
 loose_by v size st event _ (Step.exchanged s l exchange new can fresh stored) none is = absurd (let e : (l == l) ≡ false = none l in grind arith)
 loose_by v size st event _ _ none is = is
 
-loose_one : (v : ℕ) (st : State) (d : Deed) → IsNone d.event → has v (done_by next st (timed d)).0.loose ≡ true → has v st.loose ≡ true
+loose_one : (v : ℕ) (st : State) (d : Deed) → IsNone d.event → has v (done_by next st (timed_deed d)).0.loose ≡ true → has v st.loose ≡ true
 loose_one v st d none = go (next d.size st d.event) refl
   where
     go : (o : Outcome) → next d.size st d.event ≡ o → has v (or_illegal st o).0.loose ≡ true → has v st.loose ≡ true
@@ -47,17 +47,17 @@ loose_one v st d none = go (next d.size st d.event) refl
 
 loose_kept : (v : ℕ) (st : State) (log : List Entry) → NoneOf (deeds_in (events_in (answered st log))) → has v (after st log).loose ≡ true → has v st.loose ≡ true
 loose_kept v st [] none h = h
-loose_kept v st (Made d ∷ log) none h = loose_one v st d none.0 (loose_kept v (done_by next st (timed d)).0 log none.1 h)
+loose_kept v st (Made d ∷ log) none h = loose_one v st d none.0 (loose_kept v (done_by next st (timed_deed d)).0 log none.1 h)
 loose_kept v st (Used u ∷ log) none h = loose_kept v st log none h
 
 -- where the list leads that a pass has seen which is alone
-later_by : (pass pass' : Pass) → IsSame pass pass' → (adds : AddsAlone pass pass') (sole : IsSole pass.name.gate pass.id) → state_seen pass' ≡ after (state_seen pass) (adds sole).0
+later_by : (pass pass' : Pass) → IsSamePass pass pass' → (adds : AddsAlone pass pass') (sole : IsSole pass.id) → state_seen pass' ≡ after (state_seen pass) (adds sole).0
 later_by pass pass' same adds sole =
     ap (λ (n : Name). after (start n) pass'.seen) same.0
     ∙ ap (λ (log : List Entry). after (start pass.name) log) (adds sole).1
     ∙ after_both (start pass.name) pass.seen (adds sole).0
 
-pub none_lost_by : (pass pass' : Pass) → IsSame pass pass' → AddsAlone pass pass' → (vs : List ℕ) → IsSole pass.name.gate pass.id → Since (events_by pass) (events_by pass') vs → NoneLost pass pass'
+pub none_lost_by : (pass pass' : Pass) → IsSamePass pass pass' → AddsAlone pass pass' → (vs : List ℕ) → IsSole pass.id → Since (events_by pass) (events_by pass') vs → NoneLost pass pass'
 none_lost_by pass pass' same adds vs sole since v h =
     loose_kept v (state_seen pass) (adds sole).0
     (subst (λ (made : List (Deed × Answer)). NoneOf (deeds_in made)) (sym (made_there pass pass' since.0 same adds sole since.1)) since.2)
@@ -70,7 +70,7 @@ pub lost_same : (pass pass' : Pass) → state_seen pass' ≡ state_seen pass →
 lost_same pass pass' same v h = subst (λ (st : State). has v st.loose ≡ true) same h
 
 -- after one event that is none on a link
-pub event_lost : (pass pass' : Pass) (d : Deed) → IsSame pass pass' → Noted pass.name pass.id pass.seen pass'.seen (Made d) → IsSole pass.name.gate pass.id → IsNone d.event → NoneLost pass pass'
+pub event_lost : (pass pass' : Pass) (d : Deed) → IsSamePass pass pass' → Noted pass.name pass.id pass.seen pass'.seen (Made d) → IsSole pass.id → IsNone d.event → NoneLost pass pass'
 event_lost pass pass' d same noted sole none v h =
     let st : State = start pass.name in
     subst (λ (log : List Entry). has v (after st log).loose ≡ true) (noted.alone sole)
@@ -80,7 +80,7 @@ event_lost pass pass' d same noted sole none v h =
 
 -- A call that began to retire a value leaves it out.
 
-retiring_one : (v s : ℕ) (st : State) (d : Deed) → d.event ≡ Begin s (Retire v) → (done_by next st (timed d)).1 ≡ Done → has v (done_by next st (timed d)).0.loose ≡ false
+retiring_one : (v s : ℕ) (st : State) (d : Deed) → d.event ≡ Begin s (Retire v) → (done_by next st (timed_deed d)).1 ≡ Done → has v (done_by next st (timed_deed d)).0.loose ≡ false
 retiring_one v s st d is =
     subst (λ (e : Event). (or_illegal st (next d.size st e)).1 ≡ Done → has v (or_illegal st (next d.size st e)).0.loose ≡ false) (sym is)
     (go (is_idle (slot_at st s) && scheme.may_retire st v))
@@ -102,13 +102,13 @@ retired_after : (v s : ℕ) (st : State) (log : List Entry) (d : Deed) (rest : L
 retired_after v s st [] d rest is made none = absurd (let e : [] ≡ (d, Done) ∷ rest = made in cc)
 retired_after v s st (Used u ∷ log) d rest is made none = retired_after v s st log d rest is made none
 retired_after v s st (Made e ∷ log) d rest is made none =
-    let done : State × Answer = done_by next st (timed e) in
+    let done : State × Answer = done_by next st (timed_deed e) in
     let same = same_first (e, done.1) (d, Done) (events_in (answered done.0 log)) rest made in
     false_by (has v (after done.0 log).loose) (has v done.0.loose)
     (retiring_one v s st e (ap (λ (a : Deed × Answer). a.0.event) same.0 ∙ is) (ap (λ (a : Deed × Answer). a.1) same.0))
     (loose_kept v done.0 log (subst (λ (more : List (Deed × Answer)). NoneOf (deeds_in more)) (sym same.1) none))
 
-pub retired_since : (pass pass' : Pass) (d : Deed) (s v : ℕ) (made : List (Deed × Answer)) → IsSame pass pass' → AddsAlone pass pass' → IsSole pass.name.gate pass.id → d.event ≡ Begin s (Retire v)
+pub retired_since : (pass pass' : Pass) (d : Deed) (s v : ℕ) (made : List (Deed × Answer)) → IsSamePass pass pass' → AddsAlone pass pass' → IsSole pass.id → d.event ≡ Begin s (Retire v)
     → events_by pass' ≡ events_by pass ++ (d, Done) ∷ made → NoneOf (deeds_in made) → has v (state_seen pass').loose ≡ false
 retired_since pass pass' d s v made same adds sole is events none =
     ap (λ (st : State). has v st.loose) (later_by pass pass' same adds sole)
@@ -133,7 +133,7 @@ out_one v size st s n d is h =
     let w = if_some (can_link st s n && is_none_or_fresh st None) (swapped scheme st n None, Link (link_at st n)) d is in
     has_more v st.loose (link_at st n) (subst (λ (t : State × Answer). has v t.0.loose ≡ true) (sym w.1) h)
 
-pub came_out : (pass pass' : Pass) (d : Deed) (s n : ℕ) → d.event ≡ ExchangeLink s n (Swap None) → IsSame pass pass' → (noted : Noted pass.name pass.id pass.seen pass'.seen (Made d)) → IsSole pass.name.gate pass.id
+pub came_out : (pass pass' : Pass) (d : Deed) (s n : ℕ) → d.event ≡ ExchangeLink s n (Swap None) → IsSamePass pass pass' → (noted : Noted pass.name pass.id pass.seen pass'.seen (Made d)) → IsSole pass.id
     → (v : ℕ) → has v (state_seen pass').loose ≡ true → (has v (state_seen pass).loose ≡ true) ⊎ (link_at (after (start pass.name) noted.before) n ≡ Some v)
 came_out pass pass' d s n is same noted sole v h =
     let st : State = after (start pass.name) noted.before in

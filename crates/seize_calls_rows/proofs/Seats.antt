@@ -9,6 +9,7 @@ use Rattle.seize_book.specs.Tokens.{Name, start}
 use Rattle.seize_book.specs.declared.book.pass.Pass.{Pass}
 use Rattle.seize_book.specs.declared.book.slot_key.SlotKey.{SlotKey}
 use Rattle.seize_calls.specs.declared.batch.Batch.{Batch}
+use Rattle.seize_store.specs.Named.{AreOfStore}
 use Rattle.seize_store.specs.declared.spot.Spots.{Spots}
 use Rattle.seize_words.specs.Joined.{IsInAt, words_book}
 use Rattle.seize_words.specs.Links.{IsWithin}
@@ -29,7 +30,7 @@ works_again words words' slot size batch key pass same works =
     record { links = ap (λ (n : Name). length n.links) same ∙ works.links; book = same ∙ works.book; size_is = works.size_is; holder = works.holder; batch_is = works.batch_is }
 
 spots_again : (words words' : Shared) (spots : Spots Header Part ℕ) → words_book words' ≡ words_book words → AreSpotsOf words spots → AreSpotsOf words' spots
-spots_again words words' spots same are = (are.0, ap (λ (n : Name). n.store) same ∙ are.1, are.2)
+spots_again words words' spots same are = subst (λ (n : Name). AreOfStore spots n.store) (sym same) are
 
 again_by : (words words' : Shared) (h : Holder) (o : Option Activation) (pass : Pass) → words_book words' ≡ words_book words → SitsWith words h o pass → SitsWith words' h o pass
 again_by words words' h None pass same sits = (works_again words words' h.slot h.size h.batch h.key pass same sits.0, sits.1, spots_again words words' h.spots same sits.2)
@@ -43,7 +44,7 @@ again_by words words' h (Some a) pass same sits =
     }
 
 pub sits_again : (words words' : Shared) (seat : Seat) → words_book words' ≡ words_book words → SitsAt words seat → SitsAt words' seat
-sits_again words words' seat same sits = (sits.0 ∙ sym same, again_by words words' seat.holder seat.activation (seen_by seat.seen) same sits.1)
+sits_again words words' seat same sits = (sits.0 ∙ sym same, again_by words words' seat.holder seat.activation (seen_by seat.seen seat.holder.size) same sits.1)
 
 -- With another pass of the book, which has seen no less.
 
@@ -54,20 +55,24 @@ in_later a pass pass' l same grows in_ = (
       (record { active = in_.1.active; its = in_.1.its; known = prefix_trans a.since pass.seen pass'.seen in_.1.known grows; is_link = in_.1.is_link }),
 )
 
-moved : (words : Shared) (h : Holder) (o : Option Activation) (pass pass' : Pass) → (Works words h.slot h.size h.batch h.key pass → Works words h.slot h.size h.batch h.key pass') → pass'.name ≡ pass.name → IsPrefix pass.seen pass'.seen
-    → SitsWith words h o pass → SitsWith words h o pass'
-moved words h None pass pass' to same grows sits = (to sits.0, sits.1, sits.2)
-moved words h (Some a) pass pass' to same grows sits = record { works = to sits.works; inside = sits.inside; last = sits.last; begun = λ l less. in_later a pass pass' l same grows (sits.begun l less); spots = sits.spots }
+-- the same, with this size of a batch
+abbrev pub resized : Holder → ℕ → Holder
+resized h size = record { slot = h.slot; size = size; key = h.key; batch = h.batch; spots = h.spots }
 
-pub sits_later : (words : Shared) (h : Holder) (o : Option Activation) (pass pass' : Pass) → pass'.name ≡ pass.name → IsPrefix pass.seen pass'.seen → IsLegalList (start pass'.name) pass'.seen → SitsWith words h o pass → SitsWith words h o pass'
-sits_later words h o pass pass' same grows legal = moved words h o pass pass' (λ works. works_by words h.slot h.size h.batch h.key pass pass' works same grows legal) same grows
+moved : (words : Shared) (h : Holder) (o : Option Activation) (pass pass' : Pass) (size : ℕ) → (Works words h.slot h.size h.batch h.key pass → Works words h.slot size h.batch h.key pass') → pass'.name ≡ pass.name → IsPrefix pass.seen pass'.seen
+    → SitsWith words h o pass → SitsWith words (resized h size) o pass'
+moved words h None pass pass' size to same grows sits = (to sits.0, sits.1, sits.2)
+moved words h (Some a) pass pass' size to same grows sits = record { works = to sits.works; inside = sits.inside; last = sits.last; begun = λ l less. in_later a pass pass' l same grows (sits.begun l less); spots = sits.spots }
 
-pub sits_as : (words : Shared) (h : Holder) (o : Option Activation) (pass pass' : Pass) → pass'.name ≡ pass.name → pass'.seen ≡ pass.seen → SitsWith words h o pass → SitsWith words h o pass'
-sits_as words h o pass pass' same seen =
-    moved words h o pass pass' (λ works. works_as words h.slot h.size h.batch h.key pass pass' works same seen) same (subst (IsPrefix pass.seen) (sym seen) (prefix_refl pass.seen))
+pub sits_later : (words : Shared) (h : Holder) (o : Option Activation) (pass pass' : Pass) (size : ℕ) → pass'.name ≡ pass.name → size ≡ pass'.size → IsPrefix pass.seen pass'.seen → IsLegalList (start pass'.name) pass'.seen → SitsWith words h o pass → SitsWith words (resized h size) o pass'
+sits_later words h o pass pass' size same size_is grows legal = moved words h o pass pass' size (λ works. works_by words h.slot h.size size h.batch h.key pass pass' works same size_is grows legal) same grows
+
+pub sits_as : (words : Shared) (h : Holder) (o : Option Activation) (pass pass' : Pass) → pass'.name ≡ pass.name → h.size ≡ pass'.size → pass'.seen ≡ pass.seen → SitsWith words h o pass → SitsWith words h o pass'
+sits_as words h o pass pass' same size_is seen =
+    moved words h o pass pass' h.size (λ works. works_as words h.slot h.size h.batch h.key pass pass' works same size_is seen) same (subst (IsPrefix pass.seen) (sym seen) (prefix_refl pass.seen))
 
 pub sits_on : (words : Shared) (h : Holder) (o : Option Activation) (pass pass' : Pass) → GoesOn pass pass' → SitsWith words h o pass → SitsWith words h o pass'
-sits_on words h o pass pass' goes = moved words h o pass pass' (λ works. works_on words h.slot h.size h.batch h.key h.key pass pass' works goes refl refl refl) goes.same.0 goes.seen
+sits_on words h o pass pass' goes = moved words h o pass pass' h.size (λ works. works_on words h.slot h.size h.batch h.key h.key pass pass' works goes refl refl refl) goes.same.0 goes.seen
 
 -- A sound post has a seat, and its label says the seat's book.
 

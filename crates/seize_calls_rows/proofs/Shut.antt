@@ -9,21 +9,20 @@ use Rattle.seize_machine.proofs.Facts.{and_true, heads_length, law_quiet}
 use Rattle.seize_machine.specs.Machine.History.{Reclaimed, Retired, answers_of}
 use Rattle.seize_machine.specs.Machine.Laws.{is_quiet}
 use Rattle.seize_machine.specs.Machine.Next.{is_zero}
-use Rattle.seize_machine.specs.Machine.State.{Head, Inactive, Slot, State, are_distinct, has, head_at, is_active, is_idle, link_at, linked, no_slot, slot_at}
+use Rattle.seize_machine.specs.Machine.State.{Head, Inactive, Slot, State, are_distinct, has, head_at, is_active, is_idle, link_at, linked_values, no_slot, slot_at}
 use Rattle.seize_machine.specs.declared.machine.event.Job.{Job}
 use Rattle.seize_book.specs.Book.{IsLegalList, after, moments}
 use Rattle.seize_book.specs.Entry.{Deed, Entry, events_of}
 use Rattle.seize_book.specs.Homesteads.{state_seen}
-use Rattle.seize_book.specs.Passes.{IsSame, Longer, events_by}
-use Rattle.seize_book.specs.Slots.{Looks, active_of, number_of, slot_of}
+use Rattle.seize_book.specs.Passes.{IsSamePass, Longer, events_by}
+use Rattle.seize_book.specs.Slots.{Looks, active_of, slot_number, slot_of}
 use Rattle.seize_book.specs.Tokens.{IsSole, Name, start}
-use Rattle.seize_book.specs.Turns.{HasTurn}
 use Rattle.seize_book.specs.declared.book.pass.Pass.{Pass}
 use Rattle.seize_book.specs.declared.book.slot_key.SlotKey.{SlotKey}
 use Rattle.seize_book.specs.declared.book.value_keys.ValueKeys.{ValueKeys}
-use Rattle.seize_book.proofs.Facts.{as_legal, reached_after, turn_alone}
+use Rattle.seize_book.proofs.Facts.{as_legal, reached_after}
 use Rattle.seize_calls.specs.Calls.{Flushes, Leaves, RetiresOne, Returns}
-use Rattle.seize_calls.specs.Settling.{Drains, Round, Settles, Stand}
+use Rattle.seize_calls.specs.Settling.{CallState, Drains, DrainsOne, Settles}
 use Rattle.seize_book.specs.Kept.{AllTold, kepts_of}
 use Rattle.seize_calls.specs.Batches.{keys_in}
 use Rattle.seize_words.proofs.Facts.{all_told_append, all_told_grow, all_told_later, more_slots}
@@ -41,12 +40,6 @@ use Rattle.seize_calls.proofs.Handed.{had_more, had_none, handed_append}
 use Rattle.seize_calls.specs.Alone.{AddsAlone}
 use Rattle.seize_calls.specs.Walking.{handed_in}
 use Rattle.seize_calls_rows.proofs.Workers.{works_on}
-
-pub has_turn : (pass : Pass) → HasTurn pass → IsSole pass.name.gate pass.id
-has_turn pass turn = subst (IsSole pass.name.gate) (sym turn.1) (turn_alone pass.name.gate turn.0)
-
-pub turn_still : (pass pass' : Pass) → IsSame pass pass' → HasTurn pass → HasTurn pass'
-turn_still pass pass' same turn = subst (λ (t : Name × ℕ). Rattle.seize_book.specs.Tokens.IsTurns t.0.gate × (t.1 ≡ 0)) (λ j. (sym same.0 j, sym same.1 j)) turn
 
 -- The values that are gone since went to the reclaimer, in this order.
 
@@ -95,7 +88,7 @@ makes_twice a b c seen seen' had had1 had2 grows one two = record {
 makes_one : (was now : List (Deed × Answer)) (seen : List Entry) (d : Deed) (had had' : Had) → now ≡ was ++ (d, Done) ∷ [] → IsNone d.event → had' ≡ had → Makes was now seen had had'
 makes_one was now seen d had had' made none same = record { handed = []; kepts = []; since = (_, made, (none, tt), refl); has_had = subst (HasHad [] [] had) (sym same) (had_none had); told = tt }
 
-did_by : (pass pass' : Pass) (had had' : Had) → IsSame pass pass' → IsPrefix pass.seen pass'.seen → AddsAlone pass pass' → IsSole pass.name.gate pass.id → Makes (events_by pass) (events_by pass') pass'.seen had had' → Did pass pass' had had'
+did_by : (pass pass' : Pass) (had had' : Had) → IsSamePass pass pass' → IsPrefix pass.seen pass'.seen → AddsAlone pass pass' → IsSole pass.id → Makes (events_by pass) (events_by pass') pass'.seen had had' → Did pass pass' had had'
 did_by pass pass' had had' same grows adds sole m =
     let vs = values_handed m.handed in (
       none_changed pass pass' same adds vs sole m.since,
@@ -103,9 +96,9 @@ did_by pass pass' had had' same grows adds sole m =
       none_lost_by pass pass' same adds vs sole m.since,
     )
 
-settles_makes : (a b : Stand) (retired : Bool) → Settles a b retired → Makes (events_by a.pass) (events_by b.pass) b.pass.seen a.had b.had
+settles_makes : (a b : CallState) (retired : Bool) → Settles a b retired → Makes (events_by a.pass) (events_by b.pass) b.pass.seen a.had b.had
 settles_makes a b false s =
-    let e = events_by a.pass in let k = number_of a.key in
+    let e = events_by a.pass in let k = slot_number a.key in
     record {
       handed = [];
       kepts = [];
@@ -114,7 +107,7 @@ settles_makes a b false s =
       told = tt;
     }
 settles_makes a b true s =
-    let e = events_by a.pass in let k = number_of a.key in let vs = values_handed s.handed in
+    let e = events_by a.pass in let k = slot_number a.key in let vs = values_handed s.handed in
     let read = on_since e e (readings a.pass k 0 s.finds) [] (at_first e) (none_read a.pass k 0 s.finds) (handed_read a.pass k 0 s.finds) in
     let turns = on_since e _ _ [] (on_since e _ _ [] read ((λ l. refl), tt) refl) (none_turns a.pass k (actives 0 s.finds) s.turns) (handed_turns a.pass k (actives 0 s.finds) s.turns) in
     record {
@@ -125,36 +118,36 @@ settles_makes a b true s =
       told = s.told;
     }
 
-settles_grow : (a b : Stand) (retired : Bool) → Settles a b retired → IsPrefix a.pass.seen b.pass.seen
+settles_grow : (a b : CallState) (retired : Bool) → Settles a b retired → IsPrefix a.pass.seen b.pass.seen
 settles_grow a b false s = s.on.grows
 settles_grow a b true s = s.on.grows
 
-round_makes : (a b : Stand) (v kept : ℕ) (retired : Bool) → Round a v kept b retired → Makes (events_by a.pass) (events_by b.pass) b.pass.seen a.had b.had
+round_makes : (a b : CallState) (v kept : ℕ) (retired : Bool) → DrainsOne a v kept b retired → Makes (events_by a.pass) (events_by b.pass) b.pass.seen a.had b.had
 round_makes a b v kept retired r =
     makes_twice (events_by a.pass) (events_by r.full.pass) (events_by b.pass) r.full.pass.seen b.pass.seen a.had r.full.had b.had (settles_grow r.full b retired r.settles)
     (makes_one _ _ _ _ a.had r.full.had r.puts.made (λ l. refl) r.same.1) (settles_makes r.full b retired r.settles)
 
-round_grows : (a b : Stand) (v kept : ℕ) (retired : Bool) → Round a v kept b retired → IsPrefix a.pass.seen b.pass.seen
+round_grows : (a b : CallState) (v kept : ℕ) (retired : Bool) → DrainsOne a v kept b retired → IsPrefix a.pass.seen b.pass.seen
 round_grows a b v kept retired r = prefix_trans a.pass.seen r.full.pass.seen b.pass.seen r.puts.on.grows (settles_grow r.full b retired r.settles)
 
-drains_makes : (a b : Stand) → Drains a b → Makes (events_by a.pass) (events_by b.pass) b.pass.seen a.had b.had
+drains_makes : (a b : CallState) → Drains a b → Makes (events_by a.pass) (events_by b.pass) b.pass.seen a.had b.had
 drains_makes a _ Drains.over = record { handed = []; kepts = []; since = at_first (events_by a.pass); has_had = had_none a.had; told = tt }
 drains_makes a _ (Drains.round b c queue v kept retired drains takes round) =
     makes_twice (events_by a.pass) (events_by b.pass) (events_by c.pass) b.pass.seen c.pass.seen a.had b.had c.had
     (round_grows (record { key = b.key; pass = b.pass; batch = b.batch; queue = queue; had = b.had }) c v kept retired round) (drains_makes a b drains)
     (round_makes (record { key = b.key; pass = b.pass; batch = b.batch; queue = queue; had = b.had }) c v kept retired round)
 
-drains_grow : (a b : Stand) → Drains a b → IsPrefix a.pass.seen b.pass.seen
+drains_grow : (a b : CallState) → Drains a b → IsPrefix a.pass.seen b.pass.seen
 drains_grow a _ Drains.over = prefix_refl a.pass.seen
 drains_grow a _ (Drains.round b c queue v kept retired drains takes round) =
     prefix_trans a.pass.seen b.pass.seen c.pass.seen (drains_grow a b drains) (round_grows (record { key = b.key; pass = b.pass; batch = b.batch; queue = queue; had = b.had }) c v kept retired round)
 
 -- it drained its queue, and returned
-ends_makes : (a b : Stand) (key' : SlotKey) (pass' : Pass) (values' : ValueKeys) (had' : Had) → Drains a b → Returns b key' pass' values' had' → Makes (events_by a.pass) (events_by pass') pass'.seen a.had had'
+ends_makes : (a b : CallState) (key' : SlotKey) (pass' : Pass) (values' : ValueKeys) (had' : Had) → Drains a b → Returns b key' pass' values' had' → Makes (events_by a.pass) (events_by pass') pass'.seen a.had had'
 ends_makes a b key' pass' values' had' drains returns =
     makes_twice (events_by a.pass) (events_by b.pass) (events_by pass') b.pass.seen pass'.seen a.had b.had had' returns.keeps.grows (drains_makes a b drains) (makes_one _ _ _ _ b.had had' returns.made (λ l. refl) returns.had_none)
 
-ends_grow : (a b : Stand) (key' : SlotKey) (pass' : Pass) (values' : ValueKeys) (had' : Had) → Drains a b → Returns b key' pass' values' had' → IsPrefix a.pass.seen pass'.seen
+ends_grow : (a b : CallState) (key' : SlotKey) (pass' : Pass) (values' : ValueKeys) (had' : Had) → Drains a b → Returns b key' pass' values' had' → IsPrefix a.pass.seen pass'.seen
 ends_grow a b key' pass' values' had' drains returns = prefix_trans a.pass.seen b.pass.seen pass'.seen (drains_grow a b drains) returns.keeps.grows
 
 module _ (key : SlotKey) (pass : Pass) (values : ValueKeys) (had : Had) (key' : SlotKey) (pass' : Pass) (values' : ValueKeys) (had' : Had) (b : Bool) where
@@ -165,7 +158,7 @@ module _ (key : SlotKey) (pass : Pass) (values : ValueKeys) (had : Had) (key' : 
       (ends_grow r.settled r.drained key' pass' values' had' r.drains r.returns) (round_makes r.begun r.settled v kept b r.round)
       (ends_makes r.settled r.drained key' pass' values' had' r.drains r.returns)
 
-  pub retired_did : (v kept : ℕ) → RetiresOne key pass v kept values had key' pass' values' had' b → IsSole pass.name.gate pass.id → Did pass pass' had had'
+  pub retired_did : (v kept : ℕ) → RetiresOne key pass v kept values had key' pass' values' had' b → IsSole pass.id → Did pass pass' had had'
   retired_did v kept r sole =
       let e = events_by in
       let end = ends_grow r.settled r.drained key' pass' values' had' r.drains r.returns in
@@ -174,13 +167,13 @@ module _ (key : SlotKey) (pass : Pass) (values : ValueKeys) (had : Had) (key' : 
       (makes_one _ _ _ _ had r.begun.had r.begins.begins.made (λ l. refl) r.begins.had_none) (rest_of v kept r))
 
   -- its value is no longer between a link and its retirement
-  pub retired_out : (v kept : ℕ) → RetiresOne key pass v kept values had key' pass' values' had' b → IsSole pass.name.gate pass.id → has v (state_seen pass').loose ≡ false
+  pub retired_out : (v kept : ℕ) → RetiresOne key pass v kept values had key' pass' values' had' b → IsSole pass.id → has v (state_seen pass').loose ≡ false
   retired_out v kept r sole =
       let rest = (rest_of v kept r).since in
-      retired_since pass pass' _ (number_of key) v rest.0 r.rests.same r.rests.alone sole refl
+      retired_since pass pass' _ (slot_number key) v rest.0 r.rests.same r.rests.alone sole refl
       (rest.1 ∙ ap (λ (made : List (Deed × Answer)). made ++ rest.0) r.begins.begins.made ∙ append_assoc (events_by pass) _ rest.0) rest.2
 
-  pub flushed_did : Flushes key pass values had key' pass' values' had' b → IsSole pass.name.gate pass.id → Did pass pass' had had'
+  pub flushed_did : Flushes key pass values had key' pass' values' had' b → IsSole pass.id → Did pass pass' had had'
   flushed_did f sole =
       let e = events_by in
       let end = ends_grow f.settled f.drained key' pass' values' had' f.drains f.returns in
@@ -190,9 +183,9 @@ module _ (key : SlotKey) (pass : Pass) (values : ValueKeys) (had : Had) (key' : 
       (makes_twice (e f.begun.pass) (e f.settled.pass) (e pass') f.settled.pass.seen pass'.seen f.begun.had f.settled.had had' end (settles_makes f.begun f.settled b f.settles) (ends_makes f.settled f.drained key' pass' values' had' f.drains f.returns)))
 
 pub left_did : (job : Job) (stays : Bool) (swap : Deed) (key : SlotKey) (pass : Pass) (values : ValueKeys) (had : Had) (key' : SlotKey) (pass' : Pass) (values' : ValueKeys) (had' : Had)
-    → Leaves job stays swap key pass values had key' pass' values' had' → IsNone swap.event → IsSole pass.name.gate pass.id → Did pass pass' had had'
+    → Leaves job stays swap key pass values had key' pass' values' had' → IsNone swap.event → IsSole pass.id → Did pass pass' had had'
 left_did job stays swap key pass values had key' pass' values' had' l none sole =
-    let e = events_by pass in let k = number_of key in let vs = values_handed (handed_in l.walked) in
+    let e = events_by pass in let k = slot_number key in let vs = values_handed (handed_in l.walked) in
     let out = on_since e _ _ [] (on_since e e _ [] (at_first e) ((λ l. refl), tt) refl) (none, tt) refl in
     did_by pass pass' had had' l.rests.same l.rests.grows l.rests.alone sole
     (makes_twice e (events_by l.behind.pass) (events_by pass') l.behind.pass.seen pass'.seen had l.behind.had had' (ends_grow l.behind l.drained key' pass' values' had' l.drains l.returns)
@@ -208,27 +201,27 @@ one_emptier n pass pass' empty out l less = go (ℕ_discrete l n)
     go (no other) = out.1 l other ∙ empty l (let differ : l ≡ n → ⊥ = other in omega (arith, differ, less))
 
 -- A pass of the same book that has seen more serves as well.
-works_more : (words : Shared) (slot size : ℕ) (batch : Batch) (key : SlotKey) (pass pass' : Pass) → Works words slot size batch key pass → pass'.name ≡ pass.name → IsPrefix pass.seen pass'.seen → slot < length (after (start pass.name) pass'.seen).slots
-    → Works words slot size batch key pass'
-works_more words slot size batch key pass pass' works same grows less =
+works_more : (words : Shared) (slot size size' : ℕ) (batch : Batch) (key : SlotKey) (pass pass' : Pass) → Works words slot size batch key pass → pass'.name ≡ pass.name → size' ≡ pass'.size → IsPrefix pass.seen pass'.seen → slot < length (after (start pass.name) pass'.seen).slots
+    → Works words slot size' batch key pass'
+works_more words slot size size' batch key pass pass' works same size_is grows less =
     record {
       links = works.links;
       book = works.book ∙ sym same;
-      size_is = works.size_is ∙ ap (λ (n : Name). n.size) (sym same);
+      size_is = size_is;
       holder = (works.holder.0 ∙ sym same, works.holder.1, subst (λ (n : Name). slot < length (after (start n) pass'.seen).slots) (sym same) less);
-      batch_is = (works.batch_is.0 ∙ sym same, works.batch_is.1, all_told_later (keys_in batch).keys.name.store pass.seen pass'.seen (keys_in batch).keys.held grows works.batch_is.2);
+      batch_is = (works.batch_is.0 ∙ sym same, works.batch_is.1, all_told_later pass.seen pass'.seen (keys_in batch).keys.held grows works.batch_is.2);
     }
 
-pub works_by : (words : Shared) (slot size : ℕ) (batch : Batch) (key : SlotKey) (pass pass' : Pass) → Works words slot size batch key pass → pass'.name ≡ pass.name → IsPrefix pass.seen pass'.seen → IsLegalList (start pass'.name) pass'.seen
-    → Works words slot size batch key pass'
-works_by words slot size batch key pass pass' works same grows legal =
+pub works_by : (words : Shared) (slot size size' : ℕ) (batch : Batch) (key : SlotKey) (pass pass' : Pass) → Works words slot size batch key pass → pass'.name ≡ pass.name → size' ≡ pass'.size → IsPrefix pass.seen pass'.seen → IsLegalList (start pass'.name) pass'.seen
+    → Works words slot size' batch key pass'
+works_by words slot size size' batch key pass pass' works same size_is grows legal =
     let more = more_slots pass.name pass.seen pass'.seen grows (subst (λ (n : Name). IsLegalList (start n) pass'.seen) same legal) in let there = works.holder.2 in
-    let less : slot < length (after (start pass.name) pass'.seen).slots = omega (arith, more, there) in works_more words slot size batch key pass pass' works same grows less
+    let less : slot < length (after (start pass.name) pass'.seen).slots = omega (arith, more, there) in works_more words slot size size' batch key pass pass' works same size_is grows less
 
 -- and so with one that has seen just that
-pub works_as : (words : Shared) (slot size : ℕ) (batch : Batch) (key : SlotKey) (pass pass' : Pass) → Works words slot size batch key pass → pass'.name ≡ pass.name → pass'.seen ≡ pass.seen → Works words slot size batch key pass'
-works_as words slot size batch key pass pass' works same seen =
-    works_more words slot size batch key pass pass' works same (subst (IsPrefix pass.seen) (sym seen) (prefix_refl pass.seen))
+pub works_as : (words : Shared) (slot size : ℕ) (batch : Batch) (key : SlotKey) (pass pass' : Pass) → Works words slot size batch key pass → pass'.name ≡ pass.name → size ≡ pass'.size → pass'.seen ≡ pass.seen → Works words slot size batch key pass'
+works_as words slot size batch key pass pass' works same size_is seen =
+    works_more words slot size size batch key pass pass' works same size_is (subst (IsPrefix pass.seen) (sym seen) (prefix_refl pass.seen))
     (subst (λ (log : List Entry). slot < length (after (start pass.name) log).slots) (sym seen) works.holder.2)
 
 pub holds_on : (words : Shared) (holder : Holder) (pass pass' : Pass) → Holds words holder pass → GoesOn pass pass' → Holds words holder pass'
@@ -250,7 +243,7 @@ not_so : (b : Bool) → not b ≡ true → b ≡ false
 not_so true h = absurd (let e : false ≡ true = h in cc)
 not_so false h = refl
 
-pub left_by : (key key' : SlotKey) (pass pass' : Pass) (s : ℕ) → Looks key pass key' pass' → key.keys.name ≡ pass.name → number_of key ≡ s → is_idle (slot_of key) ≡ true → active_of key ≡ false → (slot_of key).batch ≡ []
+pub left_by : (key key' : SlotKey) (pass pass' : Pass) (s : ℕ) → Looks key pass key' pass' → key.keys.name ≡ pass.name → slot_number key ≡ s → is_idle (slot_of key) ≡ true → active_of key ≡ false → (slot_of key).batch ≡ []
     → LeavesNothing pass' s
 left_by key key' pass pass' s looks book is idle off none =
     let name : pass'.name ≡ key.keys.name = looks.on.same.0 ∙ sym book in
@@ -282,7 +275,7 @@ no_batch [] two one more s = absurd (omega (arith, two))
 no_batch (a ∷ []) two one more s = absurd (omega (arith, two))
 no_batch (a ∷ b ∷ z ∷ slots) two one more s = absurd (omega (arith, two))
 
-pub all_back : (pass : Pass) → IsSole pass.name.gate pass.id → EmptyBelow 1024 pass → IsLegalList (start pass.name) pass.seen → are_distinct (linked pass.name.links) ≡ true → length (state_seen pass).slots ≡ 2
+pub all_back : (pass : Pass) → IsSole pass.id → EmptyBelow 1024 pass → IsLegalList (start pass.name) pass.seen → are_distinct (linked_values pass.name.links) ≡ true → length (state_seen pass).slots ≡ 2
     → LeavesNothing pass 0 → LeavesNothing pass 1 → AllBack pass
 all_back pass sole links legal distinct two first second = record { alone = sole; links = links; quiet = quiet; batches = none; reclaimed = gone }
   where

@@ -9,14 +9,14 @@ use Rattle.seize_machine.specs.Machine.State.{Slot, State, head_at, is_active, i
 use Rattle.seize_machine.specs.Machine.State.{Active as Entered}
 use Rattle.seize_machine.specs.declared.machine.event.Answer.{Answer}
 use Rattle.seize_machine.specs.declared.machine.event.Answer.TheVariants.{Done}
-use Rattle.seize_book.specs.Blocks.{block_of, link_word}
+use Rattle.seize_book.specs.Blocks.{block_number, link_word}
 use Rattle.seize_book.specs.Book.{IsLegalList, after}
 use Rattle.seize_book.specs.Entry.{Entry}
 use Rattle.seize_book.specs.Laws.{life}
-use Rattle.seize_book.specs.Ledger.{Held}
-use Rattle.seize_book.specs.Passes.{IsSame, LooksOn}
+use Rattle.seize_book.specs.Ledger.{HeldKey}
+use Rattle.seize_book.specs.Passes.{IsSamePass, LooksOn}
 use Rattle.seize_book.specs.Private.{label_of}
-use Rattle.seize_book.specs.Slots.{Moves, NotesAs, active_of, life_of, number_of, own_list, size_of, slot_of, start_of}
+use Rattle.seize_book.specs.Slots.{Moves, NotesAs, active_of, life_of, own_list, slot_number, slot_of, start_of}
 use Rattle.seize_book.specs.Tokens.{Name, Noted, start}
 use Rattle.seize_book.specs.Values.{book_in}
 use Rattle.seize_book.specs.declared.book.pass.Pass.{Pass}
@@ -43,7 +43,7 @@ use Rattle.seize_calls_rows.specs.declared.worker.Active.{Active}
 use Rattle.seize_calls_rows.specs.declared.worker.Worker.{Worker}
 
 -- after an entry with the pass
-pub goes_noted : (pass pass' : Pass) (e : Entry) → IsSame pass pass' → Noted pass.name pass.id pass.seen pass'.seen e → GoesOn pass pass'
+pub goes_noted : (pass pass' : Pass) (e : Entry) → IsSamePass pass pass' → Noted pass.name pass.id pass.seen pass'.seen e → GoesOn pass pass'
 goes_noted pass pass' e same noted =
     let grows = seen_grows pass.name pass.id pass.seen pass'.seen e noted in
     record {
@@ -60,13 +60,13 @@ pub goes_twice : (one two three : Pass) → GoesOn one two → GoesOn two three 
 goes_twice one two three first last =
     let many = first.slots in let more = last.slots in
     record {
-      same = (last.same.0 ∙ first.same.0, last.same.1 ∙ first.same.1);
+      same = (last.same.0 ∙ first.same.0, last.same.1 ∙ first.same.1, last.same.2 ∙ first.same.2);
       seen = prefix_trans one.seen two.seen three.seen first.seen last.seen;
       slots = omega (arith, many, more);
     }
 
 pub goes_none : (pass : Pass) → GoesOn pass pass
-goes_none pass = record { same = (refl, refl); seen = prefix_refl pass.seen; slots = omega arith }
+goes_none pass = record { same = (refl, refl, refl); seen = prefix_refl pass.seen; slots = omega arith }
 
 pub goes_same : (one two three : Pass) → two ≡ one → GoesOn two three → GoesOn one three
 goes_same one two three same goes = subst (λ (p : Pass). GoesOn p three) same goes
@@ -98,11 +98,11 @@ begun_in key a pass l begun book own is =
     )
 
 -- entering leaves the slot's record
-entered_so : (key key' : SlotKey) (log : List Entry) (later : State) (answer : Answer) → Moves key key' log (Enter (number_of key)) later answer → is_idle (slot_of key) ≡ true → active_of key ≡ false → slot_of key' ≡ slot_of key
-entered_so key key' log later answer moves idle off =
-    let s = number_of key in let st = after (start_of key) log in let d : State × Answer = (set_head st s (Entered []), Done) in
-    let is : next (size_of key) st (Enter s) ≡ Some d = next_of (size_of key) st (Enter s) d (Step.entered s (ap is_idle moves.was ∙ idle) (moves.was_active ∙ off)) in
-    moved key key' log (Enter s) later answer moves d is ∙ moves.was
+entered_so : (key key' : SlotKey) (log : List Entry) (pass : Pass) (its : ℕ) (later : State) (answer : Answer) → Moves key key' log (beginning pass its (Enter (slot_number key))) later answer → is_idle (slot_of key) ≡ true → active_of key ≡ false → slot_of key' ≡ slot_of key
+entered_so key key' log pass its later answer moves idle off =
+    let s = slot_number key in let st = after (start_of key) log in let d : State × Answer = (set_head st s (Entered []), Done) in
+    let is : next pass.size st (Enter s) ≡ Some d = next_of pass.size st (Enter s) d (Step.entered s (ap is_idle moves.was ∙ idle) (moves.was_active ∙ off)) in
+    moved key key' log (beginning pass its (Enter s)) later answer moves d is ∙ moves.was
 
 -- a slot without a call
 pub idle_of : (slot : Slot) → slot.used ≡ true → slot.call ≡ None → is_idle slot ≡ true
@@ -112,7 +112,7 @@ pub used_of : (slot : Slot) → is_idle slot ≡ true → slot.used ≡ true
 used_of slot idle = (and_true _ _ idle).0
 
 -- a pass that has seen no less, and what its slot's key knows
-pub goes_known : (key' : SlotKey) (pass pass' : Pass) → IsSame pass pass' → IsPrefix pass.seen pass'.seen → Knows key' pass' → GoesOn pass pass'
+pub goes_known : (key' : SlotKey) (pass pass' : Pass) → IsSamePass pass pass' → IsPrefix pass.seen pass'.seen → Knows key' pass' → GoesOn pass pass'
 goes_known key' pass pass' same grows knows =
     let legal : IsLegalList (start pass.name) pass'.seen = subst (λ (n : Name). IsLegalList (start n) pass'.seen) same.0 knows.legal in
     record {
@@ -122,44 +122,44 @@ goes_known key' pass pass' same grows knows =
     }
 
 -- what a word shows that is not 0
-pub word_of_some : (o : Option ℕ) (w : ℕ) → w ≡ link_word o → w ≢ 0 → (v : ℕ) × (o ≡ Some v) × (w ≡ block_of v + 1)
+pub word_of_some : (o : Option ℕ) (w : ℕ) → w ≡ link_word o → w ≢ 0 → (v : ℕ) × (o ≡ Some v) × (w ≡ block_number v + 1)
 word_of_some None w is some = absurd (some is)
 word_of_some (Some v) w is some = (v, refl, is)
 
-pub label_is : (held : List (Held Entry)) (v : ℕ) → value_in held ≡ Some v → label_of held ≡ v
+pub label_is : (held : List (HeldKey Entry)) (v : ℕ) → value_in held ≡ Some v → label_of held ≡ v
 label_is [] v e = absurd (let none : None ≡ Some v = e in cc)
 label_is (h ∷ held) v e = some_is _ _ e
 
 -- the slot's last activation stays so
-pub last_kept : (key key' : SlotKey) → slot_book key' ≡ slot_book key → number_of key' ≡ number_of key → life_of key' ≡ life_of key → (a : Activation) → IsLastOf key a → IsLastOf key' a
+pub last_kept : (key key' : SlotKey) → slot_book key' ≡ slot_book key → slot_number key' ≡ slot_number key → life_of key' ≡ life_of key → (a : Activation) → IsLastOf key a → IsLastOf key' a
 last_kept key key' book number life a last = (last.0 ∙ sym book, last.1 ∙ sym number, last.2 ∙ sym life)
 
-pub holder_kept : (key key' : SlotKey) (pass pass' : Pass) (s : ℕ) → GoesOn pass pass' → slot_book key' ≡ slot_book key → number_of key' ≡ number_of key → IsHolder key pass s → IsHolder key' pass' s
+pub holder_kept : (key key' : SlotKey) (pass pass' : Pass) (s : ℕ) → GoesOn pass pass' → slot_book key' ≡ slot_book key → slot_number key' ≡ slot_number key → IsHolder key pass s → IsHolder key' pass' s
 holder_kept key key' pass pass' s goes book number its =
     let more = goes.slots in let there = its.2 in
     (book ∙ its.0 ∙ sym goes.same.0, number ∙ its.1, omega (arith, more, there))
 
 -- What is known of the slot after a call that leaves its batch, or gives it another one.
 works_with : (words : Shared) (slot size : ℕ) (batch batch' : Batch) (key key' : SlotKey) (pass pass' : Pass) → Works words slot size batch key pass → GoesOn pass pass'
-    → slot_book key' ≡ slot_book key → number_of key' ≡ number_of key → IsBatchOf batch' key' pass' → Works words slot size batch' key' pass'
+    → slot_book key' ≡ slot_book key → slot_number key' ≡ slot_number key → IsBatchOf batch' key' pass' → Works words slot size batch' key' pass'
 works_with words slot size batch batch' key key' pass pass' works goes book number its = record {
   links = works.links;
   book = works.book ∙ sym goes.same.0;
-  size_is = works.size_is ∙ ap (λ (n : Name). n.size) (sym goes.same.0);
+  size_is = works.size_is ∙ sym goes.same.2;
   holder = holder_kept key key' pass pass' slot goes book number works.holder;
   batch_is = its;
 }
 
 pub works_on : (words : Shared) (slot size : ℕ) (batch : Batch) (key key' : SlotKey) (pass pass' : Pass) → Works words slot size batch key pass → GoesOn pass pass'
-    → slot_book key' ≡ slot_book key → number_of key' ≡ number_of key → (slot_of key').batch ≡ (slot_of key).batch → Works words slot size batch key' pass'
+    → slot_book key' ≡ slot_book key → slot_number key' ≡ slot_number key → (slot_of key').batch ≡ (slot_of key).batch → Works words slot size batch key' pass'
 works_on words slot size batch key key' pass pass' works goes book number same =
     works_with words slot size batch batch key key' pass pass' works goes book number
-    (let held = (keys_in batch).keys.held in (works.batch_is.0 ∙ sym goes.same.0, works.batch_is.1 ∙ sym same, all_told_later (book_in (keys_in batch)).store pass.seen pass'.seen held goes.seen works.batch_is.2))
+    (let held = (keys_in batch).keys.held in (works.batch_is.0 ∙ sym goes.same.0, works.batch_is.1 ∙ sym same, all_told_later pass.seen pass'.seen held goes.seen works.batch_is.2))
 
 -- The batch is the slot's where the pass alone has gone on.
 pub batch_on : (batch : Batch) (key : SlotKey) (pass pass' : Pass) → IsBatchOf batch key pass → GoesOn pass pass' → IsBatchOf batch key pass'
 batch_on batch key pass pass' its goes =
-    let held = (keys_in batch).keys.held in (its.0 ∙ sym goes.same.0, its.1, all_told_later (book_in (keys_in batch)).store pass.seen pass'.seen held goes.seen its.2)
+    let held = (keys_in batch).keys.held in (its.0 ∙ sym goes.same.0, its.1, all_told_later pass.seen pass'.seen held goes.seen its.2)
 
 -- The slot has entered.
 module _ (words : Shared) (w : Worker) (may : MayWork words w) (key' : SlotKey) (pass' : Pass) (a : Activation)
@@ -170,7 +170,7 @@ module _ (words : Shared) (w : Worker) (may : MayWork words w) (key' : SlotKey) 
   same_record : slot_of key' ≡ slot_of w.key
   same_record =
       let n = notes.2.0 in
-      entered_so w.key key' n.before n.later n.answer (subst (λ (k : ℕ). Moves w.key key' n.before (Enter k) n.later n.answer) (sym may.0.holder.1) notes.2.1) may.1.0 may.1.1
+      entered_so w.key key' n.before w.pass a.life n.later n.answer (subst (λ (k : ℕ). Moves w.key key' n.before (beginning w.pass a.life (Enter k)) n.later n.answer) (sym may.0.holder.1) notes.2.1) may.1.0 may.1.1
 
   pub entered : Stands words (record { slot = w.slot; size = w.size; key = key'; batch = w.batch; spots = w.spots; pass = pass'; activation = a })
   entered =

@@ -1,16 +1,15 @@
 -- What is known of the seats of slots' holders, and of the posts where they are lent.
---     seen_by book                 a pass that has seen what the book has
+--     seen_by book size            a pass that has seen what the book has, of batches of this size
 --     worker_with holder pass, active_with holder a pass     what sits there as a worker, with this pass;  and where its slot is in this
 --                                  activation
 --     SitsWith words holder activation pass     it may work with this pass, or stands;  IsLeft words seat pass    so it is of a seat
 --     SitsAt words seat            its book is that of the words, and it may work, or stands, with a pass that has seen what that has
---     IsPorterOf words porter      the porter is of the words' book, and lends passes
 --     IsSeat seat                  it sits at words of some book
 --     IsOfBook seat words          its book has the family of the words' book
 --     post_label post              which slot of which book it is of, by the book's family
 --     IsSound post                 there is a seat in it, which sits at words of some book
 --     post_at words slot           the label of the cell of this slot of the words' book;  IsPostOf words post     it is some slot's cell
-use Rattle.std.specs.Prelude.{◌≡◌, ℕ, false, Option, None, Some}
+use Rattle.std.specs.Prelude.{◌≡◌, ℕ, Option, None, Some}
 use Rattle.seize_book.specs.Tokens.{label_at}
 use Rattle.seize_content.specs.Steady.{SteadyName}
 use Rattle.seize_table.specs.Pairs.{of_family}
@@ -18,7 +17,6 @@ use Rattle.seize_words.specs.Joined.{words_book}
 use Rattle.seize_words.specs.declared.activation.Activation.{Activation}
 use Rattle.seize_calls_rows.specs.Workers.{MayWork, Shared, Stands}
 use Rattle.seize_book.specs.declared.book.pass.Pass.{Pass}
-use Rattle.seize_book.specs.declared.book.porter.Porter.{Porter}
 use Rattle.seize_book.specs.declared.book.token.Book.{Book}
 use Rattle.seize_calls_rows.specs.declared.seat.Holder.{Holder}
 use Rattle.seize_calls_rows.specs.declared.seat.Post.{Post}
@@ -26,8 +24,8 @@ use Rattle.seize_calls_rows.specs.declared.seat.Seat.{Seat}
 use Rattle.seize_calls_rows.specs.declared.worker.Active.{Active}
 use Rattle.seize_calls_rows.specs.declared.worker.Worker.{Worker}
 
-abbrev pub seen_by : Book → Pass
-seen_by book = record { marker = record {}; name = book.name; id = 0; seen = book.seen }
+abbrev pub seen_by : Book → ℕ → Pass
+seen_by book size = record { marker = record {}; name = book.name; size = size; id = 0; seen = book.seen }
 
 abbrev pub worker_with : Holder → Pass → Worker
 worker_with h pass = record { slot = h.slot; size = h.size; key = h.key; batch = h.batch; spots = h.spots; pass = pass }
@@ -43,10 +41,7 @@ abbrev pub IsLeft : Shared → Seat → Pass → Type 0
 IsLeft words seat pass = SitsWith words seat.holder seat.activation pass
 
 abbrev pub SitsAt : Shared → Seat → Type 0
-SitsAt words seat = (seat.seen.name ≡ words_book words) × IsLeft words seat (seen_by seat.seen)
-
-abbrev pub IsPorterOf : Shared → Porter → Type 0
-IsPorterOf words porter = (porter.name ≡ words_book words) × (porter.home ≡ false)
+SitsAt words seat = (seat.seen.name ≡ words_book words) × IsLeft words seat (seen_by seat.seen seat.holder.size)
 
 abbrev pub IsSeat : Seat → Type 0
 IsSeat seat = (words : Shared) × SitsAt words seat

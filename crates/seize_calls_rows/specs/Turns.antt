@@ -1,6 +1,4 @@
 -- What is known while holders of slots work in turns, and when the gate is shut.
---     CanMakeIn source words porter    the next slot can be made, and the porter lends its holder passes
---     IsSlotAfter source worker source' words     the worker has the slot that came next, and so may the slot after it be made
 --     StandsAs words spots slot size batch key activation pass     as `Stands`, of each by itself;  Holds words holder pass   as `MayWork`
 --     HasNone holder                   its slot has no batch, as its key knows
 --     KeepsLinks pass pass'            each link holds what it held
@@ -33,25 +31,15 @@ use Rattle.seize_book.specs.declared.book.slot_key.SlotKey.{SlotKey}
 use Rattle.seize_calls.specs.Handing.{Had, Handings, HasHad, values_handed}
 use Rattle.seize_calls.specs.declared.batch.Batch.{Batch}
 use Rattle.seize_store.specs.declared.spot.Spots.{Spots}
-use Rattle.seize_book.specs.Passes.{IsSame}
+use Rattle.seize_book.specs.Passes.{IsSamePass}
 use Rattle.seize_book.specs.Slots.{slot_of}
-use Rattle.seize_book.specs.Turns.{HasTurn}
 use Rattle.seize_words.specs.Totals.{slots_seen}
 use Rattle.seize_words.specs.declared.activation.Activation.{Activation}
 use Rattle.seize_words.specs.declared.chunk.Header.{Header}
 use Rattle.seize_words.specs.declared.chunk.Part.{Part}
-use Rattle.seize_calls_rows.specs.Seats.{IsPorterOf}
-use Rattle.seize_calls_rows.specs.Workers.{AreSpotsOf, CanTake, HasTaken, IsOutside, Shared, Stands, Works, made_by}
+use Rattle.seize_calls_rows.specs.Workers.{AreSpotsOf, IsOutside, Shared, Stands, Works}
 use Rattle.seize_calls_rows.specs.declared.seat.Holder.{Holder}
 use Rattle.seize_calls_rows.specs.declared.seat.Seat.{Seat}
-use Rattle.seize_calls_rows.specs.declared.worker.Source.{Source}
-use Rattle.seize_calls_rows.specs.declared.worker.Worker.{Worker}
-
-abbrev pub CanMakeIn : Source → Shared → Porter → Type 0
-CanMakeIn source words porter = CanTake source words × IsPorterOf words porter
-
-abbrev pub IsSlotAfter : Source → Worker → Source → Shared → Type 0
-IsSlotAfter source worker source' words = (worker.slot ≡ made_by source) × HasTaken source source' words
 
 abbrev pub StandsAs : Shared → Spots Header Part ℕ → ℕ → ℕ → Batch → SlotKey → Activation → Pass → Type 0
 StandsAs words spots slot size batch key activation pass =
@@ -86,7 +74,7 @@ pub record Gave (pass pass' : Pass) (had had' : Had) : Type 0 where
   pub told : AllTold pass'.seen (values_handed handed) kepts
 
 pub record AllBack (pass : Pass) : Type 0 where
-  pub alone : IsSole pass.name.gate pass.id
+  pub alone : IsSole pass.id
   pub links : EmptyBelow 1024 pass
   pub quiet : is_quiet (state_seen pass) ≡ true
   pub batches : (s : ℕ) → (slot_at (state_seen pass) s).batch ≡ []
@@ -94,7 +82,7 @@ pub record AllBack (pass : Pass) : Type 0 where
       Retired ms v q → (c : ℕ) × Reclaimed ms v c
 
 pub record Regains (before pass : Pass) (had had' : Had) : Type 0 where
-  pub same : IsSame before pass
+  pub same : IsSamePass before pass
   pub gave : Gave before pass had had'
   pub links : EmptyBelow 1024 pass
   pub lost : NoneLost before pass
@@ -111,7 +99,7 @@ AreAll first second pass = (first.slot ≡ 0) × (second.slot ≡ 1) × (slots_s
 
 -- it is the pass of the gate that was shut
 abbrev pub IsShut : Porter → Pass → Type 0
-IsShut porter shut = (shut.name ≡ porter.name) × HasTurn shut × IsSole shut.name.gate shut.id × IsPrefix porter.seen shut.seen
+IsShut porter shut = (shut.name ≡ porter.name) × IsSole shut.id × IsPrefix porter.seen shut.seen
 
 abbrev pub IsShutBy : Porter → Seat → Seat → Pass → Type 0
 IsShutBy porter first second shut = IsShut porter shut × IsPrefix first.seen.seen shut.seen × IsPrefix second.seen.seen shut.seen

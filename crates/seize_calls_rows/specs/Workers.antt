@@ -3,10 +3,10 @@
 --     IsOutside key                    no call of the slot is under way, and it is not active
 --     Shared                           words of blocks of numbers
 --     HasLinks words                   their book has 1,024 links
---     made_by source, size_in source   how many slots were made, and how many values a batch has
---     CanTake source words             the next slot of the book can be made, and it has a number;  CanMake   and whoever wants has a pass
---     HasTaken source source' words    one more slot was made, and where there is one more number, so can the slot after it;  HasOneMore
---                                      and whoever wants has a pass
+--     IsLenderOf words lender          its porter is of their book, and has its batch size;  Lends words lender     and it lends passes
+--     made_by source                   how many slots were made
+--     CanMake source words             the next slot of the book can be made, and it has a number
+--     HasOneMore source source' words  one more slot was made, and where there is one more number, so can the slot after it
 --     IsBatchOf batch key pass         these are the keys of the slot's batch, of the pass's book, and of each value the list says what
 --                                      is kept of it
 --     AreSpotsOf words spots           the list is of spots of the store of their blocks
@@ -19,11 +19,10 @@ use Rattle.std.specs.Prelude.{◌≡◌, ℕ, suc, ◌<◌, ◌≤◌, true, fal
 use mathlib.Core.List.{IsPrefix}
 use Rattle.seize_table.specs.Place.{all_numbers}
 use Rattle.seize_machine.specs.Machine.State.{is_idle}
-use Rattle.seize_book.specs.Blocks.{block_of}
+use Rattle.seize_book.specs.Blocks.{block_number}
 use Rattle.seize_book.specs.Others.{MayRetire, book_of, value_of}
-use Rattle.seize_book.specs.Passes.{IsSame}
+use Rattle.seize_book.specs.Passes.{IsSamePass}
 use Rattle.seize_book.specs.Slots.{active_of, slot_of}
-use Rattle.seize_book.specs.Tokens.{many}
 use Rattle.seize_calls.specs.Batches.{keys_in}
 use Rattle.seize_calls.specs.Calls.{IsInside}
 use Rattle.seize_calls.specs.Settling.{HasBatch}
@@ -32,7 +31,7 @@ use Rattle.seize_words.specs.Chunks.{AreSpotsIn}
 use Rattle.seize_words.specs.Joined.{IsHolder, IsInAt, words_book}
 use Rattle.seize_words.specs.Named.{numbers_book}
 use Rattle.seize_words.specs.Reservations.{IsLastOf}
-use Rattle.seize_words.specs.Reserved.{HasNext}
+use Rattle.seize_words.specs.Reserved.{HasNextSlot}
 use Rattle.seize_words.specs.Totals.{made_of, slots_seen}
 use Rattle.seize_book.specs.declared.book.pass.Pass.{Pass}
 use Rattle.seize_book.specs.declared.book.slot_key.SlotKey.{SlotKey}
@@ -41,12 +40,13 @@ use Rattle.seize_words.specs.declared.chunk.Header.{Header}
 use Rattle.seize_words.specs.declared.chunk.Part.{Part}
 use Rattle.seize_words.specs.declared.words.Words.{Words}
 use Rattle.seize_calls_rows.specs.declared.worker.Active.{Active}
+use Rattle.seize_calls_rows.specs.declared.worker.Lender.{Lender}
 use Rattle.seize_calls_rows.specs.declared.worker.Out.{Out}
 use Rattle.seize_calls_rows.specs.declared.worker.Source.{Source}
 use Rattle.seize_calls_rows.specs.declared.worker.Worker.{Worker}
 
 pub record GoesOn (pass pass' : Pass) : Type 0 where
-  pub same : IsSame pass pass'
+  pub same : IsSamePass pass pass'
   pub seen : IsPrefix pass.seen pass'.seen
   pub slots : slots_seen pass ≤ slots_seen pass'
 
@@ -59,25 +59,20 @@ Shared = Words ℕ
 abbrev pub HasLinks : Shared → Type 0
 HasLinks words = length (words_book words).links ≡ 1024
 
+abbrev pub IsLenderOf : Shared → Lender → Type 0
+IsLenderOf words lender = (lender.porter.name ≡ words_book words) × (lender.size ≡ lender.porter.size)
+
+abbrev pub Lends : Shared → Lender → Type 0
+Lends words lender = IsLenderOf words lender × (lender.porter.home ≡ false)
+
 abbrev pub made_by : Source → ℕ
 made_by source = source.made
 
-abbrev pub size_in : Source → ℕ
-size_in source = source.size
-
-pub record CanTake (source : Source) (words : Shared) : Type 0 where
+pub record CanMake (source : Source) (words : Shared) : Type 0 where
   pub links : HasLinks words
-  pub size : size_in source ≡ (words_book words).size
   pub book : numbers_book source.numbers ≡ words_book words
-  pub next : HasNext source.numbers source.next
+  pub next : HasNextSlot source.numbers source.next
   pub count : made_of source.numbers ≡ made_by source
-
-abbrev pub CanMake : Source → Shared → Type 0
-CanMake source words = CanTake source words × ((words_book words).gate ≡ many)
-
-abbrev pub HasTaken : Source → Source → Shared → Type 0
-HasTaken source source' words =
-    (made_by source' ≡ suc (made_by source)) × (made_by source' < all_numbers → CanTake source' words)
 
 abbrev pub HasOneMore : Source → Source → Shared → Type 0
 HasOneMore source source' words =
@@ -92,7 +87,7 @@ AreSpotsOf words spots = AreSpotsIn words.blocks spots
 pub record Works (words : Shared) (slot size : ℕ) (batch : Batch) (key : SlotKey) (pass : Pass) : Type 0 where
   pub links : HasLinks words
   pub book : words_book words ≡ pass.name
-  pub size_is : size ≡ pass.name.size
+  pub size_is : size ≡ pass.size
   pub holder : IsHolder key pass slot
   pub batch_is : IsBatchOf batch key pass
 
@@ -109,4 +104,4 @@ pub record Stands (words : Shared) (active : Active) : Type 0 where
 
 abbrev pub IsOut : Shared → Out → Type 0
 IsOut words out =
-    (book_of out.value ≡ words_book words) × MayRetire out.value × (block_of (value_of out.value) ≡ out.number)
+    (book_of out.value ≡ words_book words) × MayRetire out.value × (block_number (value_of out.value) ≡ out.number)

@@ -1,13 +1,12 @@
 //! A reclaimer that puts further values: with each value that it had it puts one or two of those that were made ready before, the one made
 //! last first. It takes no memory when it has a value.
 ghost use Rattle.seize_calls_rows.specs.Putting.{AreReady, IsReady, ready_in};
-ghost use Rattle.seize_book.specs.Tokens.{many};
-ghost use Rattle.seize_calls_rows.specs.Workers.{IsOut};
+ghost use Rattle.seize_calls_rows.specs.Workers.{IsOut, Lends};
 ghost use Rattle.seize_words.specs.Joined.{words_book};
 ghost use Rattle.std.specs.Prelude.{◌≡◌, IfSome};
 
 use crate::counting::Counting;
-use crate::worker::Out;
+use crate::worker::{Lender, Out};
 use seize_calls::further::Further;
 use seize_calls::handing::Reclaim;
 use seize_words::blocks::Blocks;
@@ -16,12 +15,12 @@ use std::alloc::{AllocError, Global};
 use std::sync::atomic::AtomicU64;
 
 /// A value of a new block, which is lent there, and was never named. Nothing comes where a growth of the store was refused.
-pub fn make(words: &Words<u64>, value: u64) -> Option<Out>
-    requires { (words_book words.now).gate ≡ many }
+pub fn make(words: &Words<u64>, lender: &Lender, value: u64) -> Option<Out>
+    requires { Lends words.now lender.now }
     ensures ready { IfSome result (λ out. IsReady (words_book words.now) out) }
     ensures out { IfSome result (λ out. IsOut words.now out) }
 {
-    let mut pass = words.blocks.book.pass();
+    let mut pass = lender.porter.pass();
     let Ok((mut key, block)) = words.blocks.add(value, &mut pass) else {
         return None;
     };
@@ -45,7 +44,7 @@ impl<'a> Putting<'a> {
     ghost use Rattle.seize_book.specs.Tokens.{Name};
     ghost use Rattle.seize_calls.specs.Furthers.{further_in};
     ghost use Rattle.seize_calls.specs.Handing.{IsServed};
-    ghost use Rattle.seize_words.specs.Chunks.{book_in};
+    ghost use Rattle.seize_words.specs.Chunks.{blocks_book};
 
     /// It had none, and has nothing of these words' book ready.
     pub fn new(
@@ -78,13 +77,13 @@ impl<'a> Putting<'a> {
 
     /// Makes so many values more, 0, 1 and so on, of new blocks, each of which it has to put before all that it had to put. It says whether
     /// all were made.
-    pub fn fill(&mut self, words: &Words<u64>, count: u64) -> bool
-        requires gate { (words_book words.now).gate ≡ many }
+    pub fn fill(&mut self, words: &Words<u64>, lender: &Lender, count: u64) -> bool
+        requires lender { Lends words.now lender.now }
         requires ready { AreReady (words_book words.now) (ready_in self.old) }
         ensures ready { AreReady (words_book words.now) (ready_in self.new) }
     {
         for value in 0..count {
-            let Some(out) = make(words, value) else {
+            let Some(out) = make(words, lender, value) else {
                 return false;
             };
             if self.push(words, out).is_err() {
@@ -96,10 +95,10 @@ impl<'a> Putting<'a> {
 
     // Puts the next one, if there is one, with this word.
     fn put_next(&mut self, kept: u64, further: &mut Further, blocks: &Blocks<u64>)
-        requires ready { AreReady (book_in blocks.now) (ready_in self.old) }
-        requires further { IsServed (further_in further.old) (book_in blocks.now) }
-        ensures ready { AreReady (book_in blocks.now) (ready_in self.new) }
-        ensures further { IsServed (further_in further.new) (book_in blocks.now) }
+        requires ready { AreReady (blocks_book blocks.now) (ready_in self.old) }
+        requires further { IsServed (further_in further.old) (blocks_book blocks.now) }
+        ensures ready { AreReady (blocks_book blocks.now) (ready_in self.new) }
+        ensures further { IsServed (further_in further.new) (blocks_book blocks.now) }
         ensures had { self.new.counting ≡ self.old.counting }
     {
         if let Some(out) = self.ready.pop() {

@@ -51,21 +51,6 @@ impl<'p> Worker<'p> {
 
     /// Makes so many turns, with one link after the other and the values from this one on, then enters, flushes and leaves. Nothing comes
     /// where memory was refused.
-    pub fn run(
-        self,
-        words: &Words<u64>,
-        first: u64,
-        turns: u64,
-        marks: &[AtomicU64],
-        rt: &impl Wait,
-    ) -> Option<Tally>
-        requires may { MayWork words.now self }
-    {
-        let (_, tally) = self.work(words, first, turns, marks, rt)?;
-        Some(tally)
-    }
-
-    /// The same, and gives the worker back.
     pub fn work(
         self,
         words: &Words<u64>,

@@ -1,20 +1,20 @@
 //! What the holder of a slot has, and a place where it is only lent. Threads share the place by `&`, and its holder has the token. Whatever
 //! became of the token, whoever has the place alone then has all of it back: the slot's key, its batch, its spots, what its passes have
-//! seen, and the activation in which it read. Each turn of the slot is made with a pass of its own, which the porter lends.
+//! seen, and the activation in which it read. Each turn of the slot is made with a pass of its own.
 ghost use Rattle.std.specs.Prelude.{◌≡◌, ◌<◌, Some};
 ghost use Rattle.seize_book.specs.Tokens.{label_at};
-ghost use Rattle.seize_calls_rows.specs.Seats.{IsOfBook, IsPorterOf, IsPostOf, IsSeat, IsSound, SitsAt, post_at, post_label};
-ghost use Rattle.seize_calls_rows.specs.Workers.{MayWork, Stands};
+ghost use Rattle.seize_calls_rows.specs.Seats.{IsOfBook, IsPostOf, IsSeat, IsSound, SitsAt, post_at, post_label};
+ghost use Rattle.seize_calls_rows.specs.Workers.{Lends, MayWork, Stands};
 ghost use Rattle.seize_table.specs.Pairs.{of_family};
 ghost use Rattle.seize_words.specs.Joined.{words_book};
 
 use crate::counting::Counting;
-use crate::worker::{Active, LINKS, Worker};
+use crate::worker::{Active, LINKS, Lender, Worker};
 use seize_calls::batch::Batch;
 use seize_content::{CellToken, Steady, SteadyCell, Work};
 use seize_store::Spots;
 use seize_words::activation::Activation;
-use seize_words::book::{Book, Pass, Porter, SlotKey};
+use seize_words::book::{Book, Pass, SlotKey};
 use seize_words::chunk::{Header, Part};
 use seize_words::words::Words;
 use std::mem;
@@ -26,7 +26,7 @@ use std::sync::atomic::AtomicU64;
 pub struct Holder {
     /// The slot's number.
     pub slot: usize,
-    /// The book's size of a batch.
+    /// The batch size of the passes that its calls are made with.
     pub size: usize,
     /// The right to the slot's calls.
     pub key: SlotKey,
@@ -126,25 +126,26 @@ impl Active<'_> {
 }
 
 impl Seat {
-    /// The slot enters with the pass, where it has not. The pass learns what those before it have seen.
-    pub fn enter<'p>(self, words: &Words<u64>, pass: Pass<'p>) -> Active<'p>
+    /// The slot enters with a pass that is lent, where it has not. The pass learns what those before it have seen.
+    pub fn enter<'p>(self, words: &Words<u64>, lender: &'p Lender) -> Active<'p>
         requires sits { SitsAt words.now self }
-        requires book { pass.name ≡ words_book words.now }
+        requires lender { Lends words.now lender.now }
         ensures stands { Stands words.now result }
         ensures slot { result.slot ≡ self.holder.slot }
     {
         let Seat {
             holder: Holder {
                 slot,
-                size,
                 key,
                 batch,
                 spots,
+                ..
             },
             seen,
             activation,
         } = self;
-        let mut pass = pass;
+        let size = lender.size;
+        let mut pass = lender.porter.pass();
         pass.learn(&seen);
         match activation {
             Some(activation) => Active {
@@ -180,24 +181,24 @@ impl Seat {
     }
 
     /// Enters, where the slot has not, swaps the value of a new block, which is lent, into the link, and retires what came out, with a pass
-    /// of the porter's. The slot stays active. It says whether the value was put in; it was not where a growth of the store was refused.
+    /// that is lent. The slot stays active. It says whether the value was put in; it was not where a growth of the store was refused.
     pub fn turn(
         self,
         words: &Words<u64>,
-        porter: &Porter,
+        lender: &Lender,
         link: usize,
         value: u64,
         marks: &[AtomicU64],
         rt: &impl Wait,
     ) -> (Seat, bool)
         requires sits { SitsAt words.now self }
-        requires porter { IsPorterOf words.now porter.now }
+        requires lender { Lends words.now lender.now }
         requires link { link < 1024 }
         ensures sits { SitsAt words.now result.0 }
         ensures slot { result.0.holder.slot ≡ self.holder.slot }
     {
         let mut counting = Counting::new(marks);
-        let (active, swapped) = self.enter(words, porter.pass()).swap_in(words, link, value);
+        let (active, swapped) = self.enter(words, lender).swap_in(words, link, value);
         match swapped {
             None => (active.sit(words), false),
             Some(None) => (active.sit(words), true),
@@ -247,7 +248,7 @@ pub struct Turn<'a, W> {
     /// The words of the slot's book.
     pub words: &'a Words<u64>,
     /// What lends the turn's pass.
-    pub porter: &'a Porter,
+    pub lender: &'a Lender,
     /// Which link, below 1024.
     pub link: usize,
     /// What is swapped in; it is the number of its mark too.
@@ -259,7 +260,7 @@ pub struct Turn<'a, W> {
 }
 
 impl<W: Wait> Work<Post, bool> for Turn<'_, W> {
-    ghost may = { λ turn post. (turn.link < 1024) × IsPorterOf turn.words.now turn.porter.now
+    ghost may = { λ turn post. (turn.link < 1024) × Lends turn.words.now turn.lender.now
         × of_family (words_book turn.words.now).family (post_label post) };
 
     ghost gives = { λ _ _ _ _. Unit {0} };
@@ -267,7 +268,7 @@ impl<W: Wait> Work<Post, bool> for Turn<'_, W> {
     fn work(self, post: &mut Post) -> bool {
         let Turn {
             words,
-            porter,
+            lender,
             link,
             value,
             marks,
@@ -275,17 +276,17 @@ impl<W: Wait> Work<Post, bool> for Turn<'_, W> {
         } = self;
         let lent = mem::replace(post, Post { seat: None });
         let seat = lent.into_seat().known(words);
-        let (seat, done) = seat.turn(words, porter, link, value, marks, rt);
+        let (seat, done) = seat.turn(words, lender, link, value, marks, rt);
         *post = Post::new(seat);
         done
     }
 }
 
 /// Makes so many turns with the token of this post, with one link after the other and the values from this one on. Then the holder is
-/// forgotten, and with it the token and a pass that the porter lent; its slot is active still. It says whether all values were put in.
+/// forgotten, and with it the token and a pass that was lent; its slot is active still. It says whether all values were put in.
 pub fn turn_and_forget(
     words: &Words<u64>,
-    porter: &Porter,
+    lender: &Lender,
     post: &SteadyCell<Post>,
     token: CellToken,
     first: u64,
@@ -295,13 +296,13 @@ pub fn turn_and_forget(
 ) -> bool
     requires token { token.name ≡ post.now.name }
     requires post { IsPostOf words.now post.now }
-    requires porter { IsPorterOf words.now porter.now }
+    requires lender { Lends words.now lender.now }
 {
     let mut token = token;
     for turn in 0..turns {
         let work = Turn {
             words,
-            porter,
+            lender,
             link: (turn % LINKS) as usize,
             value: first.wrapping_add(turn),
             marks,
@@ -311,7 +312,7 @@ pub fn turn_and_forget(
             return false;
         }
     }
-    mem::forget(porter.pass());
+    mem::forget(lender.porter.pass());
     mem::forget(token);
     true
 }

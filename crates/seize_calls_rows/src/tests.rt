@@ -9,7 +9,7 @@ mod visiting;
 use crate::counting::Counting;
 use crate::putting::{Putting, make};
 use crate::running::Tally;
-use crate::turns::{open_in_turns, reclaim_all, shut_turns};
+use crate::turns::{reclaim_all, shut_turns};
 use crate::worker::{LINKS, Worker, open};
 use seize_words::words::Words;
 use std::alloc::{AllocError, Global};
@@ -49,10 +49,10 @@ fn a_full_batch_waits_for_its_own_slot(rt: HostRuntime) {
     let Ok(marks) = marks(rt.alloc(), 10) else {
         panic!(rt; "no memory");
     };
-    let Some((words, source)) = open(rt.alloc(), 2) else {
+    let Some((words, lender, source)) = open(rt.alloc(), 2) else {
         panic!(rt; "no memory");
     };
-    let Some((worker, _)) = source.make(&words) else {
+    let Some((worker, _)) = source.make(&words, &lender) else {
         panic!(rt; "no memory");
     };
     let mut counting = Counting::new(marks.as_slice());
@@ -89,6 +89,41 @@ fn a_full_batch_waits_for_its_own_slot(rt: HostRuntime) {
     drop(active);
 }
 
+// The batch size is set while no pass is out. The slot is active still, and its value waits for more; at the new size the next one fills
+// the batch.
+#[test]
+fn a_batch_is_full_at_a_size_that_was_set_later(rt: HostRuntime) {
+    let Ok(marks) = marks(rt.alloc(), 10) else {
+        panic!(rt; "no memory");
+    };
+    let Some((words, mut lender, source)) = open(rt.alloc(), 32) else {
+        panic!(rt; "no memory");
+    };
+    let Some((worker, _)) = source.make(&words, &lender) else {
+        panic!(rt; "no memory");
+    };
+    let mut counting = Counting::new(marks.as_slice());
+    let (active, put) = worker.enter(&words).swap_in(&words, 0, 5);
+    assert!(rt; put.is_some_and(|out| out.is_none()));
+    let (active, swapped) = active.swap_in(&words, 0, 6);
+    let Some(Some(first)) = swapped else {
+        panic!(rt; "no memory");
+    };
+    let (active, retired) = active.retire(&words, first, 0, &mut counting, &rt);
+    assert!(rt; !retired);
+    let seat = active.sit(&words);
+    lender.set_size(&words, 1);
+    let (active, swapped) = seat.enter(&words, &lender).swap_in(&words, 0, 7);
+    let Some(Some(second)) = swapped else {
+        panic!(rt; "no memory");
+    };
+    let (active, retired) = active.retire(&words, second, 0, &mut counting, &rt);
+    assert!(rt; retired);
+    let worker = active.leave(&words, &mut counting, &rt);
+    assert_eq!(rt; (worker.batch.len(), counting.count), (0, 2));
+    assert_eq!(rt; told(marks.as_slice()), (8, 0));
+}
+
 // A batch of one value stays where two slots are active, also with a flush; where one is, a flush retires it. The slot hands it when it
 // refreshes, and nothing more when it leaves.
 #[test]
@@ -96,13 +131,13 @@ fn a_short_batch_stays_while_more_slots_are_active(rt: HostRuntime) {
     let Ok(marks) = marks(rt.alloc(), 10) else {
         panic!(rt; "no memory");
     };
-    let Some((words, source)) = open(rt.alloc(), 4) else {
+    let Some((words, lender, source)) = open(rt.alloc(), 4) else {
         panic!(rt; "no memory");
     };
-    let Some((worker, source)) = source.make(&words) else {
+    let Some((worker, source)) = source.make(&words, &lender) else {
         panic!(rt; "no memory");
     };
-    let Some((other, _)) = source.make(&words) else {
+    let Some((other, _)) = source.make(&words, &lender) else {
         panic!(rt; "no memory");
     };
     let mut counting = Counting::new(marks.as_slice());
@@ -140,15 +175,15 @@ fn a_chain_of_values_ends_in_one_call(rt: HostRuntime) {
     let Ok(marks) = marks(rt.alloc(), CHAIN) else {
         panic!(rt; "no memory");
     };
-    let Some((words, source)) = open(rt.alloc(), 1) else {
+    let Some((words, lender, source)) = open(rt.alloc(), 1) else {
         panic!(rt; "no memory");
     };
-    let Some((worker, _)) = source.make(&words) else {
+    let Some((worker, _)) = source.make(&words, &lender) else {
         panic!(rt; "no memory");
     };
     let mut putting = Putting::new(rt.alloc(), &words, marks.as_slice(), false);
-    assert!(rt; putting.fill(&words, CHAIN - 1));
-    let Some(first) = make(&words, CHAIN - 1) else {
+    assert!(rt; putting.fill(&words, &lender, CHAIN - 1));
+    let Some(first) = make(&words, &lender, CHAIN - 1) else {
         panic!(rt; "no memory");
     };
     let (worker, retired) = worker.retire(&words, first, 7, &mut putting, &rt);
@@ -170,15 +205,19 @@ fn two_values_are_put_at_once(rt: HostRuntime) {
     let Ok(marks) = marks(rt.alloc(), 21) else {
         panic!(rt; "no memory");
     };
-    let Some((words, source)) = open(rt.alloc(), 3) else {
+    let Some((words, lender, source)) = open(rt.alloc(), 3) else {
         panic!(rt; "no memory");
     };
-    let Some((worker, _)) = source.make(&words) else {
+    let Some((worker, _)) = source.make(&words, &lender) else {
         panic!(rt; "no memory");
     };
     let mut putting = Putting::new(rt.alloc(), &words, marks.as_slice(), true);
-    assert!(rt; putting.fill(&words, 18));
-    let (Some(a), Some(b), Some(c)) = (make(&words, 18), make(&words, 19), make(&words, 20)) else {
+    assert!(rt; putting.fill(&words, &lender, 18));
+    let (Some(a), Some(b), Some(c)) = (
+        make(&words, &lender, 18),
+        make(&words, &lender, 19),
+        make(&words, &lender, 20),
+    ) else {
         panic!(rt; "no memory");
     };
     let (worker, _) = worker.retire(&words, a, 5, &mut putting, &rt);
@@ -206,15 +245,15 @@ fn what_is_put_in_a_leave_goes_in_it(rt: HostRuntime) {
     let Ok(marks) = marks(rt.alloc(), 10) else {
         panic!(rt; "no memory");
     };
-    let Some((words, source)) = open(rt.alloc(), 1) else {
+    let Some((words, lender, source)) = open(rt.alloc(), 1) else {
         panic!(rt; "no memory");
     };
-    let Some((worker, _)) = source.make(&words) else {
+    let Some((worker, _)) = source.make(&words, &lender) else {
         panic!(rt; "no memory");
     };
     let mut putting = Putting::new(rt.alloc(), &words, marks.as_slice(), true);
-    assert!(rt; putting.fill(&words, 9));
-    let Some(first) = make(&words, 9) else {
+    assert!(rt; putting.fill(&words, &lender, 9));
+    let Some(first) = make(&words, &lender, 9) else {
         panic!(rt; "no memory");
     };
     let (active, retired) = worker
@@ -228,57 +267,37 @@ fn what_is_put_in_a_leave_goes_in_it(rt: HostRuntime) {
     assert_eq!(rt; told(marks.as_slice()), (0, 0));
 }
 
-// Two threads make turns.
-fn both<R: Threads + Wait + Sync>(
+// Two threads make turns, and give their workers back.
+fn both<'p, 'q, R: Threads + Wait + Sync>(
     rt: &R,
     words: &Words<u64>,
     marks: &[AtomicU64],
     first: u64,
-    a: Worker<'_>,
-    b: Worker<'_>,
-) -> Option<(Tally, Tally)>
+    a: Worker<'p>,
+    b: Worker<'q>,
+) -> Option<((Worker<'p>, Tally), (Worker<'q>, Tally))>
     requires { MayWork words.now a × MayWork words.now b }
+    ensures { IfSome result (λ worked. MayWork words.now worked.0.0 × MayWork words.now worked.1.0) }
 {
     let second = first.wrapping_add(TURNS);
     let (one, two) = thread::join(
         rt,
-        move || -> Option<Tally>
+        move || -> Option<(Worker, Tally)>
             requires { MayWork words.now a }
-        { a.run(words, first, TURNS, marks, rt) },
-        move || -> Option<Tally>
+            ensures { IfSome result (λ worked. MayWork words.entry.now worked.0) }
+        { a.work(words, first, TURNS, marks, rt) },
+        move || -> Option<(Worker, Tally)>
             requires { MayWork words.now b }
-        { b.run(words, second, TURNS, marks, rt) },
+            ensures { IfSome result (λ worked. MayWork words.entry.now worked.0) }
+        { b.work(words, second, TURNS, marks, rt) },
     );
     Some((one?, two?))
 }
 
-// Of what two threads retired at most as much is left in each batch as its bound allows, nothing that was found had ended before its reader
-// left, and each value ended at most once: all but those in the links and in the batches ended.
-#[test]
-fn two_threads_end_each_value_at_most_once(rt: HostRuntime) {
-    let Ok(marks) = marks(rt.alloc(), 2 * TURNS) else {
-        panic!(rt; "no memory");
-    };
-    let Some((words, source)) = open(rt.alloc(), 32) else {
-        panic!(rt; "no memory");
-    };
-    let Some((a, source)) = source.make(&words) else {
-        panic!(rt; "no memory");
-    };
-    let Some((b, _)) = source.make(&words) else {
-        panic!(rt; "no memory");
-    };
-    let Some((one, two)) = both(&rt, &words, marks.as_slice(), 0, a, b) else {
-        panic!(rt; "no memory");
-    };
-    let left = one.left.wrapping_add(two.left);
-    assert!(rt; one.left < 32 && two.left < 32);
-    assert_eq!(rt; (one.early, two.early), (0, 0));
-    assert_eq!(rt;
-        one.count.wrapping_add(two.count),
-        (2 * TURNS).wrapping_sub(LINKS).wrapping_sub(left)
-    );
-    assert_eq!(rt; told(marks.as_slice()), (left.wrapping_add(LINKS), 0));
+// What is left of both.
+fn tallies(worked: Option<((Worker<'_>, Tally), (Worker<'_>, Tally))>) -> Option<(Tally, Tally)> {
+    let ((_, one), (_, two)) = worked?;
+    Some((one, two))
 }
 
 // Four threads make turns.
@@ -297,10 +316,10 @@ fn all<R: Threads + Wait + Sync>(
         rt,
         move || -> Option<(Tally, Tally)>
             requires { MayWork words.now a × MayWork words.now b }
-        { both(rt, words, marks, 0, a, b) },
+        { tallies(both(rt, words, marks, 0, a, b)) },
         move || -> Option<(Tally, Tally)>
             requires { MayWork words.now c × MayWork words.now d }
-        { both(rt, words, marks, 2 * TURNS, c, d) },
+        { tallies(both(rt, words, marks, 2 * TURNS, c, d)) },
     );
     let ((a, b), (c, d)) = (one?, two?);
     Some((a, b, c, d))
@@ -311,19 +330,19 @@ fn four_threads_end_each_value_at_most_once(rt: HostRuntime) {
     let Ok(marks) = marks(rt.alloc(), 4 * TURNS) else {
         panic!(rt; "no memory");
     };
-    let Some((words, source)) = open(rt.alloc(), 32) else {
+    let Some((words, lender, source)) = open(rt.alloc(), 32) else {
         panic!(rt; "no memory");
     };
-    let Some((a, source)) = source.make(&words) else {
+    let Some((a, source)) = source.make(&words, &lender) else {
         panic!(rt; "no memory");
     };
-    let Some((b, source)) = source.make(&words) else {
+    let Some((b, source)) = source.make(&words, &lender) else {
         panic!(rt; "no memory");
     };
-    let Some((c, source)) = source.make(&words) else {
+    let Some((c, source)) = source.make(&words, &lender) else {
         panic!(rt; "no memory");
     };
-    let Some((d, _)) = source.make(&words) else {
+    let Some((d, _)) = source.make(&words, &lender) else {
         panic!(rt; "no memory");
     };
     let Some((a, b, c, d)) = all(&rt, &words, marks.as_slice(), (a, b), (c, d)) else {
@@ -339,55 +358,37 @@ fn four_threads_end_each_value_at_most_once(rt: HostRuntime) {
     assert_eq!(rt; told(marks.as_slice()), (left.wrapping_add(LINKS), 0));
 }
 
-// Two threads make turns, and give their workers back.
-fn work_both<'p, R: Threads + Wait + Sync>(
-    rt: &R,
-    words: &Words<u64>,
-    marks: &[AtomicU64],
-    a: Worker<'p>,
-    b: Worker<'p>,
-) -> Option<((Worker<'p>, Tally), (Worker<'p>, Tally))>
-    requires { MayWork words.now a × MayWork words.now b }
-    ensures { IfSome result (λ worked. MayWork words.now worked.0.0 × MayWork words.now worked.1.0) }
-{
-    let (one, two) = thread::join(
-        rt,
-        move || -> Option<(Worker, Tally)>
-            requires { MayWork words.now a }
-            ensures { IfSome result (λ worked. MayWork words.entry.now worked.0) }
-        { a.work(words, 0, TURNS, marks, rt) },
-        move || -> Option<(Worker, Tally)>
-            requires { MayWork words.now b }
-            ensures { IfSome result (λ worked. MayWork words.entry.now worked.0) }
-        { b.work(words, TURNS, TURNS, marks, rt) },
-    );
-    Some((one?, two?))
-}
-
-// Two threads work in turns, with passes that a porter lent. Then the gate is shut to one caller, who has all values back that stand in
-// links and in batches: each value ended, and once.
+// Of what two threads retired at most as much is left in each batch as its bound allows. Nothing that was found had ended before its reader
+// left, and each value ended at most once: all but those in the links and in the batches ended. Then the gate is shut to one caller, who
+// has these back: each value ended, and once.
 #[test]
 fn all_values_come_back_at_a_shut_gate(rt: HostRuntime) {
     let Ok(marks) = marks(rt.alloc(), 2 * TURNS) else {
         panic!(rt; "no memory");
     };
-    let Some((words, porter, source)) = open_in_turns(rt.alloc(), 32) else {
+    let Some((words, lender, source)) = open(rt.alloc(), 32) else {
         panic!(rt; "no memory");
     };
-    let Some((a, source)) = source.make_in_turns(&words, &porter) else {
+    let Some((a, source)) = source.make(&words, &lender) else {
         panic!(rt; "no memory");
     };
-    let Some((b, _)) = source.make_in_turns(&words, &porter) else {
+    let Some((b, _)) = source.make(&words, &lender) else {
         panic!(rt; "no memory");
     };
-    let Some(((a, one), (b, two))) = work_both(&rt, &words, marks.as_slice(), a, b) else {
+    let Some(((a, one), (b, two))) = both(&rt, &words, marks.as_slice(), 0, a, b) else {
         panic!(rt; "no memory");
     };
     let left = one.left.wrapping_add(two.left);
+    assert!(rt; one.left < 32 && two.left < 32);
+    assert_eq!(rt; (one.early, two.early), (0, 0));
+    assert_eq!(rt;
+        one.count.wrapping_add(two.count),
+        (2 * TURNS).wrapping_sub(LINKS).wrapping_sub(left)
+    );
     assert_eq!(rt; told(marks.as_slice()), (left.wrapping_add(LINKS), 0));
     let mut counting = Counting::new(marks.as_slice());
     let (a, b) = (a.sit(&words), b.sit(&words));
-    let (mut pass, a, b) = shut_turns(&words, porter, a, b);
+    let (mut pass, a, b) = shut_turns(&words, lender, a, b);
     let (_, _, all) = reclaim_all(&words, a, b, &mut counting, &mut pass, &rt);
     assert!(rt; all);
     assert_eq!(rt; counting.count, left.wrapping_add(LINKS));

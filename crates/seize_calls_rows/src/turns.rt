@@ -1,63 +1,28 @@
 //! A book whose gate is open to several holders of slots, in turns, and then shut to one caller, who has what links and batches hold
-//! come back. Each holder makes its calls with passes that the porter lends. When nobody shares the porter any more the gate is shut: the
+//! come back. Each holder makes its calls with passes that are lent. When nobody shares the porter any more the gate is shut: the
 //! list that the first pass has seen is the whole list from then on, and each slot leaves nothing behind.
-ghost use Rattle.std.specs.Prelude.{◌≡◌, ◌<◌, ◌↔◌, IfSome, None, true};
+ghost use Rattle.std.specs.Prelude.{◌≡◌, ◌<◌, ◌↔◌, None, true};
 ghost use Rattle.seize_book.specs.Passes.{LooksOn};
-ghost use Rattle.seize_book.specs.Turns.{HasTurn};
-ghost use Rattle.seize_calls_rows.specs.Turns.{AllBack, AreAll, CanMakeIn, IsShutBy, IsSlotAfter, Regains};
+ghost use Rattle.seize_book.specs.Tokens.{IsSole};
+ghost use Rattle.seize_calls_rows.specs.Turns.{AllBack, AreAll, IsShutBy, Regains};
 ghost use Rattle.seize_calls_rows.specs.Seats.{IsLeft, SitsAt, post_at};
 ghost use Rattle.seize_calls_rows.specs.Turns.{EmptyBelow, Gave, HasNone, Holds, IsShut, KeepsLinks, LeavesNothing, NoneLost, StandsAs, TakesOut};
-ghost use Rattle.seize_calls_rows.specs.Workers.{GoesOn, MayWork, made_by};
+ghost use Rattle.seize_calls_rows.specs.Workers.{GoesOn, IsLenderOf};
 ghost use Rattle.seize_words.specs.Joined.{words_book};
 
 use crate::counting::Counting;
 use crate::seat::{Holder, Post, Seat};
-use crate::worker::{ROW, Source, Worker};
+use crate::worker::{Lender, ROW};
 use seize_calls::batch::Batch;
 use seize_calls::calls;
 use seize_content::SteadyCell;
 use seize_store::Spots;
 use seize_words::activation::Activation;
-use seize_words::book::{Pass, Porter, SlotKey};
+use seize_words::book::{Pass, SlotKey};
 use seize_words::chunk::{Header, Part};
 use seize_words::link::MaybeKey;
 use seize_words::words::Words;
-use std::alloc::Global;
 use std::sync::Wait;
-
-/// The words of a new book whose passes come from the porter, and what its slots are made with. A batch has `size` values. Nothing comes
-/// where memory was refused.
-pub fn open_in_turns(alloc: Global, size: usize) -> Option<(Words<u64>, Porter, Source)>
-    ensures { IfSome result (λ opened. CanMakeIn opened.2 opened.0 opened.1 × (made_by opened.2 ≡ 0)) }
-{
-    let Ok((words, mut porter, numbers, next)) = Words::new_in_turns(alloc, 0, ROW, size) else {
-        return None;
-    };
-    porter.leave_home();
-    let source = Source {
-        numbers,
-        next,
-        made: 0,
-        size,
-        alloc,
-    };
-    Some((words, porter, source))
-}
-
-impl Source {
-    /// Makes the next slot, whose holder has a pass that the porter lends. Nothing comes where the growth of the table, or the room of the
-    /// slot's list of spots, was refused.
-    pub fn make_in_turns<'p>(
-        self,
-        words: &Words<u64>,
-        porter: &'p Porter,
-    ) -> Option<(Worker<'p>, Source)>
-        requires can { CanMakeIn self words.now porter.now }
-        ensures may { IfSome result (λ made. MayWork words.now made.0 × IsSlotAfter self made.0 made.1 words.now) }
-    {
-        self.make_with(words, porter.pass())
-    }
-}
 
 // Takes out what the link holds, and retires it.
 fn take_out(
@@ -74,7 +39,7 @@ fn take_out(
     rt: &impl Wait,
 )
     requires stands { StandsAs words.now spots.old slot size batch.old key.old activation.now pass.old }
-    requires turn { HasTurn pass.old }
+    requires turn { IsSole pass.old.id }
     requires link { link < 1024 }
     ensures stands { StandsAs words.now spots.new slot size batch.new key.new activation.now pass.new }
     ensures goes_on { GoesOn pass.old pass.new }
@@ -119,7 +84,7 @@ fn flush_and_leave(
     rt: &impl Wait,
 ) -> Holder
     requires stands { StandsAs words.now spots slot size batch key activation pass.old }
-    requires turn { HasTurn pass.old }
+    requires turn { IsSole pass.old.id }
     ensures holds { Holds words.now result pass.new × (result.slot ≡ slot) }
     ensures goes_on { GoesOn pass.old pass.new }
     ensures keeps { KeepsLinks pass.old pass.new }
@@ -153,7 +118,7 @@ fn stand_up(
     rt: &impl Wait,
 ) -> Holder
     requires left { IsLeft words.now left pass.old }
-    requires turn { HasTurn pass.old }
+    requires turn { IsSole pass.old.id }
     ensures holds { Holds words.now result pass.new × (result.slot ≡ left.holder.slot) }
     ensures goes_on { GoesOn pass.old pass.new }
     ensures gave { Gave pass.old pass.new counting.old.told.had counting.new.told.had }
@@ -188,7 +153,7 @@ fn clear(
     rt: &impl Wait,
 ) -> Holder
     requires holds { Holds words.now holder pass.old }
-    requires turn { HasTurn pass.old }
+    requires turn { IsSole pass.old.id }
     ensures holds { Holds words.now result pass.new × (result.slot ≡ holder.slot) }
     ensures goes_on { GoesOn pass.old pass.new }
     ensures keeps { KeepsLinks pass.old pass.new }
@@ -217,7 +182,7 @@ fn empty(
     rt: &impl Wait,
 ) -> Holder
     requires holds { Holds words.now holder pass.old }
-    requires turn { HasTurn pass.old }
+    requires turn { IsSole pass.old.id }
     ensures holds { Holds words.now result pass.new × (result.slot ≡ holder.slot) }
     ensures goes_on { GoesOn pass.old pass.new }
     ensures links { EmptyBelow 1024 pass.new }
@@ -262,7 +227,7 @@ fn clear_all(
     rt: &impl Wait,
 ) -> (Holder, Holder)
     requires holds { Holds words.now first pass.old × Holds words.now second pass.old }
-    requires turn { HasTurn pass.old }
+    requires turn { IsSole pass.old.id }
     ensures holds { Holds words.now result.0 pass.new × Holds words.now result.1 pass.new }
     ensures slots { (result.0.slot ≡ first.slot) × (result.1.slot ≡ second.slot) }
     ensures bare { HasNone result.0 × HasNone result.1 }
@@ -285,7 +250,7 @@ fn clear_all(
 // A look at the list, in which the slot leaves nothing behind.
 fn look(words: &Words<u64>, holder: Holder, pass: &mut Pass) -> Holder
     requires holds { Holds words.now holder pass.old × HasNone holder }
-    requires turn { HasTurn pass.old }
+    requires turn { IsSole pass.old.id }
     ensures holds { Holds words.now result pass.new × HasNone result × (result.slot ≡ holder.slot) }
     ensures nothing { LeavesNothing pass.new holder.slot }
     ensures looks { LooksOn pass.old pass.new }
@@ -307,41 +272,44 @@ fn look(words: &Words<u64>, holder: Holder, pass: &mut Pass) -> Holder
     }
 }
 
-/// Shuts the gate. The first pass has seen what the passes of both seats had.
+/// Shuts the gate. The first pass has seen what the passes of both seats had, and both have the lender's size of a batch.
 pub fn shut_turns(
     words: &Words<u64>,
-    porter: Porter,
+    lender: Lender,
     first: Seat,
     second: Seat,
 ) -> (Pass<'static>, Seat, Seat)
     requires seats { SitsAt words.now first × SitsAt words.now second }
-    requires porter { porter.name ≡ words_book words.now }
-    ensures shut { IsShutBy porter first second result.0 }
+    requires lender { IsLenderOf words.now lender }
+    ensures shut { IsShutBy lender.porter first second result.0 }
     ensures left { IsLeft words.now result.1 result.0 × IsLeft words.now result.2 result.0 }
-    ensures seats { (result.1 ≡ first) × (result.2 ≡ second) }
+    ensures slots { (result.1.holder.slot ≡ first.holder.slot) × (result.2.holder.slot ≡ second.holder.slot) }
 {
-    let mut pass = porter.shut();
+    let (mut first, mut second) = (first, second);
+    let mut pass = lender.porter.shut();
     pass.learn(&first.seen);
     pass.learn(&second.seen);
+    first.holder.size = lender.size;
+    second.holder.size = lender.size;
     (pass, first, second)
 }
 
 /// The same with the posts where the seats of slots 0 and 1 were lent, whatever became of their holders.
 pub fn shut_lent(
     words: &Words<u64>,
-    porter: Porter,
+    lender: Lender,
     first: SteadyCell<Post>,
     second: SteadyCell<Post>,
 ) -> (Pass<'static>, Seat, Seat)
     requires posts { (first.label ≡ post_at words.now 0) × (second.label ≡ post_at words.now 1) }
-    requires porter { porter.name ≡ words_book words.now }
-    ensures shut { IsShut porter result.0 }
+    requires lender { IsLenderOf words.now lender }
+    ensures shut { IsShut lender.porter result.0 }
     ensures left { IsLeft words.now result.1 result.0 × IsLeft words.now result.2 result.0 }
     ensures slots { (result.1.holder.slot ≡ 0) × (result.2.holder.slot ≡ 1) }
 {
     let first = first.into_value().into_seat().known(words);
     let second = second.into_value().into_seat().known(words);
-    shut_turns(words, porter, first, second)
+    shut_turns(words, lender, first, second)
 }
 
 // The slots with these two numbers are all of so many.
@@ -364,7 +332,7 @@ pub fn reclaim_all(
     rt: &impl Wait,
 ) -> (Holder, Holder, bool)
     requires left { IsLeft words.now first pass.old × IsLeft words.now second pass.old }
-    requires turn { HasTurn pass.old }
+    requires turn { IsSole pass.old.id }
     ensures regains { Regains pass.old pass.new counting.old.told.had counting.new.told.had }
     ensures first { Holds words.now result.0 pass.new × HasNone result.0 × (result.0.slot ≡ first.holder.slot) }
     ensures second { Holds words.now result.1 pass.new × HasNone result.1 × (result.1.slot ≡ second.holder.slot) }

@@ -1,7 +1,7 @@
 //! Workers over all words of one book: each has a slot of its own and the slot's batch, and makes whole calls of the slot. Others may add
 //! any events meanwhile.
 ghost use Rattle.std.specs.Prelude.{◌≡◌, ◌<◌, IfSome};
-ghost use Rattle.seize_calls_rows.specs.Workers.{CanMake, CanTake, HasOneMore, HasTaken, made_by, size_in};
+ghost use Rattle.seize_calls_rows.specs.Workers.{CanMake, HasOneMore, Lends, made_by};
 ghost use Rattle.seize_calls_rows.specs.Workers.{AreSpotsOf, GoesOn, IsOut, MayWork, Stands, Works};
 ghost use Rattle.seize_calls.specs.Calls.{IsInside};
 ghost use Rattle.seize_words.specs.Joined.{IsInAt, words_book};
@@ -13,7 +13,7 @@ use seize_calls::calls;
 use seize_calls::handing::Reclaim;
 use seize_store::Spots;
 use seize_words::activation::Activation;
-use seize_words::book::{NumbersKey, Pass, SlotKey, ValueKey};
+use seize_words::book::{NumbersKey, Pass, Porter, SlotKey, ValueKey};
 use seize_words::chunk::{Header, Part};
 use seize_words::link::MaybeKey;
 use seize_words::slots::NextSlot;
@@ -33,8 +33,14 @@ pub struct Source {
     pub numbers: NumbersKey,
     pub next: NextSlot,
     pub made: usize,
-    pub size: usize,
     pub alloc: Global,
+}
+
+/// What lends the passes of a book, whose batches have so many values.
+#[derive(Drop)]
+pub struct Lender {
+    pub porter: Porter,
+    pub size: usize,
 }
 
 /// What the holder of a slot has beside the slot's key and its batch.
@@ -67,54 +73,58 @@ pub struct Out {
     pub value: ValueKey,
 }
 
-/// The words of a new book, and what its slots are made with. A batch has `size` values. Nothing comes where memory was refused.
-pub fn open(alloc: Global, size: usize) -> Option<(Words<u64>, Source)>
-    ensures { IfSome result (λ opened. CanMake opened.1 opened.0 × (made_by opened.1 ≡ 0) × (size_in opened.1 ≡ size)) }
+/// The words of a new book, what lends its passes, and what its slots are made with. A batch has `size` values. Nothing comes where memory
+/// was refused.
+pub fn open(alloc: Global, size: usize) -> Option<(Words<u64>, Lender, Source)>
+    ensures can { IfSome result (λ opened. CanMake opened.2 opened.0 × (made_by opened.2 ≡ 0)) }
+    ensures lender { IfSome result (λ opened. Lends opened.0 opened.1) }
 {
-    let Ok((words, numbers, next)) = Words::new(alloc, 0, ROW, size) else {
+    let Ok((words, mut porter, numbers, next)) = Words::new(alloc, 0, ROW, size) else {
         return None;
     };
+    porter.leave_home();
     let source = Source {
         numbers,
         next,
         made: 0,
-        size,
         alloc,
     };
-    Some((words, source))
+    Some((words, Lender { porter, size }, source))
+}
+
+impl Lender {
+    /// Sets how many values a batch has in calls with passes that it lends from then on.
+    pub fn set_size(&mut self, _words: &Words<u64>, size: usize)
+        requires lends { Lends _words.now self.old }
+        ensures lends { Lends _words.now self.new }
+    {
+        self.porter.set_size(size);
+        self.size = size;
+    }
 }
 
 impl Source {
-    /// Makes the next slot. Nothing comes where the growth of the table, or the room of the slot's list of spots, was refused.
-    pub fn make(self, words: &Words<u64>) -> Option<(Worker<'static>, Source)>
+    /// Makes the next slot, whose holder has a pass that is lent. Nothing comes where the growth of the table, or the room of the
+    /// slot's list of spots, was refused.
+    pub fn make<'p>(self, words: &Words<u64>, lender: &'p Lender) -> Option<(Worker<'p>, Source)>
         requires can { CanMake self words.now }
-        ensures may { IfSome result (λ made. MayWork words.now made.0) }
-        ensures made { IfSome result (λ made. HasOneMore self made.1 words.now) }
-    {
-        self.make_with(words, words.blocks.book.pass())
-    }
-
-    /// The same with this pass.
-    pub fn make_with<'p>(self, words: &Words<u64>, pass: Pass<'p>) -> Option<(Worker<'p>, Source)>
-        requires can { CanTake self words.now }
-        requires book { pass.name ≡ words_book words.now }
+        requires lender { Lends words.now lender.now }
         ensures may { IfSome result (λ made. MayWork words.now made.0 × (made.0.slot ≡ made_by self)) }
-        ensures made { IfSome result (λ made. HasTaken self made.1 words.now) }
+        ensures made { IfSome result (λ made. HasOneMore self made.1 words.now) }
     {
         let Source {
             mut numbers,
             next,
             made,
-            size,
             alloc,
         } = self;
-        let mut pass = pass;
+        let mut pass = lender.porter.pass();
         let spots = words.blocks.spots(alloc).ok()?;
         let (key, next) = words.make_slot(next, &mut numbers, &mut pass).ok()?;
         let batch = Batch::new(&mut pass);
         let worker = Worker {
             slot: made,
-            size,
+            size: lender.size,
             key,
             batch,
             spots,
@@ -124,7 +134,6 @@ impl Source {
             numbers,
             next,
             made: made + 1,
-            size,
             alloc,
         };
         Some((worker, source))

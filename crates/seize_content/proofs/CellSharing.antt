@@ -22,7 +22,7 @@ use denote.Struct.Members.{Member, row_of}
 use denote.Struct.Parts.{shape_of}
 use denote.Struct.CellSteps.{BackTo, only_out}
 use Rattle.seize_content.specs.Contents.{fact}
-use Rattle.seize_content.specs.Cells.{Turn, there, away, cell_says, lying, lies, turned, turning, cell_lent}
+use Rattle.seize_content.specs.Cells.{CellState, there, away, cell_says, lying, lies, turned, turning, cell_lent}
 
 module _ {M : Type 1} {𝓤 : Ura M} (𝓛 : Logic 𝓤) (m : Member) (fits : m.row.Denot → Type 0) (γ : ℕ) (L : Lawful 𝓛 (row_of m)) (b o : ℕ) where
   open 𝓛 use {H, A}
@@ -63,7 +63,7 @@ module _ {M : Type 1} {𝓤 : Ura M} (𝓛 : Logic 𝓤) (m : Member) (fits : m.
     I = turning R fits γ b o κ
 
     -- the sharing is over, so the value is there
-    returned : (t : Turn) → Back ∗ ⟦ cell_says γ t ⟧ ∗ ⟦ lies R fits γ b o κ t ⟧ ∗ ⟦ fdead κ ⟧ ⊢ ⟦ Whole ⟧
+    returned : (t : CellState) → Back ∗ ⟦ cell_says γ t ⟧ ∗ ⟦ lies R fits γ b o κ t ⟧ ∗ ⟦ fdead κ ⟧ ⊢ ⟦ Whole ⟧
     returned (there g) = qed 𝓛 (raw Back ∷ ‵ (cell_says γ (there g)) ∷ ‵ (lies R fits γ b o κ (there g)) ∷ ‵ (fdead κ) ∷ []) ∵ move ! (2 ∷ []) $ fpick ! (λ x. fsplit ! $ fpick ! (λ is. drop ! $
         -- [the value; the way back; the name; it is over]
         move ! (1 ∷ []) $ use1 𝓛 (raw (wand 𝓤 ⟦ part_at R full_share x b o ⟧ ⟦ Fields x ⟧)) (all_e 𝓤 (λ (y : R.Denot). wand 𝓤 ⟦ part_at R full_share y b o ⟧ ⟦ Fields y ⟧) x) $ move ! (1 ∷ 0 ∷ []) $
@@ -85,7 +85,7 @@ module _ {M : Type 1} {𝓤 : Ura M} (𝓛 : Logic 𝓤) (m : Member) (fits : m.
     shared q = qed 𝓛 (‵ (fbor κ Whole) ∷ ‵ (flft κ q) ∷ []) ∵ updating ! $ bor_open ! tt $ move ! (1 ∷ []) $ use1 𝓛 (some (λ (x : R.Denot). ‵ (Fields x) ⊛ ‵ (own x))) apart $ pick ! (λ x. let g : Gv = R.coded.code x in split ! $
         use1 𝓛 (‵ (part_at R full_share x b o) ⊛ raw Back) (only_out 𝓛 [] [] [] m L b o x) $ split ! $ move ! (2 ∷ []) $ fsplit ! $ fpick ! (λ fit. drop ! $
         -- [the name; the value; the way back; the open borrow]
-        move ! (1 ∷ []) $ nothing ! $ fpack ! ((g ≡ g) × fits x) (λ _. ftrue) (refl, fit) $ fjoin ! $ fpack ! R.Denot (lying R fits γ b o κ g) x $ move ! (1 ∷ 0 ∷ []) $ fjoin ! $ fpack ! Turn (turned R fits γ b o κ) (there g) $
+        move ! (1 ∷ []) $ nothing ! $ fpack ! ((g ≡ g) × fits x) (λ _. ftrue) (refl, fit) $ fjoin ! $ fpack ! R.Denot (lying R fits γ b o κ g) x $ move ! (1 ∷ 0 ∷ []) $ fjoin ! $ fpack ! CellState (turned R fits γ b o κ) (there g) $
         nothing ! $ move ! (1 ∷ 0 ∷ []) $ fjoin ! $ move ! (1 ∷ []) $ use1 𝓛 (‵ (fwand (fsep (fdead κ) (fseps (I ∷ []))) (fupd Whole))) way_back $ move ! (2 ∷ 1 ∷ 0 ∷ []) $ obor_alter ! tt (I ∷ []) $
         use1 𝓛 (‵ (fbor κ I) ⊛ ‵ ftrue) (id⊢ 𝓤 _) $ split ! $ use1 𝓛 (later (some (λ (j : ℕ). given (0 ≤ j) (‵ (fnamed j (fbor κ I)))))) (named_past 𝓛 0 (fbor κ I)) $ await ! tt $ pick ! (λ j. learn ! (λ _.
         use0 𝓛 (‵ (before κ κ)) (before-Incl 𝓛 κ κ (Incl-refl κ)) $ fjoin ! $ fpack ! (Lft × ℕ) (cell_lent R fits γ b o κ) (κ, j) $ now ! $ keep ! (0 ∷ 2 ∷ []) $ done !))))

@@ -17,7 +17,7 @@ use denote.Steps.{nothing}
 use contract.Shared.{Lends-one}
 use contract.Running.{Running}
 use prog.Model.{Model}
-use Rattle.seize_content.specs.Cells.{Turn, there, away, turn_coded, token_says, cell_says, cell_token, lying, lies, turned, turning, cell_shares}
+use Rattle.seize_content.specs.Cells.{CellState, there, away, turn_coded, token_says, cell_says, cell_token, lying, lies, turned, turning, cell_shares}
 use Rattle.seize_content.proofs.Places.{opened}
 
 module _ {M : Type 1} {𝓤 : Ura M} (𝓛 : Logic 𝓤) (R : RattleType) (fits : R.Denot → Type 0) (γ b o : ℕ) where
@@ -45,28 +45,28 @@ module _ {M : Type 1} {𝓤 : Ura M} (𝓛 : Logic 𝓤) (R : RattleType) (fits 
     I = turning R fits γ b o ν
 
     -- both halves of the name go to another turn
-    turns : (s t u : Turn) → ⟦ token_says γ s ⟧ ∗ ⟦ cell_says γ t ⟧ ⊢ upd 𝓤 (⟦ token_says γ u ⟧ ∗ ⟦ cell_says γ u ⟧)
+    turns : (s t u : CellState) → ⟦ token_says γ s ⟧ ∗ ⟦ cell_says γ t ⟧ ⊢ upd 𝓤 (⟦ token_says γ u ⟧ ∗ ⟦ cell_says γ u ⟧)
     turns s t u = 𝓛.names.name_set_upd γ (turn_coded.code s) (turn_coded.code t) (turn_coded.code u)
 
     abbrev Out : Gv → R.Denot → Pr
     Out g x = guard 𝓤 ((R.coded.code x ≡ g) × fits x) (⟦ value x ⟧ ∗ ⟦ token_says γ (away r) ⟧)
 
     takes : (g : Gv) → ⟦ I ⟧ ∗ ⟦ cell_token γ g ⟧ ∗ ⟦ flft ν r ⟧ ⊢ upd 𝓤 (⟦ I ⟧ ∗ ex 𝓤 (Out g))
-    takes g = let Z : Pr = ⟦ I ⟧ ∗ ex 𝓤 (Out g) in let t : Turn = away r in
+    takes g = let Z : Pr = ⟦ I ⟧ ∗ ex 𝓤 (Out g) in let t : CellState = away r in
         qed 𝓛 (‵ I ∷ ‵ (cell_token γ g) ∷ ‵ (flft ν r) ∷ []) ∵ fpick ! (λ s. fsplit ! $ move ! (2 ∷ 0 ∷ []) $ name_agree ! turn_coded {x = there g} {y = s} (λ same.
         use2 𝓛 (raw (upd 𝓤 (⟦ token_says γ t ⟧ ∗ ⟦ cell_says γ t ⟧))) (turns (there g) s t) $ settle 𝓛 Z (‵ (token_says γ t) ⊛ ‵ (cell_says γ t)) $ suffices ! _ (upd_i 𝓤 Z) $ split ! $
         -- [the token's half; the cell's; the value; the share]
-        move ! (2 ∷ []) $ rewrite ! 0 (λ (u : Turn). ‵ (lies R fits γ b o ν u)) (sym same) refl $ fpick ! (λ x. fsplit ! $ fpick ! (λ is. drop ! $
-        move ! (2 ∷ 3 ∷ []) $ fjoin ! $ fpack ! Turn (turned R fits γ b o ν) t $ frame ! $ show ! (Out g) x $ check ! is $ done !))))
+        move ! (2 ∷ []) $ rewrite ! 0 (λ (u : CellState). ‵ (lies R fits γ b o ν u)) (sym same) refl $ fpick ! (λ x. fsplit ! $ fpick ! (λ is. drop ! $
+        move ! (2 ∷ 3 ∷ []) $ fjoin ! $ fpack ! CellState (turned R fits γ b o ν) t $ frame ! $ show ! (Out g) x $ check ! is $ done !))))
 
     lays : (x : R.Denot) → fits x → ⟦ I ⟧ ∗ ⟦ token_says γ (away r) ⟧ ∗ ⟦ value x ⟧ ⊢ upd 𝓤 (⟦ I ⟧ ∗ ⟦ cell_token γ (R.coded.code x) ⟧ ∗ ⟦ flft ν r ⟧)
-    lays x fit = let g : Gv = R.coded.code x in let Z : Pr = ⟦ I ⟧ ∗ ⟦ cell_token γ g ⟧ ∗ ⟦ flft ν r ⟧ in let t : Turn = there g in
+    lays x fit = let g : Gv = R.coded.code x in let Z : Pr = ⟦ I ⟧ ∗ ⟦ cell_token γ g ⟧ ∗ ⟦ flft ν r ⟧ in let t : CellState = there g in
         qed 𝓛 (‵ I ∷ ‵ (token_says γ (away r)) ∷ ‵ (value x) ∷ []) ∵ fpick ! (λ s. fsplit ! $ move ! (2 ∷ 0 ∷ []) $ name_agree ! turn_coded {x = away r} {y = s} (λ same.
         use2 𝓛 (raw (upd 𝓤 (⟦ token_says γ t ⟧ ∗ ⟦ cell_says γ t ⟧))) (turns (away r) s t) $ settle 𝓛 Z (‵ (token_says γ t) ⊛ ‵ (cell_says γ t)) $ suffices ! _ (upd_i 𝓤 Z) $ split ! $
         -- [the token; the cell's half; the share; the value]
-        move ! (2 ∷ []) $ rewrite ! 0 (λ (u : Turn). ‵ (lies R fits γ b o ν u)) (sym same) refl $
+        move ! (2 ∷ []) $ rewrite ! 0 (λ (u : CellState). ‵ (lies R fits γ b o ν u)) (sym same) refl $
         nothing ! $ fpack ! ((g ≡ g) × fits x) (λ _. ftrue) (refl, fit) $ move ! (0 ∷ 4 ∷ []) $ fjoin ! $ fpack ! R.Denot (lying R fits γ b o ν g) x $
-        move ! (3 ∷ 0 ∷ []) $ fjoin ! $ fpack ! Turn (turned R fits γ b o ν) t $ frame ! $ move ! (1 ∷ 0 ∷ []) $ done !))
+        move ! (3 ∷ 0 ∷ []) $ fjoin ! $ fpack ! CellState (turned R fits γ b o ν) t $ frame ! $ move ! (1 ∷ 0 ∷ []) $ done !))
 
   -- ---- through a `&`
   module _ (𝓜 : Model 𝓤 𝓛.H) (𝓡 : Running 𝓤 𝓛.H 𝓜) (κ : Lft) (q : Share) where

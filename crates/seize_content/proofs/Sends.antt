@@ -19,9 +19,9 @@ use denote.Memory.{lone}
 use Rattle.seize_content.specs.Goods.{Goods, room, value_at}
 use Rattle.seize_content.specs.Stages.{Stage, empty, held, lent, goes}
 use Rattle.seize_content.specs.Contents.{body, onward, named, place, place_shares, content_owns, content_shares, ticket_owns, held_owns, stay, pool_owns, pool_shares, sight_owns}
-use Rattle.seize_content.specs.Cells.{Turn, there, away, cell_token, lies, cell_shares}
+use Rattle.seize_content.specs.Cells.{CellState, there, away, cell_token, lies, cell_shares}
 use Rattle.seize_content.specs.Memory.{grant_owns}
-use Rattle.seize_content.specs.Readers.{Piece, deposit, holds, lent_pool, pool}
+use Rattle.seize_content.specs.Readers.{LifeShare, escrow_deposit, holds, lent_pool, pool}
 
 pub room_sent : (R : RattleType) (p : Ptr) → Keyless (room R p)
 room_sent R (block_ptr b o) = tt
@@ -53,11 +53,11 @@ sight_sent κ γ a g = ((λ νs. chain-Keyless νs κ (a ∷ [])), stay_sent γ 
 
 -- what readers have of a loan, and what is left of it
 
-holds_sent : (o : Option Piece) → Keyless (holds o)
+holds_sent : (o : Option LifeShare) → Keyless (holds o)
 holds_sent none = tt
 holds_sent (some t) = tt
 
-deposit_sent : (a : ℕ) (e : Share) (d : Lft × ℕ) → Keyless (deposit a e d)
+deposit_sent : (a : ℕ) (e : Share) (d : Lft × ℕ) → Keyless (escrow_deposit a e d)
 unfolding latest at_least
 deposit_sent a e d = ((λ o. (tt, holds_sent o)), tt)
 
@@ -106,7 +106,7 @@ pub token_sent : (γ : ℕ) (g : Gv) → Keyless (cell_token γ g)
 token_sent γ g = tt
 
 module _ (R : RattleType) (send : IsSend R) (fits : R.Denot → Type 0) (γ b o : ℕ) where
-  lies_sent : (ν : Lft) (t : Turn) → Keyless (lies R fits γ b o ν t)
+  lies_sent : (ν : Lft) (t : CellState) → Keyless (lies R fits γ b o ν t)
   lies_sent ν (there g) = λ x. ((λ _. tt), part_keyless R send full_share x b o)
   lies_sent ν (away r) = tt
 

@@ -2,7 +2,7 @@
 -- values may lie there is the kind of cell's to say (fits).
 --     CellName            what a cell is in a clause: its name, which nothing else has
 --     anything            any value may lie there
---     Turn                there g: the value lies there and has the code g;  away r: the token's holder has it, and left the share r of the
+--     CellState           there g: the value lies there and has the code g;  away r: the token's holder has it, and left the share r of the
 --                         sharing's lifetime for it, so that it is back before that lifetime ends
 --     cell_token γ g      the token of the cell γ, whose value has the code g. It knows nothing of the value's type
 --     cell_owns R fits γ f     a cell by value, with the fields f x for the value x of row R;  cell_shares    what a `&` to it is
@@ -27,30 +27,30 @@ pub record CellName : Type 0 where
 abbrev pub cell_name_coded : Coded CellName
 cell_name_coded = code_by ℕ coded_ℕ (λ c. c.name) (λ n. record { name = n }) (λ _. refl)
 
-pub data Turn : Type 0 where
-  there : Gv → Turn
-  away : Share → Turn
+pub data CellState : Type 0 where
+  there : Gv → CellState
+  away : Share → CellState
 
-abbrev sides : Turn → Gv ⊎ Share
+abbrev sides : CellState → Gv ⊎ Share
 sides (there g) = inl g
 sides (away r) = inr r
 
-abbrev of_sides : Gv ⊎ Share → Turn
+abbrev of_sides : Gv ⊎ Share → CellState
 of_sides (inl g) = there g
 of_sides (inr r) = away r
 
-pub sides_back : (t : Turn) → of_sides (sides t) ≡ t
+pub sides_back : (t : CellState) → of_sides (sides t) ≡ t
 sides_back (there g) = refl
 sides_back (away r) = refl
 
-abbrev pub turn_coded : Coded Turn
+abbrev pub turn_coded : Coded CellState
 turn_coded = coded_via (coded⊎ itself coded_share) sides (λ x y e. sym (sides_back x) ∙ (ap of_sides e ∙ sides_back y))
 
 -- whose turn it is, as the token says it, and as the cell does
-abbrev pub token_says : ℕ → Turn → Fml
+abbrev pub token_says : ℕ → CellState → Fml
 token_says γ t = fobs γ (turn_coded.code t)
 
-abbrev pub cell_says : ℕ → Turn → Fml
+abbrev pub cell_says : ℕ → CellState → Fml
 cell_says γ t = fauth γ (turn_coded.code t)
 
 abbrev pub cell_token : ℕ → Gv → Fml
@@ -71,15 +71,15 @@ module _ (R : RattleType) (fits : R.Denot → Type 0) (γ b o : ℕ) (ν : Lft) 
   abbrev pub lying : Gv → R.Denot → Fml
   lying g x = fsep (fact ((R.coded.code x ≡ g) × fits x)) (part_at R full_share x b o)
 
-  abbrev pub lies : Turn → Fml
+  abbrev pub lies : CellState → Fml
   lies (there g) = fex R.Denot (lying g)
   lies (away r) = flft ν r
 
-  abbrev pub turned : Turn → Fml
+  abbrev pub turned : CellState → Fml
   turned t = fsep (cell_says γ t) (lies t)
 
   abbrev pub turning : Fml
-  turning = fex Turn turned
+  turning = fex CellState turned
 
 module _ (R : RattleType) (fits : R.Denot → Type 0) (γ : ℕ) where
   abbrev pub cell_lent : ℕ → ℕ → Lft → Lft × ℕ → Fml

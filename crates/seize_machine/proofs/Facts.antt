@@ -9,8 +9,8 @@ pub use Rattle.seize_machine.proofs.Counting.Sums.{one, occ, has_none, has_some,
 use Rattle.std.proofs.Common.{◌≡◌, ◌≢◌, ℕ, ◌+◌, ◌<◌, ◌≤◌, pos, neg_ℤ, ◌≤ℤ◌, Bool, true, false, List, [], ◌∷◌, ◌++◌, length, take, drop, Option, Some, ◌⊎◌, arith, subst}
 use Rattle.std.specs.Prelude.{◌↔◌}
 use Rattle.std.specs.List.{Contains, slice_get}
-use Rattle.seize_machine.specs.Machine.State.{State, Mark, Look, Try, Add, Out, slot_at, head_at, link_at, batch_at, is_active, has, linked, are_distinct, opening, Place, Append, Rest}
-use Rattle.seize_machine.specs.Machine.Event.{Event, Put, SwapOut, slot_of}
+use Rattle.seize_machine.specs.Machine.State.{State, Mark, Look, Try, Add, Out, slot_at, head_at, link_at, batch_at, is_active, has, linked_values, are_distinct, opening, Place, Append, Rest}
+use Rattle.seize_machine.specs.Machine.Event.{Event, Put, SwapOut, event_slot}
 use Rattle.seize_machine.specs.Machine.Next.{next, set_slot, can_link}
 use Rattle.seize_machine.specs.Machine.History.{Timed, is_legal, Legal, IsReached, handed_value, is_link_event, history}
 use Rattle.seize_machine.specs.Machine.Laws.{HoldsOfAll, AtMostOnce, After, Quiet, Protection, places, Whereabouts, Gone, Holders, NoLaterHolders, Tries, detached_by, Lists, Walks, IsHeld}
@@ -58,7 +58,7 @@ pub step_put : (size : ℕ) (st : State) (s v : ℕ) (from : Place) (before afte
 step_put = steps.step_put_from
 
 -- where a call of a slot is under way, its place tells the next event of that slot, links aside
-pub forced : (size : ℕ) (st : State) (s : ℕ) (place : Place) (queue : List ℕ) (e : Event) (d : State × Answer) → Step size st e d → slot_of e ≡ s → is_link_event s e ≡ false
+pub forced : (size : ℕ) (st : State) (s : ℕ) (place : Place) (queue : List ℕ) (e : Event) (d : State × Answer) → Step size st e d → event_slot e ≡ s → is_link_event s e ≡ false
     → (slot_at st s).used ≡ true → Stands st s place queue → Forced st s place queue e
 forced = forcing.forced
 
@@ -110,7 +110,7 @@ moment_of_event = lists.moment_of_event
 -- Reached states: each opening is one, a legal event leads to another, and what holds of each opening and is kept by each legal event
 -- from a reached state holds of all of them.
 
-pub opening_reached : (slots : ℕ) (links : List (Option ℕ)) → are_distinct (linked links) ≡ true → IsReached (opening slots links)
+pub opening_reached : (slots : ℕ) (links : List (Option ℕ)) → are_distinct (linked_values links) ≡ true → IsReached (opening slots links)
 opening_reached slots links distinct =
     record { slots = slots; links = links; events = []; answers = []; distinct = distinct; leads = lists.no_event (opening slots links) }
 
@@ -124,7 +124,7 @@ reached_by (t ∷ events) st end answers r legal =
     let first = lists.first_event st end t events answers legal in
     reached_by events first.0 end first.2 (reached.reached_next st t (first.0, first.1) r first.4) first.5
 
-pub reached_holds : (P : State → Type 0) → ((slots : ℕ) (links : List (Option ℕ)) → are_distinct (linked links) ≡ true → P (opening slots links))
+pub reached_holds : (P : State → Type 0) → ((slots : ℕ) (links : List (Option ℕ)) → are_distinct (linked_values links) ≡ true → P (opening slots links))
     → ((st : State) (t : Timed) (d : State × Answer) → IsReached st → Step t.size st t.event d → P st → P d.0) → (st : State) → IsReached st → P st
 reached_holds = states.reached_holds
 

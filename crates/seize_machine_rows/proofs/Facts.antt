@@ -2,7 +2,7 @@
 use Rattle.std.proofs.Common.{◌≡◌, ◌≢◌, ℕ, pos, Bool, true, false, not, ◌||◌, ◌==◌, List, [], ◌∷◌, ◌++◌, option_to_list, Option, Some, None, refl, sym, ◌∙◌, ap, subst, arith, length, take, drop, ◌⊎◌, inl, inr}
 use Rattle.std.specs.List.{list_all, slice_get}
 use Rattle.std.proofs.lemmas.List.Concat.{flat_map-cons}
-use Rattle.seize_machine.specs.Machine.State.{State, link_at, has, linked, are_distinct, opening, slot_at}
+use Rattle.seize_machine.specs.Machine.State.{State, link_at, has, linked_values, are_distinct, opening, slot_at}
 use Rattle.seize_machine.specs.Machine.Event.{Event, SwapOut}
 use Rattle.seize_machine.specs.Machine.Next.{next, can_link}
 use Rattle.seize_machine.specs.Machine.History.{Timed, Legal, IsReached, handed_value, handed, is_swap_out, is_legal, history}
@@ -70,7 +70,7 @@ unmoved size st event d legal =
     }
 
 pub reached : (slots : ℕ) (links : List (Option ℕ)) (events : List Timed) (answers : List Answer) (end : State)
-    → are_distinct (linked links) ≡ true → Legal next (opening slots links) events answers end → IsReached end
+    → are_distinct (linked_values links) ≡ true → Legal next (opening slots links) events answers end → IsReached end
 reached slots links events answers end distinct legal = reached_by events (opening slots links) end answers (opening_reached slots links distinct) legal
 
 pub tidy : (st : State) → IsReached st → CallsTidy st
@@ -108,7 +108,7 @@ pub unheld : (size : ℕ) (st : State) (event : Event) (d : State × Answer) (b 
 unheld size st event d b r legal none at s = arrives_unheld size st event d b r (step_of size st event d legal) none at s
 
 pub obeys : (slots : ℕ) (links : List (Option ℕ)) (events : List Timed) (answers : List Answer) (now later : State) (t : Timed) (answer : Answer)
-    → are_distinct (linked links) ≡ true → Legal next (opening slots links) events answers now → next t.size now t.event ≡ Some (later, answer)
+    → are_distinct (linked_values links) ≡ true → Legal next (opening slots links) events answers now → next t.size now t.event ≡ Some (later, answer)
     → Obeys (opening slots links) (events ++ t ∷ [])
 obeys slots links events answers now later t answer distinct legal e =
     let start : State = opening slots links in
@@ -132,7 +132,7 @@ answered size st event d legal = legal_answer size st event d (step_of size st e
 
 -- two events of one legal list that hand one value are one
 pub handed_once : (slots : ℕ) (links : List (Option ℕ)) (v : ℕ) (end : State) (answers : List Answer) (events more : List Timed) (t : Timed) (before : Handing slots links v events t)
-    (events2 more2 : List Timed) (t2 : Timed) (before2 : Handing slots links v events2 t2) → are_distinct (linked links) ≡ true
+    (events2 more2 : List Timed) (t2 : Timed) (before2 : Handing slots links v events2 t2) → are_distinct (linked_values links) ≡ true
     → Legal next (opening slots links) (events ++ t ∷ more) answers end → events ++ t ∷ more ≡ events2 ++ t2 ∷ more2 → length events ≡ length events2
 handed_once slots links v end answers events more t a events2 more2 t2 b distinct legal same =
     law_at_most_once slots links (events ++ t ∷ more) answers end distinct legal v (length events) (length events2)

@@ -1,7 +1,7 @@
 -- The machine's steps, used by a crate that builds on it: what a call under way does next, and how a value stands in a list.
 use Rattle.std.proofs.Common.{◌≡◌, ◌≢◌, ℕ, ◌<◌, ◌≤◌, pos, ◌+ℤ◌, true, false, if◌then◌else◌, nat_lt, ◌+◌, ◌==◌, List, [], ◌∷◌, ◌++◌, length, Some, None, ◌⊎◌, inl, inr, refl, sym, ◌∙◌, arith}
 use Rattle.seize_machine.specs.Machine.State.{State, Active, Add, Append, Try, Out, slot_at, head_at, batch_at, link_at, is_active, is_idle, has, are_distinct}
-use Rattle.seize_machine.specs.Machine.Event.{Event, Begin, Put, Insert, AddCount, ExchangeLink, slot_of}
+use Rattle.seize_machine.specs.Machine.Event.{Event, Begin, Put, Insert, AddCount, ExchangeLink, event_slot}
 use Rattle.seize_machine.specs.Machine.Next.{next, set_slot, can_link, is_none_or_fresh, new_link, is_stored}
 use Rattle.seize_machine.specs.Machine.History.{is_link_event}
 use Rattle.seize_machine.specs.declared.machine.event.Answer.{Answer}
@@ -17,7 +17,7 @@ legal : (size : ℕ) (st later : State) (event : Event) (answer : Answer) → St
 legal size st later event answer step = (later, next_of size st event (later, answer) step)
 
 adds : (size : ℕ) (st : State) (s b won : ℕ) (queue : List ℕ) (event : Event) (d : State × Answer) → (slot_at st s).used ≡ true
-    → StandsAt st s (Add b won) queue → next size st event ≡ Some d → slot_of event ≡ s → is_link_event s event ≡ false → event ≡ AddCount s
+    → StandsAt st s (Add b won) queue → next size st event ≡ Some d → event_slot event ≡ s → is_link_event s event ≡ false → event ≡ AddCount s
 adds size st s b won queue event d used stands h own apart =
     let now : Forced st s (Add b won) queue event = forced size st s (Add b won) queue event d (step_of size st event d h) own apart used stands in
     now

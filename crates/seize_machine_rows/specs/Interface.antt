@@ -2,7 +2,7 @@
 use Rattle.std.specs.Prelude.{◌≡◌, ◌≢◌, ◌⊎◌, ◌↔◌, ℕ, ◌+◌, ◌<◌, ◌≤◌, pos, neg_ℤ, ◌+ℤ◌, ◌≤ℤ◌, Bool, true, false, List, [], ◌∷◌, length, Some, Option}
 use Rattle.std.specs.List.{Contains}
 use Rattle.seize_machine.specs.Machine.State.{State, Place, Active, Append, Mark, Look, Try, Add, Out, slot_at, is_idle, head_at, link_at, batch_at, is_active, has, are_distinct, opening}
-use Rattle.seize_machine.specs.Machine.Event.{Event, Begin, Put, Insert, AddCount, ExchangeLink, slot_of}
+use Rattle.seize_machine.specs.Machine.Event.{Event, Begin, Put, Insert, AddCount, ExchangeLink, event_slot}
 use Rattle.seize_machine.specs.Machine.Next.{next, can_link, is_none_or_fresh, new_link, is_stored}
 use Rattle.seize_machine.specs.declared.machine.event.Answer.{Answer}
 use Rattle.seize_machine.specs.declared.machine.event.Answer.TheVariants.{Done, Count, Handed, Link}
@@ -73,7 +73,7 @@ pub record ValuesStand (st : State) : Type 0 where
 pub record UnderWay (size : ℕ) (st : State) : Type 0 where
   -- a call that has still to add does nothing else, links aside
   pub forced : (s b won : ℕ) (queue : List ℕ) (event : Event) (d : State × Answer) → (slot_at st s).used ≡ true
-      → StandsAt st s (Add b won) queue → next size st event ≡ Some d → slot_of event ≡ s → is_link_event s event ≡ false
+      → StandsAt st s (Add b won) queue → next size st event ≡ Some d → event_slot event ≡ s → is_link_event s event ≡ false
       → event ≡ AddCount s
   pub begins : (s : ℕ) → is_idle (slot_at st s) ≡ true → is_active (head_at st s) ≡ true → IsLegal size st (Begin s Leave) Done
   pub put : (s v : ℕ) (queue : List ℕ) → StandsAt st s (Append v) queue → IsLegal size st (Put s) Done

@@ -3,7 +3,7 @@
 
 ghost use Rattle.std.specs.Prelude.{◌≡◌, ◌≢◌, ◌⊎◌, ℕ, pos, true, false, not, List, [], ◌∷◌, ◌++◌, Option, Some, length, take, drop};
 ghost use Rattle.std.specs.List.{list_all};
-ghost use Rattle.seize_machine.specs.Machine.State.{State, slot_at, link_at, has, linked, are_distinct, opening};
+ghost use Rattle.seize_machine.specs.Machine.State.{State, slot_at, link_at, has, linked_values, are_distinct, opening};
 ghost use Rattle.seize_machine.specs.Machine.Event.{Event};
 ghost use Rattle.seize_machine.specs.Machine.Next.{next, can_link};
 ghost use Rattle.seize_machine.specs.Machine.History.{Timed, Legal, IsReached, handed, is_swap_out, is_legal};
@@ -30,7 +30,7 @@ pub fn beside_other_events()
 /// Where calls and values stand and how counts are in each state that a legal list reaches from an opening.
 pub fn in_reached_states()
     ensures reached { (slots : ℕ) (links : List (Option ℕ)) (events : List Timed) (answers : List Answer) (end : State)
-        → are_distinct (linked links) ≡ true → Legal next (opening slots links) events answers end → IsReached end }
+        → are_distinct (linked_values links) ≡ true → Legal next (opening slots links) events answers end → IsReached end }
     ensures again { (st : State) → IsReached st → IsReached st }
     ensures tidy { (st : State) → IsReached st → CallsTidy st }
     ensures values { (st : State) → IsReached st → ValuesStand st }
@@ -51,13 +51,13 @@ pub fn calls_under_way()
 pub fn of_legal_lists()
     ensures handed_once { (slots : ℕ) (links : List (Option ℕ)) (v : ℕ) (end : State) (answers : List Answer)
         (events more : List Timed) (t : Timed) (before : Handing slots links v events t)
-        (events2 more2 : List Timed) (t2 : Timed) (before2 : Handing slots links v events2 t2) → are_distinct (linked links) ≡ true
+        (events2 more2 : List Timed) (t2 : Timed) (before2 : Handing slots links v events2 t2) → are_distinct (linked_values links) ≡ true
         → Legal next (opening slots links) (events ++ t ∷ more) answers end → events ++ t ∷ more ≡ events2 ++ t2 ∷ more2
         → length events ≡ length events2 }
     ensures beginning { (st later now : State) (events more : List Timed) (answers told : List Answer)
         → Legal next st (events ++ more) answers later → Legal next st events told now
         → (take (length events) answers ≡ told) × Legal next now more (drop (length events) answers) later }
     ensures obeys { (slots : ℕ) (links : List (Option ℕ)) (events : List Timed) (answers : List Answer) (now later : State) (t : Timed)
-        (answer : Answer) → are_distinct (linked links) ≡ true → Legal next (opening slots links) events answers now
+        (answer : Answer) → are_distinct (linked_values links) ≡ true → Legal next (opening slots links) events answers now
         → next t.size now t.event ≡ Some (later, answer) → Obeys (opening slots links) (events ++ t ∷ []) }
 {}

@@ -6,7 +6,7 @@ ghost use Rattle.seize_machine.specs.Machine.State.{opening};
 ghost use Rattle.seize_model.specs.Waiting.State.{new};
 ghost use Rattle.seize_model.specs.Waiting.Further.{Lighter};
 ghost use Rattle.seize_model.specs.Waiting.Runs as runs;
-ghost use Rattle.seize_model.specs.Agreement.Shows.{Shows};
+ghost use Rattle.seize_model.specs.Agreement.Shows.{ShowsState};
 ghost use Rattle.seize_model.specs.Agreement.Links.{ReadAgreement, ExchangeAgreement, ExchangeOnLists};
 ghost use Rattle.seize_model.specs.Agreement.Reopening.{ReopenedLaw};
 ghost use Rattle.seize_model.specs.Agreement.Statement.{HasNames, HasNamesFor, Agreement, AgreementWith, AgreementAnew, AgreementOnLists};
@@ -29,7 +29,7 @@ pub fn runs_agree()
     ensures left_behind { by_events 3 0 runs.left_behind ≡ by_sets 3 0 runs.left_behind }
     ensures inherited_batch { by_events 3 0 runs.inherited_batch ≡ by_sets 3 0 runs.inherited_batch }
     ensures refusals { by_events 1 0 runs.refusals ≡ by_sets 1 0 runs.refusals }
-    ensures links { by_events 1 1 runs.links ≡ by_sets 1 1 runs.links }
+    ensures links { by_events 1 1 runs.link_runs ≡ by_sets 1 1 runs.link_runs }
 {}
 
 /// What is said here of lists that are played is said of the machine's legal lists, at one size.
@@ -48,7 +48,7 @@ pub fn plays_are_legal_lists()
 /// And every legal list of events that the call makes alone, from its beginning to its return, has its reply and its values gone, and
 /// ends where it ends, under whatever fresh numbers for what the reclaimers put.
 pub fn models_agree<T, R>()
-    ensures made { (of : ℕ → T) (size links : ℕ) → Shows T R of (new size links) (opening 0 (replicate links None)) }
+    ensures made { (of : ℕ → T) (size links : ℕ) → ShowsState T R of (new size links) (opening 0 (replicate links None)) }
     ensures call { (puts : R → T → List T) (weight : T → ℕ) (of : ℕ → T) → Lighter puts weight → HasNames of → Agreement puts weight of }
     ensures with_reclaimers { (puts : R → T → List T) (weight : T → ℕ) (of : ℕ → T) (by : ℕ → R)
         → Lighter puts weight → HasNamesFor of by → AgreementWith puts weight of by }

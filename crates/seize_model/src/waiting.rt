@@ -31,7 +31,7 @@ pub fn calls_in_turn()
     ensures left_behind { runs.tellings (new 3 0) runs.left_behind ≡ runs.left_behind_told }
     ensures inherited_batch { runs.tellings (new 3 0) runs.inherited_batch ≡ runs.inherited_batch_told }
     ensures refusals { runs.tellings (new 1 0) runs.refusals ≡ runs.refusals_told }
-    ensures links { runs.tellings (new 1 1) runs.links ≡ runs.links_told }
+    ensures links { runs.tellings (new 1 1) runs.link_runs ≡ runs.link_runs_told }
 {}
 
 /// How further values are retired and reclaimed, for every reclaimer and every state, where what a reclaimer puts weighs less than its

@@ -1,6 +1,6 @@
 -- What a value holds, and what it weighs: 1, and what the values inside it weigh.
 use Rattle.std.specs.Prelude.{ℕ, ◌+◌, List, map, sum}
-use Rattle.seize.specs.Names.{Name}
+use Rattle.seize.specs.Names.{CollectorName}
 use Rattle.seize.specs.Blocks.{content, owners_in}
 use Rattle.seize_rows.specs.declared.nest.Nest.{Nest}
 use Rattle.seize_rows.specs.declared.nest.Nest.TheOpen.{Nest-F}
@@ -19,8 +19,8 @@ abbrev pub weight_of : Nest → ℕ
 weight_of = fold-Nest ℕ weight_step
 
 -- the collectors of the blocks inside, however deep
-abbrev pub owners_step : Nest-F (List Name) → List Name
+abbrev pub owners_step : Nest-F (List CollectorName) → List CollectorName
 owners_step value = owners_in (λ owners. owners) value.inside.items
 
-abbrev pub owners_of : Nest → List Name
-owners_of = fold-Nest (List Name) owners_step
+abbrev pub owners_of : Nest → List CollectorName
+owners_of = fold-Nest (List CollectorName) owners_step

@@ -1,6 +1,6 @@
 -- Calls for a collector: one more, and groups taken from the front.
 use Rattle.std.proofs.Common.{◌≡◌, suc, List, [], ◌∷◌, ◌++◌, All, sym, subst, arith}
-use Rattle.seize.specs.Names.{Name}
+use Rattle.seize.specs.Names.{CollectorName}
 use Rattle.seize.specs.About.{About}
 use Rattle.seize.specs.Alone.{IsFor, AreFor}
 use Rattle.seize.specs.declared.collector.calls.Call.{Call}
@@ -10,7 +10,7 @@ use Rattle.seize_script.specs.declared.script.Group.{Group}
 use Rattle.seize_script.specs.Ranges.{IsGroupFor}
 use Rattle.seize_script.specs.Values.{owners_of}
 
-for_pushed : {T R : Type 0} (owners : T → List Name) (whose : About) (calls : List (Call T R)) (call : Call T R)
+for_pushed : {T R : Type 0} (owners : T → List CollectorName) (whose : About) (calls : List (Call T R)) (call : Call T R)
     → AreFor owners whose calls → IsFor owners whose call → AreFor owners whose (calls ++ call ∷ [])
 for_pushed owners whose [] call all one = (one, tt)
 for_pushed owners whose (first ∷ calls) call all one = (all.0, for_pushed owners whose calls call all.1 one)

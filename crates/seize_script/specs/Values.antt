@@ -1,6 +1,6 @@
 -- The values in a value's brackets, and what a value weighs: 1, and what the values in its brackets weigh.
 use Rattle.std.specs.Prelude.{ℕ, ◌+◌, List, map, sum}
-use Rattle.seize.specs.Names.{Name}
+use Rattle.seize.specs.Names.{CollectorName}
 use Rattle.seize.specs.Blocks.{content, owners_in}
 use Rattle.seize_script.specs.declared.value.Value.{Value}
 use Rattle.seize_script.specs.declared.value.Value.TheOpen.{Value-F}
@@ -19,8 +19,8 @@ abbrev pub weight_of : Value → ℕ
 weight_of = fold-Value ℕ weight_step
 
 -- the collectors of the blocks in the brackets, however deep
-abbrev pub owners_step : Value-F (List Name) → List Name
+abbrev pub owners_step : Value-F (List CollectorName) → List CollectorName
 owners_step value = owners_in (λ owners. owners) value.inside.items
 
-abbrev pub owners_of : Value → List Name
-owners_of = fold-Value (List Name) owners_step
+abbrev pub owners_of : Value → List CollectorName
+owners_of = fold-Value (List CollectorName) owners_step

@@ -24,7 +24,7 @@ use Rattle.seize_content.specs.Contents.{ticket_owns}
 use Rattle.seize_content.specs.Stages.{held as unlent}
 use Rattle.seize_table.specs.Pairs.{right_of}
 use Rattle.seize_store.specs.Block.{bare, empty, full, hollow, lain_owns, out_owns}
-use Rattle.seize_store.specs.Titled.{tag_of, place_of}
+use Rattle.seize_store.specs.Titled.{title_tag, title_place}
 use Rattle.seize_store.specs.contracts.chunk.Chunk as chunk
 use Rattle.seize_table.specs.declared.labelled.Labelled.{Ghosts}
 use Rattle.seize_store.specs.contracts.block.Hull as hull
@@ -116,18 +116,18 @@ module _ (X U R : RattleType) (g : Ghosts U.Denot) where
         fpack t (Valss (RawPtr ∷ [])) (within (shape (room.the_type X U R g)) (block_ptr b o, tt) (v ∷ [])) (vptr b o ∷ [], tt) $ fjoin t $ s)
 
     pub block_out : K → (d : Block.Denot) (vs : List Val)
-        → ((b o : ℕ) (t' : ℕ × (ℕ × ℕ)) (h : Val) → d.at ≡ block_ptr b o → place_of d.title ≡ block_ptr b o → vs ≡ both (vptr b o) h ∷ [] → Good (layout title.the_row) h
-        → Seq K 𝓛 (‵ (full X U R b o g.label (tag_of d.title) d.value t') ∷ ‵ (title.the_row.own_val d.title (h ∷ [])) ∷ Γ) G)
+        → ((b o : ℕ) (t' : ℕ × (ℕ × ℕ)) (h : Val) → d.at ≡ block_ptr b o → title_place d.title ≡ block_ptr b o → vs ≡ both (vptr b o) h ∷ [] → Good (layout title.the_row) h
+        → Seq K 𝓛 (‵ (full X U R b o g.label (title_tag d.title) d.value t') ∷ ‵ (title.the_row.own_val d.title (h ∷ [])) ∷ Γ) G)
         → Seq K 𝓛 (‵ (Block.own_val d vs) ∷ Γ) G
     block_out t d vs k =
         fsplit t $ fpick t (λ vss. fsplit t $ feq_l t (λ ev. fsplit t $ feq_l t (λ ep. fsplit t $ title_tells t d.title vss.1.0 (λ h eh good. move t (1 ∷ []) $ drop t $ move t (1 ∷ []) $
-        fsplit t $ feq_l t (λ en. in_a_block t d.at (λ s. placed s (λ b o. fex (ℕ × (ℕ × ℕ)) (full X U R b o g.label (tag_of d.title) d.value))) (id⊢ 𝓤 (never 𝓤)) (λ b o e. fpick t (λ t'. k b o t' h e (en ∙ e)
+        fsplit t $ feq_l t (λ en. in_a_block t d.at (λ s. placed s (λ b o. fex (ℕ × (ℕ × ℕ)) (full X U R b o g.label (title_tag d.title) d.value))) (id⊢ 𝓤 (never 𝓤)) (λ b o e. fpick t (λ t'. k b o t' h e (en ∙ e)
         (subst (λ (s : Ptr). vs ≡ both (ptr_val s) h ∷ []) e (ev ∙ (λ i. vstruct (of_list (ep i ++ (eh i ++ []))) ∷ []))) good)))))))
 
-    pub block_in : K → (b o : ℕ) (t' : ℕ × (ℕ × ℕ)) (h : Val) (d : title.the_row.Denot) (x : R.Denot) → place_of d ≡ block_ptr b o
-        → Step K 𝓛 (‵ (Block.own_val (record { at = block_ptr b o; title = d; value = x }) (both (vptr b o) h ∷ [])) ∷ Γ) G (‵ (full X U R b o g.label (tag_of d) x t') ∷ ‵ (title.the_row.own_val d (h ∷ [])) ∷ Γ) G
+    pub block_in : K → (b o : ℕ) (t' : ℕ × (ℕ × ℕ)) (h : Val) (d : title.the_row.Denot) (x : R.Denot) → title_place d ≡ block_ptr b o
+        → Step K 𝓛 (‵ (Block.own_val (record { at = block_ptr b o; title = d; value = x }) (both (vptr b o) h ∷ [])) ∷ Γ) G (‵ (full X U R b o g.label (title_tag d) x t') ∷ ‵ (title.the_row.own_val d (h ∷ [])) ∷ Γ) G
     block_in t b o t' h d x e = step (λ s. let v : Val = both (vptr b o) h in
-        fpack t (ℕ × (ℕ × ℕ)) (full X U R b o g.label (tag_of d) x) t' $ feq_i t Ptr (place_of d) (block_ptr b o) e $ fjoin t $ nothing t $ move t (2 ∷ 0 ∷ []) $ fjoin t $ feq_i t (List Val) (vptr b o ∷ []) (vptr b o ∷ []) refl $ fjoin t $ feq_i t (List Val) (v ∷ []) (v ∷ []) refl $ fjoin t $
+        fpack t (ℕ × (ℕ × ℕ)) (full X U R b o g.label (title_tag d) x) t' $ feq_i t Ptr (title_place d) (block_ptr b o) e $ fjoin t $ nothing t $ move t (2 ∷ 0 ∷ []) $ fjoin t $ feq_i t (List Val) (vptr b o ∷ []) (vptr b o ∷ []) refl $ fjoin t $ feq_i t (List Val) (v ∷ []) (v ∷ []) refl $ fjoin t $
         fpack t (Valss (RawPtr ∷ title.the_field.row ∷ [])) (within (shape (block.the_type X U R g)) (block_ptr b o, (title.the_field.into d, tt)) (v ∷ [])) (vptr b o ∷ [], (h ∷ [], tt)) $ fjoin t $ s)
 
     pub hull_out : K → (d : Hull.Denot) (vs : List Val)

@@ -10,18 +10,18 @@ use denote.Steps.{heard}
 use Rattle.seize_table.specs.Pairs.{left_of, right_of}
 use Rattle.seize_table.specs.Place.{IsPlace}
 use Rattle.seize_table.proofs.Places.{one_bucket}
-use Rattle.seize_store.specs.Known.{IsRowIn, Way, chunk_in, content_in, entry_of, known_row, label_in, leads, leads_to, lends_by, tells}
+use Rattle.seize_store.specs.Known.{IsRowIn, Way, chunk_in, content_in, entry_of, known_row, label_in, leads_to, leads_where, lends_by, tells}
 use Rattle.seize_store.proofs.Tokens.{row_twice, known_agree}
 
 module _ {M : Type 1} {𝓤 : Ura M} (𝓛 : Logic 𝓤) (store : List ℕ) (n : ℕ) where
   -- what a token of the number's row shows
   known_shows : (φ : ℕ → Type 0) (row : ℕ) (chunks : List (Ptr × ℕ)) → IsRowIn store row chunks → IsPlace n row (entry_of row n) → φ (chunk_in chunks (entry_of row n)).1
-      → ent 𝓤 (sem 𝓛 (known_row store row chunks)) (sem 𝓛 (leads store n φ))
+      → ent 𝓤 (sem 𝓛 (known_row store row chunks)) (sem 𝓛 (leads_where store n φ))
   known_shows φ row chunks made placed tagged =
       qed 𝓛 (‵ (known_row store row chunks) ∷ []) ∵ fpack ! (Way store n φ) (λ way. known_row store way.row way.chunks) (record { row = row; chunks = chunks; made = made; placed = placed; tagged = tagged }) $ done !
 
-  twice : (φ : ℕ → Type 0) → ent 𝓤 (sem 𝓛 (leads store n φ)) (sep 𝓤 (sem 𝓛 (leads store n φ)) (sem 𝓛 (leads store n φ)))
-  twice φ = qed 𝓛 (‵ (leads store n φ) ∷ []) ∵ fpick ! (λ way. let K = known_row store way.row way.chunks in use1 𝓛 (‵ K ⊛ ‵ K) (row_twice 𝓛 store way.row way.chunks) $ split ! $
+  twice : (φ : ℕ → Type 0) → ent 𝓤 (sem 𝓛 (leads_where store n φ)) (sep 𝓤 (sem 𝓛 (leads_where store n φ)) (sem 𝓛 (leads_where store n φ)))
+  twice φ = qed 𝓛 (‵ (leads_where store n φ) ∷ []) ∵ fpick ! (λ way. let K = known_row store way.row way.chunks in use1 𝓛 (‵ K ⊛ ‵ K) (row_twice 𝓛 store way.row way.chunks) $ split ! $
       fpack ! (Way store n φ) (λ w. known_row store w.row w.chunks) way $ move ! (1 ∷ 0 ∷ []) $ fpack ! (Way store n φ) (λ w. known_row store w.row w.chunks) way $ done !)
 
   -- two of one number are of one tag
@@ -29,8 +29,8 @@ module _ {M : Type 1} {𝓤 : Ura M} (𝓛 : Logic 𝓤) (store : List ℕ) (n :
     abbrev Says : A → ℕ → Type 0
     Says m tag = of tag ≡ m
 
-    agree : ent 𝓤 (sep 𝓤 (sem 𝓛 (leads store n (Says k))) (sem 𝓛 (leads store n (Says j)))) (fact 𝓤 (k ≡ j))
-    agree = qed 𝓛 (‵ (leads store n (Says k)) ∷ ‵ (leads store n (Says j)) ∷ []) ∵ fpick ! (λ v. move ! (1 ∷ 0 ∷ []) $ fpick ! (λ w. move ! (1 ∷ 0 ∷ []) $
+    agree : ent 𝓤 (sep 𝓤 (sem 𝓛 (leads_where store n (Says k))) (sem 𝓛 (leads_where store n (Says j)))) (fact 𝓤 (k ≡ j))
+    agree = qed 𝓛 (‵ (leads_where store n (Says k)) ∷ ‵ (leads_where store n (Says j)) ∷ []) ∵ fpick ! (λ v. move ! (1 ∷ 0 ∷ []) $ fpick ! (λ w. move ! (1 ∷ 0 ∷ []) $
         let row : v.row ≡ w.row = one_bucket n v.row (entry_of v.row n) w.row (entry_of w.row n) v.placed w.placed in let Same : Type 0 = v.chunks ≡ w.chunks in
         rewrite ! 0 (λ (r : ℕ). ‵ (known_row store r v.chunks)) row refl $ use2 𝓛 (raw (fact 𝓤 Same)) (known_agree 𝓛 store w.row v.chunks w.chunks) $ heard ! Same (λ same. by ! (fact_i 𝓤 (k ≡ j) _
         (sym v.tagged ∙ (ap (λ (ps : List (Ptr × ℕ)). of (chunk_in ps (entry_of v.row n)).1) same ∙ (ap (λ (r : ℕ). of (chunk_in w.chunks (entry_of r n)).1) row ∙ w.tagged)))))))

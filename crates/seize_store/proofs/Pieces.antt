@@ -22,7 +22,7 @@ use denote.Struct.Struct.{Struct}
 use denote.Struct.Owning.{shape}
 use Rattle.std.specs.declared.alloc.Allocator.{Ghosts}
 use Rattle.seize_store.specs.Body.{plain_ty, row_ty, stride}
-use Rattle.seize_store.specs.Row.{Deed, uncut, strip_by, strip_owns, rooms_own, line, IsRow, at_entry}
+use Rattle.seize_store.specs.Row.{RowDeed, uncut, strip_by, strip_owns, rooms_own, line, IsRow, at_entry}
 use Rattle.seize_store.specs.Chunk.{piece, piece_owns, remains, remains_own}
 use Rattle.seize_store.specs.contracts.chunk.Base as base_row
 use Rattle.seize_store.specs.contracts.chunk.Remains as remains_row
@@ -150,7 +150,7 @@ module _ (X U R : RattleType) where
     remains_in t b o = step (λ s. use0 𝓛 (‵ (RemainsData 𝓛 (block_ptr b o))) (remains_made 𝓛 (block_ptr b o)) $ fjoin t $ s)
 
     pub strip_out : K → (d : Strip.Denot) (vs : List Val)
-        → ((b e : ℕ) (u : Deed × ℕ × List ℕ) → d.places ≡ line X U R (block_ptr b e) (length d.places) → vs ≡ both (vptr b e) (vptr b u.0.at) ∷ [] → Seq K 𝓛 (‵ (uncut X U R b e (length d.places) u) ∷ Γ) G)
+        → ((b e : ℕ) (u : RowDeed × ℕ × List ℕ) → d.places ≡ line X U R (block_ptr b e) (length d.places) → vs ≡ both (vptr b e) (vptr b u.0.at) ∷ [] → Seq K 𝓛 (‵ (uncut X U R b e (length d.places) u) ∷ Γ) G)
         → Seq K 𝓛 (‵ (Strip.own_val d vs) ∷ Γ) G
     strip_out t d vs k =
         fsplit t $ fpick t (λ vss. fsplit t $ feq_l t (λ ev. fsplit t $ feq_l t (λ ep. fsplit t $ feq_l t (λ eq. drop t $
@@ -158,12 +158,12 @@ module _ (X U R : RattleType) where
         (subst (λ (s : Ptr). vs ≡ both (ptr_val s) (vptr b u.0.at) ∷ []) e (subst (λ (s : Ptr). vs ≡ both (ptr_val d.at) (ptr_val s) ∷ []) at
         (ev ∙ (λ i. vstruct (of_list (ep i ++ (eq i ++ []))) ∷ []))))))))))))
 
-    pub strip_in : K → (b e n : ℕ) (u : Deed × ℕ × List ℕ) → let ps : List Ptr = line X U R (block_ptr b e) n in
+    pub strip_in : K → (b e n : ℕ) (u : RowDeed × ℕ × List ℕ) → let ps : List Ptr = line X U R (block_ptr b e) n in
         Step K 𝓛 (‵ (Strip.own_val (record { at = block_ptr b e; head = block_ptr b u.0.at; places = ps }) (both (vptr b e) (vptr b u.0.at) ∷ [])) ∷ Γ) G (‵ (uncut X U R b e n u) ∷ Γ) G
     strip_in t b e n u = let ps : List Ptr = line X U R (block_ptr b e) n in let long : length ps ≡ n = line_length (block_ptr b e) n in
         step (λ s. types.Kit.rewrite t 0 (λ (k : ℕ). ‵ (uncut X U R b e k u)) (sym long) refl $ nothing t $
         fpack t (ps ≡ line X U R (block_ptr b e) (length ps)) (λ _. base.Fml.ftrue) (ap (λ (k : ℕ). line X U R (block_ptr b e) k) (sym long)) $ fjoin t $
-        types.Kit.feq_i t Ptr (block_ptr b u.0.at) (block_ptr b u.0.at) refl $ fjoin t $ fpack t (Deed × ℕ × List ℕ) (strip_by X U R b e (block_ptr b u.0.at) ps) u $
+        types.Kit.feq_i t Ptr (block_ptr b u.0.at) (block_ptr b u.0.at) refl $ fjoin t $ fpack t (RowDeed × ℕ × List ℕ) (strip_by X U R b e (block_ptr b u.0.at) ps) u $
         use0 𝓛 (‵ (StripData 𝓛 (block_ptr b e) (block_ptr b u.0.at))) (strip_made 𝓛 (block_ptr b e) (block_ptr b u.0.at)) $ fjoin t $ s)
 
     pub base_in : K → (p : Ptr) (ps : List Ptr) → IsRow X U R p ps → Step K 𝓛 (‵ (Base.own_val (record { at = p; places = ps }) (single (ptr_val p) ∷ [])) ∷ Γ) G Γ G

@@ -14,7 +14,7 @@ use denote.RawPtr.{block_ptr}
 use denote.Steps.{nothing}
 use Rattle.core.specs.Sync.RawAtomic.{word, always, asks}
 use Rattle.seize_store.specs.Body.{body_ty, plain_ty, row_ty, stride}
-use Rattle.seize_store.specs.Row.{Deed, Has, Marks, of_marks, one_missing, missing, held_all, Stage, stands, gone, laid, head, head_with, stage, Shared, Lies, ticket, Tail, uncut}
+use Rattle.seize_store.specs.Row.{RowDeed, Has, TicketMarks, of_marks, one_missing, missing, held_all, RowStage, stands, gone, laid, head, head_with, stage, Shared, Lies, ticket, Tail, uncut}
 use Rattle.seize_store.proofs.Steps as steps
 
 module _ (X U R : RattleType) {M : Type 1} {𝓤 : Ura M} (𝓛 : Logic 𝓤) (b : ℕ) where
@@ -50,26 +50,26 @@ module _ (X U R : RattleType) {M : Type 1} {𝓤 : Ura M} (𝓛 : Logic 𝓤) (b
   held_once (δ ∷ δs) (suc i) γ Z has = qed 𝓛 (‵ (fsep (out δ) (held_all δs)) ∷ ‵ (out γ) ∷ []) ∵ fsplit ! $ keep ! (1 ∷ 2 ∷ []) $ by ! (held_once δs i γ Z has)
 
   -- a chunk is laid back
-  abbrev Laid : Marks → ℕ → Marks → Pr
+  abbrev Laid : TicketMarks → ℕ → TicketMarks → Pr
   Laid ms e ns = guard 𝓤 ((of_marks ns ≡ of_marks ms) × (missing ms ≡ suc (missing ns))) ⟦ laid X U R b ns e ⟧
 
   one_less : (y : Bool) (m n : ℕ) → m ≡ suc n → one_missing y m ≡ suc (one_missing y n)
   one_less true m n e = e
   one_less false m n e = ap suc e
 
-  lay_first : (δ : ℕ) (y : Bool) (ms : Marks) (γ e e' : ℕ) → e' ≡ e → δ ≡ γ → ⟦ laid X U R b ((δ, y) ∷ ms) e ⟧ ∗ ⟦ back γ e' ⟧ ⊢ upd 𝓤 (ex 𝓤 (Laid ((δ, y) ∷ ms) e))
+  lay_first : (δ : ℕ) (y : Bool) (ms : TicketMarks) (γ e e' : ℕ) → e' ≡ e → δ ≡ γ → ⟦ laid X U R b ((δ, y) ∷ ms) e ⟧ ∗ ⟦ back γ e' ⟧ ⊢ upd 𝓤 (ex 𝓤 (Laid ((δ, y) ∷ ms) e))
   lay_first δ true ms γ e e' is has = let Z : Pr = ex 𝓤 (Laid ((δ, true) ∷ ms) e) in
       qed 𝓛 (‵ (laid X U R b ((δ, true) ∷ ms) e) ∷ ‵ (back γ e') ∷ []) ∵ fsplit ! $ fsplit ! $ move ! (3 ∷ []) $ fsplit ! $ move ! (2 ∷ []) $ keep ! (0 ∷ 1 ∷ []) $ rewrite ! 0 (λ (n : ℕ). ‵ (out n)) has refl $ by ! (out_once 𝓛 γ Z)
   lay_first δ false ms γ e e' is has = let Z : Pr = ex 𝓤 (Laid ((δ, false) ∷ ms) e) in
       qed 𝓛 (‵ (laid X U R b ((δ, false) ∷ ms) e) ∷ ‵ (back γ e') ∷ []) ∵ suffices ! _ (upd_i 𝓤 Z) $ fsplit ! $ drop ! $ move ! (1 ∷ []) $ rewrite ! 0 (λ (u : ℕ × ℕ). ‵ (back u.0 u.1)) (λ i. (sym has i, is i)) refl $
       show ! (Laid ((δ, false) ∷ ms) e) ((δ, true) ∷ ms) $ check ! (refl, refl) $ fjoin ! $ done !
 
-  lay : (ms : Marks) (i γ e e' : ℕ) → e' ≡ i * s + e → Has (of_marks ms) i γ → ⟦ laid X U R b ms e ⟧ ∗ ⟦ back γ e' ⟧ ⊢ upd 𝓤 (ex 𝓤 (Laid ms e))
+  lay : (ms : TicketMarks) (i γ e e' : ℕ) → e' ≡ i * s + e → Has (of_marks ms) i γ → ⟦ laid X U R b ms e ⟧ ∗ ⟦ back γ e' ⟧ ⊢ upd 𝓤 (ex 𝓤 (Laid ms e))
   lay [] i γ e e' is has = absurd has
   lay (m ∷ ms) zero γ e e' is has = let z = zero-mul s in lay_first m.0 m.1 ms γ e e' (omega arith) has
   lay (m ∷ ms) (suc i) γ e e' is has = let z = suc-mul i s in let Z : Pr = ex 𝓤 (Laid (m ∷ ms) e) in
       qed 𝓛 (‵ (laid X U R b (m ∷ ms) e) ∷ ‵ (back γ e') ∷ []) ∵ fsplit ! $ move ! (1 ∷ 2 ∷ []) $ use2 𝓛 (raw (upd 𝓤 (ex 𝓤 (Laid ms (e + s))))) (lay ms i γ (e + s) e' (omega arith) has) $
-      settle 𝓛 Z (some (λ (ns : Marks). given ((of_marks ns ≡ of_marks ms) × (missing ms ≡ suc (missing ns))) (‵ (laid X U R b ns (e + s))))) $ suffices ! _ (upd_i 𝓤 Z) $ pick ! (λ ns. learn ! (λ so.
+      settle 𝓛 Z (some (λ (ns : TicketMarks). given ((of_marks ns ≡ of_marks ms) × (missing ms ≡ suc (missing ns))) (‵ (laid X U R b ns (e + s))))) $ suffices ! _ (upd_i 𝓤 Z) $ pick ! (λ ns. learn ! (λ so.
       show ! (Laid (m ∷ ms) e) (m ∷ ns) $ check ! (ap (λ (γs : List ℕ). m.0 ∷ γs) so.0, one_less m.1 (missing ms) (missing ns) so.1) $ move ! (1 ∷ 0 ∷ []) $ fjoin ! $ done !))
 
   -- when none is missing, the memory is whole
@@ -82,19 +82,19 @@ module _ (X U R : RattleType) {M : Type 1} {𝓤 : Ura M} (𝓛 : Logic 𝓤) (b
   pub cuts : (n e : ℕ) → ⟦ row_room (suc n) e ⟧ ⊢ ⟦ body e ⟧ ∗ ⟦ row_room n (e + s) ⟧
   cuts n e = subst (λ (k : ℕ). ⟦ row_room (suc n) e ⟧ ⊢ ⟦ body e ⟧ ∗ ⟦ row_room n (e + k) ⟧) (size-raw (plain_ty X U R)) (𝓛.laws.room_uncons (body_ty X U R) n b e)
 
-  abbrev Whole : Marks → ℕ → Type 1
+  abbrev Whole : TicketMarks → ℕ → Type 1
   Whole ms e = ⟦ laid X U R b ms e ⟧ ⊢ ⟦ held_all (of_marks ms) ⟧ ∗ ⟦ row_room (length (of_marks ms)) e ⟧
 
-  whole_one : (γ : ℕ) (y : Bool) (ms : Marks) (e : ℕ) → one_missing y (missing ms) ≡ 0 → (missing ms ≡ 0 → Whole ms (e + s)) → Whole ((γ, y) ∷ ms) e
+  whole_one : (γ : ℕ) (y : Bool) (ms : TicketMarks) (e : ℕ) → one_missing y (missing ms) ≡ 0 → (missing ms ≡ 0 → Whole ms (e + s)) → Whole ((γ, y) ∷ ms) e
   whole_one γ true ms e none more = let n : ℕ = length (of_marks ms) in qed 𝓛 (‵ (laid X U R b ((γ, true) ∷ ms) e) ∷ []) ∵ fsplit ! $ fsplit ! $ move ! (2 ∷ []) $
       use1 𝓛 (‵ (held_all (of_marks ms)) ⊛ ‵ (row_room n (e + s))) (more none) $ split ! $ move ! (2 ∷ 0 ∷ []) $ fjoin ! $ frame ! $ move ! (1 ∷ 0 ∷ []) $ by ! (joins n e)
   whole_one γ false ms e none more = absurd (omega arith)
 
-  whole : (ms : Marks) (e : ℕ) → missing ms ≡ 0 → Whole ms e
+  whole : (ms : TicketMarks) (e : ℕ) → missing ms ≡ 0 → Whole ms e
   whole [] e none = qed 𝓛 (‵ ftrue ∷ []) ∵ frame ! $ by ! (𝓛.laws.room_nil (body_ty X U R) b e)
   whole (m ∷ ms) e none = whole_one m.0 m.1 ms e none (λ z. whole ms (e + s) z)
 
-  module _ (d : Deed) where
+  module _ (d : RowDeed) where
     abbrev c : ℕ
     c = d.at + 0
 
@@ -104,7 +104,7 @@ module _ (X U R : RattleType) {M : Type 1} {𝓤 : Ura M} (𝓛 : Logic 𝓤) (b
     abbrev I : Fml
     I = Shared X U R b d
 
-    abbrev st : Stage → Fml
+    abbrev st : RowStage → Fml
     st = stage X U R b d
 
     abbrev pub less : ℕ → ℕ
@@ -125,23 +125,23 @@ module _ (X U R : RattleType) {M : Type 1} {𝓤 : Ura M} (𝓛 : Logic 𝓤) (b
     less_is : (k : ℕ) → suc k < 2 ^ 64 → less (suc k) ≡ k
     less_is k small = omega arith
 
-    ends_at : (k : ℕ) (ns : Marks) → missing ns ≡ k → of_marks ns ≡ d.tickets → suc k < 2 ^ 64
+    ends_at : (k : ℕ) (ns : TicketMarks) → missing ns ≡ k → of_marks ns ≡ d.tickets → suc k < 2 ^ 64
         → ⟦ word b c (suc k) ⟧ ∗ ⟦ laid X U R b ns (d.at + s) ⟧ ∗ ⟦ head X U R b d ⟧ ⊢ upd 𝓤 (ex 𝓤 Then)
     ends_at zero ns none same small = qed 𝓛 (‵ (word b c 1) ∷ ‵ (laid X U R b ns (d.at + s)) ∷ ‵ (head X U R b d) ∷ []) ∵ suffices ! _ (upd_i 𝓤 (ex 𝓤 Then)) $ show ! Then 1 $ frame ! $
         each ! (λ (_ : Unit {0}). steps.Again 𝓛 I b c less always after_end 1) (λ _. assume ! (‵ (word b c (less 1))) $ let Z : Pr = ⟦ I ⟧ ∗ ⟦ after_end 1 ⟧ in suffices ! _ (upd_i 𝓤 Z) $ rewrite ! 0 (λ (k : ℕ). ‵ (word b c k)) (less_is 0 small) refl $
         move ! (1 ∷ []) $ use1 𝓛 (‵ (held_all (of_marks ns)) ⊛ ‵ (row_room (length (of_marks ns)) (d.at + s))) (whole ns (d.at + s) none) $ split ! $
         rewrite ! 0 (λ (γs : List ℕ). ‵ (held_all γs)) same refl $ rewrite ! 1 (λ (γs : List ℕ). ‵ (row_room (length γs) (d.at + s))) same refl $
-        fpack ! Stage st gone $ frame ! $ move ! (2 ∷ 0 ∷ []) $ fjoin ! $ move ! (1 ∷ 0 ∷ []) $ fjoin ! $ done !)
+        fpack ! RowStage st gone $ frame ! $ move ! (2 ∷ 0 ∷ []) $ fjoin ! $ move ! (1 ∷ 0 ∷ []) $ fjoin ! $ done !)
     ends_at (suc k) ns more same small = qed 𝓛 (‵ (word b c (suc (suc k))) ∷ ‵ (laid X U R b ns (d.at + s)) ∷ ‵ (head X U R b d) ∷ []) ∵ suffices ! _ (upd_i 𝓤 (ex 𝓤 Then)) $ show ! Then (suc (suc k)) $ frame ! $
         each ! (λ (_ : Unit {0}). steps.Again 𝓛 I b c less always after_end (suc (suc k))) (λ _. assume ! (‵ (word b c (less (suc (suc k))))) $ let Z : Pr = ⟦ I ⟧ ∗ ⟦ after_end (suc (suc k)) ⟧ in suffices ! _ (upd_i 𝓤 Z) $
         rewrite ! 0 (λ (j : ℕ). ‵ (word b c j)) (less_is (suc k) small ∙ sym more) refl $ move ! (1 ∷ 2 ∷ []) $ fjoin ! $ move ! (1 ∷ 0 ∷ []) $ fjoin ! $
-        nothing ! $ fpack ! ((of_marks ns ≡ d.tickets) × (missing ns < 2 ^ 64)) (λ _. ftrue) (same, subst (λ (j : ℕ). j < 2 ^ 64) (sym more) (omega arith)) $ fjoin ! $ fpack ! Stage st (stands ns) $ frame ! $ nothing ! $ done !)
+        nothing ! $ fpack ! ((of_marks ns ≡ d.tickets) × (missing ns < 2 ^ 64)) (λ _. ftrue) (same, subst (λ (j : ℕ). j < 2 ^ 64) (sym more) (omega arith)) $ fjoin ! $ fpack ! RowStage st (stands ns) $ frame ! $ nothing ! $ done !)
 
-    end_from : (t : Stage) (e i γ : ℕ) → Lies X U R b d e i γ → ⟦ st t ⟧ ∗ ⟦ back γ e ⟧ ⊢ upd 𝓤 (ex 𝓤 Then)
+    end_from : (t : RowStage) (e i γ : ℕ) → Lies X U R b d e i γ → ⟦ st t ⟧ ∗ ⟦ back γ e ⟧ ⊢ upd 𝓤 (ex 𝓤 Then)
     end_from gone e i γ lies = qed 𝓛 (‵ (st gone) ∷ ‵ (back γ e) ∷ []) ∵ move ! (1 ∷ []) $ fsplit ! $ keep ! (2 ∷ 0 ∷ []) $ by ! (held_once d.tickets i γ (ex 𝓤 Then) lies.0)
     end_from (stands ms) e i γ lies = let Z : Pr = ex 𝓤 Then in qed 𝓛 (‵ (st (stands ms)) ∷ ‵ (back γ e) ∷ []) ∵ fsplit ! $ fpick ! (λ so. drop ! $ fsplit3 ! $ move ! (1 ∷ 3 ∷ []) $
         use2 𝓛 (raw (upd 𝓤 (ex 𝓤 (Laid ms (d.at + s))))) (lay ms i γ (d.at + s) e lies.1 (subst (λ (γs : List ℕ). Has γs i γ) (sym so.0) lies.0)) $
-        settle 𝓛 Z (some (λ (ns : Marks). given ((of_marks ns ≡ of_marks ms) × (missing ms ≡ suc (missing ns))) (‵ (laid X U R b ns (d.at + s))))) $ pick ! (λ ns. learn ! (λ it.
+        settle 𝓛 Z (some (λ (ns : TicketMarks). given ((of_marks ns ≡ of_marks ms) × (missing ms ≡ suc (missing ns))) (‵ (laid X U R b ns (d.at + s))))) $ pick ! (λ ns. learn ! (λ it.
         move ! (1 ∷ 0 ∷ 2 ∷ []) $ rewrite ! 0 (λ (k : ℕ). ‵ (word b c k)) it.1 refl $ by ! (ends_at (missing ns) ns refl (it.0 ∙ so.0) (subst (λ (k : ℕ). k < 2 ^ 64) it.1 so.1)))))
 
     pub ends : (e i γ : ℕ) → Lies X U R b d e i γ → A.inv I ∗ ⟦ back γ e ⟧ ⊢ asks 𝓛 (block_ptr b c) less always after_end
@@ -156,7 +156,7 @@ module _ (X U R : RattleType) {M : Type 1} {𝓤 : Ura M} (𝓛 : Logic 𝓤) (b
   names (suc n) = qed 𝓛 [] ∵ updating ! $ use0 𝓛 (later (some (λ (γs : List ℕ). given (length γs ≡ n) (‵ (held_all γs))))) (names n) $ await ! tt $ pick ! (λ γs. learn ! (λ long.
       name_new ! tt (gnum 0) (λ γ. fjoin ! $ fjoin ! $ now ! $ show ! (Named (suc n)) (γ ∷ γs) $ check ! (ap suc long) $ done !)))
 
-  abbrev fresh : List ℕ → Marks
+  abbrev fresh : List ℕ → TicketMarks
   fresh [] = []
   fresh (γ ∷ γs) = (γ, false) ∷ fresh γs
 
@@ -177,17 +177,17 @@ module _ (X U R : RattleType) {M : Type 1} {𝓤 : Ura M} (𝓛 : Logic 𝓤) (b
 
   pub begins : (o n : ℕ) → n < 2 ^ 64 → ⟦ word b (o + 0) n ⟧ ∗ ⟦ head_with X U R b o n ⟧ ⊢ H.⇛ (ex 𝓤 (Begun o n))
   begins o n small = qed 𝓛 (‵ (word b (o + 0) n) ∷ ‵ (head_with X U R b o n) ∷ []) ∵ updating ! $ use0 𝓛 (later (some (λ (γs : List ℕ). given (length γs ≡ n) (‵ (held_all γs))))) (names n) $ await ! tt $ pick ! (λ γs. learn ! (λ long.
-      let d : Deed = record { at = o; tickets = γs } in let ms : Marks = fresh γs in let many : missing ms ≡ n = fresh_missing γs ∙ long in
+      let d : RowDeed = record { at = o; tickets = γs } in let ms : TicketMarks = fresh γs in let many : missing ms ≡ n = fresh_missing γs ∙ long in
       move ! (1 ∷ 2 ∷ []) $ rewrite ! 0 (λ (k : ℕ). ‵ (word b (o + 0) k)) (sym many) refl $ rewrite ! 1 (λ (k : ℕ). ‵ (head_with X U R b o k)) (sym long) refl $
       move ! (1 ∷ []) $ use0 𝓛 (‵ (laid X U R b ms (o + s))) (fresh_laid γs (o + s)) $ fjoin ! $ move ! (1 ∷ 0 ∷ []) $ fjoin ! $
-      nothing ! $ fpack ! ((of_marks ms ≡ γs) × (missing ms < 2 ^ 64)) (λ _. ftrue) (fresh_of γs, subst (λ (k : ℕ). k < 2 ^ 64) (sym many) small) $ fjoin ! $ fpack ! Stage (stage X U R b d) (stands ms) $
+      nothing ! $ fpack ! ((of_marks ms ≡ γs) × (missing ms < 2 ^ 64)) (λ _. ftrue) (fresh_of γs, subst (λ (k : ℕ). k < 2 ^ 64) (sym many) small) $ fjoin ! $ fpack ! RowStage (stage X U R b d) (stands ms) $
       use1 𝓛 (later (‵ (finv (Shared X U R b d)))) (𝓛.invs.inv_new (Shared X U R b d)) $ await ! tt $ now ! $ show ! (Begun o n) γs $ check ! long $ move ! (1 ∷ 0 ∷ []) $ done !))
 
   -- a row's next chunk
-  abbrev pub Cut : ℕ → ℕ → Deed → ℕ → List ℕ → Pr
+  abbrev pub Cut : ℕ → ℕ → RowDeed → ℕ → List ℕ → Pr
   Cut e left d i γs = ⟦ body e ⟧ ∗ ⟦ fex (ℕ × ℕ) (ticket X U R b d e) ⟧ ∗ ⟦ uncut X U R b (e + s) left (d, suc i, γs) ⟧
 
-  cut_off : (e left : ℕ) (d : Deed) (i : ℕ) (γs : List ℕ) → ⟦ uncut X U R b e (suc left) (d, i, γs) ⟧ ⊢ ex 𝓤 (λ (δs : List ℕ). guard 𝓤 (s < 2 ^ 63) (Cut e left d i δs))
+  cut_off : (e left : ℕ) (d : RowDeed) (i : ℕ) (γs : List ℕ) → ⟦ uncut X U R b e (suc left) (d, i, γs) ⟧ ⊢ ex 𝓤 (λ (δs : List ℕ). guard 𝓤 (s < 2 ^ 63) (Cut e left d i δs))
   cut_off e left d i [] = qed 𝓛 (‵ (uncut X U R b e (suc left) (d, i, [])) ∷ []) ∵ fsplit ! $ fpick ! (λ so. absurd (let n = so.0 in omega arith))
   cut_off e left d i (γ ∷ γs) = let I : Fml = Shared X U R b d in
       qed 𝓛 (‵ (uncut X U R b e (suc left) (d, i, γ ∷ γs)) ∷ []) ∵ fsplit ! $ fpick ! (λ so. drop ! $ show ! (λ (δs : List ℕ). guard 𝓤 (s < 2 ^ 63) (Cut e left d i δs)) γs $ check ! so.3 $
@@ -200,5 +200,5 @@ module _ (X U R : RattleType) {M : Type 1} {𝓤 : Ura M} (𝓛 : Logic 𝓤) (b
       move ! (1 ∷ 3 ∷ []) $ fjoin ! $ nothing ! $ fpack ! (Lies X U R b d e i γ) (λ _. ftrue) mine $ fjoin ! $ fpack ! (ℕ × ℕ) (ticket X U R b d e) (i, γ) $ frame ! $
       fjoin ! $ move ! (1 ∷ 0 ∷ []) $ fjoin ! $ nothing ! $ fpack ! ((length γs ≡ left) × Tail d.tickets (suc i) γs × (e + s ≡ suc i * s + (d.at + s)) × (s < 2 ^ 63)) (λ _. ftrue) (long, later', next, so.3) $ fjoin ! $ done !)
 
-  pub cut_next : (e left : ℕ) (t : Deed × ℕ × List ℕ) → ⟦ uncut X U R b e (suc left) t ⟧ ⊢ ex 𝓤 (λ (δs : List ℕ). guard 𝓤 (s < 2 ^ 63) (Cut e left t.0 t.1 δs))
+  pub cut_next : (e left : ℕ) (t : RowDeed × ℕ × List ℕ) → ⟦ uncut X U R b e (suc left) t ⟧ ⊢ ex 𝓤 (λ (δs : List ℕ). guard 𝓤 (s < 2 ^ 63) (Cut e left t.0 t.1 δs))
   cut_next e left t = cut_off e left t.0 t.1 t.2

@@ -13,7 +13,7 @@ use Rattle.seize_table.specs.Pairs.{right_of}
 use Rattle.seize_store.specs.Freeable.{heap}
 use Rattle.std_alloc.proofs.SendSync.{seen}
 use Rattle.seize_store.specs.Body.{row_ty, stride, rim, header_at, owner_at, room_at}
-use Rattle.seize_store.specs.Row.{Deed, Marks, Stage, stands, gone, held_all, laid_one, laid, stage, due}
+use Rattle.seize_store.specs.Row.{RowDeed, TicketMarks, RowStage, stands, gone, held_all, laid_one, laid, stage, due}
 use Rattle.seize_store.specs.Chunk.{Phase, free, taken, left, spent, dues, held, part_of, state, piece_owns, chunk_owns, chunk_shares}
 use Rattle.seize_store.specs.Block.{out_owns, block_owns, block_shares, hull_owns, hull_shares, lain_owns, shell_owns}
 
@@ -26,14 +26,14 @@ module _ (X U R : RattleType) (b : ℕ) where
   one_keyless γ true e = ((tt, tt), tt)
   one_keyless γ false e = tt
 
-  laid_keyless : (ms : Marks) (e : ℕ) → Keyless (laid X U R b ms e)
+  laid_keyless : (ms : TicketMarks) (e : ℕ) → Keyless (laid X U R b ms e)
   laid_keyless [] e = tt
   laid_keyless (m ∷ ms) e = (one_keyless m.0 m.1 e, laid_keyless ms (e + stride X U R))
 
   rim_keyless : (o : ℕ) → Keyless (rim X U R b o)
   rim_keyless o = ((tt, (tt, (tt, (tt, (tt, (tt, (tt, tt))))))), tt)
 
-  pub shared_keyless : (d : Deed) (s : Stage) → Keyless (stage X U R b d s)
+  pub shared_keyless : (d : RowDeed) (s : RowStage) → Keyless (stage X U R b d s)
   shared_keyless d (stands ms) = (
     (λ _. tt),
     (

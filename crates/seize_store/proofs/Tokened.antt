@@ -5,7 +5,7 @@ use Rattle.std.specs.declared.option.Option.TheVariants.{Some}
 use mathlib.Core.HLevel.{is_prop→PathP}
 use denote.RawPtr.{coded_ptr}
 use Rattle.once_cell.specs.declared.race.note.Note.{Note}
-use Rattle.seize_store.specs.Known.{name_in}
+use Rattle.seize_store.specs.Known.{row_name}
 use Rattle.seize_table.specs.declared.labelled.Labelled.{Ghosts}
 use Rattle.seize_store.specs.declared.seen.Seen.{Seen}
 
@@ -13,7 +13,7 @@ pub token_is : {H P T : Type 0} {g : Ghosts H} (s t : Seen H P T g) → s.note �
 token_is s t e f = λ i. record {
   note = e i;
   known = f i;
-  cell = is_prop→PathP (λ j. (e j).cell ≡ name_in (f j).store (f j).row) (λ j. Coded-set coded_ℕ _ _) s.cell t.cell i;
+  cell = is_prop→PathP (λ j. (e j).cell ≡ row_name (f j).store (f j).row) (λ j. Coded-set coded_ℕ _ _) s.cell t.cell i;
   same = is_prop→PathP (λ j. (e j).known ≡ Some (f j).chunks) (λ j. Coded-set (coded_option (coded_list (coded× coded_ptr coded_ℕ))) _ _) s.same t.same i;
 }
 

@@ -13,7 +13,7 @@ use denote.Shadow.{makes_shadow}
 use denote.Struct.Struct.{Struct}
 use denote.Struct.Owning.{shape}
 use Rattle.once_cell.proofs.Moves.{second}
-use Rattle.seize_store.specs.Known.{known_row, name_in}
+use Rattle.seize_store.specs.Known.{known_row, row_name}
 use Rattle.seize_store.specs.contracts.known.Known as known
 
 abbrev pub token : Val
@@ -34,12 +34,12 @@ module _ {M : Type 1} {𝓤 : Ura M} (𝓛 : Logic 𝓤) where
 
   -- what is known of a row can be had twice
   pub row_twice : (store : List ℕ) (row : ℕ) (ps : List (Ptr × ℕ)) → ent 𝓤 (sem 𝓛 (known_row store row ps)) (sep 𝓤 (sem 𝓛 (known_row store row ps)) (sem 𝓛 (known_row store row ps)))
-  row_twice store row ps = 𝓛.names.res_dup (name_in store row) (gcons gnil ((coded_list (coded× coded_ptr coded_ℕ)).code ps))
+  row_twice store row ps = 𝓛.names.res_dup (row_name store row) (gcons gnil ((coded_list (coded× coded_ptr coded_ℕ)).code ps))
 
   pub known_twice : (n : Known.Denot) → ent 𝓤 (sem 𝓛 (told n)) (sep 𝓤 (sem 𝓛 (told n)) (sem 𝓛 (told n)))
   known_twice n = row_twice n.store n.row n.chunks
 
   -- one row has one list of chunks
   pub known_agree : (store : List ℕ) (row : ℕ) (ps qs : List (Ptr × ℕ)) → ent 𝓤 (sep 𝓤 (sem 𝓛 (known_row store row ps)) (sem 𝓛 (known_row store row qs))) (fact 𝓤 (ps ≡ qs))
-  known_agree store row ps qs = let c = coded_list (coded× coded_ptr coded_ℕ) in let γ : ℕ = name_in store row in let x = gcons gnil (c.code ps) in let y = gcons gnil (c.code qs) in let P : SProp 𝓤 = 𝓛.A.res γ x in let Q : SProp 𝓤 = 𝓛.A.res γ y in
+  known_agree store row ps qs = let c = coded_list (coded× coded_ptr coded_ℕ) in let γ : ℕ = row_name store row in let x = gcons gnil (c.code ps) in let y = gcons gnil (c.code qs) in let P : SProp 𝓤 = 𝓛.A.res γ x in let Q : SProp 𝓤 = 𝓛.A.res γ y in
       via 𝓤 _ (via 𝓤 _ (conj_i 𝓤 P Q (fst∗ 𝓤 P Q) (snd∗ 𝓤 P Q)) (𝓛.names.res_one γ x y)) (fact_mono 𝓤 (x ≡ y) (ps ≡ qs) (λ e. c.inj ps qs (ap second e)))

@@ -5,8 +5,8 @@
 --     chunk_in chunks e            where the chunk at entry e lies, and its tag;  place_in, label_in and content_in are what these say
 --     family_in store              the family of the store's chunks;  AreKin f chunks   their labels are of the family f
 --     IsRowIn store row chunks     there is such a row, these are as many chunks as it has, and they are of the store's family
---     Way store n φ                a row of that store, of which the chunk of the number n has a tag with φ;  leads store n φ   there is
---                                  one
+--     Way store n φ                a row of that store, of which the chunk of the number n has a tag with φ;  leads_where store n φ   there
+--                                  is one
 --     leads_to store n k           the number n leads to the label k in that store, for good
 --     lends_by store n γ           what is lent in the chunk of the number n is lent by the content γ, for good
 --     tells store n t              both, for the label t.0 and the content t.1
@@ -21,11 +21,11 @@ use Rattle.seize_table.specs.Place.{IsPlace}
 abbrev pub family_in : List ℕ → ℕ
 family_in store = get_or store 1 0
 
-abbrev pub name_in : List ℕ → ℕ → ℕ
-name_in store row = get_or store (suc (suc row)) 0
+abbrev pub row_name : List ℕ → ℕ → ℕ
+row_name store row = get_or store (suc (suc row)) 0
 
 abbrev pub known_row : List ℕ → ℕ → List (Ptr × ℕ) → Fml
-known_row store row chunks = fres (name_in store row) (gcons gnil ((coded_list (coded× coded_ptr coded_ℕ)).code chunks))
+known_row store row chunks = fres (row_name store row) (gcons gnil ((coded_list (coded× coded_ptr coded_ℕ)).code chunks))
 
 -- which entry of its row a number has
 abbrev pub entry_of : ℕ → ℕ → ℕ
@@ -57,14 +57,14 @@ pub record Way (store : List ℕ) (number : ℕ) (φ : ℕ → Type 0) : Type 0 
   pub placed : IsPlace number row (entry_of row number)
   pub tagged : φ (chunk_in chunks (entry_of row number)).1
 
-abbrev pub leads : List ℕ → ℕ → (ℕ → Type 0) → Fml
-leads store number φ = fex (Way store number φ) (λ way. known_row store way.row way.chunks)
+abbrev pub leads_where : List ℕ → ℕ → (ℕ → Type 0) → Fml
+leads_where store number φ = fex (Way store number φ) (λ way. known_row store way.row way.chunks)
 
 abbrev pub leads_to : List ℕ → ℕ → ℕ → Fml
-leads_to store number label = leads store number (λ tag. left_of tag ≡ label)
+leads_to store number label = leads_where store number (λ tag. left_of tag ≡ label)
 
 abbrev pub lends_by : List ℕ → ℕ → ℕ → Fml
-lends_by store number content = leads store number (λ tag. right_of tag ≡ content)
+lends_by store number content = leads_where store number (λ tag. right_of tag ≡ content)
 
 abbrev pub tells : List ℕ → ℕ → ℕ × ℕ → Fml
-tells store number t = leads store number (λ tag. (left_of tag, right_of tag) ≡ t)
+tells store number t = leads_where store number (λ tag. (left_of tag, right_of tag) ≡ t)

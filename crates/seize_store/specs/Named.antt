@@ -1,19 +1,19 @@
 -- The words in which the contracts of the store and of its blocks speak.
---     name_of s       the store s: its own name, its family, and the names of its rows
+--     store_name s    the store s: its own name, its family, and the names of its rows
 --     store_of o      the store that the block o is of
---     value_of o, number_of o, title_of o, known_of o      its value, its number, its title, and the token of its row
---     AreOf spots s   each of the spots is of the store s
+--     owned_value o, owned_number o, title_of o, known_of o     its value, its number, its title, and the token of its row
+--     AreOfStore spots s   each of the spots is of the store s
 --     is_empty_list spots, count_of spots      there is none;  how many there are
 --     titles_of spots, titles_with ts t      their titles, in order;  with one more, where a full list gives its last 64 back first
 --     count_with n    how many there are when one was put to n
---     IsSame o p      the blocks o and p have the same value, number, store and place
+--     IsSameBlock o p     the blocks o and p have the same value, number, store and place
 --     known_by s      what the token s shows of its row
 --     store_by s, row_by s, chunks_by s     the store and the row of the token s, and where the row's chunks lie, with their labels
 --     row_is s n      the row is that of the number n
 --     place_by s n, label_by s n     where the chunk of the number n lies, and the label of its header
 --     IsRowOf k n     the token k shows the row of the number n
 --     lies_of p, header_of p   where the chunk p lies, and its header
---     lies o, label_of o     where the chunk of the block o lies, and the label of its header
+--     owned_place o, owned_label o     where the chunk of the block o lies, and the label of its header
 --     bare_value b, bare_title b, bare_store b, bare_number b, bare_label b     the same of a block b without its owner's part
 --     bare_known b, bare_content b     the token of its row, and the name of the content of its chunk
 --     hollow_title o, hollow_store o, hollow_number o, hollow_label o, hollow_known o, hollow_content o     the same of what has no value
@@ -22,7 +22,7 @@ use Rattle.std.specs.Prelude.{◌≡◌, ℕ, ◌+◌, ◌==◌, if◌then◌els
 use denote.RawPtr.{Ptr}
 use Rattle.seize_table.specs.Place.{IsPlace}
 use Rattle.seize_store.specs.Known.{entry_of, label_in, place_in}
-use Rattle.seize_store.specs.Titled.{names_of, place_of}
+use Rattle.seize_store.specs.Titled.{names_of_rows, title_place}
 use Rattle.seize_store.specs.Titled as titled
 use Rattle.seize_store.specs.declared.bare.Bare.{Bare}
 use Rattle.seize_store.specs.declared.hollow.Hollow.{Hollow}
@@ -35,17 +35,17 @@ use Rattle.seize_store.specs.declared.owned.Owned.{Owned}
 use Rattle.seize_store.specs.declared.spot.Spots.{Spots}
 use Rattle.seize_store.specs.declared.store.Store.{Store}
 
-abbrev pub name_of : {H P T : Type 0} {g : Ghosts H} → Store H P T g → List ℕ
-name_of store = names_of store.rows
+abbrev pub store_name : {H P T : Type 0} {g : Ghosts H} → Store H P T g → List ℕ
+store_name store = names_of_rows store.rows
 
 abbrev pub store_of : {H P T : Type 0} → Owned H P T → List ℕ
 store_of owned = owned.block.title.known.store
 
-abbrev pub value_of : {H P T : Type 0} → Owned H P T → T
-value_of owned = owned.block.value
+abbrev pub owned_value : {H P T : Type 0} → Owned H P T → T
+owned_value owned = owned.block.value
 
-abbrev pub number_of : {H P T : Type 0} → Owned H P T → ℕ
-number_of owned = owned.block.title.number
+abbrev pub owned_number : {H P T : Type 0} → Owned H P T → ℕ
+owned_number owned = owned.block.title.number
 
 abbrev pub title_of : {H P T : Type 0} → Owned H P T → Title
 title_of owned = owned.block.title
@@ -53,8 +53,8 @@ title_of owned = owned.block.title
 abbrev pub known_of : {H P T : Type 0} → Owned H P T → Known
 known_of owned = owned.block.title.known
 
-abbrev pub AreOf : {H P T : Type 0} → Spots H P T → List ℕ → Type 0
-AreOf spots store = All (λ spot. spot.title.known.store ≡ store) spots.list.items
+abbrev pub AreOfStore : {H P T : Type 0} → Spots H P T → List ℕ → Type 0
+AreOfStore spots store = All (λ spot. spot.title.known.store ≡ store) spots.list.items
 
 abbrev pub is_empty_list : {H P T : Type 0} → Spots H P T → Type 0
 is_empty_list spots = spots.list.items ≡ []
@@ -68,8 +68,8 @@ titles_with titles title = (if length titles == 128 then take 64 titles else tit
 abbrev pub count_with : ℕ → ℕ
 count_with count = (if count == 128 then 64 else count) + 1
 
-abbrev pub IsSame : {H P T : Type 0} → Owned H P T → Owned H P T → Type 0
-IsSame one other = (value_of one ≡ value_of other) × (one.block.title ≡ other.block.title)
+abbrev pub IsSameBlock : {H P T : Type 0} → Owned H P T → Owned H P T → Type 0
+IsSameBlock one other = (owned_value one ≡ owned_value other) × (one.block.title ≡ other.block.title)
 
 abbrev pub known_by : {H P T : Type 0} {g : Ghosts H} → Seen H P T g → Known
 known_by seen = seen.known
@@ -101,11 +101,11 @@ lies_of place = place.chunk.now.at
 abbrev pub header_of : {H P T : Type 0} → Place H P T → H
 header_of place = place.chunk.now.header
 
-abbrev pub lies : {H P T : Type 0} → Owned H P T → Ptr
-lies owned = place_of owned.block.title
+abbrev pub owned_place : {H P T : Type 0} → Owned H P T → Ptr
+owned_place owned = title_place owned.block.title
 
-abbrev pub label_of : {H P T : Type 0} → Owned H P T → ℕ
-label_of owned = titled.label_of owned.block.title
+abbrev pub owned_label : {H P T : Type 0} → Owned H P T → ℕ
+owned_label owned = titled.title_label owned.block.title
 
 abbrev pub bare_value : {H P T : Type 0} → Bare H P T → T
 bare_value bare = bare.hull.value
@@ -120,7 +120,7 @@ abbrev pub bare_store : {H P T : Type 0} → Bare H P T → List ℕ
 bare_store bare = bare.title.known.store
 
 abbrev pub bare_label : {H P T : Type 0} → Bare H P T → ℕ
-bare_label bare = titled.label_of bare.title
+bare_label bare = titled.title_label bare.title
 
 abbrev pub bare_known : {H P T : Type 0} → Bare H P T → Known
 bare_known bare = bare.title.known
@@ -138,7 +138,7 @@ abbrev pub hollow_store : {H P T : Type 0} → Hollow H P T → List ℕ
 hollow_store hollow = hollow.title.known.store
 
 abbrev pub hollow_label : {H P T : Type 0} → Hollow H P T → ℕ
-hollow_label hollow = titled.label_of hollow.title
+hollow_label hollow = titled.title_label hollow.title
 
 abbrev pub hollow_known : {H P T : Type 0} → Hollow H P T → Known
 hollow_known hollow = hollow.title.known

@@ -1,5 +1,5 @@
 -- The words in which the contracts of a store's own parts speak.
---     room_at o, chunk_at c, piece_at p     where the room o, the chunk c and the chunk's memory p lie
+--     out_room_at o, chunk_at c, piece_at p     where the room o, the chunk c and the chunk's memory p lie
 --     room_with o, lies_with c, hull_with h, shell_with s, lent_from l   where the room o, the chunk c, the hull h, the shell s and what
 --                     the lender l lends lie, with the chunk's tag
 --     room_count r    for how many chunks the memory r is
@@ -18,8 +18,8 @@ use Rattle.seize_store.specs.declared.spot.Spot.{Spot}
 use Rattle.seize_store.specs.declared.strip.Piece.{Piece}
 use Rattle.seize_store.specs.declared.strip.Rooms.{Rooms}
 
-abbrev pub room_at : {H P T : Type 0} → Out H P T → Ptr
-room_at out = out.at
+abbrev pub out_room_at : {H P T : Type 0} → Out H P T → Ptr
+out_room_at out = out.at
 
 abbrev pub chunk_at : {H P T : Type 0} → Chunk H P T → Ptr
 chunk_at chunk = chunk.at

@@ -13,14 +13,12 @@ use Rattle.core.specs.Sync.RawAtomic.{word}
 use Rattle.core.specs.Sync.RawAtomic.Pointer.{cell}
 use Rattle.seize_store.specs.Freeable.{freeable}
 use Rattle.seize_store.specs.Body.{body_ty, row_ty, stride, head_at, len_at, header_room, owner_room, room, len_room, rest, rim}
+pub use Rattle.seize_content.specs.Contents.{fact}
 
 -- where the head lies, and the chunks' tickets
-pub record Deed : Type 0 where
+pub record RowDeed : Type 0 where
   pub at : ℕ
   pub tickets : List ℕ
-
-abbrev pub fact : Type 0 → Fml
-fact φ = fex φ (λ _. ftrue)
 
 abbrev pub Has : List ℕ → ℕ → ℕ → Type 0
 Has [] i γ = ⊥
@@ -36,10 +34,10 @@ abbrev pub Tail : List ℕ → ℕ → List ℕ → Type 0
 Tail δs i γs = (k γ : ℕ) → Has γs k γ → Has δs (k + i) γ
 
 -- a chunk's ticket, with whether the chunk was laid back
-abbrev pub Marks : Type 0
-Marks = List (ℕ × Bool)
+abbrev pub TicketMarks : Type 0
+TicketMarks = List (ℕ × Bool)
 
-abbrev pub of_marks : Marks → List ℕ
+abbrev pub of_marks : TicketMarks → List ℕ
 of_marks [] = []
 of_marks (m ∷ ms) = m.0 ∷ of_marks ms
 
@@ -47,7 +45,7 @@ abbrev pub one_missing : Bool → ℕ → ℕ
 one_missing true n = n
 one_missing false n = suc n
 
-abbrev pub missing : Marks → ℕ
+abbrev pub missing : TicketMarks → ℕ
 missing [] = 0
 missing (m ∷ ms) = one_missing m.1 (missing ms)
 
@@ -55,9 +53,9 @@ abbrev pub held_all : List ℕ → Fml
 held_all [] = ftrue
 held_all (γ ∷ γs) = fsep (out γ) (held_all γs)
 
-pub data Stage : Type 0 where
-  stands : Marks → Stage
-  gone : Stage
+pub data RowStage : Type 0 where
+  stands : TicketMarks → RowStage
+  gone : RowStage
 
 module _ (X U R : RattleType) where
   abbrev pub Fits : ℕ → Type 0
@@ -68,7 +66,7 @@ module _ (X U R : RattleType) (b : ℕ) where
   laid_one γ true e = fsep (out γ) (froom (body_ty X U R) b e)
   laid_one γ false e = ftrue
 
-  abbrev pub laid : Marks → ℕ → Fml
+  abbrev pub laid : TicketMarks → ℕ → Fml
   laid [] e = ftrue
   laid (m ∷ ms) e = fsep (laid_one m.0 m.1 e) (laid ms (e + stride X U R))
 
@@ -79,17 +77,17 @@ module _ (X U R : RattleType) (b : ℕ) where
       (fsep (rest X U R b o) (fsep (rim X U R b o) (fsep (freeable (row_ty X U R (suc n)) (block_ptr b o))
       (fact (Fits X U R (suc n))))))))))
 
-  module _ (d : Deed) where
+  module _ (d : RowDeed) where
     abbrev pub head : Fml
     head = head_with d.at (length d.tickets)
 
-    abbrev pub stage : Stage → Fml
+    abbrev pub stage : RowStage → Fml
     stage (stands ms) = fsep (fact ((of_marks ms ≡ d.tickets) × (missing ms < 2 ^ 64)))
         (fsep (word b (d.at + 0) (missing ms)) (fsep (laid ms (d.at + stride X U R)) head))
     stage gone = held_all d.tickets
 
     abbrev pub Shared : Fml
-    Shared = fex Stage stage
+    Shared = fex RowStage stage
 
     -- the chunk at e is the row's i-th, and γ is its ticket
     abbrev pub Lies : ℕ → ℕ → ℕ → Type 0
@@ -99,14 +97,14 @@ module _ (X U R : RattleType) (b : ℕ) where
     ticket e t = fsep (fact (Lies e t.0 t.1)) (fsep (out t.1) (finv Shared))
 
   -- the way from the chunk at e to its row's head, and the right to lay the chunk back
-  abbrev pub leads : ℕ → Deed → Fml
+  abbrev pub leads : ℕ → RowDeed → Fml
   leads e d = fsep (cell b (head_at X U R e) (block_ptr b d.at)) (fex (ℕ × ℕ) (ticket d e))
 
   abbrev pub due : ℕ → Fml
-  due e = fsep (rim X U R b e) (fsep (len_room X U R b e) (fex Deed (leads e)))
+  due e = fsep (rim X U R b e) (fsep (len_room X U R b e) (fex RowDeed (leads e)))
 
   -- of a row, what is not cut into chunks yet: room from e on for each of the tickets, which are the row's from a place on
-  abbrev pub uncut : ℕ → ℕ → Deed × ℕ × List ℕ → Fml
+  abbrev pub uncut : ℕ → ℕ → RowDeed × ℕ × List ℕ → Fml
   uncut e left t =
       fsep (fact ((length t.2 ≡ left) × Tail t.0.tickets t.1 t.2
       × (e ≡ t.1 * stride X U R + (t.0.at + stride X U R)) × (stride X U R < 2 ^ 63)))
@@ -124,12 +122,12 @@ module _ (X U R : RattleType) where
   line p (suc n) = p ∷ line (p +ₚ stride X U R) n
 
   -- what is not cut yet: from p on there will be chunks at the places ps, and the head lies at q
-  abbrev pub strip_by : ℕ → ℕ → Ptr → List Ptr → Deed × ℕ × List ℕ → Fml
+  abbrev pub strip_by : ℕ → ℕ → Ptr → List Ptr → RowDeed × ℕ × List ℕ → Fml
   strip_by b e q ps t =
       fsep (feq Ptr q (block_ptr b t.0.at)) (fsep (fact (ps ≡ line (block_ptr b e) (length ps))) (uncut X U R b e (length ps) t))
 
   abbrev pub strip_owns : Ptr → Ptr → List Ptr → Fml
-  strip_owns (block_ptr b e) q ps = fex (Deed × ℕ × List ℕ) (strip_by b e q ps)
+  strip_owns (block_ptr b e) q ps = fex (RowDeed × ℕ × List ℕ) (strip_by b e q ps)
   strip_owns null_ptr q ps = ffalse
 
   -- ps are the places of chunks that lie one after the other, from p on, in one block

@@ -21,7 +21,7 @@ pub struct Bare<H, P: Labelled + Drop, T: Drop> {
 
 impl<H, P: Labelled + Drop, T: Drop> Bare<H, P, T> {
     ghost use Rattle.seize_store.specs.Known.{content_in, entry_of, label_in};
-    ghost use Rattle.seize_store.specs.Named.{IsRowOf, bare_content, bare_known, bare_label, bare_number, bare_store, bare_title, bare_value, hollow_title, title_of, value_of};
+    ghost use Rattle.seize_store.specs.Named.{IsRowOf, bare_content, bare_known, bare_label, bare_number, bare_store, bare_title, bare_value, hollow_title, owned_value, title_of};
 
     /// The block's number. No other block of its store has it while this one stands.
     pub fn number(&self) -> usize
@@ -43,7 +43,7 @@ impl<H, P: Labelled + Drop, T: Drop> Bare<H, P, T> {
     /// The block with its owner's part, which may be another one of the same label. It takes no memory and no atomic step.
     pub fn with(self, part: P) -> Owned<H, P, T>
         requires { P.label part ≡ bare_label self }
-        ensures { (value_of result ≡ bare_value self) × (title_of result ≡ bare_title self) }
+        ensures { (owned_value result ≡ bare_value self) × (title_of result ≡ bare_title self) }
     {
         let Bare { hull, title } = self;
         Owned {

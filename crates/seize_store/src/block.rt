@@ -4,7 +4,7 @@
 ghost use Rattle.std.specs.Prelude.{◌≡◌, ◌≢◌, ℕ};
 ghost use Rattle.std.specs.Borrow.{sem};
 ghost use Rattle.seize_store.specs.Block.{out_owns, block_owns, block_shares, hull_owns, hull_shares, shell_owns};
-ghost use Rattle.seize_store.specs.Titled.{place_of, tag_of};
+ghost use Rattle.seize_store.specs.Titled.{title_place, title_tag};
 ghost use Rattle.seize_table.specs.Pairs.{left_of};
 
 use crate::chunk::{Body, Remains};
@@ -32,9 +32,9 @@ pub(crate) struct Block<H, P: Labelled, T> {
 }
 
 impl<H, P: Labelled, T> Model for Block<H, P, T> {
-    ghost also_owns = { λ o. block_owns H.row P.row T.row P.label (place_of o.title) (tag_of o.title) o.at o.value };
+    ghost also_owns = { λ o. block_owns H.row P.row T.row P.label (title_place o.title) (title_tag o.title) o.at o.value };
 
-    ghost also_shares = { λ o _ κ. block_shares H.row P.row T.row P.label (tag_of o.title) o.at o.value κ };
+    ghost also_shares = { λ o _ κ. block_shares H.row P.row T.row P.label (title_tag o.title) o.at o.value κ };
 }
 
 impl<H, P: Labelled, T> Out<H, P, T> {
@@ -50,11 +50,11 @@ impl<H, P: Labelled, T> Out<H, P, T> {
 }
 
 impl<H, P: Labelled, T> Out<H, P, T> {
-    ghost use Rattle.seize_store.specs.Parts.{room_at, room_with};
+    ghost use Rattle.seize_store.specs.Parts.{out_room_at, room_with};
 
     /// Two rooms that are out at once lie apart. It does nothing: its contract says so.
     pub(crate) fn differ(self, other: Out<H, P, T>) -> (Out<H, P, T>, Out<H, P, T>)
-        ensures { (room_with result.0 ≡ room_with self) × (room_with result.1 ≡ room_with other) × (room_at self ≢ room_at other) }
+        ensures { (room_with result.0 ≡ room_with self) × (room_with result.1 ≡ room_with other) × (out_room_at self ≢ out_room_at other) }
     {
         let Out { at: first } = self;
         let Out { at: second } = other;
@@ -94,7 +94,7 @@ impl<H, P: Labelled, T> Block<H, P, T> {
 
     /// The owner's part, for as long as the block is borrowed.
     pub(crate) fn part(&self) -> &P
-        ensures { P.label result.now ≡ left_of (tag_of (block_title self.now)) }
+        ensures { P.label result.now ≡ left_of (title_tag (block_title self.now)) }
     {
         unsafe { &(*self.at).part }
     }
@@ -115,7 +115,7 @@ impl<H, P: Labelled, T> Block<H, P, T> {
     }
     /// The owner's part by value, and the block without it.
     pub(crate) fn split(self) -> (P, Hull<H, P, T>, Title)
-        ensures { (P.label result.0 ≡ left_of (tag_of (block_title self))) × (result.1.value ≡ self.value)
+        ensures { (P.label result.0 ≡ left_of (title_tag (block_title self))) × (result.1.value ≡ self.value)
             × (chunk_of result.2 ≡ hull_with result.1) × (result.2 ≡ block_title self) }
     {
         let Block { at, title } = self;
@@ -143,7 +143,7 @@ impl<H, P: Labelled, T> Hull<H, P, T> {
 
     /// The block, with the owner's part in it. It takes no memory and no atomic step.
     pub(crate) fn with(self, title: Title, part: P) -> Block<H, P, T>
-        requires { (chunk_of title ≡ hull_with self) × (P.label part ≡ left_of (tag_of title)) }
+        requires { (chunk_of title ≡ hull_with self) × (P.label part ≡ left_of (title_tag title)) }
         ensures { (result.value ≡ self.value) × (block_title result ≡ title) }
     {
         let Hull { at } = self;

@@ -21,7 +21,7 @@ pub struct Hollow<H, P: Labelled + Drop, T> {
 
 impl<H, P: Labelled + Drop, T> Hollow<H, P, T> {
     ghost use Rattle.seize_store.specs.Known.{content_in, entry_of, label_in};
-    ghost use Rattle.seize_store.specs.Named.{AreOf, IsRowOf, count_of, count_with, hollow_content, hollow_known, hollow_label, hollow_number, hollow_store, hollow_title, titles_of, titles_with};
+    ghost use Rattle.seize_store.specs.Named.{AreOfStore, IsRowOf, count_of, count_with, hollow_content, hollow_known, hollow_label, hollow_number, hollow_store, hollow_title, titles_of, titles_with};
     ghost use Rattle.seize_store.specs.Parts.{spot_title};
 
     /// The chunk's number. No block of its store has it while this stands.
@@ -62,8 +62,8 @@ impl<H, P: Labelled + Drop, T> Hollow<H, P, T> {
     /// step else.
     pub fn put_into(self, part: P, spots: &mut Spots<H, P, T>)
         requires part { P.label part ≡ hollow_label self }
-        requires spots { AreOf spots.old (hollow_store self) }
-        ensures spots { AreOf spots.new (hollow_store self) }
+        requires spots { AreOfStore spots.old (hollow_store self) }
+        ensures spots { AreOfStore spots.new (hollow_store self) }
         ensures count { count_of spots.new ≡ count_with (count_of spots.old) }
         ensures last { titles_of spots.new ≡ titles_with (titles_of spots.old) (hollow_title self) }
     {

@@ -3,7 +3,7 @@
 ghost use Rattle.std.specs.Prelude.{◌≡◌};
 ghost use Rattle.seize_content.specs.Loans.{IsLent};
 ghost use Rattle.seize_store.specs.Known.{content_in, entry_of};
-ghost use Rattle.seize_store.specs.Named.{IsRowOf, bare_content, bare_known, bare_number, bare_store, bare_value, name_of};
+ghost use Rattle.seize_store.specs.Named.{IsRowOf, bare_content, bare_known, bare_number, bare_store, bare_value, store_name};
 
 use crate::bare::Bare;
 use crate::known::{Known, Title};
@@ -18,7 +18,7 @@ impl<H: Labelled + Drop, P: Labelled + Drop, T: Drop> Store<H, P, T> {
     /// The block is in nobody's hands then. Who knows its number and a token of its row (`Bare::known`) has it back by `back`. Where ticket
     /// or pool are lost, or the store ends before, it is lost: the value does not end, and its row's memory is never given back.
     pub fn lend(&self, bare: Bare<H, P, T>) -> (Ticket, Pool)
-        requires { bare_store bare ≡ name_of self.now }
+        requires { bare_store bare ≡ store_name self.now }
         ensures loan { IsLent result.0 result.1 × (result.0.name ≡ bare_content bare) }
         ensures value { result.1.value ≡ T.row.coded.code (bare_value bare) }
     {
@@ -29,7 +29,7 @@ impl<H: Labelled + Drop, P: Labelled + Drop, T: Drop> Store<H, P, T> {
 
     /// The block of that number, in hand again, with a value of the code that was lent. It takes no memory and no atomic step.
     pub fn back(&self, number: usize, known: &Known, ticket: Ticket, pool: Pool) -> Bare<H, P, T>
-        requires store { known.now.store ≡ name_of self.now }
+        requires store { known.now.store ≡ store_name self.now }
         requires row { IsRowOf known.now number }
         requires loan { IsLent ticket pool × (ticket.name ≡ content_in known.now.chunks (entry_of known.now.row number)) }
         ensures title { (bare_number result ≡ number) × (bare_known result ≡ known.now) }
@@ -53,7 +53,7 @@ impl<H: Labelled + Drop, P: Labelled + Drop, T> Store<H, P, T> {
     /// Three loads, each of which waits for the one before, as `place`: the row's cell, where its chunks begin, and then what is looked for
     /// in the value.
     pub fn see<'g>(&'g self, number: usize, known: &Known, sight: Sight<'g>) -> &'g T
-        requires store { known.now.store ≡ name_of self.now }
+        requires store { known.now.store ≡ store_name self.now }
         requires row { IsRowOf known.now number }
         requires loan { sight.name ≡ content_in known.now.chunks (entry_of known.now.row number) }
         ensures { T.row.coded.code result.now ≡ sight.entry.value }

@@ -2,7 +2,7 @@
 //! `spot`.
 ghost use Rattle.std.specs.Prelude.{◌≡◌, ◌≢◌};
 ghost use Rattle.std.specs.Borrow.{sem};
-ghost use Rattle.seize_store.specs.Named.{AreOf, IsRowOf, bare_title, bare_value, IsSame, count_of, count_with, known_of, label_of, number_of, store_of, title_of, titles_of, titles_with, value_of};
+ghost use Rattle.seize_store.specs.Named.{AreOfStore, IsRowOf, bare_title, bare_value, IsSameBlock, count_of, count_with, known_of, owned_label, owned_number, store_of, title_of, titles_of, titles_with, owned_value};
 ghost use Rattle.seize_store.specs.Known.{entry_of, label_in};
 ghost use Rattle.seize_store.specs.Parts.{spot_title};
 
@@ -26,30 +26,30 @@ pub struct Owned<H, P: Labelled + Drop, T: Drop> {
 impl<H, P: Labelled + Drop, T: Drop> Owned<H, P, T> {
     /// The block's number. No other block of its store has it while this one stands.
     pub fn number(&self) -> usize
-        ensures { result ≡ number_of self.now }
+        ensures { result ≡ owned_number self.now }
     {
         self.block.title().number
     }
 
     /// What shows the row in which the block's chunk lies, and that it lies there.
     pub fn known(&self) -> &Known
-        ensures row { (result.now ≡ known_of self.now) × IsRowOf result.now (number_of self.now) }
-        ensures label { label_of self.now ≡ label_in result.now.chunks (entry_of result.now.row (number_of self.now)) }
+        ensures row { (result.now ≡ known_of self.now) × IsRowOf result.now (owned_number self.now) }
+        ensures label { owned_label self.now ≡ label_in result.now.chunks (entry_of result.now.row (owned_number self.now)) }
     {
         &self.block.title().known
     }
 
     /// The owner's part of the chunk. It has the label of the chunk's header.
     pub fn part(&self) -> &P
-        ensures { P.label result.now ≡ label_of self.now }
+        ensures { P.label result.now ≡ owned_label self.now }
     {
         self.block.part()
     }
 
     /// The owner's part by value, and the block without it. It takes no memory and no atomic step.
     pub fn split(self) -> (P, Bare<H, P, T>)
-        ensures label { P.label result.0 ≡ label_of self }
-        ensures block { (bare_value result.1 ≡ value_of self) × (bare_title result.1 ≡ title_of self) }
+        ensures label { P.label result.0 ≡ owned_label self }
+        ensures block { (bare_value result.1 ≡ owned_value self) × (bare_title result.1 ≡ title_of self) }
     {
         let Owned { block } = self;
         let (part, hull, title) = block.split();
@@ -58,7 +58,7 @@ impl<H, P: Labelled + Drop, T: Drop> Owned<H, P, T> {
 
     /// The value by value. The chunk is in again, by one swap; where the store is gone, its memory goes back.
     pub fn into_inner(self) -> T
-        ensures { result ≡ value_of self }
+        ensures { result ≡ owned_value self }
     {
         let (value, _) = self.into_parts();
         value
@@ -66,7 +66,7 @@ impl<H, P: Labelled + Drop, T: Drop> Owned<H, P, T> {
 
     /// The same, and what shows the row in which the value lay.
     pub fn into_parts(self) -> (T, Known)
-        ensures value { result.0 ≡ value_of self }
+        ensures value { result.0 ≡ owned_value self }
         ensures known { result.1 ≡ known_of self }
     {
         let (value, spot) = self.empty();
@@ -78,9 +78,9 @@ impl<H, P: Labelled + Drop, T: Drop> Owned<H, P, T> {
     /// The value by value. The chunk stays claimed, and its spot goes to the list; where that is full, half of it goes back first. No
     /// atomic step else.
     pub fn empty_into(self, spots: &mut Spots<H, P, T>) -> T
-        requires { AreOf spots.old (store_of self) }
-        ensures value { result ≡ value_of self }
-        ensures spots { AreOf spots.new (store_of self) }
+        requires { AreOfStore spots.old (store_of self) }
+        ensures value { result ≡ owned_value self }
+        ensures spots { AreOfStore spots.new (store_of self) }
         ensures count { count_of spots.new ≡ count_with (count_of spots.old) }
         ensures last { titles_of spots.new ≡ titles_with (titles_of spots.old) (title_of self) }
     {
@@ -91,7 +91,7 @@ impl<H, P: Labelled + Drop, T: Drop> Owned<H, P, T> {
 
     // The value, and the spot where it lay.
     pub(crate) fn empty(self) -> (T, Spot<H, P, T>)
-        ensures { (result.0 ≡ value_of self) × (spot_title result.1 ≡ title_of self) }
+        ensures { (result.0 ≡ owned_value self) × (spot_title result.1 ≡ title_of self) }
     {
         let Owned { block } = self;
         let (value, out, title) = block.empty();
@@ -106,8 +106,8 @@ pub fn apart<H, P: Labelled + Drop, T: Drop>(
     second: Owned<H, P, T>,
 ) -> (Owned<H, P, T>, Owned<H, P, T>)
     requires { store_of first ≡ store_of second }
-    ensures numbers { number_of first ≢ number_of second }
-    ensures same { IsSame result.0 first × IsSame result.1 second }
+    ensures numbers { owned_number first ≢ owned_number second }
+    ensures same { IsSameBlock result.0 first × IsSameBlock result.1 second }
 {
     let (one, first) = first.empty();
     let (two, second) = second.empty();
@@ -119,20 +119,20 @@ impl<H, P: Labelled + Drop, T: Drop> Deref for Owned<H, P, T> {
     type Target = T;
 
     fn deref(&self) -> &T
-        ensures { result.now ≡ value_of self.now }
+        ensures { result.now ≡ owned_value self.now }
     {
         self.block.get()
     }
 }
 
 impl<H, P: Labelled + Drop, T: Drop> DerefMut for Owned<H, P, T> {
-    ghost use Rattle.seize_store.specs.Lends.{lends_value};
+    ghost use Rattle.seize_store.specs.Lends.{lends_owned_value};
 
-    ghost deref_mut_gives = { λ owned value. value ≡ value_of owned };
+    ghost deref_mut_gives = { λ owned value. value ≡ owned_value owned };
 
     fn deref_mut(&mut self) -> &mut T
-        ensures* writes_back { sem 𝓛 (lends_value H.row P.row T.row P.label self.entry result) }
-        ensures value { result.now ≡ value_of self.old }
+        ensures* writes_back { sem 𝓛 (lends_owned_value H.row P.row T.row P.label self.entry result) }
+        ensures value { result.now ≡ owned_value self.old }
     {
         self.block.get_mut()
     }

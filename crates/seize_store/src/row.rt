@@ -3,7 +3,7 @@ ghost use Rattle.std.specs.Prelude.{◌≡◌, ◌+◌, ◌^◌, ◌<◌, All, I
 ghost use Rattle.seize_store.specs.Known.{AreKin, label_in, place_in};
 ghost use Rattle.seize_table.specs.Pairs.{left_of};
 ghost use Rattle.seize_table.specs.Place.{IsPlace};
-ghost use Rattle.seize_table.specs.Table.{number_at};
+ghost use Rattle.seize_table.specs.Table.{entry_number};
 
 use crate::block::Hull;
 use crate::chunk::{Base, Body, Chunk};
@@ -79,7 +79,7 @@ impl<H: Labelled + Drop, P: Labelled + Drop, T> Kin for Row<H, P, T> {
 /// The number whose place is that entry of that row.
 pub(crate) fn number_at_place(row: usize, entry: usize) -> usize
     requires { (row < BUCKETS) × (entry < 2 ^ (row + 5)) }
-    ensures { (result ≡ number_at row entry) × IsPlace result row entry }
+    ensures { (result ≡ entry_number row entry) × IsPlace result row entry }
 {
     Thread::bucket_capacity(row) - 32 + entry
 }
@@ -180,7 +180,7 @@ pub(crate) struct Rows<H: Labelled + Drop, P: Labelled + Drop, T> {
 }
 
 impl<H: Labelled + Drop, P: Labelled + Drop, T> Rows<H, P, T> {
-    ghost use Rattle.seize_store.specs.Titled.{IsMade, family_of, names_of};
+    ghost use Rattle.seize_store.specs.Titled.{IsRowNote, family_of, names_of_rows};
 
     /// The cells of a new store of this family. They take no memory.
     pub(crate) fn new(alloc: Global, family: &Family) -> Rows<H, P, T>
@@ -202,7 +202,7 @@ impl<H: Labelled + Drop, P: Labelled + Drop, T> Rows<H, P, T> {
     /// The row of this index, where it is made, and a note that knows it.
     pub(crate) fn found(&self, bucket: usize) -> Option<(&Row<H, P, T>, NoteOf<Row<H, P, T>>)>
         requires { bucket < BUCKETS }
-        ensures { IfSome result (λ found. IsMade (names_of self.now) bucket found.0.now found.1) }
+        ensures { IfSome result (λ found. IsRowNote (names_of_rows self.now) bucket found.0.now found.1) }
     {
         let cell = &self.cells[bucket];
         let (row, note) = cell.found(cell.note());
@@ -218,7 +218,7 @@ impl<H: Labelled + Drop, P: Labelled + Drop, T> Rows<H, P, T> {
     ) -> Result<(&Row<H, P, T>, NoteOf<Row<H, P, T>>), AllocError>
         requires bucket { bucket < BUCKETS }
         requires family { M.family maker.now ≡ family_of self.now }
-        ensures { IfOk result (λ made. IsMade (names_of self.now) bucket made.0.now made.1) }
+        ensures { IfOk result (λ made. IsRowNote (names_of_rows self.now) bucket made.0.now made.1) }
     {
         if let Some(found) = self.found(bucket) {
             return Ok(found);

@@ -1,7 +1,7 @@
 //! The way from a number to its chunk, for whoever knows that the number's row is made. It stands on `row` and `known`; the look-ups
 //! are in `find`.
 ghost use Rattle.std.specs.Prelude.{◌≡◌, Some};
-ghost use Rattle.seize_store.specs.Known.{name_in};
+ghost use Rattle.seize_store.specs.Known.{row_name};
 
 use crate::chunk::Chunk;
 use crate::kin::NoteOf;
@@ -16,7 +16,7 @@ mod find;
 pub struct Seen<H: Labelled + Drop, P: Labelled + Drop, T> {
     pub(crate) note: NoteOf<Row<H, P, T>>,
     pub(crate) known: Known,
-    ghost cell: { note.cell ≡ name_in known.store known.row },
+    ghost cell: { note.cell ≡ row_name known.store known.row },
     ghost same: { note.known ≡ Some known.chunks },
 }
 

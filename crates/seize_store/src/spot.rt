@@ -45,12 +45,12 @@ impl<H, P: Labelled + Drop, T> Spot<H, P, T> {
 }
 
 impl<H, P: Labelled + Drop, T: Drop> Spot<H, P, T> {
-    ghost use Rattle.seize_store.specs.Named.{title_of, value_of};
+    ghost use Rattle.seize_store.specs.Named.{owned_value, title_of};
     ghost use Rattle.seize_store.specs.Parts.{spot_title};
 
     /// A block of this spot. It takes no memory and no atomic step.
     pub(crate) fn fill(self, value: T) -> Owned<H, P, T>
-        ensures { (value_of result ≡ value) × (title_of result ≡ spot_title self) }
+        ensures { (owned_value result ≡ value) × (title_of result ≡ spot_title self) }
     {
         let Spot { out, title } = self;
         Owned {

@@ -2,9 +2,9 @@
 ghost use Rattle.std.specs.Prelude.{◌≡◌, ◌≢◌, ℕ, ◌+◌, ◌-◌, ◌^◌, ◌<◌, ◌⊎◌, length, List, [], ◌∷◌, ◌++◌, IfOk, IfErr, IfSome, Some};
 ghost use Rattle.seize_table.specs.declared.refusal.Refusal.TheVariants.{NoMemory};
 ghost use Rattle.seize_store.specs.Known.{chunk_in, family_in};
-ghost use Rattle.seize_store.specs.Named.{AreOf, count_of, is_empty_list, name_of, store_of, title_of, titles_of, value_of};
+ghost use Rattle.seize_store.specs.Named.{AreOfStore, count_of, is_empty_list, owned_value, store_name, store_of, title_of, titles_of};
 ghost use Rattle.seize_store.specs.Parts.{room_with, spot_store};
-ghost use Rattle.seize_store.specs.Titled.{IsMade};
+ghost use Rattle.seize_store.specs.Titled.{IsRowNote};
 
 use crate::block::Out;
 use crate::family::Family;
@@ -54,7 +54,7 @@ fn first_in<H: Labelled + Drop, P: Labelled + Drop, T>(
 impl<H: Labelled + Drop, P: Labelled + Drop, T> Store<H, P, T> {
     /// A store with no rows, whose chunks will all be of this family. It takes no memory.
     pub fn new(alloc: Global, family: &Family) -> Store<H, P, T>
-        ensures { family_in (name_of result) ≡ family.now.number }
+        ensures { family_in (store_name result) ≡ family.now.number }
     {
         Store {
             rows: Rows::new(alloc, family),
@@ -65,8 +65,8 @@ impl<H: Labelled + Drop, P: Labelled + Drop, T> Store<H, P, T> {
 
     /// Two stores that stand at once have different names, whatever they are made for. It does nothing: its contract is the law.
     pub fn apart<G: Labelled + Drop, Q: Labelled + Drop, U>(&mut self, other: &mut Store<G, Q, U>)
-        ensures names { name_of self.old ≢ name_of other.old }
-        ensures same { (name_of self.new ≡ name_of self.old) × (name_of other.new ≡ name_of other.old) }
+        ensures names { store_name self.old ≢ store_name other.old }
+        ensures same { (store_name self.new ≡ store_name self.old) × (store_name other.new ≡ store_name other.old) }
     {
         self.rows.identity.apart(&mut other.rows.identity);
     }
@@ -82,8 +82,8 @@ impl<H: Labelled + Drop, P: Labelled + Drop, T> Store<H, P, T> {
     pub fn add<M: Maker<H, P>>(&self, value: T, maker: &M) -> Result<Owned<H, P, T>, (Refusal, T)>
     where
         T: Drop,
-        requires { M.family maker.now ≡ family_in (name_of self.now) }
-        ensures ok { IfOk result (λ o. (value_of o ≡ value) × (store_of o ≡ name_of self.now)) }
+        requires { M.family maker.now ≡ family_in (store_name self.now) }
+        ensures ok { IfOk result (λ o. (owned_value o ≡ value) × (store_of o ≡ store_name self.now)) }
         ensures refused { IfErr result (λ e. (e.0 ≡ NoMemory) × (e.1 ≡ value)) }
     {
         match self.claim(maker) {
@@ -105,11 +105,11 @@ impl<H: Labelled + Drop, P: Labelled + Drop, T> Store<H, P, T> {
     ) -> Result<Owned<H, P, T>, (Refusal, T)>
     where
         T: Drop,
-        requires family { M.family maker.now ≡ family_in (name_of self.now) }
-        requires spots { AreOf spots.old (name_of self.now) }
-        ensures ok { IfOk result (λ o. (value_of o ≡ value) × (store_of o ≡ name_of self.now)) }
+        requires family { M.family maker.now ≡ family_in (store_name self.now) }
+        requires spots { AreOfStore spots.old (store_name self.now) }
+        ensures ok { IfOk result (λ o. (owned_value o ≡ value) × (store_of o ≡ store_name self.now)) }
         ensures refused { IfErr result (λ e. (e.0 ≡ NoMemory) × (e.1 ≡ value) × is_empty_list spots.old) }
-        ensures spots { AreOf spots.new (name_of self.now) }
+        ensures spots { AreOfStore spots.new (store_name self.now) }
         ensures count { count_of spots.new ≡ count_of spots.old - 1 }
         ensures made { IfOk result (λ o. is_empty_list spots.old ⊎ (titles_of spots.old ≡ titles_of spots.new ++ title_of o ∷ [])) }
     {
@@ -121,8 +121,8 @@ impl<H: Labelled + Drop, P: Labelled + Drop, T> Store<H, P, T> {
 
     // A chunk that was in: from the hint on in its row, or else the first one, in a new row if need be.
     fn claim<M: Maker<H, P>>(&self, maker: &M) -> Result<Spot<H, P, T>, Refusal>
-        requires { M.family maker.now ≡ family_in (name_of self.now) }
-        ensures ok { IfOk result (λ spot. spot_store spot ≡ name_of self.now) }
+        requires { M.family maker.now ≡ family_in (store_name self.now) }
+        ensures ok { IfOk result (λ spot. spot_store spot ≡ store_name self.now) }
         ensures refused { IfErr result (λ e. e ≡ NoMemory) }
     {
         if let Some(spot) = self.near_hint() {
@@ -138,7 +138,7 @@ impl<H: Labelled + Drop, P: Labelled + Drop, T> Store<H, P, T> {
     }
 
     fn near_hint(&self) -> Option<Spot<H, P, T>>
-        ensures { IfSome result (λ spot. spot_store spot ≡ name_of self.now) }
+        ensures { IfSome result (λ spot. spot_store spot ≡ store_name self.now) }
     {
         let place = Thread::new(self.hint.load(SeqCst))?;
         let (row, note) = self.rows.found(place.bucket)?;
@@ -161,8 +161,8 @@ impl<H: Labelled + Drop, P: Labelled + Drop, T> Store<H, P, T> {
         row: &Row<H, P, T>,
         note: NoteOf<Row<H, P, T>>,
     ) -> Option<Spot<H, P, T>>
-        requires { (bucket < BUCKETS) × IsMade (name_of self.now) bucket row.now note }
-        ensures { IfSome result (λ spot. spot_store spot ≡ name_of self.now) }
+        requires { (bucket < BUCKETS) × IsRowNote (store_name self.now) bucket row.now note }
+        ensures { IfSome result (λ spot. spot_store spot ≡ store_name self.now) }
     {
         let end = Thread::bucket_capacity(bucket);
         if row.len() != end {

@@ -1,7 +1,7 @@
 //! Chunks whose value was taken out before their part is back: the value ends once, where its taker ends it, and the chunk serves again.
 ghost use Rattle.std.specs.Prelude.{◌≡◌, IfOk};
 ghost use Rattle.seize_store.specs.Known.{family_in};
-ghost use Rattle.seize_store.specs.Named.{AreOf, hollow_label, name_of, store_of};
+ghost use Rattle.seize_store.specs.Named.{AreOfStore, hollow_label, store_name, store_of};
 ghost use Rattle.seize_table.specs.Pairs.{pair};
 
 use crate::taken::{both_taken_out, hollowed, taken_into, taken_out};
@@ -61,8 +61,8 @@ fn added<'a>(
     ends: &'a Ends,
     name: u64,
 ) -> Result<Block<'a>, Refusal>
-    requires { family_in (name_of store.now) ≡ 0 }
-    ensures { IfOk result (λ owned. store_of owned ≡ name_of store.now) }
+    requires { family_in (store_name store.now) ≡ 0 }
+    ensures { IfOk result (λ owned. store_of owned ≡ store_name store.now) }
 {
     let value = Counted {
         ends: &ends.values,
@@ -145,9 +145,9 @@ fn used_again<'a>(
     maker: &Pairs<'a>,
     ends: &'a Ends,
 ) -> Result<(usize, usize), Refusal>
-    requires family { family_in (name_of store.now) ≡ 0 }
-    requires spots { AreOf spots.old (name_of store.now) }
-    ensures { AreOf spots.new (name_of store.now) }
+    requires family { family_in (store_name store.now) ≡ 0 }
+    requires spots { AreOfStore spots.old (store_name store.now) }
+    ensures { AreOfStore spots.new (store_name store.now) }
 {
     let value = taken_into(added(store, maker, ends, 7)?, spots);
     let count = spots.len();

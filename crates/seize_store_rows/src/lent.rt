@@ -2,7 +2,7 @@
 ghost use Rattle.std.specs.Prelude.{◌≡◌, IfOk};
 ghost use Rattle.seize_content.specs.Loans.{IsLent};
 ghost use Rattle.seize_store.specs.Known.{content_in, entry_of, family_in};
-ghost use Rattle.seize_store.specs.Named.{IsRowOf, bare_known, bare_number, name_of, number_of, store_of, value_of};
+ghost use Rattle.seize_store.specs.Named.{IsRowOf, bare_known, bare_number, owned_number, owned_value, store_name, store_of};
 
 use crate::loans::{lent_without_its_part, seen};
 use crate::values::{Counted, Numbered, Pairs, Tallies, Tally};
@@ -19,8 +19,8 @@ type Tallied = Store<Tally, Numbered, u64>;
 type Block = Owned<Tally, Numbered, u64>;
 
 fn block(store: &Tallied, value: u64) -> Result<Block, Refusal>
-    requires { family_in (name_of store.now) ≡ 0 }
-    ensures { IfOk result (λ owned. (value_of owned ≡ value) × (store_of owned ≡ name_of store.now)) }
+    requires { family_in (store_name store.now) ≡ 0 }
+    ensures { IfOk result (λ owned. (owned_value owned ≡ value) × (store_of owned ≡ store_name store.now)) }
 {
     match store.add(value, &Tallies) {
         Ok(owned) => Ok(owned),
@@ -32,7 +32,7 @@ const TIMES: u64 = 100_000;
 
 // The sum of what is seen of that block so many times, modulo 2^64.
 fn see_many(store: &Tallied, number: usize, known: &Known, pool: &Pool) -> u64
-    requires row { (known.now.store ≡ name_of store.now) × IsRowOf known.now number }
+    requires row { (known.now.store ≡ store_name store.now) × IsRowOf known.now number }
     requires loan { pool.now.name ≡ content_in known.now.chunks (entry_of known.now.row number) }
 {
     let mut sum = 0u64;
@@ -44,8 +44,8 @@ fn see_many(store: &Tallied, number: usize, known: &Known, pool: &Pool) -> u64
 
 // The sums that two threads see of a block that is lent. The first one lends it, and has it back.
 fn seen_by_two<R: Threads + Sync>(rt: &R, store: &Tallied, owned: Block) -> ((u64, u64), Block)
-    requires { store_of owned ≡ name_of store.now }
-    ensures { (value_of result.1 ≡ value_of owned) × (number_of result.1 ≡ number_of owned) }
+    requires { store_of owned ≡ store_name store.now }
+    ensures { (owned_value result.1 ≡ owned_value owned) × (owned_number result.1 ≡ owned_number owned) }
 {
     let (part, bare) = owned.split();
     let number = bare.number();
@@ -55,11 +55,11 @@ fn seen_by_two<R: Threads + Sync>(rt: &R, store: &Tallied, owned: Block) -> ((u6
     let sums = thread::join(
         rt,
         move || -> u64
-            requires row { (token.now.store ≡ name_of store.now) × IsRowOf token.now number }
+            requires row { (token.now.store ≡ store_name store.now) × IsRowOf token.now number }
             requires loan { lent.now.name ≡ content_in token.now.chunks (entry_of token.now.row number) }
         { see_many(store, number, token, lent) },
         move || -> u64
-            requires row { (token.now.store ≡ name_of store.now) × IsRowOf token.now number }
+            requires row { (token.now.store ≡ store_name store.now) × IsRowOf token.now number }
             requires loan { lent.now.name ≡ content_in token.now.chunks (entry_of token.now.row number) }
         { see_many(store, number, token, lent) },
     );
@@ -79,8 +79,8 @@ fn two_threads_see_a_block_that_is_lent(rt: HostRuntime) -> Result<(), Fail> {
 
 // A block that is lent on one thread and had back on another.
 fn had_back_elsewhere<R: Threads + Sync>(rt: &R, store: &Tallied, owned: Block) -> Block
-    requires { store_of owned ≡ name_of store.now }
-    ensures { number_of result ≡ number_of owned }
+    requires { store_of owned ≡ store_name store.now }
+    ensures { owned_number result ≡ owned_number owned }
 {
     let (part, bare) = owned.split();
     let number = bare.number();
@@ -90,7 +90,7 @@ fn had_back_elsewhere<R: Threads + Sync>(rt: &R, store: &Tallied, owned: Block) 
     let (bare, _) = thread::join(
         rt,
         move || -> Bare<Tally, Numbered, u64>
-            requires row { (token.now.store ≡ name_of store.now) × IsRowOf token.now number }
+            requires row { (token.now.store ≡ store_name store.now) × IsRowOf token.now number }
             requires loan { IsLent ticket pool × (ticket.name ≡ content_in token.now.chunks (entry_of token.now.row number)) }
             ensures { (bare_number result ≡ number) × (bare_known result ≡ token.entry.now) }
         { store.back(number, token, ticket, pool) },
@@ -110,8 +110,8 @@ fn a_block_comes_back_on_any_thread(rt: HostRuntime) -> Result<(), Fail> {
 
 // A block that came back is changed in hand, and lent again; and its chunk serves for the next block.
 fn lent_twice(store: &Tallied, owned: Block, value: u64) -> Block
-    requires { store_of owned ≡ name_of store.now }
-    ensures { (value_of result ≡ value) × (number_of result ≡ number_of owned) }
+    requires { store_of owned ≡ store_name store.now }
+    ensures { (owned_value result ≡ value) × (owned_number result ≡ owned_number owned) }
 {
     let mut owned = lent_without_its_part(store, owned);
     *owned = value;

@@ -2,7 +2,7 @@
 ghost use Rattle.std.specs.Prelude.{◌≡◌};
 ghost use Rattle.seize_content.specs.Loans.{IsLent};
 ghost use Rattle.seize_store.specs.Known.{content_in, entry_of};
-ghost use Rattle.seize_store.specs.Named.{IsRowOf, bare_known, bare_number, bare_store, bare_value, name_of, number_of, store_of, value_of};
+ghost use Rattle.seize_store.specs.Named.{IsRowOf, bare_known, bare_number, bare_store, bare_value, owned_number, owned_value, store_name, store_of};
 
 use seize_content::Pool;
 use seize_store::{Bare, Known, Labelled, Owned, Store};
@@ -14,7 +14,7 @@ pub(crate) fn seen<'g, H: Labelled + Drop, P: Labelled + Drop, T>(
     known: &Known,
     pool: &'g Pool,
 ) -> &'g T
-    requires store { known.now.store ≡ name_of store.now }
+    requires store { known.now.store ≡ store_name store.now }
     requires row { IsRowOf known.now number }
     requires loan { pool.now.name ≡ content_in known.now.chunks (entry_of known.now.row number) }
     ensures { T.row.coded.code result.now ≡ pool.now.value }
@@ -27,7 +27,7 @@ pub(crate) fn lent_and_back<H: Labelled + Drop, P: Labelled + Drop, T: Drop>(
     store: &Store<H, P, T>,
     bare: Bare<H, P, T>,
 ) -> Bare<H, P, T>
-    requires { bare_store bare ≡ name_of store.now }
+    requires { bare_store bare ≡ store_name store.now }
     ensures value { bare_value result ≡ bare_value bare }
     ensures title { (bare_number result ≡ bare_number bare) × (bare_known result ≡ bare_known bare) }
 {
@@ -42,9 +42,9 @@ pub(crate) fn lent_without_its_part<H: Labelled + Drop, P: Labelled + Drop, T: D
     store: &Store<H, P, T>,
     owned: Owned<H, P, T>,
 ) -> Owned<H, P, T>
-    requires { store_of owned ≡ name_of store.now }
-    ensures value { value_of result ≡ value_of owned }
-    ensures number { (number_of result ≡ number_of owned) × (store_of result ≡ store_of owned) }
+    requires { store_of owned ≡ store_name store.now }
+    ensures value { owned_value result ≡ owned_value owned }
+    ensures number { (owned_number result ≡ owned_number owned) × (store_of result ≡ store_of owned) }
 {
     let (part, bare) = owned.split();
     lent_and_back(store, bare).with(part)

@@ -1,7 +1,7 @@
 //! What a caller can pass on of the contracts of look-ups and tokens. The clauses here follow from those contracts alone.
 ghost use Rattle.std.specs.Prelude.{◌≡◌, ◌<◌, IfSome, length};
 ghost use Rattle.seize_store.specs.Known.{entry_of, family_in};
-ghost use Rattle.seize_store.specs.Named.{chunks_by, header_of, label_of, lies, lies_of, name_of, number_of, row_by, row_is, store_by, store_of};
+ghost use Rattle.seize_store.specs.Named.{chunks_by, header_of, lies_of, owned_label, owned_number, owned_place, row_by, row_is, store_by, store_name, store_of};
 ghost use Rattle.seize_table.specs.Pairs.{pair};
 
 use crate::values::{Numbered, Tallies, Tally};
@@ -15,9 +15,9 @@ fn found_chunk<'a, H: Labelled + Drop, P: Labelled + Drop, T: Drop>(
     store: &'a Store<H, P, T>,
     owned: &Owned<H, P, T>,
 ) -> Option<Place<'a, H, P, T>>
-    requires { store_of owned.now ≡ name_of store.now }
-    ensures place { IfSome result (λ place. lies_of place ≡ lies owned.now) }
-    ensures label { IfSome result (λ place. H.label (header_of place) ≡ label_of owned.now) }
+    requires { store_of owned.now ≡ store_name store.now }
+    ensures place { IfSome result (λ place. lies_of place ≡ owned_place owned.now) }
+    ensures label { IfSome result (λ place. H.label (header_of place) ≡ owned_label owned.now) }
 {
     let (place, seen) = store.find(owned.number())?;
     seen.leads_to(owned);
@@ -30,11 +30,11 @@ fn own_chunk<'a, H: Labelled + Drop, P: Labelled + Drop, T: Drop>(
     owned: &Owned<H, P, T>,
     seen: &mut Seen<H, P, T>,
 ) -> Place<'a, H, P, T>
-    requires block { store_of owned.now ≡ name_of store.now }
-    requires token { (store_by seen.old ≡ name_of store.now) × row_is seen.old (number_of owned.now) }
+    requires block { store_of owned.now ≡ store_name store.now }
+    requires token { (store_by seen.old ≡ store_name store.now) × row_is seen.old (owned_number owned.now) }
     ensures token { seen.new ≡ seen.old }
-    ensures place { lies_of result ≡ lies owned.now }
-    ensures label { H.label (header_of result) ≡ label_of owned.now }
+    ensures place { lies_of result ≡ owned_place owned.now }
+    ensures label { H.label (header_of result) ≡ owned_label owned.now }
 {
     seen.leads_to(owned);
     store.at(owned.number(), seen)
@@ -46,11 +46,11 @@ fn own_chunk_twice<'a, H: Labelled + Drop, P: Labelled + Drop, T: Drop>(
     owned: &Owned<H, P, T>,
     seen: &mut Seen<H, P, T>,
 ) -> (Place<'a, H, P, T>, Place<'a, H, P, T>)
-    requires block { store_of owned.now ≡ name_of store.now }
-    requires token { (store_by seen.old ≡ name_of store.now) × row_is seen.old (number_of owned.now) }
+    requires block { store_of owned.now ≡ store_name store.now }
+    requires token { (store_by seen.old ≡ store_name store.now) × row_is seen.old (owned_number owned.now) }
     ensures token { seen.new ≡ seen.old }
-    ensures places { (lies_of result.0 ≡ lies owned.now) × (lies_of result.1 ≡ lies owned.now) }
-    ensures labels { (H.label (header_of result.0) ≡ label_of owned.now) × (H.label (header_of result.1) ≡ label_of owned.now) }
+    ensures places { (lies_of result.0 ≡ owned_place owned.now) × (lies_of result.1 ≡ owned_place owned.now) }
+    ensures labels { (H.label (header_of result.0) ≡ owned_label owned.now) × (H.label (header_of result.1) ≡ owned_label owned.now) }
 {
     let mut again = seen.again();
     (
@@ -64,8 +64,8 @@ fn numbers_found(
     store: &Store<Tally, Numbered, u64>,
     owned: &Owned<Tally, Numbered, u64>,
 ) -> Option<(usize, usize)>
-    requires { store_of owned.now ≡ name_of store.now }
-    ensures { IfSome result (λ found. (pair 0 found.0 ≡ label_of owned.now) × (found.0 ≡ found.1)) }
+    requires { store_of owned.now ≡ store_name store.now }
+    ensures { IfSome result (λ found. (pair 0 found.0 ≡ owned_label owned.now) × (found.0 ≡ found.1)) }
 {
     let one = found_chunk(store, owned)?;
     let other = found_chunk(store, owned)?;
@@ -85,7 +85,7 @@ fn header_after_look_ups(
     store: &Store<Tally, Numbered, u64>,
     owned: &Owned<Tally, Numbered, u64>,
 ) -> Option<u64>
-    requires { store_of owned.now ≡ name_of store.now }
+    requires { store_of owned.now ≡ store_name store.now }
 {
     let mut seen = store.seen(owned.number())?;
     has_an_entry(&seen, owned.number());
@@ -107,7 +107,7 @@ struct Looked {
 
 // A block of the value, looked up.
 fn added_and_looked_up(store: &Store<Tally, Numbered, u64>, value: u64) -> Result<Looked, Refusal>
-    requires { family_in (name_of store.now) ≡ 0 }
+    requires { family_in (store_name store.now) ≡ 0 }
 {
     match store.add(value, &Tallies) {
         Ok(owned) => {

@@ -1,7 +1,7 @@
 //! Owners' parts: each is made once, goes with whoever has its chunk, and ends once.
 ghost use Rattle.std.specs.Prelude.{◌≡◌};
 ghost use Rattle.seize_store.specs.Known.{family_in};
-ghost use Rattle.seize_store.specs.Named.{AreOf, label_of, name_of, title_of, value_of};
+ghost use Rattle.seize_store.specs.Named.{AreOfStore, owned_label, owned_value, store_name, title_of};
 ghost use Rattle.seize_table.specs.Pairs.{pair};
 
 use crate::values::{Counted, Numbered, Pairs, Tally};
@@ -26,7 +26,7 @@ fn told<O, T: Drop>(answer: Result<O, (Refusal, T)>) -> Result<O, Refusal> {
 
 // The part taken out and put back: the block is the same.
 fn put_back<H, P: Labelled + Drop, T: Drop>(owned: Owned<H, P, T>) -> Owned<H, P, T>
-    ensures { (value_of result ≡ value_of owned) × (title_of result ≡ title_of owned) }
+    ensures { (owned_value result ≡ owned_value owned) × (title_of result ≡ title_of owned) }
 {
     let (part, bare) = owned.split();
     bare.with(part)
@@ -34,7 +34,7 @@ fn put_back<H, P: Labelled + Drop, T: Drop>(owned: Owned<H, P, T>) -> Owned<H, P
 
 // The number that the block's header is labelled with, as its part says it.
 fn number_in_part<H>(owned: &Owned<H, Numbered, u64>) -> usize
-    ensures { pair 0 result ≡ label_of owned.now }
+    ensures { pair 0 result ≡ owned_label owned.now }
 {
     owned.part().number
 }
@@ -122,7 +122,7 @@ fn forty<'a>(
     store: &Paired<'a>,
     maker: &Pairs<'a>,
 ) -> Option<Vec<Owned<Counted<'a>, Counted<'a>, u64>>>
-    requires { family_in (name_of store.now) ≡ 0 }
+    requires { family_in (store_name store.now) ≡ 0 }
 {
     let mut all = Vec::with_capacity(alloc, 40).ok()?;
     for value in 0..40 {
@@ -263,7 +263,7 @@ type Use<'a> = Owned<Tally, Uses<'a>, u64>;
 
 // Counts a use of the block's chunk in its part, without an atomic step.
 fn used<'a>(owned: Use<'a>) -> Use<'a>
-    ensures { (value_of result ≡ value_of owned.entry) × (title_of result ≡ title_of owned.entry) }
+    ensures { (owned_value result ≡ owned_value owned.entry) × (title_of result ≡ title_of owned.entry) }
 {
     let (mut part, bare) = owned.split();
     part.count = part.count.saturating_add(1);
@@ -274,7 +274,7 @@ const EACH: u64 = 20_000;
 
 // So many blocks made, used and ended. How many were wrong.
 fn round<'a>(store: &Used<'a>, maker: &Users<'a>) -> Result<u64, Refusal>
-    requires { family_in (name_of store.now) ≡ 0 }
+    requires { family_in (store_name store.now) ≡ 0 }
 {
     let mut wrong = 0u64;
     for value in 0..EACH {
@@ -292,9 +292,9 @@ fn round_by_list<'a>(
     spots: &mut Spots<Tally, Uses<'a>, u64>,
     maker: &Users<'a>,
 ) -> Result<u64, Refusal>
-    requires family { family_in (name_of store.now) ≡ 0 }
-    requires spots { AreOf spots.old (name_of store.now) }
-    ensures { AreOf spots.new (name_of store.now) }
+    requires family { family_in (store_name store.now) ≡ 0 }
+    requires spots { AreOfStore spots.old (store_name store.now) }
+    ensures { AreOfStore spots.new (store_name store.now) }
 {
     let mut wrong = 0u64;
     for value in 0..EACH {
@@ -311,15 +311,15 @@ fn round_by_list<'a>(
 }
 
 fn two<'a, R: Threads + Sync>(rt: &R, store: &Used<'a>, maker: &Users<'a>) -> Result<u64, Refusal>
-    requires { family_in (name_of store.now) ≡ 0 }
+    requires { family_in (store_name store.now) ≡ 0 }
 {
     let (one, other) = thread::join(
         rt,
         || -> Result<u64, Refusal>
-            requires { family_in (name_of store.now) ≡ 0 }
+            requires { family_in (store_name store.now) ≡ 0 }
         { round(store, maker) },
         || -> Result<u64, Refusal>
-            requires { family_in (name_of store.now) ≡ 0 }
+            requires { family_in (store_name store.now) ≡ 0 }
         { round(store, maker) },
     );
     Ok(one?.saturating_add(other?))
@@ -365,7 +365,7 @@ fn ended_beside<'a, R: Threads + Sync>(
     store: Used<'a>,
     maker: &Users<'a>,
 ) -> Result<(), Refusal>
-    requires { family_in (name_of store) ≡ 0 }
+    requires { family_in (store_name store) ≡ 0 }
 {
     let one = used(told(store.add(1, maker))?);
     let other = used(told(store.add(2, maker))?);

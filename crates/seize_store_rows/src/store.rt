@@ -1,7 +1,7 @@
 //! Blocks and their numbers on one thread, and what becomes of their memory.
 ghost use Rattle.std.specs.Prelude.{◌≡◌};
 ghost use Rattle.seize_store.specs.Known.{family_in};
-ghost use Rattle.seize_store.specs.Named.{AreOf, name_of, title_of, value_of};
+ghost use Rattle.seize_store.specs.Named.{AreOfStore, owned_value, store_name, title_of};
 
 use crate::node::Node;
 use crate::values::{Counted, Numbered, Pairs, Tallies, Tally, Zero};
@@ -24,7 +24,7 @@ fn told<O, T: Drop>(answer: Result<O, (Refusal, T)>) -> Result<O, Refusal> {
 }
 
 fn added<T: Drop>(store: &Store<u64, (), T>, value: T) -> Result<Owned<u64, (), T>, Refusal>
-    requires { family_in (name_of store.now) ≡ 0 }
+    requires { family_in (store_name store.now) ≡ 0 }
 {
     told(store.add(value, &Zero))
 }
@@ -62,7 +62,7 @@ fn many(
     store: &Store<u64, (), u64>,
     count: usize,
 ) -> Result<Vec<Owned<u64, (), u64>>, Refusal>
-    requires { family_in (name_of store.now) ≡ 0 }
+    requires { family_in (store_name store.now) ≡ 0 }
 {
     let mut all = Vec::with_capacity(alloc, count)?;
     for number in 0..count {
@@ -134,7 +134,7 @@ fn list<'a>(
     ends: &'a AtomicU64,
     len: u64,
 ) -> Result<Option<Owned<u64, (), Node<'a>>>, Refusal>
-    requires { family_in (name_of store.now) ≡ 0 }
+    requires { family_in (store_name store.now) ≡ 0 }
 {
     let mut next = None;
     for name in 0..len {
@@ -256,9 +256,9 @@ fn kept(
     spots: &mut Spots<u64, (), u64>,
     count: u64,
 ) -> Result<u64, Refusal>
-    requires family { family_in (name_of store.now) ≡ 0 }
-    requires spots { AreOf spots.old (name_of store.now) }
-    ensures { AreOf spots.new (name_of store.now) }
+    requires family { family_in (store_name store.now) ≡ 0 }
+    requires spots { AreOfStore spots.old (store_name store.now) }
+    ensures { AreOfStore spots.new (store_name store.now) }
 {
     if count == 0 {
         return Ok(0);
@@ -278,9 +278,9 @@ fn through(
     spots: &mut Spots<u64, (), u64>,
     value: u64,
 ) -> Result<u64, Refusal>
-    requires family { family_in (name_of store.now) ≡ 0 }
-    requires spots { AreOf spots.old (name_of store.now) }
-    ensures { AreOf spots.new (name_of store.now) }
+    requires family { family_in (store_name store.now) ≡ 0 }
+    requires spots { AreOfStore spots.old (store_name store.now) }
+    ensures { AreOfStore spots.new (store_name store.now) }
 {
     match store.add_from(spots, value, &Zero) {
         Ok(owned) => Ok(owned.empty_into(spots)),
@@ -359,7 +359,7 @@ fn a_list_of_spots_outlives_its_store(rt: HostRuntime) -> Result<(), Fail> {
 
 // Puts another value into the block's chunk.
 fn set<T: Drop>(owned: &mut Owned<u64, (), T>, value: T)
-    ensures value { value_of owned.new ≡ value }
+    ensures value { owned_value owned.new ≡ value }
     ensures title { title_of owned.new ≡ title_of owned.old }
 {
     **owned = value;
@@ -402,7 +402,7 @@ fn a_value_is_changed_in_its_chunk(rt: HostRuntime) -> Result<(), Fail> {
 
 // A block made and ended. Where that is refused, whether the value came back as it was, and the call made again succeeds.
 fn comes_back<'a>(store: &Store<u64, (), Counted<'a>>, ends: &'a AtomicU64, name: u64) -> bool
-    requires { family_in (name_of store.now) ≡ 0 }
+    requires { family_in (store_name store.now) ≡ 0 }
 {
     match store.add(Counted { ends, name }, &Zero) {
         Ok(_) => true,
@@ -415,7 +415,7 @@ fn comes_back<'a>(store: &Store<u64, (), Counted<'a>>, ends: &'a AtomicU64, name
 }
 
 fn wrong_rounds<'a>(store: &Store<u64, (), Counted<'a>>, ends: &'a AtomicU64) -> u64
-    requires { family_in (name_of store.now) ≡ 0 }
+    requires { family_in (store_name store.now) ≡ 0 }
 {
     let mut wrong = 0u64;
     for name in 0..100u64 {
@@ -459,7 +459,7 @@ fn is_shared<T: Sync>(value: &T) -> &T
 fn store_sends<H: Labelled + Drop + Send, P: Labelled + Drop + Send, T: Send + Sync>(
     store: Store<H, P, T>,
 ) -> Store<H, P, T>
-    ensures { name_of result ≡ name_of store }
+    ensures { store_name result ≡ store_name store }
 {
     is_sent(store)
 }
@@ -467,7 +467,7 @@ fn store_sends<H: Labelled + Drop + Send, P: Labelled + Drop + Send, T: Send + S
 fn store_shares<H: Labelled + Drop + Send + Sync, P: Labelled + Drop + Send, T: Send + Sync>(
     store: &Store<H, P, T>,
 ) -> &Store<H, P, T>
-    ensures { name_of result.now ≡ name_of store.now }
+    ensures { store_name result.now ≡ store_name store.now }
 {
     is_shared(store)
 }

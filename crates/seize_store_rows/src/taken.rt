@@ -1,7 +1,7 @@
 //! Values that are taken out of bare blocks: what comes out, and where the chunks go afterwards.
 ghost use Rattle.std.specs.Prelude.{◌≡◌};
 ghost use Rattle.seize_store.specs.Known.{content_in, entry_of, label_in};
-ghost use Rattle.seize_store.specs.Named.{AreOf, IsRowOf, bare_content, bare_label, bare_number, bare_value, count_of, count_with, hollow_content, hollow_label, hollow_number, store_of, title_of, titles_of, titles_with, value_of};
+ghost use Rattle.seize_store.specs.Named.{AreOfStore, IsRowOf, bare_content, bare_label, bare_number, bare_value, count_of, count_with, hollow_content, hollow_label, hollow_number, owned_value, store_of, title_of, titles_of, titles_with};
 
 use seize_store::{Bare, Hollow, Labelled, Owned, Spots};
 
@@ -20,7 +20,7 @@ pub(crate) fn hollowed<H, P: Labelled + Drop, T: Drop>(
 
 /// The value by value, and its chunk back with its part, as `into_inner` does both.
 pub(crate) fn taken_out<H, P: Labelled + Drop, T: Drop>(owned: Owned<H, P, T>) -> T
-    ensures { result ≡ value_of owned }
+    ensures { result ≡ owned_value owned }
 {
     let (part, bare) = owned.split();
     let (value, hollow) = bare.take();
@@ -33,7 +33,7 @@ pub(crate) fn both_taken_out<H, P: Labelled + Drop, T: Drop>(
     one: Owned<H, P, T>,
     other: Owned<H, P, T>,
 ) -> (T, T)
-    ensures { (result.0 ≡ value_of one) × (result.1 ≡ value_of other) }
+    ensures { (result.0 ≡ owned_value one) × (result.1 ≡ owned_value other) }
 {
     let (first, one) = one.split();
     let (second, other) = other.split();
@@ -49,9 +49,9 @@ pub(crate) fn taken_into<H, P: Labelled + Drop, T: Drop>(
     owned: Owned<H, P, T>,
     spots: &mut Spots<H, P, T>,
 ) -> T
-    requires { AreOf spots.old (store_of owned) }
-    ensures value { result ≡ value_of owned }
-    ensures spots { AreOf spots.new (store_of owned) }
+    requires { AreOfStore spots.old (store_of owned) }
+    ensures value { result ≡ owned_value owned }
+    ensures spots { AreOfStore spots.new (store_of owned) }
     ensures count { count_of spots.new ≡ count_with (count_of spots.old) }
     ensures last { titles_of spots.new ≡ titles_with (titles_of spots.old) (title_of owned) }
 {

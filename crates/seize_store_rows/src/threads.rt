@@ -1,7 +1,7 @@
 //! Blocks from several threads.
 ghost use Rattle.std.specs.Prelude.{◌≡◌};
 ghost use Rattle.seize_store.specs.Known.{family_in};
-ghost use Rattle.seize_store.specs.Named.{name_of};
+ghost use Rattle.seize_store.specs.Named.{store_name};
 
 use crate::values::{Counted, Numbered, Tallies, Tally, Zero};
 use seize_store::{Family, Owned, Store};
@@ -37,7 +37,7 @@ fn made<'a>(
     store: &Store<u64, (), Counted<'a>>,
     value: Counted<'a>,
 ) -> Option<Owned<u64, (), Counted<'a>>>
-    requires { family_in (name_of store.now) ≡ 0 }
+    requires { family_in (store_name store.now) ≡ 0 }
 {
     match store.add(value, &Zero) {
         Ok(owned) => Some(owned),
@@ -53,7 +53,7 @@ fn churn<'a, R: Wait>(
     hands: &Hands<'a>,
     from: u64,
 ) -> u64
-    requires { family_in (name_of store.now) ≡ 0 }
+    requires { family_in (store_name store.now) ≡ 0 }
 {
     let mut wrong = 0u64;
     for name in from..from.saturating_add(EACH) {
@@ -78,16 +78,16 @@ fn two<'a, R: Threads + Wait + Sync>(
     hands: &Hands<'a>,
     from: u64,
 ) -> u64
-    requires { family_in (name_of store.now) ≡ 0 }
+    requires { family_in (store_name store.now) ≡ 0 }
 {
     let next = from.saturating_add(1_000_000);
     let (one, other) = thread::join(
         rt,
         || -> u64
-            requires { family_in (name_of store.now) ≡ 0 }
+            requires { family_in (store_name store.now) ≡ 0 }
         { churn(rt, store, ends, hands, from) },
         || -> u64
-            requires { family_in (name_of store.now) ≡ 0 }
+            requires { family_in (store_name store.now) ≡ 0 }
         { churn(rt, store, ends, hands, next) },
     );
     one.saturating_add(other)
@@ -99,15 +99,15 @@ fn four<'a, R: Threads + Wait + Sync>(
     ends: &'a AtomicU64,
     hands: &Hands<'a>,
 ) -> u64
-    requires { family_in (name_of store.now) ≡ 0 }
+    requires { family_in (store_name store.now) ≡ 0 }
 {
     let (one, other) = thread::join(
         rt,
         || -> u64
-            requires { family_in (name_of store.now) ≡ 0 }
+            requires { family_in (store_name store.now) ≡ 0 }
         { two(rt, store, ends, hands, 0) },
         || -> u64
-            requires { family_in (name_of store.now) ≡ 0 }
+            requires { family_in (store_name store.now) ≡ 0 }
         { two(rt, store, ends, hands, 2_000_000) },
     );
     one.saturating_add(other)
@@ -139,7 +139,7 @@ fn hundred<'a>(
     store: &Store<u64, (), Counted<'a>>,
     ends: &'a AtomicU64,
 ) -> Option<Vec<Owned<u64, (), Counted<'a>>>>
-    requires { family_in (name_of store.now) ≡ 0 }
+    requires { family_in (store_name store.now) ≡ 0 }
 {
     let mut all = Vec::with_capacity(alloc, 100).ok()?;
     for name in 0..100 {
@@ -174,7 +174,7 @@ const ROUND: usize = 1000;
 
 // So many blocks, which all stand, and the greatest of their numbers.
 fn taken(alloc: Global, store: &Store<u64, (), u64>) -> (Option<Vec<Owned<u64, (), u64>>>, usize)
-    requires { family_in (name_of store.now) ≡ 0 }
+    requires { family_in (store_name store.now) ≡ 0 }
 {
     let mut greatest = 0;
     let Ok(mut all) = Vec::with_capacity(alloc, ROUND) else {
@@ -195,7 +195,7 @@ fn taken(alloc: Global, store: &Store<u64, (), u64>) -> (Option<Vec<Owned<u64, (
 // 1,000 rounds, in each of which one thread takes a thousand blocks and another gives those of the round before. The greatest numbers
 // in the first tenth and in all.
 fn rounds<R: Threads + Sync>(rt: &R, alloc: Global, store: &Store<u64, (), u64>) -> (usize, usize)
-    requires { family_in (name_of store.now) ≡ 0 }
+    requires { family_in (store_name store.now) ≡ 0 }
 {
     let mut given = None;
     let (mut early, mut late) = (0, 0);
@@ -203,7 +203,7 @@ fn rounds<R: Threads + Sync>(rt: &R, alloc: Global, store: &Store<u64, (), u64>)
         let (made, _) = thread::join(
             rt,
             || -> (Option<Vec<Owned<u64, (), u64>>>, usize)
-                requires { family_in (name_of store.now) ≡ 0 }
+                requires { family_in (store_name store.now) ≡ 0 }
             { taken(alloc, store) },
             move || drop(given),
         );
@@ -246,7 +246,7 @@ fn tallied(
     alloc: Global,
     store: &Store<Tally, Numbered, u64>,
 ) -> Option<Vec<Owned<Tally, Numbered, u64>>>
-    requires { family_in (name_of store.now) ≡ 0 }
+    requires { family_in (store_name store.now) ≡ 0 }
 {
     let mut all = Vec::with_capacity(alloc, 200).ok()?;
     for value in 0..200 {

@@ -12,7 +12,7 @@ use Rattle.once_cell.specs.contracts.race.once_box.OnceBox as once
 use Rattle.once_cell.proofs.Notes as notes
 use Rattle.seize_table.specs.declared.labelled.Labelled.{Ghosts}
 use Rattle.seize_table.specs.contracts.tls.cells.Entry as entry
-use Rattle.seize_table.specs.Filled.{Way, filled_at, shown_by, known_row, known_item, row_row, item_row, name_in}
+use Rattle.seize_table.specs.Filled.{EntryPlace, filled_at, shown_by, known_bucket, known_item, row_row, item_row, name_in}
 use Rattle.seize_table.specs.Table.{Cell, Row}
 use Rattle.seize_table.specs.contracts.tls.filled_at.FilledAt as filled_at_row
 use Rattle.seize_table.proofs.Places.{one_place}
@@ -52,15 +52,15 @@ module _ {M : Type 1} {𝓤 : Ura M} (𝓛 : Logic 𝓤) where
 
   module _ (table : List ℕ) (number : ℕ) where
     pub filled_twice : (label : ℕ) → ent 𝓤 (sem 𝓛 (filled_at table number label)) (sep 𝓤 (sem 𝓛 (filled_at table number label)) (sem 𝓛 (filled_at table number label)))
-    filled_twice label = qed 𝓛 (‵ (filled_at table number label) ∷ []) ∵ fpick ! (λ w. let R : Fml = known_row (name_in table w.bucket) w.row in let I : Fml = known_item w.cell.1 label w.value in
+    filled_twice label = qed 𝓛 (‵ (filled_at table number label) ∷ []) ∵ fpick ! (λ w. let R : Fml = known_bucket (name_in table w.bucket) w.row in let I : Fml = known_item w.cell.1 label w.value in
         fsplit ! $ use1 𝓛 (‵ R ⊛ ‵ R) (notes.noted_twice 𝓛 row_row (name_in table w.bucket) (Some w.row)) $ split ! $ move ! (2 ∷ []) $ use1 𝓛 (‵ I ⊛ ‵ I) (notes.noted_twice 𝓛 item_row w.cell.1 (Some (Some (label, w.value)))) $ split ! $
-        move ! (2 ∷ 0 ∷ []) $ fjoin ! $ fpack ! (Way number) (shown_by table number label) w $ move ! (2 ∷ 1 ∷ []) $ fjoin ! $ fpack ! (Way number) (shown_by table number label) w $ done !)
+        move ! (2 ∷ 0 ∷ []) $ fjoin ! $ fpack ! (EntryPlace number) (shown_by table number label) w $ move ! (2 ∷ 1 ∷ []) $ fjoin ! $ fpack ! (EntryPlace number) (shown_by table number label) w $ done !)
 
     pub filled_agree : (k j : ℕ) → ent 𝓤 (sep 𝓤 (sem 𝓛 (filled_at table number k)) (sem 𝓛 (filled_at table number j))) (fact 𝓤 (k ≡ j))
     filled_agree k j = qed 𝓛 (‵ (filled_at table number k) ∷ ‵ (filled_at table number j) ∷ []) ∵ fpick ! (λ v. move ! (1 ∷ []) $ fpick ! (λ w. fsplit ! $ move ! (2 ∷ []) $ fsplit ! $
         -- [the one's bucket and its entry; the other's]
         let place = one_place number v.bucket v.entry w.bucket w.entry v.placed w.placed in let Same : Type 0 = v.row ≡ w.row in let One : Type 0 = ◌≡◌ {A = Option (ℕ × ℕ)} (Some (k, v.value)) (Some (j, w.value)) in
-        rewrite ! 0 (λ (b : ℕ). ‵ (known_row (name_in table b) v.row)) place.0 refl $ move ! (0 ∷ 2 ∷ []) $
+        rewrite ! 0 (λ (b : ℕ). ‵ (known_bucket (name_in table b) v.row)) place.0 refl $ move ! (0 ∷ 2 ∷ []) $
         use2 𝓛 (raw (fact 𝓤 Same)) (notes.noted_agree 𝓛 row_row (name_in table w.bucket) (Some v.row) (Some w.row)) $ heard ! Same (λ same. let cell : v.cell ≡ w.cell = one_cell same place.1 v.here w.here in
         rewrite ! 0 (λ (c : Cell). ‵ (known_item c.1 k v.value)) cell refl $
         use2 𝓛 (raw (fact 𝓤 One)) (notes.noted_agree 𝓛 item_row w.cell.1 (Some (Some (k, v.value))) (Some (Some (j, w.value)))) $ heard ! One (λ one. by ! (fact_i 𝓤 (k ≡ j) _ (ap (λ (e : ℕ × ℕ). e.0) (some_is one)))))))

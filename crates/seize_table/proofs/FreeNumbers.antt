@@ -12,7 +12,7 @@ use Rattle.std.specs.List.Sorted.{IsPermutation}
 use Rattle.std.specs.BinaryHeap.{IsUpperBound, IsHeap}
 use Rattle.std.specs.declared.cmp.Reverse.{Reverse}
 use Rattle.std.specs.FinSet as set
-use Rattle.seize_table.specs.Free.{is_free, in_use, IsRoomy, Least}
+use Rattle.seize_table.specs.Free.{is_in_heap, in_use, IsRoomy, Least}
 
 range_has : (a n q : ℕ) → a ≤ q → q < a + n → list_any (λ y. nat_eq y q) (range_with_len a n) ≡ true
 range_has a zero q low high = absurd (omega arith)
@@ -27,48 +27,48 @@ range_is : (n q : ℕ) → list_any (λ y. nat_eq y q) (range_with_len 0 n) ≡ 
 range_is n q =
     elim (cases_lt q n) [ inl h ↦ range_has 0 n q (omega arith) (omega arith) ∙ sym (lt-ltb q n h) | inr h ↦ range_lacks 0 n q (omega arith) ∙ sym (le-ltb q n h) ]
 
-mapped : (free : List (Reverse ℕ)) (q : ℕ) → list_any (λ y. nat_eq y q) (map (λ (r : Reverse ℕ). r.0) free) ≡ is_free free q
+mapped : (free : List (Reverse ℕ)) (q : ℕ) → list_any (λ y. nat_eq y q) (map (λ (r : Reverse ℕ). r.0) free) ≡ is_in_heap free q
 mapped [] q = refl
 mapped (x ∷ xs) q = ap (λ (b : Bool). nat_eq x.0 q || b) (mapped xs q)
 
 -- what the set has
-pub contains-in_use : (made : ℕ) (free : List (Reverse ℕ)) (q : ℕ) → set.contains (in_use made free) q ≡ (nat_lt q made && not (is_free free q))
+pub contains-in_use : (made : ℕ) (free : List (Reverse ℕ)) (q : ℕ) → set.contains (in_use made free) q ≡ (nat_lt q made && not (is_in_heap free q))
 contains-in_use made free q =
     set.contains-difference nat_cmp_total (set.from_list (range_with_len 0 made)) (set.from_list (map (λ (r : Reverse ℕ). r.0) free)) q
     ∙ ap (λ (b : Bool). b && not (set.contains (set.from_list {R = nat_cmp} (map (λ (r : Reverse ℕ). r.0) free)) q)) (set.contains-from_list_nat (range_with_len 0 made) q ∙ range_is made q)
     ∙ ap (λ (b : Bool). nat_lt q made && not b) (set.contains-from_list_nat (map (λ (r : Reverse ℕ). r.0) free) q ∙ mapped free q)
 
-pub used : (made : ℕ) (free : List (Reverse ℕ)) (q : ℕ) → q < made → is_free free q ≡ false → set.contains (in_use made free) q ≡ true
-used made free q below none = contains-in_use made free q ∙ and_from (nat_lt q made) _ (lt-ltb q made below) (not_from_false (is_free free q) none)
+pub used : (made : ℕ) (free : List (Reverse ℕ)) (q : ℕ) → q < made → is_in_heap free q ≡ false → set.contains (in_use made free) q ≡ true
+used made free q below none = contains-in_use made free q ∙ and_from (nat_lt q made) _ (lt-ltb q made below) (not_from_false (is_in_heap free q) none)
 
 pub unused_above : (made : ℕ) (free : List (Reverse ℕ)) (q : ℕ) → made ≤ q → set.contains (in_use made free) q ≡ false
 unused_above made free q above = contains-in_use made free q ∙ and_left (nat_lt q made) _ (le-ltb q made above)
 
-pub unused_free : (made : ℕ) (free : List (Reverse ℕ)) (q : ℕ) → is_free free q ≡ true → set.contains (in_use made free) q ≡ false
-unused_free made free q here = contains-in_use made free q ∙ and_right (nat_lt q made) _ (not_from_true (is_free free q) here)
+pub unused_free : (made : ℕ) (free : List (Reverse ℕ)) (q : ℕ) → is_in_heap free q ≡ true → set.contains (in_use made free) q ≡ false
+unused_free made free q here = contains-in_use made free q ∙ and_right (nat_lt q made) _ (not_from_true (is_in_heap free q) here)
 
-pub is_used : (made : ℕ) (free : List (Reverse ℕ)) (q : ℕ) → set.contains (in_use made free) q ≡ true → (q < made) × (is_free free q ≡ false)
+pub is_used : (made : ℕ) (free : List (Reverse ℕ)) (q : ℕ) → set.contains (in_use made free) q ≡ true → (q < made) × (is_in_heap free q ≡ false)
 is_used made free q h =
-    let parts = and_parts (nat_lt q made) (not (is_free free q)) (sym (contains-in_use made free q) ∙ h) in
-    (ltb-true q made parts.0, not-true (is_free free q) parts.1)
+    let parts = and_parts (nat_lt q made) (not (is_in_heap free q)) (sym (contains-in_use made free q) ∙ h) in
+    (ltb-true q made parts.0, not-true (is_in_heap free q) parts.1)
 
 flips : (x y : Reverse ℕ) → nat_eq y.0 x.0 ≡ nat_eq x.0 y.0
 flips x y = elim (cases_eq y.0 x.0) [ inl e ↦ eq-eqb y.0 x.0 e ∙ sym (eq-eqb x.0 y.0 (sym e)) | inr e ↦ ne_eqb y.0 x.0 e ∙ sym (ne_eqb x.0 y.0 (λ f. e (sym f))) ]
 
-none_equal : (x : Reverse ℕ) (rest : List (Reverse ℕ)) → AllByRecursion (λ y. nat_eq y.0 x.0 ≡ false) rest → is_free rest x.0 ≡ false
+none_equal : (x : Reverse ℕ) (rest : List (Reverse ℕ)) → AllByRecursion (λ y. nat_eq y.0 x.0 ≡ false) rest → is_in_heap rest x.0 ≡ false
 none_equal x [] h = refl
 none_equal x (y ∷ ys) h = or_from (nat_eq y.0 x.0) _ h.0 (none_equal x ys h.1)
 
-all_apart : (x : Reverse ℕ) (rest : List (Reverse ℕ)) → is_free rest x.0 ≡ false → AllByRecursion (λ y. nat_eq y.0 x.0 ≡ false) rest
+all_apart : (x : Reverse ℕ) (rest : List (Reverse ℕ)) → is_in_heap rest x.0 ≡ false → AllByRecursion (λ y. nat_eq y.0 x.0 ≡ false) rest
 all_apart x [] h = tt
-all_apart x (y ∷ ys) h = let parts = or_parts (nat_eq y.0 x.0) (is_free ys x.0) h in (parts.0, all_apart x ys parts.1)
+all_apart x (y ∷ ys) h = let parts = or_parts (nat_eq y.0 x.0) (is_in_heap ys x.0) h in (parts.0, all_apart x ys parts.1)
 
 not_less : (a b : ℕ) → is_lt (nat_cmp a b) ≡ false → b ≤ a
 not_less a b h =
     elim (cases_lt a b) [ inl less ↦ absurd (both_ways (is_lt (nat_cmp a b)) h (ap (λ (t : Bool). is_lt (cond t Less (cond (nat_eq a b) Equal Greater))) (lt-ltb a b less))) | inr above ↦ above ]
 
 -- below the least there is none
-none_below : (x : Reverse ℕ) (rest : List (Reverse ℕ)) → IsUpperBound (λ (u v : Reverse ℕ). nat_cmp v.0 u.0) x rest → (m : ℕ) → m < x.0 → is_free rest m ≡ false
+none_below : (x : Reverse ℕ) (rest : List (Reverse ℕ)) → IsUpperBound (λ (u v : Reverse ℕ). nat_cmp v.0 u.0) x rest → (m : ℕ) → m < x.0 → is_in_heap rest m ≡ false
 none_below x [] h m less = refl
 none_below x (y ∷ ys) h m less =
     let above = not_less y.0 x.0 h.0 in
@@ -83,7 +83,7 @@ numbers_distinct (x ∷ xs) h = (apart xs h.0, numbers_distinct xs h.1)
     apart [] a = tt
     apart (y ∷ ys) a = (sym (flips x y) ∙ a.0, apart ys a.1)
 
-members_flip : (free : List (Reverse ℕ)) (q : ℕ) → list_any (nat_eq q) (map (λ (r : Reverse ℕ). r.0) free) ≡ is_free free q
+members_flip : (free : List (Reverse ℕ)) (q : ℕ) → list_any (nat_eq q) (map (λ (r : Reverse ℕ). r.0) free) ≡ is_in_heap free q
 members_flip [] q = refl
 members_flip (x ∷ xs) q = ap (λ (b : Bool). b || list_any (nat_eq q) (map (λ (r : Reverse ℕ). r.0) xs)) (flips x record { 0 = q }) ∙ ap (λ (b : Bool). nat_eq x.0 q || b) (members_flip xs q)
 
@@ -92,33 +92,33 @@ length-numbers [] = refl
 length-numbers (x ∷ xs) = ap suc (length-numbers xs)
 
 -- the heap has fewer numbers than were made, while one that was made isn't in it
-pub fewer : (made room : ℕ) (free : List (Reverse ℕ)) (n : ℕ) → IsRoomy made free room → n < made → is_free free n ≡ false → length free < made
+pub fewer : (made room : ℕ) (free : List (Reverse ℕ)) (n : ℕ) → IsRoomy made free room → n < made → is_in_heap free n ≡ false → length free < made
 fewer made room free n roomy below none =
     let all : List (Reverse ℕ) = record { 0 = n } ∷ free in
     let distinct = numbers_distinct all (IsDistinct-cons (λ (x y : Reverse ℕ). nat_eq y.0 x.0) record { 0 = n } free (all_apart record { 0 = n } free none) roomy.once) in
     let each : (q : ℕ) → list_any (nat_eq q) (map (λ (r : Reverse ℕ). r.0) all) ≡ true → q < made
-    = λ q h. elim (or_cases (nat_eq n q) (is_free free q) (sym (members_flip all q) ∙ h)) [ inl e ↦ subst (λ k. k < made) (eqb-true n q e) below | inr f ↦ roomy.below q f ] in
+    = λ q h. elim (or_cases (nat_eq n q) (is_in_heap free q) (sym (members_flip all q) ∙ h)) [ inl e ↦ subst (λ k. k < made) (eqb-true n q e) below | inr f ↦ roomy.below q f ] in
     let few = length-le_from_distinct_below (map (λ (r : Reverse ℕ). r.0) all) made distinct each in
     let len = length-numbers all in
     omega arith
 
 module _ (made : ℕ) (free rest : List (Reverse ℕ)) (n : Reverse ℕ) (moved : IsPermutation free (n ∷ rest)) where
-  is_free-moved : (q : ℕ) → is_free free q ≡ (nat_eq n.0 q || is_free rest q)
+  is_free-moved : (q : ℕ) → is_in_heap free q ≡ (nat_eq n.0 q || is_in_heap rest q)
   is_free-moved q = list_any-IsPermutation (λ (r : Reverse ℕ). nat_eq r.0 q) free (n ∷ rest) moved
 
-  rest_free : (q : ℕ) → is_free rest q ≡ true → is_free free q ≡ true
+  rest_free : (q : ℕ) → is_in_heap rest q ≡ true → is_in_heap free q ≡ true
   rest_free q h = is_free-moved q ∙ or_right (nat_eq n.0 q) _ h
 
-  other_free : (q : ℕ) → (n.0 ≡ q → ⊥) → is_free free q ≡ is_free rest q
-  other_free q h = is_free-moved q ∙ ap (λ (b : Bool). b || is_free rest q) (ne_eqb n.0 q h)
+  other_free : (q : ℕ) → (n.0 ≡ q → ⊥) → is_in_heap free q ≡ is_in_heap rest q
+  other_free q h = is_free-moved q ∙ ap (λ (b : Bool). b || is_in_heap rest q) (ne_eqb n.0 q h)
 
-  top_free : is_free free n.0 ≡ true
+  top_free : is_in_heap free n.0 ≡ true
   top_free = is_free-moved n.0 ∙ or_left (nat_eq n.0 n.0) _ (eq-eqb n.0 n.0 refl)
 
   distinct : (room : ℕ) → IsRoomy made free room → IsDistinct (λ (x y : Reverse ℕ). nat_eq y.0 x.0) (n ∷ rest)
   distinct room roomy = IsDistinct-IsPermutation (λ (x y : Reverse ℕ). nat_eq y.0 x.0) flips free (n ∷ rest) moved roomy.once
 
-  top_gone : (room : ℕ) → IsRoomy made free room → is_free rest n.0 ≡ false
+  top_gone : (room : ℕ) → IsRoomy made free room → is_in_heap rest n.0 ≡ false
   top_gone room roomy = none_equal n rest (IsDistinct-head (λ (x y : Reverse ℕ). nat_eq y.0 x.0) n rest (distinct room roomy))
 
   -- what a `pop` of n leaves
@@ -151,14 +151,14 @@ module _ (made : ℕ) (free rest : List (Reverse ℕ)) (n : Reverse ℕ) (moved 
 
 -- what a `push` of n leaves
 module _ (made : ℕ) (free grown : List (Reverse ℕ)) (n : ℕ) (moved : IsPermutation (record { 0 = n } ∷ free) grown) where
-  is_free-grown : (q : ℕ) → is_free grown q ≡ (nat_eq n q || is_free free q)
+  is_free-grown : (q : ℕ) → is_in_heap grown q ≡ (nat_eq n q || is_in_heap free q)
   is_free-grown q = sym (list_any-IsPermutation (λ (r : Reverse ℕ). nat_eq r.0 q) (record { 0 = n } ∷ free) grown moved)
 
-  pub roomy-push : (room wider : ℕ) → IsRoomy made free room → room ≤ wider → IsHeap (λ (x y : Reverse ℕ). nat_cmp y.0 x.0) grown → n < made → is_free free n ≡ false → IsRoomy made grown wider
+  pub roomy-push : (room wider : ℕ) → IsRoomy made free room → room ≤ wider → IsHeap (λ (x y : Reverse ℕ). nat_cmp y.0 x.0) grown → n < made → is_in_heap free n ≡ false → IsRoomy made grown wider
   roomy-push room wider roomy wide heap below none = record {
     ordered = heap;
     once = IsDistinct-IsPermutation (λ (x y : Reverse ℕ). nat_eq y.0 x.0) flips (record { 0 = n } ∷ free) grown moved (IsDistinct-cons (λ (x y : Reverse ℕ). nat_eq y.0 x.0) record { 0 = n } free (all_apart record { 0 = n } free none) roomy.once);
-    below = λ q h. elim (or_cases (nat_eq n q) (is_free free q) (sym (is_free-grown q) ∙ h)) [ inl e ↦ subst (λ k. k < made) (eqb-true n q e) below | inr f ↦ roomy.below q f ];
+    below = λ q h. elim (or_cases (nat_eq n q) (is_in_heap free q) (sym (is_free-grown q) ∙ h)) [ inl e ↦ subst (λ k. k < made) (eqb-true n q e) below | inr f ↦ roomy.below q f ];
     room_for_all = let r = roomy.room_for_all in omega arith;
     in_table = roomy.in_table;
   }
@@ -169,15 +169,15 @@ module _ (made : ℕ) (free grown : List (Reverse ℕ)) (n : ℕ) (moved : IsPer
       has : (q : ℕ) → set.contains (in_use made grown) q ≡ (not (eq_by_cmp nat_cmp q n) && set.contains (in_use made free) q)
       has q = elim (cases_eq n q) [
         | inl e ↦ unused_free made grown q (is_free-grown q ∙ or_left (nat_eq n q) _ (eq-eqb n q e)) ∙ sym (and_left (not (eq_by_cmp nat_cmp q n)) _ (not_from_true (eq_by_cmp nat_cmp q n) (unsigned_tied q n ∙ eq-eqb q n (sym e))))
-        | inr e ↦ contains-in_use made grown q ∙ ap (λ (b : Bool). nat_lt q made && not b) (is_free-grown q ∙ ap (λ (b : Bool). b || is_free free q) (ne_eqb n q e)) ∙ sym (contains-in_use made free q) ∙ ap (λ (b : Bool). not b && set.contains (in_use made free) q) (sym (unsigned_tied q n ∙ ne_eqb q n (λ f. e (sym f))))
+        | inr e ↦ contains-in_use made grown q ∙ ap (λ (b : Bool). nat_lt q made && not b) (is_free-grown q ∙ ap (λ (b : Bool). b || is_in_heap free q) (ne_eqb n q e)) ∙ sym (contains-in_use made free q) ∙ ap (λ (b : Bool). not b && set.contains (in_use made free) q) (sym (unsigned_tied q n ∙ ne_eqb q n (λ f. e (sym f))))
       ]
 
-pub none_free : (free : List (Reverse ℕ)) → length free ≡ 0 → (q : ℕ) → is_free free q ≡ false
+pub none_free : (free : List (Reverse ℕ)) → length free ≡ 0 → (q : ℕ) → is_in_heap free q ≡ false
 none_free [] e q = refl
 none_free (x ∷ xs) e q = absurd (omega arith)
 
 -- what one more number leaves
-module _ (made : ℕ) (free : List (Reverse ℕ)) (none : (q : ℕ) → is_free free q ≡ false) where
+module _ (made : ℕ) (free : List (Reverse ℕ)) (none : (q : ℕ) → is_in_heap free q ≡ false) where
   pub least-made : Least (in_use made free) made
   least-made = record { unused = unused_above made free made (omega arith); least = λ m less. used made free m less (none m) }
 
@@ -202,7 +202,7 @@ unfolding IsDistinct
 roomy-new free room empty heap = record {
   ordered = heap;
   once = rw empty tt;
-  below = λ n h. absurd (both_ways (is_free free n) (ap (λ xs. is_free xs n) empty) h);
+  below = λ n h. absurd (both_ways (is_in_heap free n) (ap (λ xs. is_in_heap xs n) empty) h);
   room_for_all = omega arith;
   in_table = omega arith;
 }

@@ -1,7 +1,7 @@
 -- Each number has one place, and each place one number.
 use Rattle.std.proofs.Common.{◌≡◌, ◌∙◌, ℕ, suc, ◌+◌, ◌-◌, ◌*◌, ◌^◌, ◌<◌, ◌≤◌, ap, arith, pow_mono, pow-suc, lt_of_not-le}
 use Rattle.seize_table.specs.Place.{IsPlace, OnePlace, OneNumber}
-use Rattle.seize_table.specs.Table.{number_at}
+use Rattle.seize_table.specs.Table.{entry_number}
 
 module _ (n top : ℕ) (low : 2 ^ top ≤ n) (high : n < 2 * 2 ^ top) where
   pub top_above : 32 ≤ n → 5 ≤ top
@@ -44,14 +44,14 @@ one_number b e within inside =
     (2 ^ (b + 5) + e - 32, omega arith, record { place = omega arith; within = inside }, λ other x. let x₁ = x.place in omega arith)
 
 -- the numbers of a bucket's entries end where those of the next bucket begin
-pub number_at-le : (b e : ℕ) → e ≤ 2 ^ (b + 5) → number_at b e ≤ number_at (b + 1) 0
+pub number_at-le : (b e : ℕ) → e ≤ 2 ^ (b + 5) → entry_number b e ≤ entry_number (b + 1) 0
 number_at-le b e within =
     let p : b + 1 + 5 ≡ suc (b + 5) = omega arith in
     let q : 2 ^ (b + 1 + 5) ≡ 2 ^ suc (b + 5) = ap (λ (k : ℕ). 2 ^ k) p in
     let r : 2 ^ suc (b + 5) ≡ 2 ^ (b + 5) * 2 = pow-suc 2 (b + 5) in
     omega arith
 
-pub number_at-end : (b e : ℕ) → 59 ≤ b → b ≤ 59 → (59 ≤ b → e ≡ 0) → number_at b e ≡ 18446744073709551584
+pub number_at-end : (b e : ℕ) → 59 ≤ b → b ≤ 59 → (59 ≤ b → e ≡ 0) → entry_number b e ≡ 18446744073709551584
 number_at-end b e low high none =
     let at : b ≡ 59 = omega arith in
     let first : e ≡ 0 = none low in

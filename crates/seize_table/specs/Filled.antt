@@ -1,9 +1,9 @@
 -- What is known of a table's entries for good, free of the type of their values: so a layer that doesn't know the type can keep it.
 --     names_of bs      the name of the table of the buckets bs: the names of their cells, in their order
 --     name_in t b      the name of bucket b's cell in the table t
---     known_row c r    the cell of the name c holds the bucket r
+--     known_bucket c r    the cell of the name c holds the bucket r
 --     known_item c l n the cell of the name c holds a value of the label l, whose own name is n
---     Way k            where entry k stands, and the name of its value
+--     EntryPlace k     where entry k stands, and the name of its value
 --     filled_at t k l      entry k of the table t is filled, with a value of the label l
 --     all_filled t ls      the first entries of t are filled, with values of the labels ls, in their order;  all_from t k ls begins at k
 use Rattle.std.specs.Prelude.{◌≡◌, ℕ, suc, List, [], ◌∷◌, map, get_or, slice_get}
@@ -29,8 +29,8 @@ item_row = option.the_row (entry.the_row unit no_label.ghosts)
 abbrev pub row_row : RattleType
 row_row = vec.the_row (once.the_row item_row) heap.the_row ghosts
 
-abbrev pub known_row : ℕ → Row → Fml
-known_row name row = noted row_row name (Some row)
+abbrev pub known_bucket : ℕ → Row → Fml
+known_bucket name row = noted row_row name (Some row)
 
 abbrev pub known_item : ℕ → ℕ → ℕ → Fml
 known_item name label value = noted item_row name (Some (Some (label, value)))
@@ -41,7 +41,7 @@ names_of buckets = map (λ c. c.1) buckets
 abbrev pub name_in : List ℕ → ℕ → ℕ
 name_in table bucket = get_or table bucket 0
 
-pub record Way (number : ℕ) : Type 0 where
+pub record EntryPlace (number : ℕ) : Type 0 where
   pub bucket : ℕ
   pub entry : ℕ
   pub placed : IsPlace number bucket entry
@@ -50,11 +50,11 @@ pub record Way (number : ℕ) : Type 0 where
   pub here : slice_get row.items entry ≡ Some cell
   pub value : ℕ
 
-abbrev pub shown_by : List ℕ → (number : ℕ) → ℕ → Way number → Fml
-shown_by table number label way = fsep (known_row (name_in table way.bucket) way.row) (known_item way.cell.1 label way.value)
+abbrev pub shown_by : List ℕ → (number : ℕ) → ℕ → EntryPlace number → Fml
+shown_by table number label way = fsep (known_bucket (name_in table way.bucket) way.row) (known_item way.cell.1 label way.value)
 
 abbrev pub filled_at : List ℕ → ℕ → ℕ → Fml
-filled_at table number label = fex (Way number) (shown_by table number label)
+filled_at table number label = fex (EntryPlace number) (shown_by table number label)
 
 abbrev pub all_from : List ℕ → ℕ → List ℕ → Fml
 all_from table number [] = ftrue

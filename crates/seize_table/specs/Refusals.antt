@@ -3,11 +3,11 @@ use Rattle.std.specs.Prelude.{ℕ}
 use Rattle.seize_table.specs.declared.refusal.Refusal.{Refusal}
 use Rattle.seize_table.specs.declared.refusal.Refusal.TheVariants.{NoMemory, NoNumbers, TooManyGuards, TooManyProcessors, NotInUse, NotActive, WrongKind}
 
-abbrev pub number_of : Refusal → ℕ
-number_of NoMemory = 1
-number_of NoNumbers = 2
-number_of TooManyGuards = 3
-number_of TooManyProcessors = 4
-number_of NotInUse = 5
-number_of NotActive = 6
-number_of WrongKind = 7
+abbrev pub refusal_number : Refusal → ℕ
+refusal_number NoMemory = 1
+refusal_number NoNumbers = 2
+refusal_number TooManyGuards = 3
+refusal_number TooManyProcessors = 4
+refusal_number NotInUse = 5
+refusal_number NotActive = 6
+refusal_number WrongKind = 7

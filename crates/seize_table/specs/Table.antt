@@ -1,5 +1,5 @@
 -- What is known of a table: which cells its entries are, and what a token shows of one.
---     number_at b e          the number whose place is entry e of bucket b
+--     entry_number b e       the number whose place is entry e of bucket b
 --     IsCell note e c        the bucket that the note knows has the cell c at entry e
 --     IsItem label i x       what i shows of a cell is that it holds the value x, which has that label
 --     Shows label bs t f x   the token f shows that the entry of t holds x, in the table of the buckets bs
@@ -16,8 +16,8 @@ use Rattle.seize_table.specs.declared.tls.cells.Item.{Item}
 use Rattle.seize_table.specs.declared.tls.filled.Filled.{Filled}
 use Rattle.seize_table.specs.Place.{all_numbers}
 
-abbrev pub number_at : ℕ → ℕ → ℕ
-number_at bucket entry = 2 ^ (bucket + 5) + entry - 32
+abbrev pub entry_number : ℕ → ℕ → ℕ
+entry_number bucket entry = 2 ^ (bucket + 5) + entry - 32
 
 abbrev pub Cell : Type 0
 Cell = Global × ℕ

@@ -1,6 +1,6 @@
 //! Why a call is refused. It uses no other module, and every module with a call that may be refused uses it.
 ghost use Rattle.std.specs.Prelude.{◌≡◌};
-ghost use Rattle.seize_table.specs.Refusals.{number_of};
+ghost use Rattle.seize_table.specs.Refusals.{refusal_number};
 ghost use Rattle.seize_table.specs.declared.refusal.Refusal.TheVariants.{NoMemory};
 
 use std::alloc::AllocError;
@@ -31,7 +31,7 @@ pub enum Refusal {
 impl Refusal {
     /// The number of the refusal, from 1 to 7.
     pub fn number(self) -> u8
-        ensures { result ≡ number_of self }
+        ensures { result ≡ refusal_number self }
     {
         self as u8
     }

@@ -39,7 +39,7 @@ pub struct ThreadLocal<T: Labelled> {
 
 impl<T: Labelled + Drop> ThreadLocal<T> {
     ghost use Rattle.seize_table.specs.Named.{cells_of, name_of, stands_at, table_of};
-    ghost use Rattle.seize_table.specs.Walk.{end_of, labels_of, walked};
+    ghost use Rattle.seize_table.specs.Walk.{walk_end, walk_labels, walk_next};
 
     /// A table with the buckets of the numbers from 0 to `capacity`, and no entry filled. Further buckets are made as they are
     /// needed, and the memory is given back when the table ends.
@@ -89,9 +89,9 @@ impl<T: Labelled + Drop> ThreadLocal<T> {
         requires table { all.now.table ≡ name_of self.now }
         requires filled { count ≤ length all.now.labels }
         requires in_table { count ≤ MAX_INDEX + 1 }
-        ensures start { walked result ≡ 0 }
-        ensures end { end_of result ≡ count }
-        ensures labels { labels_of result ≡ all.now.labels }
+        ensures start { walk_next result ≡ 0 }
+        ensures end { walk_end result ≡ count }
+        ensures labels { walk_labels result ≡ all.now.labels }
     {
         First::new(self, count, all)
     }

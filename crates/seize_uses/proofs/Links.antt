@@ -2,7 +2,7 @@
 use Rattle.std.proofs.Common.{◌≡◌, ℕ, zero, suc, ◌<◌, nat_le, max, Bool, true, false, if◌then◌else◌, List, [], ◌∷◌, ◌++◌, length, Option, Some, None, Ok, refl, ◌∙◌, sym, subst, slice_set}
 use Rattle.std.proofs.lemmas.List.{get_or-set_same}
 use Rattle.seize.specs.Waiting.State.{State, slot_at, is_kept}
-use Rattle.seize.specs.Waiting.Attempt.{Outcome, release, attempt, gives_up, with_batch_retired, put, with_value}
+use Rattle.seize.specs.Waiting.Attempt.{StateAndGone, release, attempt, gives_up, with_batch_retired, put, with_batch_value}
 use Rattle.seize.specs.Waiting.Further.{settle, further, with_further}
 use Rattle.seize.specs.Waiting.Calls.{unless, unused, no_guard, retire, swap, link_at}
 
@@ -12,7 +12,7 @@ either P true x y p q = p
 either P false x y p q = q
 
 module _ {T R : Type 0} where
-  abbrev SameLinks : State T R → Outcome T R → Type 0
+  abbrev SameLinks : State T R → StateAndGone T R → Type 0
   SameLinks st o = o.0.links ≡ st.links
 
   release_links : (st : State T R) (b : ℕ) → (release st b).0.links ≡ st.links
@@ -25,8 +25,8 @@ module _ {T R : Type 0} where
 
   put_links : (st : State T R) (s : ℕ) (v : T × R) → (put st s v).0.links ≡ st.links
   put_links st s v =
-      either (SameLinks st) (nat_le (max 1 st.size) (length (slot_at (with_value st s v) s).batch)) _ _
-      (attempt_links (with_value st s v) s) refl
+      either (SameLinks st) (nat_le (max 1 st.size) (length (slot_at (with_batch_value st s v) s).batch)) _ _
+      (attempt_links (with_batch_value st s v) s) refl
 
   settle_links : (puts : R → T → List T) (n : ℕ) (st : State T R) (s : ℕ) (queue : List (T × R))
       → (settle puts n st s queue).0.links ≡ st.links

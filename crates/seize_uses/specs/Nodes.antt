@@ -1,6 +1,6 @@
 -- What a node of a list holds, and what it weighs: how many nodes there are from it on.
 use Rattle.std.specs.Prelude.{ℕ, ◌+◌, List, map, sum, option_to_list}
-use Rattle.seize.specs.Names.{Name}
+use Rattle.seize.specs.Names.{CollectorName}
 use Rattle.seize.specs.Blocks.{content, owners_in}
 use Rattle.seize_uses.specs.declared.list.Node.{Node}
 use Rattle.seize_uses.specs.declared.list.Node.TheOpen.{Node-F}
@@ -19,8 +19,8 @@ abbrev pub nodes_from : Node → ℕ
 nodes_from = fold-Node ℕ nodes_step
 
 -- the collectors of the blocks from the next one on
-abbrev pub owners_on : Node-F (List Name) → List Name
+abbrev pub owners_on : Node-F (List CollectorName) → List CollectorName
 owners_on node = owners_in (λ owners. owners) (option_to_list node.next)
 
-abbrev pub owners_from : Node → List Name
-owners_from = fold-Node (List Name) owners_on
+abbrev pub owners_from : Node → List CollectorName
+owners_from = fold-Node (List CollectorName) owners_on

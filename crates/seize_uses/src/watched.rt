@@ -1,7 +1,7 @@
 //! A watch: it is told of each value that is gone.
 ghost use Rattle.std.specs.Prelude.{◌≡◌, true, None, IfOk};
 ghost use Rattle.seize.specs.Waiting.Calls.{unused};
-ghost use Rattle.seize.specs.Waiting.State.{slot_at, is_active};
+ghost use Rattle.seize.specs.Waiting.State.{slot_at, has_guard};
 ghost use Rattle.seize.specs.Blocks.{owner_of, block_of};
 ghost use Rattle.seize.specs.Collectors.{whose, state_of};
 
@@ -41,7 +41,7 @@ pub fn retire_under_guard<'c>(
 ) -> Result<(), Refusal>
     requires own { owner_of (block_of number) ≡ (whose alone.old).name }
     requires used { unused (state_of alone.old) slot ≡ None }
-    requires active { is_active (slot_at (state_of alone.old) slot) ≡ true }
+    requires active { has_guard (slot_at (state_of alone.old) slot) ≡ true }
     ensures { IfOk result (λ _. newest.new.0 ≡ newest.old.0) }
 {
     batches::<Number, Boxed>();

@@ -16,24 +16,24 @@ use Rattle.seize_machine.specs.declared.machine.event.Answer.{Answer}
 use Rattle.seize_machine.specs.Machine.Next.{next}
 use Rattle.seize_machine.proofs.Facts.{step_of, is_true, and_true}
 use Rattle.seize_book.specs.Book.{after, IsLegalList}
-use Rattle.seize_book.specs.Entry.{Entry, Made, Used, deeds, timed}
-use Rattle.seize_book.specs.Laws.{life_from, life, lives_after, ended_by, ended_from, ended, none_alive, IsIn}
+use Rattle.seize_book.specs.Entry.{Entry, Made, Used, deeds, timed_deed}
+use Rattle.seize_book.specs.Laws.{life_from, life, lives_after, ended_by, ended_from, ended, none_alive, IsAmong}
 use Rattle.seize_book.specs.Tokens.{over}
 use Rattle.seize_book.proofs.Lives.{legal_first, active_on, in_right, is_ended}
 
 -- an active slot is active still, in the same activation, or that ended
 
 IsStill : ℕ → (ℕ → ℕ) → List Entry → State → List ℕ → Type 0
-IsStill s lives log now over = ((is_active (head_at now s) ≡ true) × (life_from (lives s) s (deeds log) ≡ lives s)) ⊎ IsIn over (lives s)
+IsStill s lives log now over = ((is_active (head_at now s) ≡ true) × (life_from (lives s) s (deeds log) ≡ lives s)) ⊎ IsAmong over (lives s)
 
 still_first : (st : State) (lives : ℕ → ℕ) (log : List Entry) (s : ℕ) → IsLegalList st log → is_active (head_at st s) ≡ true → IsStill s lives log (after st log) (ended_from lives (deeds log))
 unfolding IsStill
 still_first st lives [] s l a = inl (a, refl)
 still_first st lives (Used u ∷ log) s l a = still_first st lives log s l a
-still_first st lives (Made x ∷ log) s l a = go (is_true (is_swap_out s x.event)) (λ lives' a'. still_first (done_by next st (timed x)).0 lives' log s (and_true _ _ l).1 a')
+still_first st lives (Made x ∷ log) s l a = go (is_true (is_swap_out s x.event)) (λ lives' a'. still_first (done_by next st (timed_deed x)).0 lives' log s (and_true _ _ l).1 a')
   where
     later_on : State
-    later_on = (done_by next st (timed x)).0
+    later_on = (done_by next st (timed_deed x)).0
 
     go : (is_swap_out s x.event ≡ true) ⊎ (is_swap_out s x.event ≡ false)
         → ((lives : ℕ → ℕ) → is_active (head_at later_on s) ≡ true → IsStill s lives log (after later_on log) (ended_from lives (deeds log)))
@@ -42,20 +42,20 @@ still_first st lives (Made x ∷ log) s l a = go (is_true (is_swap_out s x.event
     go (inr n) ih =
         let w = legal_first st x log l in let on = active_on s x.size st x.event w.0 (step_of _ _ _ _ w.1) a n in
         let same : lives_after lives x s ≡ lives s = ap (λ (b : Bool). if b then x.life else lives s) on.1 in
-        ⊎_elim (λ k. inl (k.0, k.1 ∙ same)) (λ k. inr (in_right (ended_by lives x.event) _ (lives s) (subst (IsIn (ended_from (lives_after lives x) (deeds log))) same k)))
+        ⊎_elim (λ k. inl (k.0, k.1 ∙ same)) (λ k. inr (in_right (ended_by lives x.event) _ (lives s) (subst (IsAmong (ended_from (lives_after lives x) (deeds log))) same k)))
         (ih (lives_after lives x) (ap (λ (d : State × Answer). is_active (head_at d.0 s)) w.2 ∙ on.0))
 
 still_from : (st : State) (lives : ℕ → ℕ) (own more : List Entry) (s : ℕ) → IsLegalList st (own ++ more) → is_active (head_at (after st own) s) ≡ true
     → ((is_active (head_at (after st (own ++ more)) s) ≡ true) × (life_from (lives s) s (deeds (own ++ more)) ≡ life_from (lives s) s (deeds own)))
-    ⊎ IsIn (ended_from lives (deeds (own ++ more))) (life_from (lives s) s (deeds own))
+    ⊎ IsAmong (ended_from lives (deeds (own ++ more))) (life_from (lives s) s (deeds own))
 unfolding IsStill
 still_from st lives [] more s l a = still_first st lives more s l a
 still_from st lives (Used u ∷ own) more s l a = still_from st lives own more s l a
 still_from st lives (Made x ∷ own) more s l a =
-    ⊎_elim (λ k. inl k) (λ k. inr (in_right (ended_by lives x.event) _ _ k)) (still_from (done_by next st (timed x)).0 (lives_after lives x) own more s (and_true _ _ l).1 a)
+    ⊎_elim (λ k. inl k) (λ k. inr (in_right (ended_by lives x.event) _ _ k)) (still_from (done_by next st (timed_deed x)).0 (lives_after lives x) own more s (and_true _ _ l).1 a)
 
 pub still : (st : State) (own more : List Entry) (s : ℕ) → IsLegalList st (own ++ more) → is_active (head_at (after st own) s) ≡ true
-    → ((is_active (head_at (after st (own ++ more)) s) ≡ true) × (life s (own ++ more) ≡ life s own)) ⊎ IsIn (ended (own ++ more)) (life s own)
+    → ((is_active (head_at (after st (own ++ more)) s) ≡ true) × (life s (own ++ more) ≡ life s own)) ⊎ IsAmong (ended (own ++ more)) (life s own)
 still st own more s l a = still_from st none_alive own more s l a
 
 pub activation_lends : {M : Type 1} {𝓤 : Ura M} (𝓛 : Logic 𝓤) (β l : Lft) → Lends 𝓛 (flft β full_share) (one (λ q. flft β q)) l

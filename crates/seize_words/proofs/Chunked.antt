@@ -9,7 +9,7 @@ use Rattle.seize_store.specs.declared.known.Known.{Known}
 use Rattle.seize_table.specs.Pairs.{left_of, of_family, pair, right_of}
 use Rattle.seize_table.specs.Place.{IsPlace}
 use Rattle.seize_table.proofs.Pairs.{left_pair, right_pair}
-use Rattle.seize_book.specs.Blocks.{block_of}
+use Rattle.seize_book.specs.Blocks.{block_number}
 use Rattle.seize_book.specs.Book.{after}
 use Rattle.seize_book.specs.Books.{IsNextIn}
 use Rattle.seize_book.specs.Homes.{IsSound, home_of}
@@ -21,7 +21,7 @@ use Rattle.seize_book.specs.Tokens.{Name, chunk_label, label_at, start}
 use Rattle.seize_book.specs.declared.book.pass.Pass.{Pass}
 use Rattle.seize_book.specs.declared.book.value_key.ValueKey.{ValueKey}
 use Rattle.seize_store.specs.Named.{bare_title, hollow_title}
-use Rattle.seize_store.specs.Titled.{content_of, label_of}
+use Rattle.seize_store.specs.Titled.{content_of, title_label}
 use Rattle.seize_store.specs.declared.bare.Bare.{Bare}
 use Rattle.seize_store.specs.declared.hollow.Hollow.{Hollow}
 use Rattle.seize_store.specs.declared.known.Title.{Title}
@@ -68,7 +68,7 @@ named_seen pass pass' v looks named =
 -- what has the label of the number's chunk has that of each value with this number
 pub found_label : (known : Known) (pass : Pass) (label number : ℕ) → AreAt pass.name known (state_seen pass) → IsPlace number known.row (entry_of known.row number)
     → label ≡ label_in known.chunks (entry_of known.row number)
-    → (v : ℕ) → has v (state_seen pass).named ≡ true → block_of v ≡ number → label ≡ chunk_label pass.name (home_of v) (cell_of v)
+    → (v : ℕ) → has v (state_seen pass).named ≡ true → block_number v ≡ number → label ≡ chunk_label pass.name (home_of v) (cell_of v)
 found_label known pass label number homes placed its v named is =
     its ∙ (ap (λ (k : ℕ). label_in known.chunks (entry_of known.row k)) (sym is)
     ∙ (homes v named (subst (λ (k : ℕ). IsPlace k known.row (entry_of known.row k)) (sym is) placed)).0)
@@ -83,7 +83,7 @@ stands_once known pass number v w homes placed sound one other =
 
 -- and the content of that chunk is the place of each
 pub found_content : (known : Known) (pass : Pass) (number : ℕ) → AreAt pass.name known (state_seen pass) → IsPlace number known.row (entry_of known.row number)
-    → (v : ℕ) → has v (state_seen pass).named ≡ true → block_of v ≡ number → content_in known.chunks (entry_of known.row number) ≡ place_of v
+    → (v : ℕ) → has v (state_seen pass).named ≡ true → block_number v ≡ number → content_in known.chunks (entry_of known.row number) ≡ place_of v
 found_content known pass number homes placed v named is =
     ap (λ (k : ℕ). content_in known.chunks (entry_of known.row k)) (sym is)
     ∙ (homes v named (subst (λ (k : ℕ). IsPlace k known.row (entry_of known.row k)) (sym is) placed)).1
@@ -96,7 +96,7 @@ number_fits known number placed =
 
 -- a block that came back by `redeem` is as one that was added, once its key is settled
 pub settles_block : {T : Type 0} (last : ℕ) (blocks : Blocks T) (value : T) (key key' : ValueKey) (block : Bare Header Part T) (pass' : Pass) → IsBlockAfter last blocks value key block
-    → FollowsValue key pass' key' → IsNextIn key' (block_of (value_of key)) → IsBlockIn blocks value key' block
+    → FollowsValue key pass' key' → IsNextIn key' (block_number (value_of key)) → IsBlockIn blocks value key' block
 settles_block last blocks value key key' block pass' is follows next = let same : value_of key' ≡ value_of key = follows_value key key' pass' follows in
     record {
       holds = is.holds;
@@ -114,10 +114,10 @@ pub takes_block : {T : Type 0} (Is : ValueKey → ℕ → Type 0) (blocks : Bloc
     → IsBlockAs Is blocks value key block → IsHollowAs Is blocks key hollow
 takes_block Is blocks value key block hollow taken is = let same : bare_title block ≡ hollow_title hollow = sym taken in
     record {
-      store = is.store ∙ ap (λ (t : Title). Some t.known.store) same;
+      store = is.store ∙ ap (λ (t : Title). t.known.store) same;
       book = is.book;
       next = subst (λ (t : Title). Is key t.number) same is.next;
-      lay = is.lies ∙ ap label_of same;
+      lay = is.lies ∙ ap title_label same;
       content = is.content ∙ ap content_of same;
       free = is.free;
       fits = subst (λ (t : Title). t.number + 2 < 2 ^ 64) same is.fits;
@@ -125,7 +125,7 @@ takes_block Is blocks value key block hollow taken is = let same : bare_title bl
 
 -- and once the key is settled, it may be laid back
 pub settles_hollow : {T : Type 0} (last : ℕ) (blocks : Blocks T) (key key' : ValueKey) (hollow : Hollow Header Part T) (pass' : Pass) → IsHollowAfter last blocks key hollow
-    → FollowsValue key pass' key' → IsNextIn key' (block_of (value_of key)) → IsHollowIn blocks key' hollow
+    → FollowsValue key pass' key' → IsNextIn key' (block_number (value_of key)) → IsHollowIn blocks key' hollow
 settles_hollow last blocks key key' hollow pass' is follows next = let same : value_of key' ≡ value_of key = follows_value key key' pass' follows in
     record {
       store = is.store;

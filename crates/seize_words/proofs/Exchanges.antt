@@ -16,8 +16,8 @@ use Rattle.seize_book.specs.Blocks.{link_word}
 use Rattle.seize_book.specs.Book.{Does, IsLegalList, after, blocks, kinds}
 use Rattle.seize_book.specs.Entry.{Deed, Entry, Made, Used}
 use Rattle.seize_book.specs.Homes.{home_of}
-use Rattle.seize_book.specs.Laws.{IsIn, Reader, ended, life}
-use Rattle.seize_book.specs.Ledger.{Held, WithKinds}
+use Rattle.seize_book.specs.Laws.{IsAmong, Reader, ended, life}
+use Rattle.seize_book.specs.Ledger.{HeldKey, WithKinds}
 use Rattle.seize_words.specs.Links.{IsNewIn, IsWithin, at_link, compared, is_at_most_one, value_in}
 use Rattle.seize_words.specs.Stepping.{FoundAs, IsStep, MayStep}
 use Rattle.seize_book.specs.Tokens.{Name, start}
@@ -40,17 +40,17 @@ module _ (n : Name) (s a l : ℕ) (since seen : List Entry) (in_ : IsWithin n s 
   st = start n
 
   abbrev At : Type 0
-  At = List Entry × List (Held Entry)
+  At = List Entry × List (HeldKey Entry)
 
   -- whoever has the activation knows that the slot is active, in this activation, and that the link is there
-  pub within : (v p : ℕ) (held : List (Held Entry)) (t : At) (log : List Entry) → FoundAs (at_link n l) v p seen held (a ∷ []) t log
+  pub within : (v p : ℕ) (held : List (HeldKey Entry)) (t : At) (log : List Entry) → FoundAs (at_link n l) v p seen held (a ∷ []) t log
       → (is_active (head_at (after st log) s) ≡ true) × (l < length (after st log).links) × (life s log ≡ a)
   within v p held t log found =
       let on = active (now (prefix_trans since seen log in_.known found.before.grows)) in
       (on.0, subst (λ (k : ℕ). l < k) (sym (links_stay st log found.before.legal)) in_.is_link, on.1)
     where
       During : List Entry → ℕ → Type 0
-      During z b = ((is_active (head_at (after st z) s) ≡ true) × (life s z ≡ b)) ⊎ IsIn (ended z) b
+      During z b = ((is_active (head_at (after st z) s) ≡ true) × (life s z ≡ b)) ⊎ IsAmong (ended z) b
 
       now : IsPrefix since log → During log a
       now grows =
@@ -78,12 +78,12 @@ module _ (n : Name) (s a l : ℕ) (since seen : List Entry) (in_ : IsWithin n s 
       let holds : link_at now l ≡ Some w = sym (ap (λ (z : State). link_at z l) (after_push st log (Made e) d found.before.legal does)) ∙ is in
       subst (Reader st (log ++ Made e ∷ []) w) here.2 (found_now st log e d s w does own_event holds)
 
-  all_blocks : (held : List (Held Entry)) → is_at_most_one held ≡ true → WithKinds kinds held
+  all_blocks : (held : List (HeldKey Entry)) → is_at_most_one held ≡ true → WithKinds kinds held
   all_blocks [] one = tt
   all_blocks (x ∷ []) one = (let is : x.kind ≡ blocks = eq_true x.kind blocks (and_true (x.kind == blocks) (x.key == home_of x.label) one).0 in omega arith, tt)
   all_blocks (x ∷ y ∷ held) one = absurd (cc)
 
-  pub may_swap_link : (p size new : ℕ) (held : List (Held Entry)) → is_at_most_one held ≡ true → IsNewIn n (value_in held) held → new ≡ link_word (value_in held)
+  pub may_swap_link : (p size new : ℕ) (held : List (HeldKey Entry)) → is_at_most_one held ≡ true → IsNewIn n (value_in held) held → new ≡ link_word (value_in held)
       → MayStep (at_link n l) p seen held (a ∷ []) [] (λ v. new) (λ v log. Made (record { pass = p; size = size; event = ExchangeLink s l (Swap (value_in held)); life = 0; kepts = [] })) (λ v. true)
   may_swap_link p size new held one fresh word =
       (all_blocks held one, (λ v t own log found. let w = within v p held t log found in store_step n l v p size s seen held (a ∷ []) t own log found w.0 w.1 (value_in held) (Swap (value_in held)) refl fresh new word refl))
@@ -110,7 +110,7 @@ module _ (n : Name) (s a l : ℕ) (since seen : List Entry) (in_ : IsWithin n s 
       apart (inl h) = absurd (differs (same_words old current h))
       apart (inr h) = h
 
-  pub may_compare_link : (p size new : ℕ) (current : Option ℕ) (held : List (Held Entry)) → is_at_most_one held ≡ true → IsNewIn n (value_in held) held → new ≡ link_word (value_in held)
+  pub may_compare_link : (p size new : ℕ) (current : Option ℕ) (held : List (HeldKey Entry)) → is_at_most_one held ≡ true → IsNewIn n (value_in held) held → new ≡ link_word (value_in held)
       → MayStep (at_link n l) p seen held (a ∷ []) [] (exchanged (link_word current) new)
       (λ v log. Made (record { pass = p; size = size; event = ExchangeLink s l (Compare (compared current (link_at (after st log) l)) (value_in held)); life = 0; kepts = [] })) (λ v. v == link_word current)
   may_compare_link p size new current held one fresh word = (all_blocks held one, step)
@@ -130,7 +130,7 @@ module _ (n : Name) (s a l : ℕ) (since seen : List Entry) (in_ : IsWithin n s 
           (miss_step n l v p size s seen held (a ∷ []) t own log found w.0 w.1 (value_in held) (Compare (compared current old) (value_in held)) refl fresh (missed current old (value_in held) (λ x. differs (is ∙ x)))))
 
   -- and where something else is there, finds that
-  pub compare_finds : (p size : ℕ) (current : Option ℕ) (held : List (Held Entry)) → IsNewIn n (value_in held) held → (v : ℕ) (t : At) (log : List Entry) → FoundAs (at_link n l) v p seen held (a ∷ []) t log → (v == link_word current) ≡ false → (w : ℕ)
+  pub compare_finds : (p size : ℕ) (current : Option ℕ) (held : List (HeldKey Entry)) → IsNewIn n (value_in held) held → (v : ℕ) (t : At) (log : List Entry) → FoundAs (at_link n l) v p seen held (a ∷ []) t log → (v == link_word current) ≡ false → (w : ℕ)
       → link_at (after st (log ++ Made (record { pass = p; size = size; event = ExchangeLink s l (Compare (compared current (link_at (after st log) l)) (value_in held)); life = 0; kepts = [] }) ∷ [])) l ≡ Some w
       → Reader st (log ++ Made (record { pass = p; size = size; event = ExchangeLink s l (Compare (compared current (link_at (after st log) l)) (value_in held)); life = 0; kepts = [] }) ∷ []) w a
   compare_finds p size current held fresh v t log found differs w is =

@@ -3,14 +3,14 @@
 use Rattle.std.proofs.Common.{◌≡◌, ℕ, zero, true, false, List, [], ◌∷◌, Option, Some, refl, sym, ◌∙◌, ap, subst, inl, inr, arith}
 use Rattle.std.specs.List.{Contains}
 use mathlib.Core.List.{IsPrefix}
-use Rattle.seize_machine.specs.Machine.State.{State, Rest, has, linked, are_distinct}
-use Rattle.seize_machine.specs.Machine.History.{first_of}
+use Rattle.seize_machine.specs.Machine.State.{State, Rest, has, linked_values, are_distinct}
+use Rattle.seize_machine.specs.Machine.History.{first_or_none}
 use Rattle.seize_machine.specs.Machine.Laws.{IsHeld, Walks, walk_of}
 use Rattle.seize_machine.proofs.Facts.{batched_named}
 use Rattle.seize_store.specs.Known.{entry_of, label_in}
 use Rattle.seize_store.specs.declared.known.Known.{Known}
 use Rattle.seize_table.specs.Place.{IsPlace}
-use Rattle.seize_book.specs.Blocks.{Plan, block_of, front_of, no_plan, plans}
+use Rattle.seize_book.specs.Blocks.{Plan, block_number, front_of, no_plan, plans}
 use Rattle.std.specs.Prelude.{slice_index_or, unwrap_or}
 use Rattle.seize_book.specs.Book.{IsLegalList, after}
 use Rattle.seize_book.specs.Chains.{served}
@@ -18,7 +18,7 @@ use Rattle.seize_book.specs.Entry.{Entry}
 use Rattle.seize_book.specs.Loans.{cell_of}
 use Rattle.seize_book.specs.Homes.{home_of}
 use Rattle.seize_book.specs.Homesteads.{AreAt, state_seen}
-use Rattle.seize_book.specs.Slots.{IsOf, number_of, own_list, slot_of, start_of}
+use Rattle.seize_book.specs.Slots.{IsKeyOfBook, own_list, slot_number, slot_of, start_of}
 use Rattle.seize_book.specs.Tokens.{Name, chunk_label, start}
 use Rattle.seize_book.specs.declared.book.pass.Pass.{Pass}
 use Rattle.seize_book.specs.declared.book.slot_key.SlotKey.{SlotKey}
@@ -31,11 +31,11 @@ IsLiving v st = (has v st.named ≡ true) × (has v st.gone ≡ false)
 abbrev pub values_of : State → List Entry → ℕ → List ℕ
 values_of st log b = (slice_index_or (plans st log) b no_plan).values
 
-pub first_contained : (values : List ℕ) (v : ℕ) → first_of values ≡ Some v → Contains values v
+pub first_contained : (values : List ℕ) (v : ℕ) → first_or_none values ≡ Some v → Contains values v
 first_contained [] v e = absurd (cc)
 first_contained (x ∷ values) v e = (zero, omega arith, ap (λ (o : Option ℕ). unwrap_or o 0) e)
 
-module _ (n : Name) (log : List Entry) (distinct : are_distinct (linked n.links) ≡ true) (legal : IsLegalList (start n) log) where
+module _ (n : Name) (log : List Entry) (distinct : are_distinct (linked_values n.links) ≡ true) (legal : IsLegalList (start n) log) where
   abbrev now : State
   now = after (start n) log
 
@@ -55,8 +55,8 @@ module _ (n : Name) (log : List Entry) (distinct : are_distinct (linked n.links)
   front_living b v s walks front = held_living b v (inr (inl (s, walks))) (first_contained (values_of (start n) log b) v front)
 
 -- What a slot's call finds whose next batch this is: the pass has seen what its key knows, and the token's row.
-module _ (known : Known) (key : SlotKey) (pass : Pass) (book : IsOf key pass) (grows : IsPrefix (own_list key) pass.seen) (legal : IsLegalList (start pass.name) pass.seen)
-    (distinct : are_distinct (linked pass.name.links) ≡ true) (homes : AreAt pass.name known (state_seen pass)) (b : ℕ) (walk queue : List ℕ)
+module _ (known : Known) (key : SlotKey) (pass : Pass) (book : IsKeyOfBook key pass) (grows : IsPrefix (own_list key) pass.seen) (legal : IsLegalList (start pass.name) pass.seen)
+    (distinct : are_distinct (linked_values pass.name.links) ≡ true) (homes : AreAt pass.name known (state_seen pass)) (b : ℕ) (walk queue : List ℕ)
     (walking : (slot_of key).call ≡ Some (record { place = Rest [] (b ∷ walk); queue = queue })) where
   abbrev st : State
   st = start pass.name
@@ -67,17 +67,17 @@ module _ (known : Known) (key : SlotKey) (pass : Pass) (book : IsOf key pass) (g
   its_own : IsLegalList st own
   its_own = legal_prefix st own pass.seen grows legal
 
-  walks : Walks (after st own) (number_of key) b
-  walks = subst (λ (z : Name). Walks (after (start z) own) (number_of key) b) book (subst (λ o. Contains (walk_of o) b) (sym walking) (zero, omega arith, refl))
+  walks : Walks (after st own) (slot_number key) b
+  walks = subst (λ (z : Name). Walks (after (start z) own) (slot_number key) b) book (subst (λ o. Contains (walk_of o) b) (sym walking) (zero, omega arith, refl))
 
   -- the label is the home of a living value with this number
-  living_home : (v number : ℕ) → number ≡ block_of v → IsLiving v (after st own) → IsPlace number known.row (entry_of known.row number) → label_in known.chunks (entry_of known.row number) ≡ chunk_label pass.name (home_of v) (cell_of v)
+  living_home : (v number : ℕ) → number ≡ block_number v → IsLiving v (after st own) → IsPlace number known.row (entry_of known.row number) → label_in known.chunks (entry_of known.row number) ≡ chunk_label pass.name (home_of v) (cell_of v)
   living_home v number is living placed =
       let named : has v (state_seen pass).named ≡ true = named_later st own pass.seen v grows legal living.0 in
       ap (λ (k : ℕ). label_in known.chunks (entry_of known.row k)) is
       ∙ (homes v named (subst (λ (k : ℕ). IsPlace k known.row (entry_of known.row k)) is placed)).0
 
   -- the first block of the batch
-  pub front_home : (front number : ℕ) → front_of (start_of key) own b ≡ Some front → number ≡ block_of front → IsPlace number known.row (entry_of known.row number)
+  pub front_home : (front number : ℕ) → front_of (start_of key) own b ≡ Some front → number ≡ block_number front → IsPlace number known.row (entry_of known.row number)
       → label_in known.chunks (entry_of known.row number) ≡ chunk_label pass.name (home_of front) (cell_of front)
-  front_home front number is its = living_home front number its (front_living pass.name own distinct its_own b front (number_of key) walks (subst (λ (z : Name). front_of (start z) own b ≡ Some front) book is))
+  front_home front number is its = living_home front number its (front_living pass.name own distinct its_own b front (slot_number key) walks (subst (λ (z : Name). front_of (start z) own b ≡ Some front) book is))

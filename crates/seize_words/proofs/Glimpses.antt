@@ -8,14 +8,14 @@ use types.Kit.{‵, raw, ◌⊛◌, later, updating, await, now, ◌$◌, ◌∵
 use types.Logic.{Logic, sem}
 use denote.Steps.{nothing}
 use Rattle.seize_content.specs.Contents.{sight_owns}
-use Rattle.seize_content.specs.Readers.{escrow, found, ready}
+use Rattle.seize_content.specs.Readers.{escrow, reader_share, ready}
 use Rattle.seize_content.proofs.Readers.{left_empty, settled}
 use Rattle.seize_machine.specs.Machine.State.{link_at}
 use Rattle.seize_words.specs.Atomic.{FindsFor}
 use Rattle.seize_book.specs.Book.{after, kind_of, links}
 use Rattle.seize_book.specs.Entry.{Entry, entry_coded}
-use Rattle.seize_words.specs.Glimpses.{glimpse, shown, sight_if, sight_of, taken, taken_if}
-use Rattle.seize_book.specs.Ledger.{Held, reached}
+use Rattle.seize_words.specs.Glimpses.{glimpse, shown, sight_if, sight_of, taken_if, taken_share}
+use Rattle.seize_book.specs.Ledger.{HeldKey, reached}
 use Rattle.seize_book.specs.Loans.{Carries, loan_of}
 use Rattle.seize_words.specs.Stepping.{At, FoundAs}
 use Rattle.seize_book.specs.Tokens.{Name, keys_own, pass_holds, start}
@@ -47,7 +47,7 @@ module _ {M : Type 1} {𝓤 : Ura M} (𝓛 : Logic 𝓤) where
   abbrev pub brought : ℕ → ℕ → Pr
   brought a γ = ⟦ ready γ ⟧ ∗ ⟦ flent (a ∷ []) (escrow γ) ⟧
 
-  module _ (site : Site) (pass : Pass) (held : List (Held Entry)) (a : ℕ) (r : Share) (f : ℕ → ℕ) (entry : ℕ → List Entry → Entry) (trades : ℕ → Bool) (γ : ℕ) where
+  module _ (site : Site) (pass : Pass) (held : List (HeldKey Entry)) (a : ℕ) (r : Share) (f : ℕ → ℕ) (entry : ℕ → List Entry → Entry) (trades : ℕ → Bool) (γ : ℕ) where
     abbrev n : Name
     n = site.name
 
@@ -55,12 +55,12 @@ module _ {M : Type 1} {𝓤 : Ura M} (𝓛 : Logic 𝓤) where
     seen_there v t = shown (trades v) (link_at (after (start n) t.0) site.number)
 
     abbrev pub had_of : ℕ → At → Fml
-    had_of v t = fsep (living 𝓛 (a ∷ []) r) (taken γ (seen_there v t))
+    had_of v t = fsep (living 𝓛 (a ∷ []) r) (taken_share γ (seen_there v t))
 
     abbrev then_ : ℕ → At → List Entry → At
     then_ v t log = had_then 𝓛 site [] pass.id pass.seen held (a ∷ []) [] r f entry trades v t log
 
-    abbrev left : ℕ → At → List Entry → List (Held Entry)
+    abbrev left : ℕ → At → List Entry → List (HeldKey Entry)
     left v t log = left_then 𝓛 site [] pass.id pass.seen held (a ∷ []) [] r f entry trades v t log
 
     abbrev log_of : ℕ → List Entry → List Entry
@@ -74,7 +74,7 @@ module _ {M : Type 1} {𝓤 : Ura M} (𝓛 : Logic 𝓤) where
 
     Shares : ℕ → At → List Entry → Bool → Type 1
     Shares v t log b =
-        ⟦ reached entry_coded n.log (log_of v log) ⟧ ∗ ⟦ keys_own n (left v t log) ⟧ ∗ ⟦ ready γ ⟧ ∗ ⟦ flent (a ∷ []) (escrow γ) ⟧ ⊢ upd 𝓤 (⟦ keys_own n (left v t log) ⟧ ∗ ⟦ taken γ (shown b (old v log)) ⟧)
+        ⟦ reached entry_coded n.log (log_of v log) ⟧ ∗ ⟦ keys_own n (left v t log) ⟧ ∗ ⟦ ready γ ⟧ ∗ ⟦ flent (a ∷ []) (escrow γ) ⟧ ⊢ upd 𝓤 (⟦ keys_own n (left v t log) ⟧ ∗ ⟦ taken_share γ (shown b (old v log)) ⟧)
 
     shares : (link : site.kind ≡ links) → FindsFor site pass held a entry trades → (v : ℕ) (t : At) (log : List Entry) → FoundAs site v pass.id pass.seen held (a ∷ []) t log → Stands site (log_of v log) (left v t log)
         → (b : Bool) → trades v ≡ b → Shares v t log b
@@ -89,8 +89,8 @@ module _ {M : Type 1} {𝓤 : Ura M} (𝓛 : Logic 𝓤) where
         let Z : Pr = ⟦ P ⟧ ∗ ⟦ keys ⟧ ∗ ⟦ had_of v (then_ v t log) ⟧ in
         qed 𝓛 (‵ P ∷ ‵ keys ∷ ‵ (living 𝓛 (a ∷ []) r) ∷ (‵ (ready γ) ⊛ ‵ (flent (a ∷ []) (escrow γ))) ∷ []) ∵ use1 𝓛 (‵ P ⊛ ‵ (reached entry_coded n.log log')) (pass_shows 𝓛 n pass.id log') $ split ! $
         -- [the pass; the list; the keys; the token; the escrow and the right to it]
-        move ! (4 ∷ []) $ split ! $ move ! (3 ∷ 4 ∷ 0 ∷ 1 ∷ []) $ group ! 4 $ use1 𝓛 (raw (upd 𝓤 (⟦ keys ⟧ ∗ ⟦ taken γ o ⟧))) (shares link finds v t log found stands (trades v) refl) $
-        settle 𝓛 Z (‵ keys ⊛ ‵ (taken γ o)) $ suffices ! _ (upd_i 𝓤 Z) $ split ! $
+        move ! (4 ∷ []) $ split ! $ move ! (3 ∷ 4 ∷ 0 ∷ 1 ∷ []) $ group ! 4 $ use1 𝓛 (raw (upd 𝓤 (⟦ keys ⟧ ∗ ⟦ taken_share γ o ⟧))) (shares link finds v t log found stands (trades v) refl) $
+        settle 𝓛 Z (‵ keys ⊛ ‵ (taken_share γ o)) $ suffices ! _ (upd_i 𝓤 Z) $ split ! $
         -- [the keys; what was taken; the pass; the token]
         move ! (3 ∷ 1 ∷ []) $ fjoin ! $ move ! (2 ∷ 1 ∷ 0 ∷ []) $ done !
 
@@ -105,6 +105,6 @@ module _ {M : Type 1} {𝓤 : Ura M} (𝓛 : Logic 𝓤) where
         let C : Type 0 = Carries v t.content t.code in use3 𝓛 (later (‵ (sight_owns κ t.content t.life t.code) ⊛ ‵ (flft β q))) (settled 𝓛 t.content t.life t.code β κ q γ t.share) $ await ! tt $ split ! $
         nothing ! $ fpack ! C (λ _. ftrue) carries $ move ! (0 ∷ 1 ∷ []) $ fjoin ! $ fpack ! (ℕ × (ℕ × _)) (sight_of κ v) (t.content, (t.life, t.code)) $ now ! $ keep ! (0 ∷ 1 ∷ []) $ done !))
 
-    pub closes_glimpse : (o : Option ℕ) → ⟦ taken γ o ⟧ ∗ A.obor β q (escrow γ) ∗ A.shr_bor κ (λ s. flft β s) ⊢ H.⇛ (⟦ glimpse κ o ⟧ ∗ A.lft β q)
+    pub closes_glimpse : (o : Option ℕ) → ⟦ taken_share γ o ⟧ ∗ A.obor β q (escrow γ) ∗ A.shr_bor κ (λ s. flft β s) ⊢ H.⇛ (⟦ glimpse κ o ⟧ ∗ A.lft β q)
     closes_glimpse None = closes_of zero 0
     closes_glimpse (Some v) = closes_of (loan_of v) v

@@ -5,10 +5,10 @@ use Rattle.std.proofs.lemmas.Bool.{cases_lt}
 use mathlib.Core.List.{IsPrefix}
 use base.Growing.{prefix_trans}
 use Rattle.atomic_table.proofs.Lists as kit
-use Rattle.seize_machine.specs.Machine.State.{State, Slot, Call, Place, Head, Inactive, Active, Mark, Look, Try, Out, Rest, no_slot, slot_at, head_at, is_active, is_idle, waiting_at, linked, are_distinct}
+use Rattle.seize_machine.specs.Machine.State.{State, Slot, Call, Place, Head, Inactive, Active, Mark, Look, Try, Out, Rest, no_slot, slot_at, head_at, is_active, is_idle, waiting_at, linked_values, are_distinct}
 use Rattle.seize_machine.specs.Machine.Event.{Event, Enter, Insert, ReadHead, SwapOut}
 use Rattle.seize_machine.specs.Machine.Next.{in_turn, look, next, of_call, set_head}
-use Rattle.seize_machine.specs.Machine.History.{IsReached, done_by, first_of}
+use Rattle.seize_machine.specs.Machine.History.{IsReached, done_by, first_or_none}
 use Rattle.seize_machine.specs.Machine.Frames.{changes_slot, changes_used, changes_head_of, changes_link, slots_added}
 use Rattle.seize_machine.specs.declared.machine.event.Answer.{Answer}
 use Rattle.seize_machine.specs.declared.machine.event.Answer.TheVariants.{Done}
@@ -16,15 +16,15 @@ use Rattle.seize_machine.specs.declared.machine.event.Try.{Try as Insertion}
 use Rattle.seize_machine.specs.declared.machine.event.Try.TheVariants.{Won, Lost}
 use Rattle.seize_machine.proofs.Facts.{Step, Stands, and_true, eq_true, go_on, head_frame, heads_length, is_true, next_of, slots_length, some_is, step_of}
 use Rattle.seize_words.specs.Atomic.{exchanged}
-use Rattle.seize_book.specs.Blocks.{Plan, block_for, block_of, head_word, list_word, plans, word_of}
-use Rattle.seize_book.specs.Chains.{Leads, LeadsOn, first_field, front_block, next_field, served, told, written, written_at}
+use Rattle.seize_book.specs.Blocks.{Plan, block_for, block_number, head_word, list_word, plans, word_of}
+use Rattle.seize_book.specs.Chains.{FieldsLeadOn, Leads, first_field, front_block, insertion_fields, next_field, served, told, written_at}
 use Rattle.seize_book.specs.Book.{Kept, TheSlot, Does, IsLegalList, after, births, heads, rules, slots}
-use Rattle.seize_book.specs.Entry.{Entry, Made, Used, Deed, timed}
+use Rattle.seize_book.specs.Entry.{Entry, Made, Used, Deed, timed_deed}
 use Rattle.seize_book.specs.Fair.{Covers, pass_key}
 use Rattle.seize_words.specs.Heads.{IsTrying, found_end, reads, reads_at}
 use Rattle.seize_book.specs.Homes.{changes_count, changes_home, home_of}
-use Rattle.seize_book.specs.Laws.{IsIn, life}
-use Rattle.seize_book.specs.Ledger.{Held, AllKept}
+use Rattle.seize_book.specs.Laws.{IsAmong, life}
+use Rattle.seize_book.specs.Ledger.{HeldKey, AllKept}
 use Rattle.seize_book.specs.Private.{Tag, is_one, key_of, tag_of, own_of}
 use Rattle.seize_words.specs.Stepping.{EndsAmong, FoundAs, IsStep, MayStep, in_step}
 use Rattle.seize_book.specs.Tokens.{Name, start}
@@ -61,13 +61,13 @@ slots_grow st a b p l = subst (λ (z : List Entry). length (after st a).slots �
         let w = legal_first st e log l in
         let one : length (w.0).0.slots ≡ length st.slots + slots_added st e.event = slots_length e.size st e.event w.0 (step_of _ _ _ _ w.1) in
         let rest : length (w.0).0.slots ≤ length (after (w.0).0 log).slots = more (w.0).0 log w.3 in
-        let same : length (after (done_by next st (timed e)).0 log).slots ≡ length (after (w.0).0 log).slots = ap (λ (d : State × Answer). length (after d.0 log).slots) w.2 in
+        let same : length (after (done_by next st (timed_deed e)).0 log).slots ≡ length (after (w.0).0 log).slots = ap (λ (d : State × Answer). length (after d.0 log).slots) w.2 in
         omega (arith, one, rest, same)
 
     from : (st : State) (a more_ : List Entry) → IsLegalList st (a ++ more_) → length (after st a).slots ≤ length (after st (a ++ more_)).slots
     from st [] more_ l = more st more_ l
     from st (Used u ∷ a) more_ l = from st a more_ l
-    from st (Made e ∷ a) more_ l = from (done_by next st (timed e)).0 a more_ (and_true _ _ l).1
+    from st (Made e ∷ a) more_ l = from (done_by next st (timed_deed e)).0 a more_ (and_true _ _ l).1
 
 prefix_push : (log : List Entry) (e : Entry) → IsPrefix log (log ++ e ∷ [])
 prefix_push log e = (e ∷ [], refl)
@@ -77,20 +77,20 @@ module _ (n : Name) (m : ℕ) where
   st = start n
 
   abbrev At : Type 0
-  At = List Entry × List (Held Entry)
+  At = List Entry × List (HeldKey Entry)
 
   -- a head that the event leaves shows the same
-  unchanged : (log : List Entry) (e : Deed) (d : State × Answer) → are_distinct (linked n.links) ≡ true → IsLegalList st log → Does st log (Made e) d → changes_head_of m e.event ≡ false
+  unchanged : (log : List Entry) (e : Deed) (d : State × Answer) → are_distinct (linked_values n.links) ≡ true → IsLegalList st log → Does st log (Made e) d → changes_head_of m e.event ≡ false
       → head_word st log m ≡ head_word st (log ++ Made e ∷ []) m
   unchanged log e d distinct legal does same =
       head_stays n m log (log ++ Made e ∷ []) distinct (legal_push st log (Made e) d legal does)
       (prefix_push log (Made e), sym (ap (λ (z : State). head_at z m) (after_push st log (Made e) d legal does) ∙ head_frame m e.size (after st log) e.event d (step_of e.size (after st log) e.event d does) same))
 
   -- what the word holds is what the head shows
-  shown : (v p : ℕ) (seen : List Entry) (held : List (Held Entry)) (t : At) (log : List Entry) → FoundAs (at_head n m) v p seen held [] t log → v ≡ head_word st log m
+  shown : (v p : ℕ) (seen : List Entry) (held : List (HeldKey Entry)) (t : At) (log : List Entry) → FoundAs (at_head n m) v p seen held [] t log → v ≡ head_word st log m
   shown v p seen held t log found = found.shows ∙ head_stays n m t.0 log found.distinct found.before.legal found.before.kept.0
 
-  abbrev key : ℕ → Tag → List Entry → List (Held Entry)
+  abbrev key : ℕ → Tag → List Entry → List (HeldKey Entry)
   key s x own = record { kind = slots; key = s; own = own; label = x.0; note = x.1 } ∷ []
 
   -- One event of the slot, with the slot's key.
@@ -109,7 +109,7 @@ module _ (n : Name) (m : ℕ) where
 
     made : Does st log (Made e) d → Leads (after st log) (plans st log) (told log) e.event → EndsAmong lives log (Made e) → w ≡ head_word st (log ++ Made e ∷ []) m → IsStep (at_head n m) p (key s x slots_own) lives w (Made e) false (since, []) own log
     made does leads ends shows = record {
-      fair = record { done = d; legal = does; covers = covers; names = λ many was there. (subst (λ (z : ℕ). z < many 0) (sym pe) there.0, (λ k le. (t.others (after st log) k).0), (λ k le. (t.others (after st log) k).1), λ f le. refl); leads = leads; one = none_named e.size (after st log) e.event d (step_of _ _ _ _ does) (λ k. (t.others (after st log) k).1); labels = no_labels n (pass_key p own ∷ in_step (at_head n m) (key s x slots_own) (since, [])) e.size (after st log) e.event d (step_of _ _ _ _ does) (λ k. (t.others (after st log) k).1); places = no_place (after st log) (pass_key p own ∷ in_step (at_head n m) (key s x slots_own) (since, [])) (Made e) (makes_none (after st log) e.event t.used) };
+      fair = record { done = d; legal = does; covers = covers; names = λ many was there. (subst (λ (z : ℕ). z < many 0) (sym pe) there.0, (λ k le. (t.others (after st log) k).0), (λ k le. (t.others (after st log) k).1), λ f le. refl); leads = leads; one = none_named e.size (after st log) e.event d (step_of _ _ _ _ does) (λ k. (t.others (after st log) k).1); labels = no_labels (pass_key p own ∷ in_step (at_head n m) (key s x slots_own) (since, [])) e.size (after st log) e.event d (step_of _ _ _ _ does) (λ k. (t.others (after st log) k).1); places = no_place (after st log) (pass_key p own ∷ in_step (at_head n m) (key s x slots_own) (since, [])) (Made e) (makes_none (after st log) e.event t.used) };
       its = pe;
       bears = t.births (after st log);
       ends = ends;
@@ -123,15 +123,15 @@ module _ (n : Name) (m : ℕ) where
       (v : ℕ) (t : At) (own log : List Entry) → FoundAs (at_head n m) v p seen (key s x slots_own) [] t log → Kept st TheSlot s slots_own log → v ≡ head_word st log m
       → IsStep (at_head n m) p (key s x slots_own) lives (f v) (entry v log) false (t.0, []) own log
 
-  may_step : (p : ℕ) (seen : List Entry) (held : List (Held Entry)) (lives : List ℕ) (f : ℕ → ℕ) (entry : ℕ → List Entry → Entry) → is_one slots held ≡ true
+  may_step : (p : ℕ) (seen : List Entry) (held : List (HeldKey Entry)) (lives : List ℕ) (f : ℕ → ℕ) (entry : ℕ → List Entry → Entry) → is_one slots held ≡ true
       → MayStepAs p (key_of held) (tag_of held) seen (own_of held) lives f entry → MayStep (at_head n m) p seen held [] lives f entry (λ v. false)
   unfolding MayStepAs
   may_step p seen held lives f entry one steps =
-      subst (λ (hs : List (Held Entry)). MayStep (at_head n m) p seen hs [] lives f entry (λ v. false)) (sym (only_is slots held one)) (
+      subst (λ (hs : List (HeldKey Entry)). MayStep (at_head n m) p seen hs [] lives f entry (λ v. false)) (sym (only_is slots held one)) (
         (omega arith, tt),
         (λ v t own log found.
-            let kept = subst (λ (vs : List (Held Entry)). AllKept (rules st) (vs ++ key (key_of held) (tag_of held) (own_of held)) log) found.stands found.before.kept.1 in
-            subst (λ (vs : List (Held Entry)). IsStep (at_head n m) p (key (key_of held) (tag_of held) (own_of held)) lives (f v) (entry v log) false (t.0, vs) own log) (sym found.stands)
+            let kept = subst (λ (vs : List (HeldKey Entry)). AllKept (rules st) (vs ++ key (key_of held) (tag_of held) (own_of held)) log) found.stands found.before.kept.1 in
+            subst (λ (vs : List (HeldKey Entry)). IsStep (at_head n m) p (key (key_of held) (tag_of held) (own_of held)) lives (f v) (entry v log) false (t.0, vs) own log) (sym found.stands)
             (steps v t own log found kept.0 (shown v p seen (key (key_of held) (tag_of held) (own_of held)) t log found))),
       )
 
@@ -166,7 +166,7 @@ module _ (n : Name) (m : ℕ) where
   read_touches : (s : ℕ) → Touches s m (ReadHead s m)
   read_touches s = record { slot = λ k d. differ s k d; used = refl; head = λ k d. refl; link = λ k. refl; others = λ st k. (refl, refl); births = λ st. refl }
 
-  pub may_read : (p size : ℕ) (seen : List Entry) (held : List (Held Entry)) → is_one slots held ≡ true → reads (slot_at (after st (own_of held)) (key_of held)) m ≡ true → m < length (after st seen).slots
+  pub may_read : (p size : ℕ) (seen : List Entry) (held : List (HeldKey Entry)) → is_one slots held ≡ true → reads (slot_at (after st (own_of held)) (key_of held)) m ≡ true → m < length (after st seen).slots
       → MayStep (at_head n m) p seen held [] [] (λ v. v) (λ v log. Made (record { pass = p; size = size; event = ReadHead (key_of held) m; life = 0; kepts = [] })) (λ v. false)
   unfolding MayStepAs
   may_read p size seen held one may there =
@@ -182,7 +182,7 @@ module _ (n : Name) (m : ℕ) where
   enter_touches s is = record { slot = λ k d. differ s k d; used = refl; head = λ k d. differ s k (λ e. d (e ∙ is)); link = λ k. refl; others = λ st k. (refl, refl); births = λ st. refl }
 
   -- a slot with a call, or in use, is there, and so is its head
-  head_there : (log : List Entry) (s : ℕ) → are_distinct (linked n.links) ≡ true → IsLegalList st log → (slot_at (after st log) s ≡ no_slot → ⊥) → s < length (after st log).heads
+  head_there : (log : List Entry) (s : ℕ) → are_distinct (linked_values n.links) ≡ true → IsLegalList st log → (slot_at (after st log) s ≡ no_slot → ⊥) → s < length (after st log).heads
   head_there log s distinct legal there = let l : s < length (after st log).slots = in_use (after st log) s there in
       let same : length (after st log).heads ≡ length (after st log).slots = heads_length (after st log) (reached_after n log distinct legal) in omega (arith, l, same)
 
@@ -191,7 +191,7 @@ module _ (n : Name) (m : ℕ) where
   set_word log e d h now legal does is there =
       ap (λ (z : State). head_at z m) (after_push st log (Made e) d legal does) ∙ ap (λ (hs : List Head). get_or hs m Inactive) is ∙ get_or-set_same now m h Inactive there
 
-  pub may_enter : (p size a : ℕ) (seen : List Entry) (held : List (Held Entry)) → is_one slots held ≡ true → is_idle (slot_at (after st (own_of held)) (key_of held)) ≡ true
+  pub may_enter : (p size a : ℕ) (seen : List Entry) (held : List (HeldKey Entry)) → is_one slots held ≡ true → is_idle (slot_at (after st (own_of held)) (key_of held)) ≡ true
       → is_active (head_at (after st (own_of held)) (key_of held)) ≡ false → key_of held ≡ m
       → (lives : List ℕ) → MayStep (at_head n m) p seen held [] lives (λ v. 1) (λ v log. Made (record { pass = p; size = size; event = Enter (key_of held); life = a; kepts = [] })) (λ v. false)
   unfolding MayStepAs
@@ -214,8 +214,8 @@ module _ (n : Name) (m : ℕ) where
   left_word true block = refl
   left_word false block = refl
 
-  pub may_leave : (p size a : ℕ) (stays : Bool) (queue seen_lives : List ℕ) (seen : List Entry) (held : List (Held Entry)) → is_one slots held ≡ true
-      → Stands (after st (own_of held)) (key_of held) (Out stays) queue → key_of held ≡ m → IsIn seen_lives (life (key_of held) (own_of held))
+  pub may_leave : (p size a : ℕ) (stays : Bool) (queue seen_lives : List ℕ) (seen : List Entry) (held : List (HeldKey Entry)) → is_one slots held ≡ true
+      → Stands (after st (own_of held)) (key_of held) (Out stays) queue → key_of held ≡ m → IsAmong seen_lives (life (key_of held) (own_of held))
       → MayStep (at_head n m) p seen held [] seen_lives (λ v. if stays then 1 else 0) (λ v log. Made (record { pass = p; size = size; event = SwapOut (key_of held); life = a; kepts = [] })) (λ v. false)
   unfolding MayStepAs
   may_leave p size a stays queue lives seen held one stands is among =
@@ -227,10 +227,10 @@ module _ (n : Name) (m : ℕ) where
       let there : s < length now.heads = head_there log s found.distinct found.before.legal (λ x. let y : Option.None ≡ (slot_at now s).call = sym (ap (λ (z : Slot). z.call) x) in let z : Option.None ≡ Some (record { place = Out stays; queue = queue }) = y ∙ stands_now in cc) in
       let head = set_word log e d h now.heads found.before.legal does (ap (λ (k : ℕ). set now.heads k h) is) (subst (λ (k : ℕ). k < length now.heads) is there) in
       let its : life s (own_of held) ≡ life s log = life_kept st s (own_of held) log kept in
-      made p s (tag_of held) (own_of held) own t.0 log lives (if stays then 1 else 0) e refl (leave_touches s is) d does tt (λ b i. subst (IsIn lives) (its ∙ only_that (life s log) b i) among)
+      made p s (tag_of held) (own_of held) own t.0 log lives (if stays then 1 else 0) e refl (leave_touches s is) d does tt (λ b i. subst (IsAmong lives) (its ∙ only_that (life s log) b i) among)
       (left_word stays (λ b. block_for st (log ++ Made e ∷ []) b m) ∙ sym (ap (word_of (λ b. block_for st (log ++ Made e ∷ []) b m)) head)))
     where
-      only_that : (x b : ℕ) → IsIn (x ∷ []) b → x ≡ b
+      only_that : (x b : ℕ) → IsAmong (x ∷ []) b → x ≡ b
       only_that x b (inl e) = e
       only_that x b (inr t) = absurd t
 
@@ -248,13 +248,13 @@ module _ (n : Name) (m : ℕ) where
 
   -- what a slot has written before it tries
   abbrev pub Wrote : ℕ → List Entry → ℕ → ℕ → Type 0
-  Wrote s own next batch = written (after st own) (plans st own) (told own) s ≡ Some (next, front_block (plans st own) batch)
+  Wrote s own next batch = insertion_fields (after st own) (plans st own) (told own) s ≡ Some (next, front_block (plans st own) batch)
 
   abbrev tried_batch : Place → ℕ
   tried_batch (Try b won k later saw) = b
   tried_batch _ = 0
 
-  module _ (p size seen_word block : ℕ) (seen : List Entry) (held : List (Held Entry)) (tries : IsTrying st (key_of held) (own_of held) m seen_word block)
+  module _ (p size seen_word block : ℕ) (seen : List Entry) (held : List (HeldKey Entry)) (tries : IsTrying st (key_of held) (own_of held) m seen_word block)
       (wrote : Wrote (key_of held) (own_of held) seen_word tries.batch)
       (v : ℕ) (t : At) (own log : List Entry) (found : FoundAs (at_head n m) v p seen (key (key_of held) (tag_of held) (own_of held)) [] t log) (kept : Kept st TheSlot (key_of held) (own_of held) log) (word : v ≡ head_word st log m) where
     abbrev s : ℕ
@@ -316,11 +316,11 @@ module _ (n : Name) (m : ℕ) where
             let b = tries.batch in
             let same_call = some_is _ _ (sym stands_now ∙ stands) in
             let same_head : waiting ≡ there = ap waiting_at (sym active ∙ head) in
-            let now_written : Some (told log (next_field (home_of (served (plans st log) b m))), told log (first_field (home_of (served (plans st log) b m)))) ≡ written now (plans st log) (told log) s = ap (of_call (written_at (plans st log) (told log))) (sym stands_now) in
+            let now_written : Some (told log (next_field (home_of (served (plans st log) b m))), told log (first_field (home_of (served (plans st log) b m)))) ≡ insertion_fields now (plans st log) (told log) s = ap (of_call (written_at (plans st log) (told log))) (sym stands_now) in
             let both = some_is _ _ (now_written ∙ sym kept.1.3 ∙ wrote) in
             let its : b < length (plans st then_own) = subst (λ (k : ℕ). b < k) (sym (plans_long n then_own own_legal)) (tried_there (after st then_own) s b tries.won m tries.later tries.saw tries.queue reached_own stands_own) in
-            let goal : LeadsOn (plans st log) (told log) m b waiting = (ap (λ (t : ℕ × ℕ). t.0) both ∙ seen_is, ap (λ (t : ℕ × ℕ). t.1) both ∙ ap (λ (plan : Plan). block_of (unwrap_or (first_of plan.values) 0)) (plan_stays st then_own log b kept.0 its)) in
-            subst (λ (t : ℕ × List ℕ). LeadsOn (plans st log) (told log) m t.0 t.1) (λ i. (tried_batch (same_call i).place, same_head i)) goal
+            let goal : FieldsLeadOn (plans st log) (told log) m b waiting = (ap (λ (t : ℕ × ℕ). t.0) both ∙ seen_is, ap (λ (t : ℕ × ℕ). t.1) both ∙ ap (λ (plan : Plan). block_number (unwrap_or (first_or_none plan.values) 0)) (plan_stays st then_own log b kept.0 its)) in
+            subst (λ (t : ℕ × List ℕ). FieldsLeadOn (plans st log) (told log) m t.0 t.1) (λ i. (tried_batch (same_call i).place, same_head i)) goal
 
         head_within : (waiting : List ℕ) → head_at now m ≡ Active waiting → m < length now.heads
         head_within waiting e = go (cases_lt m (length now.heads))
@@ -334,7 +334,7 @@ module _ (n : Name) (m : ℕ) where
         (λ same. subst (Step_ (block + 2)) (sym (ap (λ (c : Bool). if c then Won else Lost) (equal v seen_word same))) (won same))
         (λ differs. subst (Step_ v) (sym (ap (λ (c : Bool). if c then Won else Lost) (unequal v seen_word differs))) (lost differs))
 
-  pub may_insert : (p size seen_word block : ℕ) (seen : List Entry) (held : List (Held Entry)) → is_one slots held ≡ true → (tries : IsTrying st (key_of held) (own_of held) m seen_word block) → Wrote (key_of held) (own_of held) seen_word tries.batch
+  pub may_insert : (p size seen_word block : ℕ) (seen : List Entry) (held : List (HeldKey Entry)) → is_one slots held ≡ true → (tries : IsTrying st (key_of held) (own_of held) m seen_word block) → Wrote (key_of held) (own_of held) seen_word tries.batch
       → MayStep (at_head n m) p seen held [] [] (exchanged seen_word (block + 2)) (λ v log. Made (record { pass = p; size = size; event = Insert (key_of held) m (found_end seen_word v); life = 0; kepts = [] })) (λ v. false)
   unfolding MayStepAs
   may_insert p size seen_word block seen held one tries wrote =
@@ -342,5 +342,5 @@ module _ (n : Name) (m : ℕ) where
       (λ v t own log found kept word. either_way p size seen_word block seen held tries wrote v t own log found kept word)
 
   -- What the word held is what the list said of the head just before.
-  pub found_word : (v p : ℕ) (seen : List Entry) (held : List (Held Entry)) (t : At) (log : List Entry) → FoundAs (at_head n m) v p seen held [] t log → v ≡ head_word st log m
+  pub found_word : (v p : ℕ) (seen : List Entry) (held : List (HeldKey Entry)) (t : At) (log : List Entry) → FoundAs (at_head n m) v p seen held [] t log → v ≡ head_word st log m
   found_word = shown

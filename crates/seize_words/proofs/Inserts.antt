@@ -3,7 +3,7 @@
 use Rattle.std.proofs.Common.{◌≡◌, ℕ, true, List, ◌∷◌, [], Some, refl, sym, ap, subst, inr, zero, arith, append-nil}
 use Rattle.std.specs.List.{Contains}
 use mathlib.Core.List.{IsPrefix}
-use Rattle.seize_machine.specs.Machine.State.{Look, are_distinct, has, linked}
+use Rattle.seize_machine.specs.Machine.State.{Look, are_distinct, has, linked_values}
 use Rattle.seize_machine.specs.Machine.History.{IsReached}
 use Rattle.seize_machine.specs.Machine.Laws.{detached_by}
 use Rattle.seize_book.specs.Blocks.{plans}
@@ -12,7 +12,7 @@ use Rattle.seize_book.specs.Chains.{served}
 use Rattle.seize_book.specs.Entry.{Entry}
 use Rattle.seize_words.specs.Headers.{Uses}
 use Rattle.seize_book.specs.Homesteads.{state_seen}
-use Rattle.seize_book.specs.Slots.{IsOf, number_of, own_list, slot_of, start_of}
+use Rattle.seize_book.specs.Slots.{IsKeyOfBook, own_list, slot_number, slot_of, start_of}
 use Rattle.seize_book.specs.Tokens.{Name, start}
 use Rattle.seize_words.specs.Walks.{Knows}
 use Rattle.seize_book.specs.declared.book.pass.Pass.{Pass}
@@ -25,15 +25,15 @@ pub knows_used : (key key' : SlotKey) (pass pass' : Pass) (f v : ℕ) → Uses k
 knows_used key key' pass pass' f v uses = record {
   seen = subst (λ (own : List Entry). IsPrefix own pass'.seen) (sym uses.seen_by.2) ([], append-nil pass'.seen);
   legal = subst (λ (n : Name). IsLegalList (start n) pass'.seen) (sym uses.same.0) uses.noted.legal;
-  distinct = subst (λ (n : Name). are_distinct (linked n.links) ≡ true) (sym uses.same.0) uses.noted.distinct;
+  distinct = subst (λ (n : Name). are_distinct (linked_values n.links) ≡ true) (sym uses.same.0) uses.noted.distinct;
 }
 
-module _ (key : SlotKey) (pass : Pass) (book : IsOf key pass) (knows : Knows key pass) where
+module _ (key : SlotKey) (pass : Pass) (book : IsKeyOfBook key pass) (knows : Knows key pass) where
   legal : IsLegalList (start_of key) pass.seen
   legal = subst (λ (n : Name). IsLegalList (start n) pass.seen) (sym book) knows.legal
 
-  distinct : are_distinct (linked key.keys.name.links) ≡ true
-  distinct = subst (λ (n : Name). are_distinct (linked n.links) ≡ true) (sym book) knows.distinct
+  distinct : are_distinct (linked_values key.keys.name.links) ≡ true
+  distinct = subst (λ (n : Name). are_distinct (linked_values n.links) ≡ true) (sym book) knows.distinct
 
   its_own : IsLegalList (start_of key) (own_list key)
   its_own = legal_prefix (start_of key) (own_list key) pass.seen knows.seen legal
@@ -45,7 +45,7 @@ module _ (key : SlotKey) (pass : Pass) (book : IsOf key pass) (knows : Knows key
   -- a value of the batch
   pub detached_named : (b v : ℕ) → detached_by (slot_of key).call ≡ Some b → Contains (values_of (start_of key) (own_list key) b) v → has v (state_seen pass).named ≡ true
   detached_named b v detached there =
-      let living = held_living key.keys.name (own_list key) distinct its_own b v (inr (inr (number_of key, detached))) there in
+      let living = held_living key.keys.name (own_list key) distinct its_own b v (inr (inr (slot_number key, detached))) there in
       subst (λ (n : Name). has v (after (start n) pass.seen).named ≡ true) book (named_later (start_of key) (own_list key) pass.seen v knows.seen legal living.0)
 
   -- and that with which it is inserted at the slot in turn
@@ -53,6 +53,6 @@ module _ (key : SlotKey) (pass : Pass) (book : IsOf key pass) (knows : Knows key
       → has (served (plans (start_of key) (own_list key)) b m) (state_seen pass).named ≡ true
   looked_named b won m later queue looking =
       let ps = plans (start_of key) (own_list key) in let marked = marked_after key.keys.name (own_list key) distinct its_own in
-      let at : AtAll ps b (m ∷ later) = subst (CallMarked ps (number_of key)) looking (marked.calls (number_of key)) in
+      let at : AtAll ps b (m ∷ later) = subst (CallMarked ps (slot_number key)) looking (marked.calls (slot_number key)) in
       detached_named b (served ps b m) (ap detached_by looking)
       (serving_in m (slots_in ps b) (values_of (start_of key) (own_list key) b) (at m (zero, omega arith, refl)) (marked.fits b).1)

@@ -4,7 +4,7 @@ use Rattle.std.specs.List.{Contains}
 use Rattle.seize_machine.specs.Machine.Event.{Event}
 use Rattle.seize_machine.specs.Machine.Laws.{IsHeld, detached_by, walk_of}
 use Rattle.seize_machine.specs.Machine.Next.{is_zero}
-use Rattle.seize_machine.specs.Machine.State.{Call, State, are_distinct, has, linked}
+use Rattle.seize_machine.specs.Machine.State.{Call, State, are_distinct, has, linked_values}
 use Rattle.seize_machine.specs.declared.machine.event.Answer.TheVariants.{Count as Counted}
 use Rattle.seize_book.specs.Blocks.{IsNear, link_word, plans}
 use Rattle.seize_book.specs.Book.{Does, IsLegalList, after, mine}
@@ -13,14 +13,15 @@ use Rattle.seize_book.specs.Entry.{Deed, Entry, Made}
 use Rattle.seize_book.specs.Homes.{IsSound, home_of}
 use Rattle.seize_book.specs.Homesteads.{HasNumber, state_seen}
 use Rattle.seize_words.specs.Chunks.{IsHeaderOf}
-use Rattle.seize_words.specs.Counts.{AddsTo, Counts, Walks, home}
+use Rattle.seize_words.specs.Counts.{AddsTo, Counts, MayCountDown, home}
 use Rattle.seize_words.specs.Headers.{IsFrontBlock}
 use Rattle.seize_words.specs.Joined.{IsAddingAt, IsCountingAt, TriesAtSlot}
 use Rattle.seize_words.specs.Walks.{Knows}
-use Rattle.seize_book.specs.Passes.{IsSame, LooksOn}
+use Rattle.seize_book.specs.Passes.{IsSamePass, LooksOn}
 use Rattle.seize_words.specs.Reservations.{TriesAt, beginning, slot}
-use Rattle.seize_book.specs.Slots.{IsOf, NotesAs, number_of, own_list, start_of}
-use Rattle.seize_book.specs.Tokens.{AllLentIn, IsSole, Name, Noted, start}
+use Rattle.seize_book.specs.Slots.{IsKeyOfBook, NotesAs, own_list, slot_number, start_of}
+use Rattle.seize_book.specs.Loans.{AllCarryOne}
+use Rattle.seize_book.specs.Tokens.{IsSole, Name, Noted, start}
 use Rattle.seize_words.specs.Totals.{slots_seen}
 use Rattle.seize_book.specs.declared.book.pass.Pass.{Pass}
 use Rattle.seize_book.specs.declared.book.slot_key.SlotKey.{SlotKey}
@@ -49,18 +50,18 @@ module _ (key key' : SlotKey) (pass mid pass' : Pass) (looks : LooksOn pass mid)
       made =
           ap (λ (t : Name × ℕ). mine (start t.0) t.1 pass'.seen) (λ j. (sym looks.same.0 j, sym looks.same.1 j))
           ∙ (x.made ∙ ap (λ (made : List (Entry × _)). made ++ (Made d, x.answer) ∷ []) looks.none_made);
-      alone = λ s. x.alone (subst (λ (t : Name × ℕ). IsSole t.0.gate t.1) (λ j. (sym looks.same.0 j, sym looks.same.1 j)) s) ∙ looks.alone s;
-      lent = subst (λ (n : Name). AllLentIn n (x.later).named) looks.same.0 x.lent;
+      alone = λ s. x.alone (subst IsSole (sym looks.same.1) s) ∙ looks.alone s;
+      lent = x.lent;
       distinct = looks.distinct;
     }
 
     abbrev notes_after : NotesAs key mid key' pass' d → NotesAs key pass key' pass' d
-    notes_after n = ((n.0.0 ∙ looks.same.0, n.0.1 ∙ looks.same.1), n.1, (noted_after n.2.0, n.2.1))
+    notes_after n = ((n.0.0 ∙ looks.same.0, n.0.1 ∙ looks.same.1, n.0.2 ∙ looks.same.2), n.1, (noted_after n.2.0, n.2.1))
 
   pub noted_on : (life : ℕ) (event event' : Event) → event ≡ event' → NotesAs key mid key' pass' (beginning mid life event) → NotesAs key pass key' pass' (beginning pass life event')
   noted_on life event event' is n =
       subst (λ (d : Deed). NotesAs key pass key' pass' d)
-      (λ j. record { pass = looks.same.1 j; size = (looks.same.0 j).size; event = is j; life = life; kepts = [] })
+      (λ j. record { pass = looks.same.1 j; size = looks.same.2 j; event = is j; life = life; kepts = [] })
       (notes_after (beginning mid life event) n)
 
 -- the head of a slot that the pass has seen is there, also after the look
@@ -79,11 +80,11 @@ tries_at key s head seen block is tries = subst (λ (m : ℕ). TriesAtSlot key m
 pub counts_on : (key key' : SlotKey) (pass mid pass' : Pass) (event : Event) (none : Bool) → LooksOn pass mid → Counts key mid key' pass' event none → Counts key pass key' pass' event none
 counts_on key key' pass mid pass' event none looks counts =
     subst (λ (d : Deed). (notes : NotesAs key pass key' pass' d) × ((count : ℤ) × (notes.2.0.answer ≡ Counted count) × (none ≡ is_zero count) × IsNear count))
-    (λ j. record { pass = looks.same.1 j; size = (looks.same.0 j).size; event = event; life = 0; kepts = [] })
+    (λ j. record { pass = looks.same.1 j; size = looks.same.2 j; event = event; life = 0; kepts = [] })
     (notes_after key key' pass mid pass' looks (beginning mid 0 event) counts.0, counts.1)
 
 -- the batch is held, so the block of its first value is found, and that value's home is the header's
-module _ (key : SlotKey) (pass : Pass) (book : IsOf key pass) (knows : Knows key pass) (b block : ℕ) (held : IsHeld (after (start_of key) (own_list key)) b) (front : IsFrontBlock key b block) where
+module _ (key : SlotKey) (pass : Pass) (book : IsKeyOfBook key pass) (knows : Knows key pass) (b block : ℕ) (held : IsHeld (after (start_of key) (own_list key)) b) (front : IsFrontBlock key b block) where
   named : has front.0 (state_seen pass).named ≡ true
   named = first_named key pass book knows b front.0 held front.1
 
@@ -94,12 +95,12 @@ module _ (key : SlotKey) (pass : Pass) (book : IsOf key pass) (knows : Knows key
   its_home mid header looks is = is.1 front.0 (named_seen pass mid front.0 looks named) (sym front.2)
 
 pub held_adding : (key : SlotKey) (block won : ℕ) (a : IsAddingAt key block won) → IsHeld (after (start_of key) (own_list key)) a.batch
-held_adding key block won a = inr (inr (number_of key, ap detached_by a.adding))
+held_adding key block won a = inr (inr (slot_number key, ap detached_by a.adding))
 
 pub held_counting : (key : SlotKey) (block : ℕ) (a : IsCountingAt key block) → IsHeld (after (start_of key) (own_list key)) a.batch
-held_counting key block a = inr (inl (number_of key, subst (λ (o : Option Call). Contains (walk_of o) a.batch) (sym a.walking) (zero, omega arith, refl)))
+held_counting key block a = inr (inl (slot_number key, subst (λ (o : Option Call). Contains (walk_of o) a.batch) (sym a.walking) (zero, omega arith, refl)))
 
-module _ (key : SlotKey) (pass mid : Pass) (book : IsOf key pass) (knows : Knows key pass) (block : ℕ) (header : Header) (looks : LooksOn pass mid) (is : IsHeaderOf header block mid) where
+module _ (key : SlotKey) (pass mid : Pass) (book : IsKeyOfBook key pass) (knows : Knows key pass) (block : ℕ) (header : Header) (looks : LooksOn pass mid) (is : IsHeaderOf header block mid) where
   abbrev pub adds_there : (won : ℕ) (a : IsAddingAt key block won) → AddsTo key header.count won
   adds_there won a = record {
     batch = a.batch;
@@ -110,7 +111,7 @@ module _ (key : SlotKey) (pass mid : Pass) (book : IsOf key pass) (knows : Knows
     its_home = its_home key pass book knows a.batch block (held_adding key block won a) a.front mid header looks is;
   }
 
-  abbrev pub walks_there : (a : IsCountingAt key block) → Walks key header.count
+  abbrev pub walks_there : (a : IsCountingAt key block) → MayCountDown key header.count
   walks_there a = record {
     batch = a.batch;
     front = a.front.0;
@@ -122,16 +123,16 @@ module _ (key : SlotKey) (pass mid : Pass) (book : IsOf key pass) (knows : Knows
   }
 
 -- a pass that looks at once after a step sees nothing more
-pub looks_here : (pass pass' : Pass) (e : Entry) → IsSame pass pass' → Noted pass.name pass.id pass.seen pass'.seen e → LooksOn pass' pass'
+pub looks_here : (pass pass' : Pass) (e : Entry) → IsSamePass pass pass' → Noted pass.name pass.id pass.seen pass'.seen e → LooksOn pass' pass'
 looks_here pass pass' e same noted = record {
-  same = (refl, refl);
+  same = (refl, refl, refl);
   none_made = refl;
   grows = prefix_refl pass'.seen;
   alone = λ s. refl;
   legal = subst (λ (n : Name). IsLegalList (start n) pass'.seen) (sym same.0) noted.legal;
   sound = subst (λ (n : Name). IsSound (after (start n) pass'.seen)) (sym same.0) noted.sound;
-  lent = subst (λ (n : Name). AllLentIn n (after (start n) pass'.seen).named) (sym same.0) (subst (λ (z : State). AllLentIn pass.name z.named) (sym noted.leads) noted.lent);
-  distinct = subst (λ (n : Name). are_distinct (linked n.links) ≡ true) (sym same.0) noted.distinct;
+  lent = subst (λ (n : Name). AllCarryOne (after (start n) pass'.seen).named) (sym same.0) (subst (λ (z : State). AllCarryOne z.named) (sym noted.leads) noted.lent);
+  distinct = subst (λ (n : Name). are_distinct (linked_values n.links) ≡ true) (sym same.0) noted.distinct;
 }
 
 -- what a link holds, by its word

@@ -12,17 +12,18 @@ use Rattle.seize_book.specs.Blocks.{link_word}
 use Rattle.seize_book.specs.Book.{IsLegalList, Kept, TheBlock, after, blocks, rules, Does, kind_of}
 use Rattle.seize_book.specs.Entry.{Entry, Made}
 use Rattle.seize_book.specs.Fair.{Covers, IsLabel, NamesHeld, NamesLabels, pass_key}
-use Rattle.seize_book.specs.Ledger.{Held, AllKept, AllThere, Beside, renewed}
+use Rattle.seize_book.specs.Ledger.{HeldKey, AllKept, AllThere, Beside, renewed}
 use Rattle.seize_book.specs.Homes.{HasOne, IsVacant, home_of, is_home}
 use Rattle.seize_words.specs.Links.{at_link, IsNewIn}
 use Rattle.seize_words.specs.Stepping.{FoundAs, IsStep, in_step}
-use Rattle.seize_book.specs.Tokens.{IsLentIn, Name, start}
+use Rattle.seize_book.specs.Loans.{CarriesOne}
+use Rattle.seize_book.specs.Tokens.{Name, start}
 use Rattle.seize_words.specs.Words.{IsKeyOf}
 use Rattle.seize_book.proofs.Facts.{after_push, differ, new_named, old_named, pushed, vacant_later}
 
 -- the keys of what a link holds, later
-pub key_later : (o : Option ℕ) (vs : List (Held Entry)) (log : List Entry) → IsKeyOf o vs → IsKeyOf o (renewed vs log)
-key_later None vs log is = ap (λ (hs : List (Held Entry)). renewed hs log) is
+pub key_later : (o : Option ℕ) (vs : List (HeldKey Entry)) (log : List Entry) → IsKeyOf o vs → IsKeyOf o (renewed vs log)
+key_later None vs log is = ap (λ (hs : List (HeldKey Entry)). renewed hs log) is
 key_later (Some v) [] log is = is
 key_later (Some v) (x ∷ y ∷ vs) log is = is
 key_later (Some v) (x ∷ []) log is = is
@@ -37,25 +38,25 @@ legal_link st s l on within = both (is_active (head_at st s)) (nat_lt l (length 
 
 -- A value's key is among those that are held, and so is what it says.
 
-beside_both : (a b : List (Held Entry)) (r k : ℕ) → Beside (a ++ b) r k → Beside a r k × Beside b r k
+beside_both : (a b : List (HeldKey Entry)) (r k : ℕ) → Beside (a ++ b) r k → Beside a r k × Beside b r k
 beside_both [] b r k h = (tt, h)
 beside_both (x ∷ a) b r k h = let rest = beside_both a b r k h.1 in ((h.0, rest.0), rest.1)
 
-there_both : (many : ℕ → ℕ) (a b : List (Held Entry)) → AllThere many (a ++ b) → AllThere many a × AllThere many b
+there_both : (many : ℕ → ℕ) (a b : List (HeldKey Entry)) → AllThere many (a ++ b) → AllThere many a × AllThere many b
 there_both many [] b h = (tt, h)
 there_both many (x ∷ a) b h = let rest = there_both many a b h.1 in ((h.0, rest.0), rest.1)
 
-pub kept_right : (st : State) (a b : List (Held Entry)) (log : List Entry) → AllKept (rules st) (a ++ b) log → AllKept (rules st) b log
+pub kept_right : (st : State) (a b : List (HeldKey Entry)) (log : List Entry) → AllKept (rules st) (a ++ b) log → AllKept (rules st) b log
 kept_right st [] b log h = h
 kept_right st (x ∷ a) b log h = kept_right st a b log h.1
 
-other_value : (o : Option ℕ) (vs : List (Held Entry)) (k : ℕ) → IsKeyOf o vs → Beside vs blocks k → is_home k o ≡ false
+other_value : (o : Option ℕ) (vs : List (HeldKey Entry)) (k : ℕ) → IsKeyOf o vs → Beside vs blocks k → is_home k o ≡ false
 other_value None vs k is b = refl
 other_value (Some v) [] k is b = absurd (let x : false ≡ true = is.0 in cc)
 other_value (Some v) (x ∷ y ∷ vs) k is b = absurd (let x : false ≡ true = is.0 in cc)
 other_value (Some v) (x ∷ []) k is b = differ (home_of v) k (λ e. b.0 (sym (eq_true x.kind blocks is.0), e ∙ sym is.1))
 
-past_value : (many : ℕ → ℕ) (o : Option ℕ) (vs : List (Held Entry)) (k : ℕ) → IsKeyOf o vs → AllThere many vs → many blocks ≤ k → is_home k o ≡ false
+past_value : (many : ℕ → ℕ) (o : Option ℕ) (vs : List (HeldKey Entry)) (k : ℕ) → IsKeyOf o vs → AllThere many vs → many blocks ≤ k → is_home k o ≡ false
 past_value many None vs k is there le = refl
 past_value many (Some v) [] k is there le = absurd (let x : false ≡ true = is.0 in cc)
 past_value many (Some v) (x ∷ y ∷ vs) k is there le = absurd (let x : false ≡ true = is.0 in cc)
@@ -63,20 +64,20 @@ past_value many (Some v) (x ∷ []) k is there le =
     let kind : x.kind ≡ blocks = eq_true x.kind blocks is.0 in let l : home_of v < many blocks = subst (λ (z : ℕ). home_of v < many z) kind (subst (λ (z : ℕ). z < many x.kind) is.1 there.0) in
     differ (home_of v) k (λ e. omega (arith, e, l, le))
 
-pub is_key : (n : Name) (o : Option ℕ) (vs : List (Held Entry)) → IsNewIn n o vs → IsKeyOf o vs
+pub is_key : (n : Name) (o : Option ℕ) (vs : List (HeldKey Entry)) → IsNewIn n o vs → IsKeyOf o vs
 is_key n None vs new = new
 is_key n (Some v) vs new = new.0
 
 -- what the key of a value's block says
-block_kept : (st : State) (v : ℕ) (x : Held Entry) (log : List Entry) → IsKeyOf (Some v) (x ∷ []) → (rules st).Kept x.kind x.key x.own log → Kept st TheBlock (home_of v) x.own log
+block_kept : (st : State) (v : ℕ) (x : HeldKey Entry) (log : List Entry) → IsKeyOf (Some v) (x ∷ []) → (rules st).Kept x.kind x.key x.own log → Kept st TheBlock (home_of v) x.own log
 block_kept st v x log is kept = subst (λ (t : ℕ × ℕ). Kept st (kind_of t.0) t.1 x.own log) (λ j. (eq_true x.kind blocks is.0 j, is.1 j)) kept
 
-value_kept : (st : State) (v : ℕ) (x : Held Entry) (log : List Entry) → IsKeyOf (Some v) (x ∷ []) → (rules st).Kept x.kind x.key x.own log
+value_kept : (st : State) (v : ℕ) (x : HeldKey Entry) (log : List Entry) → IsKeyOf (Some v) (x ∷ []) → (rules st).Kept x.kind x.key x.own log
     → (has v (after st x.own).named ≡ has v (after st log).named) × (has v (after st x.own).loose ≡ has v (after st log).loose)
 value_kept st v x log is kept = (block_kept st v x log is kept).1 v refl
 
 -- a value that its key knows to be new is new
-pub still_new : (n : Name) (o : Option ℕ) (vs : List (Held Entry)) (log : List Entry) → IsNewIn n o vs → AllKept (rules (start n)) vs log → is_none_or_fresh (after (start n) log) o ≡ true
+pub still_new : (n : Name) (o : Option ℕ) (vs : List (HeldKey Entry)) (log : List Entry) → IsNewIn n o vs → AllKept (rules (start n)) vs log → is_none_or_fresh (after (start n) log) o ≡ true
 still_new n None vs log new kept = refl
 still_new n (Some v) [] log new kept = absurd (let x : false ≡ true = new.0.0 in cc)
 still_new n (Some v) (x ∷ y ∷ vs) log new kept = absurd (let x : false ≡ true = new.0.0 in cc)
@@ -84,7 +85,7 @@ still_new n (Some v) (x ∷ []) log new kept =
     ap not (sym (value_kept (start n) v x log new.0 kept.0).0 ∙ new.1)
 
 -- and its block is vacant still
-pub still_vacant : (n : Name) (v : ℕ) (vs : List (Held Entry)) (log : List Entry) → IsLegalList (start n) log → IsNewIn n (Some v) vs → AllKept (rules (start n)) vs log → IsVacant (after (start n) log) (home_of v)
+pub still_vacant : (n : Name) (v : ℕ) (vs : List (HeldKey Entry)) (log : List Entry) → IsLegalList (start n) log → IsNewIn n (Some v) vs → AllKept (rules (start n)) vs log → IsVacant (after (start n) log) (home_of v)
 still_vacant n v [] log l new kept = absurd (let x : false ≡ true = new.0.0 in cc)
 still_vacant n v (x ∷ y ∷ vs) log l new kept = absurd (let x : false ≡ true = new.0.0 in cc)
 still_vacant n v (x ∷ []) log l new kept = vacant_later (start n) x.own log (home_of v) l (block_kept (start n) v x log new.0 kept.0) new.2
@@ -93,12 +94,12 @@ or_both : (a b : Bool) → a ≡ false → b ≡ false → (a || b) ≡ false
 or_both false b x y = y
 or_both true b x y = absurd (cc)
 
-label_here : (held : List (Held Entry)) (w u : ℕ) → IsKeyOf (Some w) held → u ≡ w → IsLabel held u
+label_here : (held : List (HeldKey Entry)) (w u : ℕ) → IsKeyOf (Some w) held → u ≡ w → IsLabel held u
 label_here [] w u is e = absurd (let x : false ≡ true = is.0 in cc)
 label_here (x ∷ y ∷ held) w u is e = absurd (let x : false ≡ true = is.0 in cc)
 label_here (x ∷ []) w u is e = inl (eq_true x.kind blocks is.0, is.2 ∙ sym e)
 
-label_beside : (vs held : List (Held Entry)) (u : ℕ) → IsLabel held u → IsLabel (vs ++ held) u
+label_beside : (vs held : List (HeldKey Entry)) (u : ℕ) → IsLabel held u → IsLabel (vs ++ held) u
 label_beside [] held u is = is
 label_beside (x ∷ vs) held u is = inr (label_beside vs held u is)
 
@@ -107,13 +108,13 @@ module _ (n : Name) (l : ℕ) where
   st = start n
 
   abbrev At : Type 0
-  At = List Entry × List (Held Entry)
+  At = List Entry × List (HeldKey Entry)
 
   -- what the link holds is what its word shows
-  pub same : (v p : ℕ) (seen : List Entry) (held : List (Held Entry)) (alive : List ℕ) (t : At) (log : List Entry) → FoundAs (at_link n l) v p seen held alive t log → link_at (after st t.0) l ≡ link_at (after st log) l
+  pub same : (v p : ℕ) (seen : List Entry) (held : List (HeldKey Entry)) (alive : List ℕ) (t : At) (log : List Entry) → FoundAs (at_link n l) v p seen held alive t log → link_at (after st t.0) l ≡ link_at (after st log) l
   same v p seen held alive t log found = found.before.kept.0.1
 
-  module _ (v p size s : ℕ) (seen : List Entry) (held : List (Held Entry)) (alive : List ℕ) (t : At) (own log : List Entry) (found : FoundAs (at_link n l) v p seen held alive t log)
+  module _ (v p size s : ℕ) (seen : List Entry) (held : List (HeldKey Entry)) (alive : List ℕ) (t : At) (own log : List Entry) (found : FoundAs (at_link n l) v p seen held alive t log)
       (on : is_active (head_at (after st log) s) ≡ true) (within : l < length (after st log).links) where
     reads : Entry
     reads = Made (record { pass = p; size = size; event = ReadLink s l; life = 0; kepts = [] })
@@ -155,7 +156,7 @@ module _ (n : Name) (l : ℕ) where
       abbrev now : State
       now = after st log
 
-      abbrev all : List (Held Entry)
+      abbrev all : List (HeldKey Entry)
       all = pass_key p own ∷ in_step (at_link n l) held t
 
       -- the keys of what the link holds are there
@@ -193,10 +194,10 @@ module _ (n : Name) (l : ℕ) where
           new_named size now (ExchangeLink s l exchange) (swapped now l (Some w), Held_ (link_at now l)) w step (pushed w now.named) (still_vacant n w held log found.before.legal new (kept_right st t.1 held log found.before.kept.1))
 
       -- the value that it names is the one with which the key is labelled
-      labels_stored : (o : Option ℕ) → IsNewIn n o held → NamesLabels n now all (swapped now l o)
+      labels_stored : (o : Option ℕ) → IsNewIn n o held → NamesLabels now all (swapped now l o)
       labels_stored None new u named = inl (subst (λ (vs : List ℕ). has u vs ≡ true) (append-nil now.named) named)
       labels_stored (Some w) new u named =
-          ⊎_elim (λ is. inr (inr (inr (label_beside t.1 held u (label_here held w u new.0 is))), subst (IsLentIn n) (sym is) new.3)) (λ was. inl was) (pushed w now.named u named)
+          ⊎_elim (λ is. inr (inr (inr (label_beside t.1 held u (label_here held w u new.0 is))), subst CarriesOne (sym is) new.3)) (λ was. inl was) (pushed w now.named u named)
 
       -- it stores the value
       pub store_step : (w : ℕ) → w ≡ link_word o → is_stored (link_at now l) exchange ≡ true

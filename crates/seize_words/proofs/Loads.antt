@@ -1,18 +1,18 @@
 -- Loads of a field by a slot's holder: what the word showed.
 use Rattle.std.proofs.Common.{◌≡◌, ℕ, ◌<◌, true, unwrap_or, List, [], ◌∷◌, ◌++◌, length, Option, Some, refl, sym, ◌∙◌, ap, subst, arith}
-use Rattle.seize_machine.specs.Machine.State.{State, Rest, linked, are_distinct}
+use Rattle.seize_machine.specs.Machine.State.{State, Rest, linked_values, are_distinct}
 use Rattle.std.specs.Prelude.{slice_index_or}
 use Rattle.seize_machine.specs.Machine.Laws.{IsHeld, walk_of}
-use Rattle.seize_machine.specs.Machine.History.{first_of}
+use Rattle.seize_machine.specs.Machine.History.{first_or_none}
 use Rattle.seize_machine.proofs.Facts.{Stands, held_full}
-use Rattle.seize_book.specs.Blocks.{front_of, no_plan, Plan, block_for, block_of, list_word, plans}
+use Rattle.seize_book.specs.Blocks.{front_of, no_plan, Plan, block_for, block_number, list_word, plans}
 use Rattle.seize_book.specs.Book.{IsLegalList, Kept, TheSlot, after, rules}
 use Rattle.seize_book.specs.Chains.{IsChain, first_field, next_field, served, told}
 use Rattle.seize_book.specs.Entry.{Entry}
 use Rattle.seize_words.specs.Headers.{IsFrontBlock, IsPassing}
 use Rattle.seize_book.specs.Homes.{home_of}
-use Rattle.seize_book.specs.Ledger.{AllKept, Held}
-use Rattle.seize_book.specs.Slots.{IsOf, number_of, own_list, start_of}
+use Rattle.seize_book.specs.Ledger.{AllKept, HeldKey}
+use Rattle.seize_book.specs.Slots.{IsKeyOfBook, own_list, slot_number, start_of}
 use Rattle.seize_words.specs.Stepping.{LooksAt}
 use Rattle.seize_book.specs.Tokens.{Name, start}
 use Rattle.seize_book.specs.declared.book.pass.Pass.{Pass}
@@ -20,12 +20,12 @@ use Rattle.seize_book.specs.declared.book.slot_key.SlotKey.{SlotKey}
 use Rattle.seize_book.proofs.Facts.{reached_after, walking_there, AllLess, blocks_stay, plan_stays, plans_long, held_values, walked_held, one_kept}
 use Rattle.seize_words.proofs.Uses.{at_field, own_legal, served_stays, shown}
 
-module _ (f : ℕ) (key : SlotKey) (pass pass' : Pass) (v : ℕ) (looks : LooksAt (at_field pass.name f) pass.id pass.seen pass'.seen key.keys.held v) (book : IsOf key pass) where
+module _ (f : ℕ) (key : SlotKey) (pass pass' : Pass) (v : ℕ) (looks : LooksAt (at_field pass.name f) pass.id pass.seen pass'.seen key.keys.held v) (book : IsKeyOfBook key pass) where
   abbrev n : Name
   n = pass.name
 
   abbrev s : ℕ
-  s = number_of key
+  s = slot_number key
 
   abbrev own : List Entry
   own = own_list key
@@ -37,9 +37,9 @@ module _ (f : ℕ) (key : SlotKey) (pass pass' : Pass) (v : ℕ) (looks : LooksA
   now = after (start n) log
 
   kept : Kept (start n) TheSlot s own log
-  kept = one_kept (start n) key.keys.held log key.one (subst (λ (vs : List (Held Entry)). AllKept (rules (start n)) (vs ++ key.keys.held) log) looks.found.stands looks.found.before.kept.1)
+  kept = one_kept (start n) key.keys.held log key.one (subst (λ (vs : List (HeldKey Entry)). AllKept (rules (start n)) (vs ++ key.keys.held) log) looks.found.stands looks.found.before.kept.1)
 
-  distinct : are_distinct (linked n.links) ≡ true
+  distinct : are_distinct (linked_values n.links) ≡ true
   distinct = looks.found.distinct
 
   legal : IsLegalList (start n) log
@@ -71,7 +71,7 @@ module _ (f : ℕ) (key : SlotKey) (pass pass' : Pass) (v : ℕ) (looks : LooksA
       (λ w. loaded ∙ ap (told log) (field_now next_field w) ∙ (chain next_field w).0.0 ∙ sym (blocks_stay n own log s w.walk kept.0 (planned next_field w).1))
 
   -- the batch that is to be counted down has values, and so a front
-  has_first : (xs : List ℕ) → 0 < length xs → (x : ℕ) × (first_of xs ≡ Some x)
+  has_first : (xs : List ℕ) → 0 < length xs → (x : ℕ) × (first_or_none xs ≡ Some x)
   has_first [] full = absurd (omega (arith, full))
   has_first (x ∷ xs) full = (x, refl)
 
@@ -82,15 +82,15 @@ module _ (f : ℕ) (key : SlotKey) (pass pass' : Pass) (v : ℕ) (looks : LooksA
     held : IsHeld now w.batch
     held = walked_held now s w.batch w.walk w.queue (stands_now first_field w)
 
-    front : (x : ℕ) × (first_of (plan_then log).values ≡ Some x)
+    front : (x : ℕ) × (first_or_none (plan_then log).values ≡ Some x)
     front = has_first (plan_then log).values (subst (λ (values : List ℕ). 0 < length values) (held_values n log distinct legal w.batch held) (held_full now (reached_after n log distinct legal) w.batch held))
 
-    shown_front : (front_of (start n) own w.batch ≡ Some front.0) × (v ≡ block_of front.0)
+    shown_front : (front_of (start n) own w.batch ≡ Some front.0) × (v ≡ block_number front.0)
     shown_front = (
-      ap (λ (plan : Plan). first_of plan.values) (plan_stays (start n) own log w.batch kept.0 (planned first_field w).0) ∙ front.1,
-      loaded ∙ ap (told log) (field_now first_field w) ∙ (chain first_field w).0.1 ∙ ap (λ (o : Option ℕ). block_of (unwrap_or o 0)) front.1,
+      ap (λ (plan : Plan). first_or_none plan.values) (plan_stays (start n) own log w.batch kept.0 (planned first_field w).0) ∙ front.1,
+      loaded ∙ ap (told log) (field_now first_field w) ∙ (chain first_field w).0.1 ∙ ap (λ (o : Option ℕ). block_number (unwrap_or o 0)) front.1,
     )
 
   pub shows_first : (w : IsPassing (start_of key) s own first_field f) → IsFrontBlock key w.batch v
-  shows_first = subst (λ (z : Name). (w : IsPassing (start z) s own first_field f) → (x : ℕ) × (front_of (start z) own w.batch ≡ Some x) × (v ≡ block_of x)) (sym book)
+  shows_first = subst (λ (z : Name). (w : IsPassing (start z) s own first_field f) → (x : ℕ) × (front_of (start z) own w.batch ≡ Some x) × (v ≡ block_number x)) (sym book)
       (λ w. let its = shown_front w in ((front w).0, its.0, its.1))

@@ -5,7 +5,7 @@ use Rattle.std.proofs.lemmas.List.{length-map}
 use Rattle.std.proofs.Math.Nat.{mod-eq_of_lt}
 use Rattle.seize_machine.specs.Machine.State.{State, Slot, Head, Inactive, head_at, no_slot, slot_at}
 use Rattle.seize_machine.specs.Machine.Event.{Take}
-use Rattle.seize_machine.specs.Machine.Next.{taken, first_free, next}
+use Rattle.seize_machine.specs.Machine.Next.{after_take, first_free, next}
 use Rattle.seize_machine.specs.Machine.Frames.{used}
 use Rattle.seize_machine.specs.Machine.History.{IsReached}
 use Rattle.seize_machine.specs.declared.machine.event.Answer.{Answer}
@@ -13,11 +13,11 @@ use Rattle.seize_machine.specs.declared.machine.event.Answer.TheVariants.{Done}
 use Rattle.seize_machine.proofs.Facts.{heads_length, some_is}
 use Rattle.seize_table.specs.Place.{all_numbers}
 use Rattle.seize_words.specs.Atomic.{plus}
-use Rattle.seize_book.specs.Ledger.{Held, AllKept, renewed, born}
+use Rattle.seize_book.specs.Ledger.{HeldKey, AllKept, renewed, born}
 use Rattle.seize_book.specs.Entry.{Entry, Made, Deed}
-use Rattle.seize_book.specs.Book.{IsLegalList, after, births, slots, heads, numbers, totals, of_next_slot, of_slot, rules}
+use Rattle.seize_book.specs.Book.{IsLegalList, Kept, TheSlot, after, births, slots, heads, numbers, totals, of_next_slot, of_slot, rules}
 use Rattle.seize_book.specs.Fair.{Covers, pass_key}
-use Rattle.seize_book.specs.Others.{in_use, least_unused, state_of}
+use Rattle.seize_book.specs.Others.{first_false, state_of, use_flags}
 use Rattle.seize_words.specs.Totals.{IsFull, made_of}
 use Rattle.seize_book.specs.declared.book.numbers_key.NumbersKey.{NumbersKey}
 use Rattle.seize_book.specs.Private.{Tag, is_one, key_of, label_of, note_of, tag_of, own_of}
@@ -27,7 +27,7 @@ use Rattle.seize_words.specs.Words.{Site}
 use Rattle.seize_book.proofs.Facts.{after_push, equal, free_by, the_only, only, only_is, differ}
 
 -- all numbers are in use, as the key of the numbers knows
-pub is_full_by : (its : NumbersKey) → least_unused (in_use its) ≡ length (in_use its) → made_of its < all_numbers → IsFull its
+pub is_full_by : (its : NumbersKey) → first_false (use_flags its) ≡ length (use_flags its) → made_of its < all_numbers → IsFull its
 is_full_by its full few = let st : State = state_of its.keys in (free_by st.slots ∙ full ∙ length-map st.slots (λ slot. slot.used), few)
 
 abbrev pub at_total : Name → Site
@@ -37,7 +37,7 @@ abbrev pub takes : ℕ → ℕ → ℕ → Deed
 takes p size s = record { pass = p; size = size; event = Take s; life = 0; kepts = [] }
 
 -- the keys that are there in the step, but for the pass's
-abbrev all : ℕ → ℕ → List Entry → List Entry → List Entry → Tag → Tag → List (Held Entry)
+abbrev all : ℕ → ℕ → List Entry → List Entry → List Entry → Tag → Tag → List (HeldKey Entry)
 all j s since own own' x y =
     record { kind = totals; key = 0; own = since; label = 0; note = gnil } ∷ record { kind = numbers; key = j; own = own; label = x.0; note = x.1 }
     ∷ record { kind = slots; key = s; own = own'; label = y.0; note = y.1 } ∷ []
@@ -61,7 +61,7 @@ as_many : (a b : State) → used a ≡ used b → length a.slots ≡ length b.sl
 as_many a b same = sym (length-map a.slots (λ slot. slot.used)) ∙ ap (λ (us : List Bool). length us) same ∙ length-map b.slots (λ slot. slot.used)
 
 as_free : (a b : State) → used a ≡ used b → first_free a.slots ≡ first_free b.slots
-as_free a b same = free_by a.slots ∙ ap least_unused same ∙ sym (free_by b.slots)
+as_free a b same = free_by a.slots ∙ ap first_false same ∙ sym (free_by b.slots)
 
 made_by : State → ℕ → State × Answer
 made_by st s = (record st { slots = st.slots ++ record { used = true; batch = []; call = None } ∷ []; heads = st.heads ++ Inactive ∷ [] }, Done)
@@ -69,8 +69,8 @@ made_by st s = (record st { slots = st.slots ++ record { used = true; batch = []
 does : (size : ℕ) (st : State) (s : ℕ) → s ≡ length st.slots → s ≡ first_free st.slots → s < all_numbers → next size st (Take s) ≡ Some (made_by st s)
 unfolding made_by
 does size st s is least few =
-    ap (λ (c : Bool). if c && nat_lt s all_numbers then Some (taken st s, Done) else None) (equal s (first_free st.slots) least)
-    ∙ ap (λ (c : Bool). if c then Some (taken st s, Done) else None) (below s all_numbers few)
+    ap (λ (c : Bool). if c && nat_lt s all_numbers then Some (after_take st s, Done) else None) (equal s (first_free st.slots) least)
+    ∙ ap (λ (c : Bool). if c then Some (after_take st s, Done) else None) (below s all_numbers few)
     ∙ ap (λ (c : Bool). Some (if c then (made_by st s).0 else Rattle.seize_machine.specs.Machine.Next.set_slot st s (record (Rattle.seize_machine.specs.Machine.State.slot_at st s) { used = true }), Done)) (equal s (length st.slots) is)
   where
     below : (x y : ℕ) → x < y → nat_lt x y ≡ true
@@ -104,7 +104,7 @@ past (y ∷ xs) x d = past xs x d
 plus_one : (v s : ℕ) → v ≡ s → s < all_numbers → plus 1 v ≡ suc s
 plus_one v s is few = mod-eq_of_lt {n = v + 1} {m = 2 ^ 64} (omega (arith, is, few)) ∙ omega (arith, is)
 
-module _ (n : Name) (a b : List (Held Entry)) where
+module _ (n : Name) (a b : List (HeldKey Entry)) where
   abbrev st : State
   st = start n
 
@@ -114,7 +114,7 @@ module _ (n : Name) (a b : List (Held Entry)) where
   abbrev s : ℕ
   s = length old.slots
 
-  abbrev both : List (Held Entry)
+  abbrev both : List (HeldKey Entry)
   both = only numbers a ++ only slots b
 
   -- where the key of the numbers knows that all are in use, and the slot's key is that of the next one, and says where its head lies
@@ -129,7 +129,7 @@ module _ (n : Name) (a b : List (Held Entry)) where
 
   module _ (may : MayMakeIt) where
     joined : a ++ b ≡ both
-    joined = ap (λ (t : List (Held Entry) × List (Held Entry)). t.0 ++ t.1) (λ j. (only_is numbers a may.one j, only_is slots b may.slot j))
+    joined = ap (λ (t : List (HeldKey Entry) × List (HeldKey Entry)). t.0 ++ t.1) (λ j. (only_is numbers a may.one j, only_is slots b may.slot j))
 
     -- what is so in the list to which the event is added
     record Now (log : List Entry) : Type 0 where
@@ -158,7 +158,7 @@ module _ (n : Name) (a b : List (Held Entry)) where
           ap (λ (z : State). length z.slots) (after_push st log (Made e) (made_by (after st log) s) legal (legal_now log is))
           ∙ pushed_length (after st log).slots (record { used = true; batch = []; call = None }) ∙ ap suc (sym is.many)
 
-      abbrev Step : ℕ → List Entry × List (Held Entry) → List Entry → List Entry → Type 0
+      abbrev Step : ℕ → List Entry × List (HeldKey Entry) → List Entry → List Entry → Type 0
       Step v t own log = IsStepWith (of_slot (suc s)) (at_total n) p both [] (plus 1 v) (Made e) false t own log
 
       step : (v : ℕ) (since own log : List Entry) (seen : List Entry) → FoundAs (at_total n) v p seen both [] (since, []) log → Step v (since, []) own log
@@ -186,29 +186,36 @@ module _ (n : Name) (a b : List (Held Entry)) where
           }
 
       pub may_make : (seen : List Entry) → MayStepWith (of_slot (suc s)) (at_total n) p seen (a ++ b) [] [] (plus 1) (λ v log. Made e) (λ v. false)
-      may_make seen = subst (λ (hs : List (Held Entry)). MayStepWith (of_slot (suc s)) (at_total n) p seen hs [] [] (plus 1) (λ v log. Made e) (λ v. false)) (sym joined) (
+      may_make seen = subst (λ (hs : List (HeldKey Entry)). MayStepWith (of_slot (suc s)) (at_total n) p seen hs [] [] (plus 1) (λ v log. Made e) (λ v. false)) (sym joined) (
         (omega arith, (omega arith, tt)),
         λ v t own log found.
             let none : t.1 ≡ [] = found.stands in
-            let found_none = subst (λ (vs : List (Held Entry)). FoundAs (at_total n) v p seen both [] (t.0, vs) log) none found in
-            subst (λ (vs : List (Held Entry)). Step v (t.0, vs) own log) (sym none) (step v t.0 own log seen found_none),
+            let found_none = subst (λ (vs : List (HeldKey Entry)). FoundAs (at_total n) v p seen both [] (t.0, vs) log) none found in
+            subst (λ (vs : List (HeldKey Entry)). Step v (t.0, vs) own log) (sym none) (step v t.0 own log seen found_none),
       )
 
       -- what is known after it
-      module _ (v : ℕ) (seen : List Entry) (t : List Entry × List (Held Entry)) (log : List Entry) (found : FoundAs (at_total n) v p seen (a ++ b) [] t log) where
+      module _ (v : ℕ) (seen : List Entry) (t : List Entry × List (HeldKey Entry)) (log : List Entry) (found : FoundAs (at_total n) v p seen (a ++ b) [] t log) where
         known : Now log
         known =
             let none : t.1 ≡ [] = found.stands in
-            let kept = subst (λ (hs : List (Held Entry)). AllKept (rules st) (in_step (at_total n) hs (t.0, [])) log) joined
-            (subst (λ (vs : List (Held Entry)). AllKept (rules st) (in_step (at_total n) (a ++ b) (t.0, vs)) log) none found.before.kept) in
+            let kept = subst (λ (hs : List (HeldKey Entry)). AllKept (rules st) (in_step (at_total n) hs (t.0, [])) log) joined
+            (subst (λ (vs : List (HeldKey Entry)). AllKept (rules st) (in_step (at_total n) (a ++ b) (t.0, vs)) log) none found.before.kept) in
             now log kept.1.0.1
+
+        -- the slot has made no event since its key's list
+        pub slot_kept : Kept st TheSlot (key_of b) (own_of b) log
+        slot_kept =
+            let none : t.1 ≡ [] = found.stands in
+            (subst (λ (hs : List (HeldKey Entry)). AllKept (rules st) (in_step (at_total n) hs (t.0, [])) log) joined
+            (subst (λ (vs : List (HeldKey Entry)). AllKept (rules st) (in_step (at_total n) (a ++ b) (t.0, vs)) log) none found.before.kept)).1.1.0
 
         -- the keys then
         pub all_keys : (log' : List Entry)
             → renewed (a ++ b) log' ++ born (of_slot (suc s)) log'
             ≡ record { kind = numbers; key = key_of a; own = log'; label = label_of a; note = note_of a } ∷ record { kind = slots; key = key_of b; own = log'; label = label_of b; note = note_of b }
             ∷ record { kind = slots; key = suc s; own = log'; label = 0; note = gnil } ∷ record { kind = heads; key = suc s; own = log'; label = 0; note = gnil } ∷ []
-        all_keys log' = ap (λ (hs : List (Held Entry)). renewed hs log' ++ born (of_slot (suc s)) log') joined
+        all_keys log' = ap (λ (hs : List (HeldKey Entry)). renewed hs log' ++ born (of_slot (suc s)) log') joined
 
         abbrev new : Slot
         new = record { used = true; batch = []; call = None }

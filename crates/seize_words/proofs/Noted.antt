@@ -1,18 +1,11 @@
--- The code of a note, and that there is a cell for it.
+-- The code of a note.
 use Rattle.std.proofs.Common.{◌≡◌, ◌∙◌}
-use Rattle.seize_book.specs.Notes.{HasNoted, IsStored}
+use Rattle.seize_book.specs.Notes.{HasNoted}
 use Rattle.seize_book.specs.declared.book.value_key.ValueKey.{ValueKey}
 use Rattle.seize_book.proofs.Facts.{has_noted}
-use Rattle.seize_store.specs.Named.{name_of}
-use Rattle.seize_words.specs.Chunks.{book_in}
 use Rattle.seize_words.specs.Noted.{IsNoted, note_code}
-use Rattle.seize_words.specs.declared.blocks.Blocks.{Blocks}
 use Rattle.seize_words.specs.declared.note.Note.{Note as Noted}
 use Rattle.seize_words.specs.contracts.note.Note as Note
-
--- the blocks of a book that has a store lie there
-pub blocks_stored : {T : Type 0} (blocks : Blocks T) → IsStored (book_in blocks)
-blocks_stored blocks = (name_of blocks.store, blocks.stands)
 
 -- two notes of one code are one
 pub same_note : (note note' : Noted) → note_code note ≡ note_code note' → note ≡ note'

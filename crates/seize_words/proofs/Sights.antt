@@ -9,14 +9,14 @@ use types.Kit.{‵, raw, ◌⊛◌, ◌$◌, ◌∵◌, !, qed, move, keep, drop
 use types.Logic.{Logic, sem}
 use denote.Steps.{nothing}
 use Rattle.seize_content.specs.Contents.{sight_owns}
-use Rattle.seize_content.specs.Readers.{escrow, found, lent_pool, ready}
+use Rattle.seize_content.specs.Readers.{escrow, lent_pool, reader_share, ready}
 use Rattle.seize_content.proofs.Readers.{reads, share_of}
 use Rattle.seize_machine.specs.Machine.State.{State}
 use Rattle.seize_book.specs.Entry.{Entry, entry_coded}
 use Rattle.seize_book.specs.Book.{blocks}
-use Rattle.seize_words.specs.Glimpses.{IsLentWith, Piece, SightFor, glimpse, taken, taken_if, taken_of}
+use Rattle.seize_words.specs.Glimpses.{IsLentWith, Piece, SightFor, glimpse, taken_if, taken_of, taken_share}
 use Rattle.seize_book.specs.Laws.{Reader}
-use Rattle.seize_book.specs.Ledger.{Held, reached}
+use Rattle.seize_book.specs.Ledger.{HeldKey, reached}
 use Rattle.seize_book.specs.Loans.{Carries, IsReader, Loan, lent_as, loan, loan_if, loan_of, reader, reader_by, readers}
 use Rattle.seize_book.specs.Tokens.{Name, keys_own, start, way}
 use Rattle.seize_words.specs.Words.{IsKeyOf}
@@ -78,8 +78,8 @@ module _ {M : Type 1} {𝓤 : Ura M} (𝓛 : Logic 𝓤) (n : Name) where
         let c : ℕ = l.content in let g : Gv = l.code in let ds : List (Lft × ℕ) = l.readers in let d : Lft × ℕ = (β, γ) in let e : Share = share_of 𝓛 c l.life g ds β γ in let l' : Loan = record { content = c; life = l.life; code = g; readers = ds ++ d ∷ [] } in
         fsplit ! $ move ! (1 ∷ []) $ fsplit ! $
         -- [the pool; its readers; the ticket; the list; the escrow; the right to it]
-        move ! (0 ∷ 4 ∷ 5 ∷ []) $ use3 𝓛 (raw (upd 𝓤 (⟦ lent_pool c l.life g (ds ++ d ∷ []) ⟧ ∗ ⟦ found c l.life g γ e ⟧))) (reads 𝓛 c l.life g ds β γ) $
-        settle 𝓛 Z (‵ (lent_pool c l.life g (ds ++ d ∷ [])) ⊛ ‵ (found c l.life g γ e)) $ suffices ! _ (upd_i 𝓤 Z) $ split ! $
+        move ! (0 ∷ 4 ∷ 5 ∷ []) $ use3 𝓛 (raw (upd 𝓤 (⟦ lent_pool c l.life g (ds ++ d ∷ []) ⟧ ∗ ⟦ reader_share c l.life g γ e ⟧))) (reads 𝓛 c l.life g ds β γ) $
+        settle 𝓛 Z (‵ (lent_pool c l.life g (ds ++ d ∷ [])) ⊛ ‵ (reader_share c l.life g γ e)) $ suffices ! _ (upd_i 𝓤 Z) $ split ! $
         -- [the pool; what is found; its readers; the ticket; the list]
         move ! (4 ∷ []) $ nothing ! $ fpack ! (IsReader st v β (log, a)) (λ _. ftrue) (refl, r) $ move ! (0 ∷ 1 ∷ []) $ fjoin ! $ fpack ! (List Entry × ℕ) (reader_by st n.log v β) (log, a) $
         move ! (3 ∷ 0 ∷ []) $ use2 𝓛 (‵ (reads_by v (ds ++ d ∷ []))) (readers_push v ds d) $
@@ -87,8 +87,8 @@ module _ {M : Type 1} {𝓤 : Ura M} (𝓛 : Logic 𝓤) (n : Name) where
         move ! (1 ∷ 0 ∷ []) $ fjoin ! $ move ! (2 ∷ 0 ∷ []) $ fjoin ! $ nothing ! $ fpack ! (Carries v c g) (λ _. ftrue) carries $ move ! (0 ∷ 1 ∷ []) $ fjoin ! $ fpack ! Loan (lent_as st n.log v) l' $ frame ! $
         nothing ! $ fpack ! (Carries v c g) (λ _. ftrue) carries $ move ! (0 ∷ 1 ∷ []) $ fjoin ! $ fpack ! Piece (taken_of γ v) (record { content = c; life = l.life; code = g; share = e }) $ keep ! (0 ∷ []) $ done !))
 
-    key_reads : (h : Held Entry) (v : ℕ) → (h.kind == blocks) ≡ true → h.label ≡ v → Reader st log v a → ⟦ had log ⟧ ∗ ⟦ way n h ⟧ ∗ ⟦ ready γ ⟧ ∗ ⟦ right_to ⟧ ⊢ upd 𝓤 (⟦ way n h ⟧ ∗ ⟦ taken γ (Some v) ⟧)
-    key_reads h v one label r = let Z : Pr = ⟦ way n h ⟧ ∗ ⟦ taken γ (Some v) ⟧ in qed 𝓛 (‵ (had log) ∷ ‵ (way n h) ∷ ‵ (ready γ) ∷ ‵ right_to ∷ []) ∵ move ! (1 ∷ []) $
+    key_reads : (h : HeldKey Entry) (v : ℕ) → (h.kind == blocks) ≡ true → h.label ≡ v → Reader st log v a → ⟦ had log ⟧ ∗ ⟦ way n h ⟧ ∗ ⟦ ready γ ⟧ ∗ ⟦ right_to ⟧ ⊢ upd 𝓤 (⟦ way n h ⟧ ∗ ⟦ taken_share γ (Some v) ⟧)
+    key_reads h v one label r = let Z : Pr = ⟦ way n h ⟧ ∗ ⟦ taken_share γ (Some v) ⟧ in qed 𝓛 (‵ (had log) ∷ ‵ (way n h) ∷ ‵ (ready γ) ∷ ‵ right_to ∷ []) ∵ move ! (1 ∷ []) $
         use1 𝓛 (‵ (block_ways 𝓛 n h.label h.note)) (way_opens 𝓛 n h one) $ fsplit ! $ fsplit ! $ rewrite ! 1 (λ (w : ℕ). ‵ (loan st n.log w)) label refl $
         -- [where it leads; the loan; the note; the list; the escrow; the right to it]
         move ! (3 ∷ 1 ∷ 4 ∷ 5 ∷ []) $ group ! 4 $ use1 𝓛 (raw (upd 𝓤 (⟦ lends (loan_of v) v ⟧ ∗ ⟦ taken_if (loan_of v) γ v ⟧))) (loan_reads (loan_of v) v r) $
@@ -100,14 +100,14 @@ module _ {M : Type 1} {𝓤 : Ura M} (𝓛 : Logic 𝓤) (n : Name) where
     ReadBy o = (w : ℕ) → o ≡ Some w → Reader st log w a
 
     -- with the keys that stand beside the word of the link
-    pub keys_read : (o : Option ℕ) (vs : List (Held Entry)) → IsKeyOf o vs → ReadBy o → ⟦ had log ⟧ ∗ ⟦ keys_own n vs ⟧ ∗ ⟦ ready γ ⟧ ∗ ⟦ right_to ⟧ ⊢ upd 𝓤 (⟦ keys_own n vs ⟧ ∗ ⟦ taken γ o ⟧)
+    pub keys_read : (o : Option ℕ) (vs : List (HeldKey Entry)) → IsKeyOf o vs → ReadBy o → ⟦ had log ⟧ ∗ ⟦ keys_own n vs ⟧ ∗ ⟦ ready γ ⟧ ∗ ⟦ right_to ⟧ ⊢ upd 𝓤 (⟦ keys_own n vs ⟧ ∗ ⟦ taken_share γ o ⟧)
     keys_read None vs is r = let Z : Pr = ⟦ keys_own n vs ⟧ ∗ ⟦ ready γ ⟧ in qed 𝓛 (‵ (had log) ∷ ‵ (keys_own n vs) ∷ ‵ (ready γ) ∷ ‵ right_to ∷ []) ∵ suffices ! _ (upd_i 𝓤 Z) $ keep ! (1 ∷ 2 ∷ []) $ done !
     keys_read (Some v) [] is r = absurd (let x : false ≡ true = is.0 in cc)
     keys_read (Some v) (h ∷ g ∷ vs) is r = absurd (let x : false ≡ true = is.0 in cc)
-    keys_read (Some v) (h ∷ []) is r = let Z : Pr = ⟦ keys_own n (h ∷ []) ⟧ ∗ ⟦ taken γ (Some v) ⟧ in qed 𝓛 (‵ (had log) ∷ ‵ (keys_own n (h ∷ [])) ∷ ‵ (ready γ) ∷ ‵ right_to ∷ []) ∵ move ! (1 ∷ []) $ fsplit ! $ fsplit ! $
+    keys_read (Some v) (h ∷ []) is r = let Z : Pr = ⟦ keys_own n (h ∷ []) ⟧ ∗ ⟦ taken_share γ (Some v) ⟧ in qed 𝓛 (‵ (had log) ∷ ‵ (keys_own n (h ∷ [])) ∷ ‵ (ready γ) ∷ ‵ right_to ∷ []) ∵ move ! (1 ∷ []) $ fsplit ! $ fsplit ! $
         -- [the right; the way; nothing; the list; the escrow; the right to it]
-        move ! (3 ∷ 1 ∷ 4 ∷ 5 ∷ []) $ group ! 4 $ use1 𝓛 (raw (upd 𝓤 (⟦ way n h ⟧ ∗ ⟦ taken γ (Some v) ⟧))) (key_reads h v is.0 is.2 (r v refl)) $
-        settle 𝓛 Z (‵ (way n h) ⊛ ‵ (taken γ (Some v))) $ suffices ! _ (upd_i 𝓤 Z) $ split ! $
+        move ! (3 ∷ 1 ∷ 4 ∷ 5 ∷ []) $ group ! 4 $ use1 𝓛 (raw (upd 𝓤 (⟦ way n h ⟧ ∗ ⟦ taken_share γ (Some v) ⟧))) (key_reads h v is.0 is.2 (r v refl)) $
+        settle 𝓛 Z (‵ (way n h) ⊛ ‵ (taken_share γ (Some v))) $ suffices ! _ (upd_i 𝓤 Z) $ split ! $
         -- [the way; what was taken; the right; nothing]
         move ! (2 ∷ 0 ∷ []) $ fjoin ! $ move ! (0 ∷ 2 ∷ []) $ fjoin ! $ keep ! (0 ∷ 1 ∷ []) $ done !
 

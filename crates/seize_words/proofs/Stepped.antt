@@ -1,16 +1,17 @@
 -- What is known after an atomic step on a head's word by a slot's holder.
 use Rattle.std.proofs.Common.{if◌then◌else◌, arith, ◌≡◌, ℕ, Bool, true, false, List, [], ◌∷◌, ◌++◌, sym, refl, ap, ◌∙◌, subst}
+use Rattle.seize_machine.specs.Machine.Frames.{changes_slot}
 use Rattle.seize_machine.specs.Machine.State.{Head, Inactive, Active, head_at, is_active}
-use Rattle.seize_words.specs.Atomic.{Events, Takes, deed, entries}
+use Rattle.seize_words.specs.Atomic.{Events, TakesStep, deed, entries}
 use Rattle.seize_book.specs.Blocks.{block_for, head_word, word_of}
 use Rattle.seize_book.specs.Book.{IsLegalList, after, heads, rules, slots}
 use Rattle.seize_book.specs.Entry.{Entry, Made, Deed, deeds}
-use Rattle.seize_book.specs.Ledger.{Held, AllKept, renewed}
+use Rattle.seize_book.specs.Ledger.{HeldKey, AllKept, renewed}
 use Rattle.seize_book.specs.Laws.{life, life_from, starts}
 use Rattle.seize_words.specs.Reservations.{IsActivationOf}
 use Rattle.seize_book.specs.Private.{is_one, key_of, own_of}
-use Rattle.seize_book.specs.Slots.{IsAfter, IsOf, Moves, NotesAs}
-use Rattle.seize_words.specs.Stepping.{Stepped}
+use Rattle.seize_book.specs.Slots.{IsAfter, IsKeyOfBook, Moves, NotesAs, slot_number}
+use Rattle.seize_words.specs.Stepping.{HasStepped}
 use Rattle.seize_book.specs.Tokens.{Name, start}
 use Rattle.seize_words.specs.Words.{Site}
 use Rattle.seize_words.specs.declared.activation.Activation.{Activation}
@@ -30,31 +31,31 @@ key_then key keys' seen' is = record { keys = keys'; one = ap (is_one slots) is 
 
 -- a word with no key beside its own
 module _ (r m : ℕ) (key key' : SlotKey) (pass pass' : Pass) (f : ℕ → ℕ) (v life : ℕ) (event : Events)
-    (told : Takes (record { name = pass.name; kind = r; number = m }) key.keys pass key'.keys pass' [] f v (entries pass life event) (λ _. false)) where
-  abbrev step : Stepped (record { name = pass.name; kind = r; number = m }) pass.id pass.seen pass'.seen key.keys.held key'.keys.held [] v (f v) (entries pass life event) (λ _. false)
+    (told : TakesStep (record { name = pass.name; kind = r; number = m }) key.keys pass key'.keys pass' [] f v (entries pass life event) (λ _. false)) where
+  abbrev step : HasStepped (record { name = pass.name; kind = r; number = m }) pass.id pass.seen pass'.seen key.keys.held key'.keys.held [] v (f v) (entries pass life event) (λ _. false)
   step = told.2
 
   -- the slot's holder added the entry
-  pub moved : step.since.1 ≡ [] → IsOf key pass → IsAfter key pass' key' × Moves key key' step.noted.before (event v step.log) step.noted.later step.noted.answer
-  moved none book =
+  pub moved : step.since.1 ≡ [] → changes_slot (slot_number key) (event v step.log) ≡ true → IsKeyOfBook key pass → IsAfter key pass' key' × Moves key key' step.noted.before (deed pass life event v step.log) step.noted.later step.noted.answer
+  moved none its book =
       let noted = step.noted in let e : Deed = deed pass life event v step.log in
-      let kept_then = subst (λ (vs : List (Held Entry)). AllKept (rules (start pass.name)) (vs ++ key.keys.held) step.log) none step.found.before.kept.1 in
+      let kept_then = subst (λ (vs : List (HeldKey Entry)). AllKept (rules (start pass.name)) (vs ++ key.keys.held) step.log) none step.found.before.kept.1 in
       let one = after_one slots key.keys.held pass'.seen key.one in
       let number = ap key_of step.keys ∙ one.0 in let own = ap own_of step.keys ∙ one.1 in
       let legal : IsLegalList (start pass.name) noted.before = subst (IsLegalList (start pass.name)) (sym step.is_log) step.found.before.legal in
       let kept = one_kept (start pass.name) key.keys.held noted.before key.one (subst (AllKept (rules (start pass.name)) key.keys.held) (sym step.is_log) kept_then) in (
         (told.1, number, own),
-        moves key key' pass.name e noted.before (noted.later, noted.answer) book (told.1 ∙ book) refl legal noted.does kept number (own ∙ noted.appended),
+        moves key key' pass.name e noted.before (noted.later, noted.answer) book (told.1 ∙ book) its legal noted.does kept number (own ∙ noted.appended),
       )
 
 -- a head's
-pub noted_by : (m : ℕ) (key key' : SlotKey) (pass pass' : Pass) (f : ℕ → ℕ) (v life : ℕ) (event : Events) (told : Takes (at_head pass.name m) key.keys pass key'.keys pass' [] f v (entries pass life event) (λ _. false))
-    → IsOf key pass → NotesAs key pass key' pass' (deed pass life event v told.2.log)
-noted_by m key key' pass pass' f v life event told book =
-    let parts = moved heads m key key' pass pass' f v life event told told.2.found.stands book in (told.0, parts.0, (told.2.noted, parts.1))
+pub noted_by : (m : ℕ) (key key' : SlotKey) (pass pass' : Pass) (f : ℕ → ℕ) (v life : ℕ) (event : Events) (told : TakesStep (at_head pass.name m) key.keys pass key'.keys pass' [] f v (entries pass life event) (λ _. false))
+    → changes_slot (slot_number key) (event v told.2.log) ≡ true → IsKeyOfBook key pass → NotesAs key pass key' pass' (deed pass life event v told.2.log)
+noted_by m key key' pass pass' f v life event told its book =
+    let parts = moved heads m key key' pass pass' f v life event told told.2.found.stands its book in (told.0, parts.0, (told.2.noted, parts.1))
 
 -- the word shows it afterwards, and what it held the list showed just before
-module _ (m : ℕ) (pass pass' : Pass) (keys keys' : Keys) (f : ℕ → ℕ) (v life : ℕ) (event : Events) (told : Takes (at_head pass.name m) keys pass keys' pass' [] f v (entries pass life event) (λ _. false)) where
+module _ (m : ℕ) (pass pass' : Pass) (keys keys' : Keys) (f : ℕ → ℕ) (v life : ℕ) (event : Events) (told : TakesStep (at_head pass.name m) keys pass keys' pass' [] f v (entries pass life event) (λ _. false)) where
   pub shows_after : f v ≡ head_word (start pass.name) pass'.seen m
   shows_after = told.2.left
 
@@ -79,7 +80,7 @@ active_word : (block : ℕ → ℕ) (h : Head) → 1 ≡ word_of block h → is_
 active_word block (Active waiting) e = refl
 active_word block Inactive e = absurd (omega (arith, e))
 
-pub activation_is : (m : ℕ) (pass pass' : Pass) (keys keys' : Keys) (f : ℕ → ℕ) (v life : ℕ) (event : Events) (told : Takes (at_head pass.name m) keys pass keys' pass' [] f v (entries pass life event) (λ _. false))
+pub activation_is : (m : ℕ) (pass pass' : Pass) (keys keys' : Keys) (f : ℕ → ℕ) (v life : ℕ) (event : Events) (told : TakesStep (at_head pass.name m) keys pass keys' pass' [] f v (entries pass life event) (λ _. false))
     → f v ≡ 1 → starts m (event v told.2.log) ≡ true → is_one slots keys.held ≡ true → keys.name ≡ pass.name → key_of keys.held ≡ m
     → (key' : SlotKey) (a : Activation) → key'.keys ≡ keys' → a.name ≡ keys.name → a.slot ≡ key_of keys.held → a.since ≡ own_of keys'.held → a.life ≡ life → IsActivationOf key' a
 activation_is m pass pass' keys keys' f v life_ event told one begins is_slot book is_m key' a same name slot since its =

@@ -13,15 +13,15 @@ use Rattle.core.specs.Sync.RawAtomic.{word, asks, always}
 use Rattle.core.proofs.raw_atomic.Asked.{borrowed_with, LiesWith, AgainWith}
 use Rattle.seize_machine.specs.Machine.State.{State, link_at}
 use Rattle.seize_machine.proofs.Facts.{eq_true}
-use Rattle.seize_book.specs.Ledger.{fact, Held, WithKinds, renewed, born}
+use Rattle.seize_book.specs.Ledger.{fact, HeldKey, WithKinds, renewed, born}
 use Rattle.seize_book.specs.Entry.{Entry}
 use Rattle.seize_book.specs.Book.{Kind, ThePass, TheNumbers, TheSlot, TheHead, TheLink, TheCount, TheBlock, TheField, TheTotal, Nothing, after, kinds, kind_of, blocks}
 use Rattle.seize_book.specs.Laws.{ended}
 use Rattle.seize_book.specs.Fair.{Before}
 use Rattle.seize_book.specs.Private.{is_one}
-use Rattle.seize_words.specs.Stepping.{in_step, FoundAs, NoneEnded, beside_then, held_then, staying, with_births, IsStepWith, LooksAt, MayStepWith, SteppedWith}
+use Rattle.seize_words.specs.Stepping.{in_step, FoundAs, NoneEnded, beside_then, held_then, staying, with_births, IsStepWith, LooksAt, MayStepWith, HasSteppedWith}
 use Rattle.seize_book.specs.Tokens.{Name, start, inside, knows, keys_own, over, pass_holds, pass_owns}
-use Rattle.seize_words.specs.Words.{Site, Shows, ShowsOf, Stands, StandsOf, IsKeyOf, word_knows, word_lies, word_reading}
+use Rattle.seize_words.specs.Words.{Site, ShowsWord, ShowsOf, Stands, StandsOf, IsKeyOf, word_knows, word_lies, word_reading}
 use Rattle.seize_book.proofs.Facts.{blocks_within}
 use Rattle.seize_book.proofs.Lives.{ends_those, living, none_over}
 use Rattle.seize_book.proofs.Looks.{peeks}
@@ -42,17 +42,17 @@ kind_within st (suc (suc (suc (suc (suc (suc (suc zero))))))) k v log so = omega
 kind_within st (suc (suc (suc (suc (suc (suc (suc (suc zero)))))))) k v log so = omega arith
 kind_within st (suc (suc (suc (suc (suc (suc (suc (suc (suc r))))))))) k v log so = absurd so
 
-one_within : (held : List (Held Entry)) → is_one blocks held ≡ true → WithKinds kinds held
+one_within : (held : List (HeldKey Entry)) → is_one blocks held ≡ true → WithKinds kinds held
 one_within [] one = absurd (cc)
 one_within (h ∷ g ∷ held) one = absurd (cc)
 one_within (h ∷ []) one = (let is : h.kind ≡ blocks = eq_true h.kind blocks one in omega arith, tt)
 
-linked_within : (o : Option ℕ) (vs : List (Held Entry)) → IsKeyOf o vs → WithKinds kinds vs
+linked_within : (o : Option ℕ) (vs : List (HeldKey Entry)) → IsKeyOf o vs → WithKinds kinds vs
 linked_within None vs is = subst (WithKinds kinds) (sym is) tt
 linked_within (Some v) vs is = one_within vs is.0
 
 -- and so are the kinds of the keys beside it
-beside_within : (n : Name) (kind : Kind) (k : ℕ) (log : List Entry) (vs : List (Held Entry)) → StandsOf n kind k log vs → WithKinds kinds vs
+beside_within : (n : Name) (kind : Kind) (k : ℕ) (log : List Entry) (vs : List (HeldKey Entry)) → StandsOf n kind k log vs → WithKinds kinds vs
 beside_within n TheLink l log vs so = linked_within (link_at (after (start n) log) l) vs so
 beside_within n ThePass k log vs so = subst (WithKinds kinds) (sym so) tt
 beside_within n TheNumbers k log vs so = subst (WithKinds kinds) (sym so) tt
@@ -64,13 +64,13 @@ beside_within n TheField f log vs so = subst (WithKinds kinds) (sym so) tt
 beside_within n TheTotal k log vs so = subst (WithKinds kinds) (sym so) tt
 beside_within n Nothing k log vs so = subst (WithKinds kinds) (sym so) tt
 
-both_within : (a b : List (Held Entry)) → WithKinds kinds a → WithKinds kinds b → WithKinds kinds (a ++ b)
+both_within : (a b : List (HeldKey Entry)) → WithKinds kinds a → WithKinds kinds b → WithKinds kinds (a ++ b)
 both_within [] b h k = k
 both_within (x ∷ a) b h k = (h.0, both_within a b h.1 k)
 
-renewed_append : (a b : List (Held Entry)) (log : List Entry) → renewed (a ++ b) log ≡ renewed a log ++ renewed b log
+renewed_append : (a b : List (HeldKey Entry)) (log : List Entry) → renewed (a ++ b) log ≡ renewed a log ++ renewed b log
 renewed_append [] b log = refl
-renewed_append (x ∷ a) b log = ap (λ (hs : List (Held Entry)). record { kind = x.kind; key = x.key; own = log; label = x.label; note = x.note } ∷ hs) (renewed_append a b log)
+renewed_append (x ∷ a) b log = ap (λ (hs : List (HeldKey Entry)). record { kind = x.kind; key = x.key; own = log; label = x.label; note = x.note } ∷ hs) (renewed_append a b log)
 
 module _ {M : Type 1} {𝓤 : Ura M} (𝓛 : Logic 𝓤) (site : Site) where
   open 𝓛 use {H, A}
@@ -98,40 +98,40 @@ module _ {M : Type 1} {𝓤 : Ura M} (𝓛 : Logic 𝓤) (site : Site) where
   abbrev J : Fml
   J = inside n
 
-  abbrev keys : List (Held Entry) → Fml
+  abbrev keys : List (HeldKey Entry) → Fml
   keys held = keys_own n held
 
   abbrev At : Type 0
-  At = List Entry × List (Held Entry)
+  At = List Entry × List (HeldKey Entry)
 
   -- the right is to the kind and number, so the list that a key knows is no part of where it goes
-  renewed_take : (m : ℕ) (held : List (Held Entry)) (log : List Entry) → take m (renewed held log) ≡ renewed (take m held) log
+  renewed_take : (m : ℕ) (held : List (HeldKey Entry)) (log : List Entry) → take m (renewed held log) ≡ renewed (take m held) log
   renewed_take zero held log = refl
   renewed_take (suc m) [] log = refl
-  renewed_take (suc m) (x ∷ held) log = ap (λ (hs : List (Held Entry)). record { kind = x.kind; key = x.key; own = log; label = x.label; note = x.note } ∷ hs) (renewed_take m held log)
+  renewed_take (suc m) (x ∷ held) log = ap (λ (hs : List (HeldKey Entry)). record { kind = x.kind; key = x.key; own = log; label = x.label; note = x.note } ∷ hs) (renewed_take m held log)
 
-  renewed_past : (m : ℕ) (held : List (Held Entry)) (log : List Entry) → past m (renewed held log) ≡ renewed (past m held) log
+  renewed_past : (m : ℕ) (held : List (HeldKey Entry)) (log : List Entry) → past m (renewed held log) ≡ renewed (past m held) log
   renewed_past zero held log = refl
   renewed_past (suc m) [] log = refl
   renewed_past (suc m) (x ∷ held) log = renewed_past m held log
 
   -- what stands beside the word afterwards, and what the holder has
-  trade : (kind : Kind) (trades : Bool) (vs held : List (Held Entry)) (log : List Entry)
+  trade : (kind : Kind) (trades : Bool) (vs held : List (HeldKey Entry)) (log : List Entry)
       → ⟦ keys (renewed (vs ++ held) log) ⟧ ⊢ ⟦ keys (renewed (beside_then kind trades vs held) log) ⟧ ∗ ⟦ keys (renewed (held_then kind trades vs held) log) ⟧
-  trade kind false vs held log = qed 𝓛 (‵ (keys (renewed (vs ++ held) log)) ∷ []) ∵ rewrite ! 0 (λ (hs : List (Held Entry)). ‵ (keys hs)) (renewed_append vs held log) refl $ by ! (keys_parted 𝓛 n (renewed vs log) (renewed held log))
-  trade kind true vs held log = let m : ℕ = staying kind in qed 𝓛 (‵ (keys (renewed (vs ++ held) log)) ∷ []) ∵ rewrite ! 0 (λ (hs : List (Held Entry)). ‵ (keys hs)) (renewed_append vs held log) refl $
+  trade kind false vs held log = qed 𝓛 (‵ (keys (renewed (vs ++ held) log)) ∷ []) ∵ rewrite ! 0 (λ (hs : List (HeldKey Entry)). ‵ (keys hs)) (renewed_append vs held log) refl $ by ! (keys_parted 𝓛 n (renewed vs log) (renewed held log))
+  trade kind true vs held log = let m : ℕ = staying kind in qed 𝓛 (‵ (keys (renewed (vs ++ held) log)) ∷ []) ∵ rewrite ! 0 (λ (hs : List (HeldKey Entry)). ‵ (keys hs)) (renewed_append vs held log) refl $
       use1 𝓛 (‵ (keys (renewed vs log)) ⊛ ‵ (keys (renewed held log))) (keys_parted 𝓛 n (renewed vs log) (renewed held log)) $ split ! $ move ! (1 ∷ []) $
       use1 𝓛 (‵ (keys (take m (renewed held log))) ⊛ ‵ (keys (past m (renewed held log)))) (first_parted 𝓛 n m (renewed held log)) $ split ! $
       -- [those that stay with the holder; the others; those that stood beside the word]
       move ! (0 ∷ 2 ∷ []) $ use2 𝓛 (‵ (keys (take m (renewed held log) ++ renewed vs log))) (keys_joined 𝓛 n (take m (renewed held log)) (renewed vs log)) $
-      rewrite ! 0 (λ (hs : List (Held Entry)). ‵ (keys hs)) (ap (λ (hs : List (Held Entry)). hs ++ renewed vs log) (renewed_take m held log) ∙ sym (renewed_append (take m held) vs log)) refl $ move ! (1 ∷ []) $
-      rewrite ! 0 (λ (hs : List (Held Entry)). ‵ (keys hs)) (renewed_past m held log) refl $ done !
+      rewrite ! 0 (λ (hs : List (HeldKey Entry)). ‵ (keys hs)) (ap (λ (hs : List (HeldKey Entry)). hs ++ renewed vs log) (renewed_take m held log) ∙ sym (renewed_append (take m held) vs log)) refl $ move ! (1 ∷ []) $
+      rewrite ! 0 (λ (hs : List (HeldKey Entry)). ‵ (keys hs)) (renewed_past m held log) refl $ done !
 
-  bears : (held : List (Held Entry)) (births : List (ℕ × ℕ)) (log : List Entry) → ⟦ keys held ⟧ ∗ ⟦ keys (born births log) ⟧ ⊢ ⟦ keys (with_births held births log) ⟧
+  bears : (held : List (HeldKey Entry)) (births : List (ℕ × ℕ)) (log : List Entry) → ⟦ keys held ⟧ ∗ ⟦ keys (born births log) ⟧ ⊢ ⟦ keys (with_births held births log) ⟧
   bears held [] log = qed 𝓛 (‵ (keys held) ∷ ‵ ftrue ∷ []) ∵ keep ! (0 ∷ []) $ done !
   bears held (b ∷ births) log = keys_joined 𝓛 n held (born (b ∷ births) log)
 
-  module _ (births : List (ℕ × ℕ)) (p : ℕ) (seen : List Entry) (held : List (Held Entry)) (alive lives : List ℕ) (r : Share) (f : ℕ → ℕ) (entry : ℕ → List Entry → Entry) (trades : ℕ → Bool) where
+  module _ (births : List (ℕ × ℕ)) (p : ℕ) (seen : List Entry) (held : List (HeldKey Entry)) (alive lives : List ℕ) (r : Share) (f : ℕ → ℕ) (entry : ℕ → List Entry → Entry) (trades : ℕ → Bool) where
     abbrev pub log_then : ℕ → List Entry → List Entry
     log_then v log = log ++ entry v log ∷ []
 
@@ -140,12 +140,12 @@ module _ {M : Type 1} {𝓤 : Ura M} (𝓛 : Logic 𝓤) (site : Site) where
     had_then v t log = (log_then v log, with_births (renewed (held_then (kind_of site.kind) (trades v) t.1 held) (log_then v log)) births (log_then v log))
 
     -- and the keys that stand beside the word's own
-    abbrev pub left_then : ℕ → At → List Entry → List (Held Entry)
+    abbrev pub left_then : ℕ → At → List Entry → List (HeldKey Entry)
     left_then v t log = renewed (beside_then (kind_of site.kind) (trades v) t.1 held) (log_then v log)
 
     -- what is had after a step that found v: the list is `t.0`, and the holder's keys are `t.1`
     abbrev pub heard_with : (ℕ → At → Fml) → ℕ → At → Fml
-    heard_with out v t = fsep (fact (SteppedWith births site p seen t.0 held t.1 alive v (f v) entry trades)) (fsep (pass_holds n p t.0) (fsep (keys t.1) (out v t)))
+    heard_with out v t = fsep (fact (HasSteppedWith births site p seen t.0 held t.1 alive v (f v) entry trades)) (fsep (pass_holds n p t.0) (fsep (keys t.1) (out v t)))
 
     abbrev pub after_with : (ℕ → At → Fml) → ℕ → Fml
     after_with out v = fex At (heard_with out v)
@@ -153,7 +153,7 @@ module _ {M : Type 1} {𝓤 : Ura M} (𝓛 : Logic 𝓤) (site : Site) where
     -- what else is brought is traded in the step, for what may be had of the keys beside the word
     abbrev pub Takes : Pr → (ℕ → At → Fml) → Type 1
     Takes X out =
-        (v : ℕ) (t : At) (log : List Entry) → FoundAs site v p seen held alive t log → SteppedWith births site p seen (log_then v log) held (had_then v t log).1 alive v (f v) entry trades → Stands site (log_then v log) (left_then v t log)
+        (v : ℕ) (t : At) (log : List Entry) → FoundAs site v p seen held alive t log → HasSteppedWith births site p seen (log_then v log) held (had_then v t log).1 alive v (f v) entry trades → Stands site (log_then v log) (left_then v t log)
         → ⟦ pass_holds n p (log_then v log) ⟧ ∗ ⟦ keys (left_then v t log) ⟧ ∗ ⟦ living 𝓛 alive r ⟧ ∗ X ⊢ upd 𝓤 (⟦ pass_holds n p (log_then v log) ⟧ ∗ ⟦ keys (left_then v t log) ⟧ ∗ ⟦ out v (had_then v t log) ⟧)
 
     abbrev tokens : ℕ → At → Fml
@@ -167,8 +167,8 @@ module _ {M : Type 1} {𝓤 : Ura M} (𝓛 : Logic 𝓤) (site : Site) where
     takes_none v t log found stepped stands = let Z : Pr = ⟦ pass_holds n p (log_then v log) ⟧ ∗ ⟦ keys (left_then v t log) ⟧ ∗ ⟦ living 𝓛 alive r ⟧ in
         qed 𝓛 (‵ (pass_holds n p (log_then v log)) ∷ ‵ (keys (left_then v t log)) ∷ ‵ (living 𝓛 alive r) ∷ ‵ ftrue ∷ []) ∵ suffices ! _ (upd_i 𝓤 Z) $ keep ! (0 ∷ 1 ∷ 2 ∷ []) $ done !
 
-    module _ (X : Pr) (out : ℕ → At → Fml) (takes : Takes X out) (distinct : IsDistinct 𝓛 n) (may : MayStepWith births site p seen held alive lives f entry trades) (v : ℕ) (t : At) (so : Shows site v t.0 × Stands site t.0 t.1) where
-      abbrev all : List (Held Entry)
+    module _ (X : Pr) (out : ℕ → At → Fml) (takes : Takes X out) (distinct : IsDistinct 𝓛 n) (may : MayStepWith births site p seen held alive lives f entry trades) (v : ℕ) (t : At) (so : ShowsWord site v t.0 × Stands site t.0 t.1) where
+      abbrev all : List (HeldKey Entry)
       all = in_step site held t
 
       abbrev ev : List Entry → Entry
@@ -200,7 +200,7 @@ module _ {M : Type 1} {𝓤 : Ura M} (𝓛 : Logic 𝓤) (site : Site) where
       abbrev had : List Entry → At
       had log = had_then v t log
 
-      stepped : (log : List Entry) → Made 𝓛 n p seen all ev told log → SteppedWith births site p seen (now log) held (had log).1 alive v (f v) entry trades
+      stepped : (log : List Entry) → Made 𝓛 n p seen all ev told log → HasSteppedWith births site p seen (now log) held (had log).1 alive v (f v) entry trades
       stepped log made = record { log = log; noted = made.0; is_log = made.1; since = t; found = found log made.2 made.3; left = (step log log made.2 made.3).shows; keys = refl }
 
       -- with the word's memory at hand: the event is added, and the word stands for what the list says then
@@ -210,11 +210,11 @@ module _ {M : Type 1} {𝓤 : Ura M} (𝓛 : Logic 𝓤) (site : Site) where
           use3 𝓛 (raw (upd 𝓤 (ex 𝓤 (λ log. guard 𝓤 (Made 𝓛 n p seen all ev told log) (⟦ J ⟧ ∗ ⟦ pass_holds n p (now log) ⟧ ∗ ⟦ keys_after 𝓛 n all ev log ⟧ ∗ ⟦ living 𝓛 alive r ⟧)))))
           (by_pass 𝓛 n p seen all ev told (⟦ over lives ⟧ ∗ ⟦ living 𝓛 alive r ⟧) (λ _. ⟦ living 𝓛 alive r ⟧) distinct within (λ own log before none. ((step own log before none).fair, (step own log before none).its)) tells ends) $
           settle 𝓛 Z (some (λ (log : List Entry). given (Made 𝓛 n p seen all ev told log) (‵ J ⊛ ‵ (pass_holds n p (now log)) ⊛ ‵ (keys_after 𝓛 n all ev log) ⊛ ‵ (living 𝓛 alive r)))) $
-          pick ! (λ log. learn ! (λ made. let is = step log log made.2 made.3 in let log' : List Entry = now log in let left : List (Held Entry) = left_then v t log in
+          pick ! (λ log. learn ! (λ made. let is = step log log made.2 made.3 in let log' : List Entry = now log in let left : List (HeldKey Entry) = left_then v t log in
           split ! $ move ! (1 ∷ []) $ split3 ! $
           -- [the pass; the keys; the tokens; J; the word; what else is brought]
           move ! (1 ∷ []) $ rewrite ! 0 (λ (bs : List (ℕ × ℕ)). ‵ (keys (renewed all log' ++ born bs log'))) is.bears refl $ use1 𝓛 (‵ (keys (renewed all log')) ⊛ ‵ (keys (born births log'))) (keys_parted 𝓛 n (renewed all log') (born births log')) $ split ! $
-          fsplit ! $ move ! (1 ∷ []) $ let then_ : List (Held Entry) = renewed (held_then (kind_of site.kind) (trades v) t.1 held) log' in
+          fsplit ! $ move ! (1 ∷ []) $ let then_ : List (HeldKey Entry) = renewed (held_then (kind_of site.kind) (trades v) t.1 held) log' in
           use1 𝓛 (‵ (keys left) ⊛ ‵ (keys then_)) (trade (kind_of site.kind) (trades v) t.1 held log') $ split ! $
           -- [the keys beside the word; the holder's; the word's own; those that were made; the pass; the tokens; J; the word; what else is brought]
           move ! (4 ∷ 0 ∷ 5 ∷ 8 ∷ []) $ group ! 4 $ use1 𝓛 (raw (upd 𝓤 (⟦ pass_holds n p log' ⟧ ∗ ⟦ keys left ⟧ ∗ ⟦ out v (had log) ⟧))) (takes v t log (found log made.2 made.3) (stepped log made) is.stands) $
@@ -222,10 +222,10 @@ module _ {M : Type 1} {𝓤 : Ura M} (𝓛 : Logic 𝓤) (site : Site) where
           -- [the keys beside the word; the holder's; the word's own; those that were made; the pass; what was taken; J; the word]
           move ! (1 ∷ 3 ∷ []) $ use2 𝓛 (‵ (keys (had log).1)) (bears then_ births log') $ move ! (1 ∷ 0 ∷ []) $
           -- [the keys beside the word; the holder's; the word's own; the pass; what was taken; J; the word]
-          move ! (2 ∷ 0 ∷ []) $ fjoin ! $ nothing ! $ fpack ! (Shows site (f v) log' × Stands site log' left) (λ _. ftrue) (is.shows, is.stands) $ move ! (0 ∷ 1 ∷ []) $ fjoin ! $
+          move ! (2 ∷ 0 ∷ []) $ fjoin ! $ nothing ! $ fpack ! (ShowsWord site (f v) log' × Stands site log' left) (λ _. ftrue) (is.shows, is.stands) $ move ! (0 ∷ 1 ∷ []) $ fjoin ! $
           fpack ! At (word_knows site (f v)) (log', left) $ move ! (5 ∷ 0 ∷ []) $ fjoin ! $ fpack ! ℕ (word_lies site b o) (f v) $ frame ! $
           -- [the holder's keys; the pass; what was taken; J]
-          move ! (3 ∷ []) $ frame ! $ move ! (0 ∷ 2 ∷ []) $ fjoin ! $ move ! (1 ∷ 0 ∷ []) $ fjoin ! $ nothing ! $ fpack ! (SteppedWith births site p seen log' held (had log).1 alive v (f v) entry trades) (λ _. ftrue) (stepped log made) $ move ! (0 ∷ 1 ∷ []) $ fjoin ! $
+          move ! (3 ∷ []) $ frame ! $ move ! (0 ∷ 2 ∷ []) $ fjoin ! $ move ! (1 ∷ 0 ∷ []) $ fjoin ! $ nothing ! $ fpack ! (HasSteppedWith births site p seen log' held (had log).1 alive v (f v) entry trades) (λ _. ftrue) (stepped log made) $ move ! (0 ∷ 1 ∷ []) $ fjoin ! $
           fpack ! At (heard_with out v) (had log) $ keep ! (0 ∷ []) $ done !))
 
     -- what a holder brings
@@ -252,15 +252,15 @@ module _ {M : Type 1} {𝓤 : Ura M} (𝓛 : Logic 𝓤) (site : Site) where
           nothing ! $ move ! (4 ∷ 5 ∷ 6 ∷ 1 ∷ 2 ∷ 3 ∷ 0 ∷ []) $ by ! (steps_with ⟦ ftrue ⟧ tokens takes_none)
 
   -- a look at the word and the list, which leaves both as they are
-  module _ (p : ℕ) (seen : List Entry) (held : List (Held Entry)) where
+  module _ (p : ℕ) (seen : List Entry) (held : List (HeldKey Entry)) where
     abbrev pub glimpsed : ℕ → List Entry → Fml
     glimpsed v log = fsep (fact (LooksAt site p seen log held v)) (fsep (pass_holds n p log) (keys held))
 
     abbrev pub after_look : ℕ → Fml
     after_look v = fex (List Entry) (glimpsed v)
 
-    module _ (distinct : IsDistinct 𝓛 n) (v : ℕ) (t : At) (so : Shows site v t.0 × Stands site t.0 t.1) where
-      abbrev its : List (Held Entry)
+    module _ (distinct : IsDistinct 𝓛 n) (v : ℕ) (t : At) (so : ShowsWord site v t.0 × Stands site t.0 t.1) where
+      abbrev its : List (HeldKey Entry)
       its = in_step site held t
 
       its_within : WithKinds kinds held → WithKinds kinds its
@@ -276,7 +276,7 @@ module _ {M : Type 1} {𝓤 : Ura M} (𝓛 : Logic 𝓤) (site : Site) where
           -- [J; the pass; the keys; the word]
           move ! (2 ∷ []) $ fsplit ! $ move ! (1 ∷ []) $ use1 𝓛 (‵ (keys t.1) ⊛ ‵ (keys held)) (keys_parted 𝓛 n t.1 held) $ split ! $
           -- [the keys beside the word; the holder's; the word's own; J; the pass; the word]
-          move ! (2 ∷ 0 ∷ []) $ fjoin ! $ nothing ! $ fpack ! (Shows site v t.0 × Stands site t.0 t.1) (λ _. ftrue) so $ move ! (0 ∷ 1 ∷ []) $ fjoin ! $
+          move ! (2 ∷ 0 ∷ []) $ fjoin ! $ nothing ! $ fpack ! (ShowsWord site v t.0 × Stands site t.0 t.1) (λ _. ftrue) so $ move ! (0 ∷ 1 ∷ []) $ fjoin ! $
           fpack ! At (word_knows site v) t $ move ! (4 ∷ 0 ∷ []) $ fjoin ! $ fpack ! ℕ (word_lies site b o) v $ frame ! $
           -- [the holder's keys; J; the pass]
           move ! (1 ∷ []) $ frame ! $ move ! (1 ∷ 0 ∷ []) $ fjoin ! $ nothing ! $ fpack ! (LooksAt site p seen log held v) (λ _. ftrue) (looks log before) $ move ! (0 ∷ 1 ∷ []) $ fjoin ! $

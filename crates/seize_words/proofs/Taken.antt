@@ -1,17 +1,18 @@
 -- What is known after a slot was made by a step on the total.
-use Rattle.std.proofs.Common.{◌≡◌, ℕ, suc, true, false, List, [], ◌∷◌, ◌++◌, length, refl, sym, ◌∙◌, ap, subst}
+use Rattle.std.proofs.Common.{◌≡◌, ◌==◌, arith, ℕ, suc, true, false, List, [], ◌∷◌, ◌++◌, length, refl, sym, ◌∙◌, ap, subst}
 use base.Stored.{gnil}
 use Rattle.seize_machine.specs.Machine.State.{State, Inactive, head_at, slot_at}
 use Rattle.seize_machine.specs.Machine.Event.{Take}
 use Rattle.seize_machine.specs.Machine.Next.{first_free}
+use Rattle.seize_machine.specs.declared.machine.event.Answer.{Answer}
 use Rattle.seize_words.specs.Atomic.{TakesWith, entries, plus}
-use Rattle.seize_book.specs.Book.{after, heads, numbers, of_slot, slots}
+use Rattle.seize_book.specs.Book.{Kept, TheSlot, acts, after, by_slot, heads, numbers, of_slot, slots}
 use Rattle.seize_book.specs.Entry.{Entry, Made}
-use Rattle.seize_book.specs.Ledger.{Held}
+use Rattle.seize_book.specs.Ledger.{HeldKey}
 use Rattle.seize_book.specs.Others.{state_of}
-use Rattle.seize_book.specs.Passes.{IsSame}
+use Rattle.seize_book.specs.Passes.{IsSamePass}
 use Rattle.seize_book.specs.Private.{is_one, key_of, label_of, note_of, own_of}
-use Rattle.seize_words.specs.Stepping.{FoundAs, MayStepWith, SteppedWith}
+use Rattle.seize_words.specs.Stepping.{FoundAs, HasSteppedWith, MayStepWith}
 use Rattle.seize_book.specs.Tokens.{Name, Noted, start}
 use Rattle.seize_book.specs.Tables.{IsPlaced}
 use Rattle.seize_words.specs.Totals.{MayMake, made_of}
@@ -21,9 +22,10 @@ use Rattle.seize_book.specs.declared.book.numbers_key.NumbersKey.{NumbersKey}
 use Rattle.seize_book.specs.declared.book.pass.Pass.{Pass}
 use Rattle.seize_book.specs.declared.book.slot_key.SlotKey.{SlotKey}
 use Rattle.seize_book.proofs.Facts.{reached_after}
-use Rattle.seize_words.proofs.Makes.{MayMakeIt, all_keys, at_total, may_make, new_full, new_head, new_slot, next_head, takes}
+use Rattle.seize_book.proofs.Lists.{selected_in}
+use Rattle.seize_words.proofs.Makes.{MayMakeIt, all_keys, at_total, may_make, new_full, new_head, new_slot, next_head, slot_kept, takes}
 
-own_first : (a b : List (Held Entry)) → is_one numbers a ≡ true → own_of (a ++ b) ≡ own_of a
+own_first : (a b : List (HeldKey Entry)) → is_one numbers a ≡ true → own_of (a ++ b) ≡ own_of a
 own_first [] b one = absurd (cc)
 own_first (x ∷ a) b one = refl
 
@@ -46,17 +48,17 @@ module _ (word : Site) (numbers_ : NumbersKey) (key : SlotKey) (pass : Pass) (bo
   abbrev n : Name
   n = numbers_.keys.name
 
-  abbrev a : List (Held Entry)
+  abbrev a : List (HeldKey Entry)
   a = numbers_.keys.held
 
-  abbrev b : List (Held Entry)
+  abbrev b : List (HeldKey Entry)
   b = key.keys.held
 
   abbrev s : ℕ
   s = made_of numbers_
 
   abbrev event : ℕ → List Entry → Entry
-  event v log = Made (takes pass.id pass.name.size s)
+  event v log = Made (takes pass.id pass.size s)
 
   its : MayMakeIt n a b
   its = record { one = numbers_.one; zero_is = numbers_.zero; slot = key.one; full = may.0.0; few = may.0.1; its = may.1; placed = placed }
@@ -69,15 +71,19 @@ module _ (word : Site) (numbers_ : NumbersKey) (key : SlotKey) (pass : Pass) (bo
 
   pub may_take : MayStepWith (of_slot (suc (length (state_of both).slots))) word pass.id pass.seen both.held [] [] (plus 1) (entries pass 0 (λ v log. Take (length (state_of both).slots))) (λ v. false)
   may_take =
-      subst (λ (t : Site × (List (Held Entry) × ℕ)). MayStepWith (of_slot (suc t.1.1)) t.0 pass.id pass.seen t.1.0 [] [] (plus 1) (entries pass 0 (λ v log. Take t.1.1)) (λ v. false))
-      (λ j. (sym is_word j, (sym joined.1 j, sym many j))) (may_make n a b its pass.id pass.name.size pass.seen)
+      subst (λ (t : Site × (List (HeldKey Entry) × ℕ)). MayStepWith (of_slot (suc t.1.1)) t.0 pass.id pass.seen t.1.0 [] [] (plus 1) (entries pass 0 (λ v log. Take t.1.1)) (λ v. false))
+      (λ j. (sym is_word j, (sym joined.1 j, sym many j))) (may_make n a b its pass.id pass.size pass.seen)
+
+  own_event : (s == s) ≡ true
+  own_event = grind arith
 
   pub record Told (keys' : Keys) (pass' : Pass) : Type 0 where
-    pub same : IsSame pass pass'
+    pub same : IsSamePass pass pass'
     pub name : keys'.name ≡ n
-    pub noted : Noted n pass.id pass.seen pass'.seen (Made (takes pass.id pass.name.size s))
+    pub noted : Noted n pass.id pass.seen pass'.seen (Made (takes pass.id pass.size s))
     pub held : keys'.held ≡ record { kind = numbers; key = key_of a; own = pass'.seen; label = label_of a; note = note_of a } ∷ record { kind = slots; key = key_of b; own = pass'.seen; label = label_of b; note = note_of b }
         ∷ record { kind = slots; key = suc s; own = pass'.seen; label = 0; note = gnil } ∷ record { kind = heads; key = suc s; own = pass'.seen; label = 0; note = gnil } ∷ []
+    pub acts : by_slot (start n) s pass'.seen ≡ by_slot (start n) s (own_of b) ++ (Made (takes pass.id pass.size s), noted.answer) ∷ []
     pub slot : slot_at noted.later s ≡ record { used = true; batch = []; call = Rattle.std.specs.Prelude.None }
     pub head : head_at noted.later s ≡ Inactive
     pub next_head : head_at noted.later (suc s) ≡ Inactive
@@ -86,8 +92,8 @@ module _ (word : Site) (numbers_ : NumbersKey) (key : SlotKey) (pass : Pass) (bo
   module _ (keys' : Keys) (pass' : Pass) (v : ℕ) where
     pub told : TakesWith (of_slot (suc (length (state_of both).slots))) word both pass keys' pass' [] (plus 1) v (entries pass 0 (λ v log. Take (length (state_of both).slots))) (λ v. false) → Told keys' pass'
     told took =
-        let step : SteppedWith (of_slot (suc s)) (at_total n) pass.id pass.seen pass'.seen (a ++ b) keys'.held [] v (plus 1 v) event (λ v. false) =
-        subst (λ (t : Site × (List (Held Entry) × ℕ)). SteppedWith (of_slot (suc t.1.1)) t.0 pass.id pass.seen pass'.seen t.1.0 keys'.held [] v (plus 1 v) (entries pass 0 (λ v log. Take t.1.1)) (λ v. false))
+        let step : HasSteppedWith (of_slot (suc s)) (at_total n) pass.id pass.seen pass'.seen (a ++ b) keys'.held [] v (plus 1 v) event (λ v. false) =
+        subst (λ (t : Site × (List (HeldKey Entry) × ℕ)). HasSteppedWith (of_slot (suc t.1.1)) t.0 pass.id pass.seen pass'.seen t.1.0 keys'.held [] v (plus 1 v) (entries pass 0 (λ v log. Take t.1.1)) (λ v. false))
         (λ j. (is_word j, (joined.1 j, many j))) took.2 in
         let noted = step.noted in
         let found = subst (λ (log : List Entry). FoundAs (at_total n) v pass.id pass.seen (a ++ b) [] step.since log) (sym step.is_log) step.found in
@@ -96,9 +102,15 @@ module _ (word : Site) (numbers_ : NumbersKey) (key : SlotKey) (pass : Pass) (bo
           same = took.0;
           name = took.1 ∙ joined.0;
           noted = noted;
-          held = step.keys ∙ all_keys n a b its pass.id pass.name.size v pass.seen step.since noted.before found pass'.seen;
-          slot = new_slot n a b its pass.id pass.name.size v pass.seen step.since noted.before found (noted.later, noted.answer) noted.does;
-          head = new_head n a b its pass.id pass.name.size v pass.seen step.since noted.before found (noted.later, noted.answer) noted.does reached;
-          next_head = next_head n a b its pass.id pass.name.size v pass.seen step.since noted.before found (noted.later, noted.answer) noted.does reached;
-          full = new_full n a b its pass.id pass.name.size v pass.seen step.since noted.before found (noted.later, noted.answer) noted.does;
+          held = step.keys ∙ all_keys n a b its pass.id pass.size v pass.seen step.since noted.before found pass'.seen;
+          acts =
+              ap (λ (log : List Entry). by_slot (start n) s log) noted.appended
+              ∙ selected_in (λ x. acts s x.0) (start n) noted.before (Made (takes pass.id pass.size s)) (noted.later, noted.answer) noted.does own_event
+              ∙ ap (λ (made : List (Entry × Answer)). made ++ (Made (takes pass.id pass.size s), noted.answer) ∷ [])
+              (sym (subst (λ (k : ℕ). Kept (start n) TheSlot k (own_of b) noted.before) may.1
+              (slot_kept n a b its pass.id pass.size v pass.seen step.since noted.before found)).1.0);
+          slot = new_slot n a b its pass.id pass.size v pass.seen step.since noted.before found (noted.later, noted.answer) noted.does;
+          head = new_head n a b its pass.id pass.size v pass.seen step.since noted.before found (noted.later, noted.answer) noted.does reached;
+          next_head = next_head n a b its pass.id pass.size v pass.seen step.since noted.before found (noted.later, noted.answer) noted.does reached;
+          full = new_full n a b its pass.id pass.size v pass.seen step.since noted.before found (noted.later, noted.answer) noted.does;
         }

@@ -8,15 +8,15 @@ use Rattle.std.specs.List.{Contains}
 use Rattle.std.specs.Prelude.{slice_index_or}
 use mathlib.Core.List.{IsPrefix}
 use base.Growing.{prefix_trans}
-use Rattle.seize_machine.specs.Machine.State.{State, Call, Place, Rest, Slot, are_distinct, has, linked, no_slot, slot_at}
+use Rattle.seize_machine.specs.Machine.State.{State, Call, Place, Rest, Slot, are_distinct, has, linked_values, no_slot, slot_at}
 use Rattle.seize_machine.specs.Machine.Event.{Hand}
 use Rattle.seize_machine.specs.Machine.Next.{are_fresh, next, set_slot}
 use Rattle.seize_machine.specs.declared.machine.event.Answer.{Answer}
 use Rattle.seize_machine.specs.declared.machine.event.Answer.TheVariants.{Handed}
 use Rattle.seize_machine.proofs.Facts.{Stands, Step, next_of, some_is, step_of}
-use Rattle.seize_book.specs.Adding.{private, telling}
+use Rattle.seize_book.specs.Adding.{deed_with_words, private}
 use Rattle.seize_machine.specs.Machine.Laws.{IsHeld, Walks, walk_of}
-use Rattle.seize_book.specs.Blocks.{Plan, block_for, block_of, front_of, no_plan, plans}
+use Rattle.seize_book.specs.Blocks.{Plan, block_for, block_number, front_of, no_plan, plans}
 use Rattle.seize_book.specs.Book.{IsLegalList, after, slots}
 use Rattle.seize_book.specs.Private.{is_one}
 use Rattle.seize_book.specs.declared.book.keys.Keys.{Keys}
@@ -28,8 +28,9 @@ use Rattle.seize_words.specs.Headers.{IsFrontBlock, Passes}
 use Rattle.seize_book.specs.Homes.{IsSound, home_of}
 use Rattle.seize_book.specs.Homesteads.{HasNumber, state_seen}
 use Rattle.seize_book.specs.Passes.{LooksOn}
-use Rattle.seize_book.specs.Slots.{IsOf, IsStill, Notes, NotesAs, hands_next, number_of, own_list, size_of, slot_of, start_of}
-use Rattle.seize_book.specs.Tokens.{AllLentIn, IsSole, Name, start}
+use Rattle.seize_book.specs.Slots.{IsKeyOfBook, IsStill, Notes, NotesAs, hands_next, own_list, slot_number, slot_of, start_of}
+use Rattle.seize_book.specs.Loans.{AllCarryOne}
+use Rattle.seize_book.specs.Tokens.{IsSole, Name, start}
 use Rattle.seize_words.specs.Walks.{IsAtBatch, Knows, word_for}
 use Rattle.seize_book.specs.declared.book.pass.Pass.{Pass}
 use Rattle.seize_book.specs.declared.book.slot_key.SlotKey.{SlotKey}
@@ -47,7 +48,7 @@ same_key key key' still = subst (λ (k : Keys). (one : is_one slots k.held ≡ t
 
 -- what the first field showed to a key that knew the same
 pub front_shown : (key key' : SlotKey) → IsStill key key' → (f front : ℕ) → ((w : Passes first_field f key') → IsFrontBlock key' w.batch front) → (word : ℕ) (at : IsAtBatch key word)
-    → f ≡ first_field (home_of (served (plans (start_of key) (own_list key)) at.batch (number_of key))) → IsFrontBlock key at.batch front
+    → f ≡ first_field (home_of (served (plans (start_of key) (own_list key)) at.batch (slot_number key))) → IsFrontBlock key at.batch front
 front_shown key key' still f front shows word at its =
     subst (λ (k : SlotKey). (w : Passes first_field f k) → IsFrontBlock k w.batch front) (same_key key key' still) shows
     (record { batch = at.batch; walk = at.walk; queue = at.queue; walking = at.walking; its = its })
@@ -55,13 +56,13 @@ front_shown key key' still f front shows word at its =
 -- two looks are one
 pub looks_twice : (a b c : Pass) → LooksOn a b → LooksOn b c → LooksOn a c
 looks_twice a b c one two = record {
-  same = (two.same.0 ∙ one.same.0, two.same.1 ∙ one.same.1);
+  same = (two.same.0 ∙ one.same.0, two.same.1 ∙ one.same.1, two.same.2 ∙ one.same.2);
   none_made = two.none_made ∙ one.none_made;
   grows = prefix_trans a.seen b.seen c.seen one.grows two.grows;
-  alone = λ s. two.alone (subst (λ (t : Name × ℕ). IsSole t.0.gate t.1) (λ j. (sym one.same.0 j, sym one.same.1 j)) s) ∙ one.alone s;
+  alone = λ s. two.alone (subst IsSole (sym one.same.1) s) ∙ one.alone s;
   legal = subst (λ (n : Name). IsLegalList (start n) c.seen) one.same.0 two.legal;
   sound = subst (λ (n : Name). IsSound (after (start n) c.seen)) one.same.0 two.sound;
-  lent = subst (λ (n : Name). AllLentIn n (after (start n) c.seen).named) one.same.0 two.lent;
+  lent = subst (λ (n : Name). AllCarryOne (after (start n) c.seen).named) one.same.0 two.lent;
   distinct = one.distinct;
 }
 
@@ -74,10 +75,10 @@ pub knows_still : (key : SlotKey) (pass pass' : Pass) → Knows key pass → Loo
 knows_still key pass pass' knows looks = record {
   seen = prefix_trans (own_list key) pass.seen pass'.seen knows.seen looks.grows;
   legal = subst (λ (n : Name). IsLegalList (start n) pass'.seen) (sym looks.same.0) looks.legal;
-  distinct = subst (λ (n : Name). are_distinct (linked n.links) ≡ true) (sym looks.same.0) looks.distinct;
+  distinct = subst (λ (n : Name). are_distinct (linked_values n.links) ≡ true) (sym looks.same.0) looks.distinct;
 }
 
-module _ (key : SlotKey) (pass : Pass) (book : IsOf key pass) (knows : Knows key pass) where
+module _ (key : SlotKey) (pass : Pass) (book : IsKeyOfBook key pass) (knows : Knows key pass) where
   abbrev st : State
   st = start_of key
 
@@ -87,8 +88,8 @@ module _ (key : SlotKey) (pass : Pass) (book : IsOf key pass) (knows : Knows key
   legal : IsLegalList st pass.seen
   legal = subst (λ (n : Name). IsLegalList (start n) pass.seen) (sym book) knows.legal
 
-  distinct : are_distinct (linked key.keys.name.links) ≡ true
-  distinct = subst (λ (n : Name). are_distinct (linked n.links) ≡ true) (sym book) knows.distinct
+  distinct : are_distinct (linked_values key.keys.name.links) ≡ true
+  distinct = subst (λ (n : Name). are_distinct (linked_values n.links) ≡ true) (sym book) knows.distinct
 
   its_own : IsLegalList st own
   its_own = legal_prefix st own pass.seen knows.seen legal
@@ -100,22 +101,22 @@ module _ (key : SlotKey) (pass : Pass) (book : IsOf key pass) (knows : Knows key
   pub handing_named : (v : ℕ) → hands_next (slot_of key) ≡ Some v → has v (state_seen pass).named ≡ true
   handing_named v soon =
       subst (λ (n : Name). has v (after (start n) pass.seen).named ≡ true) book
-      (named_later st own pass.seen v knows.seen legal (soon_named key.keys.name own (number_of key) v distinct its_own soon))
+      (named_later st own pass.seen v knows.seen legal (soon_named key.keys.name own (slot_number key) v distinct its_own soon))
 
   -- so was the first value of a batch that is held
   pub first_named : (b v : ℕ) → IsHeld (after st own) b → front_of st own b ≡ Some v → has v (state_seen pass).named ≡ true
   first_named b v held front = living_named v (held_living key.keys.name own distinct its_own b v held (first_contained (values_of st own b) v front))
 
   -- a batch that the slot's call walks
-  module _ (b : ℕ) (walks : Walks (after st own) (number_of key) b) where
+  module _ (b : ℕ) (walks : Walks (after st own) (slot_number key) b) where
     abbrev pub its_value : ℕ
-    its_value = served (plans st own) b (number_of key)
+    its_value = served (plans st own) b (slot_number key)
 
     pub value_named : has its_value (state_seen pass).named ≡ true
-    value_named = living_named its_value (walked_living key.keys.name own distinct its_own b (number_of key) walks)
+    value_named = living_named its_value (walked_living key.keys.name own distinct its_own b (slot_number key) walks)
 
     pub front_named : (v : ℕ) → front_of st own b ≡ Some v → has v (state_seen pass).named ≡ true
-    front_named v front = living_named v (front_living key.keys.name own distinct its_own b v (number_of key) walks front)
+    front_named v front = living_named v (front_living key.keys.name own distinct its_own b v (slot_number key) walks front)
 
     -- it was detached
     pub walked_there : b < length (plans st own)
@@ -126,25 +127,25 @@ module _ (key : SlotKey) (pass : Pass) (book : IsOf key pass) (knows : Knows key
         none (p ∷ ps) zero le = absurd (omega (arith, le))
         none (p ∷ ps) (suc k) le = none ps k (omega (arith, le))
 
-        serves : Contains (slots_in (plans st own) b) (number_of key)
-        serves = walks_marked (after st own) (plans st own) (number_of key) b (marked_after key.keys.name own distinct its_own) walks
+        serves : Contains (slots_in (plans st own) b) (slot_number key)
+        serves = walks_marked (after st own) (plans st own) (slot_number key) b (marked_after key.keys.name own distinct its_own) walks
 
         go : (b < length (plans st own)) ⊎ (length (plans st own) ≤ b) → b < length (plans st own)
         go (inl below) = below
-        go (inr past) = absurd (let there : Contains [] (number_of key) = subst (λ (p : Plan). Contains p.slots (number_of key)) (none (plans st own) b past) serves in let within : there.0 < 0 = there.1 in omega (arith, within))
+        go (inr past) = absurd (let there : Contains [] (slot_number key) = subst (λ (p : Plan). Contains p.slots (slot_number key)) (none (plans st own) b past) serves in let within : there.0 < 0 = there.1 in omega (arith, within))
 
 -- the next batch of a walk
-module _ (key : SlotKey) (pass : Pass) (word : ℕ) (book : IsOf key pass) (knows : Knows key pass) (at : IsAtBatch key word) where
-  pub at_walks : Walks (after (start_of key) (own_list key)) (number_of key) at.batch
+module _ (key : SlotKey) (pass : Pass) (word : ℕ) (book : IsKeyOfBook key pass) (knows : Knows key pass) (at : IsAtBatch key word) where
+  pub at_walks : Walks (after (start_of key) (own_list key)) (slot_number key) at.batch
   at_walks = subst (λ (o : Option Call). Contains (walk_of o) at.batch) (sym at.walking) (zero, omega arith, refl)
 
   less : (k : ℕ) → k + 2 - 2 ≡ k
   less k = omega arith
 
-  at_block : block_of (its_value key pass book knows at.batch at_walks) ≡ word - 2
+  at_block : block_number (its_value key pass book knows at.batch at_walks) ≡ word - 2
   at_block =
-      let leads : word ≡ block_for (start_of key) (own_list key) at.batch (number_of key) + 2 = at.leads in
-      sym (ap (λ (k : ℕ). k - 2) leads ∙ less (block_for (start_of key) (own_list key) at.batch (number_of key)))
+      let leads : word ≡ block_for (start_of key) (own_list key) at.batch (slot_number key) + 2 = at.leads in
+      sym (ap (λ (k : ℕ). k - 2) leads ∙ less (block_for (start_of key) (own_list key) at.batch (slot_number key)))
 
   pub at_number : HasNumber (word - 2) (state_seen pass)
   at_number = (its_value key pass book knows at.batch at_walks, value_named key pass book knows at.batch at_walks, at_block)
@@ -169,17 +170,17 @@ module _ (key : SlotKey) (pass : Pass) (word : ℕ) (book : IsOf key pass) (know
       found.1 is.0 (named_seen pass pass' is.0 looks (front_named key pass book knows at.batch at_walks is.0 is.1)) (sym is.2)
 
   -- the rest of the walk is walked as well
-  pub rest_walks : (b : ℕ) → Contains at.walk b → Walks (after (start_of key) (own_list key)) (number_of key) b
+  pub rest_walks : (b : ℕ) → Contains at.walk b → Walks (after (start_of key) (own_list key)) (slot_number key) b
   rest_walks b there = subst (λ (o : Option Call). Contains (walk_of o) b) (sym at.walking) (suc there.0, omega (arith, there.1), there.2)
 
 -- the word of the rest of a walk is the same by what the key knows later
-pub word_stays : (key key' : SlotKey) (pass : Pass) (batch : ℕ) (walk queue : List ℕ) → IsOf key pass → Knows key pass → (key'.keys.name ≡ key.keys.name) → (number_of key' ≡ number_of key)
-    → IsPrefix (own_list key) (own_list key') → (walks : (b : ℕ) → Contains walk b → Walks (after (start_of key) (own_list key)) (number_of key) b)
+pub word_stays : (key key' : SlotKey) (pass : Pass) (batch : ℕ) (walk queue : List ℕ) → IsKeyOfBook key pass → Knows key pass → (key'.keys.name ≡ key.keys.name) → (slot_number key' ≡ slot_number key)
+    → IsPrefix (own_list key) (own_list key') → (walks : (b : ℕ) → Contains walk b → Walks (after (start_of key) (own_list key)) (slot_number key) b)
     → word_for key walk ≡ word_for key' walk
 word_stays key key' pass batch [] queue book knows name slot grows walks = refl
 word_stays key key' pass batch (b ∷ walk) queue book knows name slot grows walks =
     let there = walked_there key pass book knows b (walks b (zero, omega arith, refl)) in
-    ap (λ (k : ℕ). k + 2) (block_stays (start_of key) (own_list key) (own_list key') b (number_of key) grows there
+    ap (λ (k : ℕ). k + 2) (block_stays (start_of key) (own_list key) (own_list key') b (slot_number key) grows there
     ∙ ap (λ (t : Name × ℕ). block_for (start t.0) (own_list key') b t.1) (λ j. (sym name j, sym slot j)))
 
 -- A walk goes on after events of the slot that leave it as it is: after values were handed that a batch of it gave up.
@@ -191,11 +192,11 @@ knows_noted key key' pass pass' e notes =
     record {
       seen = subst (λ (own : List Entry). IsPrefix own pass'.seen) (sym notes.1.2) ([], append-nil pass'.seen);
       legal = subst (λ (n : Name). IsLegalList (start n) pass'.seen) (sym notes.0.0) noted.legal;
-      distinct = subst (λ (n : Name). are_distinct (linked n.links) ≡ true) (sym notes.0.0) noted.distinct;
+      distinct = subst (λ (n : Name). are_distinct (linked_values n.links) ≡ true) (sym notes.0.0) noted.distinct;
     }
 
 -- the word of the walk is the same
-pub walk_kept : (key key' : SlotKey) (pass pass' : Pass) (e : Deed) (given walk queue : List ℕ) → IsOf key pass → Knows key pass → NotesAs key pass key' pass' e
+pub walk_kept : (key key' : SlotKey) (pass pass' : Pass) (e : Deed) (given walk queue : List ℕ) → IsKeyOfBook key pass → Knows key pass → NotesAs key pass key' pass' e
     → (slot_of key).call ≡ Some (record { place = Rest given walk; queue = queue }) → word_for key walk ≡ word_for key' walk
 walk_kept key key' pass pass' e given walk queue book knows notes stands =
     let noted = notes.2.0 in
@@ -215,20 +216,20 @@ fresh_of : (size : ℕ) (st : State) (s : ℕ) (puts : List ℕ) (d : State × A
 fresh_of size _ _ _ _ (Step.handed s v puts given walk queue stands fresh) = fresh
 
 -- a value that goes to its reclaimer leaves the walk, and those that its reclaimer puts join the queue
-pub hand_leaves : (key key' : SlotKey) (pass pass' : Pass) (puts kepts given walk queue : List ℕ) (v : ℕ) → NotesAs key pass key' pass' (telling pass (Hand (number_of key) puts) kepts)
+pub hand_leaves : (key key' : SlotKey) (pass pass' : Pass) (puts kepts given walk queue : List ℕ) (v : ℕ) → NotesAs key pass key' pass' (deed_with_words pass (Hand (slot_number key) puts) kepts)
     → (slot_of key).call ≡ Some (record { place = Rest (v ∷ given) walk; queue = queue }) → (slot_of key').call ≡ Some (record { place = Rest given walk; queue = queue ++ puts })
 hand_leaves key key' pass pass' puts kepts given walk queue v notes stands =
-    let s = number_of key in let noted = notes.2.0 in let moves = notes.2.1 in let st : State = after (start_of key) noted.before in
+    let s = slot_number key in let noted = notes.2.0 in let moves = notes.2.1 in let st : State = after (start_of key) noted.before in
     let here : Stands st s (Rest (v ∷ given) walk) queue = ap (λ (slot : Slot). slot.call) moves.was ∙ stands in
-    let fresh = fresh_of (size_of key) st s puts (noted.later, noted.answer) (step_of _ _ _ _ moves.legal) in
+    let fresh = fresh_of pass.size st s puts (noted.later, noted.answer) (step_of _ _ _ _ moves.legal) in
     let slot : Slot = record (slot_at st s) { call = Some (record { place = Rest given walk; queue = queue ++ puts }) } in
     let d : State × Answer = (record (set_slot st s slot) { gone = st.gone ++ v ∷ []; named = st.named ++ puts }, Handed v) in
-    let is : next (size_of key) st (Hand s puts) ≡ Some d = next_of (size_of key) st (Hand s puts) d (Step.handed s v puts given walk queue here fresh) in
+    let is : next pass.size st (Hand s puts) ≡ Some d = next_of pass.size st (Hand s puts) d (Step.handed s v puts given walk queue here fresh) in
     ap (λ (z : Slot). z.call)
     (moves.is ∙ ap (λ (x : State × Answer). slot_at x.0 s) (some_is _ _ (sym moves.legal ∙ is)) ∙ get_or-set_same st.slots s slot no_slot (there st s (Rest (v ∷ given) walk) queue here))
 
 -- so the slot's call comes to the next batch once no value is left to hand
-pub batch_next : (key key' : SlotKey) (pass pass' : Pass) (puts walk queue : List ℕ) (v batch word : ℕ) → IsOf key pass → Knows key pass → Notes key pass key' pass' (Hand (number_of key) puts)
+pub batch_next : (key key' : SlotKey) (pass pass' : Pass) (puts walk queue : List ℕ) (v batch word : ℕ) → IsKeyOfBook key pass → Knows key pass → Notes key pass key' pass' (Hand (slot_number key) puts)
     → (slot_of key).call ≡ Some (record { place = Rest (v ∷ []) (batch ∷ walk); queue = queue }) → word ≡ word_for key (batch ∷ walk) → IsAtBatch key' word
 batch_next key key' pass pass' puts walk queue v batch word book knows notes stands leads =
     record {
@@ -236,5 +237,5 @@ batch_next key key' pass pass' puts walk queue v batch word book knows notes sta
       walk = walk;
       queue = queue ++ puts;
       walking = hand_leaves key key' pass pass' puts [] [] (batch ∷ walk) queue v notes stands;
-      leads = leads ∙ walk_kept key key' pass pass' (private pass (Hand (number_of key) puts)) (v ∷ []) (batch ∷ walk) queue book knows notes stands;
+      leads = leads ∙ walk_kept key key' pass pass' (private pass (Hand (slot_number key) puts)) (v ∷ []) (batch ∷ walk) queue book knows notes stands;
     }

@@ -1,28 +1,30 @@
 -- Stores in a field by a slot's holder: they meet what is asked of a step, and this is known afterwards.
 use Rattle.std.proofs.Common.{◌≡◌, ◌≢◌, ℕ, zero, suc, ◌<◌, ◌≤◌, Bool, true, false, ◌==◌, if◌then◌else◌, unwrap_or, List, [], ◌∷◌, ◌++◌, length, Option, Some, refl, sym, ◌∙◌, ap, subst, ◌⊎◌, inl, inr, arith}
 use mathlib.Core.List.{IsPrefix}
-use Rattle.seize_machine.specs.Machine.State.{State, Try, head_at, is_active, linked, are_distinct, slot_at}
+use Rattle.seize_machine.specs.Machine.State.{State, Try, head_at, is_active, linked_values, are_distinct, slot_at}
 use Rattle.seize_machine.specs.Machine.Next.{of_call}
+use Rattle.seize_machine.specs.declared.machine.event.Answer.{Answer}
 use Rattle.seize_machine.specs.declared.machine.event.Answer.TheVariants.{Done}
 use Rattle.seize_machine.proofs.Facts.{Stands}
-use Rattle.seize_words.specs.Atomic.{Takes}
+use Rattle.seize_words.specs.Atomic.{TakesStep}
 use Rattle.seize_book.specs.Blocks.{Plan, plans, serving}
-use Rattle.seize_book.specs.Book.{IsLegalList, Kept, TheSlot, after, fields, rules, slots}
-use Rattle.seize_book.specs.Chains.{IsLed, IsWriting, first_field, next_field, served, told, written, written_at}
+use Rattle.seize_book.specs.Book.{Does, IsLegalList, Kept, TheSlot, acts, after, by_slot, fields, rules, slots}
+use Rattle.seize_book.specs.Chains.{IsLed, IsWriting, first_field, insertion_fields, next_field, served, told, written_at}
 use Rattle.seize_book.specs.Entry.{Entry, Used, Deed, Use}
 use Rattle.seize_book.specs.Fair.{Covers, pass_key}
 use Rattle.seize_words.specs.Headers.{IsStoring, Uses, first_of as first_in, next_of as next_in}
 use Rattle.seize_book.specs.Homes.{home_of}
 use Rattle.seize_book.specs.Laws.{life, life_from}
-use Rattle.seize_book.specs.Ledger.{AllKept, Held}
+use Rattle.seize_book.specs.Ledger.{AllKept, HeldKey}
 use Rattle.seize_book.specs.Private.{Tag, is_one, key_of, tag_of, own_of}
-use Rattle.seize_book.specs.Slots.{IsAfter, IsOf, number_of, own_list, start_of, written_of}
-use Rattle.seize_words.specs.Stepping.{FoundAs, IsStep, MayStep, Stepped, in_step}
+use Rattle.seize_book.specs.Slots.{IsAfter, IsKeyOfBook, own_list, slot_number, start_of, written_of}
+use Rattle.seize_words.specs.Stepping.{FoundAs, HasStepped, IsStep, MayStep, in_step}
 use Rattle.seize_book.specs.Tokens.{Name, start}
 use Rattle.seize_words.specs.Words.{Site}
 use Rattle.seize_book.specs.declared.book.pass.Pass.{Pass}
 use Rattle.seize_book.specs.declared.book.slot_key.SlotKey.{SlotKey}
 use Rattle.seize_book.proofs.Facts.{after_used, deeds_used, reached_after, fields_apart, legal_prefix, plan_stays, plans_long, tried_there, after_one, differ, one_kept, only_is, plans_used, told_other, told_push}
+use Rattle.seize_book.proofs.Lists.{selected_in}
 use Rattle.seize_book.proofs.Lives.{life_kept}
 
 abbrev pub at_field : Name → ℕ → Site
@@ -36,13 +38,13 @@ module _ (n : Name) (f : ℕ) where
   st = start n
 
   abbrev At : Type 0
-  At = List Entry × List (Held Entry)
+  At = List Entry × List (HeldKey Entry)
 
-  abbrev key : ℕ → Tag → List Entry → List (Held Entry)
+  abbrev key : ℕ → Tag → List Entry → List (HeldKey Entry)
   key s x own = record { kind = slots; key = s; own = own; label = x.0; note = x.1 } ∷ []
 
   -- what the word holds was last stored there
-  pub shown : (v p : ℕ) (seen : List Entry) (held : List (Held Entry)) (t : At) (log : List Entry) → FoundAs (at_field n f) v p seen held [] t log → v ≡ told log f
+  pub shown : (v p : ℕ) (seen : List Entry) (held : List (HeldKey Entry)) (t : At) (log : List Entry) → FoundAs (at_field n f) v p seen held [] t log → v ≡ told log f
   shown v p seen held t log found = found.shows ∙ found.before.kept.0.1
 
   -- One use by a slot, with the slot's key.
@@ -93,15 +95,15 @@ module _ (n : Name) (f : ℕ) where
       (v : ℕ) (t : At) (own log : List Entry) → FoundAs (at_field n f) v p seen (key s x slots_own) [] t log → Kept st TheSlot s slots_own log → v ≡ told log f
       → IsStep (at_field n f) p (key s x slots_own) [] (g v) (uses_it p s value) false (t.0, []) own log
 
-  may_step : (p : ℕ) (seen : List Entry) (held : List (Held Entry)) (g : ℕ → ℕ) (value : ℕ) → is_one slots held ≡ true → MayStepAs p (key_of held) (tag_of held) seen (own_of held) g value
+  may_step : (p : ℕ) (seen : List Entry) (held : List (HeldKey Entry)) (g : ℕ → ℕ) (value : ℕ) → is_one slots held ≡ true → MayStepAs p (key_of held) (tag_of held) seen (own_of held) g value
       → MayStep (at_field n f) p seen held [] [] g (λ v log. uses_it p (key_of held) value) (λ v. false)
   unfolding MayStepAs
   may_step p seen held g value one steps =
-      subst (λ (hs : List (Held Entry)). MayStep (at_field n f) p seen hs [] [] g (λ v log. uses_it p (key_of held) value) (λ v. false)) (sym (only_is slots held one)) (
+      subst (λ (hs : List (HeldKey Entry)). MayStep (at_field n f) p seen hs [] [] g (λ v log. uses_it p (key_of held) value) (λ v. false)) (sym (only_is slots held one)) (
         (omega arith, tt),
         (λ v t own log found.
-            let kept = subst (λ (vs : List (Held Entry)). AllKept (rules st) (vs ++ key (key_of held) (tag_of held) (own_of held)) log) found.stands found.before.kept.1 in
-            subst (λ (vs : List (Held Entry)). IsStep (at_field n f) p (key (key_of held) (tag_of held) (own_of held)) [] (g v) (uses_it p (key_of held) value) false (t.0, vs) own log) (sym found.stands)
+            let kept = subst (λ (vs : List (HeldKey Entry)). AllKept (rules st) (vs ++ key (key_of held) (tag_of held) (own_of held)) log) found.stands found.before.kept.1 in
+            subst (λ (vs : List (HeldKey Entry)). IsStep (at_field n f) p (key (key_of held) (tag_of held) (own_of held)) [] (g v) (uses_it p (key_of held) value) false (t.0, vs) own log) (sym found.stands)
             (steps v t own log found kept.0 (shown v p seen (key (key_of held) (tag_of held) (own_of held)) t log found))),
       )
 
@@ -115,7 +117,7 @@ module _ (n : Name) (f : ℕ) where
   itself : (f == f) ≡ true
   itself = grind arith
 
-  module _ (s : ℕ) (own log : List Entry) (distinct : are_distinct (linked n.links) ≡ true) (legal : IsLegalList st log) (kept : Kept st TheSlot s own log) where
+  module _ (s : ℕ) (own log : List Entry) (distinct : are_distinct (linked_values n.links) ≡ true) (legal : IsLegalList st log) (kept : Kept st TheSlot s own log) where
     pub own_legal : IsLegalList st own
     own_legal = legal_prefix st own log kept.0 legal
 
@@ -128,14 +130,14 @@ module _ (n : Name) (f : ℕ) where
         let there = tried_there (after st own) s w.batch w.won w.at w.later w.saw w.queue (reached_after n own distinct own_legal) w.trying in
         (w.its ∙ ap (λ (v : ℕ). which (home_of v)) (served_stays w.batch w.at there), ap (λ slot. slot.call) (sym kept.1.1) ∙ w.trying)
 
-  pub may_store : (p value : ℕ) (seen : List Entry) (held : List (Held Entry)) → is_one slots held ≡ true → IsStoring st (key_of held) (own_of held) next_field f ⊎ IsStoring st (key_of held) (own_of held) first_field f
+  pub may_store : (p value : ℕ) (seen : List Entry) (held : List (HeldKey Entry)) → is_one slots held ≡ true → IsStoring st (key_of held) (own_of held) next_field f ⊎ IsStoring st (key_of held) (own_of held) first_field f
       → MayStep (at_field n f) p seen held [] [] (λ v. value) (λ v log. uses_it p (key_of held) value) (λ v. false)
   unfolding MayStepAs
   may_store p value seen held one stores =
       may_step p seen held (λ v. value) value one (λ v t own log found kept word.
       made p (key_of held) (tag_of held) (own_of held) own t.0 log value value (led log found.distinct found.before.legal kept stores) (its_own value (f == f) (told log f) itself ∙ sym (told_push log (uses_it p (key_of held) value) f)))
     where
-      led : (log : List Entry) → are_distinct (linked n.links) ≡ true → IsLegalList st log → Kept st TheSlot (key_of held) (own_of held) log
+      led : (log : List Entry) → are_distinct (linked_values n.links) ≡ true → IsLegalList st log → Kept st TheSlot (key_of held) (own_of held) log
           → IsStoring st (key_of held) (own_of held) next_field f ⊎ IsStoring st (key_of held) (own_of held) first_field f → IsWriting (after st log) (plans st log) (key_of held) f
       led log distinct legal kept (inl w) =
           let now = writing (key_of held) (own_of held) log distinct legal kept next_field w in
@@ -148,15 +150,15 @@ module _ (n : Name) (f : ℕ) where
 
 -- what is true of one book's slot is true of the other's, which is the same
 module _ (f : ℕ) (key key' : SlotKey) (pass pass' : Pass) (g : ℕ → ℕ) (v value : ℕ)
-    (told_ : Takes (at_field pass.name f) key.keys pass key'.keys pass' [] g v (λ v log. uses_it pass.name f pass.id (number_of key) value) (λ _. false)) (book : IsOf key pass) where
-  abbrev step : Stepped (at_field pass.name f) pass.id pass.seen pass'.seen key.keys.held key'.keys.held [] v (g v) (λ v log. uses_it pass.name f pass.id (number_of key) value) (λ _. false)
+    (told_ : TakesStep (at_field pass.name f) key.keys pass key'.keys pass' [] g v (λ v log. uses_it pass.name f pass.id (slot_number key) value) (λ _. false)) (book : IsKeyOfBook key pass) where
+  abbrev step : HasStepped (at_field pass.name f) pass.id pass.seen pass'.seen key.keys.held key'.keys.held [] v (g v) (λ v log. uses_it pass.name f pass.id (slot_number key) value) (λ _. false)
   step = told_.2
 
   abbrev n : Name
   n = pass.name
 
   abbrev s : ℕ
-  s = number_of key
+  s = slot_number key
 
   abbrev own : List Entry
   own = own_list key
@@ -174,9 +176,9 @@ module _ (f : ℕ) (key key' : SlotKey) (pass pass' : Pass) (g : ℕ → ℕ) (v
   is_seen = step.noted.appended ∙ ap (λ (l : List Entry). l ++ e ∷ []) step.is_log
 
   kept : Kept (start n) TheSlot s own log
-  kept = one_kept (start n) key.keys.held log key.one (subst (λ (vs : List (Held Entry)). AllKept (rules (start n)) (vs ++ key.keys.held) log) step.found.stands step.found.before.kept.1)
+  kept = one_kept (start n) key.keys.held log key.one (subst (λ (vs : List (HeldKey Entry)). AllKept (rules (start n)) (vs ++ key.keys.held) log) step.found.stands step.found.before.kept.1)
 
-  distinct : are_distinct (linked n.links) ≡ true
+  distinct : are_distinct (linked_values n.links) ≡ true
   distinct = step.found.distinct
 
   legal : IsLegalList (start n) log
@@ -186,13 +188,16 @@ module _ (f : ℕ) (key key' : SlotKey) (pass pass' : Pass) (g : ℕ → ℕ) (v
   seen_by = let one = after_one slots key.keys.held pass'.seen key.one in (told_.1, ap key_of step.keys ∙ one.0, ap own_of step.keys ∙ one.1)
 
   -- where the key's list leads now
-  key_now : {X : Type 0} (h : State → ℕ → X) → h (after (start_of key') (own_list key')) (number_of key') ≡ h now s
+  key_now : {X : Type 0} (h : State → ℕ → X) → h (after (start_of key') (own_list key')) (slot_number key') ≡ h now s
   key_now h =
       ap (λ (t : Name × (List Entry × ℕ)). h (after (start t.0) t.1.0) t.1.1) (λ i. ((seen_by.0 ∙ book) i, ((seen_by.2 ∙ is_seen) i, seen_by.1 i)))
       ∙ ap (λ (st : State). h st s) (after_used (start n) log (record { pass = pass.id; slot = s; field = f; value = value }))
 
   in_book : {X : Type 0} (h : State → X) → h (after (start n) own) ≡ h (after (start_of key) own)
   in_book h = ap (λ (m : Name). h (after (start m) own)) (sym book)
+
+  own_use : (s == s) ≡ true
+  own_use = grind arith
 
   pub used : Uses key pass key' pass' f value
   used = record {
@@ -202,6 +207,11 @@ module _ (f : ℕ) (key key' : SlotKey) (pass pass' : Pass) (g : ℕ → ℕ) (v
     knew = subst (IsPrefix own) (sym step.is_log) kept.0;
     slot = key_now slot_at ∙ sym kept.1.1 ∙ in_book (λ st. slot_at st s);
     active = key_now (λ st k. is_active (head_at st k)) ∙ sym kept.1.2 ∙ in_book (λ st. is_active (head_at st s));
+    acts =
+        ap (λ (t : Name × (ℕ × List Entry)). by_slot (start t.0) t.1.0 t.1.1) (λ i. ((seen_by.0 ∙ book) i, (seen_by.1 i, (seen_by.2 ∙ is_seen) i)))
+        ∙ selected_in (λ a. acts s a.0) (start n) log e (step.noted.later, step.noted.answer)
+        (subst (λ (l : List Entry). Does (start n) l e (step.noted.later, step.noted.answer)) step.is_log step.noted.does) own_use
+        ∙ ap (λ (made : List (Entry × Answer)). made ++ (e, step.noted.answer) ∷ []) (sym kept.1.0 ∙ ap (λ (m : Name). by_slot (start m) s own) (sym book));
     life =
         ap (λ (t : ℕ × List Entry). life t.0 t.1) (λ i. (seen_by.1 i, (seen_by.2 ∙ is_seen) i))
         ∙ ap (λ (ds : List Deed). life_from 0 s ds) (deeds_used log (record { pass = pass.id; slot = s; field = f; value = value }))
@@ -218,15 +228,15 @@ module _ (f : ℕ) (key key' : SlotKey) (pass pass' : Pass) (g : ℕ → ℕ) (v
 
   written_now : (b won m : ℕ) (later saw queue : List ℕ) → Stands now s (Try b won m later saw) queue → written_of key' ≡ Some (told' (next_field (home b m)), told' (first_field (home b m)))
   written_now b won m later saw queue stands =
-      ap (λ (t : Name × (List Entry × ℕ)). written (after (start t.0) t.1.0) (plans (start t.0) t.1.0) (told t.1.0) t.1.1) (λ i. ((seen_by.0 ∙ book) i, ((seen_by.2 ∙ is_seen) i, seen_by.1 i)))
-      ∙ (λ i. written (after_used (start n) log (record { pass = pass.id; slot = s; field = f; value = value }) i) (plans_used (start n) log (record { pass = pass.id; slot = s; field = f; value = value }) i) told' s)
+      ap (λ (t : Name × (List Entry × ℕ)). insertion_fields (after (start t.0) t.1.0) (plans (start t.0) t.1.0) (told t.1.0) t.1.1) (λ i. ((seen_by.0 ∙ book) i, ((seen_by.2 ∙ is_seen) i, seen_by.1 i)))
+      ∙ (λ i. insertion_fields (after_used (start n) log (record { pass = pass.id; slot = s; field = f; value = value }) i) (plans_used (start n) log (record { pass = pass.id; slot = s; field = f; value = value }) i) told' s)
       ∙ ap (of_call (written_at (plans (start n) log) told')) stands
 
   -- the two of them before
   written_before : (b won m : ℕ) (later saw queue : List ℕ) → Stands now s (Try b won m later saw) queue → Some (told log (next_field (home b m)), told log (first_field (home b m))) ≡ written_of key
   written_before b won m later saw queue stands =
       sym (ap (of_call (written_at (plans (start n) log) (told log))) stands) ∙ sym kept.1.3
-      ∙ ap (λ (z : Name). written (after (start z) own) (plans (start z) own) (told own) s) (sym book)
+      ∙ ap (λ (z : Name). insertion_fields (after (start z) own) (plans (start z) own) (told own) s) (sym book)
 
   others : (j : ℕ) → j ≢ f → told' j ≡ told log j
   others j other = told_other log (record { pass = pass.id; slot = s; field = f; value = value }) j other

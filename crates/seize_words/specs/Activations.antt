@@ -4,7 +4,7 @@
 --     IsLasting a pass         it has not ended in what the pass has seen
 --     Renewed a a' lives next  its lifetime is over, and it is another one of the same slot, with the next
 use Rattle.std.specs.Prelude.{◌≡◌, ℕ, List, [], ◌∷◌}
-use Rattle.seize_book.specs.Laws.{IsIn, ended}
+use Rattle.seize_book.specs.Laws.{IsAmong, ended}
 use Rattle.seize_book.specs.Private.{key_of, own_of}
 use Rattle.seize_words.specs.declared.activation.Activation.{Activation}
 use Rattle.seize_book.specs.declared.book.keys.Keys.{Keys}
@@ -17,7 +17,7 @@ abbrev pub Begun : Activation → Keys → Activation → Type 0
 Begun a keys a' = (a'.name ≡ a.name) × (a'.slot ≡ a.slot) × (a'.life ≡ a.life) × (a'.since ≡ own_of keys.held)
 
 abbrev pub IsLasting : Activation → Pass → Type 0
-IsLasting a pass = ¬ (IsIn (ended pass.seen) a.life)
+IsLasting a pass = ¬ (IsAmong (ended pass.seen) a.life)
 
 abbrev pub Renewed : Activation → Activation → List ℕ → ℕ → Type 0
 Renewed a a' lives next = (a'.name ≡ a.name) × (a'.slot ≡ a.slot) × (lives ≡ a.life ∷ []) × (next ≡ a'.life)

@@ -2,13 +2,13 @@
 --     exchanged seen new v          what a compare and exchange leaves that found v
 --     plus k v, minus k v           what an addition or a subtraction of k leaves that found v, round 2^64
 --     entries pass life event v log     the entry of an event by a step that found v in the word, where the list was this just before
---     MayTake word keys pass alive lives f entry trades     the holder of the keys may take the step with the pass: see MayStep
---     Takes word keys pass keys' pass' alive f v entry trades     the step was taken and found v: see Stepped
+--     MayTakeStep word keys pass alive lives f entry trades     the holder of the keys may take the step with the pass: see MayStep
+--     TakesStep word keys pass keys' pass' alive f v entry trades     the step was taken and found v: see HasStepped
 --     MayTakeIn, TakesIn            the same where the activation has not ended
 --     MayTakeWith, TakesWith        the same where the step makes keys
 --     FindsFor                      where a step on a link doesn't trade, who makes it finds what the link holds then, in this activation
 --     MaySeeIn, SeesIn              it takes a share of what is lent with that, in the same step
---     MayLook word keys pass        they are of one book;  Looks word keys pass keys' pass' v     see LooksAt
+--     MayLookAtWord word keys pass     they are of one book;  LooksAtWord word keys pass keys' pass' v     see LooksAt
 --     site_of keys, IsWordOf keys bits     which word the keys are of;  a word that holds this stands for what they know
 use Rattle.std.specs.Prelude.{◌≡◌, ℕ, ◌+◌, ◌-◌, ◌%◌, ◌^◌, Bool, false, List, [], ◌∷◌, ◌++◌, drop, Some}
 use lib.Dec.{eqb}
@@ -19,12 +19,12 @@ use Rattle.seize_book.specs.Entry.{Entry, Made, Deed}
 use Rattle.seize_book.specs.Book.{after, kinds, links}
 use Rattle.seize_words.specs.Glimpses.{shown}
 use Rattle.seize_book.specs.Laws.{Reader}
-use Rattle.seize_book.specs.Ledger.{Held, WithKinds}
+use Rattle.seize_book.specs.Ledger.{HeldKey, WithKinds}
 use Rattle.seize_book.specs.Private.{key_of, own_of}
-use Rattle.seize_book.specs.Passes.{IsSame}
-use Rattle.seize_words.specs.Stepping.{At, Births, FoundAs, LooksAt, MayStepWith, SteppedWith}
+use Rattle.seize_book.specs.Passes.{IsSamePass}
+use Rattle.seize_words.specs.Stepping.{At, Births, FoundAs, HasSteppedWith, LooksAt, MayStepWith}
 use Rattle.seize_book.specs.Tokens.{start}
-use Rattle.seize_words.specs.Words.{Site, Shows, Stands, site_keys}
+use Rattle.seize_words.specs.Words.{Site, ShowsWord, Stands, site_keys}
 use Rattle.seize_words.specs.declared.activation.Activation.{Activation}
 use Rattle.seize_book.specs.declared.book.keys.Keys.{Keys}
 use Rattle.seize_book.specs.declared.book.pass.Pass.{Pass}
@@ -47,7 +47,7 @@ abbrev pub Entries : Type 0
 Entries = ℕ → List Entry → Entry
 
 abbrev pub deed : Pass → ℕ → Events → ℕ → List Entry → Deed
-deed pass life event v log = record { pass = pass.id; size = pass.name.size; event = event v log; life = life; kepts = [] }
+deed pass life event v log = record { pass = pass.id; size = pass.size; event = event v log; life = life; kepts = [] }
 
 abbrev pub entries : Pass → ℕ → Events → ℕ → List Entry → Entry
 entries pass life event v log = Made (deed pass life event v log)
@@ -59,26 +59,27 @@ MayTakeWith births word keys pass alive lives f entry trades =
 
 abbrev pub TakesWith : Births → Site → Keys → Pass → Keys → Pass → List ℕ → (ℕ → ℕ) → ℕ → Entries → (ℕ → Bool) → Type 0
 TakesWith births word keys pass keys' pass' alive f v entry trades =
-    IsSame pass pass' × (keys'.name ≡ keys.name)
-    × SteppedWith births word pass.id pass.seen pass'.seen keys.held keys'.held alive v (f v) entry trades
+    IsSamePass pass pass' × (keys'.name ≡ keys.name)
+    × HasSteppedWith births word pass.id pass.seen pass'.seen keys.held keys'.held alive v (f v) entry trades
 
-abbrev pub MayTake : Site → Keys → Pass → List ℕ → List ℕ → (ℕ → ℕ) → Entries → (ℕ → Bool) → Type 0
-MayTake = MayTakeWith []
+abbrev pub MayTakeStep : Site → Keys → Pass → List ℕ → List ℕ → (ℕ → ℕ) → Entries → (ℕ → Bool) → Type 0
+MayTakeStep = MayTakeWith []
 
-abbrev pub Takes : Site → Keys → Pass → Keys → Pass → List ℕ → (ℕ → ℕ) → ℕ → Entries → (ℕ → Bool) → Type 0
-Takes = TakesWith []
+abbrev pub TakesStep : Site → Keys → Pass → Keys → Pass → List ℕ → (ℕ → ℕ) → ℕ → Entries → (ℕ → Bool) → Type 0
+TakesStep = TakesWith []
 
 -- the same where the activation has not ended
 
 abbrev pub MayTakeIn : Site → Keys → Pass → Activation → (ℕ → ℕ) → Entries → (ℕ → Bool) → Type 0
-MayTakeIn word keys pass activation f entry trades = MayTake word keys pass (activation.life ∷ []) [] f entry trades
+MayTakeIn word keys pass activation f entry trades = MayTakeStep word keys pass (activation.life ∷ []) [] f entry trades
 
 abbrev pub TakesIn : Site → Keys → Pass → Keys → Pass → Activation → (ℕ → ℕ) → ℕ → Entries → (ℕ → Bool) → Type 0
-TakesIn word keys pass keys' pass' activation f v entry trades = Takes word keys pass keys' pass' (activation.life ∷ []) f v entry trades
+TakesIn word keys pass keys' pass' activation f v entry trades =
+    TakesStep word keys pass keys' pass' (activation.life ∷ []) f v entry trades
 
 -- the same on a link, with a share of what is lent with what the link holds
 
-abbrev pub FindsFor : Site → Pass → List (Held Entry) → ℕ → Entries → (ℕ → Bool) → Type 0
+abbrev pub FindsFor : Site → Pass → List (HeldKey Entry) → ℕ → Entries → (ℕ → Bool) → Type 0
 FindsFor word pass held life entry trades =
     (v : ℕ) (t : At) (log : List Entry) → FoundAs word v pass.id pass.seen held (life ∷ []) t log → trades v ≡ false
     → (w : ℕ) → link_at (after (start word.name) (log ++ entry v log ∷ [])) word.number ≡ Some w
@@ -95,17 +96,17 @@ SeesIn word keys pass keys' pass' activation f found entry trades =
 
 -- a look, which adds nothing
 
-abbrev pub MayLook : Site → Keys → Pass → Type 0
-MayLook word keys pass = (word.name ≡ pass.name) × (keys.name ≡ pass.name) × WithKinds kinds keys.held
+abbrev pub MayLookAtWord : Site → Keys → Pass → Type 0
+MayLookAtWord word keys pass = (word.name ≡ pass.name) × (keys.name ≡ pass.name) × WithKinds kinds keys.held
 
-abbrev pub Looks : Site → Keys → Pass → Keys → Pass → ℕ → Type 0
-Looks word keys pass keys' pass' v =
-    IsSame pass pass' × (keys' ≡ keys)
+abbrev pub LooksAtWord : Site → Keys → Pass → Keys → Pass → ℕ → Type 0
+LooksAtWord word keys pass keys' pass' v =
+    IsSamePass pass pass' × (keys' ≡ keys)
     × LooksAt word pass.id pass.seen pass'.seen keys.held v
 
 -- The word that some keys are of: the first is its own, and the others stand beside it.
 
-abbrev pub first_kind : List (Held Entry) → ℕ
+abbrev pub first_kind : List (HeldKey Entry) → ℕ
 first_kind [] = 0
 first_kind (h ∷ held) = h.kind
 
@@ -115,4 +116,4 @@ site_of keys = record { name = keys.name; kind = first_kind keys.held; number = 
 abbrev pub IsWordOf : Keys → ℕ → Type 0
 IsWordOf keys bits =
     (keys.held ≡ site_keys (site_of keys) (own_of keys.held) (drop 1 keys.held))
-    × Shows (site_of keys) bits (own_of keys.held) × Stands (site_of keys) (own_of keys.held) (drop 1 keys.held)
+    × ShowsWord (site_of keys) bits (own_of keys.held) × Stands (site_of keys) (own_of keys.held) (drop 1 keys.held)

@@ -5,7 +5,7 @@
 use Rattle.std.specs.Prelude.{◌≡◌, ℕ}
 use Rattle.seize_book.specs.Bare.{bare_book}
 use Rattle.seize_words.specs.Counts.{home}
-use Rattle.seize_words.specs.Headers.{number}
+use Rattle.seize_words.specs.Headers.{field_number}
 use Rattle.seize_words.specs.declared.batch.Count.{Count}
 use Rattle.seize_book.specs.declared.book.bare_key.BareKey.{BareKey}
 use Rattle.seize_book.specs.declared.book.token.Book.{Book}
@@ -15,7 +15,7 @@ abbrev pub HasCount : Book → Count → Type 0
 HasCount book count = count.word.name ≡ book.name
 
 abbrev pub HasField : (ℕ → ℕ) → Book → Count → Field → Type 0
-HasField which book count field = (field.word.name ≡ book.name) × (number field ≡ which (home count))
+HasField which book count field = (field.word.name ≡ book.name) × (field_number field ≡ which (home count))
 
 abbrev pub HasKey : Book → BareKey → Type 0
 HasKey book key = bare_book key ≡ book.name

@@ -1,7 +1,7 @@
 -- The words in which the contracts of blocks in a store speak.
 --     header_book header, header_home header     the book whose words the header has, and the home of the values in its block
 --     header_cell header                the name of the cell in which the holder of the key of these values makes notes
---     book_in blocks                    the book whose blocks these are
+--     blocks_book blocks                the book whose blocks these are
 --     LiesIn key block                  the key is that of the values of this block;  LayIn key hollow     of the block whose value was
 --                                       taken out of this chunk
 --     IsPartOf key part                 it has the label of the chunk of the key's block
@@ -23,18 +23,18 @@
 use Rattle.std.specs.Prelude.{◌≡◌, ℕ, ◌+◌, ◌<◌, ◌^◌, List, Option, Some, false, true}
 use base.Stored.{Gv}
 use Rattle.seize_machine.specs.Machine.State.{has}
-use Rattle.seize_store.specs.Named.{AreOf, bare_content, bare_label, bare_number, bare_store, bare_value, hollow_content, hollow_label, hollow_number, hollow_store}
+use Rattle.seize_store.specs.Named.{AreOfStore, bare_content, bare_label, bare_number, bare_store, bare_value, hollow_content, hollow_label, hollow_number, hollow_store}
 use Rattle.seize_store.specs.declared.bare.Bare.{Bare}
 use Rattle.seize_store.specs.declared.hollow.Hollow.{Hollow}
 use Rattle.seize_store.specs.declared.spot.Spots.{Spots}
 use Rattle.seize_book.specs.Bare.{bare_cell, bare_home}
-use Rattle.seize_book.specs.Blocks.{block_of}
+use Rattle.seize_book.specs.Blocks.{block_number}
 use Rattle.seize_book.specs.Books.{IsNextAfter, IsNextIn}
 use Rattle.seize_words.specs.Counts.{home}
 use Rattle.seize_book.specs.Homes.{home_of}
 use Rattle.seize_book.specs.Homesteads.{state_seen}
 use Rattle.seize_book.specs.Lending.{IsFreeKey}
-use Rattle.seize_book.specs.Loans.{CarriesNone, cell_of, loan_number, loan_of, place_of}
+use Rattle.seize_book.specs.Loans.{CarriesOne, cell_of, loan_number, loan_of, place_of}
 use Rattle.seize_book.specs.Notes.{cell_in}
 use Rattle.seize_book.specs.Others.{book_of, value_of}
 use Rattle.seize_book.specs.Tokens.{Name, chunk_label}
@@ -54,8 +54,8 @@ header_home header = home header.count
 abbrev pub header_cell : Header → ℕ
 header_cell header = header.note.name
 
-abbrev pub book_in : {T : Type 0} → Blocks T → Name
-book_in blocks = blocks.book.name
+abbrev pub blocks_book : {T : Type 0} → Blocks T → Name
+blocks_book blocks = blocks.book.name
 
 abbrev pub LiesIn : {H P T : Type 0} → ValueKey → Bare H P T → Type 0
 LiesIn key block = chunk_label (book_of key) (home_of (value_of key)) (cell_in key) ≡ bare_label block
@@ -71,8 +71,8 @@ IsPartOf key part =
 pub record IsBlockAs {T : Type 0} (Is : ValueKey → ℕ → Type 0) (blocks : Blocks T) (value : T) (key : ValueKey)
     (block : Bare Header Part T) : Type 0 where
   pub holds : bare_value block ≡ value
-  pub store : (book_in blocks).store ≡ Some (bare_store block)
-  pub book : book_of key ≡ book_in blocks
+  pub store : (blocks_book blocks).store ≡ bare_store block
+  pub book : book_of key ≡ blocks_book blocks
   pub next : Is key (bare_number block)
   pub lies : LiesIn key block
   -- the value's name says the content that its chunk has, and nothing is lent with it
@@ -90,8 +90,8 @@ IsBlockAfter last blocks value key block = IsBlockAs (λ k number. IsNextAfter k
 -- what is left of a block when its value was taken out
 pub record IsHollowAs {T : Type 0} (Is : ValueKey → ℕ → Type 0) (blocks : Blocks T) (key : ValueKey)
     (hollow : Hollow Header Part T) : Type 0 where
-  pub store : (book_in blocks).store ≡ Some (hollow_store hollow)
-  pub book : book_of key ≡ book_in blocks
+  pub store : (blocks_book blocks).store ≡ hollow_store hollow
+  pub book : book_of key ≡ blocks_book blocks
   pub next : Is key (hollow_number hollow)
   pub lay : LayIn key hollow
   pub content : place_of (value_of key) ≡ hollow_content hollow
@@ -105,14 +105,14 @@ abbrev pub IsHollowAfter : {T : Type 0} → ℕ → Blocks T → ValueKey → Ho
 IsHollowAfter last blocks key hollow = IsHollowAs (λ k number. IsNextAfter k last number) blocks key hollow
 
 abbrev pub AreSpotsIn : {T : Type 0} → Blocks T → Spots Header Part T → Type 0
-AreSpotsIn blocks spots = (store : List ℕ) × ((book_in blocks).store ≡ Some store) × AreOf spots store
+AreSpotsIn blocks spots = AreOfStore spots (blocks_book blocks).store
 
 -- a value of the code g is lent with v
 abbrev pub IsLentAs : ℕ → Gv → Type 0
 IsLentAs v g = loan_of v ≡ loan_number g
 
 pub record LendsIn {T : Type 0} (blocks : Blocks T) (key : ValueKey) (number : ℕ) (g : Gv) : Type 0 where
-  pub book : book_of key ≡ book_in blocks
+  pub book : book_of key ≡ blocks_book blocks
   pub next : IsNextIn key number
   pub code : IsLentAs (value_of key) g
   pub fits : number + 2 < 2 ^ 64
@@ -122,11 +122,11 @@ pub record IsFoundAt (o : Option ℕ) (number : ℕ) (pass : Pass) : Type 0 wher
   pub value : ℕ
   pub is : o ≡ Some value
   pub named : has value (state_seen pass).named ≡ true
-  pub numbered : block_of value ≡ number
-  pub lent : ¬ (CarriesNone value)
+  pub numbered : block_number value ≡ number
+  pub lent : CarriesOne value
 
 abbrev pub StandsAt : ℕ → ℕ → Pass → Type 0
-StandsAt v number pass = (has v (state_seen pass).named ≡ true) × (has v (state_seen pass).gone ≡ false) × (block_of v ≡ number)
+StandsAt v number pass = (has v (state_seen pass).named ≡ true) × (has v (state_seen pass).gone ≡ false) × (block_number v ≡ number)
 
 abbrev pub IsFoundAs : Option ℕ → Gv → Type 0
 IsFoundAs o g = (v : ℕ) × (o ≡ Some v) × IsLentAs v g
@@ -134,5 +134,5 @@ IsFoundAs o g = (v : ℕ) × (o ≡ Some v) × IsLentAs v g
 abbrev pub IsHeaderOf : Header → ℕ → Pass → Type 0
 IsHeaderOf header number pass =
     (header_book header ≡ pass.name)
-    × ((v : ℕ) → has v (state_seen pass).named ≡ true → block_of v ≡ number → home_of v ≡ header_home header)
-    × ((v : ℕ) → has v (state_seen pass).named ≡ true → block_of v ≡ number → cell_of v ≡ header_cell header)
+    × ((v : ℕ) → has v (state_seen pass).named ≡ true → block_number v ≡ number → home_of v ≡ header_home header)
+    × ((v : ℕ) → has v (state_seen pass).named ≡ true → block_number v ≡ number → cell_of v ≡ header_cell header)

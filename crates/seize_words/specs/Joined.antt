@@ -1,12 +1,10 @@
 -- The words in which the contracts speak of all words of one book.
 --     words_book words               the book whose words they are
---     OpensWords words numbers next links size     a new book with no slot yet, to which many may append, with so many links, which are
---                                    empty; and what its slots are made with
---     OpensWordsAlone words pass numbers next links size     the same of a book to which this pass alone may append
---     OpensWordsInTurns words porter numbers next links size     the same of a book whose passes come from this porter
+--     OpensWords words porter numbers next links size     a new book with no slot yet, with so many links, which are empty; the porter of
+--                                    its passes, which is at home, with this batch size; and what its slots are made with
 --     IsHolder key pass slot         the key is that of this slot, which is there, as the pass has seen
 --     MayReadAt key pass slot        the slot's call reads this slot's head next, and that is there, as the pass has seen
---     IsInAt activation pass link    the activation has begun, as the pass has seen, and the link is one of the book's: see IsIn
+--     IsInAt activation pass link    the activation has begun, as the pass has seen, and the link is one of the book's: see IsLinkFor
 --     TriesAtSlot key slot seen block     the slot's call is about to insert its batch at this slot: see TriesAt
 --     IsAddingAt key block won, IsCountingAt key block     the slot's call is about to add so many insertions won to the count of a batch,
 --                                    or to count down the next batch of its walk, whose first value lies in the block with this number
@@ -18,24 +16,23 @@
 use Rattle.std.specs.Prelude.{◌≡◌, ℕ, ◌+◌, ◌<◌, ◌^◌, List, [], ◌∷◌, Some, true}
 use Rattle.seize_machine.specs.Machine.State.{Add, Rest}
 use Rattle.seize_store.specs.Known.{family_in}
-use Rattle.seize_store.specs.Named.{name_of}
+use Rattle.seize_store.specs.Named.{store_name}
 use Rattle.seize_store.specs.declared.store.Store.{Store}
 use Rattle.seize_table.specs.declared.labelled.Labelled.{Ghosts}
 use Rattle.seize_book.specs.Begin.{BeganWith}
 use Rattle.seize_book.specs.Blocks.{link_word}
-use Rattle.seize_book.specs.Books.{IsAlone, IsMany}
 use Rattle.seize_words.specs.Counts.{values_in}
 use Rattle.seize_words.specs.Headers.{HasWritten, IsFrontBlock}
 use Rattle.seize_words.specs.Heads.{IsTrying, reads}
 use Rattle.seize_words.specs.LinkRows.{IsLinkAt}
-use Rattle.seize_words.specs.LinkWords.{holds}
+use Rattle.seize_words.specs.LinkWords.{value_held}
 use Rattle.seize_words.specs.Links.{IsNewIn, IsWithin}
 use Rattle.seize_words.specs.Reservations.{slot}
-use Rattle.seize_words.specs.Reserved.{HasNext}
-use Rattle.seize_book.specs.Slots.{IsOf, number_of, own_list, slot_of, start_of}
+use Rattle.seize_words.specs.Reserved.{HasNextSlot}
+use Rattle.seize_book.specs.Slots.{IsKeyOfBook, own_list, slot_number, slot_of, start_of}
 use Rattle.seize_book.specs.Tokens.{Name}
 use Rattle.seize_book.specs.Values.{AreClosed, values_of}
-use Rattle.seize_book.specs.Turns.{IsFullPorter}
+use Rattle.seize_book.specs.Porters.{IsFirstPorter}
 use Rattle.seize_words.specs.Totals.{made_of, slots_seen}
 use Rattle.seize_words.specs.declared.activation.Activation.{Activation}
 use Rattle.seize_book.specs.declared.book.numbers_key.NumbersKey.{NumbersKey}
@@ -53,28 +50,21 @@ use Rattle.seize_words.specs.declared.words.Words.{Words}
 abbrev pub words_book : {T : Type 0} → Words T → Name
 words_book words = words.blocks.book.name
 
--- the book has just begun, with as many links and this batch size, and the keys are those of its first slot
-pub record HasBegun (book : Book) (numbers : NumbersKey) (next : NextSlot) (many size : ℕ) : Type 0 where
-  pub began : BeganWith book.name many size book.name.store book.name.table × (book.seen ≡ [])
+-- the book has just begun, with as many links, and the keys are those of its first slot
+pub record HasJustBegun (book : Book) (numbers : NumbersKey) (next : NextSlot) (many : ℕ) : Type 0 where
+  pub began : BeganWith book.name many book.name.store book.name.table × (book.seen ≡ [])
   pub numbers_are : (numbers.keys.name ≡ book.name) × (made_of numbers ≡ 0)
-  pub next_is : HasNext numbers next
+  pub next_is : HasNextSlot numbers next
 
-abbrev pub OpensWords : {T : Type 0} → Words T → NumbersKey → NextSlot → ℕ → ℕ → Type 0
-OpensWords words numbers next many size = IsMany words.blocks.book × HasBegun words.blocks.book numbers next many size
-
-abbrev pub OpensWordsAlone : {T : Type 0} → Words T → Pass → NumbersKey → NextSlot → ℕ → ℕ → Type 0
-OpensWordsAlone words pass numbers next many size =
-    IsAlone words.blocks.book pass × HasBegun words.blocks.book numbers next many size
-
-abbrev pub OpensWordsInTurns : {T : Type 0} → Words T → Porter → NumbersKey → NextSlot → ℕ → ℕ → Type 0
-OpensWordsInTurns words porter numbers next many size =
-    IsFullPorter words.blocks.book porter × HasBegun words.blocks.book numbers next many size
+abbrev pub OpensWords : {T : Type 0} → Words T → Porter → NumbersKey → NextSlot → ℕ → ℕ → Type 0
+OpensWords words porter numbers next many size =
+    IsFirstPorter words.blocks.book porter size × HasJustBegun words.blocks.book numbers next many
 
 abbrev pub IsHolder : SlotKey → Pass → ℕ → Type 0
-IsHolder key pass s = IsOf key pass × (number_of key ≡ s) × (s < slots_seen pass)
+IsHolder key pass s = IsKeyOfBook key pass × (slot_number key ≡ s) × (s < slots_seen pass)
 
 abbrev pub MayReadAt : SlotKey → Pass → ℕ → Type 0
-MayReadAt key pass s = IsOf key pass × (reads (slot_of key) s ≡ true) × (s < slots_seen pass)
+MayReadAt key pass s = IsKeyOfBook key pass × (reads (slot_of key) s ≡ true) × (s < slots_seen pass)
 
 abbrev pub IsInAt : Activation → Pass → ℕ → Type 0
 IsInAt activation pass l =
@@ -88,7 +78,7 @@ OnLink n l P = (link : Link) × IsLinkAt n l link × P link
 
 abbrev pub TriesAtSlot : SlotKey → ℕ → ℕ → ℕ → Type 0
 TriesAtSlot key s seen block =
-    (t : IsTrying (start_of key) (number_of key) (own_list key) s seen block) × HasWritten key seen t.batch × (block + 2 < 2 ^ 64)
+    (t : IsTrying (start_of key) (slot_number key) (own_list key) s seen block) × HasWritten key seen t.batch × (block + 2 < 2 ^ 64)
 
 pub record IsAddingAt (key : SlotKey) (block won : ℕ) : Type 0 where
   pub batch : ℕ
@@ -107,7 +97,7 @@ abbrev pub AddsWithAt : SlotKey → ℕ → ℕ → ValueKeys → Type 0
 AddsWithAt key block won values = (a : IsAddingAt key block won) × (values_of values ≡ values_in key a.batch) × AreClosed values
 
 abbrev pub IsNewTo : Name → MaybeKey → ℕ → Type 0
-IsNewTo n key new = (key.keys.name ≡ n) × IsNewIn n (holds key) key.keys.held × (new ≡ link_word (holds key))
+IsNewTo n key new = (key.keys.name ≡ n) × IsNewIn n (value_held key) key.keys.held × (new ≡ link_word (value_held key))
 
 abbrev pub IsStoreOf : {H P T : Type 0} {g : Ghosts H} → Store H P T g → Book → Type 0
-IsStoreOf store book = (book.name.store ≡ Some (name_of store)) × (family_in (name_of store) ≡ book.name.family)
+IsStoreOf store book = (book.name.store ≡ store_name store) × (family_in (store_name store) ≡ book.name.family)

@@ -4,13 +4,13 @@
 --     AreAllOf left n many      these are the keys of all links of book n, so many, which are empty at its beginning
 use Rattle.std.specs.Prelude.{◌≡◌, ℕ, ◌<◌, List, length, replicate, None, slice_index_or}
 use Rattle.seize_book.specs.Begin.{first_links}
-use Rattle.seize_words.specs.LinkWords.{number}
+use Rattle.seize_words.specs.LinkWords.{link_number}
 use Rattle.seize_book.specs.Tokens.{Name}
 use Rattle.seize_book.specs.declared.book.link_keys.LinkKeys.{LinkKeys}
 use Rattle.seize_words.specs.declared.link.Link.{Link}
 
 abbrev pub IsLinkAt : Name → ℕ → Link → Type 0
-IsLinkAt n l link = (link.word.name ≡ n) × (number link ≡ l)
+IsLinkAt n l link = (link.word.name ≡ n) × (link_number link ≡ l)
 
 abbrev pub AreInRow : Name → List Link → Type 0
 AreInRow n row = (length row ≡ length n.links) × ((l : ℕ) (d : Link) → l < length row → IsLinkAt n l (slice_index_or row l d))

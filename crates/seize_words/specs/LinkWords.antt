@@ -1,13 +1,14 @@
 -- The words in which the contracts of links speak.
 --     IsNone key pass, IsKeyIn value key     it is none, of the pass's book;  it is the value's block's, in its name
---     number link                 which link it is
---     holds key, IsSomeKey key    the value whose key it is, if it is one;  and it is one
---     IsIn link activation pass   all are of one book, the activation has begun, as the pass has seen, and the link is one of the book's
---     IsNewFor link key new       the key is that of a value that was never named, whose block is vacant, and with which something is lent
---                                 if the blocks of the book lie in a store; or none; this is its word
---     IsOut key                   the value was named, and it is loose, as its key knows
---     HasNext left, IsNext left link left'     a link is left to make;  it was made
---     Takes                       the event was made with the pass, during the activation;  IsDuring activation name list
+--     link_number link            which link it is
+--     value_held key, IsSomeKey key    the value whose key it is, if it is one;  and it is one
+--     IsLinkFor link activation pass   all are of one book, the activation has begun, as the pass has seen, and the link is one of the
+--                                      book's
+--     IsNewFor link key new       the key is that of a value that was never named, whose block is vacant, and with which something is lent;
+--                                 or none; this is its word
+--     IsLoose key                 the value was named, and it is loose, as its key knows
+--     HasNextLink left, IsNext left link left'     a link is left to make;  it was made
+--     ActsOnLink                  the event was made with the pass, during the activation;  IsDuring activation name list
 --     Reads, Swaps, CompareExchanges     what the event is, in which state it was made, and what is had afterwards
 --     IsStepOn slot number event  the event is this slot's on this link
 --     WasFound a v pass           v was found in a link in this activation, as the pass has seen
@@ -22,11 +23,11 @@ use Rattle.seize_book.specs.Begin.{first_links}
 use Rattle.seize_book.specs.Blocks.{link_word}
 use Rattle.seize_book.specs.Book.{after}
 use Rattle.seize_book.specs.Entry.{Entry, Made}
-use Rattle.seize_book.specs.Laws.{IsIn as IsAmong, Reader, ended, life}
+use Rattle.seize_book.specs.Laws.{IsAmong, Reader, ended, life}
 use Rattle.seize_book.specs.Ledger.{renewed}
 use Rattle.seize_words.specs.Links.{IsNewIn, IsWithin, compared, value_in}
 use Rattle.seize_book.specs.Others.{state_of}
-use Rattle.seize_book.specs.Passes.{IsSame, LooksOn}
+use Rattle.seize_book.specs.Passes.{IsSamePass, LooksOn}
 use Rattle.seize_book.specs.Private.{key_of}
 use Rattle.seize_book.specs.Tokens.{Name, Noted, start}
 use Rattle.seize_words.specs.declared.activation.Activation.{Activation}
@@ -43,22 +44,22 @@ IsNone key pass = (key.keys.name ≡ pass.name) × (key.keys.held ≡ [])
 abbrev pub IsKeyIn : ValueKey → MaybeKey → Type 0
 IsKeyIn value key = key.keys ≡ value.keys
 
-abbrev pub number : Link → ℕ
-number link = link.word.number
+abbrev pub link_number : Link → ℕ
+link_number link = link.word.number
 
-abbrev pub holds : MaybeKey → Option ℕ
-holds key = value_in key.keys.held
+abbrev pub value_held : MaybeKey → Option ℕ
+value_held key = value_in key.keys.held
 
-pub record IsIn (link : Link) (activation : Activation) (pass : Pass) : Type 0 where
+pub record IsLinkFor (link : Link) (activation : Activation) (pass : Pass) : Type 0 where
   pub book : (link.word.name ≡ pass.name) × (activation.name ≡ pass.name)
-  pub within : IsWithin pass.name activation.slot activation.life activation.since pass.seen (number link)
+  pub within : IsWithin pass.name activation.slot activation.life activation.since pass.seen (link_number link)
 
 abbrev pub IsNewFor : Link → MaybeKey → ℕ → Type 0
 IsNewFor link key new =
-    (key.keys.name ≡ link.word.name) × IsNewIn link.word.name (holds key) key.keys.held × (new ≡ link_word (holds key))
+    (key.keys.name ≡ link.word.name) × IsNewIn link.word.name (value_held key) key.keys.held × (new ≡ link_word (value_held key))
 
 abbrev pub IsSomeKey : MaybeKey → Type 0
-IsSomeKey key = is_some (holds key) ≡ true
+IsSomeKey key = is_some (value_held key) ≡ true
 
 -- the activation's slot was active when the list was this, and in this activation, which had not ended
 abbrev pub IsDuring : Activation → Name → List Entry → Type 0
@@ -66,19 +67,20 @@ IsDuring a n list =
     (is_active (head_at (after (start n) list) a.slot) ≡ true) × (life a.slot list ≡ a.life) × ¬ (IsAmong (ended list) a.life)
 
 -- The pass added the event, during the activation, where the link held this, and this was its word.
-pub record Takes (link : Link) (a : Activation) (pass pass' : Pass) (event : Option ℕ → Event) (v : ℕ) : Type 0 where
-  pub same : IsSame pass pass'
+pub record ActsOnLink (link : Link) (a : Activation) (pass pass' : Pass) (event : Option ℕ → Event) (v : ℕ) : Type 0 where
+  pub same : IsSamePass pass pass'
   pub before : List Entry
   pub noted
-      : Noted pass.name pass.id pass.seen pass'.seen (Made (private pass (event (link_at (after (start pass.name) before) (number link)))))
+      : Noted pass.name pass.id pass.seen pass'.seen
+      (Made (private pass (event (link_at (after (start pass.name) before) (link_number link)))))
   pub is_before : noted.before ≡ before
   pub during : IsDuring a pass.name before
-  pub found : v ≡ link_word (link_at (after (start pass.name) before) (number link))
+  pub found : v ≡ link_word (link_at (after (start pass.name) before) (link_number link))
 
 -- what the link held
 abbrev pub held_before : {link : Link} {a : Activation} {pass pass' : Pass} {event : Option ℕ → Event} {v : ℕ}
-    → Takes link a pass pass' event v → Option ℕ
-held_before {link} {a} {pass} t = link_at (after (start pass.name) t.before) (number link)
+    → ActsOnLink link a pass pass' event v → Option ℕ
+held_before {link} {a} {pass} t = link_at (after (start pass.name) t.before) (link_number link)
 
 abbrev pub IsStepOn : ℕ → ℕ → Event → Type 0
 IsStepOn s l (ReadLink i k) = (i ≡ s) × (k ≡ l)
@@ -89,7 +91,7 @@ abbrev pub WasFound : Activation → ℕ → Pass → Type 0
 WasFound a v pass = Reader (start pass.name) pass.seen v a.life
 
 abbrev pub Reads : Link → Activation → Pass → Pass → ℕ → Type 0
-Reads link activation pass pass' v = Takes link activation pass pass' (λ _. ReadLink activation.slot (number link)) v
+Reads link activation pass pass' v = ActsOnLink link activation pass pass' (λ _. ReadLink activation.slot (link_number link)) v
 
 abbrev pub Sees : Link → Activation → Pass → Pass → ℕ → Glimpse → Type 0
 Sees link activation pass pass' v glimpse = (t : Reads link activation pass pass' v) × (glimpse.value ≡ held_before t)
@@ -105,35 +107,35 @@ abbrev pub KnowsAll : MaybeKey → Pass → Type 0
 KnowsAll key pass = key.keys.held ≡ renewed key.keys.held pass.seen
 
 -- what its key is of was named, and is loose
-abbrev pub IsOut : MaybeKey → Type 0
-IsOut key =
-    (v : ℕ) → holds key ≡ Some v
+abbrev pub IsLoose : MaybeKey → Type 0
+IsLoose key =
+    (v : ℕ) → value_held key ≡ Some v
     → (has v (state_of key.keys).named ≡ true) × (has v (state_of key.keys).loose ≡ true)
 
 -- the key of what the link held came out
 abbrev pub Swaps : Link → Activation → MaybeKey → Pass → MaybeKey → Pass → ℕ → Type 0
 Swaps link activation key pass key' pass' v =
-    (t : Takes link activation pass pass' (λ _. ExchangeLink activation.slot (number link) (Swap (holds key))) v)
-    × (key'.keys.name ≡ key.keys.name) × (holds key' ≡ held_before t) × IsOut key' × KnowsAll key' pass'
+    (t : ActsOnLink link activation pass pass' (λ _. ExchangeLink activation.slot (link_number link) (Swap (value_held key))) v)
+    × (key'.keys.name ≡ key.keys.name) × (value_held key' ≡ held_before t) × IsLoose key' × KnowsAll key' pass'
 
 -- and here where it was what was seen; else it is the same key, its value may be named still, and the glimpse is of what the link held
 abbrev pub CompareExchanges : Link → Activation → MaybeKey → Pass → Option ℕ → MaybeKey → Pass → ℕ → Glimpse → Type 0
 CompareExchanges link activation key pass current key' pass' v glimpse =
-    (t : Takes link activation pass pass' (λ old.
-    ExchangeLink activation.slot (number link) (Compare (compared current old) (holds key))) v)
+    (t : ActsOnLink link activation pass pass' (λ old.
+    ExchangeLink activation.slot (link_number link) (Compare (compared current old) (value_held key))) v)
     × (key'.keys.name ≡ key.keys.name)
-    × (v ≡ link_word current → (holds key' ≡ held_before t) × IsOut key' × (glimpse.value ≡ None))
+    × (v ≡ link_word current → (value_held key' ≡ held_before t) × IsLoose key' × (glimpse.value ≡ None))
     × (v ≢ link_word current →
-    (holds key' ≡ holds key) × IsNewIn key'.keys.name (holds key') key'.keys.held × (glimpse.value ≡ held_before t))
+    (value_held key' ≡ value_held key) × IsNewIn key'.keys.name (value_held key') key'.keys.held × (glimpse.value ≡ held_before t))
     × KnowsAll key' pass'
 
 -- Links are made of the keys that their book begins with.
 
 -- there is one left, which is empty at the book's beginning
-abbrev pub HasNext : LinkKeys → Type 0
-HasNext left = (l many : ℕ) × (left.keys.held ≡ first_links l (suc many)) × (link_at (start left.keys.name) l ≡ None)
+abbrev pub HasNextLink : LinkKeys → Type 0
+HasNextLink left = (l many : ℕ) × (left.keys.held ≡ first_links l (suc many)) × (link_at (start left.keys.name) l ≡ None)
 
 abbrev pub IsNext : LinkKeys → Link → LinkKeys → Type 0
 IsNext left link left' =
-    (link.word.name ≡ left.keys.name) × (number link ≡ key_of left.keys.held)
+    (link.word.name ≡ left.keys.name) × (link_number link ≡ key_of left.keys.held)
     × (left'.keys.name ≡ left.keys.name) × (left'.keys.held ≡ drop 1 left.keys.held)

@@ -3,8 +3,7 @@
 --     IsWithin n s a since seen l   the slot was active, in the activation with lifetime a, when the list was `since`, which the pass has
 --                        seen; and the link is one of the book's
 --     IsNewIn n o vs     the keys are of this value, which was never named, as they know, and all that lay in its block before were
---                        reclaimed; and something is lent with it, if the blocks of the book lie in a store; or there is neither value nor
---                        key
+--                        reclaimed; and something is lent with it; or there is neither value nor key
 --     value_in held, is_at_most_one held     the value that a key is labelled with, if there is one;  there is no other key
 --     compared current old   what an exchange compares that takes the link to hold `current`, where it holds `old`: their words decide
 use Rattle.std.specs.Prelude.{◌≡◌, ℕ, zero, suc, ◌<◌, ◌==◌, Bool, true, false, ◌&&◌, if◌then◌else◌, List, [], ◌∷◌, length, Option, Some, None}
@@ -15,9 +14,10 @@ use Rattle.seize_book.specs.Book.{after, blocks, links}
 use Rattle.seize_book.specs.Entry.{Entry}
 use Rattle.seize_book.specs.Homes.{IsVacant, home_of}
 use Rattle.seize_book.specs.Laws.{life}
-use Rattle.seize_book.specs.Ledger.{Held}
+use Rattle.seize_book.specs.Ledger.{HeldKey}
 use Rattle.seize_book.specs.Private.{own_of}
-use Rattle.seize_book.specs.Tokens.{IsLentIn, Name, start}
+use Rattle.seize_book.specs.Loans.{CarriesOne}
+use Rattle.seize_book.specs.Tokens.{Name, start}
 use Rattle.seize_words.specs.Words.{Site, IsKeyOf}
 
 abbrev pub at_link : Name → ℕ → Site
@@ -29,23 +29,23 @@ pub record IsWithin (n : Name) (s a : ℕ) (since seen : List Entry) (l : ℕ) :
   pub known : IsPrefix since seen
   pub is_link : l < length n.links
 
--- the keys are those of the value o, which was never named, whose home is vacant, and with which something is lent where it has to be
-abbrev pub IsNewIn : Name → Option ℕ → List (Held Entry) → Type 0
+-- the keys are those of the value o, which was never named, whose home is vacant, and with which something is lent
+abbrev pub IsNewIn : Name → Option ℕ → List (HeldKey Entry) → Type 0
 IsNewIn n None vs = IsKeyOf None vs
 IsNewIn n (Some v) vs =
     IsKeyOf (Some v) vs × (has v (after (start n) (own_of vs)).named ≡ false) × IsVacant (after (start n) (own_of vs)) (home_of v)
-    × IsLentIn n v
+    × CarriesOne v
 
 abbrev pub IsLink : Site → Type 0
 IsLink word = word.kind ≡ links
 
 -- the value that a key is labelled with, if there is one
-abbrev pub value_in : List (Held Entry) → Option ℕ
+abbrev pub value_in : List (HeldKey Entry) → Option ℕ
 value_in [] = None
 value_in (h ∷ held) = Some h.label
 
 -- there is at most one key, and it is that of a value's block
-abbrev pub is_at_most_one : List (Held Entry) → Bool
+abbrev pub is_at_most_one : List (HeldKey Entry) → Bool
 is_at_most_one [] = true
 is_at_most_one (h ∷ []) = (h.kind == blocks) && (h.key == home_of h.label)
 is_at_most_one (h ∷ g ∷ held) = false

@@ -2,7 +2,7 @@
 --     head_book head, link_book link, field_book field, count_book count, total_book total     the book of a word
 --     slot_book key, next_book key, numbers_book key, total_key_book key, links_book keys      the book of a key: of a slot, of the head of
 --                                      a slot that is not there yet, of the numbers, of the total, and of links
---     links_name links, count_in links     the book whose links a row has, and how many there are
+--     links_name links, link_count links   the book whose links a row has, and how many there are
 --     next_head key                    the slot whose head it is the key of
 --     next_list key, numbers_list key, total_list key     the list when the holder of the key last added to it
 --     AreLinks keys first count        they are the keys of so many links, from this one on, to which nothing was added yet
@@ -60,8 +60,8 @@ links_book keys = keys.keys.name
 abbrev pub links_name : Links → Name
 links_name links = links.book.name
 
-abbrev pub count_in : Links → ℕ
-count_in links = length (links_name links).links
+abbrev pub link_count : Links → ℕ
+link_count links = length (links_name links).links
 
 abbrev pub next_head : HeadKey → ℕ
 next_head key = key_of key.keys.held

@@ -1,12 +1,12 @@
 -- The words in which the contracts of heads speak.
---     slot head                   the slot of the head;  IsOfBook head pass     it is of the pass's book
+--     slot head                   the slot of the head;  IsHeadOfBook head pass     it is of the pass's book
 --     MayRead key head pass       the slot's call reads this head next, and the pass has seen that its slot is there
---     Shows head list v           the list says that the head's word is v
+--     ShowsHead head list v       the list says that the head's word is v
 --     FoundBefore head pass' v    all that the pass has seen shows v, without its last event
 --     TriesAt key head seen block     the slot's call is about to insert its batch here: see IsTrying. The block leads on
 --                                 to what the slot saw, and to its batch's first block. The block's number fits beside 2
---     IsOwn head key, IsOut key stays     it is the slot's own head;  the slot's call is about to swap it out
---     WalksOn head key' v queue           the slot's call walks the batches that the word v of the head shows, and goes on with this queue
+--     IsOwnHead head key, IsOut key stays     it is the slot's own head;  the slot's call is about to swap it out
+--     WalksFrom head key' v queue         the slot's call walks the batches that the word v of the head shows, and goes on with this queue
 --     IsLastOf key a                      it is the slot's last activation
 --     IsActivationOf key a                it has begun with what the key knows last
 --     head_known key                      the head, as its key knows;  IsHeadOf head key     it is that of the key
@@ -21,7 +21,7 @@ use Rattle.seize_words.specs.Heads.{IsMade, IsTrying, reads}
 use Rattle.seize_book.specs.Laws.{life}
 use Rattle.seize_book.specs.Others.{state_of}
 use Rattle.seize_book.specs.Private.{key_of}
-use Rattle.seize_book.specs.Slots.{life_of, number_of, own_list, slot_of, start_of}
+use Rattle.seize_book.specs.Slots.{life_of, own_list, slot_number, slot_of, start_of}
 use Rattle.seize_book.specs.Tokens.{start}
 use Rattle.seize_words.specs.declared.activation.Activation.{Activation}
 use Rattle.seize_book.specs.declared.book.head_key.HeadKey.{HeadKey}
@@ -32,48 +32,49 @@ use Rattle.seize_words.specs.declared.reservation.Head.{Head}
 abbrev pub slot : Head → ℕ
 slot head = head.word.number
 
-abbrev pub IsOfBook : Head → Pass → Type 0
-IsOfBook head pass = head.word.name ≡ pass.name
+abbrev pub IsHeadOfBook : Head → Pass → Type 0
+IsHeadOfBook head pass = head.word.name ≡ pass.name
 
 abbrev pub MayRead : SlotKey → Head → Pass → Type 0
 MayRead key head pass = (reads (slot_of key) (slot head) ≡ true) × IsMade head.word pass.seen
 
-abbrev pub Shows : Head → List Entry → ℕ → Type 0
-Shows head list v = v ≡ head_word (start head.word.name) list (slot head)
+abbrev pub ShowsHead : Head → List Entry → ℕ → Type 0
+ShowsHead head list v = v ≡ head_word (start head.word.name) list (slot head)
 
 abbrev pub FoundBefore : Head → Pass → ℕ → Type 0
-FoundBefore head pass' v = (before : List Entry) × (last : Entry) × (pass'.seen ≡ before ++ last ∷ []) × Shows head before v
+FoundBefore head pass' v = (before : List Entry) × (last : Entry) × (pass'.seen ≡ before ++ last ∷ []) × ShowsHead head before v
 
 abbrev pub TriesAt : SlotKey → Head → ℕ → ℕ → Type 0
 TriesAt key head seen block =
-    (t : IsTrying (start_of key) (number_of key) (own_list key) (slot head) seen block) × HasWritten key seen t.batch × (block + 2 < 2 ^ 64)
+    (t : IsTrying (start_of key) (slot_number key) (own_list key) (slot head) seen block) × HasWritten key seen t.batch
+    × (block + 2 < 2 ^ 64)
 
 -- Activations.
 
-abbrev pub IsOwn : Head → SlotKey → Type 0
-IsOwn head key = slot head ≡ number_of key
+abbrev pub IsOwnHead : Head → SlotKey → Type 0
+IsOwnHead head key = slot head ≡ slot_number key
 
 -- the slot's call is about to swap its head out, and then the slot stays active or not
 abbrev pub IsOut : SlotKey → Bool → Type 0
 IsOut key stays = (queue : List ℕ) × ((slot_of key).call ≡ Some (record { place = Out stays; queue = queue }))
 
 -- where the slot's call goes on that has swapped its head out, which had this word
-abbrev pub WalksOn : Head → SlotKey → ℕ → List ℕ → Type 0
-WalksOn head key' v queue =
+abbrev pub WalksFrom : Head → SlotKey → ℕ → List ℕ → Type 0
+WalksFrom head key' v queue =
     (walk : List ℕ) × ((slot_of key').call ≡ Some (record { place = Rest [] walk; queue = queue }))
     × (v ≡ list_word (λ b. block_for (start_of key') (own_list key') b (slot head)) walk)
 
 abbrev pub IsLastOf : SlotKey → Activation → Type 0
-IsLastOf key a = (a.name ≡ key.keys.name) × (a.slot ≡ number_of key) × (a.life ≡ life_of key)
+IsLastOf key a = (a.name ≡ key.keys.name) × (a.slot ≡ slot_number key) × (a.life ≡ life_of key)
 
 -- the entry of an event that begins an activation with this lifetime
 abbrev pub beginning : Pass → ℕ → Event → Deed
-beginning pass life event = record { pass = pass.id; size = pass.name.size; event = event; life = life; kepts = [] }
+beginning pass life event = record { pass = pass.id; size = pass.size; event = event; life = life; kepts = [] }
 
 -- it has begun with what the key knows last
 pub record IsActivationOf (key : SlotKey) (a : Activation) : Type 0 where
   pub book : a.name ≡ key.keys.name
-  pub slot : a.slot ≡ number_of key
+  pub slot : a.slot ≡ slot_number key
   pub since : a.since ≡ own_list key
   pub active : is_active (head_at (after (start a.name) a.since) a.slot) ≡ true
   pub its : life a.slot a.since ≡ a.life

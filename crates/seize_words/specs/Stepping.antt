@@ -5,44 +5,44 @@
 --                              with f of it in the word, and this entry added, all is as it has to be (IsStep). It ends no activation but
 --                              those that have the lifetimes `lives`. Where it trades, the holder's keys stay with the word, for those
 --                              that stood there; at a count all but the slot's. It makes these keys, which go to the holder
---     SteppedWith births site p seen seen' held held' alive v w entry trades   the step was taken, found v and left w
---     IsStep, MayStep, Stepped     the same where no keys are made
+--     HasSteppedWith births site p seen seen' held held' alive v w entry trades   the step was taken, found v and left w
+--     IsStep, MayStep, HasStepped     the same where no keys are made
 --     LooksAt site p seen seen' held v     the word was read, which held v, and nothing was added to the list, which is seen' now
 use Rattle.std.specs.Prelude.{◌≡◌, ℕ, take, drop, Bool, true, if◌then◌else◌, List, [], ◌∷◌, ◌++◌}
-use Rattle.seize_machine.specs.Machine.State.{linked, are_distinct}
-use Rattle.seize_book.specs.Ledger.{Held, WithKinds, born, renewed}
+use Rattle.seize_machine.specs.Machine.State.{linked_values, are_distinct}
+use Rattle.seize_book.specs.Ledger.{HeldKey, WithKinds, born, renewed}
 use Rattle.seize_book.specs.Entry.{Entry, maker}
 use Rattle.seize_book.specs.Book.{Kind, TheCount, after, births_by, kind_of, kinds}
-use Rattle.seize_book.specs.Laws.{IsIn, ended, ended_in, life}
+use Rattle.seize_book.specs.Laws.{IsAmong, ended, ended_in, life}
 use Rattle.seize_book.specs.Tokens.{start, Noted}
 use Rattle.seize_book.specs.Fair.{Before, Fair, pass_key}
-use Rattle.seize_words.specs.Words.{Site, Shows, Stands, site_keys}
+use Rattle.seize_words.specs.Words.{Site, ShowsWord, Stands, site_keys}
 
 abbrev pub Keys : Type 0
-Keys = List (Held Entry)
+Keys = List (HeldKey Entry)
 
 -- the list at the last step on the word, and the keys that stand beside its own
 abbrev pub At : Type 0
 At = List Entry × Keys
 
 -- all keys that are there in the step, the word's first
-abbrev pub in_step : Site → List (Held Entry) → At → List (Held Entry)
+abbrev pub in_step : Site → List (HeldKey Entry) → At → List (HeldKey Entry)
 in_step site held t = site_keys site t.0 (t.1 ++ held)
 
 -- no activation with one of these lifetimes has ended
 abbrev pub NoneEnded : List ℕ → List Entry → Type 0
-NoneEnded alive log = (a : ℕ) → IsIn alive a → ¬ (IsIn (ended log) a)
+NoneEnded alive log = (a : ℕ) → IsAmong alive a → ¬ (IsAmong (ended log) a)
 
 pub record FoundAs (site : Site) (v p : ℕ) (seen : List Entry) (held : Keys) (alive : List ℕ) (t : At) (log : List Entry) : Type 0 where
-  pub shows : Shows site v t.0
+  pub shows : ShowsWord site v t.0
   pub stands : Stands site t.0 t.1
   pub before : Before site.name p seen (in_step site held t) log
   pub none_ended : NoneEnded alive log
-  pub distinct : are_distinct (linked site.name.links) ≡ true
+  pub distinct : are_distinct (linked_values site.name.links) ≡ true
 
 -- each activation that the event ends has one of these lifetimes
 abbrev pub EndsAmong : List ℕ → List Entry → Entry → Type 0
-EndsAmong lives log e = (a : ℕ) → IsIn (ended_in (λ s. life s log) e) a → IsIn lives a
+EndsAmong lives log e = (a : ℕ) → IsAmong (ended_in (λ s. life s log) e) a → IsAmong lives a
 
 -- so many of the holder's keys stay with the holder where others are traded: at a count the slot's
 abbrev pub staying : Kind → ℕ
@@ -71,7 +71,7 @@ pub record IsStepWith (births : Births) (site : Site) (p : ℕ) (held : Keys) (l
   pub its : maker e ≡ p
   pub bears : births_by (after (start site.name) log) e ≡ births
   pub ends : EndsAmong lives log e
-  pub shows : Shows site w (log ++ e ∷ [])
+  pub shows : ShowsWord site w (log ++ e ∷ [])
   pub stands : Stands site (log ++ e ∷ []) (renewed (beside_then (kind_of site.kind) trades t.1 held) (log ++ e ∷ []))
 
 abbrev pub MayStepWith : Births → Site → ℕ → List Entry → Keys → List ℕ → List ℕ → (ℕ → ℕ) → (ℕ → List Entry → Entry) → (ℕ → Bool) → Type 0
@@ -80,14 +80,14 @@ MayStepWith births site p seen held alive lives f entry trades =
     × ((v : ℕ) (t : At) (own log : List Entry) → FoundAs site v p seen held alive t log
     → IsStepWith births site p held lives (f v) (entry v log) (trades v) t own log)
 
-pub record SteppedWith (births : Births) (site : Site) (p : ℕ) (seen seen' : List Entry) (held held' : Keys) (alive : List ℕ) (v w : ℕ)
+pub record HasSteppedWith (births : Births) (site : Site) (p : ℕ) (seen seen' : List Entry) (held held' : Keys) (alive : List ℕ) (v w : ℕ)
     (entry : ℕ → List Entry → Entry) (trades : ℕ → Bool) : Type 0 where
   pub log : List Entry
   pub noted : Noted site.name p seen seen' (entry v log)
   pub is_log : noted.before ≡ log
   pub since : At
   pub found : FoundAs site v p seen held alive since log
-  pub left : Shows site w seen'
+  pub left : ShowsWord site w seen'
   pub keys : held' ≡ with_births (renewed (held_then (kind_of site.kind) (trades v) since.1 held) seen') births seen'
 
 abbrev pub IsStep : Site → ℕ → Keys → List ℕ → ℕ → Entry → Bool → At → List Entry → List Entry → Type 0
@@ -96,8 +96,8 @@ IsStep = IsStepWith []
 abbrev pub MayStep : Site → ℕ → List Entry → Keys → List ℕ → List ℕ → (ℕ → ℕ) → (ℕ → List Entry → Entry) → (ℕ → Bool) → Type 0
 MayStep = MayStepWith []
 
-abbrev pub Stepped : Site → ℕ → List Entry → List Entry → Keys → Keys → List ℕ → ℕ → ℕ → (ℕ → List Entry → Entry) → (ℕ → Bool) → Type 0
-Stepped = SteppedWith []
+abbrev pub HasStepped : Site → ℕ → List Entry → List Entry → Keys → Keys → List ℕ → ℕ → ℕ → (ℕ → List Entry → Entry) → (ℕ → Bool) → Type 0
+HasStepped = HasSteppedWith []
 
 pub record LooksAt (site : Site) (p : ℕ) (seen seen' : List Entry) (held : Keys) (v : ℕ) : Type 0 where
   pub since : At

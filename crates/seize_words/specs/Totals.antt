@@ -1,12 +1,12 @@
 -- The words in which the contracts of the total speak.
 --     total_known key                  how many slots there are, as the total's key knows;  IsTotalOf total key     it is that of the key
---     IsOfBook total pass, NumbersOf numbers pass     it is of the pass's book
+--     IsTotalOfBook total pass, NumbersOf numbers pass     it is of the pass's book
 --     slots_seen pass                  how many slots there are in the list that the pass has seen
 --     made_of numbers, IsFull numbers  how many slots there are, as the key of the numbers knows;  all of their numbers are in use
 --     MayMake numbers key              and the slot's is the next number
 --     MakesSlot numbers key pass numbers' key' pass'     the slot was made
---     AreNext numbers pass keys        these are the keys of the slot that comes next
-use Rattle.std.specs.Prelude.{◌≡◌, ℕ, suc, ◌<◌, true, false, [], length, None}
+--     AreNextKeys numbers pass keys    these are the keys of the slot that comes next
+use Rattle.std.specs.Prelude.{◌≡◌, ℕ, suc, ◌<◌, true, false, [], ◌∷◌, ◌++◌, length, None}
 use Rattle.seize_table.specs.Place.{all_numbers}
 use Rattle.seize_machine.specs.Machine.Event.{Take}
 use Rattle.seize_machine.specs.Machine.Next.{first_free}
@@ -15,10 +15,10 @@ use Rattle.seize_book.specs.Adding.{private}
 use Rattle.seize_book.specs.Book.{after}
 use Rattle.seize_book.specs.Entry.{Made}
 use Rattle.seize_book.specs.Others.{Follows, state_of}
-use Rattle.seize_book.specs.Passes.{IsSame}
+use Rattle.seize_book.specs.Passes.{IsSamePass}
 use Rattle.seize_book.specs.Private.{key_of, own_of}
 use Rattle.seize_words.specs.Reservations.{head_known}
-use Rattle.seize_book.specs.Slots.{IsAfter, active_of, number_of, own_list, slot_of}
+use Rattle.seize_book.specs.Slots.{IsAfter, active_of, acts_of, own_list, slot_number, slot_of}
 use Rattle.seize_book.specs.Tokens.{Noted, start}
 use Rattle.seize_book.specs.declared.book.numbers_key.NumbersKey.{NumbersKey}
 use Rattle.seize_book.specs.declared.book.pass.Pass.{Pass}
@@ -33,8 +33,8 @@ total_known key = length (state_of key.keys).slots
 abbrev pub IsTotalOf : Total → TotalKey → Type 0
 IsTotalOf total key = total.word.name ≡ key.keys.name
 
-abbrev pub IsOfBook : Total → Pass → Type 0
-IsOfBook total pass = total.word.name ≡ pass.name
+abbrev pub IsTotalOfBook : Total → Pass → Type 0
+IsTotalOfBook total pass = total.word.name ≡ pass.name
 
 abbrev pub NumbersOf : NumbersKey → Pass → Type 0
 NumbersOf numbers pass = numbers.keys.name ≡ pass.name
@@ -50,13 +50,14 @@ abbrev pub IsFull : NumbersKey → Type 0
 IsFull numbers = (first_free (state_of numbers.keys).slots ≡ made_of numbers) × (made_of numbers < all_numbers)
 
 abbrev pub MayMake : NumbersKey → SlotKey → Type 0
-MayMake numbers key = IsFull numbers × (number_of key ≡ made_of numbers)
+MayMake numbers key = IsFull numbers × (slot_number key ≡ made_of numbers)
 
 -- it is there, with no call, nothing retired and inactive; its key knows all that the pass has seen
 pub record MakesSlot (numbers : NumbersKey) (key : SlotKey) (pass : Pass) (numbers' : NumbersKey) (key' : SlotKey) (pass' : Pass)
     : Type 0 where
-  pub same : IsSame pass pass'
-  pub noted : Noted pass.name pass.id pass.seen pass'.seen (Made (private pass (Take (number_of key))))
+  pub same : IsSamePass pass pass'
+  pub noted : Noted pass.name pass.id pass.seen pass'.seen (Made (private pass (Take (slot_number key))))
+  pub acts : acts_of key' ≡ acts_of key ++ (Made (private pass (Take (slot_number key))), noted.answer) ∷ []
   pub seen_by : IsAfter key pass' key'
   pub follows : Follows numbers.keys pass' numbers'.keys
   pub idle : slot_of key' ≡ record { used = true; batch = []; call = None }
@@ -64,8 +65,8 @@ pub record MakesSlot (numbers : NumbersKey) (key : SlotKey) (pass : Pass) (numbe
   -- there is one more, and all numbers are in use still
   pub next : (made_of numbers' ≡ suc (made_of numbers)) × (first_free (state_of numbers'.keys).slots ≡ made_of numbers')
 
-pub record AreNext (numbers : NumbersKey) (pass : Pass) (keys : SlotKeys) : Type 0 where
+pub record AreNextKeys (numbers : NumbersKey) (pass : Pass) (keys : SlotKeys) : Type 0 where
   pub book : (keys.slot.keys.name ≡ pass.name) × (keys.head.keys.name ≡ pass.name)
-  pub number : (number_of keys.slot ≡ made_of numbers) × (key_of keys.head.keys.held ≡ made_of numbers)
+  pub number : (slot_number keys.slot ≡ made_of numbers) × (key_of keys.head.keys.held ≡ made_of numbers)
   pub own : (own_list keys.slot ≡ pass.seen) × (own_of keys.head.keys.held ≡ pass.seen)
   pub inactive : head_known keys.head ≡ Inactive

@@ -3,7 +3,7 @@
 -- changes these in that very step, and nobody else may.
 --     Site                   which word it is: its book, and the kind and number of what it stands for
 --     IsField site, IsCount site     it is that of a field, of a count;  IsTotal site    it is the one that says how many slots there are
---     Shows site v log       the value v is what the list says
+--     ShowsWord site v log   the value v is what the list says
 --     Stands site log vs     these are the other keys that stand beside it: of a link that of the block of the value in it, of a count
 --                            those of the blocks of the batch's values, which lead on, once its call has added to it; of each the list
 --                            says what is noted to be kept of it
@@ -18,7 +18,7 @@ use base.Fml.{Lft, Fml, ffalse, fsep, fex, fbor, fnamed}
 use denote.RawPtr.{Ptr, block_ptr, null_ptr}
 use Rattle.core.specs.Sync.RawAtomic.{word}
 use Rattle.seize_machine.specs.Machine.State.{State, link_at}
-use Rattle.seize_book.specs.Ledger.{Held, fact}
+use Rattle.seize_book.specs.Ledger.{HeldKey, fact}
 use Rattle.seize_book.specs.Entry.{Entry}
 use Rattle.seize_book.specs.Book.{Kind, TheHead, TheLink, TheCount, TheField, TheTotal, kind_of, after, blocks, counts, fields, totals}
 use Rattle.seize_book.specs.Blocks.{count_word, head_word, link_word}
@@ -56,31 +56,31 @@ ShowsOf st TheField f v log = v ≡ told log f
 ShowsOf st TheTotal k v log = v ≡ length (after st log).slots
 ShowsOf st _ k v log = ⊥
 
-abbrev pub Shows : Site → ℕ → List Entry → Type 0
-Shows site v log = ShowsOf (start site.name) (kind_of site.kind) site.number v log
+abbrev pub ShowsWord : Site → ℕ → List Entry → Type 0
+ShowsWord site v log = ShowsOf (start site.name) (kind_of site.kind) site.number v log
 
 -- the key of the block in which a value lies, with the value's name on it
-abbrev pub IsKeyOf : Option ℕ → List (Held Entry) → Type 0
+abbrev pub IsKeyOf : Option ℕ → List (HeldKey Entry) → Type 0
 IsKeyOf None vs = vs ≡ []
 IsKeyOf (Some v) vs = (is_one blocks vs ≡ true) × (key_of vs ≡ home_of v) × (label_of vs ≡ v)
 
-abbrev pub StandsOf : Name → Kind → ℕ → List Entry → List (Held Entry) → Type 0
+abbrev pub StandsOf : Name → Kind → ℕ → List Entry → List (HeldKey Entry) → Type 0
 StandsOf n TheLink l log vs = IsKeyOf (link_at (after (start n) log) l) vs
-StandsOf n TheCount k log vs = AreKeysOf n.store (deposit (after (start n) log) k) vs × AreToldIn n.store log vs
+StandsOf n TheCount k log vs = AreKeysOf (deposit (after (start n) log) k) vs × AreToldIn log vs
 StandsOf n _ k log vs = vs ≡ []
 
-abbrev pub Stands : Site → List Entry → List (Held Entry) → Type 0
+abbrev pub Stands : Site → List Entry → List (HeldKey Entry) → Type 0
 Stands site log vs = StandsOf site.name (kind_of site.kind) site.number log vs
 
-abbrev pub site_keys : Site → List Entry → List (Held Entry) → List (Held Entry)
+abbrev pub site_keys : Site → List Entry → List (HeldKey Entry) → List (HeldKey Entry)
 site_keys site since vs = record { kind = site.kind; key = site.number; own = since; label = 0; note = gnil } ∷ vs
 
 -- the list was `since` at the last step on the word
-abbrev pub word_knows : Site → ℕ → List Entry × List (Held Entry) → Fml
-word_knows site v t = fsep (fact (Shows site v t.0 × Stands site t.0 t.1)) (keys_own site.name (site_keys site t.0 t.1))
+abbrev pub word_knows : Site → ℕ → List Entry × List (HeldKey Entry) → Fml
+word_knows site v t = fsep (fact (ShowsWord site v t.0 × Stands site t.0 t.1)) (keys_own site.name (site_keys site t.0 t.1))
 
 abbrev pub word_owns : Site → ℕ → Fml
-word_owns site v = fex (List Entry × List (Held Entry)) (word_knows site v)
+word_owns site v = fex (List Entry × List (HeldKey Entry)) (word_knows site v)
 
 abbrev pub word_lies : Site → ℕ → ℕ → ℕ → Fml
 word_lies site b o v = fsep (word b o v) (word_owns site v)

@@ -18,13 +18,13 @@ pub struct Count {
 }
 
 impl Count {
-    ghost use Rattle.seize_words.specs.Counts.{AddsTo, AddsWith, Counts, GivesUp, IsCountOf, IsOfBook, Leaves, Takes, Walks, count_seen};
+    ghost use Rattle.seize_words.specs.Counts.{AddsTo, AddsWith, Counts, GivesUp, IsCountOf, IsCountOfBook, LeavesKeys, MayCountDown, TakesKeys, count_seen};
     ghost use Rattle.seize_book.specs.Kept.{AreTold};
     ghost use Rattle.seize_book.specs.Passes.{LooksOn};
     ghost use Rattle.seize_book.specs.Values.{AreOfBook, IsEmpty};
     ghost use Rattle.seize_book.specs.Blocks.{IsNear, count_word};
     ghost use Rattle.seize_book.specs.Books.{count_known, deposit_known};
-    ghost use Rattle.seize_book.specs.Slots.{IsOf, number_of};
+    ghost use Rattle.seize_book.specs.Slots.{IsKeyOfBook, slot_number};
 
     /// The word of a block's count, which is 0.
     pub fn new(key: CountKey) -> Count
@@ -43,7 +43,7 @@ impl Count {
     ///
     /// It takes no memory and waits for nobody: one atomic load.
     pub fn load(&self, pass: &mut Pass) -> u64
-        requires { IsOfBook self.now pass.old }
+        requires { IsCountOfBook self.now pass.old }
         ensures looks { LooksOn pass.old pass.new }
         ensures shows { result ≡ count_word (count_seen self.now pass.new) }
         ensures near { IsNear (count_seen self.now pass.new) }
@@ -58,12 +58,12 @@ impl Count {
     ///
     /// It takes no memory and waits for nobody: one atomic addition.
     pub fn add(&self, won: u64, key: &mut SlotKey, values: &mut ValueKeys, pass: &mut Pass) -> bool
-        requires book { IsOf key.old pass.old × IsOfBook self.now pass.old × AreOfBook values.old pass.old }
+        requires book { IsKeyOfBook key.old pass.old × IsCountOfBook self.now pass.old × AreOfBook values.old pass.old }
         requires adds { AddsWith key.old self.now won values.old }
         requires told { AreTold values.old pass.old }
-        ensures counts { Counts key.old pass.old key.new pass.new (AddCount (number_of key.old)) result }
+        ensures counts { Counts key.old pass.old key.new pass.new (AddCount (slot_number key.old)) result }
         ensures gives { (adds : AddsTo key.old self.now won) → GivesUp key.old key.new adds.batch [] adds.queue result }
-        ensures keys { Leaves values.old pass.new values.new result }
+        ensures keys { LeavesKeys values.old pass.new values.new result }
     {
         let both = &mut key.keys;
         both.join(&mut values.keys);
@@ -77,11 +77,11 @@ impl Count {
     ///
     /// It takes no memory and waits for nobody: one atomic subtraction.
     pub fn subtract(&self, key: &mut SlotKey, values: &mut ValueKeys, pass: &mut Pass) -> bool
-        requires book { IsOf key.old pass.old × IsOfBook self.now pass.old × IsEmpty values.old pass.old }
-        requires walks { Walks key.old self.now }
-        ensures counts { Counts key.old pass.old key.new pass.new (SubCount (number_of key.old)) result }
-        ensures gives { (walks : Walks key.old self.now) → GivesUp key.old key.new walks.batch walks.walk walks.queue result }
-        ensures keys { (walks : Walks key.old self.now) → Takes key.old walks.batch pass.new values.new result }
+        requires book { IsKeyOfBook key.old pass.old × IsCountOfBook self.now pass.old × IsEmpty values.old pass.old }
+        requires walks { MayCountDown key.old self.now }
+        ensures counts { Counts key.old pass.old key.new pass.new (SubCount (slot_number key.old)) result }
+        ensures gives { (walks : MayCountDown key.old self.now) → GivesUp key.old key.new walks.batch walks.walk walks.queue result }
+        ensures keys { (walks : MayCountDown key.old self.now) → TakesKeys key.old walks.batch pass.new values.new result }
     {
         let both = &mut key.keys;
         let old = self.word.subtract::<Brand>(1, both, pass);

@@ -1,7 +1,7 @@
 //! Blocks in a store: from the number that a word shows to the words of its block. It stands on chunks and on the store.
 ghost use Rattle.std.specs.Prelude.{◌≡◌, ◌+◌, ◌<◌, ◌^◌, ◌⊎◌, ◌↔◌, [], ◌∷◌, ◌++◌, ℕ, IfErr, IfOk, Some, true};
 ghost use Rattle.seize_store.specs.Known.{family_in};
-ghost use Rattle.seize_store.specs.Named.{name_of};
+ghost use Rattle.seize_store.specs.Named.{store_name};
 
 use crate::chunk::{Header, Part};
 use crate::glimpse::Glimpse;
@@ -18,31 +18,31 @@ pub struct Blocks<T> {
     store: Store<Header, Part, T>,
     /// The book.
     pub book: Book,
-    ghost stands: { book.name.store ≡ Some (name_of store) },
-    ghost kin: { family_in (name_of store) ≡ book.name.family },
+    ghost stands: { book.name.store ≡ store_name store },
+    ghost kin: { family_in (store_name store) ≡ book.name.family },
 }
 
 impl<T: Drop> Blocks<T> {
     ghost use Rattle.seize_book.specs.Books.{IsNextIn};
-    ghost use Rattle.seize_store.specs.Named.{bare_number, bare_title, bare_value, hollow_store, hollow_title, is_empty_list, store_of, title_of, titles_of, titles_with, value_of as owned_value};
+    ghost use Rattle.seize_store.specs.Named.{bare_number, bare_title, bare_value, hollow_store, hollow_title, is_empty_list, owned_value, store_of, title_of, titles_of, titles_with};
     ghost use Rattle.seize_table.specs.declared.refusal.Refusal.TheVariants.{NoMemory};
-    ghost use Rattle.seize_words.specs.Chunks.{AreSpotsIn, IsBlockAfter, IsBlockIn, IsFoundAs, IsFoundAt, IsHeaderOf, IsLentAs, IsPartOf, LayIn, LendsIn, LiesIn, StandsAt, book_in};
+    ghost use Rattle.seize_words.specs.Chunks.{AreSpotsIn, IsBlockAfter, IsBlockIn, IsFoundAs, IsFoundAt, IsHeaderOf, IsLentAs, IsPartOf, LayIn, LendsIn, LiesIn, StandsAt, blocks_book};
     ghost use Rattle.seize_book.specs.Others.{IsLast, IsVacated, IsValueOf, book_of, value_of};
-    ghost use Rattle.seize_book.specs.Blocks.{block_of};
+    ghost use Rattle.seize_book.specs.Blocks.{block_number};
     ghost use Rattle.seize_book.specs.Notes.{HasNoted, IsUnchanged, cell_in};
     ghost use Rattle.seize_words.specs.Noted.{IsNoted, note_code};
     ghost use Rattle.seize_book.specs.Lending.{IsInBlockOf, IsLentKey};
     ghost use Rattle.seize_book.specs.Homesteads.{HasNumber, state_seen};
     ghost use Rattle.seize_words.specs.Headers.{IsFrontBlock};
     ghost use Rattle.seize_book.specs.Passes.{LooksOn};
-    ghost use Rattle.seize_book.specs.Slots.{IsOf, IsStill, hands_next, slot_of};
+    ghost use Rattle.seize_book.specs.Slots.{IsKeyOfBook, IsStill, hands_next, slot_of};
     ghost use Rattle.seize_book.specs.Values.{IsEmpty};
     ghost use Rattle.seize_words.specs.Walks.{CountsDown, IsAtBatch, Knows};
 
     /// Those of a book whose blocks lie in this store.
     pub(crate) fn of(store: Store<Header, Part, T>, book: Book) -> Blocks<T>
-        requires lies { book.name.store ≡ Some (name_of store) }
-        requires kin { family_in (name_of store) ≡ book.name.family }
+        requires lies { book.name.store ≡ store_name store }
+        requires kin { family_in (store_name store) ≡ book.name.family }
         ensures { result.book ≡ book }
     {
         Blocks { store, book }
@@ -59,7 +59,7 @@ impl<T: Drop> Blocks<T> {
         value: T,
         pass: &mut Pass,
     ) -> Result<(ValueKey, Bare<Header, Part, T>), (Refusal, T)>
-        requires { book_in self.now ≡ pass.old.name }
+        requires { blocks_book self.now ≡ pass.old.name }
         ensures pass { pass.new ≡ pass.old }
         ensures made { IfOk result (λ made. IsBlockIn self.now value made.0 made.1) }
         ensures refused { IfErr result (λ refused. (refused.0 ≡ NoMemory) × (refused.1 ≡ value)) }
@@ -79,7 +79,7 @@ impl<T: Drop> Blocks<T> {
         value: T,
         pass: &mut Pass,
     ) -> Result<(ValueKey, Bare<Header, Part, T>), (Refusal, T)>
-        requires book { book_in self.now ≡ pass.old.name }
+        requires book { blocks_book self.now ≡ pass.old.name }
         requires spots { AreSpotsIn self.now spots.old }
         ensures pass { pass.new ≡ pass.old }
         ensures made { IfOk result (λ made. IsBlockIn self.now value made.0 made.1) }
@@ -110,8 +110,8 @@ impl<T: Drop> Blocks<T> {
         block: Owned<Header, Part, T>,
         pass: &mut Pass,
     ) -> (ValueKey, Bare<Header, Part, T>)
-        requires book { book_in self.now ≡ pass.old.name }
-        requires store { (book_in self.now).store ≡ Some (store_of block) }
+        requires book { blocks_book self.now ≡ pass.old.name }
+        requires store { (blocks_book self.now).store ≡ store_of block }
         ensures pass { pass.new ≡ pass.old }
         ensures made { IsBlockIn self.now (owned_value block) result.0 result.1 }
         ensures title { bare_title result.1 ≡ title_of block }
@@ -141,7 +141,7 @@ impl<T: Drop> Blocks<T> {
     ///
     /// It takes no memory: three loads, each of which waits for the one before, with that of what is read in the value.
     pub fn see<'g>(&'g self, number: u64, glimpse: Glimpse<'g>, pass: &mut Pass) -> &'g T
-        requires book { book_in self.now ≡ pass.old.name }
+        requires book { blocks_book self.now ≡ pass.old.name }
         requires found { IsFoundAt glimpse.value number pass.old }
         ensures looks { LooksOn pass.old pass.new }
         ensures code { IsFoundAs glimpse.entry.value (T.row.coded.code result.now) }
@@ -156,8 +156,8 @@ impl<T: Drop> Blocks<T> {
     ///
     /// It takes no memory: three loads, each of which waits for the one before, with that of what is read in the value.
     pub fn peek<'g>(&'g self, number: u64, key: &'g ValueKey) -> &'g T
-        requires book { book_of key.now ≡ book_in self.now }
-        requires lent { IsLentKey key.now × (block_of (value_of key.now) ≡ number) }
+        requires book { book_of key.now ≡ blocks_book self.now }
+        requires lent { IsLentKey key.now × (block_number (value_of key.now) ≡ number) }
         ensures code { IsLentAs (value_of key.now) (T.row.coded.code result.now) }
     {
         let row = key.row();
@@ -175,11 +175,11 @@ impl<T: Drop> Blocks<T> {
         slot: &mut SlotKey,
         pass: &mut Pass,
     ) -> Bare<Header, Part, T>
-        requires book { IsValueOf key.old pass.old × IsOf slot.old pass.old × (book_in self.now ≡ pass.old.name) }
+        requires book { IsValueOf key.old pass.old × IsKeyOfBook slot.old pass.old × (blocks_book self.now ≡ pass.old.name) }
         requires knows { Knows slot.old pass.old }
         requires soon { hands_next (slot_of slot.old) ≡ Some (value_of key.old) }
         requires last { IsLast key.old }
-        requires lent { IsLentKey key.old × (block_of (value_of key.old) ≡ number) }
+        requires lent { IsLentKey key.old × (block_number (value_of key.old) ≡ number) }
         ensures looks { LooksOn pass.old pass.new }
         ensures slot { IsStill slot.old slot.new }
         ensures knows { Knows slot.new pass.new }
@@ -200,7 +200,7 @@ impl<T: Drop> Blocks<T> {
         key: &mut ValueKey,
         pass: &mut Pass,
     ) -> Bare<Header, Part, T>
-        requires book { IsValueOf key.old pass.old × (book_in self.now ≡ pass.old.name) }
+        requires book { IsValueOf key.old pass.old × (blocks_book self.now ≡ pass.old.name) }
         requires new { IsNextIn key.old number }
         requires lent { IsLentKey key.old }
         ensures pass { pass.new ≡ pass.old }
@@ -216,7 +216,7 @@ impl<T: Drop> Blocks<T> {
     /// The value of a block whose values were all reclaimed. Its chunk is in again, with the block's key, by one swap; where the store is
     /// gone, the chunk's memory goes back.
     pub fn take_back(&self, key: ValueKey, block: Bare<Header, Part, T>) -> T
-        requires book { book_of key ≡ book_in self.now }
+        requires book { book_of key ≡ blocks_book self.now }
         requires vacant { IsVacated key }
         requires lies { LiesIn key block }
         ensures { result ≡ bare_value block }
@@ -229,7 +229,7 @@ impl<T: Drop> Blocks<T> {
     /// The same where the value was taken out before (`Bare::take`), as by a reclaimer that has it before it names further ones: when all
     /// values of the block were reclaimed, its chunk is in again with the block's key.
     pub fn lay_back(&self, key: ValueKey, hollow: Hollow<Header, Part, T>)
-        requires book { book_of key ≡ book_in self.now }
+        requires book { book_of key ≡ blocks_book self.now }
         requires vacant { IsVacated key }
         requires lay { LayIn key hollow }
     {
@@ -244,9 +244,9 @@ impl<T: Drop> Blocks<T> {
         hollow: Hollow<Header, Part, T>,
         spots: &mut Spots<Header, Part, T>,
     )
-        requires book { book_of key ≡ book_in self.now }
+        requires book { book_of key ≡ blocks_book self.now }
         requires vacant { IsVacated key }
-        requires lay { LayIn key hollow × ((book_in self.now).store ≡ Some (hollow_store hollow)) }
+        requires lay { LayIn key hollow × ((blocks_book self.now).store ≡ hollow_store hollow) }
         requires spots { AreSpotsIn self.now spots.old }
         ensures spots { AreSpotsIn self.now spots.new }
         ensures last { titles_of spots.new ≡ titles_with (titles_of spots.old) (hollow_title hollow) }
@@ -256,7 +256,7 @@ impl<T: Drop> Blocks<T> {
 
     // What goes with a chunk whose values were all reclaimed.
     fn part(&self, key: ValueKey) -> Part
-        requires book { book_of key ≡ book_in self.now }
+        requires book { book_of key ≡ blocks_book self.now }
         requires vacant { IsVacated key }
         ensures { IsPartOf key result }
     {
@@ -270,7 +270,7 @@ impl<T: Drop> Blocks<T> {
     ///
     /// It takes no memory: three loads, each of which waits for the one before, with that of the word that is read in the header.
     pub fn header(&self, number: u64, pass: &mut Pass) -> &Header
-        requires book { book_in self.now ≡ pass.old.name }
+        requires book { blocks_book self.now ≡ pass.old.name }
         requires named { HasNumber number (state_seen pass.old) }
         ensures looks { LooksOn pass.old pass.new }
         ensures header { IsHeaderOf result.now number pass.new }
@@ -285,7 +285,7 @@ impl<T: Drop> Blocks<T> {
     /// Whether these are the numbers of one block. So two values that stand, as the pass has seen then, are the same just where their
     /// numbers are; that of a value which was reclaimed may be another one's too. The pass looks at the list. It only compares.
     pub fn same(&self, one: u64, other: u64, pass: &mut Pass) -> bool
-        requires book { book_in self.now ≡ pass.old.name }
+        requires book { blocks_book self.now ≡ pass.old.name }
         requires named { HasNumber one (state_seen pass.old) }
         ensures looks { LooksOn pass.old pass.new }
         ensures same { (v w : ℕ) → StandsAt v one pass.new → StandsAt w other pass.new → (result ≡ true) ↔ (v ≡ w) }
@@ -299,8 +299,8 @@ impl<T: Drop> Blocks<T> {
     ///
     /// It takes no memory: two loads, each of which waits for the one before.
     pub fn cell(&self, number: u64, key: &ValueKey) -> &TokenCell<Note>
-        requires book { book_of key.now ≡ book_in self.now }
-        requires number { block_of (value_of key.now) ≡ number }
+        requires book { book_of key.now ≡ blocks_book self.now }
+        requires number { block_number (value_of key.now) ≡ number }
         ensures cell { result.now.name ≡ cell_in key.now }
         ensures fits { number + 2 < 2 ^ 64 }
     {
@@ -315,8 +315,8 @@ impl<T: Drop> Blocks<T> {
     ///
     /// It takes no memory: a look-up, as `header`, and a plain read.
     pub fn note(&self, number: u64, key: &mut ValueKey) -> Note
-        requires book { book_of key.old ≡ book_in self.now }
-        requires number { block_of (value_of key.old) ≡ number }
+        requires book { book_of key.old ≡ blocks_book self.now }
+        requires number { block_number (value_of key.old) ≡ number }
         ensures same { IsUnchanged key.old key.new }
         ensures note { IsNoted result key.old }
     {
@@ -328,8 +328,8 @@ impl<T: Drop> Blocks<T> {
     ///
     /// It takes no memory: a look-up, as `header`, and a plain write.
     pub fn set_note(&self, number: u64, note: Note, key: &mut ValueKey)
-        requires book { book_of key.old ≡ book_in self.now }
-        requires number { block_of (value_of key.old) ≡ number }
+        requires book { book_of key.old ≡ blocks_book self.now }
+        requires number { block_number (value_of key.old) ≡ number }
         ensures noted { HasNoted (note_code note) key.old key.new }
     {
         key.set_note(self.cell(number, key), note);
@@ -347,7 +347,7 @@ impl<T: Drop> Blocks<T> {
         values: &mut ValueKeys,
         pass: &mut Pass,
     ) -> (u64, bool, u64)
-        requires book { IsOf key.old pass.old × (book_in self.now ≡ pass.old.name) × IsEmpty values.old pass.old }
+        requires book { IsKeyOfBook key.old pass.old × (blocks_book self.now ≡ pass.old.name) × IsEmpty values.old pass.old }
         requires knows { Knows key.old pass.old }
         requires at { IsAtBatch key.old word }
         ensures knows { Knows key.new pass.new }

@@ -19,10 +19,10 @@ pub struct Field {
 }
 
 impl Field {
-    ghost use Rattle.seize_words.specs.Headers.{IsFieldOf, IsOfBook, MayLoad, MayStore, Shows, Uses, Wrote, number, told_seen};
+    ghost use Rattle.seize_words.specs.Headers.{IsFieldOf, IsFieldOfBook, MayLoad, MayStore, ShowsField, Uses, Wrote, field_number, told_seen};
     ghost use Rattle.seize_book.specs.Books.{told_known};
     ghost use Rattle.seize_book.specs.Passes.{LooksOn};
-    ghost use Rattle.seize_book.specs.Slots.{IsOf, IsStill};
+    ghost use Rattle.seize_book.specs.Slots.{IsKeyOfBook, IsStill};
 
     /// The word of a field in which nothing was stored.
     pub fn new(key: FieldKey) -> Field
@@ -40,9 +40,9 @@ impl Field {
     ///
     /// It takes no memory and waits for nobody: one atomic swap.
     pub fn store(&self, value: u64, key: &mut SlotKey, pass: &mut Pass)
-        requires book { IsOf key.old pass.old × IsOfBook self.now pass.old }
+        requires book { IsKeyOfBook key.old pass.old × IsFieldOfBook self.now pass.old }
         requires stored { MayStore self.now key.old }
-        ensures uses { Uses key.old pass.old key.new pass.new (number self.now) value }
+        ensures uses { Uses key.old pass.old key.new pass.new (field_number self.now) value }
         ensures wrote { Wrote self.now key.old key.new value }
     {
         self.word.replace::<Brand>(value, &mut key.keys, pass);
@@ -53,11 +53,11 @@ impl Field {
     ///
     /// It takes no memory and waits for nobody: one atomic load.
     pub fn load(&self, key: &mut SlotKey, pass: &mut Pass) -> u64
-        requires book { IsOf key.old pass.old × IsOfBook self.now pass.old }
+        requires book { IsKeyOfBook key.old pass.old × IsFieldOfBook self.now pass.old }
         requires passed { MayLoad self.now key.old }
         ensures looks { LooksOn pass.old pass.new × IsStill key.old key.new }
         ensures told { result ≡ told_seen self.now pass.new }
-        ensures shows { Shows self.now key.old result }
+        ensures shows { ShowsField self.now key.old result }
     {
         self.word.look(&mut key.keys, pass)
     }

@@ -72,11 +72,11 @@ impl Expects for Brand {
 }
 
 impl Link {
-    ghost use Rattle.seize_words.specs.LinkWords.{CompareExchanges, HasNext, IsIn, IsNext, IsNewFor, Reads, Sees, Swaps};
+    ghost use Rattle.seize_words.specs.LinkWords.{CompareExchanges, HasNextLink, IsLinkFor, IsNext, IsNewFor, Reads, Sees, Swaps};
 
     /// The first of the links that were not made yet. It is empty.
     pub fn next(left: &mut LinkKeys) -> Link
-        requires { HasNext left.old }
+        requires { HasNextLink left.old }
         ensures { IsNext left.old result left.new }
     {
         let mut rest = left.keys.none();
@@ -91,7 +91,7 @@ impl Link {
     ///
     /// It takes no memory and waits for nobody: one atomic load.
     pub fn see<'g>(&self, activation: &'g Activation, pass: &mut Pass) -> (u64, Glimpse<'g>)
-        requires within { IsIn self.now activation.now pass.old }
+        requires within { IsLinkFor self.now activation.now pass.old }
         ensures sees { Sees self.now activation.now pass.old pass.new result.0 result.1 }
     {
         let mut keys = Keys::empty(pass);
@@ -100,15 +100,15 @@ impl Link {
 
     /// The same, and the word alone.
     pub fn read(&self, activation: &Activation, pass: &mut Pass) -> u64
-        requires within { IsIn self.now activation.now pass.old }
+        requires within { IsLinkFor self.now activation.now pass.old }
         ensures reads { Reads self.now activation.now pass.old pass.new result }
     {
         self.see(activation, pass).0
     }
 
     /// Puts a value that was never named into the link, or none: the event `ExchangeLink` of the activation's slot. All values that lay in
-    /// its block before were reclaimed, and something is lent with it, if the blocks of its book lie in a store. It gives the word of what
-    /// the link held, and the key of that, in place of the value's.
+    /// its block before were reclaimed, and something is lent with it. It gives the word of what the link held, and the key of that, in
+    /// place of the value's.
     ///
     /// It takes no memory and waits for nobody: one atomic swap.
     pub fn swap(
@@ -118,7 +118,7 @@ impl Link {
         activation: &Activation,
         pass: &mut Pass,
     ) -> u64
-        requires within { IsIn self.now activation.now pass.old }
+        requires within { IsLinkFor self.now activation.now pass.old }
         requires new { IsNewFor self.now value.old new }
         ensures swaps { Swaps self.now activation.now value.old pass.old value.new pass.new result }
     {
@@ -141,7 +141,7 @@ impl Link {
         activation: &'g Activation,
         pass: &mut Pass,
     ) -> (u64, Glimpse<'g>)
-        requires within { IsIn self.now activation.now pass.old }
+        requires within { IsLinkFor self.now activation.now pass.old }
         requires new { IsNewFor self.now value.old new }
         requires seen { seen ≡ link_word E.current }
         ensures exchanges { CompareExchanges self.now activation.now value.old pass.old E.current value.new pass.new result.0 result.1 }

@@ -21,8 +21,8 @@ pub struct Head {
 }
 
 impl Head {
-    ghost use Rattle.seize_words.specs.Reservations.{FoundBefore, IsActivationOf, IsHeadOf, IsLastOf, IsOfBook, IsOut, IsOwn, MayRead, Shows, TriesAt, WalksOn, beginning, head_known, slot};
-    ghost use Rattle.seize_book.specs.Slots.{IsOf, Notes, NotesAs, active_of, number_of, slot_of};
+    ghost use Rattle.seize_words.specs.Reservations.{FoundBefore, IsActivationOf, IsHeadOf, IsHeadOfBook, IsLastOf, IsOut, IsOwnHead, MayRead, ShowsHead, TriesAt, WalksFrom, beginning, head_known, slot};
+    ghost use Rattle.seize_book.specs.Slots.{IsKeyOfBook, Notes, NotesAs, active_of, slot_number, slot_of};
 
     /// The word of an inactive slot's head. The slot may be one that is not there yet.
     pub fn new(key: HeadKey) -> Head
@@ -39,10 +39,10 @@ impl Head {
     ///
     /// It takes no memory and waits for nobody: one atomic load.
     pub fn read(&self, key: &mut SlotKey, pass: &mut Pass) -> u64
-        requires book { IsOf key.old pass.old × IsOfBook self.now pass.old }
+        requires book { IsKeyOfBook key.old pass.old × IsHeadOfBook self.now pass.old }
         requires reads { MayRead key.old self.now pass.old }
-        ensures noted { Notes key.old pass.old key.new pass.new (ReadHead (number_of key.old) (slot self.now)) }
-        ensures shows { Shows self.now pass.new.seen result }
+        ensures noted { Notes key.old pass.old key.new pass.new (ReadHead (slot_number key.old) (slot self.now)) }
+        ensures shows { ShowsHead self.now pass.new.seen result }
     {
         self.word.load::<Brand>(&mut key.keys, pass)
     }
@@ -53,9 +53,9 @@ impl Head {
     ///
     /// It takes no memory and waits for nobody: one atomic compare and exchange.
     pub fn insert(&self, seen: u64, block: u64, key: &mut SlotKey, pass: &mut Pass) -> u64
-        requires book { IsOf key.old pass.old × IsOfBook self.now pass.old }
+        requires book { IsKeyOfBook key.old pass.old × IsHeadOfBook self.now pass.old }
         requires tries { TriesAt key.old self.now seen block }
-        ensures noted { Notes key.old pass.old key.new pass.new (Insert (number_of key.old) (slot self.now) (found_end seen result)) }
+        ensures noted { Notes key.old pass.old key.new pass.new (Insert (slot_number key.old) (slot self.now) (found_end seen result)) }
         ensures found { FoundBefore self.now pass.new result }
     {
         self.word
@@ -66,9 +66,9 @@ impl Head {
     ///
     /// It takes no memory and waits for nobody: one atomic swap.
     pub fn enter(&self, key: &mut SlotKey, pass: &mut Pass) -> Activation
-        requires book { IsOf key.old pass.old × IsOfBook self.now pass.old × IsOwn self.now key.old }
+        requires book { IsKeyOfBook key.old pass.old × IsHeadOfBook self.now pass.old × IsOwnHead self.now key.old }
         requires outside { (is_idle (slot_of key.old) ≡ true) × (active_of key.old ≡ false) }
-        ensures noted { NotesAs key.old pass.old key.new pass.new (beginning pass.old result.life (Enter (number_of key.old))) }
+        ensures noted { NotesAs key.old pass.old key.new pass.new (beginning pass.old result.life (Enter (slot_number key.old))) }
         ensures activation { IsActivationOf key.new result }
     {
         let mut activation = Activation::new(&mut key.keys);
@@ -82,12 +82,12 @@ impl Head {
     ///
     /// It takes no memory and waits for nobody: one atomic swap.
     pub fn leave(&self, activation: Activation, key: &mut SlotKey, pass: &mut Pass) -> u64
-        requires book { IsOf key.old pass.old × IsOfBook self.now pass.old × IsOwn self.now key.old }
+        requires book { IsKeyOfBook key.old pass.old × IsHeadOfBook self.now pass.old × IsOwnHead self.now key.old }
         requires leaving { IsOut key.old false }
         requires last { IsLastOf key.old activation }
-        ensures noted { Notes key.old pass.old key.new pass.new (SwapOut (number_of key.old)) }
+        ensures noted { Notes key.old pass.old key.new pass.new (SwapOut (slot_number key.old)) }
         ensures found { FoundBefore self.now pass.new result }
-        ensures walks { (leaving : IsOut key.old false) → WalksOn self.now key.new result leaving.0 }
+        ensures walks { (leaving : IsOut key.old false) → WalksFrom self.now key.new result leaving.0 }
     {
         let mut last = activation;
         let mut ended = last.renew();
@@ -99,13 +99,13 @@ impl Head {
     ///
     /// It takes no memory and waits for nobody: one atomic swap.
     pub fn refresh(&self, activation: &mut Activation, key: &mut SlotKey, pass: &mut Pass) -> u64
-        requires book { IsOf key.old pass.old × IsOfBook self.now pass.old × IsOwn self.now key.old }
+        requires book { IsKeyOfBook key.old pass.old × IsHeadOfBook self.now pass.old × IsOwnHead self.now key.old }
         requires refreshing { IsOut key.old true }
         requires last { IsLastOf key.old activation.old }
-        ensures noted { NotesAs key.old pass.old key.new pass.new (beginning pass.old activation.new.life (SwapOut (number_of key.old))) }
+        ensures noted { NotesAs key.old pass.old key.new pass.new (beginning pass.old activation.new.life (SwapOut (slot_number key.old))) }
         ensures activation { IsActivationOf key.new activation.new }
         ensures found { FoundBefore self.now pass.new result }
-        ensures walks { (refreshing : IsOut key.old true) → WalksOn self.now key.new result refreshing.0 }
+        ensures walks { (refreshing : IsOut key.old true) → WalksFrom self.now key.new result refreshing.0 }
     {
         let mut ended = activation.renew();
         let word = self.word.swap::<Brand>(1, &mut key.keys, &mut ended, pass);

@@ -63,7 +63,7 @@ pub struct Slots {
     pub total: Total,
     /// The book.
     pub book: Book,
-    ghost lies: { book.name.table ≡ Some (name_of table) },
+    ghost lies: { book.name.table ≡ name_of table },
     ghost counts: { total.word.name ≡ book.name },
 }
 
@@ -73,12 +73,12 @@ impl Slots {
     ghost use Rattle.seize_table.specs.declared.refusal.Refusal.TheVariants.{NoMemory};
     ghost use Rattle.seize_words.specs.Named.{total_key_book};
     ghost use Rattle.seize_book.specs.Passes.{LooksOn};
-    ghost use Rattle.seize_words.specs.Reserved.{AreAll, HasNext, IsCount, IsHeadAt, IsSame, MakesNext, comes_to, ends_at, heads_book, slots_book};
+    ghost use Rattle.seize_words.specs.Reserved.{AreAll, HasNextSlot, IsHeadAt, IsSameNext, IsSlotCount, MakesNextSlot, comes_to, heads_book, heads_end, slots_book};
     ghost use Rattle.seize_words.specs.Totals.{NumbersOf, slots_seen, total_known};
 
-    /// Those of a book that has no slot yet, and whose heads lie in this table: as for a book whose blocks lie in a store.
+    /// Those of a book that has no slot yet, and whose heads lie in this table.
     pub fn of(table: ThreadLocal<Reservation>, total: TotalKey, book: Book) -> Slots
-        requires lies { book.name.table ≡ Some (name_of table) }
+        requires lies { book.name.table ≡ name_of table }
         requires total { (total_key_book total ≡ book.name) × (total_known total ≡ 0) }
         ensures { result.book ≡ book }
     {
@@ -103,9 +103,9 @@ impl Slots {
         pass: &mut Pass,
     ) -> Result<(SlotKey, NextSlot), (Refusal, NextSlot)>
         requires book { (slots_book self.now ≡ pass.old.name) × NumbersOf numbers.old pass.old }
-        requires next { HasNext numbers.old next }
-        ensures made { IfOk result (λ made. MakesNext numbers.old next pass.old numbers.new made.0 made.1 pass.new) }
-        ensures refused { IfErr result (λ e. (e.0 ≡ NoMemory) × IsSame next e.1) }
+        requires next { HasNextSlot numbers.old next }
+        ensures made { IfOk result (λ made. MakesNextSlot numbers.old next pass.old numbers.new made.0 made.1 pass.new) }
+        ensures refused { IfErr result (λ e. (e.0 ≡ NoMemory) × IsSameNext next e.1) }
         ensures unchanged { IfErr result (λ e. (numbers.new ≡ numbers.old) × (pass.new ≡ pass.old)) }
     {
         let NextSlot {
@@ -158,7 +158,7 @@ impl Slots {
     pub fn load(&self, pass: &mut Pass) -> (usize, AllFilled)
         requires book { slots_book self.now ≡ pass.old.name }
         ensures looks { LooksOn pass.old pass.new }
-        ensures count { IsCount pass.old pass.new result.0 }
+        ensures count { IsSlotCount pass.old pass.new result.0 }
         ensures all { AreAll self.now result.1 × (result.0 ≤ length result.1.labels) × (result.0 ≤ all_numbers) }
     {
         let count = self.total.load(pass) as usize;
@@ -170,7 +170,7 @@ impl Slots {
         requires all { AreAll self.now all.now }
         requires count { count ≤ length all.now.labels }
         requires in_table { count ≤ all_numbers }
-        ensures { (comes_to result ≡ 0) × (ends_at result ≡ count) × (heads_book result ≡ slots_book self.now) }
+        ensures { (comes_to result ≡ 0) × (heads_end result ≡ count) × (heads_book result ≡ slots_book self.now) }
     {
         Heads {
             walk: self.table.first(count, all),

@@ -15,10 +15,10 @@ pub struct Total {
 }
 
 impl Total {
-    ghost use Rattle.seize_book.specs.Slots.{IsOf};
+    ghost use Rattle.seize_book.specs.Slots.{IsKeyOfBook};
     ghost use Rattle.seize_book.specs.Passes.{LooksOn};
     ghost use Rattle.seize_book.specs.Tables.{IsPlaced};
-    ghost use Rattle.seize_words.specs.Totals.{AreNext, IsOfBook, IsTotalOf, MakesSlot, MayMake, NumbersOf, slots_seen, total_known};
+    ghost use Rattle.seize_words.specs.Totals.{AreNextKeys, IsTotalOf, IsTotalOfBook, MakesSlot, MayMake, NumbersOf, slots_seen, total_known};
 
     /// The word of a book that has no slot yet.
     pub fn new(key: TotalKey) -> Total
@@ -35,7 +35,7 @@ impl Total {
     ///
     /// It takes no memory and waits for nobody: one atomic load.
     pub fn load(&self, pass: &mut Pass) -> u64
-        requires { IsOfBook self.now pass.old }
+        requires { IsTotalOfBook self.now pass.old }
         ensures looks { LooksOn pass.old pass.new }
         ensures shows { result ≡ slots_seen pass.new }
     {
@@ -49,11 +49,11 @@ impl Total {
     ///
     /// It takes no memory and waits for nobody: one atomic addition.
     pub fn add(&self, key: &mut SlotKey, numbers: &mut NumbersKey, pass: &mut Pass) -> SlotKeys
-        requires book { IsOf key.old pass.old × NumbersOf numbers.old pass.old × IsOfBook self.now pass.old }
+        requires book { IsKeyOfBook key.old pass.old × NumbersOf numbers.old pass.old × IsTotalOfBook self.now pass.old }
         requires next { MayMake numbers.old key.old }
         requires place { IsPlaced key.old }
         ensures made { MakesSlot numbers.old key.old pass.old numbers.new key.new pass.new }
-        ensures next { AreNext numbers.new pass.new result }
+        ensures next { AreNextKeys numbers.new pass.new result }
     {
         let mut next = numbers.keys.none();
         let mut head = numbers.keys.none();

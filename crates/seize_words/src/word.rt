@@ -52,7 +52,7 @@ impl Finds for Brand {
 }
 
 impl Word {
-    ghost use Rattle.seize_words.specs.Atomic.{IsWordOf, Looks, MayLook, MaySeeIn, MayTake, MayTakeIn, MayTakeWith, SeesIn, Takes, TakesIn, TakesWith, exchanged, minus, plus, site_of};
+    ghost use Rattle.seize_words.specs.Atomic.{IsWordOf, LooksAtWord, MayLookAtWord, MaySeeIn, MayTakeIn, MayTakeStep, MayTakeWith, SeesIn, TakesIn, TakesStep, TakesWith, exchanged, minus, plus, site_of};
 
     /// A word that holds `bits` and has the keys of what it stands for.
     pub(crate) fn new(bits: u64, keys: &mut Keys) -> Word
@@ -64,16 +64,16 @@ impl Word {
 
     /// Reads the word and looks at the list, to which it adds nothing.
     pub(crate) fn look(&self, keys: &mut Keys, pass: &mut Pass) -> u64
-        requires { MayLook self.now keys.old pass.old }
-        ensures { Looks self.now keys.old pass.old keys.new pass.new result }
+        requires { MayLookAtWord self.now keys.old pass.old }
+        ensures { LooksAtWord self.now keys.old pass.old keys.new pass.new result }
     {
         unsafe { raw::load::<Brand>(self as *const Self as *const u64, SeqCst) }
     }
 
     /// Reads the word.
     pub(crate) fn load<P: Finds>(&self, keys: &mut Keys, pass: &mut Pass) -> u64
-        requires { MayTake self.now keys.old pass.old [] [] (λ v. v) P.entry P.trades }
-        ensures { Takes self.now keys.old pass.old keys.new pass.new [] (λ v. v) result P.entry P.trades }
+        requires { MayTakeStep self.now keys.old pass.old [] [] (λ v. v) P.entry P.trades }
+        ensures { TakesStep self.now keys.old pass.old keys.new pass.new [] (λ v. v) result P.entry P.trades }
     {
         unsafe { raw::load::<Brand>(self as *const Self as *const u64, SeqCst) }
     }
@@ -137,8 +137,8 @@ impl Word {
         ended: &mut Ended,
         pass: &mut Pass,
     ) -> u64
-        requires { MayTake self.now keys.old pass.old [] ended.old.lives (λ v. new) P.entry P.trades }
-        ensures { Takes self.now keys.old pass.old keys.new pass.new [] (λ v. new) result P.entry P.trades }
+        requires { MayTakeStep self.now keys.old pass.old [] ended.old.lives (λ v. new) P.entry P.trades }
+        ensures { TakesStep self.now keys.old pass.old keys.new pass.new [] (λ v. new) result P.entry P.trades }
     {
         unsafe { raw::swap::<Brand>(self as *const Self as *const u64, new, SeqCst) }
     }
@@ -151,16 +151,16 @@ impl Word {
         keys: &mut Keys,
         pass: &mut Pass,
     ) -> u64
-        requires { MayTake self.now keys.old pass.old [] [] (exchanged seen new) P.entry P.trades }
-        ensures { Takes self.now keys.old pass.old keys.new pass.new [] (exchanged seen new) result P.entry P.trades }
+        requires { MayTakeStep self.now keys.old pass.old [] [] (exchanged seen new) P.entry P.trades }
+        ensures { TakesStep self.now keys.old pass.old keys.new pass.new [] (exchanged seen new) result P.entry P.trades }
     {
         unsafe { exchange::<Brand>(self as *const Self as *const u64, seen, new) }
     }
 
     /// Stores `new` and gives what the word held.
     pub(crate) fn replace<P: Finds>(&self, new: u64, keys: &mut Keys, pass: &mut Pass) -> u64
-        requires { MayTake self.now keys.old pass.old [] [] (λ v. new) P.entry P.trades }
-        ensures { Takes self.now keys.old pass.old keys.new pass.new [] (λ v. new) result P.entry P.trades }
+        requires { MayTakeStep self.now keys.old pass.old [] [] (λ v. new) P.entry P.trades }
+        ensures { TakesStep self.now keys.old pass.old keys.new pass.new [] (λ v. new) result P.entry P.trades }
     {
         unsafe { raw::swap::<Brand>(self as *const Self as *const u64, new, SeqCst) }
     }
@@ -175,8 +175,8 @@ impl Word {
 
     /// Subtracts from the word, round 2^64, and gives what it held.
     pub(crate) fn subtract<P: Finds>(&self, less: u64, keys: &mut Keys, pass: &mut Pass) -> u64
-        requires { MayTake self.now keys.old pass.old [] [] (minus less) P.entry P.trades }
-        ensures { Takes self.now keys.old pass.old keys.new pass.new [] (minus less) result P.entry P.trades }
+        requires { MayTakeStep self.now keys.old pass.old [] [] (minus less) P.entry P.trades }
+        ensures { TakesStep self.now keys.old pass.old keys.new pass.new [] (minus less) result P.entry P.trades }
     {
         unsafe { raw::fetch_sub::<Brand>(self as *const Self as *const u64, less, SeqCst) }
     }

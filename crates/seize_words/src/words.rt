@@ -1,7 +1,7 @@
 //! Words: all that threads change of one book. The links lie in a row, the heads of the slots in a table, and the counts and fields of the
 //! blocks in a store. Each call makes one event by one atomic step, through `&self`. It joins `link`, `slots` and `blocks`.
 ghost use Rattle.std.specs.Prelude.{◌≡◌};
-ghost use Rattle.seize_words.specs.Chunks.{book_in};
+ghost use Rattle.seize_words.specs.Chunks.{blocks_book};
 ghost use Rattle.seize_words.specs.Named.{links_name};
 ghost use Rattle.seize_words.specs.Reserved.{slots_book};
 
@@ -30,36 +30,37 @@ pub struct Words<T> {
     pub slots: Slots,
     /// The blocks, with their counts and fields, by their numbers.
     pub blocks: Blocks<T>,
-    ghost linked: { links_name links ≡ book_in blocks },
-    ghost slotted: { slots_book slots ≡ book_in blocks },
+    ghost linked: { links_name links ≡ blocks_book blocks },
+    ghost slotted: { slots_book slots ≡ blocks_book blocks },
 }
 
 impl<T: Drop> Words<T> {
-    ghost use Rattle.std.specs.Prelude.{ℕ, [], ◌<◌, ◌⊎◌, ◌↔◌, Err, IfErr, IfOk, IfSome, Some, false, is_some, true};
+    ghost use Rattle.std.specs.Prelude.{[], ◌<◌, ◌⊎◌, ◌↔◌, Err, IfErr, IfOk, IfSome, Some, false, is_some, true};
     ghost use Rattle.seize_machine.specs.Machine.Event.{AddCount, Enter, Insert, ReadHead, SubCount, SwapOut};
     ghost use Rattle.seize_machine.specs.Machine.State.{is_idle};
-    ghost use Rattle.seize_store.specs.Named.{name_of as store_name};
+    ghost use Rattle.seize_store.specs.Named.{store_name};
     ghost use Rattle.seize_table.specs.Named.{name_of};
     ghost use Rattle.seize_table.specs.declared.refusal.Refusal.TheVariants.{NoMemory, NoNumbers};
     ghost use Rattle.seize_book.specs.Blocks.{link_word};
-    ghost use Rattle.seize_book.specs.Books.{HasKeys, Opens, OpensAlone};
-    ghost use Rattle.seize_words.specs.Counts.{Counts, GivesUp, Leaves, Takes};
+    ghost use Rattle.seize_book.specs.Books.{HasKeys};
+    ghost use Rattle.seize_words.specs.Counts.{Counts, GivesUp, LeavesKeys, TakesKeys};
     ghost use Rattle.seize_words.specs.Heads.{found_end};
-    ghost use Rattle.seize_words.specs.Joined.{AddsWithAt, IsAddingAt, IsCountingAt, IsHolder, IsInAt, IsNewTo, IsStoreOf, MayReadAt, OnHead, OnLink, OpensWords, OpensWordsAlone, TriesAtSlot, words_book, OpensWordsInTurns};
-    ghost use Rattle.seize_book.specs.Turns.{OpensInTurns};
+    ghost use Rattle.seize_words.specs.Joined.{AddsWithAt, IsAddingAt, IsCountingAt, IsHolder, IsInAt, IsNewTo, IsStoreOf, MayReadAt, OnHead, OnLink, OpensWords, TriesAtSlot, words_book};
+    ghost use Rattle.seize_book.specs.Porters.{Opens};
     ghost use Rattle.seize_words.specs.Chunks.{IsFoundAs};
     ghost use Rattle.seize_words.specs.LinkWords.{CompareExchanges, Finds, Sees, Swaps, held_before};
-    ghost use Rattle.seize_words.specs.Reservations.{FoundBefore, IsActivationOf, IsLastOf, IsOut, Shows, WalksOn, beginning};
-    ghost use Rattle.seize_words.specs.Reserved.{HasNext, IsSame, MakesNext};
-    ghost use Rattle.seize_book.specs.Slots.{IsOf, Notes, NotesAs, active_of, number_of, slot_of};
+    ghost use Rattle.seize_words.specs.Reservations.{FoundBefore, IsActivationOf, IsLastOf, IsOut, ShowsHead, WalksFrom, beginning};
+    ghost use Rattle.seize_words.specs.Reserved.{HasNextSlot, IsSameNext, MakesNextSlot};
+    ghost use Rattle.seize_book.specs.Slots.{IsKeyOfBook, Notes, NotesAs, active_of, slot_number, slot_of};
     ghost use Rattle.seize_words.specs.Totals.{NumbersOf, slots_seen};
     ghost use Rattle.seize_words.specs.Walks.{Knows};
     ghost use Rattle.seize_book.specs.Kept.{AreTold};
     ghost use Rattle.seize_book.specs.Values.{AreOfBook, IsEmpty};
 
-    /// The words of a new book, to which many may append, with so many links, which are empty, and no slot; and what its slots are made
-    /// with. A slot attempts its batch when that has `size` values, at least one. The table of heads has the buckets of the numbers from 0
-    /// to `capacity`. It asks for their memory and for that of the links; the store of blocks has no rows yet.
+    /// The words of a new book, with so many links, which are empty, and no slot; the porter of its passes, which is at home; and the keys
+    /// with which its slots are made. A slot attempts its batch when that has `size` values, and at least one; `Porter::set_size` sets
+    /// another size. The table of heads has the buckets of the numbers from 0 to `capacity`. It asks for their memory and for that of the
+    /// links; the store of blocks has no rows yet.
     ///
     /// # Errors
     ///
@@ -69,62 +70,15 @@ impl<T: Drop> Words<T> {
         capacity: usize,
         links: usize,
         size: usize,
-    ) -> Result<(Words<T>, NumbersKey, NextSlot), Refusal>
-        ensures made { IfOk result (λ opened. OpensWords opened.0 opened.1 opened.2 links size) }
-        ensures refused { IfErr result (λ e. (e ≡ NoNumbers) ⊎ (e ≡ NoMemory)) }
-        ensures no_numbers { (result ≡ Err NoNumbers) ↔ (MAX_INDEX < capacity) }
-    {
-        let table = ThreadLocal::with_capacity(alloc, capacity)?;
-        let (unopened, family) = Unopened::new();
-        let store = Store::new(alloc, &family);
-        let (book, keys) = Words::open::<Brand>(&store, &table, unopened, links, size);
-        Words::of(alloc, store, table, book, keys, links)
-    }
-
-    /// The same of a book to which one pass alone appends: it has seen all there is.
-    ///
-    /// # Errors
-    ///
-    /// As `new`.
-    pub fn new_alone(
-        alloc: Global,
-        capacity: usize,
-        links: usize,
-        size: usize,
-    ) -> Result<(Words<T>, Pass<'static>, NumbersKey, NextSlot), Refusal>
-        ensures made { IfOk result (λ opened. OpensWordsAlone opened.0 opened.1 opened.2 opened.3 links size) }
-        ensures refused { IfErr result (λ e. (e ≡ NoNumbers) ⊎ (e ≡ NoMemory)) }
-        ensures no_numbers { (result ≡ Err NoNumbers) ↔ (MAX_INDEX < capacity) }
-    {
-        let table = ThreadLocal::with_capacity(alloc, capacity)?;
-        let (unopened, family) = Unopened::new();
-        let store = Store::new(alloc, &family);
-        let (book, pass, keys) = Words::open_alone::<Brand>(&store, &table, unopened, links, size);
-        let (words, numbers, next) = Words::of(alloc, store, table, book, keys, links)?;
-        Ok((words, pass, numbers, next))
-    }
-
-    /// The same of a book whose passes come from the porter, which is at home.
-    ///
-    /// # Errors
-    ///
-    /// As `new`.
-    pub fn new_in_turns(
-        alloc: Global,
-        capacity: usize,
-        links: usize,
-        size: usize,
     ) -> Result<(Words<T>, Porter, NumbersKey, NextSlot), Refusal>
-        ensures made { IfOk result (λ opened. OpensWordsInTurns opened.0 opened.1 opened.2 opened.3 links size) }
+        ensures made { IfOk result (λ opened. OpensWords opened.0 opened.1 opened.2 opened.3 links size) }
         ensures refused { IfErr result (λ e. (e ≡ NoNumbers) ⊎ (e ≡ NoMemory)) }
         ensures no_numbers { (result ≡ Err NoNumbers) ↔ (MAX_INDEX < capacity) }
     {
         let table = ThreadLocal::with_capacity(alloc, capacity)?;
         let (unopened, family) = Unopened::new();
         let store = Store::new(alloc, &family);
-        let (book, porter, keys) = Words::open_in_turns::<Brand>(
-            &store, &table, unopened, links, size,
-        );
+        let (book, porter, keys) = Words::open::<Brand>(&store, &table, unopened, links, size);
         let (words, numbers, next) = Words::of(alloc, store, table, book, keys, links)?;
         Ok((words, porter, numbers, next))
     }
@@ -136,42 +90,12 @@ impl<T: Drop> Words<T> {
         unopened: Unopened,
         links: usize,
         size: usize,
-    ) -> (Book, BookKeys)
-        requires { (K.store ≡ Some (store_name _store.now)) × (K.table ≡ Some (name_of _table.now)) }
-        ensures book { Opens result.0 result.1 links size (Some (store_name _store.now)) (Some (name_of _table.now)) }
+    ) -> (Book, Porter, BookKeys)
+        requires { (K.store ≡ store_name _store.now) × (K.table ≡ name_of _table.now) }
+        ensures book { Opens result.0 result.1 result.2 links size (store_name _store.now) (name_of _table.now) }
         ensures family { result.0.name.family ≡ unopened.family }
     {
         unopened.open::<K>(links, size)
-    }
-
-    // The same, with its one pass.
-    fn open_alone<K: Keeps>(
-        _store: &Store<Header, Part, T>,
-        _table: &ThreadLocal<Reservation>,
-        unopened: Unopened,
-        links: usize,
-        size: usize,
-    ) -> (Book, Pass<'static>, BookKeys)
-        requires { (K.store ≡ Some (store_name _store.now)) × (K.table ≡ Some (name_of _table.now)) }
-        ensures book { OpensAlone result.0 result.1 result.2 links size (Some (store_name _store.now)) (Some (name_of _table.now)) }
-        ensures family { result.0.name.family ≡ unopened.family }
-    {
-        unopened.open_alone::<K>(links, size)
-    }
-
-    // The same, with its porter.
-    fn open_in_turns<K: Keeps>(
-        _store: &Store<Header, Part, T>,
-        _table: &ThreadLocal<Reservation>,
-        unopened: Unopened,
-        links: usize,
-        size: usize,
-    ) -> (Book, Porter, BookKeys)
-        requires { (K.store ≡ Some (store_name _store.now)) × (K.table ≡ Some (name_of _table.now)) }
-        ensures book { OpensInTurns result.0 result.1 result.2 links size (Some (store_name _store.now)) (Some (name_of _table.now)) }
-        ensures family { result.0.name.family ≡ unopened.family }
-    {
-        unopened.open_in_turns::<K>(links, size)
     }
 
     // The words of a book that has just begun, whose blocks lie in this store, and whose heads lie in this table; and what its slots are
@@ -184,9 +108,9 @@ impl<T: Drop> Words<T> {
         keys: BookKeys,
         links: usize,
     ) -> Result<(Words<T>, NumbersKey, NextSlot), Refusal>
-        requires lie { IsStoreOf store book × (book.name.table ≡ Some (name_of table)) }
-        requires keys { (size : ℕ) × HasKeys book keys links size book.name.store book.name.table }
-        ensures made { IfOk result (λ made. (made.0.blocks.book ≡ book) × (made.1 ≡ keys.numbers) × HasNext made.1 made.2) }
+        requires lie { IsStoreOf store book × (book.name.table ≡ name_of table) }
+        requires keys { HasKeys book keys links book.name.store book.name.table }
+        ensures made { IfOk result (λ made. (made.0.blocks.book ≡ book) × (made.1 ≡ keys.numbers) × HasNextSlot made.1 made.2) }
         ensures refused { IfErr result (λ e. e ≡ NoMemory) }
     {
         let BookKeys {
@@ -219,9 +143,9 @@ impl<T: Drop> Words<T> {
         pass: &mut Pass,
     ) -> Result<(SlotKey, NextSlot), (Refusal, NextSlot)>
         requires book { (words_book self.now ≡ pass.old.name) × NumbersOf numbers.old pass.old }
-        requires next { HasNext numbers.old next }
-        ensures made { IfOk result (λ made. MakesNext numbers.old next pass.old numbers.new made.0 made.1 pass.new) }
-        ensures refused { IfErr result (λ e. (e.0 ≡ NoMemory) × IsSame next e.1) }
+        requires next { HasNextSlot numbers.old next }
+        ensures made { IfOk result (λ made. MakesNextSlot numbers.old next pass.old numbers.new made.0 made.1 pass.new) }
+        ensures refused { IfErr result (λ e. (e.0 ≡ NoMemory) × IsSameNext next e.1) }
         ensures unchanged { IfErr result (λ e. (numbers.new ≡ numbers.old) × (pass.new ≡ pass.old)) }
     {
         self.slots.make(next, numbers, pass)
@@ -246,8 +170,8 @@ impl<T: Drop> Words<T> {
     pub fn read_head(&self, slot: usize, key: &mut SlotKey, pass: &mut Pass) -> u64
         requires book { words_book self.now ≡ pass.old.name }
         requires reads { MayReadAt key.old pass.old slot }
-        ensures noted { Notes key.old pass.old key.new pass.new (ReadHead (number_of key.old) slot) }
-        ensures shows { OnHead (words_book self.now) slot (λ head. Shows head pass.new.seen result) }
+        ensures noted { Notes key.old pass.old key.new pass.new (ReadHead (slot_number key.old) slot) }
+        ensures shows { OnHead (words_book self.now) slot (λ head. ShowsHead head pass.new.seen result) }
     {
         self.slots.head(slot, pass).read(key, pass)
     }
@@ -264,9 +188,9 @@ impl<T: Drop> Words<T> {
         key: &mut SlotKey,
         pass: &mut Pass,
     ) -> u64
-        requires book { (words_book self.now ≡ pass.old.name) × IsOf key.old pass.old × (slot < slots_seen pass.old) }
+        requires book { (words_book self.now ≡ pass.old.name) × IsKeyOfBook key.old pass.old × (slot < slots_seen pass.old) }
         requires tries { TriesAtSlot key.old slot seen block }
-        ensures noted { Notes key.old pass.old key.new pass.new (Insert (number_of key.old) slot (found_end seen result)) }
+        ensures noted { Notes key.old pass.old key.new pass.new (Insert (slot_number key.old) slot (found_end seen result)) }
         ensures found { OnHead (words_book self.now) slot (λ head. FoundBefore head pass.new result) }
     {
         self.slots.head(slot, pass).insert(seen, block, key, pass)
@@ -288,7 +212,7 @@ impl<T: Drop> Words<T> {
         requires leaving { IsOut key.old false × IsLastOf key.old activation }
         ensures noted { Notes key.old pass.old key.new pass.new (SwapOut slot) }
         ensures found { OnHead (words_book self.now) slot (λ head. FoundBefore head pass.new result) }
-        ensures walks { (out : IsOut key.old false) → OnHead (words_book self.now) slot (λ head. WalksOn head key.new result out.0) }
+        ensures walks { (out : IsOut key.old false) → OnHead (words_book self.now) slot (λ head. WalksFrom head key.new result out.0) }
     {
         self.slots.head(slot, pass).leave(activation, key, pass)
     }
@@ -310,7 +234,7 @@ impl<T: Drop> Words<T> {
         ensures noted { NotesAs key.old pass.old key.new pass.new (beginning pass.old activation.new.life (SwapOut slot)) }
         ensures activation { IsActivationOf key.new activation.new }
         ensures found { OnHead (words_book self.now) slot (λ head. FoundBefore head pass.new result) }
-        ensures walks { (out : IsOut key.old true) → OnHead (words_book self.now) slot (λ head. WalksOn head key.new result out.0) }
+        ensures walks { (out : IsOut key.old true) → OnHead (words_book self.now) slot (λ head. WalksFrom head key.new result out.0) }
     {
         self.slots.head(slot, pass).refresh(activation, key, pass)
     }
@@ -327,13 +251,13 @@ impl<T: Drop> Words<T> {
         values: &mut ValueKeys,
         pass: &mut Pass,
     ) -> bool
-        requires book { IsOf key.old pass.old × (words_book self.now ≡ pass.old.name) × AreOfBook values.old pass.old }
+        requires book { IsKeyOfBook key.old pass.old × (words_book self.now ≡ pass.old.name) × AreOfBook values.old pass.old }
         requires knows { Knows key.old pass.old }
         requires adds { AddsWithAt key.old block won values.old }
         requires told { AreTold values.old pass.old }
-        ensures counts { Counts key.old pass.old key.new pass.new (AddCount (number_of key.old)) result }
+        ensures counts { Counts key.old pass.old key.new pass.new (AddCount (slot_number key.old)) result }
         ensures gives { (adds : IsAddingAt key.old block won) → GivesUp key.old key.new adds.batch [] adds.queue result }
-        ensures keys { Leaves values.old pass.new values.new result }
+        ensures keys { LeavesKeys values.old pass.new values.new result }
         ensures knows { Knows key.new pass.new }
     {
         let header = self.blocks.header(block, pass);
@@ -351,12 +275,12 @@ impl<T: Drop> Words<T> {
         values: &mut ValueKeys,
         pass: &mut Pass,
     ) -> bool
-        requires book { IsOf key.old pass.old × (words_book self.now ≡ pass.old.name) × IsEmpty values.old pass.old }
+        requires book { IsKeyOfBook key.old pass.old × (words_book self.now ≡ pass.old.name) × IsEmpty values.old pass.old }
         requires knows { Knows key.old pass.old }
         requires counts { IsCountingAt key.old block }
-        ensures counts { Counts key.old pass.old key.new pass.new (SubCount (number_of key.old)) result }
+        ensures counts { Counts key.old pass.old key.new pass.new (SubCount (slot_number key.old)) result }
         ensures gives { (at : IsCountingAt key.old block) → GivesUp key.old key.new at.batch at.walk at.queue result }
-        ensures keys { (at : IsCountingAt key.old block) → Takes key.old at.batch pass.new values.new result }
+        ensures keys { (at : IsCountingAt key.old block) → TakesKeys key.old at.batch pass.new values.new result }
         ensures knows { Knows key.new pass.new }
     {
         let header = self.blocks.header(block, pass);

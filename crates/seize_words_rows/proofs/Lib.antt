@@ -1,7 +1,7 @@
+pub mod Did
 pub mod Leaves
 pub mod NumberedRuns
 pub mod Replacements
-pub mod Rows
 pub mod Runs
 pub mod SameLent
 pub mod Shared

@@ -3,19 +3,19 @@ use Rattle.std.proofs.Common.{◌≡◌, ℕ, ◌+◌, ◌-◌, ◌<◌, ◌^◌
 use Rattle.std.specs.Prelude.{slice_index_or}
 use mathlib.Core.List.{IsPrefix}
 use base.Growing.{prefix_refl}
-use Rattle.seize_machine.specs.Machine.State.{Slot, State, are_distinct, has, linked}
+use Rattle.seize_machine.specs.Machine.State.{Slot, State, are_distinct, has, linked_values}
 use Rattle.seize_machine.specs.Machine.Event.{Take}
-use Rattle.seize_machine.specs.Machine.History.{first_of}
+use Rattle.seize_machine.specs.Machine.History.{first_or_none}
 use Rattle.seize_machine.specs.declared.machine.event.Answer.TheVariants.{Done}
 use Rattle.seize_book.specs.Adding.{private}
-use Rattle.seize_book.specs.Blocks.{Plan, block_in, block_of, count_word, no_plan}
+use Rattle.seize_book.specs.Blocks.{Plan, block_in, block_number, count_word, no_plan}
 use Rattle.seize_book.specs.Book.{IsLegalList, after}
 use Rattle.seize_book.specs.Chains.{served}
 use Rattle.seize_book.specs.Entry.{Entry}
 use Rattle.seize_book.specs.Homes.{count_in, home_of}
 use Rattle.seize_book.specs.Homesteads.{state_seen}
 use Rattle.seize_book.specs.Passes.{LooksOn}
-use Rattle.seize_book.specs.Slots.{IsOf, Looks, number_of, written_of}
+use Rattle.seize_book.specs.Slots.{IsKeyOfBook, Looks, slot_number, written_of}
 use Rattle.seize_book.specs.Tokens.{Name, start}
 use Rattle.seize_book.specs.declared.book.numbers_key.NumbersKey.{NumbersKey}
 use Rattle.seize_book.specs.declared.book.pass.Pass.{Pass}
@@ -24,7 +24,7 @@ use Rattle.seize_words.specs.Chunks.{IsHeaderOf, header_home}
 use Rattle.seize_words.specs.Counts.{count_seen, home}
 use Rattle.seize_words.specs.Headers.{Stores}
 use Rattle.seize_words.specs.Joined.{IsAddingAt, IsHolder, TriesAtSlot}
-use Rattle.seize_words.specs.Reserved.{MakesNext, next_key}
+use Rattle.seize_words.specs.Reserved.{MakesNextSlot, next_key}
 use Rattle.seize_words.specs.Totals.{made_of, slots_seen}
 use Rattle.seize_words.specs.Walks as walks
 use Rattle.seize_words.specs.declared.batch.Count.{Count}
@@ -35,15 +35,15 @@ use Rattle.seize_words_rows.specs.Stages.{Goes, IsAt, Knows, Leads, Sees, Stage}
 use Rattle.seize_words_rows.proofs.Stages.{front_is, looks_on, passes, planned_is, record_is, sees_on}
 
 -- a slot is made, whose head lies in the table
-pub makes_slot : (n : Name) (numbers numbers' : NumbersKey) (next next' : NextSlot) (pass pass' : Pass) (key : SlotKey) (s : ℕ) (from to : Stage) → MakesNext numbers next pass numbers' key next' pass' → made_of numbers ≡ s → (next_key next).keys.name ≡ n
+pub makes_slot : (n : Name) (numbers numbers' : NumbersKey) (next next' : NextSlot) (pass pass' : Pass) (key : SlotKey) (s : ℕ) (from to : Stage) → MakesNextSlot numbers next pass numbers' key next' pass' → made_of numbers ≡ s → (next_key next).keys.name ≡ n
     → Sees n pass from → Goes from (Take s) to Done → Leads n pass' key s to
 makes_slot n numbers numbers' next next' pass pass' key s from to makes is book sees goes =
-    let m = makes.made in let its : number_of (next_key next) ≡ s = sym m.seen_by.1 ∙ makes.number ∙ is in
-    let now = passes n pass pass' (private pass (Take (number_of (next_key next)))) from to Done m.same m.noted refl sees (subst (λ (k : ℕ). Goes from (Take k) to Done) (sym its) goes) in
+    let m = makes.made in let its : slot_number (next_key next) ≡ s = sym m.seen_by.1 ∙ makes.number ∙ is in
+    let now = passes n pass pass' (private pass (Take (slot_number (next_key next)))) from to Done m.same m.noted refl sees (subst (λ (k : ℕ). Goes from (Take k) to Done) (sym its) goes) in
     (now, record { book = m.seen_by.0 ∙ book; number = makes.number ∙ is; leads = subst (λ (log : List Entry). IsAt n log to) (sym m.seen_by.2) now.leads })
 
 -- the key is of the pass's book
-pub is_of : (n : Name) (key : SlotKey) (pass : Pass) (s : ℕ) (now known : Stage) → Sees n pass now → Knows n key s known → IsOf key pass
+pub is_of : (n : Name) (key : SlotKey) (pass : Pass) (s : ℕ) (now known : Stage) → Sees n pass now → Knows n key s known → IsKeyOfBook key pass
 is_of n key pass s now known sees knows = knows.book ∙ sym sees.book
 
 -- a slot is there, as the pass has seen
@@ -68,7 +68,7 @@ module _ (n : Name) (key : SlotKey) (v : ℕ) (knows : Knows n key 1 (looked v))
     its = its ∙ ap which (sym (ap (λ (plans : List Plan). home_of (served plans 0 0)) (planned_is n key 1 (looked v) knows)));
   }
 
-  pub tries : (block : ℕ) → block_of v ≡ block → block + 2 < 2 ^ 64 → written_of key ≡ Some (1, block) → TriesAtSlot key 0 1 block
+  pub tries : (block : ℕ) → block_number v ≡ block → block + 2 < 2 ^ 64 → written_of key ≡ Some (1, block) → TriesAtSlot key 0 1 block
   tries block is fits written = (
     record {
       batch = 0;
@@ -80,7 +80,7 @@ module _ (n : Name) (key : SlotKey) (v : ℕ) (knows : Knows n key 1 (looked v))
       is_seen = refl;
       is_block = sym (ap (λ (all : List Plan). block_in (slice_index_or all 0 no_plan) 0) (planned_is n key 1 (looked v) knows) ∙ is);
     },
-    written ∙ ap (λ (k : ℕ). Some (1, k)) (sym (ap (λ (all : List Plan). block_of (unwrap_or (first_of (slice_index_or all 0 no_plan).values) 0)) (planned_is n key 1 (looked v) knows) ∙ is)),
+    written ∙ ap (λ (k : ℕ). Some (1, k)) (sym (ap (λ (all : List Plan). block_number (unwrap_or (first_or_none (slice_index_or all 0 no_plan).values) 0)) (planned_is n key 1 (looked v) knows) ∙ is)),
     fits,
   )
 
@@ -92,12 +92,12 @@ looked_at n key key' pass pass' s now known looks sees knows =
       record {
         seen = subst (λ (own : List Entry). IsPrefix own pass'.seen) (sym looks.seen_by.2) (prefix_refl pass'.seen);
         legal = subst (λ (m : Name). IsLegalList (start m) pass'.seen) (sym looks.on.same.0) looks.on.legal;
-        distinct = subst (λ (m : Name). are_distinct (linked m.links) ≡ true) (sym looks.on.same.0) looks.on.distinct;
+        distinct = subst (λ (m : Name). are_distinct (linked_values m.links) ≡ true) (sym looks.on.same.0) looks.on.distinct;
       },
     )
 
 -- the batch's first value lies in the block, and the slot's call is about to add
-abbrev pub adds_at : (n : Name) (key : SlotKey) (v block : ℕ) → Knows n key 1 (reader_over v) → block_of v ≡ block → IsAddingAt key block 1
+abbrev pub adds_at : (n : Name) (key : SlotKey) (v block : ℕ) → Knows n key 1 (reader_over v) → block_number v ≡ block → IsAddingAt key block 1
 adds_at n key v block knows is = record {
   batch = 0;
   queue = [];
@@ -113,7 +113,7 @@ pub is_named : (n : Name) (pass : Pass) (stage : Stage) (v : ℕ) → Sees n pas
 is_named n pass stage v sees named = ap (λ (m : Name). has v (after (start m) pass.seen).named) sees.book ∙ (ap (λ (st : State). has v st.named) sees.leads.state ∙ named)
 
 -- the header that is found by the number of a value is that of its block
-pub header_at : (n : Name) (key : SlotKey) (pass pass' : Pass) (s : ℕ) (stage : Stage) (v number : ℕ) (header : Header) → LooksOn pass pass' → Sees n pass stage → Knows n key s stage → has v stage.state.named ≡ true → block_of v ≡ number
+pub header_at : (n : Name) (key : SlotKey) (pass pass' : Pass) (s : ℕ) (stage : Stage) (v number : ℕ) (header : Header) → LooksOn pass pass' → Sees n pass stage → Knows n key s stage → has v stage.state.named ≡ true → block_number v ≡ number
     → IsHeaderOf header number pass' → (home_of v ≡ header_home header) × Sees n pass' stage
 header_at n key pass pass' s stage v number header looks sees knows named numbered its =
     let after = looks_on n key key pass pass' s stage looks refl sees knows in

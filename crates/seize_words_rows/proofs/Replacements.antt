@@ -1,23 +1,24 @@
 -- What a replacement at a link comes to. A read leaves the link as it is, so the exchange after it compares with what was read; and where it
 -- is won, it took out just that.
 use Rattle.std.proofs.Common.{◌≡◌, ◌≢◌, ℕ, ◌+◌, ◌-◌, ◌==◌, Bool, true, false, if◌then◌else◌, List, [], Option, None, Some, append-nil, refl, sym, ap, ◌∙◌, subst, ◌⊎◌, inl, inr, arith}
-use Rattle.seize_machine.specs.Machine.State.{State, are_distinct, link_at, linked}
+use Rattle.seize_machine.specs.Machine.State.{State, are_distinct, link_at, linked_values}
 use Rattle.seize_machine.specs.Machine.Event.{Event, ExchangeLink, ReadLink}
 use Rattle.seize_machine.specs.declared.machine.event.Answer.{Answer}
 use Rattle.seize_machine.specs.declared.machine.event.Exchange.TheVariants.{Compare}
 use Rattle.seize_machine.proofs.Facts.{Step, eq_true, is_true, step_of}
 use Rattle.seize_book.specs.Adding.{private}
-use Rattle.seize_book.specs.Blocks.{block_of, link_word}
+use Rattle.seize_book.specs.Blocks.{block_number, link_word}
 use Rattle.seize_book.specs.Book.{Does, IsLegalList, after}
 use Rattle.seize_book.specs.Entry.{Deed, Entry, Made}
 use Rattle.seize_book.specs.Homes.{IsSound}
 use Rattle.seize_book.specs.Homesteads.{HasNumber, state_seen}
-use Rattle.seize_book.specs.Passes.{IsSame, LooksOn}
-use Rattle.seize_book.specs.Tokens.{AllLentIn, Name, Noted, start}
+use Rattle.seize_book.specs.Passes.{IsSamePass, LooksOn}
+use Rattle.seize_book.specs.Loans.{AllCarryOne}
+use Rattle.seize_book.specs.Tokens.{Name, Noted, start}
 use Rattle.seize_words.specs.Activations.{IsLasting}
 use Rattle.seize_words.specs.Chunks.{StandsAt}
 use Rattle.seize_words.specs.Joined.{IsNewTo, OnLink}
-use Rattle.seize_words.specs.LinkWords.{CompareExchanges, IsDuring, Reads, Sees, Takes, held_before, holds, number}
+use Rattle.seize_words.specs.LinkWords.{ActsOnLink, CompareExchanges, IsDuring, Reads, Sees, held_before, link_number, value_held}
 use Rattle.seize_words.specs.Links.{IsNewIn, compared}
 use Rattle.seize_words.specs.declared.activation.Activation.{Activation}
 use Rattle.seize_book.specs.declared.book.pass.Pass.{Pass}
@@ -34,15 +35,15 @@ use Rattle.seize_words_rows.proofs.Shared.{goes_looked, goes_noted, goes_twice}
 stays : (size s l : ℕ) (st : State) (d : State × Answer) → Step size st (ReadLink s l) d → d.0 ≡ st
 stays size s l st _ (Step.read _ _ can) = refl
 
-read_kept : (link : Link) (a : Activation) (pass pass' : Pass) (v : ℕ) (t : Reads link a pass pass' v) → link_at (after (start pass'.name) pass'.seen) (number link) ≡ held_before t
+read_kept : (link : Link) (a : Activation) (pass pass' : Pass) (v : ℕ) (t : Reads link a pass pass' v) → link_at (after (start pass'.name) pass'.seen) (link_number link) ≡ held_before t
 read_kept link a pass pass' v t =
-    let st : State = start pass.name in let l : ℕ = number link in let e : Deed = private pass (ReadLink a.slot l) in let d : State × Answer = (t.noted.later, t.noted.answer) in
+    let st : State = start pass.name in let l : ℕ = link_number link in let e : Deed = private pass (ReadLink a.slot l) in let d : State × Answer = (t.noted.later, t.noted.answer) in
     let does : Does st t.before (Made e) d = subst (λ (log : List Entry). Does st log (Made e) d) t.is_before t.noted.does in
     ap (λ (n : Name). link_at (after (start n) pass'.seen) l) t.same.0
     ∙ ap (λ (z : State). link_at z l) (t.noted.leads ∙ stays e.size a.slot l (after st t.before) d (step_of _ _ _ _ does))
 
 -- so by its number too
-pub held_at : (link : Link) (a : Activation) (pass pass' : Pass) (v l : ℕ) (t : Reads link a pass pass' v) → number link ≡ l → link_at (after (start pass'.name) pass'.seen) l ≡ held_before t
+pub held_at : (link : Link) (a : Activation) (pass pass' : Pass) (v l : ℕ) (t : Reads link a pass pass' v) → link_number link ≡ l → link_at (after (start pass'.name) pass'.seen) l ≡ held_before t
 held_at link a pass pass' v l t is = ap (λ (k : ℕ). link_at (after (start pass'.name) pass'.seen) k) (sym is) ∙ read_kept link a pass pass' v t
 
 -- What was told of a link is so of each link with its number.
@@ -55,17 +56,17 @@ module _ (a : Activation) (pass pass' : Pass) (event : ℕ → Option ℕ → Ev
       (before : List Entry) × (noted : Noted pass.name pass.id pass.seen pass'.seen (Made (private pass (event l (held before l))))) × (noted.before ≡ before) × IsDuring a pass.name before
       × (v ≡ link_word (held before l)) × (held before l ≡ was)
 
-  told_at : (link other : Link) → number link ≡ number other → (t : Takes link a pass pass' (event (number link)) v) → (u : Takes other a pass pass' (event (number other)) v) × (held_before u ≡ held_before t)
+  told_at : (link other : Link) → link_number link ≡ link_number other → (t : ActsOnLink link a pass pass' (event (link_number link)) v) → (u : ActsOnLink other a pass pass' (event (link_number other)) v) × (held_before u ≡ held_before t)
   told_at link other same t =
-      let told : Told (held_before t) (number other) = subst (Told (held_before t)) same (t.before, t.noted, t.is_before, t.during, t.found, refl) in
+      let told : Told (held_before t) (link_number other) = subst (Told (held_before t)) same (t.before, t.noted, t.is_before, t.during, t.found, refl) in
       (record { same = t.same; before = told.0; noted = told.1; is_before = told.2; during = told.3; found = told.4 }, told.5)
 
 -- An event by what the link held is the event that this makes it.
-told_as : (link : Link) (a : Activation) (pass pass' : Pass) (event : Option ℕ → Event) (v : ℕ) (t : Takes link a pass pass' event v) (e : Event) → event (held_before t) ≡ e
-    → (u : Takes link a pass pass' (λ _. e) v) × (held_before u ≡ held_before t)
+told_as : (link : Link) (a : Activation) (pass pass' : Pass) (event : Option ℕ → Event) (v : ℕ) (t : ActsOnLink link a pass pass' event v) (e : Event) → event (held_before t) ≡ e
+    → (u : ActsOnLink link a pass pass' (λ _. e) v) × (held_before u ≡ held_before t)
 told_as link a pass pass' event v t e is =
-    let one : Takes link a pass pass' (λ _. event (held_before t)) v = record { same = t.same; before = t.before; noted = t.noted; is_before = t.is_before; during = t.during; found = t.found } in
-    subst (λ (x : Event). (u : Takes link a pass pass' (λ _. x) v) × (held_before u ≡ held_before t)) is (one, refl)
+    let one : ActsOnLink link a pass pass' (λ _. event (held_before t)) v = record { same = t.same; before = t.before; noted = t.noted; is_before = t.is_before; during = t.during; found = t.found } in
+    subst (λ (x : Event). (u : ActsOnLink link a pass pass' (λ _. x) v) × (held_before u ≡ held_before t)) is (one, refl)
 
 -- What an exchange compares with: what it takes the link to hold, where the link holds that, or something with another word.
 
@@ -82,19 +83,19 @@ compares_other current old other = ap (λ (b : Bool). if b then old else current
 -- what a link holds whose word is 0
 none_held : (o : Option ℕ) → link_word o ≡ 0 → o ≡ None
 none_held None is = refl
-none_held (Some w) is = absurd (let e : block_of w + 1 ≡ 0 = is in omega (arith, e))
+none_held (Some w) is = absurd (let e : block_number w + 1 ≡ 0 = is in omega (arith, e))
 
 -- a pass that looks at once after a step sees nothing more
-looks_at_once : (pass pass' : Pass) (e : Entry) → IsSame pass pass' → Noted pass.name pass.id pass.seen pass'.seen e → LooksOn pass' pass'
+looks_at_once : (pass pass' : Pass) (e : Entry) → IsSamePass pass pass' → Noted pass.name pass.id pass.seen pass'.seen e → LooksOn pass' pass'
 looks_at_once pass pass' e same noted = record {
-  same = (refl, refl);
+  same = (refl, refl, refl);
   none_made = refl;
   grows = ([], append-nil pass'.seen);
   alone = λ _. refl;
   legal = subst (λ (n : Name). IsLegalList (start n) pass'.seen) (sym same.0) noted.legal;
   sound = subst (λ (n : Name). IsSound (after (start n) pass'.seen)) (sym same.0) noted.sound;
-  lent = subst (λ (n : Name). AllLentIn n (after (start n) pass'.seen).named) (sym same.0) (subst (λ (z : State). AllLentIn pass.name z.named) (sym noted.leads) noted.lent);
-  distinct = subst (λ (n : Name). are_distinct (linked n.links) ≡ true) (sym same.0) noted.distinct;
+  lent = subst (λ (n : Name). AllCarryOne (after (start n) pass'.seen).named) (sym same.0) (subst (λ (z : State). AllCarryOne z.named) (sym noted.leads) noted.lent);
+  distinct = subst (λ (n : Name). are_distinct (linked_values n.links) ≡ true) (sym same.0) noted.distinct;
 }
 
 -- The exchange after a read.
@@ -104,13 +105,13 @@ module _ (link : Link) (a : Activation) (pass mid late : Pass) (seen found : ℕ
   current = held_before reads
 
   abbrev event : Option ℕ → Event
-  event old = ExchangeLink a.slot (number link) (Compare (compared current old) (holds key))
+  event old = ExchangeLink a.slot (link_number link) (Compare (compared current old) (value_held key))
 
   -- where it is won, and found a value, that is what was read: both stand
   took_read : (pass' : Pass) → found ≡ seen → LooksOn late pass' → IsLasting a pass' → ((v w : ℕ) → StandsAt v (found - 1) pass' → StandsAt w (found - 1) pass' → v ≡ w) → held_before x.0 ≡ current
   took_read pass' won looks lasts one =
       took_current link a a mid late pass' event found current x.0 (λ _. (refl, refl)) (won ∙ reads.found)
-      (λ w is. found_later a w mid late x.0.same.0 (seen_grows mid.name mid.id mid.seen late.seen _ x.0.noted) (was_found link a pass mid (λ _. ReadLink a.slot (number link)) seen w reads (λ _. (refl, refl)) is))
+      (λ w is. found_later a w mid late x.0.same.0 (seen_grows mid.name mid.id mid.seen late.seen _ x.0.noted) (was_found link a pass mid (λ _. ReadLink a.slot (link_number link)) seen w reads (λ _. (refl, refl)) is))
       looks lasts lasts one
 
   -- and so it is where it found nothing
@@ -123,7 +124,7 @@ module _ (link : Link) (a : Activation) (pass mid late : Pass) (seen found : ℕ
     where
       go : (o : Option ℕ) → held_before x.0 ≡ o → HasNumber (found - 1) (state_seen late)
       go None is = absurd (some (x.0.found ∙ ap link_word is))
-      go (Some w) is = (w, held_named link a mid late event found w x.0 is, let shows : found ≡ block_of w + 1 = x.0.found ∙ ap link_word is in omega (arith, shows))
+      go (Some w) is = (w, held_named link a mid late event found w x.0 is, let shows : found ≡ block_number w + 1 = x.0.found ∙ ap link_word is in omega (arith, shows))
 
   compares : (found ≡ seen → held_before x.0 ≡ current) → compared current (held_before x.0) ≡ current
   compares one = go (is_true (link_word (held_before x.0) == link_word current))
@@ -134,7 +135,7 @@ module _ (link : Link) (a : Activation) (pass mid late : Pass) (seen found : ℕ
 
   replaces : (pass' : Pass) → LooksOn late pass' → (found ≡ seen → held_before x.0 ≡ current) → Replaces link a key pass key' pass' seen found
   replaces pass' looks one =
-      let told = told_as link a mid late event found x.0 (ExchangeLink a.slot (number link) (Compare current (holds key))) (ap (λ (o : Option ℕ). ExchangeLink a.slot (number link) (Compare o (holds key))) (compares one)) in
+      let told = told_as link a mid late event found x.0 (ExchangeLink a.slot (link_number link) (Compare current (value_held key))) (ap (λ (o : Option ℕ). ExchangeLink a.slot (link_number link) (Compare o (value_held key))) (compares one)) in
       record {
         read = mid;
         exchanged = late;
@@ -190,4 +191,4 @@ module _ (link : Link) (a : Activation) (key key' : MaybeKey) (pass pass' : Pass
   pub still_new_to : (n : Name) (word : ℕ) → found ≢ seen → IsNewTo n key word → IsNewTo n key' word
   still_new_to n word lost new =
       let back = r.lost lost in let book = r.book ∙ new.0 in
-      (book, subst (λ (m : Name). IsNewIn m (holds key') key'.keys.held) book back.1, new.2 ∙ ap link_word (sym back.0))
+      (book, subst (λ (m : Name). IsNewIn m (value_held key') key'.keys.held) book back.1, new.2 ∙ ap link_word (sym back.0))

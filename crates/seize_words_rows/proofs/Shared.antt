@@ -7,27 +7,30 @@ use Rattle.seize_machine.specs.Machine.State.{Rest}
 use Rattle.seize_machine.specs.Machine.Event.{Begin, SwapOut}
 use Rattle.seize_machine.specs.declared.machine.event.Job.TheVariants.{Leave}
 use Rattle.seize_book.specs.Blocks.{list_word}
-use Rattle.seize_book.specs.Book.{after}
+use Rattle.seize_book.specs.Book.{IsLegalList, after}
+use Rattle.seize_book.specs.Books.{Learns}
 use Rattle.seize_book.specs.Entry.{Deed, Entry}
 use Rattle.seize_book.specs.Laws.{starts}
-use Rattle.seize_book.specs.Passes.{IsSame, Longer, LooksOn}
+use Rattle.seize_book.specs.Passes.{IsSamePass, Longer, LooksOn}
 use Rattle.seize_book.specs.Private.{IsOver}
-use Rattle.seize_book.specs.Slots.{Notes, NotesAs, active_of, number_of, slot_of}
+use Rattle.seize_book.specs.Slots.{Notes, NotesAs, active_of, slot_number, slot_of}
 use Rattle.seize_book.specs.Tokens.{Name, Noted, start}
-use Rattle.seize_words.specs.Joined.{IsHolder, IsInAt, OnHead}
+use Rattle.seize_words.specs.Joined.{IsHolder, IsInAt}
 use Rattle.seize_words.specs.Links.{IsWithin}
-use Rattle.seize_words.specs.Reservations.{IsLastOf, IsOut, WalksOn}
+use Rattle.seize_words.specs.Reservations.{IsLastOf, IsOut, WalksFrom, slot}
 use Rattle.seize_words.specs.Totals.{slots_seen}
 use Rattle.seize_words.specs.declared.activation.Activation.{Activation}
 use Rattle.seize_book.specs.declared.book.pass.Pass.{Pass}
 use Rattle.seize_book.specs.declared.book.slot_key.SlotKey.{SlotKey}
+use Rattle.seize_book.specs.declared.book.token.Book.{Book}
+use Rattle.seize_words.specs.declared.reservation.Head.{Head}
 use Rattle.seize_words.proofs.Facts.{life_kept, more_seen, more_slots, seen_grows}
-use Rattle.seize_words_rows.specs.Entrants.{GoesOn, MayRead, Shared}
-use Rattle.seize_words_rows.specs.Leaves.{IsInside}
+use Rattle.seize_words_rows.specs.Entrants.{GoesOn, MayRead, Shared, seen_by}
+use Rattle.seize_words_rows.specs.Leaves.{IsAtHead, IsInside}
 use Rattle.seize_words_rows.proofs.Leaves.{begun_out, gone_out}
 
 -- after an entry with the pass
-pub goes_noted : (pass pass' : Pass) (e : Entry) → IsSame pass pass' → Noted pass.name pass.id pass.seen pass'.seen e → GoesOn pass pass'
+pub goes_noted : (pass pass' : Pass) (e : Entry) → IsSamePass pass pass' → Noted pass.name pass.id pass.seen pass'.seen e → GoesOn pass pass'
 goes_noted pass pass' e same noted =
     let grows = seen_grows pass.name pass.id pass.seen pass'.seen e noted in
     record {
@@ -44,7 +47,7 @@ pub goes_twice : (one two three : Pass) → GoesOn one two → GoesOn two three 
 goes_twice one two three first last =
     let many = first.slots in let more = last.slots in
     record {
-      same = (last.same.0 ∙ first.same.0, last.same.1 ∙ first.same.1);
+      same = (last.same.0 ∙ first.same.0, last.same.1 ∙ first.same.1, last.same.2 ∙ first.same.2);
       seen = prefix_trans one.seen two.seen three.seen first.seen last.seen;
       slots = omega (arith, many, more);
     }
@@ -70,17 +73,21 @@ may_still words a pass pass' name seen may = (
 )
 
 -- and the slot is there
-pub holder_still : (key : SlotKey) (pass pass' : Pass) (s : ℕ) → GoesOn pass pass' → IsHolder key pass s → IsHolder key pass' s
-holder_still key pass pass' s goes its =
-    let more = goes.slots in let there = its.2 in
-    (its.0 ∙ sym goes.same.0, its.1, omega (arith, more, there))
+pub holder_at : (head : Head) (key' : SlotKey) (pass pass' : Pass) (s : ℕ) → GoesOn pass pass' → slot head ≡ s → s < slots_seen pass → IsAtHead head key' pass' → IsHolder key' pass' s
+holder_at head key' pass pass' s goes is there at =
+    let more = goes.slots in (at.0, sym at.2 ∙ is, omega (arith, more, there))
 
-pub holder_after : (key key' : SlotKey) (pass pass' : Pass) (s : ℕ) → GoesOn pass pass' → (key'.keys.name ≡ key.keys.name) × (number_of key' ≡ number_of key) → IsHolder key pass s → IsHolder key' pass' s
-holder_after key key' pass pass' s goes same its =
-    let still = holder_still key pass pass' s goes its in (same.0 ∙ still.0, same.1 ∙ still.1, still.2)
+pub holder_later : (key : SlotKey) (pass pass' : Pass) (s : ℕ) → pass'.name ≡ pass.name → IsPrefix pass.seen pass'.seen → IsLegalList (start pass'.name) pass'.seen → IsHolder key pass s → IsHolder key pass' s
+holder_later key pass pass' s same grows legal its =
+    let there = its.2 in let more = subst (λ (n : Name). length (after (start n) pass.seen).slots ≤ slots_seen pass') same (more_slots pass'.name pass.seen pass'.seen grows legal) in
+    (its.0 ∙ sym same, its.1, omega (arith, more, there))
+
+pub holder_as : (key : SlotKey) (pass pass' : Pass) (s : ℕ) → pass'.name ≡ pass.name → pass'.seen ≡ pass.seen → IsHolder key pass s → IsHolder key pass' s
+holder_as key pass pass' s same seen its =
+    (its.0 ∙ sym same, its.1, subst (λ (t : Name × List Entry). s < length (after (start t.0) t.1).slots) (λ j. (sym same j, sym seen j)) its.2)
 
 -- an entry that begins no activation leaves the slot's last one
-pub last_still : (key key' : SlotKey) (pass pass' : Pass) (a : Activation) (d : Deed) → NotesAs key pass key' pass' d → starts (number_of key) d.event ≡ false → IsLastOf key a → IsLastOf key' a
+pub last_still : (key key' : SlotKey) (pass pass' : Pass) (a : Activation) (d : Deed) → NotesAs key pass key' pass' d → starts (slot_number key) d.event ≡ false → IsLastOf key a → IsLastOf key' a
 last_still key key' pass pass' a d noted none last = (last.0 ∙ sym noted.1.0, last.1 ∙ sym noted.1.1, last.2 ∙ sym (life_kept key key' pass pass' d noted none))
 
 -- A walk of a head whose word was 1 is over.
@@ -89,25 +96,20 @@ ends_at_one : (block : ℕ → ℕ) (walk : List ℕ) → 1 ≡ list_word block 
 ends_at_one block [] one = refl
 ends_at_one block (b ∷ walk) one = absurd (omega (arith, one))
 
-pub over_at_one : (n : Name) (s : ℕ) (key : SlotKey) (v : ℕ) → OnHead n s (λ head. WalksOn head key v []) → v ≡ 1 → IsOver (slot_of key)
-over_at_one n s key v on one =
-    let walks = on.2 in
+pub over_at_one : (head : Head) (key : SlotKey) (v : ℕ) → WalksFrom head key v [] → v ≡ 1 → IsOver (slot_of key)
+over_at_one head key v walks one =
     walks.1 ∙ ap (λ (walk : List ℕ). Some (record { place = Rest [] walk; queue = [] })) (ends_at_one _ walks.0 (sym one ∙ walks.2))
 
 -- The slot's call to leave begins, and its head is swapped out.
-module _ (key begun : SlotKey) (pass mid : Pass) (first : Notes key pass begun mid (Begin (number_of key) Leave)) (inside : IsInside key) where
+module _ (key begun : SlotKey) (pass mid : Pass) (first : Notes key pass begun mid (Begin (slot_number key) Leave)) (inside : IsInside key) where
   abbrev pub is_out : IsOut begun false
-  is_out = let n = first.2 in ([], ap (λ slot. slot.call) (begun_out key begun n.0.before n.0.later n.0.answer n.1 inside))
+  is_out = let n = first.2 in ([], ap (λ slot. slot.call) (begun_out key begun pass n.0.before n.0.later n.0.answer n.1 inside))
 
-  module _ (key' : SlotKey) (pass' : Pass) (last : Notes begun mid key' pass' (SwapOut (number_of begun))) where
+  module _ (key' : SlotKey) (pass' : Pass) (last : Notes begun mid key' pass' (SwapOut (slot_number begun))) where
     pub went_out : ((slot_of key').used ≡ true) × (active_of key' ≡ false)
     went_out =
         let n = first.2 in let m = last.2 in
-        gone_out begun key' m.0.before m.0.later m.0.answer (slot_of key) m.1 (begun_out key begun n.0.before n.0.later n.0.answer n.1 inside) (and_true _ _ inside.0).0
-
--- said of the slot's number
-pub swapped_by : (key key' : SlotKey) (pass pass' : Pass) (s : ℕ) → number_of key ≡ s → Notes key pass key' pass' (SwapOut s) → Notes key pass key' pass' (SwapOut (number_of key))
-swapped_by key key' pass pass' s is notes = subst (λ (k : ℕ). Notes key pass key' pass' (SwapOut k)) (sym is) notes
+        gone_out begun key' mid 0 m.0.before m.0.later m.0.answer (slot_of key) m.1 (begun_out key begun pass n.0.before n.0.later n.0.answer n.1 inside) (and_true _ _ inside.0).0
 
 -- Passes meet.
 
@@ -118,3 +120,9 @@ first_in a b c (inr (less, is)) = subst (IsPrefix a) (sym is) ([], append-nil a)
 pub second_in : (a b c : List Entry) → Longer a b c → IsPrefix b c
 second_in a b c (inl (less, is)) = subst (IsPrefix b) (sym is) ([], append-nil b)
 second_in a b c (inr (less, is)) = subst (IsPrefix b) (sym is) less
+
+-- who learns from a book knows of a slot what the book has seen
+pub holder_learned : (key : SlotKey) (book : Book) (pass pass' : Pass) (s : ℕ) → Learns pass book pass' → pass.name ≡ book.name → IsHolder key (seen_by book) s → IsHolder key pass' s
+holder_learned key book pass pass' s learns same its =
+    holder_later key (seen_by book) pass' s (learns.0.0 ∙ same) (second_in pass.seen book.seen pass'.seen learns.2)
+    (subst (λ (n : Name). IsLegalList (start n) pass'.seen) (sym learns.0.0) learns.4) its

@@ -2,24 +2,25 @@
 use Rattle.std.proofs.Common.{◌≡◌, ℕ, Bool, true, false, if◌then◌else◌, List, [], ◌∷◌, ◌++◌, Option, Some, refl, sym, ap, ◌∙◌, subst}
 use Rattle.std.specs.Prelude.{slice_index_or}
 use mathlib.Core.List.{cons≢nil}
-use Rattle.seize_machine.specs.Machine.State.{Call, Place, Rest, State, slot_at, head_at}
+use Rattle.seize_machine.specs.Machine.State.{Call, Place, Rest, State, opening, slot_at, head_at}
 use Rattle.seize_machine.specs.Machine.Event.{Event}
 use Rattle.seize_machine.specs.Machine.Next.{next}
-use Rattle.seize_machine.specs.Machine.History.{first_of}
+use Rattle.seize_machine.specs.Machine.History.{first_or_none}
 use Rattle.seize_machine.specs.declared.machine.event.Answer.{Answer}
 use Rattle.seize_machine.proofs.Facts.{some_is}
-use Rattle.seize_book.specs.Adding.{telling}
+use Rattle.seize_book.specs.Adding.{deed_with_words}
+use Rattle.seize_book.specs.Begin.{BeganWith}
 use Rattle.seize_book.specs.Blocks.{Plan, block_in, front_of, head_word, no_plan, planned_by, plans, word_of}
 use Rattle.seize_book.specs.Book.{after}
 use Rattle.seize_words.specs.Counts.{values_in}
 use Rattle.seize_book.specs.Entry.{Deed, Entry, Made, Use, Used}
 use Rattle.seize_words.specs.Headers.{Uses}
-use Rattle.seize_book.specs.Ledger.{Held, renewed}
+use Rattle.seize_book.specs.Ledger.{HeldKey, renewed}
 use Rattle.seize_book.specs.Others.{Follows, value_of}
-use Rattle.seize_book.specs.Passes.{IsSame, LooksOn}
+use Rattle.seize_book.specs.Passes.{IsSamePass, LooksOn}
 use Rattle.seize_book.specs.Private.{key_of, label_of, own_of}
-use Rattle.seize_words.specs.Reservations.{FoundBefore, Shows, beginning, slot}
-use Rattle.seize_book.specs.Slots.{IsStill, NotesAs, number_of, own_list, slot_of, start_of}
+use Rattle.seize_words.specs.Reservations.{FoundBefore, ShowsHead, beginning, slot}
+use Rattle.seize_book.specs.Slots.{IsStill, NotesAs, own_list, slot_number, slot_of, start_of}
 use Rattle.seize_book.specs.Tokens.{IsSole, Name, Noted, start}
 use Rattle.seize_book.specs.declared.book.keys.Keys.{Keys}
 use Rattle.seize_book.specs.declared.book.pass.Pass.{Pass}
@@ -28,19 +29,32 @@ use Rattle.seize_book.specs.declared.book.value_key.ValueKey.{ValueKey}
 use Rattle.seize_words.specs.declared.reservation.Head.{Head}
 use Rattle.seize_words.proofs.Facts.{after_used, planned_after, plans_used}
 use Rattle.seize_words_rows.specs.NumberedRuns.{UsesBoth}
+use Rattle.seize_words_rows.specs.Runs.{opened}
 use Rattle.seize_words_rows.specs.Stages.{Goes, IsAt, Knows, Leads, Sees, Stage, word_at}
 
+-- the holder of the first pass of a book with one link, and with the batch size 1, sees that nothing happened
+pub sees_opened : {store table : List ℕ} (n : Name) (pass : Pass) → pass.name ≡ n → pass.size ≡ 1 → IsSole pass.id → pass.seen ≡ [] → BeganWith n 1 store table → Sees n pass opened
+sees_opened n pass book size alone none began = record {
+  book = book;
+  size = size;
+  alone = alone;
+  leads = record {
+    state = ap (after (start n)) none ∙ (λ j. opening (began.0 j) (began.1 j));
+    planned = ap (plans (start n)) none;
+  };
+}
+
 -- the event was legal there
-pub legal_at : (n : Name) (pass pass' : Pass) (e : Deed) (from : Stage) → (noted : Noted pass.name pass.id pass.seen pass'.seen (Made e)) → e.size ≡ pass.name.size → Sees n pass from → next from.size from.state e.event ≡ Some (noted.later, noted.answer)
+pub legal_at : (n : Name) (pass pass' : Pass) (e : Deed) (from : Stage) → (noted : Noted pass.name pass.id pass.seen pass'.seen (Made e)) → e.size ≡ pass.size → Sees n pass from → next from.size from.state e.event ≡ Some (noted.later, noted.answer)
 legal_at n pass pass' e from noted size sees =
     let at : Sees pass.name pass from = subst (λ (m : Name). Sees m pass from) (sym sees.book) sees in
-    ap (λ (k : ℕ). next k from.state e.event) (sym (size ∙ at.leads.size))
+    ap (λ (k : ℕ). next k from.state e.event) (sym (size ∙ sees.size))
     ∙ ap (λ (now : State). next e.size now e.event) (sym at.leads.state)
     ∙ ap (λ (log : List Entry). next e.size (after (start pass.name) log) e.event) (sym (noted.alone at.alone))
     ∙ noted.does
 
 -- said of the pass's own book
-goes_on : (pass pass' : Pass) (e : Deed) (from to : Stage) (answer : Answer) → IsSame pass pass' → (noted : Noted pass.name pass.id pass.seen pass'.seen (Made e)) → e.size ≡ pass.name.size → Sees pass.name pass from → Goes from e.event to answer
+goes_on : (pass pass' : Pass) (e : Deed) (from to : Stage) (answer : Answer) → IsSamePass pass pass' → (noted : Noted pass.name pass.id pass.seen pass'.seen (Made e)) → e.size ≡ pass.size → Sees pass.name pass from → Goes from e.event to answer
     → Sees pass.name pass' to
 goes_on pass pass' e from to answer same noted size sees goes =
     let n = pass.name in let st = start n in
@@ -54,18 +68,19 @@ goes_on pass pass' e from to answer same noted size sees goes =
     ∙ goes.planned in
     record {
       book = same.0;
-      alone = subst (IsSole n.gate) (sym same.1) sees.alone;
-      leads = record { size = sees.leads.size ∙ goes.size; state = noted.leads ∙ ap (λ (d : State × Answer). d.0) same_end; planned = planned };
+      size = same.2 ∙ (sees.size ∙ goes.size);
+      alone = subst IsSole (sym same.1) sees.alone;
+      leads = record { state = noted.leads ∙ ap (λ (d : State × Answer). d.0) same_end; planned = planned };
     }
 
 -- what is known of the pass after an event of a slot
-pub passes : (n : Name) (pass pass' : Pass) (e : Deed) (from to : Stage) (answer : Answer) → IsSame pass pass' → (noted : Noted pass.name pass.id pass.seen pass'.seen (Made e)) → e.size ≡ pass.name.size → Sees n pass from → Goes from e.event to answer
+pub passes : (n : Name) (pass pass' : Pass) (e : Deed) (from to : Stage) (answer : Answer) → IsSamePass pass pass' → (noted : Noted pass.name pass.id pass.seen pass'.seen (Made e)) → e.size ≡ pass.size → Sees n pass from → Goes from e.event to answer
     → Sees n pass' to
 passes n pass pass' e from to answer same noted size sees goes =
     subst (λ (m : Name). Sees m pass' to) sees.book (goes_on pass pass' e from to answer same noted size (subst (λ (m : Name). Sees m pass from) (sym sees.book) sees) goes)
 
 -- and of the slot's key
-steps_by : (n : Name) (key key' : SlotKey) (pass pass' : Pass) (s : ℕ) (e : Deed) (from known to : Stage) (answer : Answer) → NotesAs key pass key' pass' e → e.size ≡ pass.name.size → Sees n pass from → Knows n key s known → Goes from e.event to answer
+steps_by : (n : Name) (key key' : SlotKey) (pass pass' : Pass) (s : ℕ) (e : Deed) (from known to : Stage) (answer : Answer) → NotesAs key pass key' pass' e → e.size ≡ pass.size → Sees n pass from → Knows n key s known → Goes from e.event to answer
     → Leads n pass' key' s to
 steps_by n key key' pass pass' s e from known to answer notes size sees knows goes =
     let now = passes n pass pass' e from to answer notes.0 notes.2.0 size sees goes in (
@@ -77,30 +92,29 @@ steps_by n key key' pass pass' s e from known to answer notes size sees knows go
       },
     )
 
-pub steps : (n : Name) (key key' : SlotKey) (pass pass' : Pass) (s life : ℕ) (event : ℕ → Event) (from known to : Stage) (answer : Answer) → NotesAs key pass key' pass' (beginning pass life (event (number_of key)))
+pub steps : (n : Name) (key key' : SlotKey) (pass pass' : Pass) (s life : ℕ) (event : ℕ → Event) (from known to : Stage) (answer : Answer) → NotesAs key pass key' pass' (beginning pass life (event (slot_number key)))
     → Sees n pass from → Knows n key s known → Goes from (event s) to answer → Leads n pass' key' s to
 steps n key key' pass pass' s life event from known to answer notes sees knows goes =
-    steps_by n key key' pass pass' s (beginning pass life (event (number_of key))) from known to answer notes refl sees knows (subst (λ (k : ℕ). Goes from (event k) to answer) (sym knows.number) goes)
+    steps_by n key key' pass pass' s (beginning pass life (event (slot_number key))) from known to answer notes refl sees knows (subst (λ (k : ℕ). Goes from (event k) to answer) (sym knows.number) goes)
 
 -- so it is where the event says what is kept of values
-pub tells : (n : Name) (key key' : SlotKey) (pass pass' : Pass) (s : ℕ) (kepts : List ℕ) (event : ℕ → Event) (from known to : Stage) (answer : Answer) → NotesAs key pass key' pass' (telling pass (event (number_of key)) kepts)
+pub tells : (n : Name) (key key' : SlotKey) (pass pass' : Pass) (s : ℕ) (kepts : List ℕ) (event : ℕ → Event) (from known to : Stage) (answer : Answer) → NotesAs key pass key' pass' (deed_with_words pass (event (slot_number key)) kepts)
     → Sees n pass from → Knows n key s known → Goes from (event s) to answer → Leads n pass' key' s to
 tells n key key' pass pass' s kepts event from known to answer notes sees knows goes =
-    steps_by n key key' pass pass' s (telling pass (event (number_of key)) kepts) from known to answer notes refl sees knows (subst (λ (k : ℕ). Goes from (event k) to answer) (sym knows.number) goes)
+    steps_by n key key' pass pass' s (deed_with_words pass (event (slot_number key)) kepts) from known to answer notes refl sees knows (subst (λ (k : ℕ). Goes from (event k) to answer) (sym knows.number) goes)
 
 -- A use of a field leaves what is known, and the slot's key knows it too.
 pub uses_field : (n : Name) (key key' : SlotKey) (pass pass' : Pass) (s f v : ℕ) (now known : Stage) → Uses key pass key' pass' f v → Sees n pass now → Knows n key s known → Leads n pass' key' s now
 uses_field n key key' pass pass' s f v now known uses sees knows =
-    let u : Use = record { pass = pass.id; slot = number_of key; field = f; value = v } in
+    let u : Use = record { pass = pass.id; slot = slot_number key; field = f; value = v } in
     let noted = subst (λ (m : Name). Noted m pass.id pass.seen pass'.seen (Used u)) sees.book uses.noted in
     let appended : pass'.seen ≡ pass.seen ++ Used u ∷ [] = noted.appended ∙ ap (λ (log : List Entry). log ++ Used u ∷ []) (noted.alone sees.alone) in
     let leads : IsAt n pass'.seen now =
     record {
-      size = sees.leads.size;
       state = ap (after (start n)) appended ∙ after_used (start n) pass.seen u ∙ sees.leads.state;
       planned = ap (plans (start n)) appended ∙ plans_used (start n) pass.seen u ∙ sees.leads.planned;
     } in (
-      record { book = uses.same.0 ∙ sees.book; alone = subst (IsSole n.gate) (sym uses.same.1) sees.alone; leads = leads },
+      record { book = uses.same.0 ∙ sees.book; size = uses.same.2 ∙ sees.size; alone = subst IsSole (sym uses.same.1) sees.alone; leads = leads },
       record {
         book = uses.seen_by.0 ∙ knows.book;
         number = uses.seen_by.1 ∙ knows.number;
@@ -117,8 +131,8 @@ uses_both n key key' pass pass' s f g v w now known uses sees knows =
 -- A look leaves all that is known.
 pub looks_on : (n : Name) (key key' : SlotKey) (pass pass' : Pass) (s : ℕ) (now : Stage) → LooksOn pass pass' → IsStill key key' → Sees n pass now → Knows n key s now → Leads n pass' key' s now
 looks_on n key key' pass pass' s now looks still sees knows =
-    let same : pass'.seen ≡ pass.seen = looks.alone (subst (λ (m : Name). IsSole m.gate pass.id) (sym sees.book) sees.alone) in (
-      record { book = looks.same.0 ∙ sees.book; alone = subst (IsSole n.gate) (sym looks.same.1) sees.alone; leads = subst (λ (log : List Entry). IsAt n log now) (sym same) sees.leads },
+    let same : pass'.seen ≡ pass.seen = looks.alone sees.alone in (
+      record { book = looks.same.0 ∙ sees.book; size = looks.same.2 ∙ sees.size; alone = subst IsSole (sym looks.same.1) sees.alone; leads = subst (λ (log : List Entry). IsAt n log now) (sym same) sees.leads },
       record {
         book = ap (λ (k : Keys). k.name) still ∙ knows.book;
         number = ap (λ (k : Keys). key_of k.held) still ∙ knows.number;
@@ -129,15 +143,15 @@ looks_on n key key' pass pass' s now looks still sees knows =
 -- and a pass alone
 pub sees_on : (n : Name) (pass pass' : Pass) (stage : Stage) → LooksOn pass pass' → Sees n pass stage → Sees n pass' stage
 sees_on n pass pass' stage looks sees =
-    let seen : pass'.seen ≡ pass.seen = looks.alone (subst (λ (m : Name). IsSole m.gate pass.id) (sym sees.book) sees.alone) in
-    record { book = looks.same.0 ∙ sees.book; alone = subst (IsSole n.gate) (sym looks.same.1) sees.alone; leads = subst (λ (log : List Entry). IsAt n log stage) (sym seen) sees.leads }
+    let seen : pass'.seen ≡ pass.seen = looks.alone sees.alone in
+    record { book = looks.same.0 ∙ sees.book; size = looks.same.2 ∙ sees.size; alone = subst IsSole (sym looks.same.1) sees.alone; leads = subst (λ (log : List Entry). IsAt n log stage) (sym seen) sees.leads }
 
 -- The slot's record, as its key knows it.
 
 pub record_is : (n : Name) (key : SlotKey) (s : ℕ) (stage : Stage) → Knows n key s stage → slot_of key ≡ slot_at stage.state s
 record_is n key s stage knows =
-    ap (λ (m : Name). slot_at (after (start m) (own_list key)) (number_of key)) knows.book
-    ∙ ap (λ (st : State). slot_at st (number_of key)) knows.leads.state
+    ap (λ (m : Name). slot_at (after (start m) (own_list key)) (slot_number key)) knows.book
+    ∙ ap (λ (st : State). slot_at st (slot_number key)) knows.leads.state
     ∙ ap (slot_at stage.state) knows.number
 
 pub planned_is : (n : Name) (key : SlotKey) (s : ℕ) (stage : Stage) → Knows n key s stage → plans (start_of key) (own_list key) ≡ stage.plans
@@ -150,7 +164,7 @@ word_is n log stage m leads =
     ap (λ (ps : List Plan). word_of (λ b. block_in (slice_index_or ps b no_plan) m) (head_at (after (start n) log) m)) leads.planned
     ∙ ap (λ (st : State). word_of (λ b. block_in (slice_index_or stage.plans b no_plan) m) (head_at st m)) leads.state
 
-pub shown : (n : Name) (head : Head) (pass : Pass) (m v : ℕ) (stage : Stage) → head.word.name ≡ n → slot head ≡ m → Sees n pass stage → Shows head pass.seen v → v ≡ word_at stage m
+pub shown : (n : Name) (head : Head) (pass : Pass) (m v : ℕ) (stage : Stage) → head.word.name ≡ n → slot head ≡ m → Sees n pass stage → ShowsHead head pass.seen v → v ≡ word_at stage m
 shown n head pass m v stage book number sees shows =
     shows
     ∙ ap (λ (k : Name). head_word (start k) pass.seen (slot head)) book
@@ -172,11 +186,11 @@ pub found : (n : Name) (head : Head) (pass pass' : Pass) (e : Entry) (m v : ℕ)
 found n head pass pass' e m v stage book number noted sees was =
     let noted_in = subst (λ (k : Name). Noted k pass.id pass.seen pass'.seen e) sees.book noted in
     let before : was.0 ≡ pass.seen = same_front was.0 pass.seen was.1 e (sym was.2 ∙ noted_in.appended ∙ ap (λ (log : List Entry). log ++ e ∷ []) (noted_in.alone sees.alone)) in
-    shown n head pass m v stage book number sees (subst (λ (log : List Entry). Shows head log v) before was.3)
+    shown n head pass m v stage book number sees (subst (λ (log : List Entry). ShowsHead head log v) before was.3)
 
 -- Values keep their names.
 
-same_labels : (held : List (Held Entry)) (log : List Entry) → label_of (renewed held log) ≡ label_of held
+same_labels : (held : List (HeldKey Entry)) (log : List Entry) → label_of (renewed held log) ≡ label_of held
 same_labels [] log = refl
 same_labels (h ∷ held) log = refl
 
@@ -186,8 +200,8 @@ same_value value value' pass' follows = ap label_of follows.1 ∙ same_labels va
 -- Counts.
 
 -- the batch's first value, as the key knows
-pub front_is : (n : Name) (key : SlotKey) (s b v : ℕ) (stage : Stage) → Knows n key s stage → first_of (slice_index_or stage.plans b no_plan).values ≡ Some v → front_of (start_of key) (own_list key) b ≡ Some v
-front_is n key s b v stage knows first = ap (λ (ps : List Plan). first_of (slice_index_or ps b no_plan).values) (planned_is n key s stage knows) ∙ first
+pub front_is : (n : Name) (key : SlotKey) (s b v : ℕ) (stage : Stage) → Knows n key s stage → first_or_none (slice_index_or stage.plans b no_plan).values ≡ Some v → front_of (start_of key) (own_list key) b ≡ Some v
+front_is n key s b v stage knows first = ap (λ (ps : List Plan). first_or_none (slice_index_or ps b no_plan).values) (planned_is n key s stage knows) ∙ first
 
 -- and all its values
 pub values_are : (n : Name) (key : SlotKey) (s b : ℕ) (stage : Stage) → Knows n key s stage → values_in key b ≡ (slice_index_or stage.plans b no_plan).values

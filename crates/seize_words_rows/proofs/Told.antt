@@ -1,11 +1,11 @@
 -- What the list says is kept of values, as a pass sees it: it stays so, and it goes with keys that are put together.
-use Rattle.std.proofs.Common.{◌≡◌, ℕ, true, List, [], ◌∷◌, Option, Some, None, sym, subst}
+use Rattle.std.proofs.Common.{◌≡◌, ℕ, true, List, [], ◌∷◌, sym, subst}
 use base.Growing.{prefix_trans}
 use mathlib.Core.List.{IsPrefix}
 use Rattle.seize_book.specs.Book.{blocks}
 use Rattle.seize_book.specs.Entry.{Deed, Entry, Made}
 use Rattle.seize_book.specs.Kept.{AreTold, AreToldIn, IsTold, kept_in}
-use Rattle.seize_book.specs.Ledger.{Held}
+use Rattle.seize_book.specs.Ledger.{HeldKey}
 use Rattle.seize_book.specs.Notes.{noted_in}
 use Rattle.seize_book.specs.Others.{value_of}
 use Rattle.seize_book.specs.Passes.{LooksOn}
@@ -18,7 +18,7 @@ use Rattle.seize_book.specs.declared.book.slot_key.SlotKey.{SlotKey}
 use Rattle.seize_book.specs.declared.book.value_key.ValueKey.{ValueKey}
 use Rattle.seize_book.specs.declared.book.value_keys.ValueKeys.{ValueKeys}
 use Rattle.seize_words.specs.Headers.{using}
-use Rattle.seize_words.proofs.Facts.{all_told_later, both_told, none_told, seen_grows, told_later}
+use Rattle.seize_words.proofs.Facts.{all_told_later, both_told, seen_grows, told_later}
 use Rattle.seize_words_rows.specs.NumberedRuns.{UsesBoth}
 
 -- What a pass has seen grows with each event, use and look.
@@ -34,7 +34,7 @@ both_grow key key' pass pass' f g v w uses =
 -- So what was said stays so.
 
 pub told_on : (keys : ValueKeys) (pass pass' : Pass) → IsPrefix pass.seen pass'.seen → AreTold keys pass → AreTold keys pass'
-told_on keys pass pass' grows told = all_told_later (book_in keys).store pass.seen pass'.seen keys.keys.held grows told
+told_on keys pass pass' grows told = all_told_later pass.seen pass'.seen keys.keys.held grows told
 
 pub told_noted : (keys : ValueKeys) (key key' : SlotKey) (pass pass' : Pass) (e : Deed) → NotesAs key pass key' pass' e → AreTold keys pass → AreTold keys pass'
 told_noted keys key key' pass pass' e notes told = told_on keys pass pass' (noted_grows key key' pass pass' e notes) told
@@ -51,16 +51,14 @@ is_told_on key key' pass pass' e v kept notes told = told_later pass.seen pass'.
 
 -- Keys of one value, put together.
 
-one_told : (store : Option (List ℕ)) (log : List Entry) (held : List (Held Entry)) (kept : ℕ) → is_one blocks held ≡ true → kept_in (note_of held) ≡ kept → IsTold log (label_of held) kept → AreToldIn store log held
-one_told None log held kept one is told = tt
-one_told (Some store) log [] kept one is told = absurd (cc)
-one_told (Some store) log (h ∷ []) kept one is told = (subst (λ (k : ℕ). IsTold log h.label k) (sym is) told, tt)
-one_told (Some store) log (h ∷ g ∷ held) kept one is told = absurd (cc)
+one_told : (log : List Entry) (held : List (HeldKey Entry)) (kept : ℕ) → is_one blocks held ≡ true → kept_in (note_of held) ≡ kept → IsTold log (label_of held) kept → AreToldIn log held
+one_told log [] kept one is told = absurd (cc)
+one_told log (h ∷ []) kept one is told = (subst (λ (k : ℕ). IsTold log h.label k) (sym is) told, tt)
+one_told log (h ∷ g ∷ held) kept one is told = absurd (cc)
 
 pub pushed_told : (keys : ValueKeys) (value : ValueKey) (keys' : ValueKeys) (pass : Pass) (kept : ℕ) → Pushes keys value keys' → kept_in (noted_in value) ≡ kept → IsTold pass.seen (value_of value) kept → AreTold keys pass → AreTold keys' pass
 pushed_told keys value keys' pass kept pushes noted its told =
-    subst (λ (t : Name × List (Held Entry)). AreToldIn t.0.store pass.seen t.1) (λ j. (sym pushes.0 j, sym pushes.2 j))
-    (both_told (book_in keys).store pass.seen keys.keys.held value.keys.held told (one_told (book_in keys).store pass.seen value.keys.held kept value.one noted its))
+    subst (AreToldIn pass.seen) (sym pushes.2) (both_told pass.seen keys.keys.held value.keys.held told (one_told pass.seen value.keys.held kept value.one noted its))
 
 pub nothing_told : (keys : ValueKeys) (pass : Pass) → keys.keys.held ≡ [] → AreTold keys pass
-nothing_told keys pass none = subst (AreToldIn (book_in keys).store pass.seen) (sym none) (none_told (book_in keys).store pass.seen)
+nothing_told keys pass none = subst (AreToldIn pass.seen) (sym none) tt

@@ -15,7 +15,7 @@ use Rattle.seize_book.specs.Blocks.{Plan, block_in, no_plan, planned_by, plans, 
 use Rattle.seize_book.specs.Book.{after}
 use Rattle.seize_book.specs.Entry.{Entry}
 use Rattle.seize_words.specs.Named.{slot_book}
-use Rattle.seize_book.specs.Slots.{number_of, own_list}
+use Rattle.seize_book.specs.Slots.{own_list, slot_number}
 use Rattle.seize_book.specs.Tokens.{IsSole, Name, start}
 use Rattle.seize_book.specs.declared.book.pass.Pass.{Pass}
 use Rattle.seize_book.specs.declared.book.slot_key.SlotKey.{SlotKey}
@@ -26,18 +26,18 @@ pub record Stage : Type 0 where
   pub plans : List Plan
 
 pub record IsAt (n : Name) (log : List Entry) (stage : Stage) : Type 0 where
-  pub size : n.size ≡ stage.size
   pub state : after (start n) log ≡ stage.state
   pub planned : plans (start n) log ≡ stage.plans
 
 pub record Sees (n : Name) (pass : Pass) (stage : Stage) : Type 0 where
   pub book : pass.name ≡ n
-  pub alone : IsSole n.gate pass.id
+  pub size : pass.size ≡ stage.size
+  pub alone : IsSole pass.id
   pub leads : IsAt n pass.seen stage
 
 pub record Knows (n : Name) (key : SlotKey) (s : ℕ) (stage : Stage) : Type 0 where
   pub book : slot_book key ≡ n
-  pub number : number_of key ≡ s
+  pub number : slot_number key ≡ s
   pub leads : IsAt n (own_list key) stage
 
 abbrev pub Leads : Name → Pass → SlotKey → ℕ → Stage → Type 0

@@ -1,17 +1,19 @@
 //! Slots over all words of one book, as each of several threads has one: it enters, swaps the values of new blocks into links, reads links
 //! and sees what is lent with the values there, and leaves. All words are found by their numbers.
 ghost use Rattle.std.specs.Prelude.{◌≡◌, ◌+◌, ◌<◌, IfSome, length, true};
+ghost use Rattle.seize_book.specs.Slots.{slot_number};
 ghost use Rattle.seize_table.specs.Place.{all_numbers};
 ghost use Rattle.seize_words.specs.Joined.{IsHolder, IsInAt, words_book};
 ghost use Rattle.seize_words.specs.Reservations.{IsLastOf};
-ghost use Rattle.seize_words_rows.specs.Entrants.{CanMake, GoesOn, HasLinks, HasOneMore, IsOutOrOver, MayCross, MayEnter, MayRead, MayReadAll, made_by};
-ghost use Rattle.seize_words_rows.specs.Leaves.{IsInside, IsOutside};
+ghost use Rattle.seize_words_rows.specs.Entrants.{CanMake, GoesOn, HasLinks, HasOneMore, IsPorterOf, MayEnter, made_by};
+ghost use Rattle.seize_words_rows.specs.Entrants.{HasBegun, MayCross, MayRead, MayReadAll, MayShare};
+ghost use Rattle.seize_words_rows.specs.Leaves.{Did, IsAtHead, IsInside, IsOutOrOver, IsOutside, leave_events, out_events, visit_events};
 
-use crate::exchanges::TURNS;
 use crate::lending::lend;
 use seize_words::activation::Activation;
-use seize_words::book::{NumbersKey, Pass, SlotKey};
+use seize_words::book::{Book, NumbersKey, Pass, Porter, SlotKey};
 use seize_words::link::MaybeKey;
+use seize_words::reservation::Head;
 use seize_words::slots::NextSlot;
 use seize_words::words::Words;
 use std::alloc::Global;
@@ -21,6 +23,9 @@ use std::thread;
 
 /// How many links the book has.
 pub const LINKS: u64 = 8;
+
+/// How often a thread waits or tries again at most, before it gives up.
+pub const TURNS: u64 = 10_000_000;
 
 /// What the slots of a book are made with, and how many there are.
 #[derive(Drop)]
@@ -32,33 +37,35 @@ pub struct Source {
 
 /// What a thread has: a slot of its own, and a pass.
 #[derive(Drop)]
-pub struct Entrant {
+pub struct Entrant<'p> {
     pub slot: usize,
     pub key: SlotKey,
-    pub pass: Pass<'static>,
+    pub pass: Pass<'p>,
 }
 
 /// A slot that has entered, and the pass with which it did.
 #[derive(Drop)]
-pub struct Entered {
+pub struct Entered<'p> {
     pub activation: Activation,
-    pub pass: Pass<'static>,
+    pub pass: Pass<'p>,
 }
 
-/// The words of a new book, and what its slots are made with. Nothing comes where memory was refused.
-pub fn open(alloc: Global) -> Option<(Words<u64>, Source)>
-    ensures can { IfSome result (λ opened. CanMake opened.1 opened.0 × (made_by opened.1 ≡ 0)) }
-    ensures links { IfSome result (λ opened. HasLinks opened.0) }
+/// The words of a new book, its porter, which lends passes, and what its slots are made with. Nothing comes where memory was refused.
+pub fn open(alloc: Global) -> Option<(Words<u64>, Porter, Source)>
+    ensures can { IfSome result (λ opened. CanMake opened.2 opened.0 × (made_by opened.2 ≡ 0)) }
+    ensures porter { IfSome result (λ opened. IsPorterOf opened.0 opened.1) }
 {
-    let Ok((words, numbers, next)) = Words::new(alloc, 0, LINKS as usize, 32) else {
+    let opened = Words::new(alloc, 0, LINKS as usize, 32);
+    let Ok((words, mut porter, numbers, next)) = opened else {
         return None;
     };
+    porter.leave_home();
     let source = Source {
         numbers,
         next,
         made: 0,
     };
-    Some((words, source))
+    Some((words, porter, source))
 }
 
 /// Swaps the value of a new block, which is lent, into the link. It gives the word that it put in and that of what came out. Nothing comes
@@ -93,42 +100,47 @@ pub fn take_out(words: &Words<u64>, link: usize, activation: &Activation, pass: 
     words.swap_link(link, 0, &mut none, activation, pass)
 }
 
-/// Leaves. It says whether nothing was waiting: then the call is over.
-pub fn leave(
-    words: &Words<u64>,
-    slot: usize,
-    activation: Activation,
-    key: &mut SlotKey,
-    pass: &mut Pass,
-) -> bool
-    requires holder { (words_book words.now ≡ pass.old.name) × IsHolder key.old pass.old slot }
+// Begins to leave, and swaps the head out. It gives the head's word.
+fn swap_out(head: &Head, activation: Activation, key: &mut SlotKey, pass: &mut Pass) -> u64
+    requires at { IsAtHead head.now key.old pass.old }
     requires inside { IsInside key.old × IsLastOf key.old activation }
+    ensures at { IsAtHead head.now key.new pass.new }
     ensures goes_on { GoesOn pass.old pass.new }
-    ensures outside { result ≡ true → IsHolder key.new pass.new slot × IsOutside key.new }
+    ensures out { IsOutOrOver key.new result }
+    ensures did { Did key.old key.new (out_events (slot_number key.old)) }
 {
-    if swap_out(words, slot, activation, key, pass) != 1 {
+    key.begin_leave(pass);
+    head.leave(activation, key, pass)
+}
+
+/// Leaves by its head. It says whether nothing was waiting: then the call is over.
+pub fn leave(head: &Head, activation: Activation, key: &mut SlotKey, pass: &mut Pass) -> bool
+    requires at { IsAtHead head.now key.old pass.old }
+    requires inside { IsInside key.old × IsLastOf key.old activation }
+    ensures at { IsAtHead head.now key.new pass.new }
+    ensures goes_on { GoesOn pass.old pass.new }
+    ensures outside { result ≡ true → IsOutside key.new }
+    ensures did { result ≡ true → Did key.old key.new (leave_events (slot_number key.old)) }
+{
+    if swap_out(head, activation, key, pass) != 1 {
         return false;
     }
     key.finish(pass);
     true
 }
 
-// Begins to leave, and swaps the head out. It gives the head's word.
-fn swap_out(
-    words: &Words<u64>,
-    slot: usize,
-    activation: Activation,
-    key: &mut SlotKey,
-    pass: &mut Pass,
-) -> u64
-    requires holder { (words_book words.now ≡ pass.old.name) × IsHolder key.old pass.old slot }
-    requires inside { IsInside key.old × IsLastOf key.old activation }
+/// Enters by its head, and leaves again. It says whether nothing was waiting: then the call is over, and the slot did nothing else, with
+/// this or another pass.
+pub fn enter_and_leave(head: &Head, key: &mut SlotKey, pass: &mut Pass) -> bool
+    requires at { IsAtHead head.now key.old pass.old }
+    requires outside { IsOutside key.old }
+    ensures at { IsAtHead head.now key.new pass.new }
     ensures goes_on { GoesOn pass.old pass.new }
-    ensures holder { IsHolder key.new pass.new slot }
-    ensures out { IsOutOrOver key.new result }
+    ensures outside { result ≡ true → IsOutside key.new }
+    ensures did { result ≡ true → Did key.old key.new (visit_events (slot_number key.old)) }
 {
-    key.begin_leave(pass);
-    words.swap_out(slot, activation, key, pass)
+    let activation = head.enter(key, pass);
+    leave(head, activation, key, pass)
 }
 
 // Enters, swaps the value of a new block into the link, and leaves. It gives the word that it put in and that of what came out. Nothing
@@ -146,9 +158,10 @@ fn swap_once(
     ensures goes_on { GoesOn pass.old pass.new }
     ensures outside { IfSome result (λ found. IsHolder key.new pass.new slot × IsOutside key.new) }
 {
-    let activation = words.enter_head(slot, key, pass);
+    let head = words.slots.head(slot, pass);
+    let activation = head.enter(key, pass);
     let found = put_in(words, link, value, &activation, pass);
-    if !leave(words, slot, activation, key, pass) {
+    if !leave(head, activation, key, pass) {
         return None;
     }
     found
@@ -176,8 +189,9 @@ fn wait_for(
 
 impl Source {
     /// Makes the next slot. Nothing comes where the growth of the table was refused.
-    pub fn make(self, words: &Words<u64>) -> Option<(Entrant, Source)>
+    pub fn make<'p>(self, words: &Words<u64>, porter: &'p Porter) -> Option<(Entrant<'p>, Source)>
         requires can { CanMake self words.now }
+        requires porter { IsPorterOf words.now porter.now }
         ensures may { IfSome result (λ made. MayEnter words.now made.0) }
         ensures made { IfSome result (λ made. HasOneMore self made.1 words.now) }
     {
@@ -186,7 +200,7 @@ impl Source {
             next,
             made,
         } = self;
-        let mut pass = words.blocks.book.pass();
+        let mut pass = porter.pass();
         let Ok((key, next)) = words.make_slot(next, &mut numbers, &mut pass) else {
             return None;
         };
@@ -243,8 +257,15 @@ fn wait_until(sign: &AtomicU64) -> bool {
 
 impl Source {
     /// Waits for the sign, and makes so many slots then, or as many as there is memory for. It says how many.
-    pub fn make_many(self, words: &Words<u64>, count: usize, sign: &AtomicU64) -> usize
+    pub fn make_many(
+        self,
+        words: &Words<u64>,
+        porter: &Porter,
+        count: usize,
+        sign: &AtomicU64,
+    ) -> usize
         requires can { CanMake self words.now }
+        requires porter { IsPorterOf words.now porter.now }
         requires few { made_by self + count < all_numbers }
     {
         if !wait_until(sign) {
@@ -252,7 +273,7 @@ impl Source {
         }
         let mut source = self;
         for made in 0..count {
-            source = match source.make(words) {
+            source = match source.make(words, porter) {
                 Some((_, then)) => then,
                 None => return made,
             };
@@ -263,10 +284,15 @@ impl Source {
 
 /// Walks the heads of all slots that there are, again and again until there are so many, and sets the sign after the first time. It says
 /// how many there were first, and last. Nothing comes where there never were so many, or a walk found fewer heads than there were slots.
-pub fn walk_heads(words: &Words<u64>, count: usize, sign: &AtomicU64) -> Option<(usize, usize)>
-    requires links { HasLinks words.now }
+pub fn walk_heads(
+    words: &Words<u64>,
+    porter: &Porter,
+    count: usize,
+    sign: &AtomicU64,
+) -> Option<(usize, usize)>
+    requires porter { IsPorterOf words.now porter.now }
 {
-    let mut pass = words.blocks.book.pass();
+    let mut pass = porter.pass();
     let (first, _) = words.slots.load(&mut pass);
     for _ in 0..TURNS {
         let (there, all) = words.slots.load(&mut pass);
@@ -282,7 +308,7 @@ pub fn walk_heads(words: &Words<u64>, count: usize, sign: &AtomicU64) -> Option<
     None
 }
 
-impl Entrant {
+impl<'p> Entrant<'p> {
     /// Enters, swaps the value of a new block into a link, and leaves, so often, with one link after the other. It gives the sum of the
     /// words that it put in, less those that came out, modulo 2^64. Nothing comes where memory was refused, or something waited.
     pub fn swap_many(self, words: &Words<u64>, turns: u64) -> Option<u64>
@@ -338,10 +364,11 @@ impl Entrant {
             mut key,
             mut pass,
         } = self;
-        let activation = words.enter_head(slot, &mut key, &mut pass);
+        let head = words.slots.head(slot, &mut pass);
+        let activation = head.enter(&mut key, &mut pass);
         put_in(words, into, value, &activation, &mut pass)?;
         let seen = wait_for(words, from, &activation, &mut pass)?;
-        if leave(words, slot, activation, &mut key, &mut pass) {
+        if leave(head, activation, &mut key, &mut pass) {
             Some(seen)
         } else {
             None
@@ -364,7 +391,7 @@ impl Entrant {
     }
 
     /// Enters, and swaps a value into the link. It gives the word that it put in, and 0 where memory was refused.
-    pub fn enter_and_put(self, words: &Words<u64>, link: usize) -> (Entered, u64)
+    pub fn enter_and_put(self, words: &Words<u64>, link: usize) -> (Entered<'p>, u64)
         requires may { MayEnter words.now self }
         requires link { link < 8 }
         ensures may { MayReadAll words.now result.0 }
@@ -398,4 +425,84 @@ pub fn read_under(words: &Words<u64>, link: usize, activation: &Activation, pass
 {
     let mut pass = pass;
     words.read_link(link, activation, &mut pass).0
+}
+
+impl Entered<'_> {
+    /// The activation, and a book that has seen it begin: for those who share both by `&`.
+    pub fn share(self, words: &Words<u64>) -> (Activation, Book)
+        requires may { MayRead words.now self.activation self.pass }
+        ensures begun { HasBegun words.now result.0 result.1 }
+    {
+        let Entered {
+            activation,
+            mut pass,
+        } = self;
+        let mut book = words.blocks.book.again();
+        book.learn(&mut pass);
+        (activation, book)
+    }
+}
+
+/// A new pass, which learns from the book that the activation began. So threads that share both by `&` each step on links with a pass of
+/// their own.
+pub fn pass_for<'p>(
+    _words: &Words<u64>,
+    porter: &'p Porter,
+    book: &Book,
+    _activation: &Activation,
+) -> Pass<'p>
+    requires porter { IsPorterOf _words.now porter.now }
+    requires begun { HasBegun _words.now _activation.now book.now }
+    ensures may { MayRead _words.now _activation.now result }
+{
+    let mut pass = porter.pass();
+    pass.learn(book);
+    pass
+}
+
+/// Swaps so many values of new blocks, from 1 on, into the link, under an activation that it shares. It gives the sum of the words that it
+/// put in, less those that came out, modulo 2^64. Nothing comes where memory was refused.
+pub fn share_and_swap(
+    words: &Words<u64>,
+    porter: &Porter,
+    book: &Book,
+    activation: &Activation,
+    link: usize,
+    count: u64,
+) -> Option<u64>
+    requires may { MayShare words.now porter.now book.now activation.now }
+    requires link { link < 8 }
+{
+    let mut pass = pass_for(words, porter, book, activation);
+    let mut left: u64 = 0;
+    for turn in 0..count {
+        let value = turn.wrapping_add(1);
+        let (put, out) = put_in(words, link, value, activation, &mut pass)?;
+        left = left.wrapping_add(put).wrapping_sub(out);
+    }
+    Some(left)
+}
+
+/// Finds what the link holds so often, under an activation that it shares. It gives how often that was no less than the time before.
+pub fn share_and_find(
+    words: &Words<u64>,
+    porter: &Porter,
+    book: &Book,
+    activation: &Activation,
+    link: usize,
+    count: u64,
+) -> u64
+    requires may { MayShare words.now porter.now book.now activation.now }
+    requires link { link < 8 }
+{
+    let mut pass = pass_for(words, porter, book, activation);
+    let (mut last, mut rises): (u64, u64) = (0, 0);
+    for _ in 0..count {
+        let found = words.find(link, activation, &mut pass).1.copied();
+        if found.is_some_and(|value| value >= last) {
+            rises = rises.wrapping_add(1);
+        }
+        last = found.unwrap_or(u64::MAX);
+    }
+    rises
 }

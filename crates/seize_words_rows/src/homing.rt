@@ -1,19 +1,21 @@
 //! A porter that comes home. While it is there nobody adds to the list, which is what the porter has seen: so is that of the gate when it
 //! is shut from there or lent to a visit, and of the next porter. Passes that it lent meanwhile keep it from nothing.
-ghost use Rattle.std.specs.Prelude.{◌≡◌, true};
+ghost use Rattle.std.specs.Prelude.{◌≡◌, IfSome, true};
 ghost use Rattle.seize_words_rows.specs.Homing.{IsAtHome, IsSameList};
 
-use seize_words::book::{Pass, Porter, Stay, Unopened};
-use std::marker::Brand;
+use seize_words::book::{Pass, Porter, Stay};
+use seize_words::words::Words;
+use std::alloc::Global;
 use std::mem;
 
-/// The porter of a new book with one link, whose blocks lie in no store.
-pub fn begin() -> Porter
-    ensures home { IsAtHome result }
+/// The porter of a new book with one link. Nothing comes where memory was refused.
+pub fn begin(alloc: Global) -> Option<Porter>
+    ensures home { IfSome result (λ porter. IsAtHome porter) }
 {
-    let (unopened, _) = Unopened::new();
-    let (_, porter, _) = unopened.open_in_turns::<Brand>(1, 32);
-    porter
+    match Words::<u64>::new(alloc, 0, 1, 32) {
+        Ok((_, porter, _, _)) => Some(porter),
+        Err(_) => None,
+    }
 }
 
 /// Two passes are lent and forgotten, and the porter comes home.
@@ -45,9 +47,9 @@ pub struct Visit {
 }
 
 impl Stay<()> for Visit {
-    ghost use Rattle.seize_book.specs.Turns.{HasTurn};
+    ghost use Rattle.seize_book.specs.Tokens.{IsSole};
 
-    ghost may = { λ _ pass. HasTurn pass };
+    ghost may = { λ _ pass. IsSole pass.id };
 
     ghost gives = { λ _ after lent back _. (after.done ≡ true) × (back.seen ≡ lent.seen) };
 

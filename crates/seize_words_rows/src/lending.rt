@@ -1,7 +1,7 @@
 //! Blocks of a store that are lent, and had back where their values were never named.
 ghost use Rattle.std.specs.Prelude.{◌≡◌, IfSome};
 ghost use Rattle.seize_store.specs.Named.{bare_value};
-ghost use Rattle.seize_words.specs.Chunks.{IsBlockIn, book_in};
+ghost use Rattle.seize_words.specs.Chunks.{IsBlockIn, blocks_book};
 ghost use Rattle.seize_words_rows.specs.Lending.{IsNew};
 
 use seize_store::Bare;
@@ -21,7 +21,7 @@ pub struct Lent {
 pub fn lend(blocks: &Blocks<u64>, key: &mut ValueKey, block: Bare<Header, Part, u64>) -> Lent
     requires block { IsBlockIn blocks.now (bare_value block) key.old block }
     ensures value { result.value ≡ bare_value block }
-    ensures new { IsNew (book_in blocks.now) result key.new }
+    ensures new { IsNew (blocks_book blocks.now) result key.new }
 {
     let lent = Lent {
         number: block.number() as u64,
@@ -33,8 +33,8 @@ pub fn lend(blocks: &Blocks<u64>, key: &mut ValueKey, block: Bare<Header, Part, 
 
 /// A block whose value was never named goes back into the store. It gives what was lent there.
 pub fn give_back(blocks: &Blocks<u64>, key: ValueKey, lent: Lent, pass: &mut Pass) -> u64
-    requires book { book_in blocks.now ≡ pass.old.name }
-    requires new { IsNew (book_in blocks.now) lent key }
+    requires book { blocks_book blocks.now ≡ pass.old.name }
+    requires new { IsNew (blocks_book blocks.now) lent key }
     ensures pass { pass.new ≡ pass.old }
     ensures value { result ≡ lent.value }
 {
@@ -45,7 +45,7 @@ pub fn give_back(blocks: &Blocks<u64>, key: ValueKey, lent: Lent, pass: &mut Pas
 
 /// What is lent in the block, by the key of the value there.
 pub fn peek(blocks: &Blocks<u64>, lent: Lent, key: &ValueKey) -> u64
-    requires new { IsNew (book_in blocks.now) lent key.now }
+    requires new { IsNew (blocks_book blocks.now) lent key.now }
     ensures { result ≡ lent.value }
 {
     *blocks.peek(lent.number, key)
@@ -58,7 +58,7 @@ pub fn lend_and_give_back(
     value: u64,
     pass: &mut Pass,
 ) -> Option<(u64, u64, u64)>
-    requires book { book_in blocks.now ≡ pass.old.name }
+    requires book { blocks_book blocks.now ≡ pass.old.name }
     ensures pass { pass.new ≡ pass.old }
     ensures values { IfSome result (λ had. (had.1 ≡ value) × (had.2 ≡ value)) }
 {
@@ -78,7 +78,7 @@ pub fn lend_and_note(
     note: Note,
     pass: &mut Pass,
 ) -> Option<(u64, Note)>
-    requires book { book_in blocks.now ≡ pass.old.name }
+    requires book { blocks_book blocks.now ≡ pass.old.name }
     ensures value { IfSome result (λ had. had.0 ≡ value) }
     ensures noted { IfSome result (λ had. had.1 ≡ note) }
 {

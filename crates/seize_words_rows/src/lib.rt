@@ -1,17 +1,13 @@
-//! Callers of the book and its words: slots that enter and leave, swaps and reads of links, replacements, blocks that are lent and had
-//! back, a porter that comes home, and a worked run. They show that the contracts below, with the exported lemmas, suffice for a caller.
+//! Callers of the words of one book: slots that enter and leave, swaps and reads of links, replacements, blocks that are lent and had back,
+//! a porter that comes home, and a worked run. They show that the contracts below, with the exported lemmas, suffice for a caller.
 #![tactic(auto)]
 
 pub mod entrants;
-pub mod exchanges;
 pub mod guests;
 pub mod homing;
-pub mod leaving;
 pub mod lending;
-pub mod making;
 pub mod numbered_run;
 pub mod replacing;
-pub mod row;
 pub mod shared_numbers;
 #[cfg(test)]
 mod tests;

@@ -3,17 +3,17 @@
 //! the reader, which gives nothing up, and up to 0 by the other, which gives it up. What whole calls do with a batch that is given up shows
 //! `seize_calls_rows`.
 //!
-//! Each function makes one or two of the events. The book is open to one pass alone, so its holder knows the whole list: how many slots
+//! Each function makes one or two of the events. The gate is shut, so the holder of the one pass knows the whole list: how many slots
 //! there are when the value is put, which of them are active, and what waits in a list that comes out. So the contracts say which words are
 //! found. No contract fixes the block's number: it is the one that the store gave.
 ghost use Rattle.std.specs.Prelude.{◌≡◌, ◌+◌, ◌-◌, ◌^◌, IfSome, Some, false, true};
 ghost use Rattle.seize_book.specs.Chains.{first_field, next_field};
-ghost use Rattle.seize_book.specs.Slots.{IsOf, written_of};
-ghost use Rattle.seize_words.specs.Headers.{IsOfBook, Stores, number};
+ghost use Rattle.seize_book.specs.Slots.{IsKeyOfBook, written_of};
+ghost use Rattle.seize_words.specs.Headers.{IsFieldOfBook, Stores, field_number};
 ghost use Rattle.seize_words.specs.Joined.{words_book};
 ghost use Rattle.seize_words.specs.Named.{numbers_book};
 ghost use Rattle.seize_words.specs.Reservations.{IsLastOf};
-ghost use Rattle.seize_words.specs.Reserved.{HasNext};
+ghost use Rattle.seize_words.specs.Reserved.{HasNextSlot};
 ghost use Rattle.seize_words.specs.Totals.{made_of};
 ghost use Rattle.seize_words_rows.specs.NumberedRuns.{StandsAt, UsesBoth};
 ghost use Rattle.seize_words_rows.specs.Runs.{entered, inserted, left, looked, marked, one_made, opened, put, reader_over, two_made};
@@ -41,9 +41,10 @@ pub fn begin(alloc: Global) -> Option<(Words<u64>, SlotKey, SlotKey, Pass<'stati
     ensures reader { IfSome result (λ begun. Knows (words_book begun.0) begun.1 0 one_made) }
     ensures retirer { IfSome result (λ begun. Leads (words_book begun.0) begun.3 begun.2 1 two_made) }
 {
-    let Ok((words, mut pass, numbers, next)) = Words::new_alone(alloc, 0, 1, 1) else {
+    let Ok((words, porter, numbers, next)) = Words::new(alloc, 0, 1, 1) else {
         return None;
     };
+    let mut pass = porter.shut();
     let (reader, retirer) = make_slots(&words, numbers, next, &mut pass)?;
     Some((words, reader, retirer, pass))
 }
@@ -56,7 +57,7 @@ fn make_slots(
     pass: &mut Pass,
 ) -> Option<(SlotKey, SlotKey)>
     requires empty { Sees (words_book words.now) pass.old opened × (numbers_book numbers ≡ words_book words.now) }
-    requires next { HasNext numbers next × (made_of numbers ≡ 0) }
+    requires next { HasNextSlot numbers next × (made_of numbers ≡ 0) }
     ensures reader { IfSome result (λ made. Knows (words_book words.now) made.0 0 one_made) }
     ensures retirer { IfSome result (λ made. Leads (words_book words.now) pass.new made.1 1 two_made) }
 {
@@ -136,9 +137,9 @@ pub fn detach(words: &Words<u64>, retired: &Retired, retirer: &mut SlotKey, pass
 // Stores in the block's next field what was seen of the head, and in its first field the number of the batch's first block. An insertion
 // with the block may be tried then.
 fn prepare(next: &Field, first: &Field, seen: u64, front: u64, key: &mut SlotKey, pass: &mut Pass)
-    requires book { IsOf key.old pass.old × IsOfBook next.now pass.old × IsOfBook first.now pass.old }
-    requires stores { Stores next_field (number next.now) key.old × Stores first_field (number first.now) key.old }
-    ensures uses { UsesBoth key.old pass.old key.new pass.new (number next.now) seen (number first.now) front }
+    requires book { IsKeyOfBook key.old pass.old × IsFieldOfBook next.now pass.old × IsFieldOfBook first.now pass.old }
+    requires stores { Stores next_field (field_number next.now) key.old × Stores first_field (field_number first.now) key.old }
+    ensures uses { UsesBoth key.old pass.old key.new pass.new (field_number next.now) seen (field_number first.now) front }
     ensures written { written_of key.new ≡ Some (seen, front) }
 {
     next.store(seen, key, pass);

@@ -11,7 +11,6 @@ ghost use Rattle.seize_words_rows.specs.Entrants.{GoesOn, MayEnter};
 ghost use Rattle.seize_words_rows.specs.Replacing.{Replaces};
 
 use crate::entrants::Entrant;
-use crate::exchanges::TURNS;
 use crate::lending::lend;
 use seize_words::activation::Activation;
 use seize_words::book::Pass;
@@ -60,17 +59,18 @@ fn know_one(words: &Words<u64>, number: u64, activation: &Activation, pass: &mut
     activation.lasts(pass);
 }
 
-// Puts the value of a new block, which is lent, in the place of what the link holds, and tries again where an exchange was lost. It gives
-// the word that it put in and that of what came out. Nothing comes where a growth of the store was refused, or where all were lost.
+// Puts the value of a new block, which is lent, in the place of what the link holds, in so many tries at most. It gives the word that it
+// put in, that of what came out, and 1; or zeros where each try was lost. Nothing comes where a growth of the store was refused.
 //
-// What came out was not retired, so its chunk stays out, as after `entrants::put_in`.
+// What came out was not retired, so its chunk stays out, as after `entrants::put_in`; so does that of a value that never went in.
 fn replace_in_time(
     words: &Words<u64>,
     link: usize,
     value: u64,
+    tries: u64,
     activation: &Activation,
     pass: &mut Pass,
-) -> Option<(u64, u64)>
+) -> Option<(u64, u64, u64)>
     requires within { (words_book words.now ≡ pass.old.name) × IsInAt activation.now pass.old link }
     ensures goes_on { GoesOn pass.old pass.new }
 {
@@ -79,19 +79,26 @@ fn replace_in_time(
     };
     let word = lend(&words.blocks, &mut key, block).number + 1;
     let mut new = MaybeKey::some(key);
-    for _ in 0..TURNS {
+    for _ in 0..tries {
         let (seen, found) = replace(words, link, word, &mut new, activation, pass);
         if found == seen {
-            return Some((word, seen));
+            return Some((word, seen, 1));
         }
     }
-    None
+    Some((0, 0, 0))
 }
 
-impl Entrant {
-    /// Enters, and replaces what the link holds by the value of a new block, so often. It gives the sum of the words that it put in, less
-    /// those that came out, modulo 2^64. Nothing comes where memory was refused, or where an exchange was lost time and again.
-    pub fn replace_many(self, words: &Words<u64>, link: usize, turns: u64) -> Option<u64>
+impl Entrant<'_> {
+    /// Enters, and replaces what the link holds by the value of a new block, so often, in so many tries each time at most. It gives the sum
+    /// of the words that it put in, less those that came out, modulo 2^64, and how many exchanges it won. Nothing comes where memory was
+    /// refused.
+    pub fn replace_many(
+        self,
+        words: &Words<u64>,
+        link: usize,
+        turns: u64,
+        tries: u64,
+    ) -> Option<(u64, u64)>
         requires may { MayEnter words.now self }
         requires link { link < 8 }
     {
@@ -101,11 +108,19 @@ impl Entrant {
             mut pass,
         } = self;
         let activation = words.enter_head(slot, &mut key, &mut pass);
-        let mut left: u64 = 0;
+        let (mut left, mut won): (u64, u64) = (0, 0);
         for turn in 0..turns {
-            let (put, out) = replace_in_time(words, link, turn, &activation, &mut pass)?;
+            let (put, out, one) = replace_in_time(
+                words,
+                link,
+                turn,
+                tries,
+                &activation,
+                &mut pass,
+            )?;
             left = left.wrapping_add(put).wrapping_sub(out);
+            won = won.wrapping_add(one);
         }
-        Some(left)
+        Some((left, won))
     }
 }

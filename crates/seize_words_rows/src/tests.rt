@@ -1,33 +1,41 @@
-//! Books, passes and keys in hand, and threads that step on words.
-ghost use Rattle.std.specs.Prelude.{IfSome};
-ghost use Rattle.seize_words_rows.specs.Exchanges.{MayShare, MaySwap};
-ghost use Rattle.seize_words_rows.specs.Guests.{IsReady};
-ghost use Rattle.seize_words_rows.specs.Visits.{MayVisit};
+//! Tokens and words by their sizes; and words of one book, found by their numbers: by one caller, and by threads that share them.
+ghost use Rattle.seize_words_rows.specs.Entrants.{CanMake, HasLinks, IsPorterOf, MayEnter, MayRead, MayReadAll, MayShare, made_by};
+ghost use Rattle.seize_words_rows.specs.Guests.{IsGuestOf};
+ghost use Rattle.std.specs.Prelude.{◌≡◌, IfSome};
 
-use crate::exchanges::{EACH, Exchanged, Swapper, learn_and_read, read_many, share_many};
-use crate::guests::{Guest, leave_again, open_off, welcome};
-use crate::leaving::{Visitor, leave_head};
-use crate::making::open;
-use crate::row::{open_row, read_row, visit_many};
+use crate::entrants::{
+    Entered, Entrant, LINKS, TURNS, meet, open, read_under, share_and_find, share_and_swap,
+    walk_heads,
+};
+use crate::guests::{Guest, welcome};
+use crate::lending::{lend_and_give_back, lend_and_note};
+use crate::{numbered_run, shared_numbers};
 use seize_words::activation::Activation;
 use seize_words::batch::Count;
 use seize_words::book::{
-    BareKey, BlockKeys, Book, BookKeys, ChunkKeys, CountKey, FieldKey, HeadKey, LinkKeys,
-    NumbersKey, Pass, Porter, SlotKey, SlotKeys, TotalKey, Unopened, ValueKey, ValueKeys,
+    BareKey, Book, BookKeys, ChunkKeys, CountKey, FieldKey, HeadKey, LinkKeys, NumbersKey, Pass,
+    Porter, SlotKey, SlotKeys, TotalKey, Unopened, ValueKey, ValueKeys,
 };
 use seize_words::chunk::{Header, Part};
 use seize_words::header::Field;
 use seize_words::link::{Link, MaybeKey};
+use seize_words::note::Note;
 use seize_words::reservation::Head;
 use seize_words::slots::Reservation;
 use seize_words::total::Total;
+use seize_words::words::Words;
 use std::mem::size_of;
 use std::sync::Wait;
+use std::sync::atomic::AtomicU64;
 use std::test::*;
 use std::thread;
 use std::thread::Threads;
 
-mod joined;
+// How many slots a thread makes.
+const MADE: usize = 100;
+
+// How often each thread swaps.
+const SWAPS: u64 = 5_000;
 
 #[test]
 fn tokens_have_no_bytes(rt: HostRuntime) {
@@ -37,7 +45,6 @@ fn tokens_have_no_bytes(rt: HostRuntime) {
             + size_of::<ValueKey>()
             + size_of::<ValueKeys>()
             + size_of::<BareKey>()
-            + size_of::<BlockKeys>()
             + size_of::<ChunkKeys>()
             + size_of::<Part>()
             + size_of::<Unopened>()
@@ -72,289 +79,410 @@ fn a_header_has_three_words_and_a_note(rt: HostRuntime) {
     assert_eq!(rt; size_of::<Header>(), 48);
 }
 
-// Slots are made one after the other, and whoever loads the total knows how many there are.
+// A block is lent, read by its key, and had back, since its value was never named; then the store finds it again.
 #[test]
-fn the_total_tells_of_each_slot(rt: HostRuntime) {
-    let (book, maker, links) = open(0);
-    let (mut one, mut two) = (book.pass(), book.pass());
-    assert_eq!(rt; maker.total.load(&mut two), 0);
-    let (first, first_head, maker) = maker.make(&mut one);
-    assert_eq!(rt; maker.total.load(&mut two), 1);
-    let (second, second_head, maker) = maker.make(&mut one);
-    assert_eq!(rt; maker.total.load(&mut two), 2);
-    drop((links, maker, first, second));
-    drop((first_head, second_head));
+fn a_block_that_is_lent_is_had_back(rt: HostRuntime) {
+    let Some((words, porter, _)) = open(rt.alloc()) else {
+        panic!(rt; "no memory");
+    };
+    let mut pass = porter.pass();
+    let Some((number, seen, back)) = lend_and_give_back(&words.blocks, 70, &mut pass) else {
+        panic!(rt; "no memory");
+    };
+    assert_eq!(rt; (seen, back), (70, 70));
+    let again = lend_and_give_back(&words.blocks, 71, &mut pass);
+    assert_eq!(rt; again, Some((number, 71, 71)));
 }
 
-// One slot enters and reads a link, which is empty.
+// A block whose value was never named is noted while it is lent.
 #[test]
-fn an_empty_link_is_read(rt: HostRuntime) {
-    let (book, maker, mut links) = open(1);
-    let link = Link::next(&mut links);
-    let (mut one, maker) = Swapper::enter(&book, maker, &link);
-    let at = &mut one;
-    assert_eq!(rt; link.read(&at.activation, &mut at.pass), 0);
-    drop((links, maker, one));
+fn a_block_that_is_lent_is_noted(rt: HostRuntime) {
+    let Some((words, porter, _)) = open(rt.alloc()) else {
+        panic!(rt; "no memory");
+    };
+    let mut pass = porter.pass();
+    let note = Note {
+        next: 5,
+        slot: 6,
+        kept: 7,
+    };
+    let had = lend_and_note(&words.blocks, 70, note, &mut pass);
+    assert_eq!(rt; had, Some((70, note)));
 }
 
-// A slot leaves; its head's word says that it was active, and that nothing waited.
+// A value is retired over words that are found by their numbers. The reader counts its batch down first, below 0, and nothing is given up
+// with that; the other slot's one insertion brings it up to 0, and gives it up.
 #[test]
-fn a_head_comes_out_with_nothing_waiting(rt: HostRuntime) {
-    let (book, maker, links) = open(0);
-    let mut pass = book.pass();
-    let (mut key, head, maker) = maker.make(&mut pass);
-    let activation = head.enter(&mut key, &mut pass);
-    assert_eq!(rt; leave_head(&head, activation, &mut key, &mut pass), 1);
-    drop((links, maker, key));
+fn a_batch_is_counted_by_the_number_of_its_block(rt: HostRuntime) {
+    let Some((words, mut reader, mut retirer, mut pass)) = numbered_run::begin(rt.alloc()) else {
+        panic!(rt; "no memory");
+    };
+    let activation = numbered_run::enter(&words, &mut reader, &mut pass);
+    let Some(mut retired) = numbered_run::retire(&words, 70, &mut retirer, &mut pass) else {
+        panic!(rt; "no memory");
+    };
+    let marked = numbered_run::mark(&words, &retired, &mut retirer, &mut pass);
+    assert_eq!(rt; marked, (1, 0));
+    let seen = numbered_run::detach(&words, &retired, &mut retirer, &mut pass);
+    let found = numbered_run::insert(&words, &retired, &mut retirer, &mut pass);
+    assert_eq!(rt; (seen, found), (1, 1));
+    let list = numbered_run::leave(&words, &retired, &mut reader, activation, &mut pass);
+    assert_eq!(rt; list, retired.lent.number + 2);
+    let counted = numbered_run::count_down(&words, &retired, &mut reader, &mut pass);
+    assert_eq!(rt; counted, (false, u64::MAX));
+    assert!(rt; numbered_run::count_up(&words, &mut retired, &mut retirer, &mut pass));
 }
 
-// A value that is put into a link comes out of it, with its key.
+// Where others may append, the number of the first of two slots goes back, and is taken again as the least that is not in use. So the third
+// slot that is made has the number after both.
 #[test]
-fn a_swapped_value_comes_out(rt: HostRuntime) {
-    let (book, maker, mut links) = open(1);
-    let link = Link::next(&mut links);
-    let (mut one, maker) = Swapper::enter(&book, maker, &link);
-    let mut value = MaybeKey::some(book.block(5).value);
-    let at = &mut one;
-    assert_eq!(rt; link.swap(6, &mut value, &at.activation, &mut at.pass), 0);
-    let mut none = MaybeKey::none(&mut at.pass);
-    assert_eq!(rt; link.swap(0, &mut none, &at.activation, &mut at.pass), 6);
-    drop((links, maker, one, value, none));
+fn a_number_goes_back_and_is_taken_again(rt: HostRuntime) {
+    let Some((words, porter, mut numbers, next)) = shared_numbers::begin(rt.alloc()) else {
+        panic!(rt; "no memory");
+    };
+    let mut pass = porter.pass();
+    let Some((mut first, second, next)) = shared_numbers::make_two(
+        &words,
+        &mut numbers,
+        next,
+        &mut pass,
+    ) else {
+        panic!(rt; "no memory");
+    };
+    assert_eq!(rt; (first.number, second.number, next.number()), (0, 1, 2));
+    shared_numbers::give(&words, &mut numbers, &mut first, &mut pass);
+    shared_numbers::take_again(&words, &mut numbers, &mut first, &mut pass);
+    let Some((third, next)) = shared_numbers::make_third(&words, &mut numbers, next, &mut pass)
+    else {
+        panic!(rt; "no memory");
+    };
+    assert_eq!(rt; (third.number, next.number()), (2, 3));
 }
 
-// A pass that was made before the activation began learns of it from the book, and reads the link.
+// One thread makes 100 slots, whose heads go into the table, the last of them into its third bucket. Another walks the heads of all slots
+// that there are, first when there is none: each walk finds as many as the word says.
 #[test]
-fn a_link_is_read_with_a_pass_that_learned(rt: HostRuntime) {
-    let (mut book, maker, mut links) = open(1);
-    let link = Link::next(&mut links);
-    let mut other = book.pass();
-    let (mut one, maker) = Swapper::enter(&book, maker, &link);
-    book.learn(&mut one.pass);
-    share_many(&book, &link, &one.activation, 5, 1);
-    assert_eq!(rt;
-        learn_and_read(&link, &one.activation, &book, &mut other),
-        6
+fn heads_are_found_while_slots_are_made(rt: HostRuntime) {
+    let Some((words, porter, source)) = open(rt.alloc()) else {
+        panic!(rt; "no memory");
+    };
+    let sign = AtomicU64::new(0);
+    let (words, porter, sign) = (&words, &porter, &sign);
+    let (made, walked) = thread::join(
+        &rt,
+        move || -> usize
+            requires { CanMake source words.now × (made_by source ≡ 0) × IsPorterOf words.now porter.now }
+        { source.make_many(words, porter, MADE, sign) },
+        move || -> Option<(usize, usize)>
+            requires { IsPorterOf words.now porter.now }
+        { walk_heads(words, porter, MADE, sign) },
     );
-    drop((links, maker, one));
+    assert_eq!(rt; (made, walked), (MADE, Some((0, MADE))));
+}
+
+// Each of two threads swaps a value into one link, and then waits for that of the other and sees it: it holds only where both run.
+#[test]
+fn each_thread_sees_what_the_other_put_in(rt: HostRuntime) {
+    let Some((words, porter, source)) = open(rt.alloc()) else {
+        panic!(rt; "no memory");
+    };
+    let Some((one, source)) = source.make(&words, &porter) else {
+        panic!(rt; "no memory");
+    };
+    let Some((two, _)) = source.make(&words, &porter) else {
+        panic!(rt; "no memory");
+    };
+    let words = &words;
+    let (saw_1, saw_2) = thread::join(
+        &rt,
+        move || -> Option<u64>
+            requires { MayEnter words.now one }
+        { one.swap_and_wait(words, 0, 1, 70) },
+        move || -> Option<u64>
+            requires { MayEnter words.now two }
+        { two.swap_and_wait(words, 1, 0, 71) },
+    );
+    assert_eq!(rt; (saw_1, saw_2), (Some(71), Some(70)));
+}
+
+// An exchange that takes a link to hold nothing is lost where it holds something, and that is seen.
+#[test]
+fn what_a_lost_exchange_found_is_seen(rt: HostRuntime) {
+    let Some((words, porter, source)) = open(rt.alloc()) else {
+        panic!(rt; "no memory");
+    };
+    let Some((one, _)) = source.make(&words, &porter) else {
+        panic!(rt; "no memory");
+    };
+    assert_eq!(rt; one.put_and_lose(&words, 0, 70), Some(70));
 }
 
 // Two threads swap. It gives the sum of the words put in, less those that came out.
-fn swap_both<R: Threads + Wait + Sync>(rt: &R, link: &Link, a: Swapper, b: Swapper) -> u64
-    requires { MaySwap link.now a × MaySwap link.now b }
-{
-    let (one, two) = thread::join(
-        rt,
-        move || -> u64
-            requires { MaySwap link.now a }
-        { a.swap_many(link, 1_000_000) },
-        move || -> u64
-            requires { MaySwap link.now b }
-        { b.swap_many(link, 2_000_000) },
-    );
-    one.wrapping_add(two)
-}
-
-// Two threads swap values of their own into one link: each comes out once, or is there in the end.
-#[test]
-fn swaps_lose_and_invent_no_value(rt: HostRuntime) {
-    let (book, maker, mut links) = open(1);
-    let link = Link::next(&mut links);
-    let (one, maker) = Swapper::enter(&book, maker, &link);
-    let (two, maker) = Swapper::enter(&book, maker, &link);
-    let (mut last, maker) = Swapper::enter(&book, maker, &link);
-    let left = swap_both(&rt, &link, one, two);
-    let at = &mut last;
-    let mut none = MaybeKey::none(&mut at.pass);
-    let word = link.swap(0, &mut none, &at.activation, &mut at.pass);
-    assert_eq!(rt; left, word);
-    drop((links, maker, last, none));
-}
-
-// The same of two that exchange with what they read just before.
-fn exchange_both<R: Threads + Wait + Sync>(rt: &R, link: &Link, a: Swapper, b: Swapper) -> Exchanged
-    requires { MaySwap link.now a × MaySwap link.now b }
-{
-    let (one, two) = thread::join(
-        rt,
-        move || -> Exchanged
-            requires { MaySwap link.now a }
-        { a.exchange_many(link, 3_000_000) },
-        move || -> Exchanged
-            requires { MaySwap link.now b }
-        { b.exchange_many(link, 4_000_000) },
-    );
-    one.with(two)
-}
-
-// Two threads exchange, and nobody else writes. Whoever makes the first exchange wins it. And each that one of them lost found what the
-// other had put in since the read, by another exchange each time: so the other won no fewer than it lost, and both together won at least
-// as many as one of them made.
-#[test]
-fn exchanges_are_won_and_lose_no_value(rt: HostRuntime) {
-    let (book, maker, mut links) = open(1);
-    let link = Link::next(&mut links);
-    let (one, maker) = Swapper::enter(&book, maker, &link);
-    let (two, maker) = Swapper::enter(&book, maker, &link);
-    let (mut last, maker) = Swapper::enter(&book, maker, &link);
-    let both = exchange_both(&rt, &link, one, two);
-    let at = &mut last;
-    let mut none = MaybeKey::none(&mut at.pass);
-    let word = link.swap(0, &mut none, &at.activation, &mut at.pass);
-    assert_eq!(rt; both.left, word);
-    assert!(rt; both.won >= EACH);
-    drop((links, maker, last, none));
-}
-
-// Two of them swap, and two exchange.
-fn four<R: Threads + Wait + Sync>(
+fn swap_both<R: Threads + Wait + Sync>(
     rt: &R,
-    link: &Link,
-    swapping: (Swapper, Swapper),
-    exchanging: (Swapper, Swapper),
-) -> u64
-    requires { MaySwap link.now swapping.0 × MaySwap link.now swapping.1 × MaySwap link.now exchanging.0 × MaySwap link.now exchanging.1 }
+    words: &Words<u64>,
+    a: Entrant,
+    b: Entrant,
+) -> Option<u64>
+    requires { MayEnter words.now a × MayEnter words.now b }
 {
-    let (a, b) = swapping;
-    let (c, d) = exchanging;
     let (one, two) = thread::join(
         rt,
-        move || -> u64
-            requires { MaySwap link.now a × MaySwap link.now b }
-        { swap_both(rt, link, a, b) },
-        move || -> u64
-            requires { MaySwap link.now c × MaySwap link.now d }
-        { exchange_both(rt, link, c, d).left },
+        move || -> Option<u64>
+            requires { MayEnter words.now a }
+        { a.swap_many(words, SWAPS) },
+        move || -> Option<u64>
+            requires { MayEnter words.now b }
+        { b.swap_many(words, SWAPS) },
     );
-    one.wrapping_add(two)
+    Some(one?.wrapping_add(two?))
 }
 
-#[test]
-fn four_threads_lose_and_invent_no_value(rt: HostRuntime) {
-    let (book, maker, mut links) = open(1);
-    let link = Link::next(&mut links);
-    let (a, maker) = Swapper::enter(&book, maker, &link);
-    let (b, maker) = Swapper::enter(&book, maker, &link);
-    let (c, maker) = Swapper::enter(&book, maker, &link);
-    let (d, maker) = Swapper::enter(&book, maker, &link);
-    let (mut last, maker) = Swapper::enter(&book, maker, &link);
-    let left = four(&rt, &link, (a, b), (c, d));
-    let at = &mut last;
-    let mut none = MaybeKey::none(&mut at.pass);
-    let word = link.swap(0, &mut none, &at.activation, &mut at.pass);
-    assert_eq!(rt; left, word);
-    drop((links, maker, last, none));
+// Two threads enter, and put a value into a link each. It gives the words too.
+fn enter_both<'p, R: Threads + Wait + Sync>(
+    rt: &R,
+    words: &Words<u64>,
+    a: Entrant<'p>,
+    b: Entrant<'p>,
+) -> ((Entered<'p>, u64), (Entered<'p>, u64))
+    requires { MayEnter words.now a × MayEnter words.now b }
+    ensures { MayReadAll words.now result.0.0 × MayReadAll words.now result.1.0 }
+{
+    thread::join(
+        rt,
+        move || -> (Entered, u64)
+            requires { MayEnter words.now a }
+            ensures { MayReadAll words.entry.now result.0 }
+        { a.enter_and_put(words, 0) },
+        move || -> (Entered, u64)
+            requires { MayEnter words.now b }
+            ensures { MayReadAll words.entry.now result.0 }
+        { b.enter_and_put(words, 1) },
+    )
 }
 
-// Each of the links of a row is read, with an activation that is shared and by a slot that enters and leaves.
+// Their passes meet, and then each of two threads reads with the pass of one of them, under the activation of the other, what that put in.
+fn read_both<R: Threads + Wait + Sync>(
+    rt: &R,
+    words: &Words<u64>,
+    one: Entered,
+    two: Entered,
+) -> (u64, u64)
+    requires { MayReadAll words.now one × MayReadAll words.now two }
+{
+    let (mut one, mut two) = (one, two);
+    meet(&mut one, &mut two);
+    let Entered {
+        activation: first,
+        pass,
+    } = one;
+    let Entered {
+        activation: second,
+        pass: other,
+    } = two;
+    let (first, second) = (&first, &second);
+    thread::join(
+        rt,
+        move || -> u64
+            requires { HasLinks words.now × MayRead words.now second.now pass }
+        { read_under(words, 1, second, pass) },
+        move || -> u64
+            requires { HasLinks words.now × MayRead words.now first.now other }
+        { read_under(words, 0, first, other) },
+    )
+}
+
+// Passes come back from two threads, meet, and go to two threads again.
 #[test]
-fn a_row_is_read_whole(rt: HostRuntime) {
-    let Ok((mut book, maker, row)) = open_row(rt.alloc(), 3) else {
+fn passes_that_met_know_both_activations(rt: HostRuntime) {
+    let Some((words, porter, source)) = open(rt.alloc()) else {
         panic!(rt; "no memory");
     };
-    let (mut one, maker) = Swapper::enter(&book, maker, &row[0]);
-    let (visitor, maker) = Visitor::make(&book, maker);
-    book.learn(&mut one.pass);
-    share_many(&book, &row[0], &one.activation, 6, 1);
-    share_many(&book, &row[1], &one.activation, 69, 1);
-    share_many(&book, &row[2], &one.activation, 699, 1);
-    let sum = read_row(&book, row.as_slice(), &one.activation, 2);
-    assert_eq!(rt; (row.len(), sum), (3, 2 * 777));
-    assert_eq!(rt; visit_many(visitor, row.as_slice(), 5), Some(5 * 777));
-    drop((maker, one));
+    let Some((a, source)) = source.make(&words, &porter) else {
+        panic!(rt; "no memory");
+    };
+    let Some((b, _)) = source.make(&words, &porter) else {
+        panic!(rt; "no memory");
+    };
+    let ((one, put_1), (two, put_2)) = enter_both(&rt, &words, a, b);
+    assert!(rt; put_1 != put_2);
+    assert_eq!(rt; read_both(&rt, &words, one, two), (put_2, put_1));
 }
 
-// Two threads share one slot's activation by `&`, of which the book has learned: one swaps, and the other reads meanwhile. What it finds
-// adds up to no less and no more than so many of the values that were put in.
+// Two threads replace what one link holds. It gives the sum of the words put in, less those that came out, and how many exchanges were won.
+fn replace_both<R: Threads + Wait + Sync>(
+    rt: &R,
+    words: &Words<u64>,
+    a: Entrant,
+    b: Entrant,
+    tries: u64,
+) -> Option<(u64, u64)>
+    requires { MayEnter words.now a × MayEnter words.now b }
+{
+    let (one, two) = thread::join(
+        rt,
+        move || -> Option<(u64, u64)>
+            requires { MayEnter words.now a }
+        { a.replace_many(words, 3, SWAPS, tries) },
+        move || -> Option<(u64, u64)>
+            requires { MayEnter words.now b }
+        { b.replace_many(words, 3, SWAPS, tries) },
+    );
+    let (one, two) = (one?, two?);
+    Some((one.0.wrapping_add(two.0), one.1.wrapping_add(two.1)))
+}
+
+// Each of two threads puts the values of 5,000 new blocks into one link, in place of what it read there just before, and tries again where
+// the other was in between. Each block's number comes out once, or is in the link in the end.
+#[test]
+fn replacements_lose_and_invent_no_block(rt: HostRuntime) {
+    let Some((words, porter, source)) = open(rt.alloc()) else {
+        panic!(rt; "no memory");
+    };
+    let Some((a, source)) = source.make(&words, &porter) else {
+        panic!(rt; "no memory");
+    };
+    let Some((b, source)) = source.make(&words, &porter) else {
+        panic!(rt; "no memory");
+    };
+    let Some((last, _)) = source.make(&words, &porter) else {
+        panic!(rt; "no memory");
+    };
+    let Some((left, won)) = replace_both(&rt, &words, a, b, TURNS) else {
+        panic!(rt; "no memory");
+    };
+    assert_eq!(rt; won, 2 * SWAPS);
+    assert_eq!(rt; last.empty_links(&words), (left, 1));
+}
+
+// The same with one try each. Whoever makes the first exchange wins it. And each that one of them lost found what the other had put in
+// since the read, by another exchange each time: so the other won no fewer than it lost, and both together won at least as many as one of
+// them made.
+#[test]
+fn exchanges_are_won_and_lose_no_block(rt: HostRuntime) {
+    let Some((words, porter, source)) = open(rt.alloc()) else {
+        panic!(rt; "no memory");
+    };
+    let Some((a, source)) = source.make(&words, &porter) else {
+        panic!(rt; "no memory");
+    };
+    let Some((b, source)) = source.make(&words, &porter) else {
+        panic!(rt; "no memory");
+    };
+    let Some((last, _)) = source.make(&words, &porter) else {
+        panic!(rt; "no memory");
+    };
+    let Some((left, won)) = replace_both(&rt, &words, a, b, 1) else {
+        panic!(rt; "no memory");
+    };
+    assert!(rt; won >= SWAPS);
+    assert_eq!(rt; last.empty_links(&words), (left, 1));
+}
+
+// Two threads swap, and two replace.
+fn all<R: Threads + Wait + Sync>(
+    rt: &R,
+    words: &Words<u64>,
+    first: (Entrant, Entrant),
+    last: (Entrant, Entrant),
+) -> Option<u64>
+    requires { MayEnter words.now first.0 × MayEnter words.now first.1 × MayEnter words.now last.0 × MayEnter words.now last.1 }
+{
+    let (a, b) = first;
+    let (c, d) = last;
+    let (one, two) = thread::join(
+        rt,
+        move || -> Option<u64>
+            requires { MayEnter words.now a × MayEnter words.now b }
+        { swap_both(rt, words, a, b) },
+        move || -> Option<(u64, u64)>
+            requires { MayEnter words.now c × MayEnter words.now d }
+        { replace_both(rt, words, c, d, TURNS) },
+    );
+    Some(one?.wrapping_add(two?.0))
+}
+
+// Two threads swap the values of new blocks into eight links, and two replace what one of these holds. Each block's number comes out once,
+// or is in a link in the end.
+#[test]
+fn four_threads_lose_and_invent_no_block(rt: HostRuntime) {
+    let Some((words, porter, source)) = open(rt.alloc()) else {
+        panic!(rt; "no memory");
+    };
+    let Some((a, source)) = source.make(&words, &porter) else {
+        panic!(rt; "no memory");
+    };
+    let Some((b, source)) = source.make(&words, &porter) else {
+        panic!(rt; "no memory");
+    };
+    let Some((c, source)) = source.make(&words, &porter) else {
+        panic!(rt; "no memory");
+    };
+    let Some((d, source)) = source.make(&words, &porter) else {
+        panic!(rt; "no memory");
+    };
+    let Some((last, _)) = source.make(&words, &porter) else {
+        panic!(rt; "no memory");
+    };
+    let Some(left) = all(&rt, &words, (a, b), (c, d)) else {
+        panic!(rt; "no memory");
+    };
+    assert_eq!(rt; last.empty_links(&words), (left, LINKS));
+}
+
+// Two threads share one slot's activation by `&`, and a book that has seen it begin; each has a pass of its own. One swaps greater and
+// greater values in, and the other finds what is there meanwhile: no value is less than the one before.
 #[test]
 fn threads_share_one_activation(rt: HostRuntime) {
-    let (mut book, maker, mut links) = open(1);
-    let link = Link::next(&mut links);
-    let (one, maker) = Swapper::enter(&book, maker, &link);
-    let Swapper {
-        activation,
-        mut pass,
-        ..
-    } = one;
-    book.learn(&mut pass);
-    let mut value = MaybeKey::some(book.block(999_999).value);
-    link.swap(1_000_000, &mut value, &activation, &mut pass);
-    let (shared, book, held) = (&link, &book, &activation);
-    let (left, sum) = thread::join(
+    let Some((words, porter, source)) = open(rt.alloc()) else {
+        panic!(rt; "no memory");
+    };
+    let Some((one, source)) = source.make(&words, &porter) else {
+        panic!(rt; "no memory");
+    };
+    let Some((last, _)) = source.make(&words, &porter) else {
+        panic!(rt; "no memory");
+    };
+    let (entered, put) = one.enter_and_put(&words, 0);
+    let (activation, book) = entered.share(&words);
+    let (words, porter, book, held) = (&words, &porter, &book, &activation);
+    let (left, rises) = thread::join(
         &rt,
+        move || -> Option<u64>
+            requires { MayShare words.now porter.now book.now held.now }
+        { share_and_swap(words, porter, book, held, 0, SWAPS) },
         move || -> u64
-            requires { MayShare shared.now held.now book.now }
-        { share_many(book, shared, held, 1_000_000, EACH) },
-        move || -> u64
-            requires { MayShare shared.now held.now book.now }
-        { read_many(book, shared, held, EACH) },
+            requires { MayShare words.now porter.now book.now held.now }
+        { share_and_find(words, porter, book, held, 0, SWAPS) },
     );
-    let mut none = MaybeKey::none(&mut pass);
-    let word = link.swap(0, &mut none, &activation, &mut pass);
-    assert_eq!(rt; left.wrapping_add(1_000_000), word);
-    assert!(rt; sum >= EACH * 1_000_000 && sum <= EACH * 1_020_000);
-    drop((links, maker, activation, value, none));
-}
-
-// Each of two threads swaps a value into one link and then waits for that of the other: it holds only where both run.
-#[test]
-fn each_thread_sees_what_the_other_put_in(rt: HostRuntime) {
-    let (book, maker, mut links) = open(2);
-    let (first, second) = (Link::next(&mut links), Link::next(&mut links));
-    let (one, maker) = Swapper::enter(&book, maker, &first);
-    let (two, maker) = Swapper::enter(&book, maker, &second);
-    let (first, second) = (&first, &second);
-    let (saw_1, saw_2) = thread::join(
-        &rt,
-        move || -> bool
-            requires { MaySwap first.now one × MaySwap second.now one }
-        { one.swap_and_wait(first, second, 1) },
-        move || -> bool
-            requires { MaySwap second.now two × MaySwap first.now two }
-        { two.swap_and_wait(second, first, 2) },
+    assert_eq!(rt; rises, SWAPS);
+    assert_eq!(rt;
+        Some(last.empty_links(words)),
+        left.map(|left| (left.wrapping_add(put), 1))
     );
-    assert!(rt; saw_1 && saw_2);
-    drop((links, maker));
-}
-
-// Slots enter and leave side by side, each by steps on its own head, and nothing ever waits for one.
-#[test]
-fn two_slots_enter_and_leave(rt: HostRuntime) {
-    let (book, maker, links) = open(0);
-    let (one, maker) = Visitor::make(&book, maker);
-    let (two, maker) = Visitor::make(&book, maker);
-    let turns = thread::join(
-        &rt,
-        move || -> u64
-            requires { MayVisit one }
-        { one.visit(20_000) },
-        move || -> u64
-            requires { MayVisit two }
-        { two.visit(20_000) },
-    );
-    assert_eq!(rt; turns, (20_000, 20_000));
-    drop((links, maker));
 }
 
 // Two guests visit, on a thread each, with passes that one porter lends, which both share.
 fn visit_both<R: Threads + Wait + Sync>(
     rt: &R,
+    words: &Words<u64>,
     porter: &Porter,
     a: Guest,
     b: Guest,
 ) -> Option<(Guest, Guest)>
-    requires { IsReady a porter.now × IsReady b porter.now }
-    ensures { IfSome result (λ both. IsReady both.0 porter.now × IsReady both.1 porter.now) }
+    requires { IsPorterOf words.now porter.now × IsGuestOf words.now a × IsGuestOf words.now b }
+    ensures { IfSome result (λ both. IsGuestOf words.now both.0 × IsGuestOf words.now both.1) }
 {
     let (one, two) = thread::join(
         rt,
         move || -> Option<Guest>
-            requires { IsReady a porter.now }
-            ensures { IfSome result (λ guest. IsReady guest porter.entry.now) }
-        { a.visit(porter, 10_000) },
+            requires { IsPorterOf words.now porter.now × IsGuestOf words.now a }
+            ensures { IfSome result (λ guest. IsGuestOf words.entry.now guest) }
+        { a.visit(words, porter, 10_000) },
         move || -> Option<Guest>
-            requires { IsReady b porter.now }
-            ensures { IfSome result (λ guest. IsReady guest porter.entry.now) }
-        { b.visit(porter, 10_000) },
+            requires { IsPorterOf words.now porter.now × IsGuestOf words.now b }
+            ensures { IfSome result (λ guest. IsGuestOf words.entry.now guest) }
+        { b.visit(words, porter, 10_000) },
     );
     Some((one?, two?))
 }
@@ -363,68 +491,24 @@ fn visit_both<R: Threads + Wait + Sync>(
 // lends passes again, comes home again, and the gate is shut.
 #[test]
 fn threads_share_a_porter(rt: HostRuntime) {
-    let (mut porter, one, two) = open_off();
-    let Some((one, two)) = visit_both(&rt, &porter, one, two) else {
+    let Some((words, mut porter, source)) = open(rt.alloc()) else {
+        panic!(rt; "no memory");
+    };
+    let Some((a, source)) = source.make(&words, &porter) else {
+        panic!(rt; "no memory");
+    };
+    let Some((b, _)) = source.make(&words, &porter) else {
+        panic!(rt; "no memory");
+    };
+    let (a, b) = (a.guest(&words), b.guest(&words));
+    let Some((a, b)) = visit_both(&rt, &words, &porter, a, b) else {
         panic!(rt; "something waited");
     };
-    welcome(&mut porter, &one, &two);
-    leave_again(&mut porter, &one, &two);
-    let Some((one, two)) = visit_both(&rt, &porter, one, two) else {
+    welcome(&mut porter, &a, &b);
+    porter.leave_home();
+    let Some((a, b)) = visit_both(&rt, &words, &porter, a, b) else {
         panic!(rt; "something waited");
     };
-    welcome(&mut porter, &one, &two);
+    welcome(&mut porter, &a, &b);
     drop(porter.shut());
-}
-
-fn four_visits<R: Threads + Wait + Sync>(
-    rt: &R,
-    a: Visitor,
-    b: Visitor,
-    c: Visitor,
-    d: Visitor,
-) -> ((u64, u64), (u64, u64))
-    requires { MayVisit a × MayVisit b × MayVisit c × MayVisit d }
-{
-    thread::join(
-        rt,
-        move || -> (u64, u64)
-            requires { MayVisit a × MayVisit b }
-        {
-            thread::join(
-                rt,
-                move || -> u64
-                    requires { MayVisit a }
-                { a.visit(20_000) },
-                move || -> u64
-                    requires { MayVisit b }
-                { b.visit(20_000) },
-            )
-        },
-        move || -> (u64, u64)
-            requires { MayVisit c × MayVisit d }
-        {
-            thread::join(
-                rt,
-                move || -> u64
-                    requires { MayVisit c }
-                { c.visit(20_000) },
-                move || -> u64
-                    requires { MayVisit d }
-                { d.visit(20_000) },
-            )
-        },
-    )
-}
-
-#[test]
-fn four_slots_enter_and_leave(rt: HostRuntime) {
-    let (book, maker, links) = open(0);
-    let (a, maker) = Visitor::make(&book, maker);
-    let (b, maker) = Visitor::make(&book, maker);
-    let (c, maker) = Visitor::make(&book, maker);
-    let (d, maker) = Visitor::make(&book, maker);
-    let (first, last) = four_visits(&rt, a, b, c, d);
-    assert_eq!(rt; (first.0, first.1), (20_000, 20_000));
-    assert_eq!(rt; (last.0, last.1), (20_000, 20_000));
-    drop((links, maker));
 }

@@ -16,8 +16,8 @@ pub struct Owned<T: Drop> {
 
 impl<T: Drop> Owned<T> {
     pub(crate) fn of(block: seize_store::Owned<(), (), T>) -> Owned<T>
-        ensures content { content result ≡ store.value_of block }
-        ensures number { number_of result ≡ store.number_of block }
+        ensures content { content result ≡ store.owned_value block }
+        ensures number { number_of result ≡ store.owned_number block }
         ensures owner { owner_of result ≡ store.store_of block }
     {
         Owned { block }

@@ -3,7 +3,7 @@
 ghost use Rattle.std.specs.Prelude.{◌≡◌, ◌⊎◌, ◌<◌, true, false, slice_set, option_map, IfOk, IfErr, IfSome, MatchResult};
 ghost use Rattle.seize_model.specs.Waiting.Calls as calls;
 ghost use Rattle.seize_model.specs.Waiting.Lists as lists;
-ghost use Rattle.seize.specs.Alone.{reply_of, IsFor, AreFor, IsFrom, AreFrom, Stepped, Ran};
+ghost use Rattle.seize.specs.Alone.{reply_of, IsFor, AreFor, IsFrom, AreFrom, DoesCall, Ran};
 ghost use Rattle.seize.specs.Blocks.{content, Belongs, number_of, number_at, owner_of, block_of, collector_of, shared_content, shared_number, shared_owner};
 ghost use Rattle.seize.specs.Collectors.{
   about,
@@ -294,7 +294,7 @@ impl<'c, T: Weigh + Drop, R: Reclaim<T>> Alone<'c, T, R> {
     ) -> Reply<T>
         requires { IsFor T.owners (whose self.old) (Call.Swap s link new reclaim) }
         ensures own { IsFrom T.owners (whose self.old) result }
-        ensures done { Stepped R.puts T.weight W.told (Call.Swap s link new reclaim) result
+        ensures done { DoesCall R.puts T.weight W.told (Call.Swap s link new reclaim) result
             (at self.old (W.seen watch.old)) (at self.new (W.seen watch.new)) }
         ensures same { lent self.new ≡ lent self.old }
     {
@@ -313,7 +313,7 @@ impl<'c, T: Weigh + Drop, R: Reclaim<T>> Alone<'c, T, R> {
     fn reply<W: Watch<T>>(&mut self, call: Call<T, R>, watch: &mut W) -> Reply<T>
         requires { IsFor T.owners (whose self.old) call }
         ensures own { IsFrom T.owners (whose self.old) result }
-        ensures done { Stepped R.puts T.weight W.told call result
+        ensures done { DoesCall R.puts T.weight W.told call result
             (at self.old (W.seen watch.old)) (at self.new (W.seen watch.new)) }
         ensures same { lent self.new ≡ lent self.old }
     {
@@ -417,7 +417,7 @@ fn number_reply<T: Drop>(answer: Result<usize, Refusal>) -> Reply<T>
 
 /// The reply to a call that answers nothing but its refusal.
 fn plain_reply<T: Drop>(answer: Result<(), Refusal>) -> Reply<T>
-    ensures { reply_of result ≡ lists.reply_to lists.done None answer }
+    ensures { reply_of result ≡ lists.reply_to lists.done_reply None answer }
 {
     match answer {
         Ok(()) => Reply::Done,

@@ -1,6 +1,6 @@
 //! A slot of the plain collector: whether its number is in use, its guards, its batch, and the retired batches that wait for it.
 ghost use Rattle.std.specs.Prelude.{◌≡◌, ◌∷◌, ◌++◌, [], length, IfOk};
-ghost use Rattle.seize_model.specs.Waiting.State.{is_active as active, keeps as waits};
+ghost use Rattle.seize_model.specs.Waiting.State.{has_guard as active, waits_for as waits};
 ghost use Rattle.seize_model.specs.Waiting.Attempt.{wait_if_active};
 ghost use Rattle.seize_model.specs.Waiting.Calls as calls;
 

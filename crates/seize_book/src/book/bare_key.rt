@@ -1,5 +1,5 @@
-//! The key of a block that may lie anywhere: what a chunk of a store keeps. It is `Rights` with one key.
-ghost use Rattle.std.specs.Prelude.{◌≡◌, ◌+◌, ◌<◌, ◌^◌, None, Some, true};
+//! The key of a block before a number leads to it: what a chunk of a store keeps. It is `Rights` with one key.
+ghost use Rattle.std.specs.Prelude.{◌≡◌, true};
 ghost use Rattle.seize_store.specs.Known.{content_in, entry_of, label_in};
 ghost use Rattle.seize_store.specs.Named.{IsRowOf};
 ghost use Rattle.seize_book.specs.Book.{after, blocks};
@@ -29,29 +29,16 @@ impl Labelled for BareKey {
 }
 
 impl BareKey {
-    ghost use Rattle.seize_book.specs.Bare.{Becomes, bare_book, bare_label};
+    ghost use Rattle.seize_book.specs.Bare.{Becomes, bare_book, bare_key_label};
     ghost use Rattle.seize_book.specs.Loans.{place_of};
     ghost use Rattle.seize_book.specs.Others.{value_of};
-
-    /// The key for a value of the block, which words hold by this number. The blocks of its book lie in no store.
-    pub fn anywhere(self, number: u64) -> ValueKey
-        requires none { (bare_book self).store ≡ None }
-        requires fits { number + 2 < 2 ^ 64 }
-        ensures { Becomes self result number }
-    {
-        let mut rights = self.rights;
-        rights.number(number);
-        ValueKey {
-            keys: rights.anywhere(),
-        }
-    }
 
     /// The key for a value of the block, which lies in the chunk with this number in the store of its book, as the token shows: the chunk
     /// has the block's label. Words hold the block by this number. The value's name says the content that the chunk has.
     pub fn place(self, number: u64, known: &Known) -> ValueKey
-        requires store { (bare_book self).store ≡ Some known.now.store }
+        requires store { (bare_book self).store ≡ known.now.store }
         requires row { IsRowOf known.now number }
-        requires home { label_in known.now.chunks (entry_of known.now.row number) ≡ bare_label self }
+        requires home { label_in known.now.chunks (entry_of known.now.row number) ≡ bare_key_label self }
         ensures becomes { Becomes self result number }
         ensures content { place_of (value_of result) ≡ content_in known.now.chunks (entry_of known.now.row number) }
     {

@@ -1,10 +1,10 @@
 //! Keys, one or several in a given order: the one generic step of the book. Each kind of key is a `Keys` with one key of that kind.
-ghost use Rattle.std.specs.Prelude.{◌≡◌, ℕ, List, [], None, is_some, true};
+ghost use Rattle.std.specs.Prelude.{◌≡◌, ℕ, List, [], true};
 ghost use base.Stored.{coded_list};
 ghost use Rattle.seize_machine.specs.Machine.Event.{Event, Return};
-ghost use Rattle.seize_book.specs.Book.{blocks, slots};
+ghost use Rattle.seize_book.specs.Book.{blocks};
 ghost use Rattle.seize_book.specs.Entry.{Entry};
-ghost use Rattle.seize_book.specs.Ledger.{Held};
+ghost use Rattle.seize_book.specs.Ledger.{HeldKey};
 ghost use Rattle.seize_book.specs.Peeks.{keys_show};
 ghost use Rattle.seize_book.specs.Private.{is_one, label_of};
 ghost use Rattle.seize_book.specs.Tokens.{Name, held_coded, keys_own, name_coded};
@@ -25,7 +25,7 @@ pub struct Keys {
     /// The book.
     pub ghost name: { Name } by { name_coded },
     /// The keys, in order.
-    pub ghost held: { List (Held Entry) } by { coded_list held_coded },
+    pub ghost held: { List (HeldKey Entry) } by { coded_list held_coded },
 }
 
 impl Model for Keys {
@@ -49,24 +49,24 @@ impl Picks for Brand {
 }
 
 impl Keys {
-    ghost use Rattle.seize_book.specs.Adding.{Adds, Asks, Joins, Looks, MayLook, Parts, PartsLast, telling};
+    ghost use Rattle.seize_book.specs.Adding.{Adds, Asks, JoinsKeys, LooksWithKeys, MayLook, Parts, PartsLast, deed_with_words};
     ghost use Rattle.seize_book.specs.Ledger.{AllApart};
     ghost use Rattle.seize_book.specs.Lending.{IsRowAt, Lends, MayLend, MayRedeem, MayWithdraw, Redeems};
-    ghost use Rattle.seize_book.specs.Notes.{MayOpen, Opens};
+    ghost use Rattle.seize_book.specs.Notes.{MayOpen, OpensNote};
     ghost use Rattle.seize_book.specs.Others.{Renames};
     ghost use Rattle.seize_book.specs.Peeking.{MaySee, SightBy};
     ghost use Rattle.seize_book.specs.Tables.{GetsPlace, LiesAt};
 
     /// Adds the event with the pass.
     pub(crate) fn note<P: Picks>(&mut self, pass: &mut Pass)
-        requires { Asks self.old pass.old (telling pass.old P.event P.kepts) }
-        ensures { Adds self.old pass.old self.new pass.new (telling pass.old P.event P.kepts) }
+        requires { Asks self.old pass.old (deed_with_words pass.old P.event P.kepts) }
+        ensures { Adds self.old pass.old self.new pass.new (deed_with_words pass.old P.event P.kepts) }
     {}
 
     /// Looks at the list with the pass, and adds nothing.
     pub(crate) fn look(&mut self, pass: &mut Pass)
         requires { MayLook self.old pass.old }
-        ensures { Looks self.old pass.old self.new pass.new }
+        ensures { LooksWithKeys self.old pass.old self.new pass.new }
     {}
 
     /// The label of a block's key is another value of the block then, which was never named.
@@ -78,12 +78,6 @@ impl Keys {
     /// The head of the slot lies in the table of the book, as the token shows, and its key says so then.
     pub(crate) fn place(&mut self, token: &FilledAt)
         requires { LiesAt self.old token.now }
-        ensures { GetsPlace self.old self.new }
-    {}
-
-    /// The same where heads lie in no table.
-    pub(crate) fn anywhere(&mut self)
-        requires { (self.old.name.table ≡ None) × (is_one slots self.old.held ≡ true) }
         ensures { GetsPlace self.old self.new }
     {}
 
@@ -127,7 +121,7 @@ impl Keys {
 
     /// What shows the row in which the block of the first key's value lies.
     pub(crate) fn row(&self) -> Known
-        requires { (is_one blocks self.now.held ≡ true) × (is_some self.now.name.store ≡ true) }
+        requires { is_one blocks self.now.held ≡ true }
         ensures { IsRowAt self.now.name (label_of self.now.held) result }
     {
         Known {
@@ -153,7 +147,7 @@ impl Keys {
     /// The token of the cell of the block whose key it is comes out. It says what is noted.
     pub(crate) fn open(&mut self) -> (Opened, CellToken)
         requires { MayOpen self.old }
-        ensures { Opens self.old self.new result.0 result.1 }
+        ensures { OpensNote self.old self.new result.0 result.1 }
     {
         let opened = Opened {
             marker: PhantomData,
@@ -194,7 +188,7 @@ impl Keys {
     /// Takes the other's keys, which come after its own.
     pub fn join(&mut self, other: &mut Keys)
         requires { other.old.name ≡ self.old.name }
-        ensures { Joins self.old other.old self.new other.new }
+        ensures { JoinsKeys self.old other.old self.new other.new }
     {}
 
     /// Gives the last to the other, which had none.

@@ -2,7 +2,7 @@
 ghost use Rattle.std.specs.Prelude.{◌≡◌, List};
 ghost use base.Stored.{coded_list};
 ghost use Rattle.seize_book.specs.Entry.{Entry};
-ghost use Rattle.seize_book.specs.Ledger.{Held};
+ghost use Rattle.seize_book.specs.Ledger.{HeldKey};
 ghost use Rattle.seize_book.specs.Tokens.{Name, held_coded, name_coded, opened_own};
 
 use crate::book::keys::Keys;
@@ -13,7 +13,7 @@ use std::marker::{Model, PhantomData};
 pub(crate) struct Opened {
     pub(super) marker: PhantomData<()>,
     pub(crate) ghost name: { Name } by { name_coded },
-    pub(crate) ghost held: { List (Held Entry) } by { coded_list held_coded },
+    pub(crate) ghost held: { List (HeldKey Entry) } by { coded_list held_coded },
 }
 
 impl Model for Opened {

@@ -1,5 +1,5 @@
 //! Passes. The keys beside it add entries with a pass; `porter` lends them.
-ghost use Rattle.std.specs.Prelude.{◌≡◌, ℕ, List, Some, is_some, true};
+ghost use Rattle.std.specs.Prelude.{◌≡◌, ℕ, List};
 ghost use base.Stored.{coded_list};
 ghost use Rattle.seize_book.specs.Entry.{Entry, entry_coded};
 ghost use Rattle.seize_store.specs.Named.{IsRowOf};
@@ -13,15 +13,16 @@ use std::marker::{Model, PhantomData};
 
 /// What its holder has seen of the list, and the right to add entries under its id, for as long as `'p` lasts.
 ///
-/// A porter lends a pass for as long as the porter is shared ([`Porter::pass`]); dropping or forgetting such a pass keeps nobody out. A
-/// pass of `Pass<'static>` lasts for good: [`Book::pass`] makes one of many, and dropping it hinders nobody either.
-/// [`Unopened::open_alone`] and [`Porter::shut`] give a pass that is alone; if that one is dropped, nobody adds to the list any more.
+/// A porter lends a pass for as long as the porter is shared ([`Porter::pass`]); dropping or forgetting such a pass keeps nobody out.
+/// [`Porter::shut`] gives the first pass of a book, a `Pass<'static>`. It is alone; if it is dropped, nobody adds to the list any more.
 pub struct Pass<'p> {
     pub(super) marker: PhantomData<&'p ()>,
     /// The book.
     pub ghost name: { Name } by { name_coded },
     /// Which pass of the book it is.
     pub ghost id: { ℕ },
+    /// The batch size at each event that is added with it.
+    pub ghost size: { ℕ },
     /// The beginning of the list that it has seen.
     pub ghost seen: { List Entry } by { coded_list entry_coded },
 }
@@ -60,10 +61,9 @@ impl<'p> Pass<'p> {
     /// lies in the block with the label that the row has there, and so does each other one that was named and whose number is one of the
     /// row's. With each something is lent (`LooksOn`).
     pub fn seek(&mut self, number: u64) -> Known
-        requires store { is_some self.old.name.store ≡ true }
         requires named { HasNumber number (state_seen self.old) }
         ensures looks { LooksOn self.old self.new }
-        ensures row { (Some result.store ≡ self.old.name.store) × IsRowOf result number }
+        ensures row { (result.store ≡ self.old.name.store) × IsRowOf result number }
         ensures homes { AreAt self.new.name result (state_seen self.new) }
     {
         let known = self.row_of(number);
@@ -73,8 +73,8 @@ impl<'p> Pass<'p> {
 
     // What shows the row of the number.
     fn row_of(&mut self, number: u64) -> Known
-        requires { (is_some self.old.name.store ≡ true) × HasNumber number (state_seen self.old) }
-        ensures { LooksOn self.old self.new × (Some result.store ≡ self.old.name.store) × IsRowOf result number }
+        requires { HasNumber number (state_seen self.old) }
+        ensures { LooksOn self.old self.new × (result.store ≡ self.old.name.store) × IsRowOf result number }
     {
         Known {
             marker: PhantomData,
@@ -84,7 +84,6 @@ impl<'p> Pass<'p> {
     /// Looks at the list, and adds nothing. It gives what shows the first entries of the table where the heads of the book lie, one for
     /// each slot that there is, with the slot's label.
     pub fn slots(&mut self) -> AllFilled
-        requires table { is_some self.old.name.table ≡ true }
         ensures { LooksOn self.old self.new × AreSlotsOf self.new result }
     {
         AllFilled {
@@ -92,20 +91,21 @@ impl<'p> Pass<'p> {
         }
     }
 
-    /// Looks at the list, and adds nothing. Where the blocks of the book lie in the store of this row, each value that was ever named, and
-    /// whose number is one of the row's, lies in the block with the label that the row has there.
+    /// Looks at the list, and adds nothing. The row is one of the book's store. Each value that was ever named, and whose
+    /// number is one of the row's, lies in the block with the label that the row has there.
     pub fn find(&mut self, known: &Known)
-        requires { self.old.name.store ≡ Some known.now.store }
+        requires { self.old.name.store ≡ known.now.store }
         ensures { LooksOn self.old self.new × AreAt self.new.name known.now (state_seen self.new) }
     {}
 }
 
 impl Pass<'static> {
-    ghost use Rattle.seize_book.specs.Turns.{HasTurn, OpensAgain};
+    ghost use Rattle.seize_book.specs.Porters.{OpensAgain};
+    ghost use Rattle.seize_book.specs.Tokens.{IsSole};
 
     // The gate is opened again, to which it was alone.
     pub(super) fn open_again(self) -> Porter
-        requires { HasTurn self }
+        requires { IsSole self.id }
         ensures { OpensAgain self.entry result }
     {
         let Self { marker: _ } = self;

@@ -1,5 +1,5 @@
 //! Porters: a porter lends the passes of its book to those who share it by `&`, and comes home for a caller who has it alone.
-ghost use Rattle.std.specs.Prelude.{◌≡◌, Bool, false, true, List};
+ghost use Rattle.std.specs.Prelude.{◌≡◌, ℕ, Bool, false, true, List};
 ghost use base.Stored.{coded_list};
 ghost use Rattle.std.specs.Coded.{coded_bool};
 ghost use Rattle.seize_book.specs.Shared.{porter_has, porter_shares};
@@ -16,6 +16,8 @@ pub struct Porter {
     pub(super) marker: PhantomData<()>,
     /// The book.
     pub ghost name: { Name } by { name_coded },
+    /// The batch size: a slot's call attempts its batch when that has so many values, and at least one.
+    pub ghost size: { ℕ },
     /// The beginning of the list that it has seen.
     pub ghost seen: { List Entry } by { coded_list entry_coded },
     /// Whether it is at home: nobody may add to the list, and the whole of it is what the porter has seen.
@@ -35,7 +37,7 @@ struct Place {
 
 /// A piece of work that [`Porter::stay`] lends the first pass, and that leaves this pass there.
 pub trait Stay<R> {
-    ghost use Rattle.seize_book.specs.Passes.{IsSame};
+    ghost use Rattle.seize_book.specs.Passes.{IsSamePass};
     ghost use Rattle.seize_book.specs.declared.book.pass.Pass.{Pass};
 
     /// With which passes the work may be done.
@@ -47,12 +49,13 @@ pub trait Stay<R> {
     /// Does the work. It leaves the pass that it was lent, and no other one in its place.
     fn stay(&mut self, pass: &mut Pass<'static>) -> R
         requires { may self.old pass.old }
-        ensures { IsSame pass.old pass.new × gives self.old self.new pass.old pass.new result };
+        ensures { IsSamePass pass.old pass.new × gives self.old self.new pass.old pass.new result };
 }
 
 impl Porter {
     ghost use mathlib.Core.List.{IsPrefix};
-    ghost use Rattle.seize_book.specs.Turns.{ComesHome, Gives, HadStay, HasTurn, LeavesHome, MayStay, OpensAgain, Shuts};
+    ghost use Rattle.seize_book.specs.Porters.{ComesHome, HadStay, LeavesHome, LendsPass, MayStay, OpensAgain, Resizes, Shuts};
+    ghost use Rattle.seize_book.specs.Tokens.{IsSole};
 
     /// A new pass, which has seen what the porter has, and perhaps more; a kept [`Book`] tells a new pass what an earlier one saw
     /// ([`Pass::learn`]). It lasts for as long as the porter is shared: a caller who has the porter alone again may come home or leave,
@@ -62,12 +65,18 @@ impl Porter {
     /// nothing when the program runs.
     pub fn pass(&self) -> Pass<'_>
         requires { self.now.home ≡ false }
-        ensures { Gives self.now result }
+        ensures { LendsPass self.now result }
     {
         Pass {
             marker: PhantomData,
         }
     }
+
+    /// Sets the batch size of the passes that it lends from then on. A size of 0 serves as 1: a batch to which a value was just added has
+    /// one. No pass that it lent before lasts. Contracts alone see the size, so a caller keeps the number for its calls.
+    pub fn set_size(&mut self, _size: usize)
+        ensures { Resizes self.old self.new _size }
+    {}
 
     /// Leaves home: callers who share it by `&` are lent passes from then on.
     pub fn leave_home(&mut self)
@@ -118,7 +127,7 @@ impl Porter {
 
     /// Opens the gate again, to which the first pass was alone. The porter is at home.
     pub fn again(pass: Pass<'static>) -> Porter
-        requires { HasTurn pass }
+        requires { IsSole pass.id }
         ensures { OpensAgain pass.entry result }
     {
         pass.open_again()

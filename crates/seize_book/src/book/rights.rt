@@ -1,11 +1,11 @@
 //! The right to the key of a block by itself, without where the number of its value leads: what lies with a chunk of a store. It uses keys;
 //! `bare_key` wraps it for callers.
-ghost use Rattle.std.specs.Prelude.{◌≡◌, ◌<◌, ◌^◌, List, None, true};
+ghost use Rattle.std.specs.Prelude.{◌≡◌, List};
 ghost use base.Fml.{fsep};
 ghost use base.Stored.{coded_list};
 ghost use Rattle.seize_book.specs.Book.{blocks};
 ghost use Rattle.seize_book.specs.Entry.{Entry};
-ghost use Rattle.seize_book.specs.Ledger.{Held};
+ghost use Rattle.seize_book.specs.Ledger.{HeldKey};
 ghost use Rattle.seize_book.specs.Private.{is_one};
 ghost use Rattle.seize_book.specs.Tokens.{Name, held_coded, name_coded, notes_own, rights_own};
 
@@ -17,30 +17,15 @@ use std::marker::{Model, PhantomData};
 pub(crate) struct Rights {
     pub(super) marker: PhantomData<()>,
     pub(crate) ghost name: { Name } by { name_coded },
-    pub(crate) ghost held: { List (Held Entry) } by { coded_list held_coded },
+    pub(crate) ghost held: { List (HeldKey Entry) } by { coded_list held_coded },
 }
 
 impl Model for Rights {
-    ghost also_owns = { λ r. fsep (rights_own r.name r.held) (notes_own r.name r.held) };
+    ghost also_owns = { λ r. fsep (rights_own r.name r.held) (notes_own r.held) };
 }
 
 impl Rights {
-    ghost use Rattle.seize_book.specs.Bare.{Gives, IsFree, IsWay, Numbers, Places};
-
-    /// The first key's label is a value of its block then, with this number, which was never named.
-    pub(crate) fn number(&mut self, number: u64)
-        ensures { Numbers self.old self.new number }
-    {}
-
-    /// The key of a block's values, where blocks lie in no store.
-    pub(crate) fn anywhere(&mut self) -> Keys
-        requires { (self.old.name.store ≡ None) × IsFree self.old }
-        ensures { Gives self.old result }
-    {
-        Keys {
-            marker: PhantomData,
-        }
-    }
+    ghost use Rattle.seize_book.specs.Bare.{IsWay, Places};
 
     /// The key of a block's values, where the number leads to the block, as the token shows. Its label is a value with this number then, of
     /// the block and of its content, which was never named.

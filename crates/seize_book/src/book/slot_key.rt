@@ -27,33 +27,35 @@ pub struct SlotKey {
 }
 
 impl SlotKey {
-    ghost use Rattle.seize_book.specs.Adding.{telling};
+    ghost use Rattle.seize_book.specs.Adding.{deed_with_words};
     ghost use Rattle.seize_book.specs.Batches.{CanDetach, Detaches};
     ghost use Rattle.seize_book.specs.Kept.{kepts_of};
     ghost use Rattle.seize_book.specs.Values.{AreLast, AreOfBook, AreNew, AreSpent, Keep, values_of};
-    ghost use Rattle.seize_book.specs.Others.{AreNumbersOf, CannotRetire, Follows, FollowsNumbers, FollowsValue, IsLast, IsOfBook, IsValueOf, IsWith, Knew, MayRetire, MayTake, SameKind, in_use, value_of};
+    ghost use Rattle.seize_book.specs.Others.{AreNumbersOf, CannotRetire, Follows, FollowsNumbers, FollowsValue, IsLast, IsOfBook, IsValueOf, IsWith, Knew, MayRetire, MayTake, SameKind, use_flags, value_of};
     ghost use Rattle.seize_book.specs.Private.{IsOpen, IsPrivate};
-    ghost use Rattle.seize_book.specs.Slots.{HandsOnce, HandsSoon, Looks, Notes, NotesAs, IsOf, active_of, hands_next, number_of, size_of, slot_of, start_of};
+    ghost use Rattle.seize_book.specs.Slots.{HandsOnce, HandsSoon, Looks, Notes, NotesAs, IsKeyOfBook, active_of, hands_next, slot_number, slot_of, start_of};
     ghost use Rattle.seize_book.specs.Tables.{IsLike, IsPlaced};
     ghost use Rattle.seize_book.specs.Tokens.{label_at};
+    ghost use Rattle.seize_machine.specs.Machine.Frames.{changes_slot};
 
     // Any event that changes nothing but the slot's own record.
     fn note<P: Picks>(&mut self, pass: &mut Pass)
-        requires book { IsOf self.old pass.old }
-        requires private { IsPrivate (number_of self.old) P.event }
-        requires open { IsOpen (slot_of self.old) (active_of self.old) (number_of self.old) (size_of self.old) P.event }
-        ensures noted { NotesAs self.old pass.old self.new pass.new (telling pass.old P.event P.kepts) }
+        requires book { IsKeyOfBook self.old pass.old }
+        requires private { IsPrivate (slot_number self.old) P.event }
+        requires open { IsOpen (slot_of self.old) (active_of self.old) (slot_number self.old) pass.old.size P.event }
+        ensures noted { NotesAs self.old pass.old self.new pass.new (deed_with_words pass.old P.event P.kepts) }
     {
         self.keys.note::<P>(pass);
     }
 
     // An event that changes what other keys know too. The word is there for the caller's proof, which picks the event by it.
     fn note_with<P: Picks>(&mut self, other: &mut Keys, _kept: u64, pass: &mut Pass)
-        requires book { IsOf self.old pass.old × IsOfBook other.old pass.old }
-        requires may { IsWith self.old other.old pass.old (telling pass.old P.event P.kepts) }
-        ensures noted { NotesAs self.old pass.old self.new pass.new (telling pass.old P.event P.kepts) }
+        requires book { IsKeyOfBook self.old pass.old × IsOfBook other.old pass.old }
+        requires may { IsWith self.old other.old pass.old (deed_with_words pass.old P.event P.kepts) }
+        requires own { changes_slot (slot_number self.old) P.event ≡ true }
+        ensures noted { NotesAs self.old pass.old self.new pass.new (deed_with_words pass.old P.event P.kepts) }
         ensures other { Follows other.old pass.new other.new × SameKind other.old other.new }
-        ensures knew { Knew self.old other.old pass.old pass.new (telling pass.old P.event P.kepts) }
+        ensures knew { Knew self.old other.old pass.old pass.new (deed_with_words pass.old P.event P.kepts) }
     {
         let both = &mut self.keys;
         both.join(other);
@@ -64,43 +66,35 @@ impl SlotKey {
     /// Looks at the list with no event: what the pass has seen is legal then, with all that the key knew, and the slot is in it as its key
     /// knows it.
     pub fn look(&mut self, pass: &mut Pass)
-        requires book { IsOf self.old pass.old }
+        requires book { IsKeyOfBook self.old pass.old }
         ensures looked { Looks self.old pass.old self.new pass.new }
     {
         self.keys.look(pass);
     }
 
     /// The slot's head lies in the table of its book, in the entry with the slot's number, as the token shows: what is there has the slot's
-    /// label. The key of a slot that comes next says so from then on, also when the slot is there.
+    /// label. The key of a slot that comes next says so until the slot is there.
     pub fn place(&mut self, token: &FilledAt)
-        requires table { self.old.keys.name.table ≡ Some token.now.table }
-        requires entry { token.now.number ≡ number_of self.old }
-        requires head { token.now.label ≡ label_at self.old.keys.name (number_of self.old) }
+        requires table { self.old.keys.name.table ≡ token.now.table }
+        requires entry { token.now.number ≡ slot_number self.old }
+        requires head { token.now.label ≡ label_at self.old.keys.name (slot_number self.old) }
         ensures { IsLike self.old self.new × IsPlaced self.new }
     {
         self.keys.place(token);
     }
 
-    /// The same where the heads of its book lie in no table.
-    pub fn anywhere(&mut self)
-        requires none { self.old.keys.name.table ≡ None }
-        ensures { IsLike self.old self.new × IsPlaced self.new }
-    {
-        self.keys.anywhere();
-    }
-
     /// The event `Begin` of the retirement of a value, which came out of a link, or was never named. In the second case something is lent
-    /// with it, if the blocks of its book lie in a store. Its key knows then that no call may begin to retire it, and that all others that
+    /// with it. Its key knows then that no call may begin to retire it, and that all others that
     /// lay in its block were reclaimed.
     ///
     /// The list says from then on that this word is kept of it, by which its reclaimer is found. It says so and no more: who adds the
     /// value's key to a count has to have noted the same word of its block before (`Count::add`).
     pub fn begin_retire(&mut self, value: &mut ValueKey, kept: u64, pass: &mut Pass)
-        requires book { IsOf self.old pass.old × IsValueOf value.old pass.old }
+        requires book { IsKeyOfBook self.old pass.old × IsValueOf value.old pass.old }
         requires idle { is_idle (slot_of self.old) ≡ true }
         requires value { MayRetire value.old }
-        ensures noted { let begins = Begin (number_of self.old) (Retire (value_of value.old)) in
-            NotesAs self.old pass.old self.new pass.new (telling pass.old begins (kept ∷ [])) }
+        ensures noted { let begins = Begin (slot_number self.old) (Retire (value_of value.old)) in
+            NotesAs self.old pass.old self.new pass.new (deed_with_words pass.old begins (kept ∷ [])) }
         ensures value { FollowsValue value.old pass.new value.new }
         ensures spent { CannotRetire value.new }
         ensures last { IsLast value.new }
@@ -110,86 +104,85 @@ impl SlotKey {
 
     /// The event `Give`: the slot's number goes back.
     pub fn give(&mut self, numbers: &mut NumbersKey, pass: &mut Pass)
-        requires book { IsOf self.old pass.old × AreNumbersOf numbers.old pass.old }
+        requires book { IsKeyOfBook self.old pass.old × AreNumbersOf numbers.old pass.old }
         requires idle { (is_idle (slot_of self.old) ≡ true) × (active_of self.old ≡ false) }
-        ensures noted { Notes self.old pass.old self.new pass.new (Give (number_of self.old)) }
+        ensures noted { Notes self.old pass.old self.new pass.new (Give (slot_number self.old)) }
         ensures numbers { FollowsNumbers numbers.old pass.new numbers.new }
-        ensures used { in_use numbers.new ≡ slice_set (in_use numbers.old) (number_of self.old) false }
+        ensures used { use_flags numbers.new ≡ slice_set (use_flags numbers.old) (slot_number self.old) false }
     {
         self.note_with::<Brand>(&mut numbers.keys, 0, pass);
     }
 
     /// The event `Take` of a number that was in use before: the slot, which is there, is in use again.
     pub fn take_again(&mut self, numbers: &mut NumbersKey, pass: &mut Pass)
-        requires book { IsOf self.old pass.old × AreNumbersOf numbers.old pass.old }
+        requires book { IsKeyOfBook self.old pass.old × AreNumbersOf numbers.old pass.old }
         requires least { MayTake numbers.old self.old }
-        ensures noted { Notes self.old pass.old self.new pass.new (Take (number_of self.old)) }
+        ensures noted { Notes self.old pass.old self.new pass.new (Take (slot_number self.old)) }
         ensures numbers { FollowsNumbers numbers.old pass.new numbers.new }
-        ensures used { in_use numbers.new ≡ slice_set (in_use numbers.old) (number_of self.old) true }
+        ensures used { use_flags numbers.new ≡ slice_set (use_flags numbers.old) (slot_number self.old) true }
     {
         self.note_with::<Brand>(&mut numbers.keys, 0, pass);
     }
 
     /// The event `Begin` of a flush.
     pub fn begin_flush(&mut self, pass: &mut Pass)
-        requires book { IsOf self.old pass.old }
+        requires book { IsKeyOfBook self.old pass.old }
         requires idle { (is_idle (slot_of self.old) ≡ true) × (active_of self.old ≡ true) }
-        ensures noted { Notes self.old pass.old self.new pass.new (Begin (number_of self.old) Flush) }
+        ensures noted { Notes self.old pass.old self.new pass.new (Begin (slot_number self.old) Flush) }
     {
         self.note::<Brand>(pass);
     }
 
     /// The event `Begin` of a leave.
     pub fn begin_leave(&mut self, pass: &mut Pass)
-        requires book { IsOf self.old pass.old }
+        requires book { IsKeyOfBook self.old pass.old }
         requires idle { (is_idle (slot_of self.old) ≡ true) × (active_of self.old ≡ true) }
-        ensures noted { Notes self.old pass.old self.new pass.new (Begin (number_of self.old) Leave) }
+        ensures noted { Notes self.old pass.old self.new pass.new (Begin (slot_number self.old) Leave) }
     {
         self.note::<Brand>(pass);
     }
 
     /// The event `Begin` of a refresh.
     pub fn begin_refresh(&mut self, pass: &mut Pass)
-        requires book { IsOf self.old pass.old }
+        requires book { IsKeyOfBook self.old pass.old }
         requires idle { (is_idle (slot_of self.old) ≡ true) × (active_of self.old ≡ true) }
-        ensures noted { Notes self.old pass.old self.new pass.new (Begin (number_of self.old) Refresh) }
+        ensures noted { Notes self.old pass.old self.new pass.new (Begin (slot_number self.old) Refresh) }
     {
         self.note::<Brand>(pass);
     }
 
     /// The event `Put`: the value that the slot's call is about to retire is appended to its batch.
     pub fn put(&mut self, pass: &mut Pass)
-        requires book { IsOf self.old pass.old }
+        requires book { IsKeyOfBook self.old pass.old }
         requires next { is_some (puts_next (slot_of self.old)) ≡ true }
-        ensures noted { Notes self.old pass.old self.new pass.new (Put (number_of self.old)) }
+        ensures noted { Notes self.old pass.old self.new pass.new (Put (slot_number self.old)) }
     {
         self.note::<Brand>(pass);
     }
 
     /// The event `Detach`: the slot's batch becomes a retired batch.
     pub fn detach(&mut self, pass: &mut Pass)
-        requires book { IsOf self.old pass.old }
+        requires book { IsKeyOfBook self.old pass.old }
         requires next { CanDetach self.old }
-        ensures noted { Notes self.old pass.old self.new pass.new (Detach (number_of self.old)) }
+        ensures noted { Notes self.old pass.old self.new pass.new (Detach (slot_number self.old)) }
         ensures batch { Detaches self.old pass.new }
     {
         self.note::<Brand>(pass);
     }
 
     /// The event `Hand`: the value that the slot's call is about to hand to its reclaimer goes there, and its reclaimer puts these values,
-    /// which were never named. All that lay in their blocks before were reclaimed, and something is lent with each, if the blocks of their
-    /// book lie in a store.
+    /// which were never named. All that lay in their blocks before were reclaimed, and something is lent with each.
     ///
     /// The value goes there for the first time, and was retired before. Each slot that was active then, and each that found it in a link,
     /// has left or refreshed since, and the activations in which they found it are over. The slot's call is to retire the further values
     /// then, in their order, after those that it had before, and the list says from then on what is kept of each, as it is noted of its
     /// block. So their keys know then that no call may begin to retire them, and that all others that lay in their blocks were reclaimed.
     pub fn hand_with(&mut self, further: &mut ValueKeys, pass: &mut Pass)
-        requires book { IsOf self.old pass.old × AreOfBook further.old pass.old }
+        requires book { IsKeyOfBook self.old pass.old × AreOfBook further.old pass.old }
         requires next { is_some (hands_next (slot_of self.old)) ≡ true }
         requires new { AreNew further.old }
-        ensures noted { let hands = Hand (number_of self.old) (values_of further.old) in
-            NotesAs self.old pass.old self.new pass.new (telling pass.old hands (kepts_of further.old)) }
+        ensures noted { let hands = Hand (slot_number self.old) (values_of further.old) in
+            NotesAs self.old pass.old self.new pass.new (deed_with_words pass.old hands (kepts_of further.old)) }
         ensures once { IfSome (hands_next (slot_of self.old)) (HandsOnce self.old pass.new) }
         ensures keys { Keep further.old pass.new further.new }
         ensures spent { AreSpent further.new pass.new × AreLast further.new pass.new }
@@ -203,9 +196,9 @@ impl SlotKey {
     /// It goes there for the first time, and was retired before. Each slot that was active then, and each that found it in a link, has left
     /// or refreshed since, and the activations in which they found it are over.
     pub fn hand(&mut self, pass: &mut Pass)
-        requires book { IsOf self.old pass.old }
+        requires book { IsKeyOfBook self.old pass.old }
         requires next { is_some (hands_next (slot_of self.old)) ≡ true }
-        ensures noted { Notes self.old pass.old self.new pass.new (Hand (number_of self.old) []) }
+        ensures noted { Notes self.old pass.old self.new pass.new (Hand (slot_number self.old) []) }
         ensures once { IfSome (hands_next (slot_of self.old)) (HandsOnce self.old pass.new) }
     {
         let mut none = ValueKeys::new(pass);
@@ -216,7 +209,7 @@ impl SlotKey {
     /// holds already: it was not handed before, and nobody sees it any more. So what is lent with it comes back now (`ValueKey::redeem`),
     /// and its reclaimer may have it before that names further ones.
     pub fn about_to_hand(&mut self, pass: &mut Pass)
-        requires book { IsOf self.old pass.old }
+        requires book { IsKeyOfBook self.old pass.old }
         requires next { is_some (hands_next (slot_of self.old)) ≡ true }
         ensures looked { Looks self.old pass.old self.new pass.new }
         ensures soon { IfSome (hands_next (slot_of self.old)) (HandsSoon (start_of self.old) pass.new.seen) }
@@ -226,9 +219,9 @@ impl SlotKey {
 
     /// The event `Return`: the slot's call is over.
     pub fn finish(&mut self, pass: &mut Pass)
-        requires book { IsOf self.old pass.old }
+        requires book { IsKeyOfBook self.old pass.old }
         requires over { IsOver (slot_of self.old) }
-        ensures noted { Notes self.old pass.old self.new pass.new (Return (number_of self.old)) }
+        ensures noted { Notes self.old pass.old self.new pass.new (Return (slot_number self.old)) }
     {
         self.note::<Brand>(pass);
     }

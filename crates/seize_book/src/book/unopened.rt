@@ -3,7 +3,6 @@ ghost use Rattle.std.specs.Prelude.{◌≡◌, ℕ};
 ghost use Rattle.seize_book.specs.Tokens.{uncalled};
 
 use crate::book::book_keys::BookKeys;
-use crate::book::pass::Pass;
 use crate::book::porter::Porter;
 use crate::book::token::{Book, Keeps};
 use seize_store::Family;
@@ -23,8 +22,7 @@ impl Model for Unopened {
 }
 
 impl Unopened {
-    ghost use Rattle.seize_book.specs.Books.{Opens, OpensAlone};
-    ghost use Rattle.seize_book.specs.Turns.{OpensInTurns};
+    ghost use Rattle.seize_book.specs.Porters.{Opens};
 
     /// One of a new family, and that family.
     pub fn new() -> (Unopened, Family)
@@ -39,28 +37,12 @@ impl Unopened {
         (unopened, family)
     }
 
-    /// The book begins, as one of `Book::open`.
-    pub fn open<K: Keeps>(self, links: usize, size: usize) -> (Book, BookKeys)
-        ensures { Opens result.0 result.1 links size K.store K.table × (result.0.name.family ≡ self.family) }
+    /// The book begins, with its keys and its porter, which is at home. It has no slot yet, and so many links, which are empty. Its blocks
+    /// lie in the store that `K` says, and its heads in the table. The batch size is `size` values, until [`Porter::set_size`] changes it.
+    pub fn open<K: Keeps>(self, links: usize, size: usize) -> (Book, Porter, BookKeys)
+        ensures { Opens result.0 result.1 result.2 links size K.store K.table × (result.0.name.family ≡ self.family) }
     {
-        let (book, keys) = Book::open_keys::<K>(self, links, size);
-        (book, BookKeys::apart(keys))
-    }
-
-    /// The book begins, as one of `Book::open`, but that its one pass is alone: only its holder adds to the list, and it has seen all there
-    /// is.
-    pub fn open_alone<K: Keeps>(self, links: usize, size: usize) -> (Book, Pass<'static>, BookKeys)
-        ensures { OpensAlone result.0 result.1 result.2 links size K.store K.table × (result.0.name.family ≡ self.family) }
-    {
-        let (book, pass, keys) = Book::open_sole::<K>(self, links, size);
-        (book, pass, BookKeys::apart(keys))
-    }
-
-    /// The book begins, as one of `Book::open_in_turns`.
-    pub fn open_in_turns<K: Keeps>(self, links: usize, size: usize) -> (Book, Porter, BookKeys)
-        ensures { OpensInTurns result.0 result.1 result.2 links size K.store K.table × (result.0.name.family ≡ self.family) }
-    {
-        let (book, pass, keys) = Book::open_shut::<K>(self, links, size);
+        let (book, pass, keys) = Book::open::<K>(self, links, size);
         (book, Porter::again(pass), BookKeys::apart(keys))
     }
 }

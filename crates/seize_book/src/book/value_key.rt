@@ -1,6 +1,6 @@
 //! The key of a value: that of the block in which it lies. It is `Keys` with one key, whose label is the value's name.
 ghost use Rattle.std.specs.Prelude.{◌≡◌, is_some, true, Some};
-ghost use Rattle.seize_book.specs.Blocks.{block_of};
+ghost use Rattle.seize_book.specs.Blocks.{block_number};
 ghost use Rattle.seize_book.specs.Book.{blocks};
 ghost use Rattle.seize_book.specs.Homes.{home_of};
 ghost use Rattle.seize_book.specs.Private.{is_one, key_of, label_of};
@@ -25,16 +25,16 @@ pub struct ValueKey {
 }
 
 impl ValueKey {
-    ghost use Rattle.seize_book.specs.Bare.{IsLaid};
-    ghost use Rattle.seize_book.specs.Books.{IsNextAfter, IsNextIn, MakesNext, MaySettle};
+    ghost use Rattle.seize_book.specs.Bare.{IsBareKeyOf};
+    ghost use Rattle.seize_book.specs.Books.{IsNextAfter, IsNextIn, MakesNextValue, MaySettle};
     ghost use Rattle.seize_content.specs.Loans.{IsLent};
     ghost use Rattle.seize_book.specs.Loans.{place_of};
     ghost use Rattle.seize_book.specs.Lending.{GoesWith, IsFreeKey, IsInBlockOf, IsLentKey, IsOfPlace, IsRowAt};
-    ghost use Rattle.seize_book.specs.Notes.{HasNoted, IsStored, IsUnchanged, cell_in, noted_in};
+    ghost use Rattle.seize_book.specs.Notes.{HasNoted, IsUnchanged, cell_in, noted_in};
     ghost use Rattle.seize_book.specs.Others.{FollowsValue, HasGone, IsLast, IsVacated, IsValueOf, book_of, value_of};
     ghost use Rattle.seize_book.specs.Passes.{LooksOn};
     ghost use Rattle.seize_book.specs.Peeking.{SightWith};
-    ghost use Rattle.seize_book.specs.Slots.{IsOf, IsStill, hands_next, slot_of};
+    ghost use Rattle.seize_book.specs.Slots.{IsKeyOfBook, IsStill, hands_next, slot_of};
 
     /// The key is for the next value of its block then, which words hold by the same number. The last one was reclaimed, as the pass has
     /// seen. Where something is lent with the last one, `redeem` and `settle` do this, and it is lost here. The pass and the key look at
@@ -42,10 +42,10 @@ impl ValueKey {
     pub fn next(&mut self, pass: &mut Pass)
         requires book { IsValueOf self.old pass.old }
         requires last { IsLast self.old × HasGone self.old pass.old }
-        ensures value { IsNextIn self.new (block_of (value_of self.old)) }
+        ensures value { IsNextIn self.new (block_number (value_of self.old)) }
         ensures free { IsFreeKey self.new }
         ensures place { place_of (value_of self.new) ≡ place_of (value_of self.old) }
-        ensures next { MakesNext self.old pass.old self.new pass.new }
+        ensures next { MakesNextValue self.old pass.old self.new pass.new }
     {
         self.keys.rename();
         self.settle(pass);
@@ -53,12 +53,12 @@ impl ValueKey {
 
     /// A content that is lent goes with the key from then on, into a link and out of it, and whoever finds the value in a link can see the
     /// content (`Link::see`). The key is for another value of its block then, which stands for this content. The value before was never
-    /// named, and nothing is lent with it. Where the blocks of the book lie in a store, it is the content of this block there.
+    /// named, and nothing is lent with it. It is the content of this block in the store.
     pub fn lend(&mut self, ticket: Ticket, pool: Pool)
         requires lent { IsLent ticket pool }
-        requires place { IsOfPlace (book_of self.old) (value_of self.old) ticket }
-        requires next { IsNextIn self.old (block_of (value_of self.old)) × IsFreeKey self.old }
-        ensures next { IsNextIn self.new (block_of (value_of self.old)) × IsInBlockOf self.old self.new }
+        requires place { IsOfPlace (value_of self.old) ticket }
+        requires next { IsNextIn self.old (block_number (value_of self.old)) × IsFreeKey self.old }
+        ensures next { IsNextIn self.new (block_number (value_of self.old)) × IsInBlockOf self.old self.new }
         ensures goes { GoesWith self.new pool }
     {
         self.keys.lend(ticket, pool);
@@ -68,12 +68,12 @@ impl ValueKey {
     /// it in a link has left or refreshed since, so nobody sees it any more. The key is for another value of its block then, with which
     /// nothing is lent, and which may be named when this one was handed (`settle`).
     pub fn redeem(&mut self, slot: &mut SlotKey, pass: &mut Pass) -> (Ticket, Pool)
-        requires book { IsValueOf self.old pass.old × IsOf slot.old pass.old }
+        requires book { IsValueOf self.old pass.old × IsKeyOfBook slot.old pass.old }
         requires soon { hands_next (slot_of slot.old) ≡ Some (value_of self.old) }
         requires last { IsLast self.old }
         requires lent { IsLentKey self.old }
         ensures still { (pass.new ≡ pass.old) × IsStill slot.old slot.new }
-        ensures value { IsNextAfter self.new (value_of self.old) (block_of (value_of self.old)) }
+        ensures value { IsNextAfter self.new (value_of self.old) (block_number (value_of self.old)) }
         ensures block { IsInBlockOf self.old self.new }
         ensures free { IsFreeKey self.new }
         ensures place { place_of (value_of self.new) ≡ place_of (value_of self.old) }
@@ -92,7 +92,7 @@ impl ValueKey {
         requires handed { MaySettle self.old pass.old }
         ensures looks { LooksOn pass.old pass.new }
         ensures follows { FollowsValue self.old pass.new self.new }
-        ensures next { IsNextIn self.new (block_of (value_of self.old)) }
+        ensures next { IsNextIn self.new (block_number (value_of self.old)) }
     {
         self.keys.look(pass);
     }
@@ -101,10 +101,10 @@ impl ValueKey {
     /// another value of its block then, with which nothing is lent. Nothing is looked at and no event is made: the key knows it.
     pub fn withdraw(&mut self, pass: &mut Pass) -> (Ticket, Pool)
         requires book { IsValueOf self.old pass.old }
-        requires new { IsNextIn self.old (block_of (value_of self.old)) }
+        requires new { IsNextIn self.old (block_number (value_of self.old)) }
         requires lent { IsLentKey self.old }
         ensures pass { pass.new ≡ pass.old }
-        ensures next { IsNextIn self.new (block_of (value_of self.old)) × IsInBlockOf self.old self.new }
+        ensures next { IsNextIn self.new (block_number (value_of self.old)) × IsInBlockOf self.old self.new }
         ensures free { IsFreeKey self.new }
         ensures place { place_of (value_of self.new) ≡ place_of (value_of self.old) }
         ensures content { IsLent result.0 result.1 × GoesWith self.old result.1 }
@@ -114,7 +114,6 @@ impl ValueKey {
 
     /// What shows the row of the store in which the block lies, whether one of its values was ever named or not.
     pub fn row(&self) -> Known
-        requires store { is_some (book_of self.now).store ≡ true }
         ensures row { IsRowAt (book_of self.now) (value_of self.now) result }
     {
         self.keys.row()
@@ -131,7 +130,6 @@ impl ValueKey {
 
     /// What is noted of the block, in the cell of its chunk.
     pub fn note<M: Copy>(&mut self, cell: &TokenCell<M>) -> M
-        requires store { IsStored (book_of self.old) }
         requires cell { cell.now.name ≡ cell_in self.old }
         ensures same { IsUnchanged self.old self.new }
         ensures note { M.row.coded.code result ≡ noted_in self.old }
@@ -144,7 +142,6 @@ impl ValueKey {
 
     /// Notes this of the block, in the cell of its chunk, in the place of what was noted before.
     pub fn set_note<M: Copy>(&mut self, cell: &TokenCell<M>, note: M)
-        requires store { IsStored (book_of self.old) }
         requires cell { cell.now.name ≡ cell_in self.old }
         ensures { HasNoted (M.row.coded.code note) self.old self.new }
     {
@@ -156,7 +153,7 @@ impl ValueKey {
     /// The key of the block by itself, as a chunk of a store keeps it. All values that ever lay in the block were reclaimed.
     pub fn bare(self) -> BareKey
         requires vacant { IsVacated self }
-        ensures { IsLaid self result }
+        ensures { IsBareKeyOf self result }
     {
         let mut keys = self.keys;
         BareKey {

@@ -7,18 +7,18 @@ use crate::book::keys::Keys;
 use crate::book::pass::Pass;
 use crate::book::value_key::ValueKey;
 
-/// The keys of some values, in order, as `ValueKey` is the key of one. Where the blocks of their book lie in a store, what is noted of each
-/// block says the number of the next one: whoever knows the first number finds them all.
+/// The keys of some values, in order, as `ValueKey` is the key of one. What is noted of each block says the number
+/// of the next one, so they are all found by the first number.
 #[derive(Drop)]
 pub struct ValueKeys {
     /// The rights by themselves, for crates with words.
     pub keys: Keys,
     ghost each: { are_of_blocks keys.held ≡ true },
-    ghost linked: { are_linked keys.name.store keys.held ≡ true },
+    ghost linked: { are_linked keys.held ≡ true },
 }
 
 impl ValueKeys {
-    ghost use Rattle.seize_book.specs.Values.{AreStill, IsEmpty, LeadsOn, LeadsTo, Appends, IsKeyOfOne, IsOfBook, LieApart, Nexts, Pops, Pushes, book_in, values_of};
+    ghost use Rattle.seize_book.specs.Values.{AreStill, IsEmpty, LeadsOn, LeadsTo, Appends, IsKeyOfOne, IsOfSameBook, LieApart, Nexts, Pops, Pushes, book_in, values_of};
 
     /// No keys, of the pass's book.
     pub fn new(pass: &mut Pass) -> ValueKeys
@@ -36,10 +36,9 @@ impl ValueKeys {
         ValueKeys { keys: value.keys }
     }
 
-    /// Takes the key of one value more, which comes last. What is noted of the block of the last one before says its block's number, where
-    /// the blocks of their book lie in a store.
+    /// Takes the key of one value more, which comes last. What is noted of the block of the last one before says its block's number.
     pub fn push(&mut self, value: ValueKey)
-        requires book { IsOfBook value self.old }
+        requires book { IsOfSameBook value self.old }
         requires leads { LeadsTo self.old value }
         ensures { Pushes self.old value self.new }
     {

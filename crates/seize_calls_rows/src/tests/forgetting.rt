@@ -1,14 +1,14 @@
 //! Holders that are forgotten, and the passes that the porter lent them. What they had was only lent to them, and comes back.
 ghost use Rattle.std.specs.Prelude.{◌≡◌};
-ghost use Rattle.seize_calls_rows.specs.Seats.{IsPorterOf, IsPostOf};
+ghost use Rattle.seize_calls_rows.specs.Seats.{IsPostOf};
+ghost use Rattle.seize_calls_rows.specs.Workers.{Lends};
 
 use super::{TURNS, marks, told};
 use crate::counting::Counting;
 use crate::seat::{Post, turn_and_forget};
-use crate::turns::{open_in_turns, reclaim_all, shut_lent};
-use crate::worker::LINKS;
+use crate::turns::{reclaim_all, shut_lent};
+use crate::worker::{LINKS, Lender, open};
 use seize_content::{CellToken, SteadyCell};
-use seize_words::book::Porter;
 use seize_words::words::Words;
 use std::sync::Wait;
 use std::sync::atomic::AtomicU64;
@@ -20,7 +20,7 @@ use std::{mem, thread};
 fn turn_both<R: Threads + Wait + Sync>(
     rt: &R,
     words: &Words<u64>,
-    porter: &Porter,
+    lender: &Lender,
     marks: &[AtomicU64],
     first: &SteadyCell<Post>,
     one: CellToken,
@@ -29,16 +29,16 @@ fn turn_both<R: Threads + Wait + Sync>(
 ) -> (bool, bool)
     requires first { (one.name ≡ first.now.name) × IsPostOf words.now first.now }
     requires second { (two.name ≡ second.now.name) × IsPostOf words.now second.now }
-    requires porter { IsPorterOf words.now porter.now }
+    requires lender { Lends words.now lender.now }
 {
     thread::join(
         rt,
         move || -> bool
-            requires { (one.name ≡ first.now.name) × IsPostOf words.now first.now × IsPorterOf words.now porter.now }
-        { turn_and_forget(words, porter, first, one, 0, TURNS, marks, rt) },
+            requires { (one.name ≡ first.now.name) × IsPostOf words.now first.now × Lends words.now lender.now }
+        { turn_and_forget(words, lender, first, one, 0, TURNS, marks, rt) },
         move || -> bool
-            requires { (two.name ≡ second.now.name) × IsPostOf words.now second.now × IsPorterOf words.now porter.now }
-        { turn_and_forget(words, porter, second, two, TURNS, TURNS, marks, rt) },
+            requires { (two.name ≡ second.now.name) × IsPostOf words.now second.now × Lends words.now lender.now }
+        { turn_and_forget(words, lender, second, two, TURNS, TURNS, marks, rt) },
     )
 }
 
@@ -49,13 +49,13 @@ fn what_forgotten_holders_had_comes_back(rt: HostRuntime) {
     let Ok(marks) = marks(rt.alloc(), 2 * TURNS) else {
         panic!(rt; "no memory");
     };
-    let Some((words, mut porter, source)) = open_in_turns(rt.alloc(), 32) else {
+    let Some((words, mut lender, source)) = open(rt.alloc(), 32) else {
         panic!(rt; "no memory");
     };
-    let Some((a, source)) = source.make_in_turns(&words, &porter) else {
+    let Some((a, source)) = source.make(&words, &lender) else {
         panic!(rt; "no memory");
     };
-    let Some((b, _)) = source.make_in_turns(&words, &porter) else {
+    let Some((b, _)) = source.make(&words, &lender) else {
         panic!(rt; "no memory");
     };
     let (first, one) = a.lend(&words);
@@ -63,7 +63,7 @@ fn what_forgotten_holders_had_comes_back(rt: HostRuntime) {
     let done = turn_both(
         &rt,
         &words,
-        &porter,
+        &lender,
         marks.as_slice(),
         &first,
         one,
@@ -72,9 +72,9 @@ fn what_forgotten_holders_had_comes_back(rt: HostRuntime) {
     );
     assert_eq!(rt; done, (true, true));
     assert_eq!(rt; told(marks.as_slice()), (2 * TURNS, 0));
-    porter.come_home();
+    lender.porter.come_home();
     let mut counting = Counting::new(marks.as_slice());
-    let (mut pass, first, second) = shut_lent(&words, porter, first, second);
+    let (mut pass, first, second) = shut_lent(&words, lender, first, second);
     let (_, _, all) = reclaim_all(&words, first, second, &mut counting, &mut pass, &rt);
     assert!(rt; all);
     assert_eq!(rt; counting.count, 2 * TURNS);
@@ -87,13 +87,13 @@ fn a_holder_that_did_nothing_is_forgotten(rt: HostRuntime) {
     let Ok(marks) = marks(rt.alloc(), LINKS) else {
         panic!(rt; "no memory");
     };
-    let Some((words, porter, source)) = open_in_turns(rt.alloc(), 32) else {
+    let Some((words, lender, source)) = open(rt.alloc(), 32) else {
         panic!(rt; "no memory");
     };
-    let Some((a, source)) = source.make_in_turns(&words, &porter) else {
+    let Some((a, source)) = source.make(&words, &lender) else {
         panic!(rt; "no memory");
     };
-    let Some((b, _)) = source.make_in_turns(&words, &porter) else {
+    let Some((b, _)) = source.make(&words, &lender) else {
         panic!(rt; "no memory");
     };
     let (first, one) = a.lend(&words);
@@ -102,7 +102,7 @@ fn a_holder_that_did_nothing_is_forgotten(rt: HostRuntime) {
     assert!(rt;
         turn_and_forget(
             &words,
-            &porter,
+            &lender,
             &second,
             two,
             0,
@@ -113,7 +113,7 @@ fn a_holder_that_did_nothing_is_forgotten(rt: HostRuntime) {
     );
     assert_eq!(rt; told(marks.as_slice()), (LINKS, 0));
     let mut counting = Counting::new(marks.as_slice());
-    let (mut pass, first, second) = shut_lent(&words, porter, first, second);
+    let (mut pass, first, second) = shut_lent(&words, lender, first, second);
     let (_, _, all) = reclaim_all(&words, first, second, &mut counting, &mut pass, &rt);
     assert!(rt; all);
     assert_eq!(rt; counting.count, LINKS);

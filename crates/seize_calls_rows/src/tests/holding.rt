@@ -47,13 +47,13 @@ fn what_a_reader_holds_stays_until_it_leaves(rt: HostRuntime) {
     let Ok(marks) = marks(rt.alloc(), RETIRED + 1) else {
         panic!(rt; "no memory");
     };
-    let Some((words, source)) = open(rt.alloc(), 32) else {
+    let Some((words, lender, source)) = open(rt.alloc(), 32) else {
         panic!(rt; "no memory");
     };
-    let Some((reader, source)) = source.make(&words) else {
+    let Some((reader, source)) = source.make(&words, &lender) else {
         panic!(rt; "no memory");
     };
-    let Some((other, _)) = source.make(&words) else {
+    let Some((other, _)) = source.make(&words, &lender) else {
         panic!(rt; "no memory");
     };
     let mut counting = Counting::new(marks.as_slice());

@@ -46,13 +46,13 @@ fn heads_are_swapped_out_beside_insertions(rt: HostRuntime) {
     let Ok(marks) = marks(rt.alloc(), RETIRED + 1) else {
         panic!(rt; "no memory");
     };
-    let Some((words, source)) = open(rt.alloc(), 2) else {
+    let Some((words, lender, source)) = open(rt.alloc(), 2) else {
         panic!(rt; "no memory");
     };
-    let Some((visitor, source)) = source.make(&words) else {
+    let Some((visitor, source)) = source.make(&words, &lender) else {
         panic!(rt; "no memory");
     };
-    let Some((other, _)) = source.make(&words) else {
+    let Some((other, _)) = source.make(&words, &lender) else {
         panic!(rt; "no memory");
     };
     let mut counting = Counting::new(marks.as_slice());

@@ -5,7 +5,7 @@ use Rattle.std.specs.List.{sum_by}
 use Rattle.std.proofs.lemmas.Int.{ints}
 use Rattle.std.proofs.lemmas.List.{length-set, length_push, length-replicate}
 use Rattle.std.proofs.lemmas.List.Sums.{sum_by-cons, get_or-le-sum_by}
-use Rattle.seize_machine.specs.Machine.State.{no_slot, State, Slot, Head, Inactive, waiting_at, linked, are_distinct, opening}
+use Rattle.seize_machine.specs.Machine.State.{no_slot, State, Slot, Head, Inactive, waiting_at, linked_values, are_distinct, opening}
 use Rattle.seize_machine.specs.Machine.Event.{Event}
 use Rattle.seize_machine.specs.Machine.History.{handed_value}
 use Rattle.seize_machine.specs.declared.machine.event.Answer.{Answer}
@@ -61,15 +61,15 @@ pub sum_replicate : {X : Type 0} (f : X → ℕ) (n : ℕ) (x : X) → f x ≡ 0
 sum_replicate f zero x e = refl
 sum_replicate f (suc n) x e = omega (arith, sum_by-cons f x (replicate n x), sum_replicate f n x e)
 
-pub in_links_is : (v : ℕ) (links : List (Option ℕ)) → in_links v links ≡ occ v (linked links)
+pub in_links_is : (v : ℕ) (links : List (Option ℕ)) → in_links v links ≡ occ v (linked_values links)
 in_links_is v [] = refl
-in_links_is v (link ∷ links) = omega (arith, sum_by-cons (λ link. occ v (option_to_list link)) link links, occ-append v (option_to_list link) (linked links), in_links_is v links)
+in_links_is v (link ∷ links) = omega (arith, sum_by-cons (λ link. occ v (option_to_list link)) link links, occ-append v (option_to_list link) (linked_values links), in_links_is v links)
 
-pub opening_inv : (slots : ℕ) (links : List (Option ℕ)) → are_distinct (linked links) ≡ true → Inv (opening slots links)
+pub opening_inv : (slots : ℕ) (links : List (Option ℕ)) → are_distinct (linked_values links) ≡ true → Inv (opening slots links)
 opening_inv slots links distinct =
     record {
       sound = record { counts = λ b. counts b; lengths = length-replicate slots Inactive ∙ sym (length-replicate slots no_slot) };
-      once = λ v. record { once = omega (arith, sum_replicate (slot_has v) slots no_slot refl, in_links_is v links, distinct_once v (linked links) distinct); all = omega (arith, sum_replicate (slot_has v) slots no_slot refl, in_links_is v links) };
+      once = λ v. record { once = omega (arith, sum_replicate (slot_has v) slots no_slot refl, in_links_is v links, distinct_once v (linked_values links) distinct); all = omega (arith, sum_replicate (slot_has v) slots no_slot refl, in_links_is v links) };
     }
   where
     counts : (b : ℕ) → CountedIn b (opening slots links)

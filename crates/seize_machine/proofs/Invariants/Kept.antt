@@ -1,5 +1,5 @@
 -- While an active slot neither leaves nor refreshes, it keeps back what was not given up when it was active.
-pub use Rattle.seize_machine.specs.Machine.Kept.{place_given, given, place_left, left, WillMark, Marks, Kept, KeptIn}
+pub use Rattle.seize_machine.specs.Machine.Kept.{place_given, given, place_left, inserts_left, WillMark, Marks, KeepsBack, KeptIn}
 use Rattle.std.proofs.Common.{◌≡◌, ◌≢◌, ℕ, ◌+◌, ◌<◌, ◌≤◌, ℤ, pos, negsuc, ◌+ℤ◌, ◌-ℤ◌, Bool, true, false, ◌==◌, if◌then◌else◌, nat_lt, List, [], ◌∷◌, ◌++◌, length, get_or, set, Option, Some, None, refl, sym, ◌∙◌, ap, subst, ◌⊎◌, inl, inr, arith}
 use Rattle.std.proofs.lemmas.Int.{ints}
 use Rattle.std.proofs.lemmas.List.{get_or-set_same, get_or-set_other, get_or_past, get_or_push, get_or_append_left, set_past}
@@ -34,14 +34,14 @@ pushed P xs j y d new old = go (is_true (length xs == j))
 
 -- a change of one slot's record
 keeps : (s v : ℕ) (st : State) (i : ℕ) (new : Slot) (o : Option Call) → i < length st.slots → (slot_at st i).call ≡ o
-    → given v new.call ≡ given v o → (1 ≤ occ v new.batch → Marks s new.call) → ((b : ℕ) → left b s new.call ≡ left b s o) → KeptIn s v st → Kept s v (set st.slots i new) st.heads st.batches st.gone
+    → given v new.call ≡ given v o → (1 ≤ occ v new.batch → Marks s new.call) → ((b : ℕ) → inserts_left b s new.call ≡ inserts_left b s o) → KeptIn s v st → KeepsBack s v (set st.slots i new) st.heads st.batches st.gone
 keeps s v st i new o r e same_given marked same_left c =
     record {
       active = c.active;
       not_given = omega (arith, change (given v) st i new o r e, c.not_given);
       not_gone = c.not_gone;
       marks = λ t. at_set (λ slot. 1 ≤ occ v slot.batch → Marks s slot.call) st.slots i t new no_slot (λ same h. marked) (c.marks t);
-      waits = λ b h. omega (arith, change (left b s) st i new o r e, same_left b, c.waits b h);
+      waits = λ b h. omega (arith, change (inserts_left b s) st i new o r e, same_left b, c.waits b h);
     }
 
 in_slots_range : (s : ℕ) (st : State) → Sound st → is_active (head_at st s) ≡ true → s < length st.slots
@@ -114,7 +114,7 @@ marked_marks s n next note heads marks batch on at_next will = go (is_active (ge
         fits false = tt
 
 -- the values of a batch that nothing holds and no call owns are not kept back
-let_go : (s v a : ℕ) (st : State) → KeptIn s v st → of_calls (left a s) st.slots ≡ 0 → listed a st.heads ≡ 0 → occ v (batch_at st a).values ≡ 0
+let_go : (s v a : ℕ) (st : State) → KeptIn s v st → of_calls (inserts_left a s) st.slots ≡ 0 → listed a st.heads ≡ 0 → occ v (batch_at st a).values ≡ 0
 let_go s v a st c l h =
     let on : occ a (waiting_at (head_at st s)) ≡ 0 = at_most_listed (is_true (nat_lt s (length st.heads))) in
     none_kept (occ v (batch_at st a).values) _ (c.waits a) (omega arith)
@@ -126,7 +126,7 @@ let_go s v a st c l h =
     at_most_listed (inl t) = omega (arith, get_or-le-sum_by (λ head. occ a (waiting_at head)) st.heads s Inactive (lt_true _ _ t))
     at_most_listed (inr t) = let r : length st.heads ≤ s = grind arith in ap (λ head. occ a (waiting_at head)) (get_or_past st.heads s Inactive r)
 
-owns-left : (b s : ℕ) (call : Option Call) → owns b call ≡ 0 → left b s call ≡ 0
+owns-left : (b s : ℕ) (call : Option Call) → owns b call ≡ 0 → inserts_left b s call ≡ 0
 owns-left b s None e = refl
 owns-left b s (Some call) e = go call.place e
   where
@@ -146,7 +146,7 @@ add_lets_go s v a won queue st i sound e c z =
     let own : one (a == a) ≡ 1 = one_same a a refl in
     let all : of_calls (wins a) st.slots ≡ (if a == a then won else 0) = wins_alone a st i (Add a won) queue e b own in
     let won_is : (if a == a then won else 0) ≡ won = grind arith in
-    let l : of_calls (left a s) st.slots ≡ 0 = rw e at (sum_alone (λ slot. left a s slot.call) (λ slot. owns a slot.call) (λ slot. owns-left a s slot.call) st.slots i no_slot (in_range st i _ e) (rw e (omega (arith, b.alone)))) in
+    let l : of_calls (inserts_left a s) st.slots ≡ 0 = rw e at (sum_alone (λ slot. inserts_left a s slot.call) (λ slot. owns a slot.call) (λ slot. owns-left a s slot.call) st.slots i no_slot (in_range st i _ e) (rw e (omega (arith, b.alone)))) in
     let zero : (batch_at st a).count +ℤ pos won ≡ pos 0 = zero_is _ z in
     let h : listed a st.heads ≡ 0 = omega (arith, ints, b.balance) in
     let_go s v a st c l h
@@ -169,7 +169,7 @@ sub_lets_go s v a walk queue st i sound e c z =
     let k : one (a == a) + occ a walk ≤ of_calls (walks a) st.slots = rw e at (get_or-le-sum_by (λ slot. walks a slot.call) st.slots i no_slot (in_range st i _ e)) in
     let zero : (batch_at st a).count -ℤ pos 1 ≡ pos 0 = zero_is _ z in
     let none : of_calls (owns a) st.slots ≡ 0 = unowned_at_zero a walk queue st i sound e z in
-    let l : of_calls (left a s) st.slots ≡ 0 = sum_nothing (λ slot. left a s slot.call) (λ slot. owns a slot.call) (λ slot. owns-left a s slot.call) st.slots none in
+    let l : of_calls (inserts_left a s) st.slots ≡ 0 = sum_nothing (λ slot. inserts_left a s slot.call) (λ slot. owns a slot.call) (λ slot. owns-left a s slot.call) st.slots none in
     let w : of_calls (wins a) st.slots ≡ 0 = sum_nothing (λ slot. wins a slot.call) (λ slot. owns a slot.call) (λ slot. owns-wins a slot.call) st.slots none in
     let h : listed a st.heads ≡ 0 = omega (arith, ints, b.balance) in
     let_go s v a st c l h
@@ -177,16 +177,16 @@ sub_lets_go s v a walk queue st i sound e c z =
 -- the count of a batch put anew, where its values are kept back by nobody if it is given up
 settled : (s v a : ℕ) (st : State) (i : ℕ) (from : Place) (up : Bool) (count : ℤ) (walk queue : List ℕ) → Stands st i from queue → place_given v from ≡ 0 → ((b : ℕ) → place_left b s from ≡ 0)
     → (up ≡ true → occ v (batch_at st a).values ≡ 0) → KeptIn s v st
-    → Kept s v (set st.slots i (record (slot_at st i) { call = Some (record { place = Rest (if up then (batch_at st a).values else []) walk; queue = queue }) })) st.heads (set st.batches a (record { values = if up then [] else (batch_at st a).values; count = count })) st.gone
+    → KeepsBack s v (set st.slots i (record (slot_at st i) { call = Some (record { place = Rest (if up then (batch_at st a).values else []) walk; queue = queue }) })) st.heads (set st.batches a (record { values = if up then [] else (batch_at st a).values; count = count })) st.gone
 settled s v a st i from up count walk queue e not_given no_left free c =
     let none : occ v (if up then (batch_at st a).values else []) ≡ 0 = nothing up free in
-    let k : Kept s v (set st.slots i new) st.heads st.batches st.gone = keeps s v st i new _ (in_range st i _ e) e (omega (arith, not_given)) (λ h. tt) (λ b. sym (no_left b)) c in
+    let k : KeepsBack s v (set st.slots i new) st.heads st.batches st.gone = keeps s v st i new _ (in_range st i _ e) e (omega (arith, not_given)) (λ h. tt) (λ b. sym (no_left b)) c in
     record {
       active = k.active;
       not_given = k.not_given;
       not_gone = k.not_gone;
       marks = k.marks;
-      waits = λ b. at_set (λ batch. 1 ≤ occ v batch.values → 1 ≤ of_calls (left b s) (set st.slots i new) + occ b (waiting_at (head_at st s))) st.batches a b (record { values = if up then [] else (batch_at st a).values; count = count }) no_batch (λ same r h. k.waits b (rw (← same) (fewer up h))) (k.waits b);
+      waits = λ b. at_set (λ batch. 1 ≤ occ v batch.values → 1 ≤ of_calls (inserts_left b s) (set st.slots i new) + occ b (waiting_at (head_at st s))) st.batches a b (record { values = if up then [] else (batch_at st a).values; count = count }) no_batch (λ same r h. k.waits b (rw (← same) (fewer up h))) (k.waits b);
     }
   where
     new : Slot
@@ -222,22 +222,22 @@ silent_from s v w from before after (inl p) = (ap (place_given v) p.0, λ b. ap 
 silent_from s v w from before after (inr p) = (ap (place_given v) p.0, λ b. ap (place_left b s) p.0)
 
 detached_kept : (s v : ℕ) (st : State) (i next note : ℕ) (marks queue : List ℕ) → Stands st i (Mark next note marks) queue → note ≤ next → KeptIn s v st
-    → Kept s v (set st.slots i (record { used = (slot_at st i).used; batch = []; call = Some (record { place = look (length st.batches) 0 marks; queue = queue }) })) st.heads (st.batches ++ record { values = (slot_at st i).batch; count = pos 0 } ∷ []) st.gone
+    → KeepsBack s v (set st.slots i (record { used = (slot_at st i).used; batch = []; call = Some (record { place = look (length st.batches) 0 marks; queue = queue }) })) st.heads (st.batches ++ record { values = (slot_at st i).batch; count = pos 0 } ∷ []) st.gone
 detached_kept s v st i next note marks queue e le c =
     record {
       active = c.active;
       not_given = omega (arith, change (given v) st i new _ (in_range st i _ e) e, look_given v (length st.batches) 0 marks, c.not_given);
       not_gone = c.not_gone;
       marks = λ t. at_set (λ slot. 1 ≤ occ v slot.batch → Marks s slot.call) st.slots i t new no_slot (λ same r h. absurd (omega arith)) (c.marks t);
-      waits = λ b. pushed (λ batch. 1 ≤ occ v batch.values → 1 ≤ of_calls (left b s) (set st.slots i new) + occ b (waiting_at (head_at st s))) st.batches b (record { values = (slot_at st i).batch; count = pos 0 }) no_batch
+      waits = λ b. pushed (λ batch. 1 ≤ occ v batch.values → 1 ≤ of_calls (inserts_left b s) (set st.slots i new) + occ b (waiting_at (head_at st s))) st.batches b (record { values = (slot_at st i).batch; count = pos 0 }) no_batch
           (λ same h. omega (arith, lefts b, now_left b same, will (rw e at (c.marks i h)))) (λ h. omega (arith, lefts b, c.waits b h));
     }
   where
     new : Slot
     new = record { used = (slot_at st i).used; batch = []; call = Some (record { place = look (length st.batches) 0 marks; queue = queue }) }
 
-    lefts : (b : ℕ) → of_calls (left b s) (set st.slots i new) + 0 ≡ of_calls (left b s) st.slots + place_left b s (look (length st.batches) 0 marks)
-    lefts b = change (left b s) st i new _ (in_range st i _ e) e
+    lefts : (b : ℕ) → of_calls (inserts_left b s) (set st.slots i new) + 0 ≡ of_calls (inserts_left b s) st.slots + place_left b s (look (length st.batches) 0 marks)
+    lefts b = change (inserts_left b s) st i new _ (in_range st i _ e) e
 
     now_left : (b : ℕ) → length st.batches ≡ b → place_left b s (look (length st.batches) 0 marks) ≡ occ s marks
     now_left b same = look_left b s (length st.batches) 0 marks ∙ (let t : (length st.batches == b) ≡ true = grind arith in ap (λ q. if q then occ s marks else 0) t)
@@ -246,7 +246,7 @@ detached_kept s v st i next note marks queue e le c =
     will w = w.1 (omega arith)
 
 inserted_kept : (s v : ℕ) (st : State) (i m a won : ℕ) (later saw queue waiting : List ℕ) → Stands st i (Try a won m later saw) queue → head_at st m ≡ Active waiting → KeptIn s v st
-    → Kept s v (set st.slots i (record (slot_at st i) { call = Some (record { place = look a (won + 1) later; queue = queue }) })) (set st.heads m (Active (a ∷ waiting))) st.batches st.gone
+    → KeepsBack s v (set st.slots i (record (slot_at st i) { call = Some (record { place = look a (won + 1) later; queue = queue }) })) (set st.heads m (Active (a ∷ waiting))) st.batches st.gone
 inserted_kept s v st i m a won later saw queue waiting e head_is c =
     record {
       active = at_set (λ head. is_active head ≡ true) st.heads m s (Active (a ∷ waiting)) Inactive (λ same r. refl) c.active;
@@ -259,13 +259,13 @@ inserted_kept s v st i m a won later saw queue waiting e head_is c =
     new : Slot
     new = record (slot_at st i) { call = Some (record { place = look a (won + 1) later; queue = queue }) }
 
-    lefts : (b : ℕ) → of_calls (left b s) (set st.slots i new) + (if a == b then one (m == s) + occ s later else 0) ≡ of_calls (left b s) st.slots + place_left b s (look a (won + 1) later)
-    lefts b = change (left b s) st i new _ (in_range st i _ e) e
+    lefts : (b : ℕ) → of_calls (inserts_left b s) (set st.slots i new) + (if a == b then one (m == s) + occ s later else 0) ≡ of_calls (inserts_left b s) st.slots + place_left b s (look a (won + 1) later)
+    lefts b = change (inserts_left b s) st i new _ (in_range st i _ e) e
 
-    more : (b : ℕ) → 1 ≤ of_calls (left b s) st.slots + occ b (waiting_at (head_at st s)) → 1 ≤ of_calls (left b s) (set st.slots i new) + occ b (waiting_at (get_or (set st.heads m (Active (a ∷ waiting))) s Inactive))
+    more : (b : ℕ) → 1 ≤ of_calls (inserts_left b s) st.slots + occ b (waiting_at (head_at st s)) → 1 ≤ of_calls (inserts_left b s) (set st.slots i new) + occ b (waiting_at (get_or (set st.heads m (Active (a ∷ waiting))) s Inactive))
     more b h = go (is_true (a == b)) (is_true (m == s))
       where
-        go : ((a == b) ≡ true) ⊎ ((a == b) ≡ false) → ((m == s) ≡ true) ⊎ ((m == s) ≡ false) → 1 ≤ of_calls (left b s) (set st.slots i new) + occ b (waiting_at (get_or (set st.heads m (Active (a ∷ waiting))) s Inactive))
+        go : ((a == b) ≡ true) ⊎ ((a == b) ≡ false) → ((m == s) ≡ true) ⊎ ((m == s) ≡ false) → 1 ≤ of_calls (inserts_left b s) (set st.slots i new) + occ b (waiting_at (get_or (set st.heads m (Active (a ∷ waiting))) s Inactive))
         go (inl t) (inl u) =
             let x : _ ≡ _ = ap (λ q. if q then one (m == s) + occ s later else 0) t in
             let y : _ ≡ _ = look_left b s a (won + 1) later ∙ ap (λ q. if q then occ s later else 0) t in
@@ -303,7 +303,7 @@ kept_step s v size st event _ (Step.took_new i e least) stays sound c =
       not_given = omega (arith, sum_by_push (λ slot. given v slot.call) st.slots new, c.not_given);
       not_gone = c.not_gone;
       marks = λ t. pushed (λ slot. 1 ≤ occ v slot.batch → Marks s slot.call) st.slots t new no_slot (λ same h. tt) (c.marks t);
-      waits = λ b h. rw same (omega (arith, sum_by_push (λ slot. left b s slot.call) st.slots new, c.waits b h));
+      waits = λ b h. rw same (omega (arith, sum_by_push (λ slot. inserts_left b s slot.call) st.slots new, c.waits b h));
     }
 kept_step s v size st event _ (Step.took_old i r e least) stays sound c = keeps s v st i (record (slot_at st i) { used = true }) (slot_at st i).call r refl refl (c.marks i) (λ b. refl) c
 kept_step s v size st event _ (Step.gave i e off) stays sound c = keeps s v st i (record (slot_at st i) { used = false }) (slot_at st i).call (idle_range st i e) refl refl (c.marks i) (λ b. refl) c
@@ -314,7 +314,7 @@ kept_step s v size st event _ (Step.entered i e off) stays sound c =
       not_given = c.not_given;
       not_gone = c.not_gone;
       marks = c.marks;
-      waits = λ b h. head_other (λ head. 1 ≤ of_calls (left b s) st.slots + occ b (waiting_at head)) st.heads s i _ other (c.waits b h);
+      waits = λ b h. head_other (λ head. 1 ≤ of_calls (inserts_left b s) st.slots + occ b (waiting_at head)) st.heads s i _ other (c.waits b h);
     }
 kept_step s v size st event _ (Step.begun_retire i w e new) stays sound c = keeps s v st i _ None (idle_range st i e) (idle_call (slot_at st i) e) refl (λ h. tt) (λ b. refl) c
 kept_step s v size st event _ (Step.begun_other i job place e which exact) stays sound c =
@@ -340,17 +340,17 @@ kept_step s v size st event _ (Step.subtracted i a walk queue d e h) stays sound
     subst (λ d. KeptIn s v d.0) (some_is _ _ h) (settled s v a st i (Rest [] (a ∷ walk)) _ _ walk queue e refl (λ b. refl) (sub_lets_go s v a walk queue st i sound e c) c)
 kept_step s v size st event _ (Step.swapped_out i leave queue e) stays sound c =
     let other : s ≢ i = λ same. stays (ap SwapOut (sym same)) in
-    let k : Kept s v _ st.heads st.batches st.gone = keeps s v st i (record (slot_at st i) { call = Some (record { place = Rest [] (waiting_at (head_at st i)); queue = queue }) }) _ (in_range st i _ e) e refl (λ h. tt) (λ b. refl) c in
+    let k : KeepsBack s v _ st.heads st.batches st.gone = keeps s v st i (record (slot_at st i) { call = Some (record { place = Rest [] (waiting_at (head_at st i)); queue = queue }) }) _ (in_range st i _ e) e refl (λ h. tt) (λ b. refl) c in
     record {
       active = head_other (λ head. is_active head ≡ true) st.heads s i _ other k.active;
       not_given = k.not_given;
       not_gone = k.not_gone;
       marks = k.marks;
-      waits = λ b h. head_other (λ head. 1 ≤ of_calls (left b s) (set st.slots i (record (slot_at st i) { call = Some (record { place = Rest [] (waiting_at (head_at st i)); queue = queue }) })) + occ b (waiting_at head)) st.heads s i _ other (k.waits b h);
+      waits = λ b h. head_other (λ head. 1 ≤ of_calls (inserts_left b s) (set st.slots i (record (slot_at st i) { call = Some (record { place = Rest [] (waiting_at (head_at st i)); queue = queue }) })) + occ b (waiting_at head)) st.heads s i _ other (k.waits b h);
     }
 kept_step s v size st event _ (Step.handed i w puts given_on walk queue e new) stays sound c =
     let own : one (w == v) + occ v given_on ≤ of_calls (given v) st.slots = rw e at (get_or-le-sum_by (λ slot. given v slot.call) st.slots i no_slot (in_range st i _ e)) in
-    let k : Kept s v _ st.heads st.batches st.gone = keeps s v st i (record (slot_at st i) { call = Some (record { place = Rest given_on walk; queue = queue ++ puts }) }) _ (in_range st i _ e) e (omega (arith, c.not_given)) (λ h. tt) (λ b. refl) c in
+    let k : KeepsBack s v _ st.heads st.batches st.gone = keeps s v st i (record (slot_at st i) { call = Some (record { place = Rest given_on walk; queue = queue ++ puts }) }) _ (in_range st i _ e) e (omega (arith, c.not_given)) (λ h. tt) (λ b. refl) c in
     record { active = k.active; not_given = k.not_given; not_gone = omega (arith, occ-push v st.gone w, c.not_gone, c.not_given); marks = k.marks; waits = k.waits }
 kept_step s v size st event _ (Step.returned i e) stays sound c = keeps s v st i (record (slot_at st i) { call = None }) _ (in_range st i _ e) e refl (λ h. tt) (λ b. refl) c
 kept_step s v size st event _ (Step.read i l e) stays sound c = c

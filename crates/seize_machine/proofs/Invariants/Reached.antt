@@ -3,11 +3,11 @@ use Rattle.std.proofs.Common.{◌≡◌, ℕ, zero, suc, ◌+◌, ◌<◌, ◌�
 use Rattle.std.proofs.lemmas.Int.{ints}
 use Rattle.std.proofs.lemmas.List.{get_or_past}
 use Rattle.std.proofs.lemmas.List.Sums.{get_or-le-sum_by}
-use Rattle.seize_machine.specs.Machine.State.{no_slot, State, Slot, Call, Place, Append, Mark, Look, Try, Add, Out, Rest, slot_at, batch_at, linked, are_distinct, opening}
+use Rattle.seize_machine.specs.Machine.State.{no_slot, State, Slot, Call, Place, Append, Mark, Look, Try, Add, Out, Rest, slot_at, batch_at, linked_values, are_distinct, opening}
 use Rattle.seize_machine.specs.Machine.Next.{Outcome, next}
 use Rattle.seize_machine.specs.Machine.History.{Timed, or_illegal, done_by, end_of, is_legal, IsReached}
 use Rattle.seize_machine.specs.Machine.Laws.{is_put, PutsWithin}
-use Rattle.seize_machine.specs.Machine.Code.{Sized, event_of, timed, HasDone, Does, WinsFit, AddFits, SubFits, CountFits, CallCountsFit, CountsFit}
+use Rattle.seize_machine.specs.Machine.Code.{Sized, event_of, timed_event, HasDone, HasOutcome, WinsFit, AddFits, SubFits, CountFits, CallCountsFit, CountsFit}
 use Rattle.seize_machine.specs.declared.machine.event.Answer.{Answer}
 use Rattle.seize_machine.specs.declared.machine.event.Event.{Event as Written}
 use Rattle.seize_machine.proofs.Steps.Relation.{Stands, is_true, lt_true}
@@ -155,16 +155,16 @@ reached_more st t r = go (next t.size st t.event) refl
     go (Some d) e = reached_next st t d r e
 
 -- what an event did by its outcome is what the machine does
-pub does_by : (old new : State) (t : Timed) (answer : Answer) → Does (next t.size old t.event) old new answer → (new, answer) ≡ done_by next old t
+pub does_by : (old new : State) (t : Timed) (answer : Answer) → HasOutcome (next t.size old t.event) old new answer → (new, answer) ≡ done_by next old t
 does_by old new t answer = go (next t.size old t.event)
   where
-    go : (o : Outcome) → Does o old new answer → (new, answer) ≡ or_illegal old o
+    go : (o : Outcome) → HasOutcome o old new answer → (new, answer) ≡ or_illegal old o
     go None d = ap (λ (st : State). (st, answer)) d.0 ∙ ap (λ (a : Answer). (old, a)) d.1
     go (Some done) d = ap (λ (st : State). (st, answer)) d.0 ∙ ap (λ (a : Answer). (done.0, a)) d.1
 
-pub does_done : (event : Written) (old new : Sized) (answer : Answer) → new.size ≡ old.size → Does (next old.size old.state (event_of event)) old.state new.state answer → HasDone event old new answer
+pub does_done : (event : Written) (old new : Sized) (answer : Answer) → new.size ≡ old.size → HasOutcome (next old.size old.state (event_of event)) old.state new.state answer → HasDone event old new answer
 does_done event old new answer size d =
-    let t : Timed = timed old event in
+    let t : Timed = timed_event old event in
     let same : (new.state, answer) ≡ done_by next old.state t = does_by old.state new.state t answer d in
     record {
       size = size;
@@ -177,16 +177,16 @@ does_done event old new answer size d =
     }
 
 pub done_result : {E : Type 0} (event : Written) (old new : Sized) (result : Result Answer E) → new.size ≡ old.size
-    → IfOk result (λ answer. Does (next old.size old.state (event_of event)) old.state new.state answer) → IfOk result (λ answer. HasDone event old new answer)
+    → IfOk result (λ answer. HasOutcome (next old.size old.state (event_of event)) old.state new.state answer) → IfOk result (λ answer. HasDone event old new answer)
 done_result event old new (Ok answer) size does = does_done event old new answer size does
 done_result event old new (Err e) size does = tt
 
-pub reached_result : {E : Type 0} (t : Timed) (old new : State) (result : Result Answer E) → IfOk result (λ answer. Does (next t.size old t.event) old new answer) → OnErr result (new ≡ old) → IsReached old → IsReached new
+pub reached_result : {E : Type 0} (t : Timed) (old new : State) (result : Result Answer E) → IfOk result (λ answer. HasOutcome (next t.size old t.event) old new answer) → OnErr result (new ≡ old) → IsReached old → IsReached new
 reached_result t old new (Ok answer) does err r = subst IsReached (ap (λ (x : State × Answer). x.0) (sym (does_by old new t answer does))) (reached_more old t r)
 reached_result t old new (Err e) does err r = subst IsReached (sym err) r
 
 -- the opening with no slot made and empty links
-pub linked-replicate : (n : ℕ) → linked (replicate n None) ≡ []
+pub linked-replicate : (n : ℕ) → linked_values (replicate n None) ≡ []
 linked-replicate zero = refl
 linked-replicate (suc n) = linked-replicate n
 

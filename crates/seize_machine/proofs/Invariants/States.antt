@@ -3,8 +3,8 @@ use Rattle.std.proofs.Common.{◌≡◌, ◌≢◌, ℕ, ◌+◌, ◌<◌, ◌�
 use Rattle.std.proofs.lemmas.Int.{ints}
 use Rattle.std.proofs.lemmas.List.{get_or-set_same, get_or-set_other, get_or_past, get_or_push, get_or_append_left, get_or-replicate, length-set, length_push, length-replicate}
 use Rattle.std.proofs.lemmas.List.Sums.{get_or-le-sum_by}
-use Rattle.seize_machine.specs.Machine.State.{no_slot, no_batch, State, Slot, Batch, Call, Head, Inactive, Active, Place, Append, Mark, Look, Try, Add, Out, Rest, slot_at, head_at, batch_at, is_active, waiting_at, linked, are_distinct, opening}
-use Rattle.seize_machine.specs.Machine.Event.{Event, slot_of}
+use Rattle.seize_machine.specs.Machine.State.{no_slot, no_batch, State, Slot, Batch, Call, Head, Inactive, Active, Place, Append, Mark, Look, Try, Add, Out, Rest, slot_at, head_at, batch_at, is_active, waiting_at, linked_values, are_distinct, opening}
+use Rattle.seize_machine.specs.Machine.Event.{Event, event_slot}
 use Rattle.seize_machine.specs.Machine.Next.{Outcome, next, of_call, walking_at, look, looked, marked_place, is_zero}
 use Rattle.seize_machine.specs.Machine.Laws.{detached_by, walk_of, Lists, Walks}
 use Rattle.seize_machine.specs.Machine.History.{Timed, end_of, IsReached}
@@ -29,7 +29,7 @@ use Rattle.seize_machine.proofs.Lists.LegalLists.{no_event}
 use Rattle.seize_machine.proofs.Invariants.Reached.{ends_at, reached_inv, reached_fits, reached_next, owner_wins, adds}
 
 -- what holds of each opening and stays so with each legal event holds of each state that is reached
-pub reached_holds : (P : State → Type 0) → ((slots : ℕ) (links : List (Option ℕ)) → are_distinct (linked links) ≡ true → P (opening slots links))
+pub reached_holds : (P : State → Type 0) → ((slots : ℕ) (links : List (Option ℕ)) → are_distinct (linked_values links) ≡ true → P (opening slots links))
     → ((st : State) (t : Timed) (d : State × Answer) → IsReached st → Step t.size st t.event d → P st → P d.0) → (st : State) → IsReached st → P st
 reached_holds P begins goes st r =
     subst P (ends_at st r) (on r.events (opening r.slots r.links) (record { slots = r.slots; links = r.links; events = []; answers = []; distinct = r.distinct; leads = no_event (opening r.slots r.links) }) (begins r.slots r.links r.distinct))
@@ -96,7 +96,7 @@ one_owner b i s st r e k = go (owner_is b _ e) (owner_is b _ k) (is_true (i == s
     go mine too (inr t) = absurd (two_owners b i s st ((reached_inv st r).sound.counts b) (owner_range b i st mine) (λ e. grind arith) mine too)
 
 -- the values of a batch stay while another slot's call has detached it and not yet added
-values_stay : (b s size : ℕ) (st : State) (event : Event) (d : State × Answer) → Step size st event d → Inv st → slot_of event ≢ s → 1 ≤ owns b (slot_at st s).call
+values_stay : (b s size : ℕ) (st : State) (event : Event) (d : State × Answer) → Step size st event d → Inv st → event_slot event ≢ s → 1 ≤ owns b (slot_at st s).call
     → (batch_at d.0 b).values ≡ (batch_at st b).values
 values_stay b s size st event _ (Step.detached i n note marks queue e le) v other own =
     let c : CountedIn b st = v.sound.counts b in
@@ -223,7 +223,7 @@ put_tidy : (active : Bool) (values : ℕ → ℕ) (batch n : ℕ) (place : Place
 put_tidy active values batch n place P (inl e) = subst (PlaceTidy active values batch) (sym e.0) tt
 put_tidy active values batch n place P (inr e) = subst (PlaceTidy active values batch) (sym e) (λ v. (omega arith, λ h. absurd (omega arith)), omega arith)
 
-tidy_own : (size : ℕ) (st : State) (event : Event) (d : State × Answer) → Step size st event d → SlotTidy st (slot_of event) → SlotTidy d.0 (slot_of event)
+tidy_own : (size : ℕ) (st : State) (event : Event) (d : State × Answer) → Step size st event d → SlotTidy st (event_slot event) → SlotTidy d.0 (event_slot event)
 tidy_own size st event _ (Step.took_new s e least) t =
     let new : Slot = record { used = true; batch = []; call = None } in
     subst (λ (slot : Slot). CallTidy (is_active (get_or (st.heads ++ Inactive ∷ []) s Inactive)) (values_at st) (length slot.batch) slot.call) (sym (get_or_push st.slots new no_slot s (sym e))) tt
@@ -267,7 +267,7 @@ tidy_own size st event _ (Step.exchanged s l exchange new e fresh exact) t = t
 tidy_own size st event _ (Step.compared s l exchange e exact) t = t
 
 -- each other slot
-tidy_other : (size s : ℕ) (st : State) (event : Event) (d : State × Answer) → Step size st event d → Inv st → changes_slot s event ≡ false → slot_of event ≢ s → SlotTidy st s → SlotTidy d.0 s
+tidy_other : (size s : ℕ) (st : State) (event : Event) (d : State × Answer) → Step size st event d → Inv st → changes_slot s event ≡ false → event_slot event ≢ s → SlotTidy st s → SlotTidy d.0 s
 tidy_other size s st event d step v n other t =
     let slot_is : slot_at d.0 s ≡ slot_at st s = slot_frame s size st event d step n in
     let active_is : is_active (head_at d.0 s) ≡ is_active (head_at st s) = active_frame s size st event d step n in
@@ -275,24 +275,24 @@ tidy_other size s st event d step v n other t =
     (subst (λ (on : Bool). CallTidy on (values_at d.0) (length (slot_at st s).batch) (slot_at st s).call) (sym active_is)
     (same_tidy (is_active (head_at st s)) (values_at d.0) (values_at st) (length (slot_at st s).batch) (slot_at st s).call (λ b own. ap (λ (l : List ℕ). length l) (values_stay b s size st event d step v other own)) t))
 
-unchanged : (s : ℕ) (event : Event) → slot_of event ≢ s → changes_slot s event ≡ false
-unchanged s event other = go event (false_of (slot_of event) s other)
+unchanged : (s : ℕ) (event : Event) → event_slot event ≢ s → changes_slot s event ≡ false
+unchanged s event other = go event (false_of (event_slot event) s other)
   where
     false_of : (a b : ℕ) → a ≢ b → (a == b) ≡ false
     false_of a b h = grind arith
 
-    go : (event : Event) → (slot_of event == s) ≡ false → changes_slot s event ≡ false
+    go : (event : Event) → (event_slot event == s) ≡ false → changes_slot s event ≡ false
     go (Event.ReadLink i l) h = refl
     go (Event.ExchangeLink i l exchange) h = refl
     go _ h = h
 
 tidy_step : (size : ℕ) (st : State) (event : Event) (d : State × Answer) → Step size st event d → Inv st → Tidy st → Tidy d.0
-tidy_step size st event d step v t s = go (is_true (slot_of event == s))
+tidy_step size st event d step v t s = go (is_true (event_slot event == s))
   where
-    go : ((slot_of event == s) ≡ true) ⊎ ((slot_of event == s) ≡ false) → SlotTidy d.0 s
-    go (inl k) = subst (SlotTidy d.0) (eq_true _ _ k) (tidy_own size st event d step (t (slot_of event)))
+    go : ((event_slot event == s) ≡ true) ⊎ ((event_slot event == s) ≡ false) → SlotTidy d.0 s
+    go (inl k) = subst (SlotTidy d.0) (eq_true _ _ k) (tidy_own size st event d step (t (event_slot event)))
     go (inr k) =
-        let other : slot_of event ≢ s = λ e. grind arith in
+        let other : event_slot event ≢ s = λ e. grind arith in
         tidy_other size s st event d step v (unchanged s event other) other (t s)
 
 opening_tidy : (slots : ℕ) (links : List (Option ℕ)) → Tidy (opening slots links)

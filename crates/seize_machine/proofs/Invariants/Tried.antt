@@ -3,7 +3,7 @@ use Rattle.std.proofs.Common.{◌≡◌, ℕ, ◌+◌, ◌<◌, ◌≤◌, Bool,
 use Rattle.std.specs.List.{sum_by}
 use Rattle.std.proofs.lemmas.List.{get_or-set_other, get_or_past}
 use Rattle.std.proofs.lemmas.List.Sums.{sum_by_push, get_or-le-sum_by}
-use Rattle.seize_machine.specs.Machine.State.{no_slot, no_batch, State, Slot, Call, Head, Inactive, Active, Place, Mark, Look, Try, Out, Rest, slot_at, head_at, batch_at, is_active, waiting_at, linked, are_distinct, opening}
+use Rattle.seize_machine.specs.Machine.State.{no_slot, no_batch, State, Slot, Call, Head, Inactive, Active, Place, Mark, Look, Try, Out, Rest, slot_at, head_at, batch_at, is_active, waiting_at, linked_values, are_distinct, opening}
 use Rattle.seize_machine.specs.Machine.Event.{Event}
 use Rattle.seize_machine.specs.Machine.Next.{look, looked, marked_place}
 use Rattle.seize_machine.specs.Machine.History.{IsReached}
@@ -13,7 +13,7 @@ use Rattle.seize_machine.proofs.Steps.Relation.{Step, Stands, some_is, is_true, 
 use Rattle.seize_machine.proofs.Counting.Sums.{one, occ, sum_alone, distinct_once}
 use Rattle.seize_machine.proofs.Counting.Occurrences.{some_contained, distinct_if}
 use Rattle.seize_machine.proofs.Invariants.Counts.{CountedIn, of_calls, owns, place_owns, walks, place_walks, listed, change, in_range, idle_range, idle_call, place_quiet, look_walks, looked_same}
-use Rattle.seize_machine.proofs.Invariants.Kept.{place_left, left, at_set, pushed, starts}
+use Rattle.seize_machine.proofs.Invariants.Kept.{place_left, inserts_left, at_set, pushed, starts}
 use Rattle.seize_machine.proofs.Invariants.Always.{sum_replicate}
 use Rattle.seize_machine.proofs.Invariants.Reached.{reached_inv}
 use Rattle.seize_machine.proofs.Invariants.States.{reached_holds, tries_tidy}
@@ -30,10 +30,10 @@ part-le-sum f xs i d none = go (is_true (nat_lt i (length xs)))
         let nothing : f (get_or xs i d) ≡ 0 = ap f (get_or_past xs i d past) ∙ none in
         omega arith
 
--- `left b m` counts how often a call has still to insert b at m. While one has, m neither lists nor walks b.
+-- `inserts_left b m` counts how often a call has still to insert b at m. While one has, m neither lists nor walks b.
 
 abbrev Unheld : ℕ → ℕ → List Slot → List Head → Type 0
-Unheld b m slots heads = 1 ≤ of_calls (left b m) slots → (occ b (waiting_at (get_or heads m Inactive)) ≡ 0) × (walks b (get_or slots m no_slot).call ≡ 0)
+Unheld b m slots heads = 1 ≤ of_calls (inserts_left b m) slots → (occ b (waiting_at (get_or heads m Inactive)) ≡ 0) × (walks b (get_or slots m no_slot).call ≡ 0)
 
 abbrev UnheldIn : ℕ → ℕ → State → Type 0
 UnheldIn b m st = Unheld b m st.slots st.heads
@@ -54,7 +54,7 @@ marked_left : (b m : ℕ) (active : Bool) (n note : ℕ) (marks batch : List ℕ
 marked_left b m active n note marks batch = grind arith
 
 -- who has still to insert a batch owns it
-owns-left : (b m : ℕ) (call : Option Call) → owns b call ≡ 0 → left b m call ≡ 0
+owns-left : (b m : ℕ) (call : Option Call) → owns b call ≡ 0 → inserts_left b m call ≡ 0
 owns-left b m None e = refl
 owns-left b m (Some call) e = go call.place e
   where
@@ -65,9 +65,9 @@ owns-left b m (Some call) e = go call.place e
 
 -- a change of one slot's record that adds neither an insertion nor a walk
 same_unheld : (b m : ℕ) (st : State) (i : ℕ) (new : Slot) (o : Option Call) → i < length st.slots → (slot_at st i).call ≡ o
-    → left b m new.call ≤ left b m o → walks b new.call ≤ walks b o → UnheldIn b m st → Unheld b m (set st.slots i new) st.heads
+    → inserts_left b m new.call ≤ inserts_left b m o → walks b new.call ≤ walks b o → UnheldIn b m st → Unheld b m (set st.slots i new) st.heads
 same_unheld b m st i new o r e fewer walk c = λ some.
-    let old : (occ b (waiting_at (head_at st m)) ≡ 0) × (walks b (slot_at st m).call ≡ 0) = c (omega (arith, change (left b m) st i new o r e)) in
+    let old : (occ b (waiting_at (head_at st m)) ≡ 0) × (walks b (slot_at st m).call ≡ 0) = c (omega (arith, change (inserts_left b m) st i new o r e)) in
     (old.0, at_set (λ slot. walks b slot.call ≡ 0) st.slots i m new no_slot (λ same within. here same old.1) old.1)
   where
     here : i ≡ m → walks b (slot_at st m).call ≡ 0 → walks b new.call ≡ 0
@@ -109,8 +109,8 @@ inserted_unheld b m st s k a won later saw queue waiting reached e head_is count
     heads : List Head
     heads = set st.heads k (Active (a ∷ waiting))
 
-    moved : of_calls (left b m) (set st.slots s new) + place_left b m (Try a won k later saw) ≡ of_calls (left b m) st.slots + place_left b m (look a (won + 1) later)
-    moved = change (left b m) st s new _ (in_range st s _ e) e
+    moved : of_calls (inserts_left b m) (set st.slots s new) + place_left b m (Try a won k later saw) ≡ of_calls (inserts_left b m) st.slots + place_left b m (look a (won + 1) later)
+    moved = change (inserts_left b m) st s new _ (in_range st s _ e) e
 
     -- at another head, or of another batch: what waits there of b stays
     other : occ b (waiting_at (get_or heads m Inactive)) ≡ occ b (waiting_at (head_at st m)) → place_left b m (look a (won + 1) later) ≤ place_left b m (Try a won k later saw) → Unheld b m (set st.slots s new) heads
@@ -142,15 +142,15 @@ inserted_unheld b m st s k a won later saw queue waiting reached e head_is count
         let here : one (k == m) ≡ 1 = ap one u in
         let mine : owns b (slot_at st s).call ≡ one (a == b) = ap (owns b) e in
         let own : one (a == b) ≡ 1 = ap one t in
-        let all : of_calls (left b m) st.slots ≡ left b m (slot_at st s).call = sum_alone (λ slot. left b m slot.call) (λ slot. owns b slot.call) (λ slot. owns-left b m slot.call) st.slots s no_slot (in_range st s _ e) (omega (arith, counted.alone)) in
-        let its : left b m (slot_at st s).call ≡ place_left b m (Try a won k later saw) = ap (left b m) e in
+        let all : of_calls (inserts_left b m) st.slots ≡ inserts_left b m (slot_at st s).call = sum_alone (λ slot. inserts_left b m slot.call) (λ slot. owns b slot.call) (λ slot. owns-left b m slot.call) st.slots s no_slot (in_range st s _ e) (omega (arith, counted.alone)) in
+        let its : inserts_left b m (slot_at st s).call ≡ place_left b m (Try a won k later saw) = ap (inserts_left b m) e in
         λ some. absurd (omega (arith, moved))
 
 -- what was listed is walked
 swapped_unheld : (b m : ℕ) (st : State) (s : ℕ) (stays : Bool) (queue : List ℕ) → Stands st s (Out stays) queue → UnheldIn b m st
     → Unheld b m (set st.slots s (record (slot_at st s) { call = Some (record { place = Rest [] (waiting_at (head_at st s)); queue = queue }) })) (set st.heads s (if stays then Active [] else Inactive))
 swapped_unheld b m st s stays queue e c = λ some.
-    let old : (occ b (waiting_at (head_at st m)) ≡ 0) × (walks b (slot_at st m).call ≡ 0) = c (omega (arith, change (left b m) st s new _ (in_range st s _ e) e)) in
+    let old : (occ b (waiting_at (head_at st m)) ≡ 0) × (walks b (slot_at st m).call ≡ 0) = c (omega (arith, change (inserts_left b m) st s new _ (in_range st s _ e) e)) in
     (at_set (λ head. occ b (waiting_at head) ≡ 0) st.heads s m _ Inactive (λ same within. emptied stays) old.0, at_set (λ slot. walks b slot.call ≡ 0) st.slots s m new no_slot (λ same within. subst (λ i. occ b (waiting_at (head_at st i)) ≡ 0) (sym same) old.0) old.1)
   where
     new : Slot
@@ -163,7 +163,7 @@ swapped_unheld b m st s stays queue e c = λ some.
 unheld_step : (b m size : ℕ) (st : State) (event : Event) (d : State × Answer) → IsReached st → Step size st event d → UnheldIn b m st → UnheldIn b m d.0
 unheld_step b m size st event _ r (Step.took_new s e least) c = λ some.
     let new : Slot = record { used = true; batch = []; call = None } in
-    let old : (occ b (waiting_at (head_at st m)) ≡ 0) × (walks b (slot_at st m).call ≡ 0) = c (omega (arith, sum_by_push (λ slot. left b m slot.call) st.slots new)) in
+    let old : (occ b (waiting_at (head_at st m)) ≡ 0) × (walks b (slot_at st m).call ≡ 0) = c (omega (arith, sum_by_push (λ slot. inserts_left b m slot.call) st.slots new)) in
     (pushed (λ head. occ b (waiting_at head) ≡ 0) st.heads m Inactive Inactive (λ same. refl) old.0, pushed (λ slot. walks b slot.call ≡ 0) st.slots m new no_slot (λ same. refl) old.1)
 unheld_step b m size st event _ r (Step.took_old s within e least) c = same_unheld b m st s (record (slot_at st s) { used = true }) (slot_at st s).call within refl (omega arith) (omega arith) c
 unheld_step b m size st event _ r (Step.gave s e off) c = same_unheld b m st s (record (slot_at st s) { used = false }) (slot_at st s).call (idle_range st s e) refl (omega arith) (omega arith) c
@@ -198,22 +198,22 @@ unheld_step b m size st event _ r (Step.compared s l exchange e exact) c = c
 reached_unheld : (st : State) → IsReached st → (b m : ℕ) → UnheldIn b m st
 reached_unheld = reached_holds (λ st. (b m : ℕ) → UnheldIn b m st) begins (λ st t d r step c b m. unheld_step b m t.size st t.event d r step (c b m))
   where
-    begins : (slots : ℕ) (links : List (Option ℕ)) → are_distinct (linked links) ≡ true → (b m : ℕ) → UnheldIn b m (opening slots links)
+    begins : (slots : ℕ) (links : List (Option ℕ)) → are_distinct (linked_values links) ≡ true → (b m : ℕ) → UnheldIn b m (opening slots links)
     begins slots links distinct b m =
-        let none : of_calls (left b m) (replicate slots no_slot) ≡ 0 = sum_replicate (λ slot. left b m slot.call) slots no_slot refl in
+        let none : of_calls (inserts_left b m) (replicate slots no_slot) ≡ 0 = sum_replicate (λ slot. inserts_left b m slot.call) slots no_slot refl in
         λ some. absurd (omega arith)
 
 -- where a call is about to insert its batch at a slot, that slot neither lists nor walks the batch
 pub tried_unheld : (st : State) (s b won m : ℕ) (later saw queue : List ℕ) → IsReached st → Stands st s (Try b won m later saw) queue → (Lists st m b → ⊥) × (Walks st m b → ⊥)
 tried_unheld st s b won m later saw queue r e = (λ h. omega (arith, some_contained b _ h, none.0), λ h. omega (arith, some_contained b _ h, walk_is b (slot_at st m).call, none.1))
   where
-    some : 1 ≤ of_calls (left b m) st.slots
+    some : 1 ≤ of_calls (inserts_left b m) st.slots
     some =
         let own : one (b == b) ≡ 1 = grind arith in
         let same : (b == b) ≡ true = grind arith in
         let here : one (m == m) ≡ 1 = grind arith in
-        let its : left b m (slot_at st s).call ≡ one (m == m) + occ m later = ap (left b m) e ∙ ap (λ q. if q then one (m == m) + occ m later else 0) same in
-        omega (arith, part-le-sum (λ slot. left b m slot.call) st.slots s no_slot refl)
+        let its : inserts_left b m (slot_at st s).call ≡ one (m == m) + occ m later = ap (inserts_left b m) e ∙ ap (λ q. if q then one (m == m) + occ m later else 0) same in
+        omega (arith, part-le-sum (λ slot. inserts_left b m slot.call) st.slots s no_slot refl)
 
     none : (occ b (waiting_at (head_at st m)) ≡ 0) × (walks b (slot_at st m).call ≡ 0)
     none = reached_unheld st r b m some

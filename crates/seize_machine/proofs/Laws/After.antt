@@ -3,7 +3,7 @@ use Rattle.std.proofs.Common.{◌≡◌, ℕ, zero, suc, ◌<◌, ◌≤◌, tru
 use Rattle.std.specs.List.{slice_get, sum_by}
 use Rattle.std.proofs.lemmas.List.{get_or_past}
 use Rattle.std.proofs.lemmas.List.Sums.{get_or-le-sum_by}
-use Rattle.seize_machine.specs.Machine.State.{no_slot, no_batch, State, head_at, is_active, linked, are_distinct, opening}
+use Rattle.seize_machine.specs.Machine.State.{no_slot, no_batch, State, head_at, is_active, linked_values, are_distinct, opening}
 use Rattle.seize_machine.specs.Machine.Event.{Event, Put}
 use Rattle.seize_machine.specs.Machine.Next.{next}
 use Rattle.seize_machine.specs.Machine.History.{Timed, Moment, handed_value, retired_value, is_swap_out, Reclaimed, Retired, IsActiveAt, HasParted}
@@ -157,5 +157,5 @@ after v (suc c) (t ∷ ts) st i n r = go (later _ st t ts c r.0 r.1) (λ st. aft
 pub none_retired : (v slots : ℕ) (links : List (Option ℕ)) → parts v (opening slots links) ≡ 0
 none_retired v slots links = omega (arith, sum_replicate (slot_keeps v) slots no_slot refl)
 
-pub law_after : (slots : ℕ) (links : List (Option ℕ)) (ts : List Timed) → are_distinct (linked links) ≡ true → After (opening slots links) (run (opening slots links) ts)
+pub law_after : (slots : ℕ) (links : List (Option ℕ)) (ts : List Timed) → are_distinct (linked_values links) ≡ true → After (opening slots links) (run (opening slots links) ts)
 law_after slots links ts distinct v c r = after v c ts (opening slots links) (opening_inv slots links distinct) (none_retired v slots links) r

@@ -1,7 +1,7 @@
 -- The law of at most once: no value is reclaimed twice.
 use Rattle.std.proofs.Common.{◌≡◌, ℕ, zero, suc, ◌≤◌, true, List, [], ◌∷◌, Option, Some, refl, sym, ◌∙◌, ap, arith}
 use Rattle.std.specs.List.{slice_get}
-use Rattle.seize_machine.specs.Machine.State.{State, linked, are_distinct, opening}
+use Rattle.seize_machine.specs.Machine.State.{State, linked_values, are_distinct, opening}
 use Rattle.seize_machine.specs.Machine.Next.{next}
 use Rattle.seize_machine.specs.Machine.History.{Timed, Moment, handed_value, Reclaimed}
 use Rattle.seize_machine.specs.Machine.Laws.{AtMostOnce}
@@ -49,5 +49,5 @@ at_most_once (t ∷ ts) st i v (suc c) (suc d) r q =
     let same : w.0 ≡ u.0 = some_is _ _ (sym w.1 ∙ u.1) in
     ap (λ n. suc n) (at_most_once ts (w.0).0 (inv_step t.size st t.event w.0 (step_of t.size st t.event w.0 w.1) i) v c d (r.0, w.2, r.2) (q.0, rw same u.2, q.2))
 
-pub law_at_most_once : (slots : ℕ) (links : List (Option ℕ)) (ts : List Timed) → are_distinct (linked links) ≡ true → AtMostOnce (opening slots links) (run (opening slots links) ts)
+pub law_at_most_once : (slots : ℕ) (links : List (Option ℕ)) (ts : List Timed) → are_distinct (linked_values links) ≡ true → AtMostOnce (opening slots links) (run (opening slots links) ts)
 law_at_most_once slots links ts distinct = at_most_once ts (opening slots links) (opening_inv slots links distinct)

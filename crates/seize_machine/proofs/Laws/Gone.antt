@@ -1,7 +1,7 @@
 -- The law of what is gone: the values reclaimed are those handed to their reclaimers, in order.
 use Rattle.std.proofs.Common.{◌≡◌, ℕ, true, List, [], ◌∷◌, ◌++◌, append_assoc, append-nil, option_to_list, Option, Some, None, refl, sym, ◌∙◌, ap, subst}
 use Rattle.std.proofs.lemmas.List.Concat.{flat_map-cons}
-use Rattle.seize_machine.specs.Machine.State.{State, linked, are_distinct, opening}
+use Rattle.seize_machine.specs.Machine.State.{State, linked_values, are_distinct, opening}
 use Rattle.seize_machine.specs.Machine.Event.{Event}
 use Rattle.seize_machine.specs.Machine.Next.{Outcome, next}
 use Rattle.seize_machine.specs.Machine.History.{Timed, end_of, answers_of, handed_value, handed}
@@ -29,5 +29,5 @@ gone_of (t ∷ ts) st = go (next t.size st t.event) refl (λ st. gone_of ts st)
         ∙ append_assoc st.gone (option_to_list (handed_value d.1)) more
         ∙ ap (λ (l : List ℕ). st.gone ++ l) (sym (flat_map-cons (λ answer. option_to_list (handed_value answer)) d.1 (answers_of (run d.0 ts))))
 
-pub law_gone : (slots : ℕ) (links : List (Option ℕ)) (ts : List Timed) → are_distinct (linked links) ≡ true → Gone (opening slots links) (run (opening slots links) ts)
+pub law_gone : (slots : ℕ) (links : List (Option ℕ)) (ts : List Timed) → are_distinct (linked_values links) ≡ true → Gone (opening slots links) (run (opening slots links) ts)
 law_gone slots links ts distinct = gone_of ts (opening slots links)

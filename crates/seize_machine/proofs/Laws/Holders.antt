@@ -1,7 +1,7 @@
 -- The law of holders: a retired batch that is not given up is listed, walked, or with the call that detached it.
 use Rattle.std.proofs.Common.{◌≡◌, ℕ, ◌<◌, ◌≤◌, Bool, true, false, ◌==◌, nat_lt, List, length, Option, Some, None, refl, inl, inr, arith}
 use Rattle.std.specs.List.{Contains}
-use Rattle.seize_machine.specs.Machine.State.{no_slot, State, Call, Inactive, Place, Append, Mark, Look, Try, Add, Out, Rest, slot_at, head_at, batch_at, waiting_at, linked, are_distinct, opening}
+use Rattle.seize_machine.specs.Machine.State.{no_slot, State, Call, Inactive, Place, Append, Mark, Look, Try, Add, Out, Rest, slot_at, head_at, batch_at, waiting_at, linked_values, are_distinct, opening}
 use Rattle.seize_machine.specs.Machine.Next.{next}
 use Rattle.seize_machine.specs.Machine.History.{Timed, end_of}
 use Rattle.seize_machine.specs.Machine.Laws.{Holders, IsHeld, walk_of, detached_by}
@@ -62,7 +62,7 @@ held st i b full = go (nat_lt 0 (listed b st.heads)) refl (nat_lt 0 (of_calls (w
         let w : of_calls (walks b) st.slots ≡ 0 = grind arith in
         by_owner (some_part (λ slot. owns b slot.call) st.slots no_slot (omega (arith, c.held full)))
 
-pub law_holders : (slots : ℕ) (links : List (Option ℕ)) (ts : List Timed) → are_distinct (linked links) ≡ true → Holders (opening slots links) (run (opening slots links) ts)
+pub law_holders : (slots : ℕ) (links : List (Option ℕ)) (ts : List Timed) → are_distinct (linked_values links) ≡ true → Holders (opening slots links) (run (opening slots links) ts)
 law_holders slots links ts distinct b v c =
     let within : c.0 < length (batch_at (end_of (opening slots links) (run (opening slots links) ts)) b).values = c.1 in
     held _ (end_inv ts (opening slots links) (opening_inv slots links distinct)) b (omega arith)

@@ -3,7 +3,7 @@ use Rattle.std.proofs.Common.{◌≡◌, ℕ, zero, suc, ◌+◌, ◌<◌, ◌�
 use Rattle.std.specs.Prelude.{option_to_list}
 use Rattle.std.specs.List.{slice_get}
 use Rattle.std.proofs.lemmas.List.Sums.{get_or-le-sum_by}
-use Rattle.seize_machine.specs.Machine.State.{State, head_at, link_at, is_active, linked, are_distinct, opening}
+use Rattle.seize_machine.specs.Machine.State.{State, head_at, link_at, is_active, linked_values, are_distinct, opening}
 use Rattle.seize_machine.specs.Machine.Event.{Event, Put, SwapOut}
 use Rattle.seize_machine.specs.Machine.Next.{Outcome, next, can_link}
 use Rattle.seize_machine.specs.Machine.History.{Timed, Moment, retired_value, linked_value, is_link_event, is_swap_out, Found, Retired, Reclaimed, HasParted}
@@ -119,5 +119,5 @@ between s v (suc e) (suc c) (t ∷ ts) st i f r =
     let w : (d : State × Answer) × (next t.size st t.event ≡ Some d) × (slice_get (run d.0 ts) e ≡ Some f.0) = later _ st t ts e f.0 f.1 in
     between_later s v e c t ts st w.0 w.1 (between s v e c ts (w.0).0 (inv_step t.size st t.event w.0 (step_of t.size st t.event w.0 w.1) i) (f.0, w.2, f.2, f.3) (r.0, after_this st t ts w.0 c r.0 w.1 r.1, r.2))
 
-pub law_protection : (slots : ℕ) (links : List (Option ℕ)) (ts : List Timed) → are_distinct (linked links) ≡ true → Protection (opening slots links) (run (opening slots links) ts)
+pub law_protection : (slots : ℕ) (links : List (Option ℕ)) (ts : List Timed) → are_distinct (linked_values links) ≡ true → Protection (opening slots links) (run (opening slots links) ts)
 law_protection slots links ts distinct s v e c f r = between s v e c ts (opening slots links) (opening_inv slots links distinct) f r

@@ -2,7 +2,7 @@
 use Rattle.std.proofs.Common.{◌≡◌, ℕ, zero, suc, ◌<◌, ◌≤◌, max, Bool, true, false, not, nat_lt, List, [], ◌∷◌, length, get_or, Option, Some, None, is_some, refl, ap, ◌⊎◌, inl, inr, arith}
 use Rattle.std.specs.List.{list_all}
 use Rattle.std.proofs.lemmas.List.Sums.{sum_by-cons}
-use Rattle.seize_machine.specs.Machine.State.{no_slot, no_batch, State, Slot, Call, Head, Inactive, Active, slot_at, batch_at, is_active, waiting_at, linked, are_distinct, opening}
+use Rattle.seize_machine.specs.Machine.State.{no_slot, no_batch, State, Slot, Call, Head, Inactive, Active, slot_at, batch_at, is_active, waiting_at, linked_values, are_distinct, opening}
 use Rattle.seize_machine.specs.Machine.History.{Timed, end_of, Reclaimed}
 use Rattle.seize_machine.specs.Machine.Laws.{Quiet, bound, IsBatched}
 use Rattle.seize_machine.proofs.Steps.Relation.{and_true}
@@ -76,7 +76,7 @@ quiet_state v st i calls heads some = go (given_up v st i calls heads) (nat_lt 0
 below_bound : (size s : ℕ) (st : State) → NoCalls st.slots → Fits (max 1 size) st → length (slot_at st s).batch < bound size st
 below_bound size s st calls fits = rw (idle st.slots calls s) at (fits s)
 
-pub law_quiet : (slots : ℕ) (links : List (Option ℕ)) (ts : List Timed) → are_distinct (linked links) ≡ true → Quiet (opening slots links) (run (opening slots links) ts)
+pub law_quiet : (slots : ℕ) (links : List (Option ℕ)) (ts : List Timed) → are_distinct (linked_values links) ≡ true → Quiet (opening slots links) (run (opening slots links) ts)
 law_quiet slots links ts distinct quiet v q r =
     go (quiet_state v end (end_inv ts st (opening_inv slots links distinct)) both.0 both.1 (if_retired v q ts st r))
   where

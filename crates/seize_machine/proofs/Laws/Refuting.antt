@@ -4,7 +4,7 @@ use Rattle.std.specs.Prelude.{take, drop, slice_get, zero, suc}
 use Rattle.std.specs.List.{Contains, list_any, count_by}
 use Rattle.std.proofs.lemmas.List.{get_or_past}
 use Rattle.std.proofs.lemmas.List.Folds.{list_any_at}
-use Rattle.seize_machine.specs.Machine.State.{State, Slot, no_slot, Inactive, slot_at, head_at, batch_at, waiting_at, has, linked, are_distinct}
+use Rattle.seize_machine.specs.Machine.State.{State, Slot, no_slot, Inactive, slot_at, head_at, batch_at, waiting_at, has, linked_values, are_distinct}
 use Rattle.seize_machine.specs.Machine.History.{Moment, end_of, answers_of, named_by, WasNamed, retired_value, handed_value, handed, is_swap_out, Reclaimed, Retired, Found, IsActiveAt, HasParted}
 use Rattle.seize_machine.specs.Machine.Laws.{AtMostOnce, After, Quiet, is_quiet, bound, PutsWithin, IsBatched, Protection, Whereabouts, places, from_retirement, Gone, Holders, Lists, Walks, added_by, NoLaterHolders, walk_of, detached_by, IsHeld, begins, during, changes_head, is_lost, Tries}
 use Rattle.seize_machine.specs.Machine.Next.{same_list}
@@ -106,11 +106,11 @@ abbrev pub named_ever : ℕ → List Moment → Bool
 named_ever v ms = list_any (λ m. has v (named_by m.timed.event m.answer)) ms
 
 -- a value that was never named is in a place
-pub not_unnamed : (st : State) (ms : List Moment) (v : ℕ) → Contains (places (end_of st ms)) v → has v (linked st.links) ≡ false → named_ever v ms ≡ false → ¬ (Whereabouts st ms)
+pub not_unnamed : (st : State) (ms : List Moment) (v : ℕ) → Contains (places (end_of st ms)) v → has v (linked_values st.links) ≡ false → named_ever v ms ≡ false → ¬ (Whereabouts st ms)
 not_unnamed st ms v stands at_first never law = go ((law.1 v).0 stands)
   where
     go : WasNamed st ms v → ⊥
-    go (inl h) = not_both (has v (linked st.links)) (contained (linked st.links) v h) at_first
+    go (inl h) = not_both (has v (linked_values st.links)) (contained (linked_values st.links) v h) at_first
     go (inr h) =
         not_both (named_ever v ms) (some_moment (λ m. has v (named_by m.timed.event m.answer)) ms h.0 h.1 h.2 (contained (named_by h.1.timed.event h.1.answer) v h.3)) never
 

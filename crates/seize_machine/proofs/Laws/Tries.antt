@@ -3,8 +3,8 @@ use Rattle.std.proofs.Common.{◌≡◌, ◌≢◌, ℕ, ◌+◌, ◌<◌, ◌�
 use Rattle.std.specs.List.{count_by}
 use Rattle.std.proofs.lemmas.List.{get_or-set_same, get_or-set_other, get_or_push}
 use Rattle.std.proofs.lemmas.List.Sums.{sum_by-cons, take_while-cons}
-use Rattle.seize_machine.specs.Machine.State.{no_slot, State, Slot, Call, Head, Inactive, Active, Place, Append, Mark, Look, Try, Add, Out, Rest, slot_at, head_at, is_active, waiting_at, linked, are_distinct, opening}
-use Rattle.seize_machine.specs.Machine.Event.{Event, slot_of}
+use Rattle.seize_machine.specs.Machine.State.{no_slot, State, Slot, Call, Head, Inactive, Active, Place, Append, Mark, Look, Try, Add, Out, Rest, slot_at, head_at, is_active, waiting_at, linked_values, are_distinct, opening}
+use Rattle.seize_machine.specs.Machine.Event.{Event, event_slot}
 use Rattle.seize_machine.specs.Machine.Next.{Outcome, next, look, marked_place, looked, same_list}
 use Rattle.seize_machine.specs.Machine.History.{Timed, Moment}
 use Rattle.seize_machine.specs.Machine.Laws.{Tries, begins, returns, during, same_head, is_lost, changes_head}
@@ -101,7 +101,7 @@ was : (n : ℕ) (head : Head) (st : State) (s : ℕ) (o : Option Call) → (slot
 was n head st s o e = ap (call_stale n head) e
 
 -- an event of the slot itself
-own_step : (n size : ℕ) (st : State) (event : Event) (d : State × Answer) → Step size st event d → one (is_lost (slot_of event) n event) + stale (slot_of event) n d.0 ≤ stale (slot_of event) n st
+own_step : (n size : ℕ) (st : State) (event : Event) (d : State × Answer) → Step size st event d → one (is_lost (event_slot event) n event) + stale (event_slot event) n d.0 ≤ stale (event_slot event) n st
 own_step n size st event _ (Step.took_new s e least) =
     let new : Slot = record { used = true; batch = []; call = None } in
     let fresh : call_stale n (get_or (st.heads ++ Inactive ∷ []) n Inactive) (get_or (st.slots ++ new ∷ []) s no_slot).call ≡ 0 = ap (λ slot. call_stale n (get_or (st.heads ++ Inactive ∷ []) n Inactive) slot.call) (get_or_push st.slots new no_slot s (sym e)) in
@@ -150,7 +150,7 @@ own_step n size st event _ (Step.compared s l exchange e exact) = omega arith
 set_away : (slots : List Slot) (i s : ℕ) (new : Slot) → (i == s) ≡ false → get_or (set slots i new) s no_slot ≡ get_or slots s no_slot
 set_away slots i s new t = let other : s ≢ i = grind arith in get_or-set_other slots i s new no_slot other
 
-other_slot : (s size : ℕ) (st : State) (event : Event) (d : State × Answer) → Step size st event d → (slot_of event == s) ≡ false → slot_at d.0 s ≡ slot_at st s
+other_slot : (s size : ℕ) (st : State) (event : Event) (d : State × Answer) → Step size st event d → (event_slot event == s) ≡ false → slot_at d.0 s ≡ slot_at st s
 other_slot s size st event _ (Step.took_new i e least) t = let other : length st.slots ≢ s = grind arith in get_or_push_other st.slots (record { used = true; batch = []; call = None }) no_slot s other
 other_slot s size st event _ (Step.took_old i r e least) t = set_away st.slots i s _ t
 other_slot s size st event _ (Step.gave i e off) t = set_away st.slots i s _ t
@@ -172,12 +172,12 @@ other_slot s size st event _ (Step.read i l e) t = refl
 other_slot s size st event _ (Step.exchanged i l exchange new e fresh exact) t = refl
 other_slot s size st event _ (Step.compared i l exchange e exact) t = refl
 
-not_lost : (s n size : ℕ) (st : State) (event : Event) (d : State × Answer) → Step size st event d → (slot_of event == s) ≡ false → is_lost s n event ≡ false
+not_lost : (s n size : ℕ) (st : State) (event : Event) (d : State × Answer) → Step size st event d → (event_slot event == s) ≡ false → is_lost s n event ≡ false
 not_lost s n size st event _ (Step.lost i m b won later saw queue e differs) t = ap (λ k. k && (m == n)) t
 not_lost s n size st event _ _ t = refl
 
 -- an event of another slot
-other_step : (s n size : ℕ) (st : State) (event : Event) (d : State × Answer) → Step size st event d → (slot_of event == s) ≡ false
+other_step : (s n size : ℕ) (st : State) (event : Event) (d : State × Answer) → Step size st event d → (event_slot event == s) ≡ false
     → one (is_lost s n event) + stale s n d.0 ≤ one (not (same_head (head_at st n) (head_at d.0 n))) + stale s n st
 other_step s n size st event d step t = go (same_head (head_at st n) (head_at d.0 n)) refl
   where
@@ -195,12 +195,12 @@ other_step s n size st event d step t = go (same_head (head_at st n) (head_at d.
 
 tries_step : (s n : ℕ) (st : State) (t : Timed) (d : State × Answer) → next t.size st t.event ≡ Some d
     → one (is_lost s n t.event) + stale s n d.0 ≤ one (changes_head s n (moment_of st t d)) + stale s n st
-tries_step s n st t d e = go (slot_of t.event == s) refl
+tries_step s n st t d e = go (event_slot t.event == s) refl
   where
     step : Step t.size st t.event d
     step = step_of t.size st t.event d e
 
-    go : (own : Bool) → (slot_of t.event == s) ≡ own → one (is_lost s n t.event) + stale s n d.0 ≤ one (not own && not (same_head (head_at st n) (head_at d.0 n))) + stale s n st
+    go : (own : Bool) → (event_slot t.event == s) ≡ own → one (is_lost s n t.event) + stale s n d.0 ≤ one (not own && not (same_head (head_at st n) (head_at d.0 n))) + stale s n st
     go false k = other_step s n t.size st t.event d step k
     go true k = subst (λ s. one (is_lost s n t.event) + stale s n d.0 ≤ 0 + stale s n st) (eq_true _ _ k) (omega (arith, own_step n t.size st t.event d step))
 
@@ -258,7 +258,7 @@ follows (x ∷ earlier) (t ∷ ts) st m later e = go (next t.size st t.event) e 
     go None e ih = absurd (cc)
     go (Some d) e ih = ih d.0 (cc)
 
-pub law_tries : (slots : ℕ) (links : List (Option ℕ)) (ts : List Timed) → are_distinct (linked links) ≡ true → Tries (opening slots links) (run (opening slots links) ts)
+pub law_tries : (slots : ℕ) (links : List (Option ℕ)) (ts : List Timed) → are_distinct (linked_values links) ≡ true → Tries (opening slots links) (run (opening slots links) ts)
 law_tries slots links ts distinct s n earlier later begin e own =
     let f : Follows begin later = follows earlier ts (opening slots links) begin later e in
     let fresh : stale s n begin.after ≡ 0 = begun_stale s n begin.timed.size begin.before begin.timed.event (begin.after, begin.answer) (step_of begin.timed.size begin.before begin.timed.event _ f.2) own in

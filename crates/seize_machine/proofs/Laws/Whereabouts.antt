@@ -3,7 +3,7 @@ use Rattle.std.proofs.Common.{◌≡◌, ℕ, ◌+◌, ◌≤◌, true, List, []
 use Rattle.std.specs.Prelude.{◌↔◌}
 use Rattle.std.specs.List.{Contains, flat_map}
 use Rattle.std.proofs.lemmas.List.Sums.{sum_by-cons}
-use Rattle.seize_machine.specs.Machine.State.{State, Slot, Call, Place, Append, Mark, Look, Try, Add, Out, Rest, has, linked, are_distinct, opening}
+use Rattle.seize_machine.specs.Machine.State.{State, Slot, Call, Place, Append, Mark, Look, Try, Add, Out, Rest, has, linked_values, are_distinct, opening}
 use Rattle.seize_machine.specs.Machine.History.{Timed, end_of, IsReached, WasNamed, Retired}
 use Rattle.seize_machine.specs.Machine.Laws.{Whereabouts, to_retire, before_retirement, given_up, from_retirement, places as all_places}
 use Rattle.seize_machine.proofs.Counting.Sums.{occ, occ-append, has_some}
@@ -70,7 +70,7 @@ occ-calls v (slot ∷ slots) =
 occ-before : (v : ℕ) (st : State) → occ v (before_retirement st) + kept_in v st.slots ≡ in_slots v st.slots + in_links v st.links + occ v st.loose
 occ-before v st =
     let calls : List ℕ = flat_map (λ slot. to_retire slot.call) st.slots in
-    omega (arith, occ-append v (linked st.links) st.loose, occ-append v (linked st.links ++ st.loose) calls, in_links_is v st.links, occ-calls v st.slots)
+    omega (arith, occ-append v (linked_values st.links) st.loose, occ-append v (linked_values st.links ++ st.loose) calls, in_links_is v st.links, occ-calls v st.slots)
 
 occ-places : (v : ℕ) (st : State) → occ v (all_places st) ≡ places v st
 occ-places v st = omega (arith, occ-append v (before_retirement st) (from_retirement st), occ-before v st, occ-from v st)
@@ -91,7 +91,7 @@ named_placed st r = (distinct_if (all_places st) once, λ v. (named v, placed v)
     placed : (v : ℕ) → has v st.named ≡ true → Contains (all_places st) v
     placed v h = contains_some v (all_places st) (omega (arith, occ-places v st, (stands v).all, has_some v st.named h))
 
-pub law_whereabouts : (slots : ℕ) (links : List (Option ℕ)) (ts : List Timed) → are_distinct (linked links) ≡ true → Whereabouts (opening slots links) (run (opening slots links) ts)
+pub law_whereabouts : (slots : ℕ) (links : List (Option ℕ)) (ts : List Timed) → are_distinct (linked_values links) ≡ true → Whereabouts (opening slots links) (run (opening slots links) ts)
 law_whereabouts slots links ts distinct = (distinct_if (all_places end) once, λ v. (named v, placed v), λ v. (into v, out v))
   where
     st : State

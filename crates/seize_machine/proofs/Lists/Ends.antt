@@ -3,7 +3,7 @@ use Rattle.std.proofs.Common.{◌≡◌, ℕ, zero, suc, ◌+◌, ◌≤◌, max
 use Rattle.std.specs.Prelude.{if◌then◌else◌, ◌==◌, ◌++◌, option_to_list}
 use Rattle.std.specs.List.{Contains, slice_get, list_all}
 use Rattle.std.proofs.lemmas.List.{get_or-replicate, get_or_past, length-replicate}
-use Rattle.seize_machine.specs.Machine.State.{no_slot, State, link_at, has, linked, opening}
+use Rattle.seize_machine.specs.Machine.State.{no_slot, State, link_at, has, linked_values, opening}
 use Rattle.seize_machine.specs.Machine.Event.{Event, Begin, ExchangeLink}
 use Rattle.seize_machine.specs.Machine.Next.{Outcome, next}
 use Rattle.seize_machine.specs.Machine.History.{Timed, Moment, end_of, named_by, WasNamed, retired_value, handed_value, Retired, Reclaimed}
@@ -213,9 +213,9 @@ pub named_if : (v : ℕ) (ts : List Timed) (slots : ℕ) (links : List (Option �
 named_if v ts slots links n = at (in_if v ts (opening slots links) n)
   where
     at : NamedIn v (opening slots links) (run (opening slots links) ts) → WasNamed (opening slots links) (run (opening slots links) ts) v
-    at (inl h) = inl (contains_some v (linked links) h)
+    at (inl h) = inl (contains_some v (linked_values links) h)
     at (inr h) = inr h
 
 pub if_named : (v : ℕ) (ts : List Timed) (slots : ℕ) (links : List (Option ℕ)) → WasNamed (opening slots links) (run (opening slots links) ts) v → 1 ≤ occ v (end_of (opening slots links) (run (opening slots links) ts)).named
-if_named v ts slots links (inl h) = if_in v ts (opening slots links) (inl (some_contained v (linked links) h))
+if_named v ts slots links (inl h) = if_in v ts (opening slots links) (inl (some_contained v (linked_values links) h))
 if_named v ts slots links (inr h) = if_in v ts (opening slots links) (inr h)

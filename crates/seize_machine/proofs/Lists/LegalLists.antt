@@ -3,7 +3,7 @@ use Rattle.std.proofs.Common.{◌≡◌, ℕ, zero, suc, Bool, true, ◌&&◌, L
 use Rattle.std.specs.List.{list_all, slice_get}
 use Rattle.std.proofs.lemmas.List.{map-append}
 use Rattle.std.proofs.lemmas.List.Folds.{list_all-append}
-use Rattle.seize_machine.specs.Machine.State.{State, linked, are_distinct, opening}
+use Rattle.seize_machine.specs.Machine.State.{State, linked_values, are_distinct, opening}
 use Rattle.seize_machine.specs.Machine.Next.{Outcome, Transition, next}
 use Rattle.seize_machine.specs.Machine.History.{Timed, Moment, or_illegal, done_by, history, answers_of, end_of, is_legal, are_legal, Legal}
 use Rattle.seize_machine.specs.Machine.Laws.{HoldsOfAll}
@@ -135,7 +135,7 @@ are_legal-answers (m ∷ ms) = ap (λ (b : Bool). is_legal m.answer && b) (are_l
 
 -- a law holds of all legal lists that holds of the moments before the first illegal event
 pub of_all : (law : State → List Moment → Type 0)
-    → ((slots : ℕ) (links : List (Option ℕ)) (ts : List Timed) → are_distinct (linked links) ≡ true → law (opening slots links) (run (opening slots links) ts)) → HoldsOfAll law
+    → ((slots : ℕ) (links : List (Option ℕ)) (ts : List Timed) → are_distinct (linked_values links) ≡ true → law (opening slots links) (run (opening slots links) ts)) → HoldsOfAll law
 of_all law holds slots links events answers end distinct legal =
     subst (law (opening slots links)) (sym (run_is events (opening slots links) legal.legal)) (holds slots links events distinct)
 

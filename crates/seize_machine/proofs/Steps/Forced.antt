@@ -2,7 +2,7 @@
 use Rattle.std.proofs.Common.{◌≡◌, ◌≢◌, ℕ, ◌<◌, ◌≤◌, true, false, ◌==◌, List, [], ◌∷◌, length, Option, Some, None, refl, sym, ◌∙◌, ap, subst, ◌⊎◌, inl, inr, arith}
 use Rattle.std.proofs.lemmas.List.{get_or_past}
 use Rattle.seize_machine.specs.Machine.State.{no_slot, State, Slot, Call, Active, Place, Append, Mark, Look, Try, Add, Out, Rest, slot_at, head_at}
-use Rattle.seize_machine.specs.Machine.Event.{Event, Put, ReadHead, Detach, Insert, AddCount, SwapOut, SubCount, Hand, Return, slot_of}
+use Rattle.seize_machine.specs.Machine.Event.{Event, Put, ReadHead, Detach, Insert, AddCount, SwapOut, SubCount, Hand, Return, event_slot}
 use Rattle.seize_machine.specs.Machine.Next.{are_fresh}
 use Rattle.seize_machine.specs.Machine.History.{is_link_event}
 use Rattle.seize_machine.specs.declared.machine.event.Try.TheVariants.{Won, Lost}
@@ -42,7 +42,7 @@ put_forced st s v from before after (inr w) = subst (λ (p : Place). Forced st s
 unlinked : {A : Type 0} (i s : ℕ) → i ≡ s → (i == s) ≡ false → A
 unlinked i s same n = absurd (let t : (i == s) ≡ true = grind arith in let c : true ≡ false = sym t ∙ n in cc)
 
-pub forced : (size : ℕ) (st : State) (s : ℕ) (place : Place) (queue : List ℕ) (e : Event) (d : State × Answer) → Step size st e d → slot_of e ≡ s → is_link_event s e ≡ false
+pub forced : (size : ℕ) (st : State) (s : ℕ) (place : Place) (queue : List ℕ) (e : Event) (d : State × Answer) → Step size st e d → event_slot e ≡ s → is_link_event s e ≡ false
     → (slot_at st s).used ≡ true → Stands st s place queue → Forced st s place queue e
 forced size st s place queue e _ (Step.took_new i at least) same apart used now = none st i s place queue same (ap (λ (slot : Slot). slot.call) (get_or_past st.slots i no_slot (omega (arith, at)))) now
 forced size st s place queue e _ (Step.took_old i r free least) same apart used now = absurd (let k : false ≡ true = sym free ∙ ap (λ (k : ℕ). (slot_at st k).used) same ∙ used in cc)

@@ -58,9 +58,9 @@ pub record Sized : Type 0 where
   pub state : State
 
 -- what an event did, by its outcome and the state before and after it
-abbrev pub Does : Outcome → State → State → Answer → Type 0
-Does None old new answer = (new ≡ old) × (answer ≡ Illegal)
-Does (Some done) old new answer = (new ≡ done.0) × (answer ≡ done.1)
+abbrev pub HasOutcome : Outcome → State → State → Answer → Type 0
+HasOutcome None old new answer = (new ≡ old) × (answer ≡ Illegal)
+HasOutcome (Some done) old new answer = (new ≡ done.0) × (answer ≡ done.1)
 
 -- what an event did to its slot alone: whether it was legal, and the slot after it
 abbrev pub DoesSlot : Option Slot → Slot → Slot → Bool → Type 0
@@ -110,15 +110,15 @@ pub record CountsFit (st : State) : Type 0 where
   pub fit : (s : ℕ) → CallCountsFit st (slot_at st s).call
 
 -- the event, at the size of a machine
-abbrev pub timed : Sized → Written → Timed
-timed machine event = record { size = machine.size; event = event_of event }
+abbrev pub timed_event : Sized → Written → Timed
+timed_event machine event = record { size = machine.size; event = event_of event }
 
 -- what an event did to a machine and answered, legal or not
 pub record HasDone (event : Written) (old new : Sized) (answer : Answer) : Type 0 where
   pub size : new.size ≡ old.size
-  pub done : (new.state, answer) ≡ done_by next old.state (timed old event)
+  pub done : (new.state, answer) ≡ done_by next old.state (timed_event old event)
   -- where it is legal, it is a legal list of one event
-  pub legal : is_legal answer ≡ true → Legal next old.state (timed old event ∷ []) (answer ∷ []) new.state
+  pub legal : is_legal answer ≡ true → Legal next old.state (timed_event old event ∷ []) (answer ∷ []) new.state
 
 -- what events did to a machine, in order, and answered
 pub record HasRun (events : List Event) (old new : Sized) (old_answers new_answers : List Answer) : Type 0 where

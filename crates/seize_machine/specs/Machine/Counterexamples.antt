@@ -6,7 +6,7 @@ use Rattle.seize_machine.specs.Machine.State.{Batch, Head, Inactive, Active, Pla
 use Rattle.seize_machine.specs.Machine.Event.{Event, Take, Enter, Begin, Put, ReadHead, Detach, Insert, AddCount, SwapOut, SubCount, Hand, Return, ReadLink, ExchangeLink}
 use Rattle.seize_machine.specs.Machine.Next.{Transition, next_by, scheme, is_empty, is_zero, all_if, look}
 use Rattle.seize_machine.specs.Machine.History.{Timed, at_size}
-use Rattle.seize_machine.specs.Machine.Rows.{detached, left}
+use Rattle.seize_machine.specs.Machine.Rows.{up_to_detach, up_to_leave}
 use Rattle.seize_machine.specs.declared.machine.event.Job.TheVariants.{Retire, Leave, Refresh}
 use Rattle.seize_machine.specs.declared.machine.event.Try.TheVariants.{Won, Lost}
 use Rattle.seize_machine.specs.declared.machine.event.Exchange.TheVariants.{Swap}
@@ -71,7 +71,7 @@ skipped_and_counted = next_by (record scheme { looked = looked_and_counted })
 
 -- Slot 1 leaves before slot 0 inserts, and slot 0 adds 1. At the end 7 is neither reclaimed nor in a slot's batch.
 abbrev pub skipped_and_added : List Event
-skipped_and_added = left ++ ReadHead 0 1 ∷ AddCount 0 ∷ Return 0 ∷ []
+skipped_and_added = up_to_leave ++ ReadHead 0 1 ∷ AddCount 0 ∷ Return 0 ∷ []
 
 -- **One value more.** An attempt asks for one value more than active slots.
 abbrev pub marked_with_one_more : Bool → ℕ → ℕ → List ℕ → List ℕ → Place
@@ -168,7 +168,7 @@ lost_at_any_time = next_by (record scheme { may_lose = λ head saw. true })
 
 -- Slot 0 reads the head of slot 1 and loses the insertion, and no event changed that head during the call.
 abbrev pub lost_alone : List Event
-lost_alone = detached ++ ReadHead 0 1 ∷ Insert 0 1 Lost ∷ []
+lost_alone = up_to_detach ++ ReadHead 0 1 ∷ Insert 0 1 Lost ∷ []
 
 -- **Left in the link.** A link that is exchanged holds what it held.
 abbrev pub left_in_the_link : Transition
@@ -212,7 +212,7 @@ joined_at_entry =
 
 -- Slot 0 inserts its batch at slot 1 and adds, and then becomes active: it lists the batch, which it did not after the add.
 abbrev pub entered_after_add : List Event
-entered_after_add = detached ++ ReadHead 0 1 ∷ Insert 0 1 Won ∷ AddCount 0 ∷ Return 0 ∷ Enter 0 ∷ []
+entered_after_add = up_to_detach ++ ReadHead 0 1 ∷ Insert 0 1 Won ∷ AddCount 0 ∷ Return 0 ∷ Enter 0 ∷ []
 
 -- Slot 0 leaves again, and is to walk the batch, which it neither listed nor walked after the add.
 abbrev pub left_after_add : List Event
@@ -229,7 +229,7 @@ kept_by_a_refresh = next_by (record scheme { left_by = refreshed_head })
 -- Slot 1 lists the batch of slot 0 at its add, and refreshes: it lists the batch still.
 abbrev pub refreshed_after_add : List Event
 refreshed_after_add =
-    detached ++ ReadHead 0 1 ∷ Insert 0 1 Won ∷ AddCount 0 ∷ Return 0 ∷ Begin 1 Refresh ∷ SwapOut 1 ∷ []
+    up_to_detach ++ ReadHead 0 1 ∷ Insert 0 1 Won ∷ AddCount 0 ∷ Return 0 ∷ Begin 1 Refresh ∷ SwapOut 1 ∷ []
 
 -- **Recorded in front.** The value reclaimed last stands first.
 abbrev pub recorded_in_front : Transition

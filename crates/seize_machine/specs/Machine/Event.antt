@@ -34,19 +34,19 @@ pub data Event : Type 0 where
   ExchangeLink : (slot link : ℕ) → (exchange : Exchange) → Event
 
 -- the slot that makes the event
-abbrev pub slot_of : Event → ℕ
-slot_of (Take s) = s
-slot_of (Give s) = s
-slot_of (Enter s) = s
-slot_of (Begin s job) = s
-slot_of (Put s) = s
-slot_of (ReadHead s n) = s
-slot_of (Detach s) = s
-slot_of (Insert s m ends) = s
-slot_of (AddCount s) = s
-slot_of (SwapOut s) = s
-slot_of (SubCount s) = s
-slot_of (Hand s puts) = s
-slot_of (Return s) = s
-slot_of (ReadLink s l) = s
-slot_of (ExchangeLink s l exchange) = s
+abbrev pub event_slot : Event → ℕ
+event_slot (Take s) = s
+event_slot (Give s) = s
+event_slot (Enter s) = s
+event_slot (Begin s job) = s
+event_slot (Put s) = s
+event_slot (ReadHead s n) = s
+event_slot (Detach s) = s
+event_slot (Insert s m ends) = s
+event_slot (AddCount s) = s
+event_slot (SwapOut s) = s
+event_slot (SubCount s) = s
+event_slot (Hand s puts) = s
+event_slot (Return s) = s
+event_slot (ReadLink s l) = s
+event_slot (ExchangeLink s l exchange) = s

@@ -2,7 +2,7 @@
 -- events that don't touch it.
 use Rattle.std.specs.Prelude.{ℕ, ◌==◌, ◌||◌, Bool, true, false, if◌then◌else◌, List, map, length, Option, Some, None}
 use Rattle.seize_machine.specs.Machine.State.{State, slot_at, link_at, has}
-use Rattle.seize_machine.specs.Machine.Event.{Event, Take, Give, Enter, Begin, Detach, Insert, AddCount, SwapOut, SubCount, Hand, ReadLink, ExchangeLink, slot_of}
+use Rattle.seize_machine.specs.Machine.Event.{Event, Take, Give, Enter, Begin, Detach, Insert, AddCount, SwapOut, SubCount, Hand, ReadLink, ExchangeLink, event_slot}
 use Rattle.seize_machine.specs.Machine.Next.{of_call, walking_at, new_link}
 use Rattle.seize_machine.specs.Machine.Laws.{added_batch}
 use Rattle.seize_machine.specs.declared.machine.event.Job.TheVariants.{Retire}
@@ -12,7 +12,7 @@ use Rattle.seize_machine.specs.declared.machine.event.Try.TheVariants.{Won}
 abbrev pub changes_slot : ℕ → Event → Bool
 changes_slot k (ReadLink s l) = false
 changes_slot k (ExchangeLink s l exchange) = false
-changes_slot k event = slot_of event == k
+changes_slot k event = event_slot event == k
 
 -- which numbers are in use
 abbrev pub used : State → List Bool

@@ -1,7 +1,7 @@
 -- Lists of events: what becomes of them, which are legal, and positions in them, counted from 0.
 use Rattle.std.specs.Prelude.{◌≡◌, ℕ, ◌<◌, ◌⊎◌, Bool, true, false, ◌==◌, if◌then◌else◌, List, [], ◌∷◌, map, slice_get, Option, Some, None, option_to_list}
 use Rattle.std.specs.List.{Contains, list_all, flat_map}
-use Rattle.seize_machine.specs.Machine.State.{State, Call, Place, Append, Rest, slot_at, head_at, is_active, linked, are_distinct, opening}
+use Rattle.seize_machine.specs.Machine.State.{State, Call, Place, Append, Rest, slot_at, head_at, is_active, linked_values, are_distinct, opening}
 use Rattle.seize_machine.specs.Machine.Event.{Event, Begin, Put, SwapOut, Hand, ReadLink, ExchangeLink}
 use Rattle.seize_machine.specs.Machine.Next.{Outcome, Transition, next, new_link, is_stored}
 use Rattle.seize_machine.specs.declared.machine.event.Job.TheVariants.{Retire}
@@ -70,17 +70,17 @@ pub record IsReached (st : State) : Type 0 where
   pub links : List (Option ℕ)
   pub events : List Timed
   pub answers : List Answer
-  pub distinct : are_distinct (linked links) ≡ true
+  pub distinct : are_distinct (linked_values links) ≡ true
   pub leads : Legal next (opening slots links) events answers st
 
 -- the value that the slot's call appends to its batch, where it is about to
-abbrev pub first_of : List ℕ → Option ℕ
-first_of [] = None
-first_of (v ∷ vs) = Some v
+abbrev pub first_or_none : List ℕ → Option ℕ
+first_or_none [] = None
+first_or_none (v ∷ vs) = Some v
 
 abbrev pub place_value : Place → List ℕ → Option ℕ
 place_value (Append v) queue = Some v
-place_value (Rest given walk) queue = first_of queue
+place_value (Rest given walk) queue = first_or_none queue
 place_value _ queue = None
 
 abbrev pub call_value : Option Call → Option ℕ
@@ -124,7 +124,7 @@ named_by event answer = []
 -- v was in a link at the opening, or an event named it
 abbrev pub WasNamed : State → List Moment → ℕ → Type 0
 WasNamed st ms v =
-    Contains (linked st.links) v
+    Contains (linked_values st.links) v
     ⊎ ((e : ℕ) × (m : Moment) × (slice_get ms e ≡ Some m) × Contains (named_by m.timed.event m.answer) v)
 
 -- event q retires v: it appends v to a batch

@@ -31,9 +31,9 @@ place_left b s (Look c won m later) = if c == b then one (m == s) + occ s later 
 place_left b s (Try c won m later saw) = if c == b then one (m == s) + occ s later else 0
 place_left b s _ = 0
 
-abbrev pub left : ℕ → ℕ → Option Call → ℕ
-left b s None = 0
-left b s (Some call) = place_left b s call.place
+abbrev pub inserts_left : ℕ → ℕ → Option Call → ℕ
+inserts_left b s None = 0
+inserts_left b s (Some call) = place_left b s call.place
 
 -- a call that reads the heads has still to read that of s, or has marked s
 abbrev pub WillMark : ℕ → Place → Type 0
@@ -46,13 +46,13 @@ Marks s (Some call) = WillMark s call.place
 
 -- **s keeps v back**: s is active; v is neither given up nor reclaimed; a call that reads the heads for a batch with v will mark s
 -- or has; a retired batch with v is in the list of s, or its call has still to insert it there
-pub record Kept (s v : ℕ) (slots : List Slot) (heads : List Head) (batches : List Batch) (gone : List ℕ) : Type 0 where
+pub record KeepsBack (s v : ℕ) (slots : List Slot) (heads : List Head) (batches : List Batch) (gone : List ℕ) : Type 0 where
   pub active : is_active (get_or heads s Inactive) ≡ true
   pub not_given : of_calls (given v) slots ≡ 0
   pub not_gone : occ v gone ≡ 0
   pub marks : (t : ℕ) → 1 ≤ occ v (get_or slots t no_slot).batch → Marks s (get_or slots t no_slot).call
   pub waits : (b : ℕ) → 1 ≤ occ v (get_or batches b no_batch).values
-      → 1 ≤ of_calls (left b s) slots + occ b (waiting_at (get_or heads s Inactive))
+      → 1 ≤ of_calls (inserts_left b s) slots + occ b (waiting_at (get_or heads s Inactive))
 
 abbrev pub KeptIn : ℕ → ℕ → State → Type 0
-KeptIn s v st = Kept s v st.slots st.heads st.batches st.gone
+KeptIn s v st = KeepsBack s v st.slots st.heads st.batches st.gone

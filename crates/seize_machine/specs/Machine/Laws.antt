@@ -2,8 +2,8 @@
 -- of a legal list is a legal list, so what a law says of the end of a list, it says before every event.
 use Rattle.std.specs.Prelude.{◌≡◌, ℕ, ◌<◌, ◌≤◌, ◌↔◌, ◌⊎◌, Bool, true, false, not, ◌&&◌, ◌||◌, ◌==◌, nat_le, max, List, [], ◌∷◌, ◌++◌, length, slice_get, Option, Some, None, is_some}
 use Rattle.std.specs.List.{Contains, list_all, flat_map, count_by, take_while}
-use Rattle.seize_machine.specs.Machine.State.{State, Call, Head, Inactive, Active, Append, Look, Try, Add, Rest, slot_at, head_at, batch_at, is_active, waiting_at, linked, are_distinct, opening}
-use Rattle.seize_machine.specs.Machine.Event.{Event, Begin, Put, Insert, AddCount, Return, slot_of}
+use Rattle.seize_machine.specs.Machine.State.{State, Call, Head, Inactive, Active, Append, Look, Try, Add, Rest, slot_at, head_at, batch_at, is_active, waiting_at, linked_values, are_distinct, opening}
+use Rattle.seize_machine.specs.Machine.Event.{Event, Begin, Put, Insert, AddCount, Return, event_slot}
 use Rattle.seize_machine.specs.Machine.Next.{Transition, next, same_list}
 use Rattle.seize_machine.specs.Machine.History.{Timed, Moment, history, answers_of, end_of, are_legal, Legal, handed, WasNamed, Retired, Reclaimed, Found, IsActiveAt, HasParted}
 use Rattle.seize_machine.specs.declared.machine.event.Answer.{Answer}
@@ -60,7 +60,7 @@ to_retire None = []
 to_retire (Some call) = elim call.place [ Append v ↦ v ∷ call.queue | _ ↦ call.queue ]
 
 abbrev pub before_retirement : State → List ℕ
-before_retirement st = linked st.links ++ st.loose ++ flat_map (λ slot. to_retire slot.call) st.slots
+before_retirement st = linked_values st.links ++ st.loose ++ flat_map (λ slot. to_retire slot.call) st.slots
 
 abbrev pub given_up : Option Call → List ℕ
 given_up None = []
@@ -150,7 +150,7 @@ is_lost s n _ = false
 
 -- an event of another slot than s changed the head of n
 abbrev pub changes_head : ℕ → ℕ → Moment → Bool
-changes_head s n m = not (slot_of m.timed.event == s) && not (same_head (head_at m.before n) (head_at m.after n))
+changes_head s n m = not (event_slot m.timed.event == s) && not (same_head (head_at m.before n) (head_at m.after n))
 
 abbrev pub Tries : State → List Moment → Type 0
 Tries st ms =
@@ -160,12 +160,13 @@ Tries st ms =
 -- What a law is said of: every legal list of events, with any sizes, from every opening state.
 abbrev pub HoldsOfAll : (State → List Moment → Type 0) → Type 0
 HoldsOfAll law =
-    (slots : ℕ) (links : List (Option ℕ)) (events : List Timed) (answers : List Answer) (end : State) → are_distinct (linked links) ≡ true
+    (slots : ℕ) (links : List (Option ℕ)) (events : List Timed) (answers : List Answer) (end : State)
+    → are_distinct (linked_values links) ≡ true
     → Legal next (opening slots links) events answers end → law (opening slots links) (history next (opening slots links) events)
 
 -- A list of events, legal under a transition function from the opening with no slot made and these links, breaks a law.
 abbrev pub Breaks : Transition → List (Option ℕ) → List Timed → (State → List Moment → Type 0) → Type 0
 Breaks transition links events law =
     let start = opening 0 links in
-    (are_distinct (linked links) ≡ true) × (are_legal (history transition start events) ≡ true)
+    (are_distinct (linked_values links) ≡ true) × (are_legal (history transition start events) ≡ true)
     × ¬ (law start (history transition start events))

@@ -85,8 +85,8 @@ own st s answer (Some slot) = Some (set_slot st s slot, answer)
 abbrev pub first_free : List Slot → ℕ
 first_free slots = position_or_len (λ slot. not slot.used) slots
 
-abbrev pub taken : State → ℕ → State
-taken st s =
+abbrev pub after_take : State → ℕ → State
+after_take st s =
     if s == length st.slots
     then record st { slots = st.slots ++ record { used = true; batch = []; call = None } ∷ []; heads = st.heads ++ Inactive ∷ [] }
     else set_slot st s (record (slot_at st s) { used = true })
@@ -195,15 +195,15 @@ abbrev pub detached_on : ℕ → Place → Place
 detached_on b (Mark next note marks) = look b 0 marks
 detached_on b place = place
 
-abbrev pub detached : ℕ → Slot → Slot
-detached b slot = record { used = slot.used; batch = []; call = moved_call (detached_on b) slot.call }
+abbrev pub after_detach : ℕ → Slot → Slot
+after_detach b slot = record { used = slot.used; batch = []; call = moved_call (detached_on b) slot.call }
 
 abbrev pub detach : State → ℕ → Outcome
 detach st s =
     if can_detach (slot_at st s)
     then Some (
       record st {
-        slots = slice_set st.slots s (detached (length st.batches) (slot_at st s));
+        slots = slice_set st.slots s (after_detach (length st.batches) (slot_at st s));
         batches = st.batches ++ record { values = (slot_at st s).batch; count = pos 0 } ∷ [];
       },
       Done,
@@ -246,8 +246,8 @@ slot_lost scheme n head slot =
 
 -- AddCount, SubCount: the batch comes to this count, and what it gives up goes to the slot that counted
 
-abbrev pub counted : Scheme → State → ℕ → ℕ → ℤ → (List ℕ → Place → Place) → Outcome
-counted scheme st s b count goes_on =
+abbrev pub after_count : Scheme → State → ℕ → ℕ → ℤ → (List ℕ → Place → Place) → Outcome
+after_count scheme st s b count goes_on =
     let parts = scheme.settled st count (batch_at st b).values in
     Some (
       record st {
@@ -265,7 +265,7 @@ adding_at _ queue = None
 abbrev pub add_count : Scheme → State → ℕ → Option (ℕ × ℕ) → Outcome
 add_count scheme st s None = None
 add_count scheme st s (Some add) =
-    counted scheme st s add.0 ((batch_at st add.0).count +ℤ pos add.1) (λ given place. Rest given [])
+    after_count scheme st s add.0 ((batch_at st add.0).count +ℤ pos add.1) (λ given place. Rest given [])
 
 -- the batch that is counted down next, with nothing given up that has still to be handed
 abbrev pub walking_at : Place → List ℕ → Option ℕ
@@ -282,7 +282,7 @@ walked_on given place = place
 
 abbrev pub sub_count : Scheme → State → ℕ → Option ℕ → Outcome
 sub_count scheme st s None = None
-sub_count scheme st s (Some b) = counted scheme st s b ((batch_at st b).count -ℤ pos 1) walked_on
+sub_count scheme st s (Some b) = after_count scheme st s b ((batch_at st b).count -ℤ pos 1) walked_on
 
 -- SwapOut: the list that comes out is walked
 
@@ -383,7 +383,7 @@ exchange_link scheme st s l exchange =
 -- The table.
 
 abbrev pub next_by : Scheme → Transition
-next_by scheme size st (Take s) = if (s == first_free st.slots) && nat_lt s all_numbers then Some (taken st s, Done) else None
+next_by scheme size st (Take s) = if (s == first_free st.slots) && nat_lt s all_numbers then Some (after_take st s, Done) else None
 next_by scheme size st (Give s) = if is_outside st s then Some (set_slot st s (record (slot_at st s) { used = false }), Done) else None
 next_by scheme size st (Enter s) = if is_outside st s then Some (scheme.entered st s, Done) else None
 next_by scheme size st (Begin s job) = begin scheme st s job

@@ -12,50 +12,50 @@ use Rattle.seize_machine.specs.declared.machine.event.Answer.{Answer}
 use Rattle.seize_machine.specs.declared.machine.event.Answer.TheVariants.{Done, Head as HeadRead, Count, Handed}
 
 -- slots 0 and 1 are made, slot 1 becomes active, and slot 0 retires 7 and takes its batch, marked for slot 1
-abbrev pub detached : List Event
-detached = Take 0 ∷ Take 1 ∷ Enter 1 ∷ Begin 0 (Retire 7) ∷ Put 0 ∷ ReadHead 0 0 ∷ ReadHead 0 1 ∷ Detach 0 ∷ []
+abbrev pub up_to_detach : List Event
+up_to_detach = Take 0 ∷ Take 1 ∷ Enter 1 ∷ Begin 0 (Retire 7) ∷ Put 0 ∷ ReadHead 0 0 ∷ ReadHead 0 1 ∷ Detach 0 ∷ []
 
-abbrev pub detached_answers : List Answer
-detached_answers = Done ∷ Done ∷ Done ∷ Done ∷ Done ∷ HeadRead false ∷ HeadRead true ∷ Done ∷ []
+abbrev pub up_to_detach_answers : List Answer
+up_to_detach_answers = Done ∷ Done ∷ Done ∷ Done ∷ Done ∷ HeadRead false ∷ HeadRead true ∷ Done ∷ []
 
 -- slot 0 inserts, and slot 1 leaves and counts the batch down to -1
-abbrev pub walked : List Event
-walked = detached ++ ReadHead 0 1 ∷ Insert 0 1 Won ∷ Begin 1 Leave ∷ SwapOut 1 ∷ SubCount 1 ∷ Return 1 ∷ []
+abbrev pub up_to_walk : List Event
+up_to_walk = up_to_detach ++ ReadHead 0 1 ∷ Insert 0 1 Won ∷ Begin 1 Leave ∷ SwapOut 1 ∷ SubCount 1 ∷ Return 1 ∷ []
 
-abbrev pub walked_answers : List Answer
-walked_answers = detached_answers ++ HeadRead true ∷ Done ∷ Done ∷ Done ∷ Count (negsuc 0) ∷ Done ∷ []
+abbrev pub up_to_walk_answers : List Answer
+up_to_walk_answers = up_to_detach_answers ++ HeadRead true ∷ Done ∷ Done ∷ Done ∷ Count (negsuc 0) ∷ Done ∷ []
 
 -- **Walker first.** Slot 1 counts the batch down before slot 0 adds its insertion, and slot 0 hands 7.
 abbrev pub walker_first : List Event
-walker_first = walked ++ AddCount 0 ∷ Hand 0 [] ∷ Return 0 ∷ []
+walker_first = up_to_walk ++ AddCount 0 ∷ Hand 0 [] ∷ Return 0 ∷ []
 
 abbrev pub walker_first_answers : List Answer
-walker_first_answers = walked_answers ++ Count (pos 0) ∷ Handed 7 ∷ Done ∷ []
+walker_first_answers = up_to_walk_answers ++ Count (pos 0) ∷ Handed 7 ∷ Done ∷ []
 
 -- slot 1 leaves before slot 0 inserts
-abbrev pub left : List Event
-left = detached ++ Begin 1 Leave ∷ SwapOut 1 ∷ Return 1 ∷ []
+abbrev pub up_to_leave : List Event
+up_to_leave = up_to_detach ++ Begin 1 Leave ∷ SwapOut 1 ∷ Return 1 ∷ []
 
-abbrev pub left_answers : List Answer
-left_answers = detached_answers ++ Done ∷ Done ∷ Done ∷ []
+abbrev pub up_to_leave_answers : List Answer
+up_to_leave_answers = up_to_detach_answers ++ Done ∷ Done ∷ Done ∷ []
 
 -- **Left before insertion.** Nothing is inserted, and slot 0 hands 7.
 abbrev pub left_before_insertion : List Event
-left_before_insertion = left ++ ReadHead 0 1 ∷ AddCount 0 ∷ Hand 0 [] ∷ Return 0 ∷ []
+left_before_insertion = up_to_leave ++ ReadHead 0 1 ∷ AddCount 0 ∷ Hand 0 [] ∷ Return 0 ∷ []
 
 abbrev pub left_before_insertion_answers : List Answer
-left_before_insertion_answers = left_answers ++ HeadRead false ∷ Count (pos 0) ∷ Handed 7 ∷ Done ∷ []
+left_before_insertion_answers = up_to_leave_answers ++ HeadRead false ∷ Count (pos 0) ∷ Handed 7 ∷ Done ∷ []
 
 -- **Back before insertion.** Slot 1 leaves and enters again before slot 0 inserts: the batch is inserted, and slot 1 hands 7
 -- when it leaves again.
 abbrev pub back_before_insertion : List Event
 back_before_insertion =
-    left ++ Enter 1 ∷ ReadHead 0 1 ∷ Insert 0 1 Won ∷ AddCount 0 ∷ Return 0
+    up_to_leave ++ Enter 1 ∷ ReadHead 0 1 ∷ Insert 0 1 Won ∷ AddCount 0 ∷ Return 0
     ∷ Begin 1 Leave ∷ SwapOut 1 ∷ SubCount 1 ∷ Hand 1 [] ∷ Return 1 ∷ []
 
 abbrev pub back_before_insertion_answers : List Answer
 back_before_insertion_answers =
-    left_answers ++ Done ∷ HeadRead true ∷ Done ∷ Count (pos 1) ∷ Done
+    up_to_leave_answers ++ Done ∷ HeadRead true ∷ Done ∷ Count (pos 1) ∷ Done
     ∷ Done ∷ Done ∷ Count (pos 0) ∷ Handed 7 ∷ Done ∷ []
 
 -- of three slots, slot s retires v and takes its batch, marked for slot 1
@@ -88,18 +88,18 @@ two_insertions_answers =
 
 -- slot 2 is made and becomes active before slot 0 adds its insertion
 abbrev pub added_beside_active : List Event
-added_beside_active = walked ++ Take 2 ∷ Enter 2 ∷ AddCount 0 ∷ []
+added_beside_active = up_to_walk ++ Take 2 ∷ Enter 2 ∷ AddCount 0 ∷ []
 
 -- **Entered before the add.** The count is as without slot 2, and slot 0 hands 7 while slot 2 is active.
 abbrev pub entered_before_add : List Event
 entered_before_add = added_beside_active ++ Hand 0 [] ∷ Return 0 ∷ []
 
 abbrev pub entered_before_add_answers : List Answer
-entered_before_add_answers = walked_answers ++ Done ∷ Done ∷ Count (pos 0) ∷ Handed 7 ∷ Done ∷ []
+entered_before_add_answers = up_to_walk_answers ++ Done ∷ Done ∷ Count (pos 0) ∷ Handed 7 ∷ Done ∷ []
 
 -- the history of some events at size 1, from the opening with no slot made
-abbrev pub run : List Event → List Moment
-run events = history next (opening 0 []) (at_size 1 events)
+abbrev pub history_of : List Event → List Moment
+history_of events = history next (opening 0 []) (at_size 1 events)
 
 -- whether an event is illegal before each moment of a run, and after the last
 abbrev pub is_illegal_throughout : Event → List Moment → Bool

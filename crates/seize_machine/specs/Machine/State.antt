@@ -93,8 +93,8 @@ are_distinct [] = true
 are_distinct (v ∷ vs) = not (has v vs) && are_distinct vs
 
 -- the values in the links
-abbrev pub linked : List (Option ℕ) → List ℕ
-linked links = flat_map option_to_list links
+abbrev pub linked_values : List (Option ℕ) → List ℕ
+linked_values links = flat_map option_to_list links
 
 -- an opening state: slots made before, all free, inactive and with empty batches; links that are empty or hold distinct
 -- values; nothing retired
@@ -107,5 +107,5 @@ opening slots links =
       links = links;
       loose = [];
       gone = [];
-      named = linked links;
+      named = linked_values links;
     }

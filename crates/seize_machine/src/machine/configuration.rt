@@ -5,7 +5,7 @@ ghost use Rattle.seize_machine.specs.Machine.State as state;
 ghost use Rattle.seize_machine.specs.Machine.Event as event;
 ghost use Rattle.seize_machine.specs.Machine.Next.{scheme, next, first_free, is_outside, with_named, is_none_or_fresh, swapped};
 ghost use Rattle.seize_machine.specs.Machine.Laws.{is_quiet};
-ghost use Rattle.seize_machine.specs.Machine.Code.{Does, CountsFit, head_view, event_of};
+ghost use Rattle.seize_machine.specs.Machine.Code.{HasOutcome, CountsFit, head_view, event_of};
 
 use super::batch::Batch;
 use super::event::{Answer, Event, Exchange, Job, Try};
@@ -103,7 +103,7 @@ fn are_distinct(values: &[u64]) -> bool
 impl Configuration {
     /// The opening state with no slot made and these links.
     pub(super) fn new(alloc: Global, links: Vec<Option<u64>>) -> Configuration
-        requires { state.linked links.items ≡ [] }
+        requires { state.linked_values links.items ≡ [] }
         ensures { result ≡ state.opening 0 links.items }
     {
         Configuration {
@@ -152,7 +152,7 @@ impl Configuration {
 
     /// The number is taken.
     fn take(&mut self, s: usize) -> Result<Answer, AllocError>
-        ensures step { IfOk result (λ answer. Does (next 0 self.old (event.Take s)) self.old self.new answer) }
+        ensures step { IfOk result (λ answer. HasOutcome (next 0 self.old (event.Take s)) self.old self.new answer) }
         ensures err { OnErr result (self.new ≡ self.old) }
     {
         if s != first_free(&self.slots) || s >= NUMBERS {
@@ -171,7 +171,7 @@ impl Configuration {
 
     /// The number is given back.
     fn give(&mut self, s: usize) -> Answer
-        ensures { Does (next 0 self.old (event.Give s)) self.old self.new result }
+        ensures { HasOutcome (next 0 self.old (event.Give s)) self.old self.new result }
     {
         if !self.is_outside(s) {
             return Answer::Illegal;
@@ -182,7 +182,7 @@ impl Configuration {
 
     /// The slot becomes active.
     fn enter(&mut self, s: usize) -> Answer
-        ensures { Does (next 0 self.old (event.Enter s)) self.old self.new result }
+        ensures { HasOutcome (next 0 self.old (event.Enter s)) self.old self.new result }
     {
         if !self.is_outside(s) {
             return Answer::Illegal;
@@ -193,7 +193,7 @@ impl Configuration {
 
     /// The value in turn is retired.
     fn put(&mut self, size: usize, s: usize) -> Result<Answer, AllocError>
-        ensures step { IfOk result (λ answer. Does (next size self.old (event.Put s)) self.old self.new answer) }
+        ensures step { IfOk result (λ answer. HasOutcome (next size self.old (event.Put s)) self.old self.new answer) }
         ensures err { OnErr result (self.new ≡ self.old) }
     {
         let count = self.slots.len();
@@ -205,7 +205,7 @@ impl Configuration {
 
     /// A call begins.
     fn begin(&mut self, s: usize, job: Job) -> Result<Answer, AllocError>
-        ensures step { IfOk result (λ answer. Does (next 0 self.old (event.Begin s job)) self.old self.new answer) }
+        ensures step { IfOk result (λ answer. HasOutcome (next 0 self.old (event.Begin s job)) self.old self.new answer) }
         ensures err { OnErr result (self.new ≡ self.old) }
     {
         if s >= self.slots.len() || !self.slots[s].is_idle() {
@@ -221,7 +221,7 @@ impl Configuration {
 
     fn begin_retire(&mut self, s: usize, value: u64) -> Result<Answer, AllocError>
         requires { IsTrue (state.is_idle (state.slot_at self.old s)) }
-        ensures step { IfOk result (λ answer. Does (next 0 self.old (event.Begin s (Job.Retire value))) self.old self.new answer) }
+        ensures step { IfOk result (λ answer. HasOutcome (next 0 self.old (event.Begin s (Job.Retire value))) self.old self.new answer) }
         ensures err { OnErr result (self.new ≡ self.old) }
     {
         if self.named.contains(&value) && !self.loose.contains(&value) {
@@ -246,7 +246,7 @@ impl Configuration {
 
     fn begin_flush(&mut self, s: usize) -> Answer
         requires { IsTrue (state.is_idle (state.slot_at self.old s)) }
-        ensures { Does (next 0 self.old (event.Begin s Job.Flush)) self.old self.new result }
+        ensures { HasOutcome (next 0 self.old (event.Begin s Job.Flush)) self.old self.new result }
     {
         if !self.active(s) {
             return Answer::Illegal;
@@ -262,7 +262,7 @@ impl Configuration {
 
     fn begin_out(&mut self, s: usize, stays: bool) -> Answer
         requires { IsTrue (state.is_idle (state.slot_at self.old s)) }
-        ensures { Does (next 0 self.old (event.Begin s (if stays then Job.Refresh else Job.Leave))) self.old self.new result }
+        ensures { HasOutcome (next 0 self.old (event.Begin s (if stays then Job.Refresh else Job.Leave))) self.old self.new result }
     {
         if !self.active(s) {
             return Answer::Illegal;
@@ -273,7 +273,7 @@ impl Configuration {
 
     /// The head of slot `n` is read.
     fn read_head(&mut self, s: usize, n: usize) -> Result<Answer, AllocError>
-        ensures step { IfOk result (λ answer. Does (next 0 self.old (event.ReadHead s n)) self.old self.new answer) }
+        ensures step { IfOk result (λ answer. HasOutcome (next 0 self.old (event.ReadHead s n)) self.old self.new answer) }
         ensures err { OnErr result (self.new ≡ self.old) }
     {
         let count = self.slots.len();
@@ -304,7 +304,7 @@ impl Configuration {
 
     /// The batch is taken from the slot.
     fn detach(&mut self, s: usize) -> Result<Answer, AllocError>
-        ensures step { IfOk result (λ answer. Does (next 0 self.old (event.Detach s)) self.old self.new answer) }
+        ensures step { IfOk result (λ answer. HasOutcome (next 0 self.old (event.Detach s)) self.old self.new answer) }
         ensures err { OnErr result (self.new ≡ self.old) }
     {
         if s >= self.slots.len() || !self.slots[s].can_detach() {
@@ -320,7 +320,7 @@ impl Configuration {
     /// The insertion is won.
     fn insert_won(&mut self, s: usize, m: usize) -> Result<Answer, AllocError>
         requires { CountsFit self.old }
-        ensures step { IfOk result (λ answer. Does (next 0 self.old (event.Insert s m Try.Won)) self.old self.new answer) }
+        ensures step { IfOk result (λ answer. HasOutcome (next 0 self.old (event.Insert s m Try.Won)) self.old self.new answer) }
         ensures err { OnErr result (self.new ≡ self.old) }
     {
         if s >= self.slots.len() || m >= self.heads.len() {
@@ -338,7 +338,7 @@ impl Configuration {
 
     /// The insertion is lost.
     fn insert_lost(&mut self, s: usize, m: usize) -> Answer
-        ensures { Does (next 0 self.old (event.Insert s m Try.Lost)) self.old self.new result }
+        ensures { HasOutcome (next 0 self.old (event.Insert s m Try.Lost)) self.old self.new result }
     {
         if s >= self.slots.len() {
             return Answer::Illegal;
@@ -352,7 +352,7 @@ impl Configuration {
 
     /// The slot's list is swapped out.
     fn swap_out(&mut self, s: usize) -> Answer
-        ensures { Does (next 0 self.old (event.SwapOut s)) self.old self.new result }
+        ensures { HasOutcome (next 0 self.old (event.SwapOut s)) self.old self.new result }
     {
         if s >= self.slots.len() {
             return Answer::Illegal;
@@ -373,7 +373,7 @@ impl Configuration {
     /// The insertions won are added to the batch's count.
     fn add_count(&mut self, s: usize) -> Answer
         requires { CountsFit self.old }
-        ensures { Does (next 0 self.old (event.AddCount s)) self.old self.new result }
+        ensures { HasOutcome (next 0 self.old (event.AddCount s)) self.old self.new result }
     {
         if s >= self.slots.len() {
             return Answer::Illegal;
@@ -390,7 +390,7 @@ impl Configuration {
     /// One batch of the walk is counted down.
     fn sub_count(&mut self, s: usize) -> Answer
         requires { CountsFit self.old }
-        ensures { Does (next 0 self.old (event.SubCount s)) self.old self.new result }
+        ensures { HasOutcome (next 0 self.old (event.SubCount s)) self.old self.new result }
     {
         if s >= self.slots.len() {
             return Answer::Illegal;
@@ -406,7 +406,7 @@ impl Configuration {
 
     /// The first given-up value goes to its reclaimer, which puts these values.
     fn hand(&mut self, s: usize, puts: &[u64]) -> Result<Answer, AllocError>
-        ensures step { IfOk result (λ answer. Does (next 0 self.old (event.Hand s puts.now)) self.old self.new answer) }
+        ensures step { IfOk result (λ answer. HasOutcome (next 0 self.old (event.Hand s puts.now)) self.old self.new answer) }
         ensures err { OnErr result (self.new ≡ self.old) }
     {
         if s >= self.slots.len() {
@@ -429,7 +429,7 @@ impl Configuration {
 
     /// The call is over.
     fn finish(&mut self, s: usize) -> Answer
-        ensures { Does (next 0 self.old (event.Return s)) self.old self.new result }
+        ensures { HasOutcome (next 0 self.old (event.Return s)) self.old self.new result }
     {
         if s < self.slots.len() && self.slots[s].finish() {
             Answer::Done
@@ -440,7 +440,7 @@ impl Configuration {
 
     /// The link is read.
     fn read_link(&self, s: usize, l: usize) -> Answer
-        ensures { Does (next 0 self.now (event.ReadLink s l)) self.now self.now result }
+        ensures { HasOutcome (next 0 self.now (event.ReadLink s l)) self.now self.now result }
     {
         if !self.active(s) || l >= self.links.len() {
             return Answer::Illegal;
@@ -455,7 +455,7 @@ impl Configuration {
         l: usize,
         exchange: Exchange,
     ) -> Result<Answer, AllocError>
-        ensures step { IfOk result (λ answer. Does (next 0 self.old (event.ExchangeLink s l exchange)) self.old self.new answer) }
+        ensures step { IfOk result (λ answer. HasOutcome (next 0 self.old (event.ExchangeLink s l exchange)) self.old self.new answer) }
         ensures err { OnErr result (self.new ≡ self.old) }
     {
         let new = match exchange {
@@ -505,7 +505,7 @@ impl Configuration {
     /// The event, at a batch size.
     pub(super) fn step(&mut self, size: usize, event: &Event) -> Result<Answer, AllocError>
         requires { CountsFit self.old }
-        ensures step { IfOk result (λ answer. Does (next size self.old (event_of event.now)) self.old self.new answer) }
+        ensures step { IfOk result (λ answer. HasOutcome (next size self.old (event_of event.now)) self.old self.new answer) }
         ensures err { OnErr result (self.new ≡ self.old) }
     {
         match event {

@@ -1,7 +1,7 @@
 //! A slot: its batch and its call under way.
 ghost use Rattle.std.specs.Prelude.{◌≡◌, IfOk, OnOk, OnErr, [], true, false, not, is_some, unwrap_or};
 ghost use Rattle.seize_machine.specs.Machine.State as state;
-ghost use Rattle.seize_machine.specs.Machine.Next.{scheme, is_empty, look, of_call, moved, begun_at, slot_put, slot_mark, looking_at, looked_on, can_detach, detached, detached_on, trying_at, won_on, slot_lost, can_lose_at, lost_on, adding_at, leaving_at, walking_at, walked_on, handing_at, slot_handed, slot_return};
+ghost use Rattle.seize_machine.specs.Machine.Next.{scheme, is_empty, look, of_call, moved, begun_at, slot_put, slot_mark, looking_at, looked_on, can_detach, after_detach, detached_on, trying_at, won_on, slot_lost, can_lose_at, lost_on, adding_at, leaving_at, walking_at, walked_on, handing_at, slot_handed, slot_return};
 ghost use Rattle.seize_machine.specs.Machine.Code.{slot_view, place_view, head_view, CanWin, CanWinAt, DoesSlot};
 
 use super::head::Head;
@@ -366,7 +366,7 @@ impl Slot {
     /// The batch is taken from the slot, as retired batch `number`.
     pub(super) fn detach(&mut self, alloc: Global, number: usize) -> VecDeque<u64>
         ensures batch { result.items ≡ self.old.batch }
-        ensures rest { self.new ≡ detached number self.old }
+        ensures rest { self.new ≡ after_detach number self.old }
     {
         if let Some(call) = &mut self.call {
             call.place = call.take_place().detached(number);

@@ -5,7 +5,7 @@ ghost use Rattle.seize_machine.specs.Machine.State.{opening, head_at, is_active}
 ghost use Rattle.seize_machine.specs.Machine.Event.{Give};
 ghost use Rattle.seize_machine.specs.Machine.History.{at_size, end_of, answers_of};
 ghost use Rattle.seize_machine.specs.Machine.Laws.{AtMostOnce, After, Quiet, Protection, Whereabouts, Gone, Holders, NoLaterHolders, Tries, Breaks};
-ghost use Rattle.seize_machine.specs.Machine.Rows.{run, walker_first, walker_first_answers, left_before_insertion, left_before_insertion_answers, back_before_insertion, back_before_insertion_answers, two_insertions, two_insertions_answers, added_beside_active, entered_before_add, entered_before_add_answers, is_illegal_throughout};
+ghost use Rattle.seize_machine.specs.Machine.Rows.{history_of, walker_first, walker_first_answers, left_before_insertion, left_before_insertion_answers, back_before_insertion, back_before_insertion_answers, two_insertions, two_insertions_answers, added_beside_active, entered_before_add, entered_before_add_answers, is_illegal_throughout};
 ghost use Rattle.seize_machine.specs.Machine.Schedules.{retire_first, retire_first_answers, left_before_put, left_before_put_answers, left_before_attempt, left_before_attempt_answers, second_finishes_first, second_finishes_first_answers, left_before_both, left_before_both_answers};
 ghost use Rattle.seize_machine.specs.Machine.Counterexamples.{nothing_given_up, retired_alone, given_up_unless_active, given_up_below_zero, counted_down_early, given_up_and_kept, counted_alone, handed_twice, given_up_and_forgotten, skipped_and_counted, skipped_and_added, one_value_more, retired_at_a_smaller_size, rest_passed_over, retired_beside_two, number_passed_over, read_last_alone, given_up_when_full, found_and_retired, fixed_note, made_before_put, retired_again, retired_twice, given_up_unretired, begun_alone, handed_alone, lost_at_any_time, lost_alone, left_in_the_link, found_after_its_retirement, taken_out, out_and_forgotten, another_stored, joined_at_entry, entered_after_add, left_after_add, kept_by_a_refresh, refreshed_after_add, recorded_in_front, handed_in_order};
 
@@ -14,26 +14,26 @@ ghost use Rattle.seize_machine.specs.Machine.Counterexamples.{nothing_given_up, 
 /// A slot that becomes active before an add neither changes the count nor keeps the batch. A number that was never taken is
 /// not given back at any time of a run.
 pub fn rows()
-    ensures walker_first_gives { answers_of (run walker_first) ≡ walker_first_answers }
-    ensures left_before_insertion_gives { answers_of (run left_before_insertion) ≡ left_before_insertion_answers }
-    ensures back_before_insertion_gives { answers_of (run back_before_insertion) ≡ back_before_insertion_answers }
-    ensures two_insertions_gives { answers_of (run two_insertions) ≡ two_insertions_answers }
-    ensures entered_before_add_gives { answers_of (run entered_before_add) ≡ entered_before_add_answers }
-    ensures active_at_hand { is_active (head_at (end_of (opening 0 []) (run added_beside_active)) 2) ≡ true }
-    ensures illegal_in_walker_first { is_illegal_throughout (Give 9) (run walker_first) ≡ true }
-    ensures illegal_in_left_before_insertion { is_illegal_throughout (Give 9) (run left_before_insertion) ≡ true }
-    ensures illegal_in_back_before_insertion { is_illegal_throughout (Give 9) (run back_before_insertion) ≡ true }
-    ensures illegal_in_two_insertions { is_illegal_throughout (Give 9) (run two_insertions) ≡ true }
+    ensures walker_first_gives { answers_of (history_of walker_first) ≡ walker_first_answers }
+    ensures left_before_insertion_gives { answers_of (history_of left_before_insertion) ≡ left_before_insertion_answers }
+    ensures back_before_insertion_gives { answers_of (history_of back_before_insertion) ≡ back_before_insertion_answers }
+    ensures two_insertions_gives { answers_of (history_of two_insertions) ≡ two_insertions_answers }
+    ensures entered_before_add_gives { answers_of (history_of entered_before_add) ≡ entered_before_add_answers }
+    ensures active_at_hand { is_active (head_at (end_of (opening 0 []) (history_of added_beside_active)) 2) ≡ true }
+    ensures illegal_in_walker_first { is_illegal_throughout (Give 9) (history_of walker_first) ≡ true }
+    ensures illegal_in_left_before_insertion { is_illegal_throughout (Give 9) (history_of left_before_insertion) ≡ true }
+    ensures illegal_in_back_before_insertion { is_illegal_throughout (Give 9) (history_of back_before_insertion) ≡ true }
+    ensures illegal_in_two_insertions { is_illegal_throughout (Give 9) (history_of two_insertions) ≡ true }
 {}
 
 /// The answers where the events of the same calls come in other orders: the calls of `walker_first`, a retirement beside an
 /// active slot that leaves, in three orders more, and those of `two_insertions` in two orders more.
 pub fn schedules()
-    ensures retire_first_gives { answers_of (run retire_first) ≡ retire_first_answers }
-    ensures left_before_put_gives { answers_of (run left_before_put) ≡ left_before_put_answers }
-    ensures left_before_attempt_gives { answers_of (run left_before_attempt) ≡ left_before_attempt_answers }
-    ensures second_finishes_first_gives { answers_of (run second_finishes_first) ≡ second_finishes_first_answers }
-    ensures left_before_both_gives { answers_of (run left_before_both) ≡ left_before_both_answers }
+    ensures retire_first_gives { answers_of (history_of retire_first) ≡ retire_first_answers }
+    ensures left_before_put_gives { answers_of (history_of left_before_put) ≡ left_before_put_answers }
+    ensures left_before_attempt_gives { answers_of (history_of left_before_attempt) ≡ left_before_attempt_answers }
+    ensures second_finishes_first_gives { answers_of (history_of second_finishes_first) ≡ second_finishes_first_answers }
+    ensures left_before_both_gives { answers_of (history_of left_before_both) ≡ left_before_both_answers }
 {}
 
 /// Machines that are wrong in one thing each, and a list of events, legal under each, on which it breaks a law. Each of the laws is

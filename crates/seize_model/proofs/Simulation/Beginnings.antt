@@ -13,11 +13,11 @@ use Rattle.seize_machine.specs.declared.machine.event.Answer.TheVariants.{Done}
 use Rattle.seize_table.specs.declared.refusal.Refusal.{Refusal}
 use Rattle.seize_model.specs.Waiting.State as waiting
 use Rattle.seize_model.specs.Waiting.State.{slot_at}
-use Rattle.seize_model.specs.Waiting.Attempt.{Outcome}
+use Rattle.seize_model.specs.Waiting.Attempt.{StateAndGone}
 use Rattle.seize_model.specs.Waiting.Calls.{unless, is_free}
 use Rattle.seize_model.specs.Waiting.Lists.{Call, Reply, Refused, Effect, reply}
 use Rattle.seize_model.specs.Waiting.Lists as calls
-use Rattle.seize_model.specs.Agreement.Shows.{Shows, ShowsReclaimers, head_of}
+use Rattle.seize_model.specs.Agreement.Shows.{ShowsReclaimers, ShowsState, head_of}
 use Rattle.seize_model.specs.Agreement.Play.{play, with_answer}
 use Rattle.seize_model.specs.Agreement.Events.{IsJob, MakesFor, IsNamed, NamesOwn, ArePutBy}
 use Rattle.seize_model.specs.Agreement.Statement.{IsReply, IsOutcome, EachList}
@@ -104,8 +104,8 @@ near_at_rest of st ms s n used = subst (λ (k : State). NearAt of [] st k) (is_a
 pub head_is : {T R X : Type 0} (of : Naming T R X) (st : waiting.State T R) (slots : List Slot) (heads : List Head) (batches : List machine.Batch) (links : List (Option ℕ)) (walk : List ℕ) (s : ℕ) → Near of walk st slots heads batches links → get_or heads s Inactive ≡ head_of (slot_at st s)
 head_is of st slots heads batches links walk s n = ap (λ (l : List Head). get_or l s Inactive) n.heads_are ∙ get_or-map head_of st.slots s waiting.no_slot
 
-pub head_active : {T R : Type 0} (slot : waiting.Slot T R) → is_active (head_of slot) ≡ waiting.is_active slot
-head_active {T} {R} slot = go (waiting.is_active slot)
+pub head_active : {T R : Type 0} (slot : waiting.Slot T R) → is_active (head_of slot) ≡ waiting.has_guard slot
+head_active {T} {R} slot = go (waiting.has_guard slot)
   where
     go : (t : Bool) → is_active (if t then Active slot.order else Inactive) ≡ t
     go true = refl
@@ -114,7 +114,7 @@ head_active {T} {R} slot = go (waiting.is_active slot)
 -- Jobs, from their beginning to their return.
 
 -- where a job ends, and what it handed
-pub record JobEnds {T R X : Type 0} (of : Naming T R X) (s guards : ℕ) (o : Outcome T R) (later : State) (answers : List Answer) : Type 0 where
+pub record JobEnds {T R X : Type 0} (of : Naming T R X) (s guards : ℕ) (o : StateAndGone T R) (later : State) (answers : List Answer) : Type 0 where
   pub base : State
   pub batch : List ℕ
   pub is : later ≡ at_rest base s batch
@@ -124,7 +124,7 @@ pub record JobEnds {T R X : Type 0} (of : Naming T R X) (s guards : ℕ) (o : Ou
   pub same_guards : (slot_at o.0 s).guards ≡ guards
 
 -- a run of a job
-pub record JobRun {T R X : Type 0} (puts : R → T → List T) (of : Naming T R X) (size s guards : ℕ) (j : Job) (before : State) (o : Outcome T R) : Type 0 where
+pub record JobRun {T R X : Type 0} (puts : R → T → List T) (of : Naming T R X) (size s guards : ℕ) (j : Job) (before : State) (o : StateAndGone T R) : Type 0 where
   pub events : List Event
   pub answers : List Answer
   pub later : State
@@ -133,7 +133,7 @@ pub record JobRun {T R X : Type 0} (puts : R → T → List T) (of : Naming T R 
   pub ends : JobEnds of s guards o later answers
   pub put : ArePutFor puts of events answers
 
-pub job_run : {T R X : Type 0} (puts : R → T → List T) (of : Naming T R X) (size s guards : ℕ) (j : Job) (before start : State) (o : Outcome T R) → next size before (Begin s j) ≡ Some (start, Done)
+pub job_run : {T R X : Type 0} (puts : R → T → List T) (of : Naming T R X) (size s guards : ℕ) (j : Job) (before start : State) (o : StateAndGone T R) → next size before (Begin s j) ≡ Some (start, Done)
     → Ends of (λ st hs. Leads puts of size s start hs st) size s guards [] o → JobRun puts of size s guards j before o
 job_run puts of size s guards j before start o begin ends =
     let run : Returns puts of size s start ends.handed (at_rest ends.base s ends.batch) = to_return puts of size s start ends.handed _ (at_rest ends.base s ends.batch) (return_step size ends.base s ends.batch ends.within) ends.comes in
@@ -156,7 +156,7 @@ job_run puts of size s guards j before start o begin ends =
     }
 
 -- each list of a job
-pub job_list : {T R : Type 0} (puts : R → T → List T) (of : ℕ → T) (by : ℕ → R) (size s guards : ℕ) (j : Job) (before start later : State) (o : Outcome T R) (events : List Event) (answers : List Answer) → next size before (Begin s j) ≡ Some (start, Done)
+pub job_list : {T R : Type 0} (puts : R → T → List T) (of : ℕ → T) (by : ℕ → R) (size s guards : ℕ) (j : Job) (before start later : State) (o : StateAndGone T R) (events : List Event) (answers : List Answer) → next size before (Begin s j) ≡ Some (start, Done)
     → IsJob s j events → play size before events ≡ Some (later, answers) → ArePutBy puts of by events answers
     → (Left puts of by size s later (handed answers) start [] → Ends (with_reclaimers of by) (Left puts of by size s later (handed answers)) size s guards [] o)
     → JobEnds (with_reclaimers of by) s guards o later answers
@@ -210,7 +210,7 @@ pub record Run {T R X : Type 0} (puts : R → T → List T) (of : Naming T R X) 
   pub reply : IsReply call events answers told.0
   pub put : ArePutFor puts of events answers
 
-pub run_of : {T R X : Type 0} (puts : R → T → List T) (of : Naming T R X) (call : Call T R) (st : waiting.State T R) (before : State) (size s guards : ℕ) (j : Job) (told : Reply T) (o : Outcome T R) → st.size ≡ size
+pub run_of : {T R X : Type 0} (puts : R → T → List T) (of : Naming T R X) (call : Call T R) (st : waiting.State T R) (before : State) (size s guards : ℕ) (j : Job) (told : Reply T) (o : StateAndGone T R) → st.size ≡ size
     → (run : JobRun puts of size s guards j before o) → MakesFor told st before call run.events → NamesOwn of.link call run.events → StartsFor of call run.events → IsReply call run.events run.answers told → Run puts of call st before (told, o)
 run_of puts of call st before size s guards j told o same run makes names starts r = record {
   events = run.events;
@@ -226,13 +226,13 @@ run_of puts of call st before size s guards j told o same run makes names starts
   put = run.put;
 }
 
-pub outcome_of : {T R : Type 0} (of : ℕ → T) (by : ℕ → R) (call : Call T R) (told : Reply T) (o : Outcome T R) (events : List Event) (answers : List Answer) (later : State)
+pub outcome_of : {T R : Type 0} (of : ℕ → T) (by : ℕ → R) (call : Call T R) (told : Reply T) (o : StateAndGone T R) (events : List Event) (answers : List Answer) (later : State)
     → NearAt (with_reclaimers of by) [] o.0 later → Denote (with_reclaimers of by) (handed answers) o.1 → IsReply call events answers told → IsOutcome T R of by call (told, o) events answers later
 outcome_of {T} {R} of by call told o events answers later near gone r =
-    let both : Shows T R of o.0 later × ShowsReclaimers T R of by o.0 later = shows_with of by o.0 later near in
+    let both : ShowsState T R of o.0 later × ShowsReclaimers T R of by o.0 later = shows_with of by o.0 later near in
     record { shows = both.0; reclaimers = both.1; gone = stand_of of by (handed answers) o.1 gone; reply = r }
 
-pub job_outcome : {T R : Type 0} (of : ℕ → T) (by : ℕ → R) (call : Call T R) (s guards : ℕ) (told : Reply T) (o : Outcome T R) (events : List Event) (answers : List Answer) (later : State)
+pub job_outcome : {T R : Type 0} (of : ℕ → T) (by : ℕ → R) (call : Call T R) (s guards : ℕ) (told : Reply T) (o : StateAndGone T R) (events : List Event) (answers : List Answer) (later : State)
     → JobEnds (with_reclaimers of by) s guards o later answers → IsReply call events answers told → IsOutcome T R of by call (told, o) events answers later
 job_outcome of by call s guards told o events answers later d r =
     outcome_of of by call told o events answers later (subst (λ (k : State). NearAt (with_reclaimers of by) [] o.0 k) (sym d.is) d.near) d.gone r
@@ -305,12 +305,12 @@ one_list {T} {R} of by call size before end e answer told after events answers l
     (ap (λ (hs : List ℕ). map {B = T × R} (λ n. (of n, by n)) hs) none) r))
 
 -- a refused call has no events
-pub run_unless : {A T R X : Type 0} (puts : R → T → List T) (of : Naming T R X) (call : Call T R) (st : waiting.State T R) (before : State) (f : A → Reply T) (back : Option T) (refusal : Option Refusal) (a : A) (o : Outcome T R) → NearAt of [] st before
+pub run_unless : {A T R X : Type 0} (puts : R → T → List T) (of : Naming T R X) (call : Call T R) (st : waiting.State T R) (before : State) (f : A → Reply T) (back : Option T) (refusal : Option Refusal) (a : A) (o : StateAndGone T R) → NearAt of [] st before
     → (refusal ≡ None → Run puts of call st before (f a, o)) → Run puts of call st before (reply f back (unless refusal st (Ok a, o)))
 run_unless puts of call st before f back None a o n on = on refl
 run_unless puts of call st before f back (Some r) a o n on = no_events puts of call st before (Refused r back) st n refl refl
 
-pub list_unless : {A T R : Type 0} (puts : R → T → List T) (of : ℕ → T) (by : ℕ → R) (call : Call T R) (st : waiting.State T R) (before : State) (f : A → Reply T) (back : Option T) (refusal : Option Refusal) (a : A) (o : Outcome T R) → NearAt (with_reclaimers of by) [] st before
+pub list_unless : {A T R : Type 0} (puts : R → T → List T) (of : ℕ → T) (by : ℕ → R) (call : Call T R) (st : waiting.State T R) (before : State) (f : A → Reply T) (back : Option T) (refusal : Option Refusal) (a : A) (o : StateAndGone T R) → NearAt (with_reclaimers of by) [] st before
     → (refusal ≡ None → EachList puts of by call st before (f a, o)) → EachList puts of by call st before (reply f back (unless refusal st (Ok a, o)))
 list_unless puts of by call st before f back None a o n on = on refl
 list_unless puts of by call st before f back (Some r) a o n on = λ events answers later makes legal names with put.

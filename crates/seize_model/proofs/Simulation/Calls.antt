@@ -10,7 +10,7 @@ use Rattle.seize_model.specs.Waiting.State as waiting
 use Rattle.seize_model.specs.Waiting.Calls.{link_at}
 use Rattle.seize_model.specs.Waiting.Further.{put_by, Lighter}
 use Rattle.seize_model.specs.Waiting.Lists.{Call, Register, EnterOwned, Enter, Leave, End, Refresh, Flush, Retire, Protect, Swap, step}
-use Rattle.seize_model.specs.Agreement.Shows.{Shows}
+use Rattle.seize_model.specs.Agreement.Shows.{ShowsState}
 use Rattle.seize_machine.specs.Machine.History.{handed}
 use Rattle.seize_model.specs.Agreement.Events.{IsRetiredWith, RetiresWith, IsPutBy, ArePutBy}
 use Rattle.seize_model.specs.Agreement.Statement.{HasNames, HasNamesFor, HasLink, IsHeldFor, HoldsFor, IsRun, Agreement, AgreementWith, EachList, AgreementOnLists}
@@ -61,7 +61,7 @@ held_for {T} {R} of before (Swap s l new r) = go (machine.link_at before l)
 held_for of before call = tt
 
 pub agrees_where : {T R : Type 0} (puts : R → T → List T) (weight : T → ℕ) (of : ℕ → T) (P : T × R → Type 0) → Lighter puts weight → Names puts (contents of) P → (st : waiting.State T R) (before : machine.State) (call : Call T R) → HasLink st call
-    → Holds T R P st → HoldsOwn P st call → Shows T R of st before → IsRun T R of call st before (step puts weight st call)
+    → Holds T R P st → HoldsOwn P st call → ShowsState T R of st before → IsRun T R of call st before (step puts weight st call)
 agrees_where puts weight of P lighter names st before call link holds own shows =
     let run : Run puts (contents of) call st before (step puts weight st call) = runs_where puts weight (contents of) P lighter names st before call link holds own (held_for of before call) (near_of of st before shows) in
     record {

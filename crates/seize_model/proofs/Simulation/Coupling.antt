@@ -6,7 +6,7 @@ use Rattle.std.proofs.Math.Seq.{map-set_same}
 use Rattle.seize_machine.specs.Machine.State as machine
 use Rattle.seize_machine.specs.Machine.State.{Head, Batch, has, no_batch, are_distinct}
 use Rattle.seize_model.specs.Waiting.State as waiting
-use Rattle.seize_model.specs.Waiting.State.{keeps, retired_at}
+use Rattle.seize_model.specs.Waiting.State.{retired_at, waits_for}
 use Rattle.seize_model.specs.Waiting.Calls.{is_free, is_owned}
 use Rattle.seize_model.specs.Agreement.Shows.{held_value, head_of}
 use Rattle.seize_machine.proofs.Facts.{one, occ, has_none, has_some, distinct_once}
@@ -31,7 +31,7 @@ pub record CoupledSlot {T R X : Type 0} (of : Naming T R X) (slot : waiting.Slot
   pub batch : Denote of shown.batch slot.batch
   pub free : is_free slot.kind ≡ true → slot.guards ≡ 0
   pub owned : is_owned slot.kind ≡ true → slot.guards ≤ 1
-  pub inactive : waiting.is_active slot ≡ false → slot.order ≡ []
+  pub inactive : waiting.has_guard slot ≡ false → slot.order ≡ []
   pub once : machine.are_distinct slot.order ≡ true
 
 pub record Near {T R X : Type 0} (of : Naming T R X) (walk : List ℕ) (st : waiting.State T R) (slots : List machine.Slot) (heads : List Head) (batches : List Batch) (links : List (Option ℕ)) : Type 0 where
@@ -41,7 +41,7 @@ pub record Near {T R X : Type 0} (of : Naming T R X) (walk : List ℕ) (st : wai
   pub heads_are : heads ≡ map head_of st.slots
   pub retired : length batches ≡ length st.retired
   pub values : (b : ℕ) → Denote of (get_or batches b no_batch).values (retired_at st b)
-  pub counts : (b : ℕ) → (get_or batches b no_batch).count ≡ pos (count_by (keeps b) st.slots + occ b walk)
+  pub counts : (b : ℕ) → (get_or batches b no_batch).count ≡ pos (count_by (waits_for b) st.slots + occ b walk)
   pub links_are : map (held_value of.link) links ≡ st.links
 
 abbrev pub NearAt : {T R X : Type 0} → Naming T R X → List ℕ → waiting.State T R → machine.State → Type 0
@@ -75,7 +75,7 @@ near_set of walk st slots heads batches links s new shown n h now head order = r
   heads_are = n.heads_are ∙ sym (map-set_same head_of st.slots s new waiting.no_slot head);
   retired = n.retired;
   values = n.values;
-  counts = λ b. n.counts b ∙ ap (λ (k : ℕ). pos (k + occ b walk)) (sym (count_same (keeps b) st.slots s new waiting.no_slot (ap (λ (l : List ℕ). list_any (λ x. x == b) l) order)));
+  counts = λ b. n.counts b ∙ ap (λ (k : ℕ). pos (k + occ b walk)) (sym (count_same (waits_for b) st.slots s new waiting.no_slot (ap (λ (l : List ℕ). list_any (λ x. x == b) l) order)));
   links_are = n.links_are;
 }
 
@@ -91,10 +91,10 @@ near_out of st slots heads batches links s new shown n h now order = record {
   retired = n.retired;
   values = n.values;
   counts = λ b.
-      let none : keeps b new ≡ false = ap (λ (l : List ℕ). list_any (λ x. x == b) l) order in
-      let less : count_by (keeps b) (set st.slots s new) + one (keeps b (waiting.slot_at st s)) ≡ count_by (keeps b) st.slots = count_less (keeps b) st.slots s new waiting.no_slot h none in
-      let own : occ b (waiting.slot_at st s).order ≡ one (keeps b (waiting.slot_at st s)) = once_counts b (waiting.slot_at st s).order (n.slot s).once in
-      let all : count_by (keeps b) st.slots + occ b [] ≡ count_by (keeps b) (set st.slots s new) + occ b (waiting.slot_at st s).order = omega arith in
+      let none : waits_for b new ≡ false = ap (λ (l : List ℕ). list_any (λ x. x == b) l) order in
+      let less : count_by (waits_for b) (set st.slots s new) + one (waits_for b (waiting.slot_at st s)) ≡ count_by (waits_for b) st.slots = count_less (waits_for b) st.slots s new waiting.no_slot h none in
+      let own : occ b (waiting.slot_at st s).order ≡ one (waits_for b (waiting.slot_at st s)) = once_counts b (waiting.slot_at st s).order (n.slot s).once in
+      let all : count_by (waits_for b) st.slots + occ b [] ≡ count_by (waits_for b) (set st.slots s new) + occ b (waiting.slot_at st s).order = omega arith in
       n.counts b ∙ ap (λ (k : ℕ). pos k) all;
   links_are = n.links_are;
 }

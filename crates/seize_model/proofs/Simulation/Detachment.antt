@@ -9,7 +9,7 @@ use Rattle.std.proofs.Math.Seq.{get_or-append_seam}
 use Rattle.seize_machine.specs.Machine.State as machine
 use Rattle.seize_machine.specs.Machine.State.{Head, Inactive, Active, Batch, no_batch, are_distinct}
 use Rattle.seize_model.specs.Waiting.State as waiting
-use Rattle.seize_model.specs.Waiting.State.{keeps, slot_at}
+use Rattle.seize_model.specs.Waiting.State.{slot_at, waits_for}
 use Rattle.seize_model.specs.Waiting.Attempt.{wait_if_active}
 use Rattle.seize_model.specs.Agreement.Shows.{head_of}
 use Rattle.seize_model.proofs.Simulation.Attempts.{actives, with_front}
@@ -19,18 +19,18 @@ use Rattle.seize_model.proofs.Cases.{or_same}
 use Rattle.seize_model.proofs.WaitingSets.Orders.{by_active, new_count, old_count}
 
 waits_head : {T R : Type 0} (b : ℕ) (slot : waiting.Slot T R) → head_of (wait_if_active b slot) ≡ with_front b (head_of slot)
-waits_head {T} {R} b slot = go (waiting.is_active slot) refl
+waits_head {T} {R} b slot = go (waiting.has_guard slot) refl
   where
-    go : (t : Bool) → waiting.is_active slot ≡ t → head_of (if t then record slot { order = b ∷ slot.order } else slot) ≡ with_front b (head_of slot)
+    go : (t : Bool) → waiting.has_guard slot ≡ t → head_of (if t then record slot { order = b ∷ slot.order } else slot) ≡ with_front b (head_of slot)
     go true e = ap (λ (t : Bool). if t then Active (b ∷ slot.order) else Inactive) e ∙ sym (ap (λ (t : Bool). with_front b (if t then Active slot.order else Inactive)) e)
     go false e = ap (λ (t : Bool). if t then Active slot.order else Inactive) e ∙ sym (ap (λ (t : Bool). with_front b (if t then Active slot.order else Inactive)) e)
 
-pub actives_count : {T R : Type 0} (n : ℕ) (xs : List (waiting.Slot T R)) → length (actives n (map head_of xs)) ≡ count_by waiting.is_active xs
+pub actives_count : {T R : Type 0} (n : ℕ) (xs : List (waiting.Slot T R)) → length (actives n (map head_of xs)) ≡ count_by waiting.has_guard xs
 actives_count n [] = refl
-actives_count {T} {R} n (x ∷ xs) = go (waiting.is_active x) refl (actives_count (n + 1) xs)
+actives_count {T} {R} n (x ∷ xs) = go (waiting.has_guard x) refl (actives_count (n + 1) xs)
   where
-    go : (t : Bool) → waiting.is_active x ≡ t → length (actives (n + 1) (map head_of xs)) ≡ count_by waiting.is_active xs
-        → length (actives n ((if t then Active x.order else Inactive) ∷ map head_of xs)) ≡ count_by waiting.is_active (x ∷ xs)
+    go : (t : Bool) → waiting.has_guard x ≡ t → length (actives (n + 1) (map head_of xs)) ≡ count_by waiting.has_guard xs
+        → length (actives n ((if t then Active x.order else Inactive) ∷ map head_of xs)) ≡ count_by waiting.has_guard (x ∷ xs)
     go true e more = grind (arith, common_steps)
     go false e more = grind (arith, common_steps)
 
@@ -38,7 +38,7 @@ heads_wait : {T R : Type 0} (b : ℕ) (xs : List (waiting.Slot T R)) → map (wi
 heads_wait b [] = refl
 heads_wait b (x ∷ xs) = ap (λ (h : Head). h ∷ map (with_front b) (map head_of xs)) (sym (waits_head b x)) ∙ ap (λ (hs : List Head). head_of (wait_if_active b x) ∷ hs) (heads_wait b xs)
 
-slot_waits : {T R X : Type 0} (of : Naming T R X) (b : ℕ) (slot : waiting.Slot T R) (shown : machine.Slot) → keeps b slot ≡ false → CoupledSlot of slot shown → CoupledSlot of (wait_if_active b slot) shown
+slot_waits : {T R X : Type 0} (of : Naming T R X) (b : ℕ) (slot : waiting.Slot T R) (shown : machine.Slot) → waits_for b slot ≡ false → CoupledSlot of slot shown → CoupledSlot of (wait_if_active b slot) shown
 slot_waits {T} {R} of b slot shown none h =
     by_active (λ x t. CoupledSlot of x shown) b slot (λ e. record {
       used = h.used;
@@ -56,15 +56,15 @@ waiting_more st values = record st { slots = map (wait_if_active (length st.reti
 
 -- no batch that was never retired waits for a slot
 unmade : {T R X : Type 0} (of : Naming T R X) (st : waiting.State T R) (slots : List machine.Slot) (heads : List Head) (batches : List Batch) (links : List (Option ℕ)) → Near of [] st slots heads batches links
-    → count_by (keeps (length st.retired)) st.slots ≡ 0
+    → count_by (waits_for (length st.retired)) st.slots ≡ 0
 unmade of st slots heads batches links n =
     let past : get_or batches (length st.retired) no_batch ≡ no_batch = get_or_past batches (length st.retired) no_batch (omega (arith, n.retired)) in
-    let zero_is : pos 0 ≡ pos (count_by (keeps (length st.retired)) st.slots + 0) = sym (ap (λ (k : Batch). k.count) past) ∙ n.counts (length st.retired) in
+    let zero_is : pos 0 ≡ pos (count_by (waits_for (length st.retired)) st.slots + 0) = sym (ap (λ (k : Batch). k.count) past) ∙ n.counts (length st.retired) in
     omega (arith, ints)
 
 pub near_waits : {T R X : Type 0} (of : Naming T R X) (numbers : List ℕ) (values : List (T × R)) (st : waiting.State T R) (slots : List machine.Slot) (heads : List Head) (batches : List Batch) (links : List (Option ℕ))
     → Near of [] st slots heads batches links → Denote of numbers values
-    → (count_by (keeps (length st.retired)) (waiting_more st values).slots ≡ length (actives 0 heads))
+    → (count_by (waits_for (length st.retired)) (waiting_more st values).slots ≡ length (actives 0 heads))
     × Near of [] (waiting_more st values) slots (map (with_front (length st.retired)) heads) (batches ++ record { values = numbers; count = pos (length (actives 0 heads)) } ∷ []) links
 near_waits {T} {R} of numbers values st slots heads batches links n stand = (
   won,
@@ -72,7 +72,7 @@ near_waits {T} {R} of numbers values st slots heads batches links n stand = (
     numbers = rw (length-map st.slots (wait_if_active b)) n.numbers;
     as_many = n.as_many ∙ sym (length-map st.slots (wait_if_active b));
     slot = λ s. subst (λ x. CoupledSlot of x (get_or slots s machine.no_slot)) (sym (get_or-map (wait_if_active b) st.slots s waiting.no_slot))
-        (slot_waits of b (slot_at st s) (get_or slots s machine.no_slot) (none_passes (keeps b) st.slots s waiting.no_slot none refl) (n.slot s));
+        (slot_waits of b (slot_at st s) (get_or slots s machine.no_slot) (none_passes (waits_for b) st.slots s waiting.no_slot none refl) (n.slot s));
     heads_are = ap (λ (l : List Head). map (with_front b) l) n.heads_are ∙ heads_wait b st.slots;
     retired = length-append batches (new ∷ []) ∙ ap (λ (k : ℕ). k + 1) n.retired ∙ sym (length-append st.retired (values ∷ []));
     values = λ i. values_at i (or_same i b);
@@ -84,13 +84,13 @@ near_waits {T} {R} of numbers values st slots heads batches links n stand = (
     b : ℕ
     b = length st.retired
 
-    none : count_by (keeps (length st.retired)) st.slots ≡ 0
+    none : count_by (waits_for (length st.retired)) st.slots ≡ 0
     none = unmade of st slots heads batches links n
 
     new : Batch
     new = record { values = numbers; count = pos (length (actives 0 heads)) }
 
-    won : count_by (keeps (length st.retired)) (waiting_more st values).slots ≡ length (actives 0 heads)
+    won : count_by (waits_for (length st.retired)) (waiting_more st values).slots ≡ length (actives 0 heads)
     won = new_count (length st.retired) st.slots (unmade of st slots heads batches links n) ∙ sym (ap (λ (l : List Head). length (actives 0 l)) n.heads_are ∙ actives_count 0 st.slots)
 
     values_at : (i : ℕ) → (i ≡ length st.retired) ⊎ (i ≢ length st.retired)
@@ -105,10 +105,10 @@ near_waits {T} {R} of numbers values st slots heads batches links n stand = (
         subst (λ (k : Batch). Denote of k.values (get_or (st.retired ++ values ∷ []) i [])) (sym x) (subst (λ (k : List (T × R)). Denote of (get_or batches i no_batch).values k) (sym y) (n.values i))
 
     counts_at : (i : ℕ) → (i ≡ length st.retired) ⊎ (i ≢ length st.retired)
-        → (get_or (batches ++ record { values = numbers; count = pos (length (actives 0 heads)) } ∷ []) i no_batch).count ≡ pos (count_by (keeps i) (map (wait_if_active (length st.retired)) st.slots) + 0)
+        → (get_or (batches ++ record { values = numbers; count = pos (length (actives 0 heads)) } ∷ []) i no_batch).count ≡ pos (count_by (waits_for i) (map (wait_if_active (length st.retired)) st.slots) + 0)
     counts_at i (inl is) =
         let x : get_or (batches ++ record { values = numbers; count = pos (length (actives 0 heads)) } ∷ []) i no_batch ≡ record { values = numbers; count = pos (length (actives 0 heads)) } = rw (is, ← n.retired) (get_or-append_seam batches _ [] no_batch) in
-        let w : length (actives 0 heads) ≡ count_by (keeps i) (map (wait_if_active (length st.retired)) st.slots) = rw is (sym won) in
+        let w : length (actives 0 heads) ≡ count_by (waits_for i) (map (wait_if_active (length st.retired)) st.slots) = rw is (sym won) in
         ap (λ (k : Batch). k.count) x ∙ ap (λ (k : ℕ). pos k) (omega arith)
     counts_at i (inr other) =
         let x : get_or (batches ++ record { values = numbers; count = pos (length (actives 0 heads)) } ∷ []) i no_batch ≡ get_or batches i no_batch = beside batches _ no_batch i (rw n.retired other) in

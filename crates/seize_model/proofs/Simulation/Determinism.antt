@@ -2,7 +2,7 @@
 use Rattle.std.proofs.Common.{◌≡◌, ℕ, ◌<◌, ◌≤◌, Bool, true, false, List, [], ◌∷◌, length, Some, ◌∙◌, ap, ◌⊎◌, inl, inr, arith}
 use Rattle.std.proofs.lemmas.List.{length-set}
 use Rattle.seize_machine.specs.Machine.State.{State, Slot, Active, Place, Append, Mark, Look, Try, Add, Out, Rest, head_at}
-use Rattle.seize_machine.specs.Machine.Event.{Event, Put, ReadHead, Detach, Insert, AddCount, SwapOut, SubCount, Hand, Return, slot_of}
+use Rattle.seize_machine.specs.Machine.Event.{Event, Put, ReadHead, Detach, Insert, AddCount, SwapOut, SubCount, Hand, Return, event_slot}
 use Rattle.seize_machine.specs.Machine.Next.{next, are_fresh}
 use Rattle.seize_machine.specs.Machine.History.{is_link_event}
 use Rattle.seize_machine.specs.declared.machine.event.Try.TheVariants.{Won}
@@ -12,11 +12,11 @@ use Rattle.seize_model.proofs.Simulation.Events.{busy, busy_slot, there, stands}
 
 -- no event of slot s but this one, and but those of links, is legal
 abbrev pub Only : ℕ → ℕ → State → Event → Type 0
-Only size s st e = (other : Event) (d : State × Answer) → slot_of other ≡ s → is_link_event s other ≡ false → next size st other ≡ Some d → other ≡ e
+Only size s st e = (other : Event) (d : State × Answer) → event_slot other ≡ s → is_link_event s other ≡ false → next size st other ≡ Some d → other ≡ e
 
 -- what is forced where the call of s stands so
 at : (size : ℕ) (base : State) (s : ℕ) (batch : List ℕ) (place : Place) (queue : List ℕ) → s < length base.slots → (e : Event) (d : State × Answer)
-    → slot_of e ≡ s → is_link_event s e ≡ false → next size (busy base s batch place queue) e ≡ Some d → Forced (busy base s batch place queue) s place queue e
+    → event_slot e ≡ s → is_link_event s e ≡ false → next size (busy base s batch place queue) e ≡ Some d → Forced (busy base s batch place queue) s place queue e
 at size base s batch place queue h e d own apart legal =
     let st : State = busy base s batch place queue in
     forced size st s place queue e d (step_of size st e d legal) own apart (ap (λ (slot : Slot). slot.used) (there base s (busy_slot batch place queue) h)) (stands base s batch place queue h)
@@ -86,6 +86,6 @@ only_insert size base s b won m batch later saw queue h head_is other d own apar
 
 -- A value that was given up is handed, with what its reclaimer puts.
 pub only_hand : (size : ℕ) (base : State) (s v : ℕ) (batch given walk queue : List ℕ) → s < length base.slots
-    → (other : Event) (d : State × Answer) → slot_of other ≡ s → is_link_event s other ≡ false → next size (busy base s batch (Rest (v ∷ given) walk) queue) other ≡ Some d
+    → (other : Event) (d : State × Answer) → event_slot other ≡ s → is_link_event s other ≡ false → next size (busy base s batch (Rest (v ∷ given) walk) queue) other ≡ Some d
     → (ns : List ℕ) × (other ≡ Hand s ns) × (are_fresh base.named ns ≡ true)
 only_hand size base s v batch given walk queue h other d own apart legal = at size base s batch (Rest (v ∷ given) walk) queue h other d own apart legal

@@ -13,10 +13,10 @@ use Rattle.seize_machine.proofs.Facts.{swapped as link_swapped, if_some, and_tru
 use Rattle.seize_model.specs.Waiting.State as waiting
 use Rattle.seize_model.specs.Waiting.Calls as calls
 use Rattle.seize_model.specs.Waiting.Calls.{no_guard, unless, link_at}
-use Rattle.seize_model.specs.Agreement.Shows.{held_value, Shows, ShowsReclaimers}
+use Rattle.seize_model.specs.Agreement.Shows.{held_value, ShowsState, ShowsReclaimers}
 use Rattle.seize_model.specs.Agreement.Play.{play}
 use Rattle.seize_model.specs.Agreement.Statement.{HasNames}
-use Rattle.seize_model.specs.Agreement.Links.{read_events, ReadAgreement, exchange_events, IsFound, IsExchanged, ExchangeAgreement, ExchangeOnLists}
+use Rattle.seize_model.specs.Agreement.Links.{read_events, ReadAgreement, exchange_events, IsFoundInLink, IsExchanged, ExchangeAgreement, ExchangeOnLists}
 use Rattle.seize_model.proofs.Simulation.Coupling.{Naming, NearAt}
 use Rattle.seize_model.proofs.Simulation.Views.{contents, with_reclaimers, near_of, near_with, shows_of, shows_with}
 use Rattle.seize_model.proofs.Simulation.Plays.{play_first, play_none, First, first_of}
@@ -35,7 +35,7 @@ pub each_read : {T : Type 0} (R : Type 0) (of : ℕ → T) → ReadAgreement R o
 each_read {T} R of st before s l h shows = go (no_guard st s) refl
   where
     go : (refusal : Option Refusal) → no_guard st s ≡ refusal
-        → (let told = unless {A = Option T} {T = T} {R = R} refusal st (Ok (link_at st l), (st, [])) in (answers : List Answer) × (play st.size before (read_events told.0 s l) ≡ Some (before, answers)) × IsFound of told.0 answers)
+        → (let told = unless {A = Option T} {T = T} {R = R} refusal st (Ok (link_at st l), (st, [])) in (answers : List Answer) × (play st.size before (read_events told.0 s l) ≡ Some (before, answers)) × IsFoundInLink of told.0 answers)
     go None e =
         let n : NearAt (contents of) [] st before = near_of of st before shows in (
           Link (machine.link_at before l) ∷ [],
@@ -89,9 +89,9 @@ each_exchange {T} {R} of by st before later s l new n answers h shows reclaimers
         let first : First st.size before (ExchangeLink s l (SwapLink n)) [] later answers = first_of st.size before (ExchangeLink s l (SwapLink n)) [] later answers with_answer in
         let fresh : is_none_or_fresh before n ≡ true = (and_true (machine_next.can_link before s l) _ (if_some (machine_next.can_link before s l && is_none_or_fresh before n) _ _ first.step).0).1 in
         let ends : OneEvent _ _ later answers = one_of st.size before (link_swapped before l n) (ExchangeLink s l (SwapLink n)) (Link (machine.link_at before l)) later answers (swaps (with_reclaimers of by) st before s l n near (guard_of st s e).1 h fresh) with_answer in
-        let both : Shows T R of (record st { links = set st.links l new }) later × ShowsReclaimers T R of by (record st { links = set st.links l new }) later
+        let both : ShowsState T R of (record st { links = set st.links l new }) later × ShowsReclaimers T R of by (record st { links = set st.links l new }) later
         = shows_with of by (record st { links = set st.links l new }) later (subst (λ (k : State). NearAt (with_reclaimers of by) [] (record st { links = set st.links l new }) k) (sym ends.0) (swapped_near (with_reclaimers of by) st before l n new near names)) in
         (record { shows = both.0; found = (machine.link_at before l, ends.1, found_link (with_reclaimers of by) st before l near) }, both.1)
     go (Some r) e with_answer =
         let none : (later ≡ before) × (answers ≡ []) = play_none st.size before later answers with_answer in
-        (record { shows = subst (λ (k : State). Shows T R of st k) (sym none.0) shows; found = none.1 }, subst (λ (k : State). ShowsReclaimers T R of by st k) (sym none.0) reclaimers)
+        (record { shows = subst (λ (k : State). ShowsState T R of st k) (sym none.0) shows; found = none.1 }, subst (λ (k : State). ShowsReclaimers T R of by st k) (sym none.0) reclaimers)

@@ -13,10 +13,10 @@ use Rattle.seize_table.specs.declared.refusal.Refusal.{Refusal}
 use Rattle.seize_table.specs.declared.refusal.Refusal.TheVariants.{NotInUse, WrongKind}
 use Rattle.seize_model.specs.Waiting.State as waiting
 use Rattle.seize_model.specs.Waiting.State.{slot_at, set_slot}
-use Rattle.seize_model.specs.Waiting.Attempt.{Outcome, release_all, part}
+use Rattle.seize_model.specs.Waiting.Attempt.{StateAndGone, release_all, part}
 use Rattle.seize_model.specs.Waiting.Further.{with_further, Lighter}
-use Rattle.seize_model.specs.Waiting.Calls.{first, no_guard, not_registered, too_many, is_free, is_owned, one_guard_less, with_number_free, with_number_free_if, set_guards}
-use Rattle.seize_model.specs.Waiting.Lists.{Leave, Enter, Done, done, step}
+use Rattle.seize_model.specs.Waiting.Calls.{first_refusal, no_guard, not_registered, too_many, is_free, is_owned, one_guard_less, with_number_free, with_number_free_if, set_guards}
+use Rattle.seize_model.specs.Waiting.Lists.{Leave, Enter, Done, done_reply, step}
 use Rattle.seize_model.specs.Agreement.Shows.{head_of}
 use Rattle.seize_model.specs.Agreement.Play.{play}
 use Rattle.seize_machine.specs.Machine.History.{handed}
@@ -53,7 +53,7 @@ guards_coupled of slot shown k coupled used some owned = record {
 
 -- An active slot has some other number of guards.
 pub near_guards : {T R X : Type 0} (of : Naming T R X) (st : waiting.State T R) (ms : State) (s k : ℕ) → NearAt of [] st ms
-    → is_free (slot_at st s).kind ≡ false → waiting.is_active (slot_at st s) ≡ true → 1 ≤ k → (is_owned (slot_at st s).kind ≡ true → k ≤ 1)
+    → is_free (slot_at st s).kind ≡ false → waiting.has_guard (slot_at st s) ≡ true → 1 ≤ k → (is_owned (slot_at st s).kind ≡ true → k ≤ 1)
     → NearAt of [] (set_guards st s k) ms
 near_guards {T} {R} of st ms s k n used active some owned =
     subst (λ (l : List Slot). Near of [] (set_guards st s k) l ms.heads ms.batches ms.links) (set-get_or ms.slots s machine.no_slot)
@@ -67,7 +67,7 @@ pub near_freed : {T R X : Type 0} (of : Naming T R X) (st : waiting.State T R) (
     → NearAt of [] (with_number_free st s) (record base { slots = set base.slots s (record { used = false; batch = batch; call = None }) })
 near_freed {T} {R} of st base s batch n h within none =
     let own : CoupledSlot of (slot_at st s) (record { used = true; batch = batch; call = None }) = own_slot of st base s batch n h in
-    let off : waiting.is_active (slot_at st s) ≡ false = ap (λ (k : ℕ). not (k == 0)) none in
+    let off : waiting.has_guard (slot_at st s) ≡ false = ap (λ (k : ℕ). not (k == 0)) none in
     subst (λ (l : List Slot). Near of [] (with_number_free st s) l base.heads base.batches base.links) (set_twice base.slots s _ _)
     (near_set of [] st (at_rest base s batch).slots base.heads base.batches base.links s (record (slot_at st s) { kind = Free; guards = 0 }) (record { used = false; batch = batch; call = None }) n within
     (record {
@@ -97,7 +97,7 @@ one_guard k a b c = grind arith
 two_guards : (k : ℕ) → not (k == 0) ≡ true → (k == 1) ≡ false → 1 ≤ k - 1
 two_guards k a b = grind arith
 
-stays_as : {T R : Type 0} (puts : R → T → List T) (weight : T → ℕ) (st : waiting.State T R) (s : ℕ) → ((slot_at st s).guards == 1) ≡ false → (is_free (slot_at st s).kind ≡ false) × (waiting.is_active (slot_at st s) ≡ true) → (is_owned (slot_at st s).kind ≡ true → (slot_at st s).guards ≤ 1)
+stays_as : {T R : Type 0} (puts : R → T → List T) (weight : T → ℕ) (st : waiting.State T R) (s : ℕ) → ((slot_at st s).guards == 1) ≡ false → (is_free (slot_at st s).kind ≡ false) × (waiting.has_guard (slot_at st s) ≡ true) → (is_owned (slot_at st s).kind ≡ true → (slot_at st s).guards ≤ 1)
     → with_number_free_if (is_owned (slot_at st s).kind) s (with_further puts weight s (set_guards st s ((slot_at st s).guards - 1), [])) ≡ (set_guards st s ((slot_at st s).guards - 1), [])
 stays_as puts weight st s more g few = ap (λ o. with_number_free_if (is_owned (slot_at st s).kind) s o) (settled_nothing puts weight (set_guards st s ((slot_at st s).guards - 1)) s) ∙ go (is_owned (slot_at st s).kind) refl
   where
@@ -105,13 +105,13 @@ stays_as puts weight st s more g few = ap (λ o. with_number_free_if (is_owned (
     go true is = absurd (one_guard (slot_at st s).guards g.1 more (few is))
     go false is = refl
 
-near_stays : {T R X : Type 0} (of : Naming T R X) (st : waiting.State T R) (ms : State) (s : ℕ) → NearAt of [] st ms → ((slot_at st s).guards == 1) ≡ false → (is_free (slot_at st s).kind ≡ false) × (waiting.is_active (slot_at st s) ≡ true)
+near_stays : {T R X : Type 0} (of : Naming T R X) (st : waiting.State T R) (ms : State) (s : ℕ) → NearAt of [] st ms → ((slot_at st s).guards == 1) ≡ false → (is_free (slot_at st s).kind ≡ false) × (waiting.has_guard (slot_at st s) ≡ true)
     → NearAt of [] (set_guards st s ((slot_at st s).guards - 1)) ms
 near_stays of st ms s n more g =
     near_guards of st ms s ((slot_at st s).guards - 1) n g.0 g.1 (two_guards (slot_at st s).guards g.1 more) (λ is. absurd (one_guard (slot_at st s).guards g.1 more ((n.slot s).owned is)))
 
 leave_ends : {T R X : Type 0} (puts : R → T → List T) (weight : T → ℕ) → Lighter puts weight → (of : Naming T R X) (P : T × R → Type 0) (K : State → List ℕ → Type 0) (st : waiting.State T R) (base : State) (s : ℕ) (batch : List ℕ) → Carried puts of P s st.size K
-    → Holds T R P st → NearAt of [] st (at_rest base s batch) → s < length base.slots → s < length st.slots → waiting.is_active (slot_at st s) ≡ true
+    → Holds T R P st → NearAt of [] st (at_rest base s batch) → s < length base.slots → s < length st.slots → waiting.has_guard (slot_at st s) ≡ true
     → K (busy base s batch (Out false) []) [] → Ends of K st.size s 0 [] (with_further puts weight s (part (set_guards st s 0) s))
 leave_ends puts weight lighter of P K st base s batch carried holds rest h within active now =
     let own : CoupledSlot of (slot_at st s) (record { used = true; batch = batch; call = None }) = own_slot of st base s batch rest h in
@@ -121,26 +121,26 @@ leave_ends puts weight lighter of P K st base s batch carried holds rest h withi
     (out_does puts of P K st base s false batch (record (slot_at st s) { guards = 0; order = [] }) carried holds refl rest h active refl refl
     (record { used = own.used; idle = refl; batch = own.batch; free = λ e. refl; owned = λ e. omega arith; inactive = λ e. refl; once = refl }) now))
 
-begins_leave : {T R X : Type 0} (of : Naming T R X) (st : waiting.State T R) (before : State) (s : ℕ) → NearAt of [] st before → is_free (slot_at st s).kind ≡ false → waiting.is_active (slot_at st s) ≡ true
+begins_leave : {T R X : Type 0} (of : Naming T R X) (st : waiting.State T R) (before : State) (s : ℕ) → NearAt of [] st before → is_free (slot_at st s).kind ≡ false → waiting.has_guard (slot_at st s) ≡ true
     → next st.size before (Begin s job.TheVariants.Leave) ≡ Some (busy before s (machine.slot_at before s).batch (Out false) [], DoneEvent)
 begins_leave of st before s n used active =
     at_idle of st before st.size s (Begin s job.TheVariants.Leave) _ n used (begin_leave st.size before s _ (in_machine of st before s n (in_use st s used)) (active_head of st before s true n active))
 
 -- The number of an owned slot is given back after the return.
-gives_back : {T R X : Type 0} (of : Naming T R X) (size s : ℕ) (o : Outcome T R) (later : State) (answers : List Answer) (d : JobEnds of s 0 o later answers)
+gives_back : {T R X : Type 0} (of : Naming T R X) (size s : ℕ) (o : StateAndGone T R) (later : State) (answers : List Answer) (d : JobEnds of s 0 o later answers)
     → next size later (Give s) ≡ Some (record d.base { slots = set d.base.slots s (record { used = false; batch = d.batch; call = None }) }, DoneEvent)
 gives_back of size s o later answers d =
     let idle_head : is_active (head_at d.base s) ≡ false = active_head of o.0 (at_rest d.base s d.batch) s false d.near (ap (λ (k : ℕ). not (k == 0)) d.same_guards) in
     ap (λ (k : State). next size k (Give s)) d.is ∙ give_step size d.base s d.batch d.within idle_head
 
-given_near : {T R X : Type 0} (of : Naming T R X) (s : ℕ) (o : Outcome T R) (later : State) (answers : List Answer) (d : JobEnds of s 0 o later answers)
+given_near : {T R X : Type 0} (of : Naming T R X) (s : ℕ) (o : StateAndGone T R) (later : State) (answers : List Answer) (d : JobEnds of s 0 o later answers)
     → NearAt of [] (with_number_free o.0 s) (record d.base { slots = set d.base.slots s (record { used = false; batch = d.batch; call = None }) })
 given_near of s o later answers d =
     near_freed of o.0 d.base s d.batch d.near d.within
     (omega (arith, d.within, d.near.as_many, length-set d.base.slots s (record { used = true; batch = d.batch; call = None })))
     d.same_guards
 
-left_run : {T R X : Type 0} (puts : R → T → List T) (of : Naming T R X) (st : waiting.State T R) (before : State) (s : ℕ) (o : Outcome T R) → ((slot_at st s).guards == 1) ≡ true → JobRun puts of st.size s 0 job.TheVariants.Leave before o
+left_run : {T R X : Type 0} (puts : R → T → List T) (of : Naming T R X) (st : waiting.State T R) (before : State) (s : ℕ) (o : StateAndGone T R) → ((slot_at st s).guards == 1) ≡ true → JobRun puts of st.size s 0 job.TheVariants.Leave before o
     → (owned : Bool) → is_owned (slot_at st s).kind ≡ owned → Run puts of (Leave s) st before (Done, with_number_free_if owned s o)
 left_run {T} {R} puts of st before s o last run false is =
     run_of puts of (Leave s) st before st.size s 0 job.TheVariants.Leave Done o refl run
@@ -165,23 +165,23 @@ left_run {T} {R} puts of st before s o last run true is =
 pub leave_run : {T R X : Type 0} (puts : R → T → List T) (weight : T → ℕ) → Lighter puts weight → (of : Naming T R X) (P : T × R → Type 0) → Names puts of P → (st : waiting.State T R) (before : State) (s : ℕ) → Holds T R P st → NearAt of [] st before
     → Run puts of (Leave s) st before (step puts weight st (Leave s))
 leave_run {T} {R} puts weight lighter of P names st before s holds near =
-    run_unless puts of (Leave s) st before done None (no_guard st s) tt (with_number_free_if (is_owned (slot_at st s).kind) s (with_further puts weight s (one_guard_less st s))) near (λ e. go ((slot_at st s).guards == 1) refl (guard_of st s e))
+    run_unless puts of (Leave s) st before done_reply None (no_guard st s) tt (with_number_free_if (is_owned (slot_at st s).kind) s (with_further puts weight s (one_guard_less st s))) near (λ e. go ((slot_at st s).guards == 1) refl (guard_of st s e))
   where
-    parts : (is_free (slot_at st s).kind ≡ false) × (waiting.is_active (slot_at st s) ≡ true) → JobRun puts of st.size s 0 job.TheVariants.Leave before (with_further puts weight s (part (set_guards st s 0) s))
+    parts : (is_free (slot_at st s).kind ≡ false) × (waiting.has_guard (slot_at st s) ≡ true) → JobRun puts of st.size s 0 job.TheVariants.Leave before (with_further puts weight s (part (set_guards st s 0) s))
     parts g =
         let n : NearAt of [] st before = near in
         let within : s < length st.slots = in_use st s g.0 in
         job_run puts of st.size s 0 job.TheVariants.Leave before _ (with_further puts weight s (part (set_guards st s 0) s)) (begins_leave of st before s n g.0 g.1)
         (leave_ends puts weight lighter of P _ st before s _ (run_carried puts of P names st.size s _) holds (near_at_rest of st before s n g.0) (in_machine of st before s n within) within g.1 (Leads.stays _))
 
-    go : (t : Bool) → ((slot_at st s).guards == 1) ≡ t → (is_free (slot_at st s).kind ≡ false) × (waiting.is_active (slot_at st s) ≡ true)
+    go : (t : Bool) → ((slot_at st s).guards == 1) ≡ t → (is_free (slot_at st s).kind ≡ false) × (waiting.has_guard (slot_at st s) ≡ true)
         → Run puts of (Leave s) st before (Done, with_number_free_if (is_owned (slot_at st s).kind) s (with_further puts weight s (if t then part (set_guards st s 0) s else (set_guards st s ((slot_at st s).guards - 1), []))))
     go true e g = left_run puts of st before s (with_further puts weight s (part (set_guards st s 0) s)) e (parts g) (is_owned (slot_at st s).kind) refl
-    go false e g = subst (λ (o : Outcome T R). Run puts of (Leave s) st before (Done, o)) (sym (stays_as puts weight st s e g (near.slot s).owned))
+    go false e g = subst (λ (o : StateAndGone T R). Run puts of (Leave s) st before (Done, o)) (sym (stays_as puts weight st s e g (near.slot s).owned))
         (no_events puts of (Leave s) st before Done (set_guards st s ((slot_at st s).guards - 1)) (near_stays of st before s (near) e g)
         (subst (λ (b : Bool). Where b (IsLeft s (is_owned (slot_at st s).kind)) []) (sym e) refl) refl)
 
-left_list : {T R : Type 0} (puts : R → T → List T) (of : ℕ → T) (by : ℕ → R) (st : waiting.State T R) (before : State) (s : ℕ) (o : Outcome T R)
+left_list : {T R : Type 0} (puts : R → T → List T) (of : ℕ → T) (by : ℕ → R) (st : waiting.State T R) (before : State) (s : ℕ) (o : StateAndGone T R)
     → ((events : List Event) (answers : List Answer) (later : State) → IsJob s job.TheVariants.Leave events → play st.size before events ≡ Some (later, answers) → ArePutBy puts of by events answers → JobEnds (with_reclaimers of by) s 0 o later answers)
     → (owned : Bool) (events : List Event) (answers : List Answer) (later : State) → IsLeft s owned events → play st.size before events ≡ Some (later, answers) → ArePutBy puts of by events answers
     → IsOutcome T R of by (Leave s) (Done, with_number_free_if owned s o) events answers later
@@ -202,10 +202,10 @@ left_list {T} {R} puts of by st before s o job_ends true events answers later ma
 pub leave_list : {T R : Type 0} (puts : R → T → List T) (weight : T → ℕ) → Lighter puts weight → (of : ℕ → T) (by : ℕ → R) (st : waiting.State T R) (before : State) (s : ℕ) → NearAt (with_reclaimers of by) [] st before
     → EachList puts of by (Leave s) st before (step puts weight st (Leave s))
 leave_list {T} {R} puts weight lighter of by st before s n =
-    list_unless puts of by (Leave s) st before done None (no_guard st s) tt (with_number_free_if (is_owned (slot_at st s).kind) s (with_further puts weight s (one_guard_less st s))) n (λ e events answers later makes legal names with put.
+    list_unless puts of by (Leave s) st before done_reply None (no_guard st s) tt (with_number_free_if (is_owned (slot_at st s).kind) s (with_further puts weight s (one_guard_less st s))) n (λ e events answers later makes legal names with put.
     go ((slot_at st s).guards == 1) refl (guard_of st s e) events answers later makes legal put)
   where
-    go : (t : Bool) → ((slot_at st s).guards == 1) ≡ t → (is_free (slot_at st s).kind ≡ false) × (waiting.is_active (slot_at st s) ≡ true) → (events : List Event) (answers : List Answer) (later : State) → Where t (IsLeft s (is_owned (slot_at st s).kind)) events
+    go : (t : Bool) → ((slot_at st s).guards == 1) ≡ t → (is_free (slot_at st s).kind ≡ false) × (waiting.has_guard (slot_at st s) ≡ true) → (events : List Event) (answers : List Answer) (later : State) → Where t (IsLeft s (is_owned (slot_at st s).kind)) events
         → play st.size before events ≡ Some (later, answers) → ArePutBy puts of by events answers
         → IsOutcome T R of by (Leave s) (Done, with_number_free_if (is_owned (slot_at st s).kind) s (with_further puts weight s (if t then part (set_guards st s 0) s else (set_guards st s ((slot_at st s).guards - 1), [])))) events answers later
     go true e g events answers later makes legal put =
@@ -215,7 +215,7 @@ leave_list {T} {R} puts weight lighter of by st before s n =
         leave_ends puts weight lighter (with_reclaimers of by) Always _ st before s _ (left_carried puts of by st.size s end (handed told)) (holds_always st) (near_at_rest (with_reclaimers of by) st before s n g.0) (in_machine (with_reclaimers of by) st before s n within) within g.1 now))
         (is_owned (slot_at st s).kind) events answers later makes legal put
     go false e g events answers later makes legal put =
-        subst (λ (o : Outcome T R). IsOutcome T R of by (Leave s) (Done, o) events answers later) (sym (stays_as puts weight st s e g (n.slot s).owned))
+        subst (λ (o : StateAndGone T R). IsOutcome T R of by (Leave s) (Done, o) events answers later) (sym (stays_as puts weight st s e g (n.slot s).owned))
         (no_list of by (Leave s) st.size before Done (set_guards st s ((slot_at st s).guards - 1)) events answers later (near_stays (with_reclaimers of by) st before s n e g) makes legal refl)
 
 -- Enter and end.
@@ -223,18 +223,18 @@ leave_list {T} {R} puts weight lighter of by st before s n =
 pub registered_of : {T R : Type 0} (st : waiting.State T R) (s : ℕ) → not_registered st s ≡ None → (is_free (slot_at st s).kind ≡ false) × (is_owned (slot_at st s).kind ≡ false)
 registered_of st s e = go (is_free (slot_at st s).kind) (is_owned (slot_at st s).kind) e
   where
-    go : (a b : Bool) → first (if a then Some NotInUse else None) (if b then Some WrongKind else None) ≡ None → (a ≡ false) × (b ≡ false)
+    go : (a b : Bool) → first_refusal (if a then Some NotInUse else None) (if b then Some WrongKind else None) ≡ None → (a ≡ false) × (b ≡ false)
     go true b e = absurd (cc)
     go false true e = absurd (cc)
     go false false e = (refl, refl)
 
-first_none : (a b : Option Refusal) → first a b ≡ None → a ≡ None
+first_none : (a b : Option Refusal) → first_refusal a b ≡ None → a ≡ None
 first_none None b e = refl
 first_none (Some r) b e = absurd (cc)
 
 -- an inactive slot in use becomes active, with this many guards
 pub near_entered : {T R X : Type 0} (of : Naming T R X) (st : waiting.State T R) (ms : State) (s k : ℕ) → NearAt of [] st ms
-    → is_free (slot_at st s).kind ≡ false → waiting.is_active (slot_at st s) ≡ false → 1 ≤ k → (is_owned (slot_at st s).kind ≡ true → k ≤ 1)
+    → is_free (slot_at st s).kind ≡ false → waiting.has_guard (slot_at st s) ≡ false → 1 ≤ k → (is_owned (slot_at st s).kind ≡ true → k ≤ 1)
     → NearAt of [] (set_guards st s k) (set_head ms s (Active []))
 near_entered {T} {R} of st ms s k n used inactive some owned =
     let none : (slot_at st s).order ≡ [] = (n.slot s).inactive inactive in
@@ -247,7 +247,7 @@ near_entered {T} {R} of st ms s k n used inactive some owned =
     (subst (λ (x : Head). Near of (slot_at st s).order (set_guards st s k) ms.slots (set ms.heads s x) ms.batches ms.links) head
     (subst (λ (l : List Slot). Near of (slot_at st s).order (set_guards st s k) l (set ms.heads s (head_of (record (slot_at st s) { guards = k }))) ms.batches ms.links) (set-get_or ms.slots s machine.no_slot) out))
 
-pub enter_step : {T R X : Type 0} (of : Naming T R X) (size : ℕ) (st : waiting.State T R) (ms : State) (s : ℕ) → NearAt of [] st ms → is_free (slot_at st s).kind ≡ false → waiting.is_active (slot_at st s) ≡ false
+pub enter_step : {T R X : Type 0} (of : Naming T R X) (size : ℕ) (st : waiting.State T R) (ms : State) (s : ℕ) → NearAt of [] st ms → is_free (slot_at st s).kind ≡ false → waiting.has_guard (slot_at st s) ≡ false
     → next size ms (EnterHead s) ≡ Some (set_head ms s (Active []), DoneEvent)
 enter_step {T} {R} of size st ms s n used inactive =
     let shown : CoupledSlot of (slot_at st s) (machine.slot_at ms s) = n.slot s in
@@ -256,20 +256,20 @@ enter_step {T} {R} of size st ms s n used inactive =
     if_yes _ _ _ (ap (λ (t : Bool). t && not (is_active (head_at ms s))) idle ∙ ap (λ (t : Bool). not t) off)
 
 -- a registered slot has one guard more, or its first
-near_more : {T R X : Type 0} (of : Naming T R X) (st : waiting.State T R) (ms : State) (s : ℕ) → NearAt of [] st ms → waiting.is_active (slot_at st s) ≡ true → (is_free (slot_at st s).kind ≡ false) × (is_owned (slot_at st s).kind ≡ false)
+near_more : {T R X : Type 0} (of : Naming T R X) (st : waiting.State T R) (ms : State) (s : ℕ) → NearAt of [] st ms → waiting.has_guard (slot_at st s) ≡ true → (is_free (slot_at st s).kind ≡ false) × (is_owned (slot_at st s).kind ≡ false)
     → NearAt of [] (set_guards st s ((slot_at st s).guards + 1)) ms
 near_more of st ms s n e g = near_guards of st ms s ((slot_at st s).guards + 1) n g.0 e (omega arith) (λ f. absurd (let c : true ≡ false = sym f ∙ g.1 in cc))
 
-near_first : {T R X : Type 0} (of : Naming T R X) (st : waiting.State T R) (ms : State) (s : ℕ) → NearAt of [] st ms → waiting.is_active (slot_at st s) ≡ false → (is_free (slot_at st s).kind ≡ false) × (is_owned (slot_at st s).kind ≡ false)
+near_first : {T R X : Type 0} (of : Naming T R X) (st : waiting.State T R) (ms : State) (s : ℕ) → NearAt of [] st ms → waiting.has_guard (slot_at st s) ≡ false → (is_free (slot_at st s).kind ≡ false) × (is_owned (slot_at st s).kind ≡ false)
     → NearAt of [] (set_guards st s ((slot_at st s).guards + 1)) (set_head ms s (Active []))
 near_first of st ms s n e g = near_entered of st ms s ((slot_at st s).guards + 1) n g.0 e (omega arith) (λ f. absurd (let c : true ≡ false = sym f ∙ g.1 in cc))
 
 pub enter_run : {T R X : Type 0} (puts : R → T → List T) (weight : T → ℕ) (of : Naming T R X) (st : waiting.State T R) (before : State) (s : ℕ) → NearAt of [] st before
     → Run puts of (Enter s) st before (step puts weight st (Enter s))
 enter_run {T} {R} puts weight of st before s near =
-    run_unless puts of (Enter s) st before done None (first (not_registered st s) (too_many st s)) tt (set_guards st s ((slot_at st s).guards + 1), []) near (λ e. go (waiting.is_active (slot_at st s)) refl (registered_of st s (first_none _ _ e)))
+    run_unless puts of (Enter s) st before done_reply None (first_refusal (not_registered st s) (too_many st s)) tt (set_guards st s ((slot_at st s).guards + 1), []) near (λ e. go (waiting.has_guard (slot_at st s)) refl (registered_of st s (first_none _ _ e)))
   where
-    go : (t : Bool) → waiting.is_active (slot_at st s) ≡ t → (is_free (slot_at st s).kind ≡ false) × (is_owned (slot_at st s).kind ≡ false)
+    go : (t : Bool) → waiting.has_guard (slot_at st s) ≡ t → (is_free (slot_at st s).kind ≡ false) × (is_owned (slot_at st s).kind ≡ false)
         → Run puts of (Enter s) st before (Done, (set_guards st s ((slot_at st s).guards + 1), []))
     go true e g = no_events puts of (Enter s) st before Done (set_guards st s ((slot_at st s).guards + 1)) (near_more of st before s (near) e g)
         (sym (ap (λ (b : Bool). if b then [] else EnterHead s ∷ []) e)) refl
@@ -281,10 +281,10 @@ enter_run {T} {R} puts weight of st before s near =
 pub enter_list : {T R : Type 0} (puts : R → T → List T) (weight : T → ℕ) (of : ℕ → T) (by : ℕ → R) (st : waiting.State T R) (before : State) (s : ℕ) → NearAt (with_reclaimers of by) [] st before
     → EachList puts of by (Enter s) st before (step puts weight st (Enter s))
 enter_list {T} {R} puts weight of by st before s n =
-    list_unless puts of by (Enter s) st before done None (first (not_registered st s) (too_many st s)) tt (set_guards st s ((slot_at st s).guards + 1), []) n (λ e events answers later makes legal names with put.
-    go (waiting.is_active (slot_at st s)) refl (registered_of st s (first_none _ _ e)) events answers later makes legal)
+    list_unless puts of by (Enter s) st before done_reply None (first_refusal (not_registered st s) (too_many st s)) tt (set_guards st s ((slot_at st s).guards + 1), []) n (λ e events answers later makes legal names with put.
+    go (waiting.has_guard (slot_at st s)) refl (registered_of st s (first_none _ _ e)) events answers later makes legal)
   where
-    go : (t : Bool) → waiting.is_active (slot_at st s) ≡ t → (is_free (slot_at st s).kind ≡ false) × (is_owned (slot_at st s).kind ≡ false) → (events : List Event) (answers : List Answer) (later : State) → events ≡ (if t then [] else EnterHead s ∷ [])
+    go : (t : Bool) → waiting.has_guard (slot_at st s) ≡ t → (is_free (slot_at st s).kind ≡ false) × (is_owned (slot_at st s).kind ≡ false) → (events : List Event) (answers : List Answer) (later : State) → events ≡ (if t then [] else EnterHead s ∷ [])
         → play st.size before events ≡ Some (later, answers) → IsOutcome T R of by (Enter s) (Done, (set_guards st s ((slot_at st s).guards + 1), [])) events answers later
     go true e g events answers later makes legal =
         no_list of by (Enter s) st.size before Done (set_guards st s ((slot_at st s).guards + 1)) events answers later (near_more (with_reclaimers of by) st before s n e g) makes legal refl

@@ -12,11 +12,11 @@ use Rattle.seize_machine.specs.declared.machine.event.Answer.TheVariants.{Done a
 use Rattle.seize_table.specs.declared.refusal.Refusal.TheVariants.{NotInUse, NotActive}
 use Rattle.seize_model.specs.Waiting.State as waiting
 use Rattle.seize_model.specs.Waiting.State.{slot_at, set_slot}
-use Rattle.seize_model.specs.Waiting.Attempt.{after, attempt, gives_up, active_slots, release_all, part, put}
+use Rattle.seize_model.specs.Waiting.Attempt.{with_gone, attempt, gives_up, active_slots, release_all, part, put}
 use Rattle.seize_model.specs.Waiting.Further.{with_further, Lighter}
 use Rattle.seize_model.proofs.WaitingSets.FurtherValues.{afterwards-nil}
-use Rattle.seize_model.specs.Waiting.Calls.{first, no_guard, unused, is_free, is_owned, part_if_alone}
-use Rattle.seize_model.specs.Waiting.Lists.{Flush, Retire, Refresh, Done, done, step}
+use Rattle.seize_model.specs.Waiting.Calls.{first_refusal, no_guard, unused, is_free, is_owned, part_if_alone}
+use Rattle.seize_model.specs.Waiting.Lists.{Flush, Retire, Refresh, Done, done_reply, step}
 use Rattle.seize_model.specs.Agreement.Shows.{head_of}
 use Rattle.seize_model.specs.Agreement.Play.{play}
 use Rattle.seize_machine.specs.Machine.History.{handed}
@@ -44,15 +44,15 @@ used_of st s e = go (is_free (slot_at st s).kind) e
     go true e = absurd (cc)
     go false e = refl
 
-pub guard_of : {T R : Type 0} (st : waiting.State T R) (s : ℕ) → no_guard st s ≡ None → (is_free (slot_at st s).kind ≡ false) × (waiting.is_active (slot_at st s) ≡ true)
-guard_of st s e = go (is_free (slot_at st s).kind) (waiting.is_active (slot_at st s)) e
+pub guard_of : {T R : Type 0} (st : waiting.State T R) (s : ℕ) → no_guard st s ≡ None → (is_free (slot_at st s).kind ≡ false) × (waiting.has_guard (slot_at st s) ≡ true)
+guard_of st s e = go (is_free (slot_at st s).kind) (waiting.has_guard (slot_at st s)) e
   where
-    go : (a b : Bool) → first (if a then Some NotInUse else None) (if b then None else Some NotActive) ≡ None → (a ≡ false) × (b ≡ true)
+    go : (a b : Bool) → first_refusal (if a then Some NotInUse else None) (if b then None else Some NotActive) ≡ None → (a ≡ false) × (b ≡ true)
     go true b e = absurd (cc)
     go false true e = (refl, refl)
     go false false e = absurd (cc)
 
-pub active_head : {T R X : Type 0} (of : Naming T R X) (st : waiting.State T R) (ms : State) (s : ℕ) (t : Bool) → NearAt of [] st ms → waiting.is_active (slot_at st s) ≡ t → is_active (head_at ms s) ≡ t
+pub active_head : {T R X : Type 0} (of : Naming T R X) (st : waiting.State T R) (ms : State) (s : ℕ) (t : Bool) → NearAt of [] st ms → waiting.has_guard (slot_at st s) ≡ t → is_active (head_at ms s) ≡ t
 active_head of st ms s t n e = ap is_active (head_is of st ms.slots ms.heads ms.batches ms.links [] s n) ∙ head_active (slot_at st s) ∙ e
 
 -- an event at a slot that is idle, in use
@@ -87,7 +87,7 @@ flush_ends puts weight lighter of P K st base s batch carried holds n h now =
     settled_ends puts weight lighter of P K st.size s (slot_at st s).guards [] (attempt st s) carried (holds_attempt P st s holds) (flush_does puts of P K st base s batch carried holds n h now)
 
 -- the flush begins
-begins_flush : {T R X : Type 0} (of : Naming T R X) (st : waiting.State T R) (before : State) (s : ℕ) → NearAt of [] st before → is_free (slot_at st s).kind ≡ false → waiting.is_active (slot_at st s) ≡ true
+begins_flush : {T R X : Type 0} (of : Naming T R X) (st : waiting.State T R) (before : State) (s : ℕ) → NearAt of [] st before → is_free (slot_at st s).kind ≡ false → waiting.has_guard (slot_at st s) ≡ true
     → next st.size before (Begin s job.TheVariants.Flush) ≡ Some (busy before s (machine.slot_at before s).batch (if is_empty (machine.slot_at before s).batch then Rest [] [] else Mark 0 (length before.slots) []) [], DoneEvent)
 begins_flush of st before s n used active =
     at_idle of st before st.size s (Begin s job.TheVariants.Flush) _ n used (begin_flush st.size before s _ (in_machine of st before s n (in_use st s used)) (active_head of st before s true n active))
@@ -95,9 +95,9 @@ begins_flush of st before s n used active =
 pub flush_run : {T R X : Type 0} (puts : R → T → List T) (weight : T → ℕ) → Lighter puts weight → (of : Naming T R X) (P : T × R → Type 0) → Names puts of P → (st : waiting.State T R) (before : State) (s : ℕ) → Holds T R P st → NearAt of [] st before
     → Run puts of (Flush s) st before (step puts weight st (Flush s))
 flush_run {T} {R} puts weight lighter of P names st before s holds near =
-    run_unless puts of (Flush s) st before done None (no_guard st s) tt (with_further puts weight s (attempt st s)) near (λ e.
+    run_unless puts of (Flush s) st before done_reply None (no_guard st s) tt (with_further puts weight s (attempt st s)) near (λ e.
     let n : NearAt of [] st before = near in
-    let g : (is_free (slot_at st s).kind ≡ false) × (waiting.is_active (slot_at st s) ≡ true) = guard_of st s e in
+    let g : (is_free (slot_at st s).kind ≡ false) × (waiting.has_guard (slot_at st s) ≡ true) = guard_of st s e in
     let run : JobRun puts of st.size s (slot_at st s).guards job.TheVariants.Flush before (with_further puts weight s (attempt st s))
     = job_run puts of st.size s (slot_at st s).guards job.TheVariants.Flush before _ (with_further puts weight s (attempt st s)) (begins_flush of st before s n g.0 g.1)
     (flush_ends puts weight lighter of P _ st before s _ (run_carried puts of P names st.size s _) holds (near_at_rest of st before s n g.0) (in_machine of st before s n (in_use st s g.0)) (Leads.stays _)) in
@@ -106,8 +106,8 @@ flush_run {T} {R} puts weight lighter of P names st before s holds near =
 pub flush_list : {T R : Type 0} (puts : R → T → List T) (weight : T → ℕ) → Lighter puts weight → (of : ℕ → T) (by : ℕ → R) (st : waiting.State T R) (before : State) (s : ℕ) → NearAt (with_reclaimers of by) [] st before
     → EachList puts of by (Flush s) st before (step puts weight st (Flush s))
 flush_list {T} {R} puts weight lighter of by st before s n =
-    list_unless puts of by (Flush s) st before done None (no_guard st s) tt (with_further puts weight s (attempt st s)) n (λ e events answers later makes legal names with put.
-    let g : (is_free (slot_at st s).kind ≡ false) × (waiting.is_active (slot_at st s) ≡ true) = guard_of st s e in
+    list_unless puts of by (Flush s) st before done_reply None (no_guard st s) tt (with_further puts weight s (attempt st s)) n (λ e events answers later makes legal names with put.
+    let g : (is_free (slot_at st s).kind ≡ false) × (waiting.has_guard (slot_at st s) ≡ true) = guard_of st s e in
     job_outcome of by (Flush s) s (slot_at st s).guards Done (with_further puts weight s (attempt st s)) events answers later
     (job_list puts of by st.size s (slot_at st s).guards job.TheVariants.Flush before _ later (with_further puts weight s (attempt st s)) events answers (begins_flush (with_reclaimers of by) st before s n g.0 g.1) makes legal put (λ now.
     flush_ends puts weight lighter (with_reclaimers of by) Always _ st before s _ (left_carried puts of by st.size s later (handed answers)) (holds_always st) (near_at_rest (with_reclaimers of by) st before s n g.0) (in_machine (with_reclaimers of by) st before s n (in_use st s g.0)) now))
@@ -138,7 +138,7 @@ retire_job puts weight lighter of P names st before s n v holds own near used fr
 pub retire_run : {T R X : Type 0} (puts : R → T → List T) (weight : T → ℕ) → Lighter puts weight → (of : Naming T R X) (P : T × R → Type 0) → Names puts of P → (st : waiting.State T R) (before : State) (s : ℕ) (v : T) (r : R) → Holds T R P st → P (v, r) → NearAt of [] st before
     → Run puts of (Retire s v r) st before (step puts weight st (Retire s v r))
 retire_run {T} {R} puts weight lighter of P names st before s v r holds own near =
-    run_unless puts of (Retire s v r) st before done (Some v) (unused st s) tt (with_further puts weight s (put st s (v, r))) near (λ e.
+    run_unless puts of (Retire s v r) st before done_reply (Some v) (unused st s) tt (with_further puts weight s (put st s (v, r))) near (λ e.
     let name : (n : ℕ) × (has n before.named ≡ false) × (of.name n ≡ of.view (v, r)) = names.number (v, r) own before.named in
     let held : of.link name.0 ≡ v = names.link name.0 (v, r) name.2 in
     let run : JobRun puts of st.size s (slot_at st s).guards (job.TheVariants.Retire name.0) before (with_further puts weight s (put st s (v, r)))
@@ -167,7 +167,7 @@ retire_job_list {T} {R} puts weight lighter of by st before s n v r events answe
 pub retire_list : {T R : Type 0} (puts : R → T → List T) (weight : T → ℕ) → Lighter puts weight → (of : ℕ → T) (by : ℕ → R) (st : waiting.State T R) (before : State) (s : ℕ) (v : T) (r : R) → NearAt (with_reclaimers of by) [] st before
     → EachList puts of by (Retire s v r) st before (step puts weight st (Retire s v r))
 retire_list {T} {R} puts weight lighter of by st before s v r n =
-    list_unless puts of by (Retire s v r) st before done (Some v) (unused st s) tt (with_further puts weight s (put st s (v, r))) n (λ e events answers later makes legal names with puts_all.
+    list_unless puts of by (Retire s v r) st before done_reply (Some v) (unused st s) tt (with_further puts weight s (put st s (v, r))) n (λ e events answers later makes legal names with puts_all.
     job_outcome of by (Retire s v r) s (slot_at st s).guards Done (with_further puts weight s (put st s (v, r))) events answers later
     (retire_job_list puts weight lighter of by st before s makes.0 v r events answers later n (used_of st s e) (subst (λ (l : List Event). NamesOwn of (Retire s v r) l) makes.1.1 names) makes.1 legal (subst (λ (l : List Event). RetiresWith by (Retire s v r) l) makes.1.1 with) puts_all)
     refl)
@@ -176,7 +176,7 @@ retire_list {T} {R} puts weight lighter of by st before s v r n =
 
 pub out_does : {T R X : Type 0} (puts : R → T → List T) (of : Naming T R X) (P : T × R → Type 0) (K : State → List ℕ → Type 0) (st : waiting.State T R) (base : State) (s : ℕ) (stays : Bool) (batch : List ℕ) (new : waiting.Slot T R) → Carried puts of P s st.size K
     → Holds T R P st → new.batch ≡ (slot_at st s).batch → NearAt of [] st (at_rest base s batch) → s < length base.slots
-    → waiting.is_active (slot_at st s) ≡ true → new.order ≡ [] → head_of new ≡ (if stays then Active [] else Inactive) → CoupledSlot of new (record { used = true; batch = batch; call = None })
+    → waiting.has_guard (slot_at st s) ≡ true → new.order ≡ [] → head_of new ≡ (if stays then Active [] else Inactive) → CoupledSlot of new (record { used = true; batch = batch; call = None })
     → K (busy base s batch (Out stays) []) [] → Does puts of K st.size s new.guards [] [] (release_all (set_slot st s new) (slot_at st s).order)
 out_does {T} {R} puts of P K st base s stays batch new carried holds as_before n h active order head shown now =
     let within : s < length st.slots = rw (← in_slots of st base s batch n) h in
@@ -194,10 +194,10 @@ out_does {T} {R} puts of P K st base s stays batch new carried holds as_before n
     (subst (λ (w : List ℕ). K (busy (set_head base s (if stays then Active [] else Inactive)) s batch (Rest [] w) []) []) walk swapped)
 
 pub settled_nothing : {T R : Type 0} (puts : R → T → List T) (weight : T → ℕ) (st : waiting.State T R) (s : ℕ) → with_further puts weight s (st, []) ≡ (st, [])
-settled_nothing puts weight st s = ap (after []) (afterwards-nil puts weight st s)
+settled_nothing puts weight st s = ap (with_gone []) (afterwards-nil puts weight st s)
 
 refresh_ends : {T R X : Type 0} (puts : R → T → List T) (weight : T → ℕ) → Lighter puts weight → (of : Naming T R X) (P : T × R → Type 0) (K : State → List ℕ → Type 0) (st : waiting.State T R) (base : State) (s : ℕ) (batch : List ℕ) → Carried puts of P s st.size K
-    → Holds T R P st → NearAt of [] st (at_rest base s batch) → s < length base.slots → waiting.is_active (slot_at st s) ≡ true
+    → Holds T R P st → NearAt of [] st (at_rest base s batch) → s < length base.slots → waiting.has_guard (slot_at st s) ≡ true
     → K (busy base s batch (Out true) []) [] → Ends of K st.size s (slot_at st s).guards [] (with_further puts weight s (part st s))
 refresh_ends puts weight lighter of P K st base s batch carried holds rest h active now =
     let own : CoupledSlot of (slot_at st s) (record { used = true; batch = batch; call = None }) = own_slot of st base s batch rest h in
@@ -205,7 +205,7 @@ refresh_ends puts weight lighter of P K st base s batch carried holds rest h act
     (out_does puts of P K st base s true batch (record (slot_at st s) { order = [] }) carried holds refl rest h active refl (ap (λ (t : Bool). if t then Active [] else Inactive) active)
     (record { used = own.used; idle = refl; batch = own.batch; free = own.free; owned = own.owned; inactive = λ e. refl; once = refl }) now)
 
-begins_refresh : {T R X : Type 0} (of : Naming T R X) (st : waiting.State T R) (before : State) (s : ℕ) → NearAt of [] st before → is_free (slot_at st s).kind ≡ false → waiting.is_active (slot_at st s) ≡ true
+begins_refresh : {T R X : Type 0} (of : Naming T R X) (st : waiting.State T R) (before : State) (s : ℕ) → NearAt of [] st before → is_free (slot_at st s).kind ≡ false → waiting.has_guard (slot_at st s) ≡ true
     → next st.size before (Begin s job.TheVariants.Refresh) ≡ Some (busy before s (machine.slot_at before s).batch (Out true) [], DoneEvent)
 begins_refresh of st before s n used active =
     at_idle of st before st.size s (Begin s job.TheVariants.Refresh) _ n used (begin_refresh st.size before s _ (in_machine of st before s n (in_use st s used)) (active_head of st before s true n active))
@@ -213,17 +213,17 @@ begins_refresh of st before s n used active =
 pub refresh_run : {T R X : Type 0} (puts : R → T → List T) (weight : T → ℕ) → Lighter puts weight → (of : Naming T R X) (P : T × R → Type 0) → Names puts of P → (st : waiting.State T R) (before : State) (s : ℕ) → Holds T R P st → NearAt of [] st before
     → Run puts of (Refresh s) st before (step puts weight st (Refresh s))
 refresh_run {T} {R} puts weight lighter of P names st before s holds near =
-    run_unless puts of (Refresh s) st before done None (no_guard st s) tt (with_further puts weight s (part_if_alone st s)) near (λ e. go (is_owned (slot_at st s).kind || ((slot_at st s).guards == 1)) refl (guard_of st s e))
+    run_unless puts of (Refresh s) st before done_reply None (no_guard st s) tt (with_further puts weight s (part_if_alone st s)) near (λ e. go (is_owned (slot_at st s).kind || ((slot_at st s).guards == 1)) refl (guard_of st s e))
   where
     n : NearAt of [] st before
     n = near
 
-    parts : (is_free (slot_at st s).kind ≡ false) × (waiting.is_active (slot_at st s) ≡ true) → JobRun puts of st.size s (slot_at st s).guards job.TheVariants.Refresh before (with_further puts weight s (part st s))
+    parts : (is_free (slot_at st s).kind ≡ false) × (waiting.has_guard (slot_at st s) ≡ true) → JobRun puts of st.size s (slot_at st s).guards job.TheVariants.Refresh before (with_further puts weight s (part st s))
     parts g =
         job_run puts of st.size s (slot_at st s).guards job.TheVariants.Refresh before _ (with_further puts weight s (part st s)) (begins_refresh of st before s (near) g.0 g.1)
         (refresh_ends puts weight lighter of P _ st before s _ (run_carried puts of P names st.size s _) holds (near_at_rest of st before s (near) g.0) (in_machine of st before s (near) (in_use st s g.0)) g.1 (Leads.stays _))
 
-    go : (t : Bool) → (is_owned (slot_at st s).kind || ((slot_at st s).guards == 1)) ≡ t → (is_free (slot_at st s).kind ≡ false) × (waiting.is_active (slot_at st s) ≡ true) → Run puts of (Refresh s) st before (Done, with_further puts weight s (if t then part st s else (st, [])))
+    go : (t : Bool) → (is_owned (slot_at st s).kind || ((slot_at st s).guards == 1)) ≡ t → (is_free (slot_at st s).kind ≡ false) × (waiting.has_guard (slot_at st s) ≡ true) → Run puts of (Refresh s) st before (Done, with_further puts weight s (if t then part st s else (st, [])))
     go true is g =
         let run : JobRun puts of st.size s (slot_at st s).guards job.TheVariants.Refresh before (with_further puts weight s (part st s)) = parts g in
         run_of puts of (Refresh s) st before st.size s (slot_at st s).guards job.TheVariants.Refresh Done (with_further puts weight s (part st s)) refl run
@@ -234,10 +234,10 @@ refresh_run {T} {R} puts weight lighter of P names st before s holds near =
 pub refresh_list : {T R : Type 0} (puts : R → T → List T) (weight : T → ℕ) → Lighter puts weight → (of : ℕ → T) (by : ℕ → R) (st : waiting.State T R) (before : State) (s : ℕ) → NearAt (with_reclaimers of by) [] st before
     → EachList puts of by (Refresh s) st before (step puts weight st (Refresh s))
 refresh_list {T} {R} puts weight lighter of by st before s n =
-    list_unless puts of by (Refresh s) st before done None (no_guard st s) tt (with_further puts weight s (part_if_alone st s)) n (λ e events answers later makes legal names with put.
+    list_unless puts of by (Refresh s) st before done_reply None (no_guard st s) tt (with_further puts weight s (part_if_alone st s)) n (λ e events answers later makes legal names with put.
     go (is_owned (slot_at st s).kind || ((slot_at st s).guards == 1)) (guard_of st s e) events answers later makes legal put)
   where
-    go : (t : Bool) → (is_free (slot_at st s).kind ≡ false) × (waiting.is_active (slot_at st s) ≡ true) → (events : List Event) (answers : List Answer) (later : State) → Where t (IsJob s job.TheVariants.Refresh) events
+    go : (t : Bool) → (is_free (slot_at st s).kind ≡ false) × (waiting.has_guard (slot_at st s) ≡ true) → (events : List Event) (answers : List Answer) (later : State) → Where t (IsJob s job.TheVariants.Refresh) events
         → play st.size before events ≡ Some (later, answers) → ArePutBy puts of by events answers → IsOutcome T R of by (Refresh s) (Done, with_further puts weight s (if t then part st s else (st, []))) events answers later
     go true g events answers later makes legal put =
         job_outcome of by (Refresh s) s (slot_at st s).guards Done (with_further puts weight s (part st s)) events answers later

@@ -19,7 +19,7 @@ use Rattle.seize_model.specs.Waiting.State.{slot_at}
 use Rattle.seize_model.specs.Waiting.Attempt.{put}
 use Rattle.seize_model.specs.Waiting.Further.{with_further, Lighter}
 use Rattle.seize_model.specs.Waiting.Calls.{no_guard, not_registered, unless, is_free, link_at, with_number_free}
-use Rattle.seize_model.specs.Waiting.Lists.{End, Protect, Swap, Reply, Done, Kept, Found, Refused, done, end_reply, reply, retire_old, step}
+use Rattle.seize_model.specs.Waiting.Lists.{End, Protect, Swap, Reply, Done, Kept, Found, Refused, done_reply, end_reply, reply, retire_old, step}
 use Rattle.seize_model.specs.Agreement.Shows.{held_value}
 use Rattle.seize_model.specs.Agreement.Play.{play, with_answer}
 use Rattle.seize_machine.specs.Machine.History.{handed}
@@ -38,12 +38,12 @@ no_guards : (k : ℕ) → not (k == 0) ≡ false → k ≡ 0
 no_guards k e = grind arith
 
 -- a slot in use without a guard gives its number back
-end_step : {T R X : Type 0} (of : Naming T R X) (st : waiting.State T R) (before : State) (s : ℕ) → NearAt of [] st before → is_free (slot_at st s).kind ≡ false → waiting.is_active (slot_at st s) ≡ false
+end_step : {T R X : Type 0} (of : Naming T R X) (st : waiting.State T R) (before : State) (s : ℕ) → NearAt of [] st before → is_free (slot_at st s).kind ≡ false → waiting.has_guard (slot_at st s) ≡ false
     → next st.size before (Give s) ≡ Some (machine_next.set_slot before s (record { used = false; batch = (machine.slot_at before s).batch; call = None }), DoneEvent)
 end_step of st before s n used e =
     at_idle of st before st.size s (Give s) _ n used (give_step st.size before s _ (in_machine of st before s n (in_use st s used)) (active_head of st before s false n e))
 
-end_near : {T R X : Type 0} (of : Naming T R X) (st : waiting.State T R) (before : State) (s : ℕ) → NearAt of [] st before → is_free (slot_at st s).kind ≡ false → waiting.is_active (slot_at st s) ≡ false
+end_near : {T R X : Type 0} (of : Naming T R X) (st : waiting.State T R) (before : State) (s : ℕ) → NearAt of [] st before → is_free (slot_at st s).kind ≡ false → waiting.has_guard (slot_at st s) ≡ false
     → NearAt of [] (with_number_free st s) (machine_next.set_slot before s (record { used = false; batch = (machine.slot_at before s).batch; call = None }))
 end_near of st before s n used e =
     let within : s < length st.slots = in_use st s used in
@@ -51,9 +51,9 @@ end_near of st before s n used e =
 
 pub end_run : {T R X : Type 0} (puts : R → T → List T) (weight : T → ℕ) (of : Naming T R X) (st : waiting.State T R) (before : State) (s : ℕ) → NearAt of [] st before
     → Run puts of (End s) st before (step puts weight st (End s))
-end_run {T} {R} puts weight of st before s near = go (waiting.is_active (slot_at st s)) refl
+end_run {T} {R} puts weight of st before s near = go (waiting.has_guard (slot_at st s)) refl
   where
-    go : (t : Bool) → waiting.is_active (slot_at st s) ≡ t → Run puts of (End s) st before (reply end_reply None (unless (not_registered st s) st (if t then (Ok false, (st, [])) else (Ok true, (with_number_free st s, [])))))
+    go : (t : Bool) → waiting.has_guard (slot_at st s) ≡ t → Run puts of (End s) st before (reply end_reply None (unless (not_registered st s) st (if t then (Ok false, (st, [])) else (Ok true, (with_number_free st s, [])))))
     go true e = run_unless puts of (End s) st before end_reply None (not_registered st s) false (st, []) near (λ f.
         no_events puts of (End s) st before Kept st (near) (sym (ap (λ (b : Bool). if b then [] else Give s ∷ []) e)) refl)
     go false e = run_unless puts of (End s) st before end_reply None (not_registered st s) true (with_number_free st s, []) near (λ f.
@@ -64,9 +64,9 @@ end_run {T} {R} puts weight of st before s near = go (waiting.is_active (slot_at
 
 pub end_list : {T R : Type 0} (puts : R → T → List T) (weight : T → ℕ) (of : ℕ → T) (by : ℕ → R) (st : waiting.State T R) (before : State) (s : ℕ) → NearAt (with_reclaimers of by) [] st before
     → EachList puts of by (End s) st before (step puts weight st (End s))
-end_list {T} {R} puts weight of by st before s n = go (waiting.is_active (slot_at st s)) refl
+end_list {T} {R} puts weight of by st before s n = go (waiting.has_guard (slot_at st s)) refl
   where
-    go : (t : Bool) → waiting.is_active (slot_at st s) ≡ t → EachList puts of by (End s) st before (reply end_reply None (unless (not_registered st s) st (if t then (Ok false, (st, [])) else (Ok true, (with_number_free st s, [])))))
+    go : (t : Bool) → waiting.has_guard (slot_at st s) ≡ t → EachList puts of by (End s) st before (reply end_reply None (unless (not_registered st s) st (if t then (Ok false, (st, [])) else (Ok true, (with_number_free st s, [])))))
     go true e = list_unless puts of by (End s) st before end_reply None (not_registered st s) false (st, []) n (λ f events answers later makes legal names with put.
         no_list of by (End s) st.size before Kept st events answers later n (makes ∙ ap (λ (b : Bool). if b then [] else Give s ∷ []) e) legal refl)
     go false e = list_unless puts of by (End s) st before end_reply None (not_registered st s) true (with_number_free st s, []) n (λ f events answers later makes legal names with put.
@@ -78,12 +78,12 @@ end_list {T} {R} puts weight of by st before s n = go (waiting.is_active (slot_a
 pub same_link : {T R X : Type 0} (of : Naming T R X) (st : waiting.State T R) (ms : State) (l : ℕ) → NearAt of [] st ms → link_at st l ≡ held_value of.link (machine.link_at ms l)
 same_link of st ms l n = sym (ap (λ k. get_or k l None) n.links_are) ∙ get_or-map (held_value of.link) ms.links l None
 
-link_there : {T R X : Type 0} (of : Naming T R X) (st : waiting.State T R) (ms : State) (s l : ℕ) → NearAt of [] st ms → waiting.is_active (slot_at st s) ≡ true → l < length st.links → machine_next.can_link ms s l ≡ true
+link_there : {T R X : Type 0} (of : Naming T R X) (st : waiting.State T R) (ms : State) (s l : ℕ) → NearAt of [] st ms → waiting.has_guard (slot_at st s) ≡ true → l < length st.links → machine_next.can_link ms s l ≡ true
 link_there of st ms s l n active h =
     let many : length ms.links ≡ length st.links = sym (length-map ms.links (held_value of.link)) ∙ ap length n.links_are in
     ap (λ (t : Bool). t && nat_lt l (length ms.links)) (active_head of st ms s true n active) ∙ lt_yes l (length ms.links) (omega arith)
 
-pub reads : {T R X : Type 0} (of : Naming T R X) (st : waiting.State T R) (before : State) (s l : ℕ) → NearAt of [] st before → waiting.is_active (slot_at st s) ≡ true → l < length st.links
+pub reads : {T R X : Type 0} (of : Naming T R X) (st : waiting.State T R) (before : State) (s l : ℕ) → NearAt of [] st before → waiting.has_guard (slot_at st s) ≡ true → l < length st.links
     → next st.size before (ReadLink s l) ≡ Some (before, Link (machine.link_at before l))
 reads of st before s l n active h = if_yes _ _ _ (link_there of st before s l n active h)
 
@@ -122,7 +122,7 @@ has_last v (x ∷ xs) = grind (arith, has_last v xs)
 
 -- The exchange of a link.
 
-pub swaps : {T R X : Type 0} (of : Naming T R X) (st : waiting.State T R) (before : State) (s l : ℕ) (number : Option ℕ) → NearAt of [] st before → waiting.is_active (slot_at st s) ≡ true → l < length st.links → is_none_or_fresh before number ≡ true
+pub swaps : {T R X : Type 0} (of : Naming T R X) (st : waiting.State T R) (before : State) (s l : ℕ) (number : Option ℕ) → NearAt of [] st before → waiting.has_guard (slot_at st s) ≡ true → l < length st.links → is_none_or_fresh before number ≡ true
     → next st.size before (ExchangeLink s l (SwapLink number)) ≡ Some (link_swapped before l number, Link (machine.link_at before l))
 swaps of st before s l number n active h fresh = if_yes _ _ _ (ap (λ (t : Bool). t && is_none_or_fresh before number) (link_there of st before s l n active h) ∙ fresh)
 
@@ -162,7 +162,7 @@ swap_run {T} {R} puts weight lighter of P names st before s l new r h holds new_
         = retire_job puts weight lighter of P names (record st { links = set st.links l new }) (link_swapped before l name.0) s old (of.link old, r)
         (record { batches = holds.batches; retired = holds.retired }) (old_holds (of.link old) (same_link of st before l near ∙ ap (held_value of.link) is))
         (swapped_near of st before l name.0 new near name.2) used (is_free_name (has old (link_swapped before l name.0).named) _ loose) own in
-        subst (λ (x : Option Refusal). Run puts of (Swap s l new r) st before (reply done (Some (of.link old)) (unless x (record st { links = set st.links l new }) (Ok tt, with_further puts weight s (put (record st { links = set st.links l new }) s (of.link old, r))))))
+        subst (λ (x : Option Refusal). Run puts of (Swap s l new r) st before (reply done_reply (Some (of.link old)) (unless x (record st { links = set st.links l new }) (Ok tt, with_further puts weight s (put (record st { links = set st.links l new }) s (of.link old, r))))))
         (sym (ap (λ (t : Bool). if t then Some NotInUse else None) used))
         (record {
           events = ExchangeLink s l (SwapLink name.0) ∷ run.events;
@@ -214,7 +214,7 @@ swap_list {T} {R} puts weight lighter of by st before s l new r h n = go (no_gua
         let ends : JobEnds (with_reclaimers of by) s (slot_at st s).guards (with_further puts weight s (put (record st { links = set st.links l new }) s (of old, r))) later first.rest
         = retire_job_list puts weight lighter of by (record st { links = set st.links l new }) (link_swapped before l number) s old (of old) r es first.rest later
         (swapped_near (with_reclaimers of by) st before l number new n name) used refl more (ap (λ (k : State). play st.size k es) (sym both.0) ∙ first.legal) with_old put_rest.1 in
-        subst (λ (x : Option Refusal). IsOutcome T R of by (Swap s l new r) (reply done (Some (of old)) (unless x (record st { links = set st.links l new }) (Ok tt, with_further puts weight s (put (record st { links = set st.links l new }) s (of old, r))))) events answers later)
+        subst (λ (x : Option Refusal). IsOutcome T R of by (Swap s l new r) (reply done_reply (Some (of old)) (unless x (record st { links = set st.links l new }) (Ok tt, with_further puts weight s (put (record st { links = set st.links l new }) s (of old, r))))) events answers later)
         (sym (ap (λ (t : Bool). if t then Some NotInUse else None) used))
         (outcome_of of by (Swap s l new r) Done (with_further puts weight s (put (record st { links = set st.links l new }) s (of old, r))) events answers later
         (subst (λ (k : State). NearAt (with_reclaimers of by) [] (with_further puts weight s (put (record st { links = set st.links l new }) s (of old, r))).0 k) (sym ends.is) ends.near)
@@ -223,7 +223,7 @@ swap_list {T} {R} puts weight lighter of by st before s l new r h n = go (no_gua
     not_refused : (found : Option ℕ) (events : List Event) → MakesFor (retire_old puts weight s new r (Ok (held_value of found)) (record st { links = set st.links l new }, [])).0 st before (Swap s l new r) events → no_guard st s ≡ None → Makes st before (Swap s l new r) events
     not_refused None events makes e = makes
     not_refused (Some old) events makes e =
-        subst (λ (x : Option Refusal). MakesFor (reply done (Some (of old)) (unless x (record st { links = set st.links l new }) (Ok tt, with_further puts weight s (put (record st { links = set st.links l new }) s (of old, r))))).0 st before (Swap s l new r) events)
+        subst (λ (x : Option Refusal). MakesFor (reply done_reply (Some (of old)) (unless x (record st { links = set st.links l new }) (Ok tt, with_further puts weight s (put (record st { links = set st.links l new }) s (of old, r))))).0 st before (Swap s l new r) events)
         (ap (λ (t : Bool). if t then Some NotInUse else None) (guard_of st s e).0) makes
 
     go : (refusal : Option Refusal) → no_guard st s ≡ refusal

@@ -5,7 +5,7 @@ use Rattle.std.proofs.lemmas.List.Concat.{flat_map-cons}
 use Rattle.std.proofs.Math.ListN.{get_or-map}
 use Rattle.seize_machine.specs.Machine.State.{has}
 use Rattle.seize_model.specs.Waiting.State.{Slot, State, slot_at, retired_at, set_slot, no_slot, is_kept}
-use Rattle.seize_model.specs.Waiting.Attempt.{Outcome, release, release_all, wait_if_active, with_batch_retired, gives_up, attempt, with_value, put, part}
+use Rattle.seize_model.specs.Waiting.Attempt.{StateAndGone, release, release_all, wait_if_active, with_batch_retired, gives_up, attempt, with_batch_value, put, part}
 use Rattle.seize_model.specs.Waiting.Further.{put_by, further}
 use Rattle.seize_model.proofs.Cases.{either}
 use Rattle.seize_model.proofs.Simulation.Coupling.{Naming}
@@ -24,7 +24,7 @@ pub record Holds (T R : Type 0) (P : T × R → Type 0) (st : State T R) : Type 
   pub retired : (b : ℕ) → AllByRecursion P (retired_at st b)
 
 -- and so has each value gone
-abbrev pub HoldsAfter : {T R : Type 0} → (T × R → Type 0) → Outcome T R → Type 0
+abbrev pub HoldsAfter : {T R : Type 0} → (T × R → Type 0) → StateAndGone T R → Type 0
 HoldsAfter {T} {R} P o = Holds T R P o.0 × AllByRecursion P o.1
 
 -- a property that every value has
@@ -74,7 +74,7 @@ holds_set {T} {R} P st s slot h k = record {
 
 pub holds_release : {T R : Type 0} (P : T × R → Type 0) (st : State T R) (b : ℕ) → Holds T R P st → HoldsAfter P (release st b)
 holds_release {T} {R} P st b h =
-    either (λ (o : Outcome T R). HoldsAfter P o) (is_kept st b) _ _ (h, tt)
+    either (λ (o : StateAndGone T R). HoldsAfter P o) (is_kept st b) _ _ (h, tt)
     (record { batches = h.batches; retired = λ i. at_set (λ (l : List (T × R)). AllByRecursion P l) st.retired b [] i [] tt (h.retired i) }, h.retired b)
 
 -- a batch that was detached, and one that was detached and released
@@ -89,18 +89,18 @@ holds_detached {T} {R} P st s h =
 
 pub holds_attempt : {T R : Type 0} (P : T × R → Type 0) (st : State T R) (s : ℕ) → Holds T R P st → HoldsAfter P (attempt st s)
 holds_attempt {T} {R} P st s h =
-    either (λ (o : Outcome T R). HoldsAfter P o) (gives_up st s) _ _ (h, tt) (holds_release P (with_batch_retired st s) (length st.retired) (holds_detached P st s h))
+    either (λ (o : StateAndGone T R). HoldsAfter P o) (gives_up st s) _ _ (h, tt) (holds_release P (with_batch_retired st s) (length st.retired) (holds_detached P st s h))
 
 pub holds_detach : {T R : Type 0} (P : T × R → Type 0) (st : State T R) (s : ℕ) → Holds T R P st → HoldsAfter P (release (with_batch_retired st s) (length st.retired))
 holds_detach P st s h = holds_release P (with_batch_retired st s) (length st.retired) (holds_detached P st s h)
 
-pub holds_appended : {T R : Type 0} (P : T × R → Type 0) (st : State T R) (s : ℕ) (v : T × R) → Holds T R P st → P v → Holds T R P (with_value st s v)
+pub holds_appended : {T R : Type 0} (P : T × R → Type 0) (st : State T R) (s : ℕ) (v : T × R) → Holds T R P st → P v → Holds T R P (with_batch_value st s v)
 holds_appended P st s v h k = holds_set P st s _ h (all_append P (slot_at st s).batch (v ∷ []) (h.batches s) (k, tt))
 
 pub holds_put : {T R : Type 0} (P : T × R → Type 0) (st : State T R) (s : ℕ) (v : T × R) → Holds T R P st → P v → HoldsAfter P (put st s v)
 holds_put {T} {R} P st s v h k =
-    let next : Holds T R P (with_value st s v) = holds_appended P st s v h k in
-    either (λ (o : Outcome T R). HoldsAfter P o) _ _ _ (holds_attempt P (with_value st s v) s next) (next, tt)
+    let next : Holds T R P (with_batch_value st s v) = holds_appended P st s v h k in
+    either (λ (o : StateAndGone T R). HoldsAfter P o) _ _ _ (holds_attempt P (with_batch_value st s v) s next) (next, tt)
 
 pub holds_release_all : {T R : Type 0} (P : T × R → Type 0) (st : State T R) (bs : List ℕ) → Holds T R P st → HoldsAfter P (release_all st bs)
 holds_release_all P st [] h = (h, tt)

@@ -10,7 +10,7 @@ use Rattle.seize_model.specs.Waiting.State as waiting
 use Rattle.seize_model.specs.Waiting.State.{slot_at, retired_at}
 use Rattle.seize_model.specs.Waiting.Calls.{link_at}
 use Rattle.seize_model.specs.Waiting.Lists.{Call, Retire, Protect, Swap, step}
-use Rattle.seize_model.specs.Agreement.Shows.{Shows}
+use Rattle.seize_model.specs.Agreement.Shows.{ShowsState}
 use Rattle.seize_machine.specs.Machine.History.{handed}
 use Rattle.seize_model.specs.Agreement.Statement.{HasLink, IsRun, AreRuns, AgreementAnew}
 use Rattle.seize_model.proofs.WaitingSets.LinkCounts.{step_links}
@@ -72,7 +72,7 @@ own_holds {T} {R} puts st (Swap s l new r) = (
 own_holds puts st call = tt
 
 -- one call is a run under a naming that is as before below a bound
-pub call_anew : {T R : Type 0} (puts : R → T → List T) (weight : T → ℕ) → Lighter puts weight → (bound : ℕ) (of : ℕ → T) (st : waiting.State T R) (before : machine.State) (call : Call T R) → HasLink st call → Shows T R of st before → past_state before ≤ bound
+pub call_anew : {T R : Type 0} (puts : R → T → List T) (weight : T → ℕ) → Lighter puts weight → (bound : ℕ) (of : ℕ → T) (st : waiting.State T R) (before : machine.State) (call : Call T R) → HasLink st call → ShowsState T R of st before → past_state before ≤ bound
     → (other : ℕ → T) × AgreeBelow bound of other × IsRun T R other call st before (step puts weight st call)
 call_anew {T} {R} puts weight lighter bound of st before call link shows h =
     let same : AgreeBelow bound of (new_naming puts (roots st (own_values st call)) bound of) = new_naming_below puts (roots st (own_values st call)) bound of in (
@@ -108,14 +108,14 @@ names_same bound of other call (e ∷ es) same h names = names
 
 -- Each call of a list is a run, all under one naming: a later naming is as before on the numbers that stand in the state at which a
 -- call was made and on those that it handed.
-pub calls_anew : {T R : Type 0} (puts : R → T → List T) (weight : T → ℕ) → Lighter puts weight → (bound : ℕ) (of : ℕ → T) (st : waiting.State T R) (before : machine.State) (calls : List (Call T R)) → All (HasLink st) calls → Shows T R of st before
-    → (other : ℕ → T) × AgreeBelow bound of other × Shows T R other st before × AreRuns puts weight other st before calls
+pub calls_anew : {T R : Type 0} (puts : R → T → List T) (weight : T → ℕ) → Lighter puts weight → (bound : ℕ) (of : ℕ → T) (st : waiting.State T R) (before : machine.State) (calls : List (Call T R)) → All (HasLink st) calls → ShowsState T R of st before
+    → (other : ℕ → T) × AgreeBelow bound of other × ShowsState T R other st before × AreRuns puts weight other st before calls
 calls_anew puts weight lighter bound of st before [] links shows = (of, λ n h. refl, shows, tt)
 calls_anew {T} {R} puts weight lighter bound of st before (call ∷ calls) links shows =
     let one : (other : ℕ → T) × AgreeBelow (bound + past_state before) of other × IsRun T R other call st before (step puts weight st call)
     = call_anew puts weight lighter (bound + past_state before) of st before call (links 0 call (omega arith)) shows (omega arith) in
     let run : IsRun T R one.0 call st before (step puts weight st call) = one.2 in
-    let rest : (other : ℕ → T) × AgreeBelow (bound + past_state before + past (handed run.answers) + past_first run.events) one.0 other × Shows T R other (step puts weight st call).1.0 run.later × AreRuns puts weight other (step puts weight st call).1.0 run.later calls
+    let rest : (other : ℕ → T) × AgreeBelow (bound + past_state before + past (handed run.answers) + past_first run.events) one.0 other × ShowsState T R other (step puts weight st call).1.0 run.later × AreRuns puts weight other (step puts weight st call).1.0 run.later calls
     = calls_anew puts weight lighter (bound + past_state before + past (handed run.answers) + past_first run.events) one.0 (step puts weight st call).1.0 run.later calls
     (λ k d h. still_linked st (step puts weight st call).1.0 (get_or calls k d) (step_links puts weight st call) (links (suc k) d (omega arith))) run.shows in
     let same : AgreeBelow (bound + past_state before) of rest.0 = λ n h. rest.1 n (omega arith) ∙ one.1 n h in (
@@ -141,5 +141,5 @@ calls_anew {T} {R} puts weight lighter bound of st before (call ∷ calls) links
 -- the same of any numbers that are to be kept
 pub agrees_anew : {T R : Type 0} (puts : R → T → List T) (weight : T → ℕ) → Lighter puts weight → AgreementAnew puts weight
 agrees_anew {T} {R} puts weight lighter of kept st before calls links shows =
-    let found : (other : ℕ → T) × AgreeBelow (past kept) of other × Shows T R other st before × AreRuns puts weight other st before calls = calls_anew puts weight lighter (past kept) of st before calls links shows in
+    let found : (other : ℕ → T) × AgreeBelow (past kept) of other × ShowsState T R other st before × AreRuns puts weight other st before calls = calls_anew puts weight lighter (past kept) of st before calls links shows in
     (found.0, map_same (past kept) of found.0 kept found.1 (omega arith), found.2, found.3)

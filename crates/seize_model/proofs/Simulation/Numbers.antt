@@ -17,7 +17,7 @@ use Rattle.seize_model.specs.declared.kind.Kind.{Kind}
 use Rattle.seize_model.specs.declared.kind.Kind.TheVariants.{Registered, Owned}
 use Rattle.seize_table.specs.declared.refusal.Refusal.TheVariants.{NoNumbers}
 use Rattle.seize_model.specs.Waiting.State as waiting
-use Rattle.seize_model.specs.Waiting.State.{slot_at, set_slot, keeps}
+use Rattle.seize_model.specs.Waiting.State.{slot_at, set_slot, waits_for}
 use Rattle.seize_model.specs.Waiting.Calls.{least_unused, with_number_in_use, is_free, set_guards}
 use Rattle.seize_model.specs.Waiting.Lists.{Register, EnterOwned, Number, Refused, reply, step}
 use Rattle.seize_model.specs.Agreement.Shows.{head_of}
@@ -74,7 +74,7 @@ near_taken {T} {R} of st ms n kind false near used is few t_is =
     let within : n < length st.slots = grind arith in
     let free : is_free (slot_at st n).kind ≡ true = rw (← is) at (passes_at_first (λ slot. is_free slot.kind) st.slots waiting.no_slot (rw is at within)) in
     let shown : CoupledSlot of (slot_at st n) (machine.slot_at ms n) = near.slot n in
-    let off : waiting.is_active (slot_at st n) ≡ false = ap (λ (k : ℕ). not (k == 0)) (shown.free free) in
+    let off : waiting.has_guard (slot_at st n) ≡ false = ap (λ (k : ℕ). not (k == 0)) (shown.free free) in
     near_set of [] st ms.slots ms.heads ms.batches ms.links n (record (slot_at st n) { kind = kind; guards = 0 }) (record (machine.slot_at ms n) { used = true }) near within
     (record {
       used = sym (ap (λ (t : Bool). not t) used);
@@ -95,7 +95,7 @@ near_taken {T} {R} of st ms n kind true near used is few t_is =
       heads_are = ap (λ l. l ++ Inactive ∷ []) near.heads_are ∙ sym (map-append head_of st.slots (new ∷ []));
       retired = near.retired;
       values = near.values;
-      counts = λ b. near.counts b ∙ ap (λ (k : ℕ). pos (k + 0)) (sym (count_push_no (keeps b) st.slots new refl));
+      counts = λ b. near.counts b ∙ ap (λ (k : ℕ). pos (k + 0)) (sym (count_push_no (waits_for b) st.slots new refl));
       links_are = near.links_are;
     }
   where
@@ -198,7 +198,7 @@ owned_step : {T R X : Type 0} (of : Naming T R X) (st : waiting.State T R) (befo
 owned_step {T} {R} of st before n e =
     let own : _ × _ × _ = slot_taken st (least_unused st.slots) Owned (least_unused st.slots == length st.slots) refl refl in
     let used : is_free (slot_at (with_number_in_use st (least_unused st.slots) Owned 0) (least_unused st.slots)).kind ≡ false = ap is_free own.0 in
-    let off : waiting.is_active (slot_at (with_number_in_use st (least_unused st.slots) Owned 0) (least_unused st.slots)) ≡ false = ap (λ (g : ℕ). not (g == 0)) own.1 in
+    let off : waiting.has_guard (slot_at (with_number_in_use st (least_unused st.slots) Owned 0) (least_unused st.slots)) ≡ false = ap (λ (g : ℕ). not (g == 0)) own.1 in
     enter_step of st.size (with_number_in_use st (least_unused st.slots) Owned 0) _ (least_unused st.slots) (taken_near of st before n e) used off
 
 owned_near : {T R X : Type 0} (of : Naming T R X) (st : waiting.State T R) (before : State) → NearAt of [] st before → (least_unused st.slots == 2 ^ 64 - 32) ≡ false
@@ -206,7 +206,7 @@ owned_near : {T R X : Type 0} (of : Naming T R X) (st : waiting.State T R) (befo
 owned_near {T} {R} of st before n e =
     let own : _ × _ × _ = slot_taken st (least_unused st.slots) Owned (least_unused st.slots == length st.slots) refl refl in
     let used : is_free (slot_at (with_number_in_use st (least_unused st.slots) Owned 0) (least_unused st.slots)).kind ≡ false = ap is_free own.0 in
-    let off : waiting.is_active (slot_at (with_number_in_use st (least_unused st.slots) Owned 0) (least_unused st.slots)) ≡ false = ap (λ (g : ℕ). not (g == 0)) own.1 in
+    let off : waiting.has_guard (slot_at (with_number_in_use st (least_unused st.slots) Owned 0) (least_unused st.slots)) ≡ false = ap (λ (g : ℕ). not (g == 0)) own.1 in
     let later : State = set_head (shown_if (least_unused st.slots == length st.slots) before (least_unused st.slots)) (least_unused st.slots) (Active []) in
     subst (λ (x : waiting.State T R). NearAt of [] x later) own.2
     (near_entered of (with_number_in_use st (least_unused st.slots) Owned 0) (shown_if (least_unused st.slots == length st.slots) before (least_unused st.slots)) (least_unused st.slots) 1 (taken_near of st before n e) used off (omega arith) (λ f. omega arith))

@@ -4,8 +4,8 @@ use Rattle.std.specs.List.{count_by}
 use Rattle.std.proofs.lemmas.List.{length-replicate}
 use Rattle.seize_machine.specs.Machine.State as machine
 use Rattle.seize_machine.specs.Machine.State.{Head, Inactive, opening}
-use Rattle.seize_model.specs.Waiting.State.{Slot, State, new, no_slot, keeps}
-use Rattle.seize_model.specs.Agreement.Shows.{held_value, head_of, ShowsSlot, Shows, ShowsReclaimers}
+use Rattle.seize_model.specs.Waiting.State.{Slot, State, new, no_slot, waits_for}
+use Rattle.seize_model.specs.Agreement.Shows.{held_value, head_of, ShowsSlot, ShowsState, ShowsReclaimers}
 
 -- so many free slots, no retired batch, and what these numbers in the links stand for
 abbrev pub free_slots : {T R : Type 0} → (ℕ → T) → ℕ → ℕ → List (Option ℕ) → State T R
@@ -16,7 +16,7 @@ default_at zero i d = refl
 default_at (suc n) zero d = refl
 default_at (suc n) (suc i) d = default_at n i d
 
-none_waits : (T R : Type 0) (b n : ℕ) → count_by (keeps {T = T} {R = R} b) (replicate n no_slot) ≡ 0
+none_waits : (T R : Type 0) (b n : ℕ) → count_by (waits_for {T = T} {R = R} b) (replicate n no_slot) ≡ 0
 none_waits T R b zero = refl
 none_waits T R b (suc n) = none_waits T R b n
 
@@ -36,7 +36,7 @@ no_slot_shown of = record {
 }
 
 pub opened_shown : (T R : Type 0) (of : ℕ → T) (size slots : ℕ) (links : List (Option ℕ)) → slots ≤ 2 ^ 64 - 32
-    → Shows T R of (free_slots of size slots links) (opening slots links)
+    → ShowsState T R of (free_slots of size slots links) (opening slots links)
 opened_shown T R of size slots links few = record {
   numbers = subst (λ (k : ℕ). k ≤ 2 ^ 64 - 32) (sym as_many) few;
   slots = length-replicate slots machine.no_slot ∙ sym as_many;
@@ -66,7 +66,7 @@ empty_links : {T : Type 0} (of : ℕ → T) (links : ℕ) → map (held_value of
 empty_links of zero = refl
 empty_links of (suc links) = ap (λ (l : List (Option _)). None ∷ l) (empty_links of links)
 
-pub new_shown : {T R : Type 0} (of : ℕ → T) (size links : ℕ) → Shows T R of (new size links) (opening 0 (replicate links None))
+pub new_shown : {T R : Type 0} (of : ℕ → T) (size links : ℕ) → ShowsState T R of (new size links) (opening 0 (replicate links None))
 new_shown {T} {R} of size links =
-    subst (λ l. Shows T R of (record { size = size; slots = []; retired = []; links = l }) (opening 0 (replicate links None)))
+    subst (λ l. ShowsState T R of (record { size = size; slots = []; retired = []; links = l }) (opening 0 (replicate links None)))
     (empty_links of links) (opened_shown T R of size 0 (replicate links None) (omega arith))

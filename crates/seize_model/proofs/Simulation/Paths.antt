@@ -2,7 +2,7 @@
 use Rattle.std.proofs.Common.{◌≡◌, ℕ, ◌<◌, false, List, [], ◌∷◌, ◌++◌, length, Some, None, subst}
 use Rattle.std.specs.List.{AllByRecursion}
 use Rattle.seize_machine.specs.Machine.State.{State, Rest}
-use Rattle.seize_machine.specs.Machine.Event.{Event, slot_of}
+use Rattle.seize_machine.specs.Machine.Event.{Event, event_slot}
 use Rattle.seize_machine.specs.Machine.Next.{next}
 use Rattle.seize_machine.specs.Machine.History.{handed_value, is_link_event}
 use Rattle.seize_machine.specs.declared.machine.event.Answer.{Answer}
@@ -14,7 +14,7 @@ use Rattle.seize_model.proofs.Simulation.Coupling.{Naming, Denote}
 
 -- an event of s within a call
 abbrev pub IsOwn : ℕ → Event → Type 0
-IsOwn s e = (slot_of e ≡ s) × (is_link_event s e ≡ false) × (is_return e ≡ false)
+IsOwn s e = (event_slot e ≡ s) × (is_link_event s e ≡ false) × (is_return e ≡ false)
 
 -- forced events that hand nothing
 pub data Path (size s : ℕ) : State → State → Type 0 where

@@ -5,7 +5,7 @@ use Rattle.seize_machine.specs.Machine.State.{State, Rest}
 use Rattle.seize_machine.specs.Machine.Event.{Put}
 use Rattle.seize_model.specs.Waiting.State as waiting
 use Rattle.seize_model.specs.Waiting.State.{slot_at}
-use Rattle.seize_model.specs.Waiting.Attempt.{Outcome, after, put}
+use Rattle.seize_model.specs.Waiting.Attempt.{StateAndGone, put, with_gone}
 use Rattle.seize_model.specs.Waiting.Further.{further, settle, with_further, still_to_come, Lighter}
 use Rattle.seize_model.proofs.Simulation.Paths.{Carried}
 use Rattle.seize_model.proofs.Simulation.Determinism.{only_queue}
@@ -18,7 +18,7 @@ use Rattle.seize_model.proofs.Simulation.Walks.{after_put}
 use Rattle.seize_model.proofs.WaitingSets.FurtherValues.{falls}
 
 -- the work of a call of s to where it may return
-pub record Ends {T R X : Type 0} (of : Naming T R X) (K : State → List ℕ → Type 0) (size s guards : ℕ) (hs : List ℕ) (o : Outcome T R) : Type 0 where
+pub record Ends {T R X : Type 0} (of : Naming T R X) (K : State → List ℕ → Type 0) (size s guards : ℕ) (hs : List ℕ) (o : StateAndGone T R) : Type 0 where
   pub base : State
   pub batch : List ℕ
   pub handed : List ℕ
@@ -29,8 +29,8 @@ pub record Ends {T R X : Type 0} (of : Naming T R X) (K : State → List ℕ →
   pub same_size : o.0.size ≡ size
   pub same_guards : (slot_at o.0 s).guards ≡ guards
 
-ends_after : {T R X : Type 0} (of : Naming T R X) (K : State → List ℕ → Type 0) (size s guards : ℕ) (hs given : List ℕ) (gone : List (T × R)) (o : Outcome T R)
-    → Denote of given gone → Ends of K size s guards (hs ++ given) o → Ends of K size s guards hs (after gone o)
+ends_after : {T R X : Type 0} (of : Naming T R X) (K : State → List ℕ → Type 0) (size s guards : ℕ) (hs given : List ℕ) (gone : List (T × R)) (o : StateAndGone T R)
+    → Denote of given gone → Ends of K size s guards (hs ++ given) o → Ends of K size s guards hs (with_gone gone o)
 ends_after of K size s guards hs given gone o e d = record {
   base = d.base;
   batch = d.batch;
@@ -82,7 +82,7 @@ settle_ends {T} {R} puts weight lighter of P K (suc n) size guards st base s bat
     (denote_append of queue does.more values (further puts (put st s v).1) rest does.further_stand) (does.same_size ∙ same) (does.same_guards ∙ g) fuel does.comes)
 
 -- a call's own work, and then what the values gone put
-pub settled_ends : {T R X : Type 0} (puts : R → T → List T) (weight : T → ℕ) → Lighter puts weight → (of : Naming T R X) (P : T × R → Type 0) (K : State → List ℕ → Type 0) (size s guards : ℕ) (hs : List ℕ) (o : Outcome T R) → Carried puts of P s size K
+pub settled_ends : {T R X : Type 0} (puts : R → T → List T) (weight : T → ℕ) → Lighter puts weight → (of : Naming T R X) (P : T × R → Type 0) (K : State → List ℕ → Type 0) (size s guards : ℕ) (hs : List ℕ) (o : StateAndGone T R) → Carried puts of P s size K
     → HoldsAfter P o → Does puts of K size s guards [] hs o → Ends of K size s guards hs (with_further puts weight s o)
 settled_ends {T} {R} puts weight lighter of P K size s guards hs o carried held d =
     ends_after of K size s guards hs d.handed o.1 (settle puts (still_to_come weight (slot_at o.0 s).batch (further puts o.1)) o.0 s (further puts o.1)) d.gone

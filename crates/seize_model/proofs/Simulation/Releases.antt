@@ -6,8 +6,8 @@ use Rattle.std.proofs.lemmas.List.{get_or-set_same, get_or-set_other, get_or_pas
 use Rattle.seize_machine.specs.Machine.State as machine
 use Rattle.seize_machine.specs.Machine.State.{Head, Batch, has, no_batch}
 use Rattle.seize_model.specs.Waiting.State as waiting
-use Rattle.seize_model.specs.Waiting.State.{keeps, is_kept, retired_at}
-use Rattle.seize_model.specs.Waiting.Attempt.{Outcome, release}
+use Rattle.seize_model.specs.Waiting.State.{waits_for, is_kept, retired_at}
+use Rattle.seize_model.specs.Waiting.Attempt.{StateAndGone, release}
 use Rattle.seize_machine.proofs.Facts.{one, occ, has_none}
 use Rattle.seize_model.proofs.Simulation.Coupling.{Near, Denote, Naming}
 use Rattle.seize_model.proofs.Cases.{in_or_past, or_same}
@@ -54,16 +54,16 @@ is_made batches b n e = go (in_or_past b (length batches))
 -- The first batch of the walk is counted down.
 pub near_less : {T R X : Type 0} (of : Naming T R X) (b : ℕ) (walk : List ℕ) (st : waiting.State T R) (slots : List machine.Slot) (heads : List Head) (batches : List Batch) (links : List (Option ℕ))
     → Near of (b ∷ walk) st slots heads batches links → has b walk ≡ false
-    → (b < length batches) × ((get_or batches b no_batch).count -ℤ pos 1 ≡ pos (count_by (keeps b) st.slots))
-    × Near of walk st slots heads (batch_with batches b false (pos (count_by (keeps b) st.slots))) links
+    → (b < length batches) × ((get_or batches b no_batch).count -ℤ pos 1 ≡ pos (count_by (waits_for b) st.slots))
+    × Near of walk st slots heads (batch_with batches b false (pos (count_by (waits_for b) st.slots))) links
 near_less {T} {R} of b walk st slots heads batches links n first =
     let none : occ b walk ≡ 0 = has_none b walk first in
     let own : one (b == b) ≡ 1 = grind arith in
-    let was : count_by (keeps b) st.slots + occ b (b ∷ walk) ≡ count_by (keeps b) st.slots + 1 = omega arith in
-    let count : (get_or batches b no_batch).count ≡ pos (count_by (keeps b) st.slots + 1) = n.counts b ∙ ap (λ (k : ℕ). pos k) was in
-    let there : b < length batches = is_made batches b (count_by (keeps b) st.slots) count in
-    let shown : Batch = record { values = (get_or batches b no_batch).values; count = pos (count_by (keeps b) st.slots) } in
-    let now : pos (count_by (keeps b) st.slots) ≡ pos (count_by (keeps b) st.slots + occ b walk) = ap (λ (k : ℕ). pos k) (omega arith) in (
+    let was : count_by (waits_for b) st.slots + occ b (b ∷ walk) ≡ count_by (waits_for b) st.slots + 1 = omega arith in
+    let count : (get_or batches b no_batch).count ≡ pos (count_by (waits_for b) st.slots + 1) = n.counts b ∙ ap (λ (k : ℕ). pos k) was in
+    let there : b < length batches = is_made batches b (count_by (waits_for b) st.slots) count in
+    let shown : Batch = record { values = (get_or batches b no_batch).values; count = pos (count_by (waits_for b) st.slots) } in
+    let now : pos (count_by (waits_for b) st.slots) ≡ pos (count_by (waits_for b) st.slots + occ b walk) = ap (λ (k : ℕ). pos k) (omega arith) in (
       there,
       omega (arith, ints),
       record {
@@ -73,7 +73,7 @@ near_less {T} {R} of b walk st slots heads batches links n first =
         heads_are = n.heads_are;
         retired = length-set batches b shown ∙ n.retired;
         values = λ i. values_kept batches b shown (λ k. Denote of k (retired_at st i)) refl i (n.values i);
-        counts = counts_change batches b shown (λ i. count_by (keeps i) st.slots + occ i (b ∷ walk)) (λ i. count_by (keeps i) st.slots + occ i walk) n.counts there now (λ i other. other_count b i walk (count_by (keeps i) st.slots) other);
+        counts = counts_change batches b shown (λ i. count_by (waits_for i) st.slots + occ i (b ∷ walk)) (λ i. count_by (waits_for i) st.slots + occ i walk) n.counts there now (λ i other. other_count b i walk (count_by (waits_for i) st.slots) other);
         links_are = n.links_are;
       },
     )
@@ -95,19 +95,19 @@ near_less {T} {R} of b walk st slots heads batches links n first =
             subst (λ (k : Batch). P k.values) (before ∙ sym past) p
 
 -- what both sides have once batch b with count k was looked at: it is gone where z says so
-abbrev pub BothGone : {T R X : Type 0} → Naming T R X → ℕ → List ℕ → List machine.Slot → List Head → List Batch → List (Option ℕ) → ℕ → Bool → Outcome T R → Type 0
+abbrev pub BothGone : {T R X : Type 0} → Naming T R X → ℕ → List ℕ → List machine.Slot → List Head → List Batch → List (Option ℕ) → ℕ → Bool → StateAndGone T R → Type 0
 BothGone {T} {R} of b walk slots heads batches links k z o =
     Near of walk o.0 slots heads (batch_with batches b z (pos k)) links × Denote of (if z then (get_or batches b no_batch).values else []) o.1
 
 -- A batch that nothing walks is gone if its count is 0.
 pub near_release : {T R X : Type 0} (of : Naming T R X) (b : ℕ) (walk : List ℕ) (st : waiting.State T R) (slots : List machine.Slot) (heads : List Head) (batches : List Batch) (links : List (Option ℕ))
     → Near of walk st slots heads batches links → b < length batches → has b walk ≡ false
-    → BothGone of b walk slots heads batches links (count_by (keeps b) st.slots) (count_by (keeps b) st.slots == 0) (release st b)
+    → BothGone of b walk slots heads batches links (count_by (waits_for b) st.slots) (count_by (waits_for b) st.slots == 0) (release st b)
 near_release {T} {R} of b walk st slots heads batches links n there first =
-    go (count_by (keeps b) st.slots == 0) (is_kept st b) (any_counts (keeps b) st.slots)
+    go (count_by (waits_for b) st.slots == 0) (is_kept st b) (any_counts (waits_for b) st.slots)
   where
     k : ℕ
-    k = count_by (keeps b) st.slots
+    k = count_by (waits_for b) st.slots
 
     same_count : pos k ≡ pos (k + occ b walk)
     same_count = let none : occ b walk ≡ 0 = has_none b walk first in ap (λ (i : ℕ). pos i) (omega arith)
@@ -128,7 +128,7 @@ near_release {T} {R} of b walk st slots heads batches links n there first =
         heads_are = n.heads_are;
         retired = length-set batches b _ ∙ n.retired ∙ sym (length-set st.retired b []);
         values = values_change of st.retired batches b [] (record { values = []; count = pos k }) within n.retired n.values refl;
-        counts = counts_change batches b (record { values = []; count = pos k }) (λ i. count_by (keeps i) st.slots + occ i walk) (λ i. count_by (keeps i) st.slots + occ i walk) n.counts there same_count (λ i other. refl);
+        counts = counts_change batches b (record { values = []; count = pos k }) (λ i. count_by (waits_for i) st.slots + occ i walk) (λ i. count_by (waits_for i) st.slots + occ i walk) n.counts there same_count (λ i other. refl);
         links_are = n.links_are;
       },
       n.values b,
@@ -142,7 +142,7 @@ near_release {T} {R} of b walk st slots heads batches links n there first =
         retired = length-set batches b _ ∙ n.retired;
         values = λ i. subst (λ (l : List (List (T × R))). Denote of (get_or (batch_with batches b false (pos k)) i no_batch).values (get_or l i [])) as_was
             (values_change of st.retired batches b (retired_at st b) (record { values = (get_or batches b no_batch).values; count = pos k }) within n.retired n.values (n.values b) i);
-        counts = counts_change batches b (record { values = (get_or batches b no_batch).values; count = pos k }) (λ i. count_by (keeps i) st.slots + occ i walk) (λ i. count_by (keeps i) st.slots + occ i walk) n.counts there same_count (λ i other. refl);
+        counts = counts_change batches b (record { values = (get_or batches b no_batch).values; count = pos k }) (λ i. count_by (waits_for i) st.slots + occ i walk) (λ i. count_by (waits_for i) st.slots + occ i walk) n.counts there same_count (λ i other. refl);
         links_are = n.links_are;
       },
       refl,

@@ -2,7 +2,7 @@
 use Rattle.std.proofs.Common.{◌≡◌, ℕ, zero, suc, ◌+◌, ◌<◌, ◌≤◌, List, [], ◌∷◌, map, get_or, Option, Some, None, option_to_list, refl, ◌∙◌, ap, arith}
 use Rattle.seize_machine.specs.Machine.State as machine
 use Rattle.seize_model.specs.Waiting.State as waiting
-use Rattle.seize_model.specs.Agreement.Shows.{Stand, held_value, Shows}
+use Rattle.seize_model.specs.Agreement.Shows.{ShowsValues, held_value, ShowsState}
 use Rattle.seize_model.proofs.Simulation.Views.{contents, near_of, shows_by}
 
 -- a number past each of these
@@ -34,7 +34,7 @@ pub map_same : {T : Type 0} (bound : ℕ) (of other : ℕ → T) (ns : List ℕ)
 map_same bound of other [] same h = refl
 map_same bound of other (n ∷ ns) same h = ap (λ x. x ∷ map other ns) (same n (omega arith)) ∙ ap (λ l. of n ∷ l) (map_same bound of other ns same (omega arith))
 
-pub stand_same : {T R : Type 0} (bound : ℕ) (of other : ℕ → T) (ns : List ℕ) (values : List (T × R)) → AgreeBelow bound of other → past ns ≤ bound → Stand of ns values → Stand other ns values
+pub stand_same : {T R : Type 0} (bound : ℕ) (of other : ℕ → T) (ns : List ℕ) (values : List (T × R)) → AgreeBelow bound of other → past ns ≤ bound → ShowsValues of ns values → ShowsValues other ns values
 stand_same bound of other ns values same h e = map_same bound of other ns same h ∙ e
 
 held_same : {T : Type 0} (bound : ℕ) (of other : ℕ → T) (links : List (Option ℕ)) → AgreeBelow bound of other → past_by (λ (x : Option ℕ). option_to_list x) links ≤ bound → map (held_value other) links ≡ map (held_value of) links
@@ -43,17 +43,17 @@ held_same bound of other (None ∷ links) same h = ap (λ l. None ∷ l) (held_s
 held_same bound of other (Some n ∷ links) same h =
     ap (λ x. Some x ∷ map (held_value other) links) (same n (omega arith)) ∙ ap (λ l. Some (of n) ∷ l) (held_same bound of other links same (omega arith))
 
-pub shows_same : {T R : Type 0} (bound : ℕ) (of other : ℕ → T) (st : waiting.State T R) (ms : machine.State) → AgreeBelow bound of other → past_state ms ≤ bound → Shows T R of st ms → Shows T R other st ms
+pub shows_same : {T R : Type 0} (bound : ℕ) (of other : ℕ → T) (st : waiting.State T R) (ms : machine.State) → AgreeBelow bound of other → past_state ms ≤ bound → ShowsState T R of st ms → ShowsState T R other st ms
 shows_same {T} {R} bound of other st ms same h shows =
     shows_by other (contents of) st ms (near_of of st ms shows) batches values (held_same bound of other ms.links same (omega arith) ∙ shows.links)
   where
-    batches : (s : ℕ) → Stand other (machine.slot_at ms s).batch (waiting.slot_at st s).batch
+    batches : (s : ℕ) → ShowsValues other (machine.slot_at ms s).batch (waiting.slot_at st s).batch
     batches s =
         let low : past (machine.slot_at ms s).batch ≤ past_by (λ (slot : machine.Slot). slot.batch) ms.slots
         = past_at (λ (slot : machine.Slot). slot.batch) ms.slots s machine.no_slot refl in
         stand_same bound of other (machine.slot_at ms s).batch (waiting.slot_at st s).batch same (omega arith) (shows.slot s).batch
 
-    values : (b : ℕ) → Stand other (machine.batch_at ms b).values (waiting.retired_at st b)
+    values : (b : ℕ) → ShowsValues other (machine.batch_at ms b).values (waiting.retired_at st b)
     values b =
         let low : past (machine.batch_at ms b).values ≤ past_by (λ (x : machine.Batch). x.values) ms.batches
         = past_at (λ (x : machine.Batch). x.values) ms.batches b machine.no_batch refl in

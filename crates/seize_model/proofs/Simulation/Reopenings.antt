@@ -8,7 +8,7 @@ use Rattle.seize_model.specs.declared.kind.Kind.TheVariants.{Free}
 use Rattle.seize_model.specs.Waiting.State.{Slot, State, slot_at, set_slot, no_slot}
 use Rattle.seize_model.specs.Waiting.Attempt.{part}
 use Rattle.seize_model.specs.Waiting.Calls.{with_number_free, part_all, without_batch, reclaim_all}
-use Rattle.seize_model.specs.Agreement.Shows.{Shows, ShowsReclaimers}
+use Rattle.seize_model.specs.Agreement.Shows.{ShowsReclaimers, ShowsState}
 use Rattle.seize_model.specs.Agreement.Reopening.{ReopenedLaw}
 use Rattle.seize_model.proofs.Simulation.Attempts.{set_seam}
 use Rattle.seize_model.proofs.WaitingSets.LinkCounts.{part_links, releases_beside}
@@ -75,7 +75,7 @@ quiets_links st (s ∷ ss) =
 
 pub reopens : {T R : Type 0} (puts : R → T → List T) (weight : T → ℕ) → ReopenedLaw puts weight
 reopens {T} {R} puts weight of by st before shows = (
-  subst (λ k. Shows T R of k (opening (length st.slots) before.links)) (sym same)
+  subst (λ k. ShowsState T R of k (opening (length st.slots) before.links)) (sym same)
       (opened_shown T R of later.size (length st.slots) before.links shows.numbers),
   subst (λ k. ShowsReclaimers T R of by k (opening (length st.slots) before.links)) (sym same)
       (opened_shown_with of by later.size (length st.slots) before.links),

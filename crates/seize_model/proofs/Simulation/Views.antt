@@ -3,7 +3,7 @@ use Rattle.std.proofs.Common.{◌≡◌, ℕ, pos, List, [], ◌∷◌, map, ref
 use Rattle.std.proofs.lemmas.List.{map-id}
 use Rattle.seize_machine.specs.Machine.State as machine
 use Rattle.seize_model.specs.Waiting.State as waiting
-use Rattle.seize_model.specs.Agreement.Shows.{Stand, StandFor, held_value, ShowsSlot, Shows, ShowsReclaimers}
+use Rattle.seize_model.specs.Agreement.Shows.{ShowsValues, StandFor, held_value, ShowsSlot, ShowsState, ShowsReclaimers}
 use Rattle.seize_model.proofs.Simulation.Coupling.{Naming, Denote, CoupledSlot, NearAt}
 
 -- numbers stand for what values hold
@@ -11,7 +11,7 @@ abbrev pub contents : {T R : Type 0} → (ℕ → T) → Naming T R T
 contents of = record { link = of; name = of; view = λ v. v.0 }
 
 -- the one from the other, where numbers stand in each of its ways for what waits and what is retired
-near_by : {T R X : Type 0} (of : ℕ → T) (name : Naming T R X) (st : waiting.State T R) (ms : machine.State) → Shows T R of st ms
+near_by : {T R X : Type 0} (of : ℕ → T) (name : Naming T R X) (st : waiting.State T R) (ms : machine.State) → ShowsState T R of st ms
     → ((s : ℕ) → Denote name (machine.slot_at ms s).batch (waiting.slot_at st s).batch)
     → ((b : ℕ) → Denote name (machine.batch_at ms b).values (waiting.retired_at st b))
     → map (held_value name.link) ms.links ≡ st.links → NearAt name [] st ms
@@ -29,9 +29,9 @@ near_by of name st ms h batches values links = record {
 }
 
 pub shows_by : {T R X : Type 0} (of : ℕ → T) (name : Naming T R X) (st : waiting.State T R) (ms : machine.State) → NearAt name [] st ms
-    → ((s : ℕ) → Stand of (machine.slot_at ms s).batch (waiting.slot_at st s).batch)
-    → ((b : ℕ) → Stand of (machine.batch_at ms b).values (waiting.retired_at st b))
-    → map (held_value of) ms.links ≡ st.links → Shows T R of st ms
+    → ((s : ℕ) → ShowsValues of (machine.slot_at ms s).batch (waiting.slot_at st s).batch)
+    → ((b : ℕ) → ShowsValues of (machine.batch_at ms b).values (waiting.retired_at st b))
+    → map (held_value of) ms.links ≡ st.links → ShowsState T R of st ms
 shows_by of name st ms h batches values links = record {
   numbers = h.numbers;
   slots = h.as_many;
@@ -45,10 +45,10 @@ shows_by of name st ms h batches values links = record {
   links = links;
 }
 
-pub near_of : {T R : Type 0} (of : ℕ → T) (st : waiting.State T R) (ms : machine.State) → Shows T R of st ms → NearAt (contents of) [] st ms
+pub near_of : {T R : Type 0} (of : ℕ → T) (st : waiting.State T R) (ms : machine.State) → ShowsState T R of st ms → NearAt (contents of) [] st ms
 near_of of st ms h = near_by of (contents of) st ms h (λ s. (h.slot s).batch) h.values h.links
 
-pub shows_of : {T R : Type 0} (of : ℕ → T) (st : waiting.State T R) (ms : machine.State) → NearAt (contents of) [] st ms → Shows T R of st ms
+pub shows_of : {T R : Type 0} (of : ℕ → T) (st : waiting.State T R) (ms : machine.State) → NearAt (contents of) [] st ms → ShowsState T R of st ms
 shows_of of st ms h = shows_by of (contents of) st ms h (λ s. (h.slot s).batch) h.values h.links_are
 
 -- numbers stand for values with their reclaimers
@@ -61,7 +61,7 @@ denote_for of by numbers values e = e ∙ sym (map-id values)
 pub stand_for : {T R : Type 0} (of : ℕ → T) (by : ℕ → R) (numbers : List ℕ) (values : List (T × R)) → Denote (with_reclaimers of by) numbers values → StandFor of by numbers values
 stand_for of by numbers values e = e ∙ map-id values
 
-pub stand_of : {T R : Type 0} (of : ℕ → T) (by : ℕ → R) (numbers : List ℕ) (values : List (T × R)) → Denote (with_reclaimers of by) numbers values → Stand of numbers values
+pub stand_of : {T R : Type 0} (of : ℕ → T) (by : ℕ → R) (numbers : List ℕ) (values : List (T × R)) → Denote (with_reclaimers of by) numbers values → ShowsValues of numbers values
 stand_of {T} {R} of by [] [] e = refl
 stand_of {T} {R} of by [] (v ∷ values) e = absurd (cc)
 stand_of {T} {R} of by (n ∷ numbers) [] e = absurd (cc)
@@ -71,13 +71,13 @@ stand_of {T} {R} of by (n ∷ numbers) (v ∷ values) e =
     ap (λ (x : T × R). x.0 ∷ map of numbers) first ∙ ap (λ l. v.0 ∷ l) (stand_of of by numbers values rest)
 
 pub near_with : {T R : Type 0} (of : ℕ → T) (by : ℕ → R) (st : waiting.State T R) (ms : machine.State)
-    → Shows T R of st ms → ShowsReclaimers T R of by st ms → NearAt (with_reclaimers of by) [] st ms
+    → ShowsState T R of st ms → ShowsReclaimers T R of by st ms → NearAt (with_reclaimers of by) [] st ms
 near_with of by st ms h r =
     near_by of (with_reclaimers of by) st ms h
     (λ s. denote_for of by _ _ (r.batches s)) (λ b. denote_for of by _ _ (r.retired b)) h.links
 
 pub shows_with : {T R : Type 0} (of : ℕ → T) (by : ℕ → R) (st : waiting.State T R) (ms : machine.State)
-    → NearAt (with_reclaimers of by) [] st ms → Shows T R of st ms × ShowsReclaimers T R of by st ms
+    → NearAt (with_reclaimers of by) [] st ms → ShowsState T R of st ms × ShowsReclaimers T R of by st ms
 shows_with of by st ms h = (
   shows_by of (with_reclaimers of by) st ms h
       (λ s. stand_of of by _ _ (h.slot s).batch) (λ b. stand_of of by _ _ (h.values b)) h.links_are,

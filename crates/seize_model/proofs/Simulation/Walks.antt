@@ -7,8 +7,8 @@ use Rattle.seize_machine.specs.Machine.State as machine
 use Rattle.seize_machine.specs.Machine.State.{State, Batch, Mark, Rest, has, are_distinct, no_batch}
 use Rattle.seize_machine.specs.Machine.Event.{SubCount}
 use Rattle.seize_model.specs.Waiting.State as waiting
-use Rattle.seize_model.specs.Waiting.State.{slot_at, keeps, is_kept}
-use Rattle.seize_model.specs.Waiting.Attempt.{Outcome, after, release, release_all, attempt, put, with_value}
+use Rattle.seize_model.specs.Waiting.State.{slot_at, waits_for, is_kept}
+use Rattle.seize_model.specs.Waiting.Attempt.{StateAndGone, with_gone, release, release_all, attempt, put, with_batch_value}
 use Rattle.seize_model.specs.Waiting.Further.{further, put_by}
 use Rattle.seize_machine.proofs.Facts.{and_true, not_true}
 use Rattle.seize_model.proofs.Simulation.Paths.{Carried}
@@ -29,9 +29,9 @@ further_append {T} {R} puts (x ∷ xs) ys =
     ∙ ap (λ (l : List (T × R)). l ++ further puts ys) (sym (flat_map-cons (put_by puts) x xs))
 
 -- one piece of work after what was handed before it
-pub does_after : {T R X : Type 0} (puts : R → T → List T) (of : Naming T R X) (K : State → List ℕ → Type 0) (size s guards : ℕ) (queue more hs given : List ℕ) (gone : List (T × R)) (o : Outcome T R)
+pub does_after : {T R X : Type 0} (puts : R → T → List T) (of : Naming T R X) (K : State → List ℕ → Type 0) (size s guards : ℕ) (queue more hs given : List ℕ) (gone : List (T × R)) (o : StateAndGone T R)
     → Denote of given gone → Denote of more (further puts gone) → Does puts of K size s guards (queue ++ more) (hs ++ given) o
-    → Does puts of K size s guards queue hs (after gone o)
+    → Does puts of K size s guards queue hs (with_gone gone o)
 does_after puts of K size s guards queue more hs given gone o e f d = record {
   base = d.base;
   batch = d.batch;
@@ -59,7 +59,7 @@ walk_does {T} {R} puts of P K size guards st base s batch (b ∷ walk) queue hs 
     let held : HoldsAfter P (release st b) = holds_release P st b holds in
     let d : (not (has b walk) ≡ true) × (are_distinct walk ≡ true) = and_true _ _ distinct in
     let first : has b walk ≡ false = not_true _ d.0 in
-    let k : ℕ = count_by (keeps b) st.slots in
+    let k : ℕ = count_by (waits_for b) st.slots in
     let slots : List machine.Slot = (at_rest base s batch).slots in
     let less : (b < length base.batches) × ((get_or base.batches b no_batch).count -ℤ pos 1 ≡ pos k) × Near of walk st slots base.heads (batch_with base.batches b false (pos k)) base.links
     = near_less of b walk st slots base.heads base.batches base.links n first in
@@ -82,8 +82,8 @@ walk_does {T} {R} puts of P K size guards st base s batch (b ∷ walk) queue hs 
     let later : State = record (with_count base b (pos k)) { gone = handing.gone; named = handing.named } in
     let rest : Does puts of K size s guards (queue ++ handing.more) (hs ++ given) (release_all (release st b).0 walk)
     = walk_does puts of P K size guards (release st b).0 later s batch walk (queue ++ handing.more) (hs ++ given) carried held.0 near h d.1
-    (either (λ (o : Outcome T R). o.0.size ≡ size) (is_kept st b) _ _ e e)
-    (either (λ (o : Outcome T R). (slot_at o.0 s).guards ≡ guards) (is_kept st b) _ _ g g)
+    (either (λ (o : StateAndGone T R). o.0.size ≡ size) (is_kept st b) _ _ e e)
+    (either (λ (o : StateAndGone T R). (slot_at o.0 s).guards ≡ guards) (is_kept st b) _ _ g g)
     handing.comes in
     does_after puts of K size s guards queue handing.more hs given (release st b).1 (release_all (release st b).0 walk) stand handing.stand rest
 
@@ -93,7 +93,7 @@ pub after_put : {T R X : Type 0} (puts : R → T → List T) (of : Naming T R X)
     → Holds T R P st → P v → NearAt of [] st (at_rest base s batch) → s < length base.slots → of.name n ≡ of.view v
     → K (busy base s (batch ++ n ∷ []) (put_place st.size (length base.slots) (batch ++ n ∷ [])) queue) hs → Does puts of K st.size s (slot_at st s).guards queue hs (put st s v)
 after_put {T} {R} puts of P K st base s n v batch queue hs carried holds own_holds near h stands now =
-    go (nat_le (max 1 st.size) (length (slot_at (with_value st s v) s).batch)) refl
+    go (nat_le (max 1 st.size) (length (slot_at (with_batch_value st s v) s).batch)) refl
     (subst (λ k. K (busy base s (batch ++ n ∷ []) (if nat_le (max 1 st.size) k then Mark 0 (length base.slots) [] else Rest [] []) queue) hs) long now)
   where
     own : CoupledSlot of (slot_at st s) (record { used = true; batch = batch; call = None })
@@ -105,27 +105,27 @@ after_put {T} {R} puts of P K st base s n v batch queue hs carried holds own_hol
     both : Denote of (batch ++ n ∷ []) ((slot_at st s).batch ++ v ∷ [])
     both = denote_append of batch (n ∷ []) (slot_at st s).batch (v ∷ []) own.batch (ap (λ x. x ∷ []) stands)
 
-    next_near : NearAt of [] (with_value st s v) (at_rest base s (batch ++ n ∷ []))
-    next_near = subst (λ (l : List machine.Slot). Near of [] (with_value st s v) l base.heads base.batches base.links) (set_twice base.slots s _ _)
+    next_near : NearAt of [] (with_batch_value st s v) (at_rest base s (batch ++ n ∷ []))
+    next_near = subst (λ (l : List machine.Slot). Near of [] (with_batch_value st s v) l base.heads base.batches base.links) (set_twice base.slots s _ _)
         (near_set of [] st (at_rest base s batch).slots base.heads base.batches base.links s (record (slot_at st s) { batch = (slot_at st s).batch ++ v ∷ [] }) (record { used = true; batch = batch ++ n ∷ []; call = None }) near within
         (record { used = own.used; idle = refl; batch = both; free = own.free; owned = own.owned; inactive = own.inactive; once = own.once }) refl refl)
 
-    next_own : CoupledSlot of (slot_at (with_value st s v) s) (record { used = true; batch = batch ++ n ∷ []; call = None })
-    next_own = own_slot of (with_value st s v) base s (batch ++ n ∷ []) next_near h
+    next_own : CoupledSlot of (slot_at (with_batch_value st s v) s) (record { used = true; batch = batch ++ n ∷ []; call = None })
+    next_own = own_slot of (with_batch_value st s v) base s (batch ++ n ∷ []) next_near h
 
-    long : length (batch ++ n ∷ []) ≡ length (slot_at (with_value st s v) s).batch
-    long = sym (length-map (batch ++ n ∷ []) of.name) ∙ ap length next_own.batch ∙ length-map (slot_at (with_value st s v) s).batch of.view
+    long : length (batch ++ n ∷ []) ≡ length (slot_at (with_batch_value st s v) s).batch
+    long = sym (length-map (batch ++ n ∷ []) of.name) ∙ ap length next_own.batch ∙ length-map (slot_at (with_batch_value st s v) s).batch of.view
 
-    guards : (slot_at (with_value st s v) s).guards ≡ (slot_at st s).guards
+    guards : (slot_at (with_batch_value st s v) s).guards ≡ (slot_at st s).guards
     guards = ap (λ (x : waiting.Slot T R). x.guards) (get_or-set_same st.slots s (record (slot_at st s) { batch = (slot_at st s).batch ++ v ∷ [] }) waiting.no_slot within)
 
-    go : (t : Bool) → nat_le (max 1 st.size) (length (slot_at (with_value st s v) s).batch) ≡ t
+    go : (t : Bool) → nat_le (max 1 st.size) (length (slot_at (with_batch_value st s v) s).batch) ≡ t
         → K (busy base s (batch ++ n ∷ []) (if t then Mark 0 (length base.slots) [] else Rest [] []) queue) hs
-        → Does puts of K st.size s (slot_at st s).guards queue hs (if t then attempt (with_value st s v) s else (with_value st s v, []))
+        → Does puts of K st.size s (slot_at st s).guards queue hs (if t then attempt (with_batch_value st s v) s else (with_batch_value st s v, []))
     go true e k =
         let some : 1 ≤ length (batch ++ n ∷ []) = omega (arith, length-append batch (n ∷ [])) in
-        subst (λ g. Does puts of K st.size s g queue hs (attempt (with_value st s v) s)) guards
-        (attempt_does puts of P K (with_value st s v) base s (batch ++ n ∷ []) queue hs carried (holds_appended P st s v holds own_holds) next_near h some k)
+        subst (λ g. Does puts of K st.size s g queue hs (attempt (with_batch_value st s v) s)) guards
+        (attempt_does puts of P K (with_batch_value st s v) base s (batch ++ n ∷ []) queue hs carried (holds_appended P st s v holds own_holds) next_near h some k)
     go false e k =
-        subst (λ g. Does puts of K st.size s g queue hs (with_value st s v, [])) guards
-        (nothing_done puts of K (with_value st s v) base s (batch ++ n ∷ []) queue hs next_near h k)
+        subst (λ g. Does puts of K st.size s g queue hs (with_batch_value st s v, [])) guards
+        (nothing_done puts of K (with_batch_value st s v) base s (batch ++ n ∷ []) queue hs next_near h k)

@@ -8,8 +8,8 @@ use Rattle.std.proofs.Math.Seq.{get_or-append_seam}
 use Rattle.seize_machine.specs.Machine.State as machine
 use Rattle.seize_machine.specs.Machine.State.{State, Head, Batch, Mark, Rest, has, are_distinct, no_batch}
 use Rattle.seize_model.specs.Waiting.State as waiting
-use Rattle.seize_model.specs.Waiting.State.{slot_at, keeps}
-use Rattle.seize_model.specs.Waiting.Attempt.{Outcome, release, wait_if_active, attempt, gives_up, with_batch_retired, active_slots}
+use Rattle.seize_model.specs.Waiting.State.{slot_at, waits_for}
+use Rattle.seize_model.specs.Waiting.Attempt.{StateAndGone, release, wait_if_active, attempt, gives_up, with_batch_retired, active_slots}
 use Rattle.seize_model.specs.Waiting.Further.{further, put_by}
 use Rattle.seize_model.specs.Agreement.Shows.{head_of}
 use Rattle.seize_model.proofs.Simulation.Paths.{Carried, along}
@@ -64,7 +64,7 @@ hands_on {T} {R} puts of P s size K carried base batch (v ∷ given) walk queue 
     }
 
 -- A piece of the work of a call of s, to where the call goes on with its queue.
-pub record Does {T R X : Type 0} (puts : R → T → List T) (of : Naming T R X) (K : State → List ℕ → Type 0) (size s guards : ℕ) (queue hs : List ℕ) (o : Outcome T R) : Type 0 where
+pub record Does {T R X : Type 0} (puts : R → T → List T) (of : Naming T R X) (K : State → List ℕ → Type 0) (size s guards : ℕ) (queue hs : List ℕ) (o : StateAndGone T R) : Type 0 where
   pub base : State
   pub batch : List ℕ
   pub more : List ℕ
@@ -155,7 +155,7 @@ attempt_does {T} {R} puts of P K st base s batch queue hs carried holds n h some
         (record { used = own.used; idle = refl; batch = refl; free = own.free; owned = own.owned; inactive = own.inactive; once = own.once }) refl refl in
         let kept_in : Near of [] (waiting.set_slot st s (record (slot_at st s) { batch = [] })) (at_rest base s []).slots base.heads base.batches base.links
         = subst (λ (l : List machine.Slot). Near of [] (waiting.set_slot st s (record (slot_at st s) { batch = [] })) l base.heads base.batches base.links) (set_twice base.slots s _ _) kept in
-        let waits : (count_by (keeps b) (with_batch_retired st s).slots ≡ won) × Near of [] (with_batch_retired st s) (at_rest base s []).slots (map (with_front b) base.heads) (base.batches ++ fresh ∷ []) base.links
+        let waits : (count_by (waits_for b) (with_batch_retired st s).slots ≡ won) × Near of [] (with_batch_retired st s) (at_rest base s []).slots (map (with_front b) base.heads) (base.batches ++ fresh ∷ []) base.links
         = near_waits of batch (slot_at st s).batch (waiting.set_slot st s (record (slot_at st s) { batch = [] })) (at_rest base s []).slots base.heads base.batches base.links kept_in own.batch in
         let last : b < length (base.batches ++ fresh ∷ []) = omega (arith, length-append base.batches (fresh ∷ []), n.retired) in
         let gone : BothGone of b [] (at_rest base s []).slots (map (with_front b) base.heads) (base.batches ++ fresh ∷ []) base.links won (won == 0) (release (with_batch_retired st s) b)
@@ -186,8 +186,8 @@ attempt_does {T} {R} puts of P K st base s batch queue hs carried holds n h some
           gone = stand;
           further_stand = handing.stand;
           within = h;
-          same_size = either (λ (o : Outcome T R). o.0.size ≡ st.size) (waiting.is_kept (with_batch_retired st s) b) _ _ refl refl;
-          same_guards = either (λ (o : Outcome T R). (slot_at o.0 s).guards ≡ (slot_at st s).guards) (waiting.is_kept (with_batch_retired st s) b) _ _ (detached_guards st s within) (detached_guards st s within);
+          same_size = either (λ (o : StateAndGone T R). o.0.size ≡ st.size) (waiting.is_kept (with_batch_retired st s) b) _ _ refl refl;
+          same_guards = either (λ (o : StateAndGone T R). (slot_at o.0 s).guards ≡ (slot_at st s).guards) (waiting.is_kept (with_batch_retired st s) b) _ _ (detached_guards st s within) (detached_guards st s within);
         }
 
     go : (t : Bool) → gives_up st s ≡ t → Does puts of K st.size s (slot_at st s).guards queue hs (if t then (st, []) else release (with_batch_retired st s) (length st.retired))

@@ -5,8 +5,8 @@ use Rattle.std.proofs.lemmas.List.Sums.{count_by-le-length}
 use Rattle.std.proofs.Math.ListN.{get_or-map}
 use Rattle.std.proofs.Math.Seq.{get_or-append_seam}
 use Rattle.seize_model.specs.declared.kind.Kind.{Kind}
-use Rattle.seize_model.specs.Waiting.State.{Slot, State, slot_at, set_slot, no_slot, new, is_active, is_kept}
-use Rattle.seize_model.specs.Waiting.Attempt.{Outcome, release, release_all, attempt, gives_up, active_slots, wait_if_active, with_batch_retired, put, with_value, part}
+use Rattle.seize_model.specs.Waiting.State.{Slot, State, slot_at, set_slot, no_slot, new, has_guard, is_kept}
+use Rattle.seize_model.specs.Waiting.Attempt.{StateAndGone, release, release_all, attempt, gives_up, active_slots, wait_if_active, with_batch_retired, put, with_batch_value, part}
 use Rattle.seize_model.specs.Waiting.Lists.{run}
 use Rattle.seize_model.specs.Waiting.Laws.{BoundLaw}
 use Rattle.seize_model.proofs.Cases.{either, in_or_past, or_same}
@@ -20,7 +20,7 @@ pub record IsBelow {T R : Type 0} (size slots : ℕ) (st : State T R) : Type 0 w
   pub many : length st.slots ≡ slots
   pub below : (s : ℕ) → length (slot_at st s).batch < max (max 1 size) slots
 
-abbrev Stays : {T R : Type 0} → ℕ → ℕ → Outcome T R → Type 0
+abbrev Stays : {T R : Type 0} → ℕ → ℕ → StateAndGone T R → Type 0
 Stays size slots o = IsBelow size slots o.0
 
 -- a slot that is written, with a batch below the bound
@@ -71,38 +71,38 @@ attempt_below : {T R : Type 0} (size slots : ℕ) (st : State T R) (s : ℕ) →
 attempt_below {T} {R} size slots st s e n others = go (gives_up st s) refl
   where
     few : active_slots st ≤ length st.slots
-    few = count_by-le-length is_active st.slots
+    few = count_by-le-length has_guard st.slots
 
     small : (a b c d : ℕ) → ((a == 0) || nat_lt a b) ≡ true → b ≤ c → c ≡ d → a < max (max 1 size) d
     small a b c d t h same = grind arith
 
-    go : (t : Bool) → gives_up st s ≡ t → (let o : Outcome T R = if t then (st, []) else release (with_batch_retired st s) (length st.retired) in Stays size slots o)
+    go : (t : Bool) → gives_up st s ≡ t → (let o : StateAndGone T R = if t then (st, []) else release (with_batch_retired st s) (length st.retired) in Stays size slots o)
     go true t = record {
       same_size = e;
       many = n;
       below = λ i. elim (or_same i s) [
-        | inl same ↦ rw same (small (length (slot_at st s).batch) (active_slots st) (length st.slots) slots t (count_by-le-length is_active st.slots) n)
+        | inl same ↦ rw same (small (length (slot_at st s).batch) (active_slots st) (length st.slots) slots t (count_by-le-length has_guard st.slots) n)
         | inr other ↦ others i other
       ];
     }
     go false t = release_below size slots (with_batch_retired st s) (length st.retired) (detached_below size slots st s e n others)
 
 put_below : {T R : Type 0} (size slots : ℕ) (st : State T R) (s : ℕ) (v : T × R) → IsBelow size slots st → Stays size slots (put st s v)
-put_below {T} {R} size slots st s v h = go (nat_le (max 1 st.size) (length (slot_at (with_value st s v) s).batch)) refl
+put_below {T} {R} size slots st s v h = go (nat_le (max 1 st.size) (length (slot_at (with_batch_value st s v) s).batch)) refl
   where
-    others : (i : ℕ) → i ≢ s → length (slot_at (with_value st s v) i).batch < max (max 1 size) slots
+    others : (i : ℕ) → i ≢ s → length (slot_at (with_batch_value st s v) i).batch < max (max 1 size) slots
     others i other = rw (get_or-set_other st.slots s i (record (slot_at st s) { batch = (slot_at st s).batch ++ v ∷ [] }) no_slot other) (h.below i)
 
     short : (a b : ℕ) → nat_le (max 1 b) a ≡ false → b ≡ size → a < max (max 1 size) slots
     short a b f same = grind arith
 
-    go : (t : Bool) → nat_le (max 1 st.size) (length (slot_at (with_value st s v) s).batch) ≡ t → (let o : Outcome T R = if t then attempt (with_value st s v) s else (with_value st s v, []) in Stays size slots o)
-    go true t = attempt_below size slots (with_value st s v) s h.same_size (length-set st.slots s (record (slot_at st s) { batch = (slot_at st s).batch ++ v ∷ [] }) ∙ h.many) others
+    go : (t : Bool) → nat_le (max 1 st.size) (length (slot_at (with_batch_value st s v) s).batch) ≡ t → (let o : StateAndGone T R = if t then attempt (with_batch_value st s v) s else (with_batch_value st s v, []) in Stays size slots o)
+    go true t = attempt_below size slots (with_batch_value st s v) s h.same_size (length-set st.slots s (record (slot_at st s) { batch = (slot_at st s).batch ++ v ∷ [] }) ∙ h.many) others
     go false t = record {
       same_size = h.same_size;
       many = length-set st.slots s (record (slot_at st s) { batch = (slot_at st s).batch ++ v ∷ [] }) ∙ h.many;
       below = λ i. elim (or_same i s) [
-        | inl same ↦ rw same (short (length (slot_at (with_value st s v) s).batch) st.size t h.same_size)
+        | inl same ↦ rw same (short (length (slot_at (with_batch_value st s v) s).batch) st.size t h.same_size)
         | inr other ↦ others i other
       ];
     }

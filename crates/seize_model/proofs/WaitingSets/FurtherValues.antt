@@ -5,8 +5,8 @@ use Rattle.std.proofs.lemmas.List.{get_or-set_same, length-set, length-map, get_
 use Rattle.std.proofs.lemmas.List.Sums.{sum_by-append, sum_by-cons, sum_by_push, sum-map}
 use Rattle.std.proofs.lemmas.List.Concat.{flat_map-cons}
 use Rattle.std.proofs.Math.Seq.{get_or-append_seam}
-use Rattle.seize_model.specs.Waiting.State.{Slot, State, slot_at, retired_at, set_slot, is_active, is_kept, no_slot}
-use Rattle.seize_model.specs.Waiting.Attempt.{Outcome, after, release, attempt, gives_up, wait_if_active, with_batch_retired, put, with_value}
+use Rattle.seize_model.specs.Waiting.State.{Slot, State, slot_at, retired_at, set_slot, has_guard, is_kept, no_slot}
+use Rattle.seize_model.specs.Waiting.Attempt.{StateAndGone, with_gone, release, attempt, gives_up, wait_if_active, with_batch_retired, put, with_batch_value}
 use Rattle.seize_model.specs.Waiting.Further.{Lighter, put_by, further, settle, still_to_come, afterwards}
 use Rattle.seize_model.proofs.Cases.{either, in_or_past}
 
@@ -43,12 +43,12 @@ further_weighs puts weight h (v ∷ gone) =
     ))
 
 -- what an attempt or a retirement makes of the batch of s: it stays, or it is taken, and its values are gone or wait
-abbrev pub Shape : {T R : Type 0} → ℕ → List (T × R) → Outcome T R → Type 0
+abbrev pub Shape : {T R : Type 0} → ℕ → List (T × R) → StateAndGone T R → Type 0
 Shape s batch o =
     (((slot_at o.0 s).batch ≡ batch) × (o.1 ≡ [])) ⊎ (((slot_at o.0 s).batch ≡ []) × ((o.1 ≡ []) ⊎ (o.1 ≡ batch)))
 
 pub waits_batch : {T R : Type 0} (b : ℕ) (slot : Slot T R) → (wait_if_active b slot).batch ≡ slot.batch
-waits_batch b slot = either (λ k. k.batch ≡ slot.batch) (is_active slot) (record slot { order = b ∷ slot.order }) slot refl refl
+waits_batch b slot = either (λ k. k.batch ≡ slot.batch) (has_guard slot) (record slot { order = b ∷ slot.order }) slot refl refl
 
 emptied_batch : {T R : Type 0} (st : State T R) (s : ℕ) → (slot_at (with_batch_retired st s) s).batch ≡ []
 emptied_batch {T} {R} st s = go (in_or_past s (length st.slots))
@@ -82,7 +82,7 @@ attempt_shape st s =
         (inr (emptied_batch st s, inr (retired_last st s)))
 
 -- a slot that was never made has no batch
-none_shape : {T R : Type 0} (s : ℕ) (batch : List (T × R)) (o : Outcome T R) → Shape s [] o → Shape s batch o
+none_shape : {T R : Type 0} (s : ℕ) (batch : List (T × R)) (o : StateAndGone T R) → Shape s [] o → Shape s batch o
 none_shape s batch o (inl h) = inr (h.0, inl h.1)
 none_shape s batch o (inr (h, inl e)) = inr (h, inl e)
 none_shape s batch o (inr (h, inr e)) = inr (h, inl e)
@@ -94,7 +94,7 @@ put_shape {T} {R} st s v = go (in_or_past s (length st.slots))
     batch = (slot_at st s).batch ++ v ∷ []
 
     next : State T R
-    next = with_value st s v
+    next = with_batch_value st s v
 
     own : Shape s (slot_at next s).batch (put st s v)
     own = either (Shape s (slot_at next s).batch) (nat_le (max 1 st.size) (length (slot_at next s).batch)) (attempt next s) (next, []) (attempt_shape next s) (inl (refl, refl))
@@ -153,7 +153,7 @@ enough puts weight h zero (suc m) st s (v ∷ queue) a b = absurd (omega (arith,
 enough puts weight h (suc n) zero st s (v ∷ queue) a b = absurd (omega (arith, falls puts weight h st s v queue))
 enough puts weight h (suc n) (suc m) st s (v ∷ queue) a b =
     let f : still_to_come weight (slot_at (put st s v).0 s).batch (queue ++ further puts (put st s v).1) < still_to_come weight (slot_at st s).batch (v ∷ queue) = falls puts weight h st s v queue in
-    ap (after (put st s v).1) (enough puts weight h n m (put st s v).0 s (queue ++ further puts (put st s v).1) (omega arith) (omega arith))
+    ap (with_gone (put st s v).1) (enough puts weight h n m (put st s v).0 s (queue ++ further puts (put st s v).1) (omega arith) (omega arith))
 
 -- how the definition unfolds
 pub afterwards-nil : {T R : Type 0} (puts : R → T → List T) (weight : T → ℕ) (st : State T R) (s : ℕ) → afterwards puts weight st s [] ≡ (st, [])
@@ -165,14 +165,14 @@ afterwards-nil {T} {R} puts weight st s = go (still_to_come weight (slot_at st s
 
 unfolds : {T R : Type 0} (puts : R → T → List T) (weight : T → ℕ) → Lighter puts weight → (n : ℕ) (st : State T R) (s : ℕ) (v : T × R) (queue : List (T × R))
     → still_to_come weight (slot_at st s).batch (v ∷ queue) ≤ n
-    → settle puts n st s (v ∷ queue) ≡ after (put st s v).1 (afterwards puts weight (put st s v).0 s (queue ++ further puts (put st s v).1))
+    → settle puts n st s (v ∷ queue) ≡ with_gone (put st s v).1 (afterwards puts weight (put st s v).0 s (queue ++ further puts (put st s v).1))
 unfolds puts weight h zero st s v queue a = absurd (omega (arith, falls puts weight h st s v queue))
 unfolds puts weight h (suc n) st s v queue a =
     let f : still_to_come weight (slot_at (put st s v).0 s).batch (queue ++ further puts (put st s v).1) < still_to_come weight (slot_at st s).batch (v ∷ queue) = falls puts weight h st s v queue in
-    ap (after (put st s v).1) (enough puts weight h n (still_to_come weight (slot_at (put st s v).0 s).batch (queue ++ further puts (put st s v).1)) (put st s v).0 s (queue ++ further puts (put st s v).1) (omega arith) (omega arith))
+    ap (with_gone (put st s v).1) (enough puts weight h n (still_to_come weight (slot_at (put st s v).0 s).batch (queue ++ further puts (put st s v).1)) (put st s v).0 s (queue ++ further puts (put st s v).1) (omega arith) (omega arith))
 
 pub afterwards-cons : {T R : Type 0} (puts : R → T → List T) (weight : T → ℕ) → Lighter puts weight → (st : State T R) (s : ℕ) (v : T × R) (queue : List (T × R))
-    → afterwards puts weight st s (v ∷ queue) ≡ after (put st s v).1 (afterwards puts weight (put st s v).0 s (queue ++ further puts (put st s v).1))
+    → afterwards puts weight st s (v ∷ queue) ≡ with_gone (put st s v).1 (afterwards puts weight (put st s v).0 s (queue ++ further puts (put st s v).1))
 afterwards-cons puts weight h st s v queue =
     unfolds puts weight h (still_to_come weight (slot_at st s).batch (v ∷ queue)) st s v queue (omega arith)
 

@@ -3,8 +3,8 @@ use Rattle.std.proofs.Common.{◌≡◌, ◌≢◌, ℕ, zero, suc, Bool, true, 
 use Rattle.std.specs.List.{list_any}
 use Rattle.std.proofs.lemmas.List.{get_or-set_other}
 use Rattle.seize_machine.specs.Machine.State.{has}
-use Rattle.seize_model.specs.Waiting.State.{Slot, State, slot_at, set_slot, no_slot, is_kept, keeps, retired_at}
-use Rattle.seize_model.specs.Waiting.Attempt.{Outcome, release_all, attempt, gives_up, wait_if_active, with_batch_retired, put, with_value, part}
+use Rattle.seize_model.specs.Waiting.State.{Slot, State, slot_at, set_slot, no_slot, is_kept, waits_for, retired_at}
+use Rattle.seize_model.specs.Waiting.Attempt.{StateAndGone, release_all, attempt, gives_up, wait_if_active, with_batch_retired, put, with_batch_value, part}
 use Rattle.seize_model.specs.Waiting.Reached.{Reached, GoneLaw}
 use Rattle.seize_machine.proofs.Facts.{is_true}
 use Rattle.seize_model.proofs.Cases.{either, or_same}
@@ -21,7 +21,7 @@ any_same p xs i y d e = any_counts p (set xs i y) ∙ ap (λ (n : ℕ). not (n =
 
 clean_set : {T R : Type 0} (st : State T R) (s : ℕ) (slot : Slot T R) → slot.order ≡ (slot_at st s).order → IsClean st → IsClean (set_slot st s slot)
 clean_set st s slot order clean b e =
-    clean b (sym (any_same (keeps b) st.slots s slot no_slot (ap (λ (l : List ℕ). list_any (λ x. x == b) l) order)) ∙ e)
+    clean b (sym (any_same (waits_for b) st.slots s slot no_slot (ap (λ (l : List ℕ). list_any (λ x. x == b) l) order)) ∙ e)
 
 -- Releases.
 
@@ -40,7 +40,7 @@ releases_clean {T} {R} (c ∷ cs) st h = go (is_kept st c) refl (releases_clean 
     go : (t : Bool) → is_kept st c ≡ t
         → (((b : ℕ) → is_kept st b ≡ false → (has b cs ≡ true) ⊎ (retired_at st b ≡ [])) → IsClean (release_all st cs).0)
         → (((b : ℕ) → is_kept st b ≡ false → (has b cs ≡ true) ⊎ (get_or (set st.retired c []) b [] ≡ [])) → IsClean (release_all (record st { retired = set st.retired c [] }) cs).0)
-        → (let o : Outcome T R = if t then (st, []) else (record st { retired = set st.retired c [] }, retired_at st c) in IsClean (release_all o.0 cs).0)
+        → (let o : StateAndGone T R = if t then (st, []) else (record st { retired = set st.retired c [] }, retired_at st c) in IsClean (release_all o.0 cs).0)
     go true kept same_state emptied = same_state (λ b e. on b e (or_same b c) (h b e))
       where
         on : (b : ℕ) → is_kept st b ≡ false → (b ≡ c) ⊎ (b ≢ c) → (has b (c ∷ cs) ≡ true) ⊎ (retired_at st b ≡ []) → (has b cs ≡ true) ⊎ (retired_at st b ≡ [])
@@ -61,13 +61,13 @@ part_clean {T} {R} st s clean =
     on : (b : ℕ) → is_kept (set_slot st s (record (slot_at st s) { order = [] })) b ≡ false → (has b (slot_at st s).order ≡ true) ⊎ (has b (slot_at st s).order ≡ false)
         → (has b (slot_at st s).order ≡ true) ⊎ (retired_at st b ≡ [])
     on b e (inl t) = inl t
-    on b e (inr f) = inr (clean b (sym (any_same (keeps b) st.slots s (record (slot_at st s) { order = [] }) no_slot (sym f)) ∙ e))
+    on b e (inr f) = inr (clean b (sym (any_same (waits_for b) st.slots s (record (slot_at st s) { order = [] }) no_slot (sym f)) ∙ e))
 
 -- Attempts.
 
 attempt_clean : {T R : Type 0} (st : State T R) (s : ℕ) → IsClean st → IsClean (attempt st s).0
 attempt_clean {T} {R} st s clean =
-    either (λ (o : Outcome T R). IsClean o.0) (gives_up st s) _ _ clean
+    either (λ (o : StateAndGone T R). IsClean o.0) (gives_up st s) _ _ clean
     (releases_clean (length st.retired ∷ []) (with_batch_retired st s) (λ b e. on b e (or_same b (length st.retired))))
   where
     emptied : State T R
@@ -78,13 +78,13 @@ attempt_clean {T} {R} st s clean =
     on b e (inr other) =
         let slots : List (Slot T R) = (set_slot st s (record (slot_at st s) { batch = [] })).slots in
         let before : is_kept (set_slot st s (record (slot_at st s) { batch = [] })) b ≡ false
-        = any_counts (keeps b) slots ∙ ap (λ (n : ℕ). not (n == 0)) (sym (old_count (length st.retired) b slots other)) ∙ sym (any_counts (keeps b) (map (wait_if_active (length st.retired)) slots)) ∙ e in
+        = any_counts (waits_for b) slots ∙ ap (λ (n : ℕ). not (n == 0)) (sym (old_count (length st.retired) b slots other)) ∙ sym (any_counts (waits_for b) (map (wait_if_active (length st.retired)) slots)) ∙ e in
         inr (beside st.retired (slot_at st s).batch [] b other ∙ clean_set st s (record (slot_at st s) { batch = [] }) refl clean b before)
 
 put_clean : {T R : Type 0} (st : State T R) (s : ℕ) (v : T × R) → IsClean st → IsClean (put st s v).0
 put_clean {T} {R} st s v clean =
-    let next : IsClean (with_value st s v) = clean_set st s (record (slot_at st s) { batch = (slot_at st s).batch ++ v ∷ [] }) refl clean in
-    either (λ (o : Outcome T R). IsClean o.0) (nat_le (max 1 st.size) (length (slot_at (with_value st s v) s).batch)) _ _ (attempt_clean (with_value st s v) s next) next
+    let next : IsClean (with_batch_value st s v) = clean_set st s (record (slot_at st s) { batch = (slot_at st s).batch ++ v ∷ [] }) refl clean in
+    either (λ (o : StateAndGone T R). IsClean o.0) (nat_le (max 1 st.size) (length (slot_at (with_batch_value st s v) s).batch)) _ _ (attempt_clean (with_batch_value st s v) s next) next
 
 -- Calls.
 
@@ -95,7 +95,7 @@ any_push p (x ∷ xs) y e = ap (λ (t : Bool). p x || t) (any_push p xs y e)
 calls_clean : {T R : Type 0} → Invariant (λ (st : State T R). IsClean st)
 calls_clean = record {
   new_slot = λ st kind guards clean b e.
-      clean b (sym (any_push (keeps b) st.slots (record { kind = kind; guards = guards; batch = []; order = [] }) refl) ∙ e);
+      clean b (sym (any_push (waits_for b) st.slots (record { kind = kind; guards = guards; batch = []; order = [] }) refl) ∙ e);
   slot_use = λ st s kind guards clean. clean_set st s (record (slot_at st s) { kind = kind; guards = guards }) refl clean;
   parting = part_clean;
   attempt_by = attempt_clean;

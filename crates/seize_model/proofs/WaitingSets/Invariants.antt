@@ -3,8 +3,8 @@ use Rattle.std.proofs.Common.{ℕ, zero, suc, ◌+◌, ◌-◌, ◌^◌, Bool, t
 use Rattle.seize_table.specs.declared.refusal.Refusal.{Refusal}
 use Rattle.seize_model.specs.declared.kind.Kind.{Kind}
 use Rattle.seize_model.specs.declared.kind.Kind.TheVariants.{Free, Registered, Owned}
-use Rattle.seize_model.specs.Waiting.State.{State, slot_at, set_slot, is_active}
-use Rattle.seize_model.specs.Waiting.Attempt.{Outcome, attempt, put, part}
+use Rattle.seize_model.specs.Waiting.State.{State, slot_at, set_slot, has_guard}
+use Rattle.seize_model.specs.Waiting.Attempt.{StateAndGone, attempt, put, part}
 use Rattle.seize_model.specs.Waiting.Further.{further, settle, still_to_come, with_further}
 use Rattle.seize_model.specs.Waiting.Calls as calls
 use Rattle.seize_model.specs.Waiting.Lists.{Call, Register, EnterOwned, Enter, Leave, End, Refresh, Flush, Retire, Protect, Swap, step, run, retire_old}
@@ -28,7 +28,7 @@ module _ {T R : Type 0} (P : State T R → Type 0) (inv : Invariant P) (puts : R
   settle_keeps (suc m) st s (v ∷ queue) h =
       settle_keeps m (put st s v).0 s (queue ++ further puts (put st s v).1) (inv.retirement st s v h)
 
-  settled_keeps : (s : ℕ) (o : Outcome T R) → P o.0 → P (with_further puts weight s o).0
+  settled_keeps : (s : ℕ) (o : StateAndGone T R) → P o.0 → P (with_further puts weight s o).0
   settled_keeps s o h = settle_keeps (still_to_come weight (slot_at o.0 s).batch (further puts o.1)) o.0 s (further puts o.1) h
 
   unless_keeps : {A : Type 0} (refusal : Option Refusal) (st : State T R) (a : calls.Response A T R)
@@ -47,10 +47,10 @@ module _ {T R : Type 0} (P : State T R → Type 0) (inv : Invariant P) (puts : R
 
   left_keeps : (st : State T R) (s : ℕ) → P st → P (calls.one_guard_less st s).0
   left_keeps st s h =
-      either (λ (o : Outcome T R). P o.0) ((slot_at st s).guards == 1) _ _
+      either (λ (o : StateAndGone T R). P o.0) ((slot_at st s).guards == 1) _ _
       (inv.parting (calls.set_guards st s 0) s (guards_keep st s 0 h)) (guards_keep st s ((slot_at st s).guards - 1) h)
 
-  freed_keeps : (owned : Bool) (s : ℕ) (o : Outcome T R) → P o.0 → P (calls.with_number_free_if owned s o).0
+  freed_keeps : (owned : Bool) (s : ℕ) (o : StateAndGone T R) → P o.0 → P (calls.with_number_free_if owned s o).0
   freed_keeps true s o h = inv.slot_use o.0 s Free 0 h
   freed_keeps false s o h = h
 
@@ -61,7 +61,7 @@ module _ {T R : Type 0} (P : State T R → Type 0) (inv : Invariant P) (puts : R
   pub swap_keeps : (st : State T R) (s link : ℕ) (new : Option T) → P st → P (calls.swap st s link new).1.0
   swap_keeps st s link new h = unless_keeps (calls.no_guard st s) st _ h (inv.link_change st link new h)
 
-  swapped_keeps : (s : ℕ) (new : Option T) (reclaim : R) (answer : Result (Option T) Refusal) (o : Outcome T R)
+  swapped_keeps : (s : ℕ) (new : Option T) (reclaim : R) (answer : Result (Option T) Refusal) (o : StateAndGone T R)
       → P o.0 → P (retire_old puts weight s new reclaim answer o).1.0
   swapped_keeps s new reclaim (Err r) o h = h
   swapped_keeps s new reclaim (Ok None) o h = h
@@ -71,18 +71,18 @@ module _ {T R : Type 0} (P : State T R → Type 0) (inv : Invariant P) (puts : R
   step_keeps st Register h = take_keeps st Registered 0 h
   step_keeps st EnterOwned h = take_keeps st Owned 1 h
   step_keeps st (Enter s) h =
-      unless_keeps (calls.first (calls.not_registered st s) (calls.too_many st s)) st _ h (guards_keep st s ((slot_at st s).guards + 1) h)
+      unless_keeps (calls.first_refusal (calls.not_registered st s) (calls.too_many st s)) st _ h (guards_keep st s ((slot_at st s).guards + 1) h)
   step_keeps st (Leave s) h =
       unless_keeps (calls.no_guard st s) st _ h
       (freed_keeps (calls.is_owned (slot_at st s).kind) s (with_further puts weight s (calls.one_guard_less st s))
       (settled_keeps s (calls.one_guard_less st s) (left_keeps st s h)))
   step_keeps st (End s) h =
       unless_keeps (calls.not_registered st s) st _ h
-      (either (λ (a : calls.Response Bool T R). P a.1.0) (is_active (slot_at st s)) _ _ h (inv.slot_use st s Free 0 h))
+      (either (λ (a : calls.Response Bool T R). P a.1.0) (has_guard (slot_at st s)) _ _ h (inv.slot_use st s Free 0 h))
   step_keeps st (Refresh s) h =
       unless_keeps (calls.no_guard st s) st _ h
       (settled_keeps s (calls.part_if_alone st s)
-      (either (λ (o : Outcome T R). P o.0) (calls.is_owned (slot_at st s).kind || ((slot_at st s).guards == 1)) _ _ (inv.parting st s h) h))
+      (either (λ (o : StateAndGone T R). P o.0) (calls.is_owned (slot_at st s).kind || ((slot_at st s).guards == 1)) _ _ (inv.parting st s h) h))
   step_keeps st (Flush s) h = unless_keeps (calls.no_guard st s) st _ h (settled_keeps s (attempt st s) (inv.attempt_by st s h))
   step_keeps st (Retire s v r) h = retire_keeps st s v r h
   step_keeps st (Protect s l) h = unless_keeps (calls.no_guard st s) st _ h h

@@ -3,7 +3,7 @@
 use Rattle.std.proofs.Common.{◌≡◌, ℕ, nat_le, max, List, [], ◌∷◌, length, set, refl, ◌∙◌, ap}
 use Rattle.std.proofs.lemmas.List.{length-set}
 use Rattle.seize_model.specs.Waiting.State.{State, slot_at, set_slot, is_kept}
-use Rattle.seize_model.specs.Waiting.Attempt.{Outcome, release, attempt, gives_up, with_batch_retired, put, with_value, release_all, part}
+use Rattle.seize_model.specs.Waiting.Attempt.{StateAndGone, release, attempt, gives_up, with_batch_retired, put, with_batch_value, release_all, part}
 use Rattle.seize_model.specs.Waiting.Lists.{Call, step}
 use Rattle.seize_model.proofs.Cases.{either}
 use Rattle.seize_model.proofs.WaitingSets.Invariants.{Invariant, step_keeps}
@@ -12,7 +12,7 @@ use Rattle.seize_model.proofs.WaitingSets.Invariants.{Invariant, step_keeps}
 release_beside : {T R X : Type 0} (f : State T R → X)
     → ((k : State T R) (retired : List (List (T × R))) → f (record k { retired = retired }) ≡ f k)
     → (st : State T R) (b : ℕ) → f (release st b).0 ≡ f st
-release_beside {T} {R} f same st b = either (λ (o : Outcome T R). f o.0 ≡ f st) (is_kept st b) _ _ refl (same st (set st.retired b []))
+release_beside {T} {R} f same st b = either (λ (o : StateAndGone T R). f o.0 ≡ f st) (is_kept st b) _ _ refl (same st (set st.retired b []))
 
 pub releases_beside : {T R X : Type 0} (f : State T R → X)
     → ((k : State T R) (retired : List (List (T × R))) → f (record k { retired = retired }) ≡ f k)
@@ -27,13 +27,13 @@ part_links {T} {R} st s =
 
 attempt_links : {T R : Type 0} (st : State T R) (s : ℕ) → (attempt st s).0.links ≡ st.links
 attempt_links {T} {R} st s =
-    either (λ (o : Outcome T R). o.0.links ≡ st.links) (gives_up st s) _ _ refl
+    either (λ (o : StateAndGone T R). o.0.links ≡ st.links) (gives_up st s) _ _ refl
     (release_beside (λ (k : State T R). k.links) (λ k retired. refl) (with_batch_retired st s) (length st.retired))
 
 put_links : {T R : Type 0} (st : State T R) (s : ℕ) (v : T × R) → (put st s v).0.links ≡ st.links
 put_links {T} {R} st s v =
-    either (λ (o : Outcome T R). o.0.links ≡ st.links) (nat_le (max 1 st.size) (length (slot_at (with_value st s v) s).batch)) _ _
-    (attempt_links (with_value st s v) s) refl
+    either (λ (o : StateAndGone T R). o.0.links ≡ st.links) (nat_le (max 1 st.size) (length (slot_at (with_batch_value st s v) s).batch)) _ _
+    (attempt_links (with_batch_value st s v) s) refl
 
 as_many : {T R : Type 0} (n : ℕ) → Invariant (λ (st : State T R). length st.links ≡ n)
 as_many n = record {

@@ -32,37 +32,37 @@ event_at puts s (Rest [] []) (v ∷ queue) = Put s
 event_at puts s (Rest [] []) [] = Return s
 
 -- the events of the call under way of s, to its return, for at most this many events
-abbrev pub rest_of : Puts → ℕ → ℕ → machine.State → ℕ → List Event
-rest_of puts zero size st s = []
-rest_of puts (suc n) size st s = elim (machine.slot_at st s).call [
+abbrev pub rest_of_call : Puts → ℕ → ℕ → machine.State → ℕ → List Event
+rest_of_call puts zero size st s = []
+rest_of_call puts (suc n) size st s = elim (machine.slot_at st s).call [
   | None ↦ []
   | Some call ↦ let e = event_at puts s call.place call.queue in
-      elim (next size st e) [ None ↦ e ∷ [] | Some d ↦ e ∷ rest_of puts n size d.0 s ]
+      elim (next size st e) [ None ↦ e ∷ [] | Some d ↦ e ∷ rest_of_call puts n size d.0 s ]
 ]
 
 -- a job, from its beginning on
 abbrev pub job : Puts → ℕ → ℕ → machine.State → ℕ → Job → List Event
 job puts n size st s j =
-    elim (next size st (Begin s j)) [ None ↦ Begin s j ∷ [] | Some d ↦ Begin s j ∷ rest_of puts n size d.0 s ]
+    elim (next size st (Begin s j)) [ None ↦ Begin s j ∷ [] | Some d ↦ Begin s j ∷ rest_of_call puts n size d.0 s ]
 
 -- the events of a call that is not refused
-abbrev pub events_of : {R : Type 0} → Puts → ℕ → waiting.State ℕ R → machine.State → Call ℕ R → List Event
-events_of puts n st shown Register = Take (least_unused st.slots) ∷ []
-events_of puts n st shown EnterOwned = Take (least_unused st.slots) ∷ EnterHead (least_unused st.slots) ∷ []
-events_of puts n st shown (Enter s) = if waiting.is_active (waiting.slot_at st s) then [] else EnterHead s ∷ []
-events_of puts n st shown (Leave s) =
+abbrev pub call_events : {R : Type 0} → Puts → ℕ → waiting.State ℕ R → machine.State → Call ℕ R → List Event
+call_events puts n st shown Register = Take (least_unused st.slots) ∷ []
+call_events puts n st shown EnterOwned = Take (least_unused st.slots) ∷ EnterHead (least_unused st.slots) ∷ []
+call_events puts n st shown (Enter s) = if waiting.has_guard (waiting.slot_at st s) then [] else EnterHead s ∷ []
+call_events puts n st shown (Leave s) =
     if (waiting.slot_at st s).guards == 1
     then job puts n st.size shown s LeaveJob ++ (if is_owned (waiting.slot_at st s).kind then Give s ∷ [] else [])
     else []
-events_of puts n st shown (End s) = if waiting.is_active (waiting.slot_at st s) then [] else Give s ∷ []
-events_of puts n st shown (Refresh s) =
+call_events puts n st shown (End s) = if waiting.has_guard (waiting.slot_at st s) then [] else Give s ∷ []
+call_events puts n st shown (Refresh s) =
     if is_owned (waiting.slot_at st s).kind || ((waiting.slot_at st s).guards == 1)
     then job puts n st.size shown s RefreshJob
     else []
-events_of puts n st shown (Flush s) = job puts n st.size shown s FlushJob
-events_of puts n st shown (Retire s v r) = job puts n st.size shown s (RetireJob v)
-events_of puts n st shown (Protect s l) = ReadLink s l ∷ []
-events_of puts n st shown (Swap s l new r) =
+call_events puts n st shown (Flush s) = job puts n st.size shown s FlushJob
+call_events puts n st shown (Retire s v r) = job puts n st.size shown s (RetireJob v)
+call_events puts n st shown (Protect s l) = ReadLink s l ∷ []
+call_events puts n st shown (Swap s l new r) =
     let swap = ExchangeLink s l (SwapLink new) in
     elim (machine.link_at shown l) [
       | None ↦ swap ∷ []
@@ -80,7 +80,7 @@ abbrev pub machine_after : {R : Type 0} → (R → ℕ → List ℕ) → (ℕ �
 machine_after by weight puts st shown [] = Some (shown, [])
 machine_after by weight puts st shown (c ∷ cs) =
     let told = step by weight st c in
-    elim (play st.size shown (unless_refused told.0 (events_of puts 300 st shown c))) [
+    elim (play st.size shown (unless_refused told.0 (call_events puts 300 st shown c))) [
       | None ↦ None
       | Some r ↦ elim (machine_after by weight puts told.1.0 r.0 cs) [ None ↦ None | Some d ↦ Some (d.0, handed r.1 ++ d.1) ]
     ]

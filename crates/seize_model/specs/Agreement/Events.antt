@@ -1,7 +1,7 @@
 -- The events that a call makes when it is made alone, and what they put.
 use Rattle.std.specs.Prelude.{◌≡◌, ℕ, Bool, true, false, ◌||◌, ◌==◌, if◌then◌else◌, List, [], ◌∷◌, ◌++◌, Option, Some, None}
 use Rattle.seize_machine.specs.Machine.State as machine
-use Rattle.seize_machine.specs.Machine.Event.{Event, Take, Give, Enter as EnterHead, Begin, Hand, Return, ReadLink, ExchangeLink, slot_of}
+use Rattle.seize_machine.specs.Machine.Event.{Event, Take, Give, Enter as EnterHead, Begin, Hand, Return, ReadLink, ExchangeLink, event_slot}
 use Rattle.seize_machine.specs.Machine.History.{is_link_event}
 use Rattle.seize_machine.specs.declared.machine.event.Job.{Job}
 use Rattle.seize_machine.specs.declared.machine.event.Job.TheVariants.{Retire as RetireJob, Flush as FlushJob, Leave as LeaveJob, Refresh as RefreshJob}
@@ -21,7 +21,7 @@ is_return _ = false
 -- events of slot s, none of them of a link, up to a return, which is the last one
 pub data IsToReturn (s : ℕ) : List Event → Type 0 where
   returns : IsToReturn s (Return s ∷ [])
-  goes_on : (e : Event) (es : List Event) → slot_of e ≡ s → is_link_event s e ≡ false → is_return e ≡ false → IsToReturn s es
+  goes_on : (e : Event) (es : List Event) → event_slot e ≡ s → is_link_event s e ≡ false → is_return e ≡ false → IsToReturn s es
       → IsToReturn s (e ∷ es)
 
 -- a job of slot s, from its beginning to its return
@@ -46,10 +46,10 @@ Where false made events = events ≡ []
 abbrev pub Makes : {T R : Type 0} → waiting.State T R → machine.State → Call T R → List Event → Type 0
 Makes st shown Register events = (n : ℕ) × (events ≡ Take n ∷ [])
 Makes st shown EnterOwned events = (n : ℕ) × (events ≡ Take n ∷ EnterHead n ∷ [])
-Makes st shown (Enter s) events = events ≡ (if waiting.is_active (waiting.slot_at st s) then [] else EnterHead s ∷ [])
+Makes st shown (Enter s) events = events ≡ (if waiting.has_guard (waiting.slot_at st s) then [] else EnterHead s ∷ [])
 Makes st shown (Leave s) events =
     Where ((waiting.slot_at st s).guards == 1) (IsLeft s (is_owned (waiting.slot_at st s).kind)) events
-Makes st shown (End s) events = events ≡ (if waiting.is_active (waiting.slot_at st s) then [] else Give s ∷ [])
+Makes st shown (End s) events = events ≡ (if waiting.has_guard (waiting.slot_at st s) then [] else Give s ∷ [])
 Makes st shown (Refresh s) events =
     Where (is_owned (waiting.slot_at st s).kind || ((waiting.slot_at st s).guards == 1)) (IsJob s RefreshJob) events
 Makes st shown (Flush s) events = IsJob s FlushJob events

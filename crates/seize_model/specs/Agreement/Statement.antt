@@ -7,7 +7,7 @@ use Rattle.seize_machine.specs.Machine.Event.{Event}
 use Rattle.seize_machine.specs.declared.machine.event.Answer.{Answer}
 use Rattle.seize_model.specs.Waiting.State as waiting
 use Rattle.seize_model.specs.Waiting.Lists.{Call, Protect, Swap, Reply, Refused, Effect, step}
-use Rattle.seize_model.specs.Agreement.Shows.{Stand, Shows, ShowsReclaimers}
+use Rattle.seize_model.specs.Agreement.Shows.{ShowsValues, ShowsState, ShowsReclaimers}
 use Rattle.seize_model.specs.Agreement.Events.{MakesFor, NamesOwn, RetiresWith, ArePutBy}
 use Rattle.seize_model.specs.Agreement.Play.{play, reply_by}
 use Rattle.seize_machine.specs.Machine.History.{handed}
@@ -37,14 +37,14 @@ pub record IsRun (T R : Type 0) (of : ℕ → T) (call : Call T R) (st : waiting
   pub makes : MakesFor told.0 st before call events
   pub names : NamesOwn of call events
   pub legal : play st.size before events ≡ Some (later, answers)
-  pub shows : Shows T R of told.1.0 later
-  pub gone : Stand of (handed answers) told.1.1
+  pub shows : ShowsState T R of told.1.0 later
+  pub gone : ShowsValues of (handed answers) told.1.1
   pub reply : IsReply call events answers told.0
 
 -- **The two models agree.** From each two states that show each other, each call is a list of events.
 abbrev pub Agreement : {T R : Type 0} → (R → T → List T) → (T → ℕ) → (ℕ → T) → Type 0
 Agreement {T} {R} puts weight of =
-    (st : waiting.State T R) (before : machine.State) (call : Call T R) → HasLink st call → Shows T R of st before
+    (st : waiting.State T R) (before : machine.State) (call : Call T R) → HasLink st call → ShowsState T R of st before
     → IsRun T R of call st before (step puts weight st call)
 
 -- Each value with its reclaimer gets a number that was never named before.
@@ -71,14 +71,14 @@ pub record IsRunWith (T R : Type 0) (puts : R → T → List T) (of : ℕ → T)
 abbrev pub AgreementWith : {T R : Type 0} → (R → T → List T) → (T → ℕ) → (ℕ → T) → (ℕ → R) → Type 0
 AgreementWith {T} {R} puts weight of by =
     (st : waiting.State T R) (before : machine.State) (call : Call T R) → HasLink st call → HoldsFor by before call
-    → Shows T R of st before → ShowsReclaimers T R of by st before → IsRunWith T R puts of by call st before (step puts weight st call)
+    → ShowsState T R of st before → ShowsReclaimers T R of by st before → IsRunWith T R puts of by call st before (step puts weight st call)
 
 -- These events, with these answers and this state after them, do what the call does.
 pub record IsOutcome (T R : Type 0) (of : ℕ → T) (by : ℕ → R) (call : Call T R) (told : Effect T R)
     (events : List Event) (answers : List Answer) (later : machine.State) : Type 0 where
-  pub shows : Shows T R of told.1.0 later
+  pub shows : ShowsState T R of told.1.0 later
   pub reclaimers : ShowsReclaimers T R of by told.1.0 later
-  pub gone : Stand of (handed answers) told.1.1
+  pub gone : ShowsValues of (handed answers) told.1.1
   pub reply : IsReply call events answers told.0
 
 -- each legal list of events that the call makes alone, and in which each value handed puts what its reclaimer puts, does so
@@ -95,7 +95,7 @@ EachList {T} {R} puts of by call st before told =
 abbrev pub AgreementOnLists : {T R : Type 0} → (R → T → List T) → (T → ℕ) → Type 0
 AgreementOnLists {T} {R} puts weight =
     (of : ℕ → T) (by : ℕ → R) (st : waiting.State T R) (before : machine.State) (call : Call T R) → HasLink st call
-    → Shows T R of st before → ShowsReclaimers T R of by st before → EachList puts of by call st before (step puts weight st call)
+    → ShowsState T R of st before → ShowsReclaimers T R of by st before → EachList puts of by call st before (step puts weight st call)
 
 -- each call is such a list of events, from where those of the call before it ended, and one naming serves them all
 abbrev pub AreRuns : {T R : Type 0} → (R → T → List T) → (T → ℕ) → (ℕ → T) → waiting.State T R → machine.State → List (Call T R) → Type 0
@@ -111,5 +111,5 @@ AreRuns {T} {R} puts weight of st before (call ∷ calls) =
 abbrev pub AgreementAnew : {T R : Type 0} → (R → T → List T) → (T → ℕ) → Type 0
 AgreementAnew {T} {R} puts weight =
     (of : ℕ → T) (kept : List ℕ) (st : waiting.State T R) (before : machine.State) (calls : List (Call T R))
-    → All (HasLink st) calls → Shows T R of st before
-    → (other : ℕ → T) × (map other kept ≡ map of kept) × Shows T R other st before × AreRuns puts weight other st before calls
+    → All (HasLink st) calls → ShowsState T R of st before
+    → (other : ℕ → T) × (map other kept ≡ map of kept) × ShowsState T R other st before × AreRuns puts weight other st before calls

@@ -6,13 +6,13 @@ use Rattle.seize_model.specs.declared.kind.Kind.TheVariants.{Free, Registered, O
 use Rattle.seize_table.specs.Place.{all_numbers}
 use Rattle.seize_table.specs.declared.refusal.Refusal.{Refusal}
 use Rattle.seize_table.specs.declared.refusal.Refusal.TheVariants.{NoNumbers, TooManyGuards, NotInUse, NotActive, WrongKind}
-use Rattle.seize_model.specs.Waiting.State.{Slot, State, slot_at, set_slot, is_active}
-use Rattle.seize_model.specs.Waiting.Attempt.{Outcome, after, attempt, put, part}
+use Rattle.seize_model.specs.Waiting.State.{Slot, State, slot_at, set_slot, has_guard}
+use Rattle.seize_model.specs.Waiting.Attempt.{StateAndGone, with_gone, attempt, put, part}
 use Rattle.seize_model.specs.Waiting.Further.{further, with_further, gone_from}
 
 -- what a call answers, and its outcome
 abbrev pub Response : (A T R : Type 0) → Type 0
-Response A T R = Result A Refusal × Outcome T R
+Response A T R = Result A Refusal × StateAndGone T R
 
 -- the answer, unless the call is refused
 abbrev pub unless : {A T R : Type 0} → Option Refusal → State T R → Response A T R → Response A T R
@@ -20,9 +20,9 @@ unless None st a = a
 unless (Some r) st a = (Err r, (st, []))
 
 -- the first of two refusals, where there is one
-abbrev pub first : Option Refusal → Option Refusal → Option Refusal
-first None b = b
-first (Some r) b = Some r
+abbrev pub first_refusal : Option Refusal → Option Refusal → Option Refusal
+first_refusal None b = b
+first_refusal (Some r) b = Some r
 
 abbrev pub is_free : Kind → Bool
 is_free Free = true
@@ -40,11 +40,11 @@ unused st s = if is_free (slot_at st s).kind then Some NotInUse else None
 
 -- a call that needs a registered slot
 abbrev pub not_registered : {T R : Type 0} → State T R → ℕ → Option Refusal
-not_registered st s = first (unused st s) (if is_owned (slot_at st s).kind then Some WrongKind else None)
+not_registered st s = first_refusal (unused st s) (if is_owned (slot_at st s).kind then Some WrongKind else None)
 
 -- a call that needs a guard of the slot
 abbrev pub no_guard : {T R : Type 0} → State T R → ℕ → Option Refusal
-no_guard st s = first (unused st s) (if is_active (slot_at st s) then None else Some NotActive)
+no_guard st s = first_refusal (unused st s) (if has_guard (slot_at st s) then None else Some NotActive)
 
 -- a call that needs room for one guard more
 abbrev pub too_many : {T R : Type 0} → State T R → ℕ → Option Refusal
@@ -79,7 +79,7 @@ set_guards st s n = set_slot st s (record (slot_at st s) { guards = n })
 -- **Enter.** The slot has one guard more.
 abbrev pub enter : {T R : Type 0} → State T R → ℕ → Response (Unit {0}) T R
 enter st s =
-    unless (first (not_registered st s) (too_many st s)) st
+    unless (first_refusal (not_registered st s) (too_many st s)) st
     (Ok tt, (set_guards st s ((slot_at st s).guards + 1), []))
 
 -- the number is not in use
@@ -90,17 +90,17 @@ with_number_free st s = set_slot st s (record (slot_at st s) { kind = Free; guar
 abbrev pub end_slot : {T R : Type 0} → State T R → ℕ → Response Bool T R
 end_slot st s =
     unless (not_registered st s) st
-    (if is_active (slot_at st s) then (Ok false, (st, [])) else (Ok true, (with_number_free st s, [])))
+    (if has_guard (slot_at st s) then (Ok false, (st, [])) else (Ok true, (with_number_free st s, [])))
 
 -- the slot has one guard less, and parts if it was the last one
-abbrev pub one_guard_less : {T R : Type 0} → State T R → ℕ → Outcome T R
+abbrev pub one_guard_less : {T R : Type 0} → State T R → ℕ → StateAndGone T R
 one_guard_less st s =
     if (slot_at st s).guards == 1
     then part (set_guards st s 0) s
     else (set_guards st s ((slot_at st s).guards - 1), [])
 
 -- the number of an owned slot is given back at the end
-abbrev pub with_number_free_if : {T R : Type 0} → Bool → ℕ → Outcome T R → Outcome T R
+abbrev pub with_number_free_if : {T R : Type 0} → Bool → ℕ → StateAndGone T R → StateAndGone T R
 with_number_free_if owned s o = ((if owned then with_number_free o.0 s else o.0), o.1)
 
 -- **Leave.**
@@ -110,7 +110,7 @@ leave puts weight st s =
     (Ok tt, with_number_free_if (is_owned (slot_at st s).kind) s (with_further puts weight s (one_guard_less st s)))
 
 -- the slot parts if it is owned or has one guard, and stays active
-abbrev pub part_if_alone : {T R : Type 0} → State T R → ℕ → Outcome T R
+abbrev pub part_if_alone : {T R : Type 0} → State T R → ℕ → StateAndGone T R
 part_if_alone st s =
     if is_owned (slot_at st s).kind || ((slot_at st s).guards == 1)
     then part st s
@@ -148,18 +148,18 @@ swap st s link new =
 -- Reclaim all.
 
 -- each of these slots parts, becomes inactive, and gives its number back
-abbrev pub part_all : {T R : Type 0} → State T R → List ℕ → Outcome T R
+abbrev pub part_all : {T R : Type 0} → State T R → List ℕ → StateAndGone T R
 part_all st [] = (st, [])
 part_all st (s ∷ ss) =
     let o = part st s in
-    after o.1 (part_all (with_number_free o.0 s) ss)
+    with_gone o.1 (part_all (with_number_free o.0 s) ss)
 
 abbrev pub without_batch : {T R : Type 0} → Slot T R → Slot T R
 without_batch slot = record slot { batch = [] }
 
 -- **Reclaim all.** Every slot parts, in order of numbers; then each slot's batch is gone, in order of numbers; then what all those
 -- values put, until nothing is queued. No retired batch is left. Links stay as they are.
-abbrev pub reclaim_all : {T R : Type 0} → (R → T → List T) → (T → ℕ) → State T R → Outcome T R
+abbrev pub reclaim_all : {T R : Type 0} → (R → T → List T) → (T → ℕ) → State T R → StateAndGone T R
 reclaim_all puts weight st =
     let o = part_all st (range_with_len 0 (length st.slots)) in
     let gone = o.1 ++ flat_map (λ slot. slot.batch) o.0.slots in

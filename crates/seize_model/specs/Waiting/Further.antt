@@ -2,7 +2,7 @@
 use Rattle.std.specs.Prelude.{ℕ, zero, suc, ◌≡◌, ◌<◌, ◌+◌, ◌-◌, ◌*◌, List, [], ◌∷◌, ◌++◌, map, sum}
 use Rattle.std.specs.List.{sum_by, flat_map}
 use Rattle.seize_model.specs.Waiting.State.{State, slot_at}
-use Rattle.seize_model.specs.Waiting.Attempt.{Outcome, after, put}
+use Rattle.seize_model.specs.Waiting.Attempt.{StateAndGone, put, with_gone}
 
 -- what the reclaimer of a value puts, to be reclaimed as that value was
 abbrev pub put_by : {T R : Type 0} → (R → T → List T) → T × R → List (T × R)
@@ -17,12 +17,12 @@ abbrev pub further : {T R : Type 0} → (R → T → List T) → List (T × R) �
 further puts gone = flat_map (put_by puts) gone
 
 -- the queue is retired by s from its front, for at most this many retirements
-abbrev pub settle : {T R : Type 0} → (R → T → List T) → ℕ → State T R → ℕ → List (T × R) → Outcome T R
+abbrev pub settle : {T R : Type 0} → (R → T → List T) → ℕ → State T R → ℕ → List (T × R) → StateAndGone T R
 settle puts zero st s queue = (st, [])
 settle puts (suc n) st s [] = (st, [])
 settle puts (suc n) st s (v ∷ queue) =
     let o = put st s v in
-    after o.1 (settle puts n o.0 s (queue ++ further puts o.1))
+    with_gone o.1 (settle puts n o.0 s (queue ++ further puts o.1))
 
 -- at most how many retirements there are: a queued value counts twice its weight, and one in the batch one less, so that a
 -- retirement lowers the sum by one, and an end lowers it too
@@ -31,12 +31,12 @@ still_to_come weight batch queue = sum_by (λ v. 2 * weight v.0 - 1) batch + sum
 
 -- **Afterwards.** The queue is taken from its front, and each value is retired by s, until the queue is empty. `AfterwardsLaws`
 -- says the same without a number of retirements.
-abbrev pub afterwards : {T R : Type 0} → (R → T → List T) → (T → ℕ) → State T R → ℕ → List (T × R) → Outcome T R
+abbrev pub afterwards : {T R : Type 0} → (R → T → List T) → (T → ℕ) → State T R → ℕ → List (T × R) → StateAndGone T R
 afterwards puts weight st s queue = settle puts (still_to_come weight (slot_at st s).batch queue) st s queue
 
 -- a call's own work, and then what the values gone put
-abbrev pub with_further : {T R : Type 0} → (R → T → List T) → (T → ℕ) → ℕ → Outcome T R → Outcome T R
-with_further puts weight s o = after o.1 (afterwards puts weight o.0 s (further puts o.1))
+abbrev pub with_further : {T R : Type 0} → (R → T → List T) → (T → ℕ) → ℕ → StateAndGone T R → StateAndGone T R
+with_further puts weight s o = with_gone o.1 (afterwards puts weight o.0 s (further puts o.1))
 
 -- The values that go to their reclaimers where these are given up and what they put is given up too, in turn, for at most this
 -- many values.
@@ -57,7 +57,7 @@ AfterwardsLaws {T} {R} puts weight =
     ((st : State T R) (s : ℕ) → afterwards puts weight st s [] ≡ (st, []))
     × ((st : State T R) (s : ℕ) (v : T × R) (queue : List (T × R)) →
     afterwards puts weight st s (v ∷ queue)
-    ≡ after (put st s v).1 (afterwards puts weight (put st s v).0 s (queue ++ further puts (put st s v).1)))
+    ≡ with_gone (put st s v).1 (afterwards puts weight (put st s v).0 s (queue ++ further puts (put st s v).1)))
 
 -- nothing goes where nothing is queued; else the first goes, and then the rest, with what it puts behind it
 abbrev pub DrainLaws : {T R : Type 0} → (R → T → List T) → (T → ℕ) → Type 0

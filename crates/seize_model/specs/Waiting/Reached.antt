@@ -18,5 +18,5 @@ abbrev pub GoneLaw : {T R : Type 0} → (R → T → List T) → (T → ℕ) →
 GoneLaw {T} {R} puts weight = (st : State T R) → Reached puts weight st → (b : ℕ) → is_kept st b ≡ false → retired_at st b ≡ []
 
 -- the state is reached, or a growth was refused
-abbrev pub IsReached : {T R : Type 0} → (R → T → List T) → (T → ℕ) → Bool → State T R → Type 0
-IsReached puts weight short st = ∥ (short ≡ true) ⊎ Reached puts weight st ∥₁
+abbrev pub IsReachedByCalls : {T R : Type 0} → (R → T → List T) → (T → ℕ) → Bool → State T R → Type 0
+IsReachedByCalls puts weight short st = ∥ (short ≡ true) ⊎ Reached puts weight st ∥₁

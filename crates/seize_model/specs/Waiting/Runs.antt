@@ -213,11 +213,11 @@ refusals_told =
     ([], Refused NotInUse None ∷ Number 0 ∷ Refused NotActive None ∷ Refused NotActive None ∷ Number 1 ∷ Refused WrongKind None ∷ []) ∷ []
 
 -- **Links.** A value that a link held is retired, and the value that it holds then is not.
-abbrev pub links : List Group
-links =
+abbrev pub link_runs : List Group
+link_runs =
     Calls (Register ∷ Enter 0 ∷ Protect 0 0 ∷ Swap 0 0 (Some 1) tt ∷ Protect 0 0 ∷ Swap 0 0 (Some 2) tt ∷ [])
     ∷ Calls (Leave 0 ∷ []) ∷ All ∷ []
 
-abbrev pub links_told : List Telling
-links_told =
+abbrev pub link_runs_told : List Telling
+link_runs_told =
     ([], Number 0 ∷ Done ∷ Found false ∷ Done ∷ Found true ∷ Done ∷ []) ∷ (1 ∷ [], dones 1) ∷ ([], []) ∷ []

@@ -45,13 +45,13 @@ abbrev pub set_slot : {T R : Type 0} → State T R → ℕ → Slot T R → Stat
 set_slot st s slot = record st { slots = slice_set st.slots s slot }
 
 -- a slot is active where it has a guard
-abbrev pub is_active : {T R : Type 0} → Slot T R → Bool
-is_active slot = not (slot.guards == 0)
+abbrev pub has_guard : {T R : Type 0} → Slot T R → Bool
+has_guard slot = not (slot.guards == 0)
 
 -- retired batch b waits for the slot. The waiting set of b is the set of these slots
-abbrev pub keeps : {T R : Type 0} → ℕ → Slot T R → Bool
-keeps b slot = list_any (λ x. x == b) slot.order
+abbrev pub waits_for : {T R : Type 0} → ℕ → Slot T R → Bool
+waits_for b slot = list_any (λ x. x == b) slot.order
 
 -- the waiting set of b is not empty
 abbrev pub is_kept : {T R : Type 0} → State T R → ℕ → Bool
-is_kept st b = list_any (keeps b) st.slots
+is_kept st b = list_any (waits_for b) st.slots

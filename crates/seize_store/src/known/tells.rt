@@ -1,7 +1,7 @@
 //! How a token comes from a note of the row's cell, how it is copied, and that two of one row agree. The token is that of `known`.
 ghost use Rattle.std.specs.Prelude.{◌≡◌, Some};
-ghost use Rattle.seize_store.specs.Known.{name_in};
-ghost use Rattle.seize_store.specs.Titled.{IsSeen, Shows};
+ghost use Rattle.seize_store.specs.Known.{row_name};
+ghost use Rattle.seize_store.specs.Titled.{IsSeen, ShowsRow};
 
 use super::Known;
 use crate::kin::NoteOf;
@@ -17,7 +17,7 @@ impl Known {
         note: &mut NoteOf<Row<H, P, T>>,
     ) -> Known
         requires { IsSeen rows.now index note.old }
-        ensures { (note.new ≡ note.old) × Shows rows.now index note.old result }
+        ensures { (note.new ≡ note.old) × ShowsRow rows.now index note.old result }
     {
         Known {
             marker: PhantomData,
@@ -29,7 +29,7 @@ impl Known {
         &self,
         note: &mut NoteOf<Row<H, P, T>>,
     )
-        requires { note.old.cell ≡ name_in self.now.store self.now.row }
+        requires { note.old.cell ≡ row_name self.now.store self.now.row }
         ensures { (note.new.cell ≡ note.old.cell) × (note.new.known ≡ Some self.now.chunks) }
     {}
 

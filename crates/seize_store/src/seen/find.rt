@@ -1,7 +1,7 @@
 //! Look-ups: from a number to its chunk, in a store that made the number's row. `seen` says what they answer.
 ghost use Rattle.std.specs.Prelude.{◌≡◌, ◌<◌, ◌≤◌, ◌+◌, ◌^◌, length, IfSome};
 ghost use Rattle.seize_store.specs.Known.{chunk_in, entry_of, label_in, place_in};
-ghost use Rattle.seize_store.specs.Named.{IsRowOf, chunks_by, header_of, known_by, label_by, label_of, lies, lies_of, name_of, number_of, place_by, row_by, row_is, store_by, store_of};
+ghost use Rattle.seize_store.specs.Named.{IsRowOf, chunks_by, header_of, known_by, label_by, lies_of, owned_label, owned_number, owned_place, place_by, row_by, row_is, store_by, store_name, store_of};
 
 use super::{Place, Seen};
 use crate::known::Known;
@@ -40,9 +40,9 @@ impl<H: Labelled + Drop, P: Labelled + Drop, T: Drop> Seen<H, P, T> {
     /// Where a look-up of the block's number leads: to the block's own chunk, and to a header with the block's label. It does nothing: its
     /// contract is the law.
     pub fn leads_to(&self, owned: &Owned<H, P, T>)
-        requires { (store_by self.now ≡ store_of owned.now) × row_is self.now (number_of owned.now) }
-        ensures place { place_by self.now (number_of owned.now) ≡ lies owned.now }
-        ensures label { label_by self.now (number_of owned.now) ≡ label_of owned.now }
+        requires { (store_by self.now ≡ store_of owned.now) × row_is self.now (owned_number owned.now) }
+        ensures place { place_by self.now (owned_number owned.now) ≡ owned_place owned.now }
+        ensures label { label_by self.now (owned_number owned.now) ≡ owned_label owned.now }
     {
         self.known.agree(&owned.block.title().known);
     }
@@ -60,7 +60,7 @@ impl<'a, H, P: Labelled, T> Place<'a, H, P, T> {
 impl<H: Labelled + Drop, P: Labelled + Drop, T> Store<H, P, T> {
     /// The chunk of a number, and what shows its row, where that is made.
     pub fn find(&self, number: usize) -> Option<(Place<'_, H, P, T>, Seen<H, P, T>)>
-        ensures row { IfSome result (λ found. (store_by found.1 ≡ name_of self.now) × row_is found.1 number) }
+        ensures row { IfSome result (λ found. (store_by found.1 ≡ store_name self.now) × row_is found.1 number) }
         ensures place { IfSome result (λ found. lies_of found.0 ≡ place_by found.1 number) }
         ensures label { IfSome result (λ found. H.label (header_of found.0) ≡ label_by found.1 number) }
     {
@@ -76,7 +76,7 @@ impl<H: Labelled + Drop, P: Labelled + Drop, T> Store<H, P, T> {
 
     /// What shows the number's row, where that is made.
     pub fn seen(&self, number: usize) -> Option<Seen<H, P, T>>
-        ensures { IfSome result (λ seen. (store_by seen ≡ name_of self.now) × row_is seen number) }
+        ensures { IfSome result (λ seen. (store_by seen ≡ store_name self.now) × row_is seen number) }
     {
         let (_, seen) = self.find(number)?;
         Some(seen)
@@ -87,7 +87,7 @@ impl<H: Labelled + Drop, P: Labelled + Drop, T> Store<H, P, T> {
     /// Three loads, each of which waits for the one before: the row's cell, where its chunks begin, and then what is looked for in the
     /// chunk.
     pub fn at(&self, number: usize, seen: &mut Seen<H, P, T>) -> Place<'_, H, P, T>
-        requires store { store_by seen.old ≡ name_of self.now }
+        requires store { store_by seen.old ≡ store_name self.now }
         requires row { row_is seen.old number }
         ensures token { seen.new ≡ seen.old }
         ensures place { lies_of result ≡ place_by seen.old number }
@@ -102,7 +102,7 @@ impl<H: Labelled + Drop, P: Labelled + Drop, T> Store<H, P, T> {
 
     /// The same for whoever has a token free of the store's types.
     pub fn place(&self, number: usize, known: &Known) -> Place<'_, H, P, T>
-        requires store { known.now.store ≡ name_of self.now }
+        requires store { known.now.store ≡ store_name self.now }
         requires row { IsRowOf known.now number }
         ensures place { lies_of result ≡ place_in known.now.chunks (entry_of known.now.row number) }
         ensures label { H.label (header_of result) ≡ label_in known.now.chunks (entry_of known.now.row number) }
@@ -113,7 +113,7 @@ impl<H: Labelled + Drop, P: Labelled + Drop, T> Store<H, P, T> {
 
     // The number's row, which the token shows, and its entry there.
     pub(crate) fn row_of(&self, number: usize, known: &Known) -> (&Row<H, P, T>, usize)
-        requires { (known.now.store ≡ name_of self.now) × IsRowOf known.now number }
+        requires { (known.now.store ≡ store_name self.now) × IsRowOf known.now number }
         ensures { (result.1 < length result.0.now)
             × (chunk_in result.0.now result.1 ≡ chunk_in known.now.chunks (entry_of known.now.row number)) }
     {
@@ -126,7 +126,7 @@ impl<H: Labelled + Drop, P: Labelled + Drop, T> Store<H, P, T> {
 
     // The row that the token shows.
     fn known_row(&self, bucket: usize, known: &Known) -> &Row<H, P, T>
-        requires { (name_of self.now ≡ known.now.store) × (bucket ≡ known.now.row) × (bucket < 59) }
+        requires { (store_name self.now ≡ known.now.store) × (bucket ≡ known.now.row) × (bucket < 59) }
         ensures { result.now ≡ known.now.chunks }
     {
         let cell = &self.rows.cells[bucket];
@@ -140,7 +140,7 @@ impl<H: Labelled + Drop, P: Labelled + Drop, T> Store<H, P, T> {
 
     // The row that the token shows.
     fn row(&self, bucket: usize, seen: &mut Seen<H, P, T>) -> &Row<H, P, T>
-        requires { (store_by seen.old ≡ name_of self.now) × (row_by seen.old ≡ bucket) × (bucket < 59) }
+        requires { (store_by seen.old ≡ store_name self.now) × (row_by seen.old ≡ bucket) × (bucket < 59) }
         ensures { (seen.new ≡ seen.old) × (result.now ≡ chunks_by seen.old) }
     {
         let (Some(row), _) = self.rows.cells[bucket].found(seen.note.again()) else {

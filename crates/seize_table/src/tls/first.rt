@@ -31,11 +31,11 @@ pub struct First<'a, T: Labelled> {
 }
 
 impl<'a, T: Labelled + Drop> First<'a, T> {
-    ghost use Rattle.seize_table.specs.Walk.{IsSameWalk, end_of, labels_of, table_by, walked};
+    ghost use Rattle.seize_table.specs.Walk.{IsSameWalk, table_by, walk_end, walk_labels, walk_next};
 
     pub(super) fn new(table: &'a ThreadLocal<T>, count: usize, all: &'a AllFilled) -> First<'a, T>
         requires { (all.now.table ≡ name_of table.now) × (count ≤ length all.now.labels) × (count ≤ all_numbers) }
-        ensures { (walked result ≡ 0) × (end_of result ≡ count) × (labels_of result ≡ all.now.labels) }
+        ensures { (walk_next result ≡ 0) × (walk_end result ≡ count) × (walk_labels result ≡ all.now.labels) }
     {
         First {
             table,
@@ -62,13 +62,13 @@ impl<'a, T: Labelled + Drop> First<'a, T> {
 }
 
 impl<'a, T: Labelled + Drop> Iterator for First<'a, T> {
-    ghost use Rattle.seize_table.specs.Walk.{Goes, end_of, walked};
+    ghost use Rattle.seize_table.specs.Walk.{Goes, walk_end, walk_next};
 
     type Item = &'a T;
 
     ghost next_gives = { Goes };
 
-    ghost remaining = { λ walk. at_most (end_of walk - walked walk) };
+    ghost remaining = { λ walk. at_most (walk_end walk - walk_next walk) };
 
     fn next(&mut self) -> Option<&'a T> {
         if self.number == self.end {

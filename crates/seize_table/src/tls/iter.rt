@@ -23,10 +23,10 @@ pub struct Iter<'a, T: Labelled> {
 }
 
 impl<'a, T: Labelled + Drop> Iter<'a, T> {
-    ghost use Rattle.seize_table.specs.Named.{bucket_of, cells_of, entry_of, stands_at, table_of};
+    ghost use Rattle.seize_table.specs.Named.{bucket_of, cells_of, next_entry, stands_at, table_of};
 
     pub(super) fn new(table: &'a ThreadLocal<T>) -> Iter<'a, T>
-        ensures { ((table_of result).now ≡ table.now) × (bucket_of result ≡ 0) × (entry_of result ≡ 0) }
+        ensures { ((table_of result).now ≡ table.now) × (bucket_of result ≡ 0) × (next_entry result ≡ 0) }
     {
         Iter {
             table,
@@ -61,10 +61,10 @@ impl<'a, T: Labelled + Drop> Iter<'a, T> {
         ensures table { table_of self.new ≡ table_of self.old }
         ensures bucket { bucket_of self.new ≡ bucket_of self.old }
         ensures same_bucket { IfSome result (λ found. found.0.bucket ≡ bucket_of self.old) }
-        ensures place { IfSome result (λ found. entry_of self.old ≤ found.0.entry) }
-        ensures past { IfSome result (λ found. entry_of self.new ≡ found.0.entry + 1) }
+        ensures place { IfSome result (λ found. next_entry self.old ≤ found.0.entry) }
+        ensures past { IfSome result (λ found. next_entry self.new ≡ found.0.entry + 1) }
         ensures shown { IfSome result (λ found. Shows T.label (cells_of (table_of self.old).now) found.0 found.1.filled found.1.value.now) }
-        ensures none { IfNone result (entry_of self.new ≡ entry_of self.old) }
+        ensures none { IfNone result (next_entry self.new ≡ next_entry self.old) }
     {
         let found = self.table.first_from(self.bucket, self.entry)?;
         self.entry = found.0.entry + 1;

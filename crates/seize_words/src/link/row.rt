@@ -20,7 +20,7 @@ impl Links {
     ghost use Rattle.std.specs.Prelude.{◌<◌, IfErr, IfOk};
     ghost use Rattle.seize_table.specs.declared.refusal.Refusal.TheVariants.{NoMemory};
     ghost use Rattle.seize_words.specs.LinkRows.{AreAllOf, IsLinkAt};
-    ghost use Rattle.seize_words.specs.Named.{count_in, links_name};
+    ghost use Rattle.seize_words.specs.Named.{link_count, links_name};
 
     /// All links of a book that has so many, which are empty. It asks for their memory, 8 bytes each.
     ///
@@ -29,7 +29,7 @@ impl Links {
     /// `NoMemory` where that was refused.
     pub fn new(alloc: Global, many: usize, left: LinkKeys, book: Book) -> Result<Links, Refusal>
         requires left { AreAllOf left book.name many }
-        ensures made { IfOk result (λ links. (links.book ≡ book) × (count_in links ≡ many)) }
+        ensures made { IfOk result (λ links. (links.book ≡ book) × (link_count links ≡ many)) }
         ensures refused { IfErr result (λ e. e ≡ NoMemory) }
     {
         let mut left = left;
@@ -52,14 +52,14 @@ impl Links {
 
     /// How many there are.
     pub fn len(&self) -> usize
-        ensures { result ≡ count_in self.now }
+        ensures { result ≡ link_count self.now }
     {
         self.row.len()
     }
 
     /// The link with this number: one load more than that of its word.
     pub fn get(&self, link: usize) -> &Link
-        requires { link < count_in self.now }
+        requires { link < link_count self.now }
         ensures { IsLinkAt (links_name self.now) link result.now }
     {
         &self.row[link]

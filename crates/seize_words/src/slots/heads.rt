@@ -1,6 +1,6 @@
 //! The walk over the heads of the first slots. It stands on the walk of the table.
 ghost use Rattle.std.specs.Prelude.{◌≡◌, ◌≤◌, length};
-ghost use Rattle.seize_table.specs.Walk.{end_of, labels_of};
+ghost use Rattle.seize_table.specs.Walk.{walk_end, walk_labels};
 ghost use Rattle.seize_book.specs.Tokens.{slot_labels};
 
 use crate::reservation::Head;
@@ -14,20 +14,20 @@ use seize_table::tls::First;
 pub struct Heads<'a> {
     pub(super) walk: First<'a, Reservation>,
     pub(super) book: &'a Book,
-    ghost labels: { labels_of walk ≡ slot_labels book.now.name (length (labels_of walk)) },
-    ghost within: { end_of walk ≤ length (labels_of walk) },
+    ghost labels: { walk_labels walk ≡ slot_labels book.now.name (length (walk_labels walk)) },
+    ghost within: { walk_end walk ≤ length (walk_labels walk) },
 }
 
 impl<'a> Iterator for Heads<'a> {
     ghost use Rattle.std.specs.Iterator.{at_most};
     ghost use Rattle.std.specs.Prelude.{◌-◌};
-    ghost use Rattle.seize_words.specs.Reserved.{GoesOn, comes_to, ends_at};
+    ghost use Rattle.seize_words.specs.Reserved.{GoesOn, comes_to, heads_end};
 
     type Item = &'a Head;
 
     ghost next_gives = { GoesOn };
 
-    ghost remaining = { λ heads. at_most (ends_at heads - comes_to heads) };
+    ghost remaining = { λ heads. at_most (heads_end heads - comes_to heads) };
 
     fn next(&mut self) -> Option<&'a Head> {
         let reservation = self.walk.next()?;

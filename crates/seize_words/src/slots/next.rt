@@ -2,7 +2,7 @@
 ghost use Rattle.std.specs.Prelude.{◌≡◌};
 ghost use Rattle.crossbeam_utils.specs.Padded.{padded_value};
 ghost use Rattle.seize_words.specs.Reservations.{slot};
-ghost use Rattle.seize_book.specs.Slots.{number_of};
+ghost use Rattle.seize_book.specs.Slots.{slot_number};
 
 use crate::reservation::Head;
 use crate::slots::Reservation;
@@ -16,7 +16,7 @@ pub struct NextSlot {
     pub(super) number: usize,
     pub(super) key: SlotKey,
     pub(super) reservation: Reservation,
-    ghost its_key: { number_of key ≡ number },
+    ghost its_key: { slot_number key ≡ number },
     ghost its_head: { slot (padded_value reservation.head) ≡ number },
     ghost its_book: { reservation.book.name ≡ key.keys.name },
 }
@@ -30,7 +30,7 @@ impl NextSlot {
     /// The slot with these keys, by its number. Its head is made, which is inactive.
     pub fn new(keys: SlotKeys, number: usize, book: &Book) -> NextSlot
         requires book { (slot_book keys.slot ≡ book.now.name) × (next_book keys.head ≡ book.now.name) }
-        requires number { (number_of keys.slot ≡ number) × (next_head keys.head ≡ number) }
+        requires number { (slot_number keys.slot ≡ number) × (next_head keys.head ≡ number) }
         requires inactive { head_known keys.head ≡ Inactive }
         ensures { (comes_next result ≡ number) × (next_key result ≡ keys.slot) }
     {

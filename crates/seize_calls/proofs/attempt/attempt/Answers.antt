@@ -3,16 +3,16 @@ use Rattle.seize_machine.specs.Machine.Event.{AddCount, Detach}
 use Rattle.seize_book.specs.Adding.{private}
 use Rattle.seize_book.specs.Ledger.{renewed}
 use Rattle.seize_book.specs.Private.{labels_of}
-use Rattle.seize_book.specs.Slots.{number_of}
+use Rattle.seize_book.specs.Slots.{slot_number}
 use Rattle.seize_words.proofs.Facts.{knows_noted}
-use Rattle.seize_calls.specs.Batches.{AreRemarked, keys_in, spots_in, unslotted}
-use Rattle.seize_calls.specs.Numbered.{counted, ends_at, starts_at}
+use Rattle.seize_calls.specs.Batches.{AreRemarked, keys_in, slot_marks_in, unslotted}
+use Rattle.seize_calls.specs.Numbered.{ends_at, is_count_of, starts_at}
 use Rattle.seize_calls.proofs.Attempts.{adds, book_one, book_three, has_front, inserts, its_last, its_values, retires, same_last, same_one, stays_so, told_three, values_are}
 use Rattle.seize_calls.proofs.Batches.{remarked_labels, renewed_labels}
 use Rattle.seize_calls.proofs.attempt.attempt.Goals as goal
 
 pub returns-in-TooMany-clause-ends : goal.returns-in-TooMany-clause-ends
-returns-in-TooMany-clause-ends g c = λ at. (stays_so at c.args.pass.now c.mark.new.key c.mark.new.pass (spots_in c.mark.new.batch) (c.in-TooMany.ensures.marks at), c.in-TooMany.ensures.batch)
+returns-in-TooMany-clause-ends g c = λ at. (stays_so at c.args.pass.now c.mark.new.key c.mark.new.pass (slot_marks_in c.mark.new.batch) (c.in-TooMany.ensures.marks at), c.in-TooMany.ensures.batch)
 
 pub detach-requires-clause-next : goal.detach-requires-clause-next
 detach-requires-clause-next g c = (c.in-Ready.ensures.marks c.requires.begins).stands.0
@@ -27,7 +27,7 @@ insert_each-won-requires g c =
       (
         (book_one c.args.key.now at c.args.pass.now key pass held front ready.marked (ready.ensures.marks at) ready.ensures.book.0 ready.ensures.knows ready.ensures.book.1 (ready.ensures.book.0 ∙ ready.ensures.book.1.0 ∙ sym c.requires.book.0, ready.ensures.book.2) are c.mark.new.batch.front c.detach.new.self c.detach.new.pass c.detach.ensures.noted c.detach.ensures.batch, c.requires.book.1 ∙ sym same, c.requires.book.2 ∙ sym same),
         (
-          knows_noted key c.detach.new.self pass c.detach.new.pass (private pass (Detach (number_of key))) c.detach.ensures.noted,
+          knows_noted key c.detach.new.self pass c.detach.new.pass (private pass (Detach (slot_number key))) c.detach.ensures.noted,
           (
             (ready.ensures.batch.0 ∙ c.requires.batch.0 ∙ sym same, (ready.ensures.marks at).stands.2),
             (inserts c.args.key.now at c.args.pass.now key pass held front ready.marked (ready.ensures.marks at) ready.ensures.book.0 ready.ensures.knows ready.ensures.book.1 (ready.ensures.book.0 ∙ ready.ensures.book.1.0 ∙ sym c.requires.book.0, ready.ensures.book.2) are c.mark.new.batch.front c.detach.new.self c.detach.new.pass c.detach.ensures.noted c.detach.ensures.batch, its_values c.args.key.now at c.args.pass.now key pass held front ready.marked (ready.ensures.marks at) ready.ensures.book.0 ready.ensures.knows ready.ensures.book.1 (ready.ensures.book.0 ∙ ready.ensures.book.1.0 ∙ sym c.requires.book.0, ready.ensures.book.2) are c.mark.new.batch.front c.detach.new.self c.detach.new.pass c.detach.ensures.noted c.detach.ensures.batch),
@@ -79,7 +79,7 @@ invariant_of-batch g c =
     let left : renewed batch.values.keys.held c.add.new.pass.seen ≡ c.add.new.values.keys.held = sym c.if-add.ensures.keys.1 in
     let same = sym (renewed_labels batch.values.keys.held c.add.new.pass.seen) ∙ ap labels_of left in
     record {
-      many = subst (λ (vs : List ℕ). counted batch.len vs ≡ true) same batch.many;
+      many = subst (λ (vs : List ℕ). is_count_of batch.len vs ≡ true) same batch.many;
       front = subst (λ (vs : List ℕ). starts_at batch.first vs ≡ true) same batch.front;
       back = subst (λ (vs : List ℕ). ends_at batch.last vs ≡ true) same batch.back;
       closed = c.if-add.ensures.keys.3;
@@ -97,7 +97,7 @@ returns-then-add-clause-book g c =
 pub returns-then-add-clause-knows : goal.returns-then-add-clause-knows
 returns-then-add-clause-knows g c =
     let key = c.insert_each-won.new.key in
-    knows_noted key c.add.new.key c.header-header.new.pass c.add.new.pass (private c.header-header.new.pass (AddCount (number_of key))) c.add.ensures.counts.0
+    knows_noted key c.add.new.key c.header-header.new.pass c.add.new.pass (private c.header-header.new.pass (AddCount (slot_number key))) c.add.ensures.counts.0
 
 pub returns-then-add-clause-ends : goal.returns-then-add-clause-ends
 returns-then-add-clause-ends g c = λ at.
@@ -118,7 +118,7 @@ returns-else-add-clause-book g c =
 pub returns-else-add-clause-knows : goal.returns-else-add-clause-knows
 returns-else-add-clause-knows g c =
     let key = c.insert_each-won.new.key in
-    knows_noted key c.add.new.key c.header-header.new.pass c.add.new.pass (private c.header-header.new.pass (AddCount (number_of key))) c.add.ensures.counts.0
+    knows_noted key c.add.new.key c.header-header.new.pass c.add.new.pass (private c.header-header.new.pass (AddCount (slot_number key))) c.add.ensures.counts.0
 
 pub returns-else-add-clause-ends : goal.returns-else-add-clause-ends
 returns-else-add-clause-ends g c = λ at.

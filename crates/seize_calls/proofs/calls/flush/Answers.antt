@@ -3,14 +3,14 @@ use Rattle.seize_machine.specs.Machine.Event.{Begin, Return}
 use Rattle.seize_machine.specs.declared.machine.event.Job.TheVariants.{Flush}
 use Rattle.seize_book.specs.Adding.{private}
 use Rattle.seize_book.specs.Private.{labels_of}
-use Rattle.seize_book.specs.Slots.{number_of, slot_of}
+use Rattle.seize_book.specs.Slots.{slot_number, slot_of}
 use Rattle.seize_book.specs.Tokens.{Name}
 use Rattle.seize_words.proofs.Facts.{knows_noted}
 use Rattle.seize_book.specs.Values.{values_of}
 use Rattle.seize_book.specs.declared.book.pass.Pass.{Pass}
 use Rattle.seize_calls.specs.Batches.{keys_in}
 use Rattle.seize_calls.specs.Furthers.{further_in}
-use Rattle.seize_calls.specs.Settling.{Drains, stand}
+use Rattle.seize_calls.specs.Settling.{Drains, call_state}
 use Rattle.seize_calls.proofs.Batches.{none_counted, some_counted}
 use Rattle.seize_calls.proofs.Events.{keeps_returned}
 use Rattle.seize_calls.proofs.Onwards.{keeps_onward, onward_twice, only_stays, settles_on, settles_rest}
@@ -25,27 +25,27 @@ begin_flush-requires-clause-book g c = c.requires.book.0 ∙ sym (ap (λ (p : Pa
 pub finish-requires-clause-over : goal.finish-requires-clause-over
 finish-requires-clause-over g c =
     let key = c.args.key.now in let pass = c.args.pass.now in let one = c.begin_flush.new.self in let pass1 = c.begin_flush.new.pass in let made = c.new-queue in let queue = further_in made.result in let had = g.R.Reclaim.had c.args.reclaimer.now in
-    let notes = begun_notes key one made.new.pass pass pass1 (Begin (number_of key) Flush) [] made.ensures.1 c.begin_flush.ensures.noted in let begins = flush_begins key one pass pass1 notes in let none = ap labels_of made.ensures.0.1 in
+    let notes = begun_notes key one made.new.pass pass pass1 (Begin (slot_number key) Flush) [] made.ensures.1 c.begin_flush.ensures.noted in let begins = flush_begins key one pass pass1 notes in let none = ap labels_of made.ensures.0.1 in
     is_over one queue (flush_over key one pass pass1 notes queue none (sym c.requires.batch.1 ∙ none_counted c.args.batch.now.len (values_of (keys_in c.args.batch.now)) c.args.batch.now.many c.if-batch-eq0.true)) none
 
 pub finish-requires-clause-book : goal.finish-requires-clause-book
 finish-requires-clause-book g c =
     let key = c.args.key.now in let pass = c.args.pass.now in let one = c.begin_flush.new.self in let pass1 = c.begin_flush.new.pass in let made = c.new-queue in let queue = further_in made.result in let had = g.R.Reclaim.had c.args.reclaimer.now in
-    let notes = begun_notes key one made.new.pass pass pass1 (Begin (number_of key) Flush) [] made.ensures.1 c.begin_flush.ensures.noted in let begins = flush_begins key one pass pass1 notes in let none = ap labels_of made.ensures.0.1 in
-    let a = stand one pass1 c.args.batch.now made.result had in
-    let sits = begun_sits key pass Flush [] a begins c.requires.book.0 (knows_noted key one pass pass1 (private pass (Begin (number_of key) Flush)) notes) c.requires.batch made.ensures.0 in
+    let notes = begun_notes key one made.new.pass pass pass1 (Begin (slot_number key) Flush) [] made.ensures.1 c.begin_flush.ensures.noted in let begins = flush_begins key one pass pass1 notes in let none = ap labels_of made.ensures.0.1 in
+    let a = call_state one pass1 c.args.batch.now made.result had in
+    let sits = begun_sits key pass Flush [] a begins c.requires.book.0 (knows_noted key one pass pass1 (private pass (Begin (slot_number key) Flush)) notes) c.requires.batch made.ensures.0 in
     sits.its
 
 pub returns-then-batch-eq0-clause-knows : goal.returns-then-batch-eq0-clause-knows
 returns-then-batch-eq0-clause-knows g c =
-    let key = c.begin_flush.new.self in let pass = c.begin_flush.new.pass in knows_noted key c.finish.new.self pass c.finish.new.pass (private pass (Return (number_of key))) c.finish.ensures.noted
+    let key = c.begin_flush.new.self in let pass = c.begin_flush.new.pass in knows_noted key c.finish.new.self pass c.finish.new.pass (private pass (Return (slot_number key))) c.finish.ensures.noted
 
 pub returns-then-batch-eq0-clause-flushes : goal.returns-then-batch-eq0-clause-flushes
 returns-then-batch-eq0-clause-flushes g c =
     let key = c.args.key.now in let pass = c.args.pass.now in let one = c.begin_flush.new.self in let pass1 = c.begin_flush.new.pass in let made = c.new-queue in let queue = further_in made.result in let had = g.R.Reclaim.had c.args.reclaimer.now in
-    let notes = begun_notes key one made.new.pass pass pass1 (Begin (number_of key) Flush) [] made.ensures.1 c.begin_flush.ensures.noted in let begins = flush_begins key one pass pass1 notes in let none = ap labels_of made.ensures.0.1 in
-    let a = stand one pass1 c.args.batch.now made.result had in
-    let sits = begun_sits key pass Flush [] a begins c.requires.book.0 (knows_noted key one pass pass1 (private pass (Begin (number_of key) Flush)) notes) c.requires.batch made.ensures.0 in
+    let notes = begun_notes key one made.new.pass pass pass1 (Begin (slot_number key) Flush) [] made.ensures.1 c.begin_flush.ensures.noted in let begins = flush_begins key one pass pass1 notes in let none = ap labels_of made.ensures.0.1 in
+    let a = call_state one pass1 c.args.batch.now made.result had in
+    let sits = begun_sits key pass Flush [] a begins c.requires.book.0 (knows_noted key one pass pass1 (private pass (Begin (slot_number key) Flush)) notes) c.requires.batch made.ensures.0 in
     let keeps = begins.keeps in let last = c.finish in let over = keeps_returned one last.new.self pass1 last.new.pass last.ensures.noted in
     record {
       begun = a;
@@ -63,9 +63,9 @@ returns-then-batch-eq0-clause-flushes g c =
 pub settle-retired-requires : goal.settle-retired-requires
 settle-retired-requires g c =
     let key = c.args.key.now in let pass = c.args.pass.now in let one = c.begin_flush.new.self in let pass1 = c.begin_flush.new.pass in let made = c.new-queue in let queue = further_in made.result in let had = g.R.Reclaim.had c.args.reclaimer.now in
-    let notes = begun_notes key one made.new.pass pass pass1 (Begin (number_of key) Flush) [] made.ensures.1 c.begin_flush.ensures.noted in let begins = flush_begins key one pass pass1 notes in let none = ap labels_of made.ensures.0.1 in
-    let a = stand one pass1 c.args.batch.now made.result had in
-    let sits = begun_sits key pass Flush [] a begins c.requires.book.0 (knows_noted key one pass pass1 (private pass (Begin (number_of key) Flush)) notes) c.requires.batch made.ensures.0 in
+    let notes = begun_notes key one made.new.pass pass pass1 (Begin (slot_number key) Flush) [] made.ensures.1 c.begin_flush.ensures.noted in let begins = flush_begins key one pass pass1 notes in let none = ap labels_of made.ensures.0.1 in
+    let a = call_state one pass1 c.args.batch.now made.result had in
+    let sits = begun_sits key pass Flush [] a begins c.requires.book.0 (knows_noted key one pass pass1 (private pass (Begin (slot_number key) Flush)) notes) c.requires.batch made.ensures.0 in
     let some : 0 < length (slot_of key).batch = subst (λ (vs : List ℕ). 0 < length vs) c.requires.batch.1 (some_counted c.args.batch.now.len (values_of (keys_in c.args.batch.now)) c.args.batch.now.many c.if-batch-eq0.false) in
     let same = sym begins.keeps.same.0 in
     (lit< tt, ((c.requires.book.1 ∙ same, c.requires.book.2 ∙ same), (sits, (flush_marks key one pass pass1 notes queue none some, (c.requires.serves, c.requires.spots)))))
@@ -73,16 +73,16 @@ settle-retired-requires g c =
 pub drain-requires : goal.drain-requires
 drain-requires g c =
     let key = c.args.key.now in let pass = c.args.pass.now in let one = c.begin_flush.new.self in let pass1 = c.begin_flush.new.pass in let made = c.new-queue in let queue = further_in made.result in let had = g.R.Reclaim.had c.args.reclaimer.now in
-    let notes = begun_notes key one made.new.pass pass pass1 (Begin (number_of key) Flush) [] made.ensures.1 c.begin_flush.ensures.noted in let begins = flush_begins key one pass pass1 notes in let none = ap labels_of made.ensures.0.1 in
-    let a = stand one pass1 c.args.batch.now made.result had in
-    let sits = begun_sits key pass Flush [] a begins c.requires.book.0 (knows_noted key one pass pass1 (private pass (Begin (number_of key) Flush)) notes) c.requires.batch made.ensures.0 in
-    let settle = c.settle-retired in let b = stand settle.new.key settle.new.pass settle.new.batch settle.new.queue (g.R.Reclaim.had settle.new.reclaimer) in
+    let notes = begun_notes key one made.new.pass pass pass1 (Begin (slot_number key) Flush) [] made.ensures.1 c.begin_flush.ensures.noted in let begins = flush_begins key one pass pass1 notes in let none = ap labels_of made.ensures.0.1 in
+    let a = call_state one pass1 c.args.batch.now made.result had in
+    let sits = begun_sits key pass Flush [] a begins c.requires.book.0 (knows_noted key one pass pass1 (private pass (Begin (slot_number key) Flush)) notes) c.requires.batch made.ensures.0 in
+    let settle = c.settle-retired in let b = call_state settle.new.key settle.new.pass settle.new.batch settle.new.queue (g.R.Reclaim.had settle.new.reclaimer) in
     let on = onward_twice key one b.key pass pass1 b.pass (keeps_onward key one pass pass1 begins.keeps) (settles_on a b settle.result settle.ensures.settles) in
     let same = sym on.same.0 in (
       lit< tt,
       (
         (c.requires.book.1 ∙ same, c.requires.book.2 ∙ same),
-        (c.requires.size ∙ ap (λ (n : Name). n.size) (sym on.its.0), (settle.ensures.sits, (settles_rest a b settle.result settle.ensures.settles, (settle.ensures.serves, settle.ensures.spots)))),
+        (c.requires.size ∙ sym on.same.2, (settle.ensures.sits, (settles_rest a b settle.result settle.ensures.settles, (settle.ensures.serves, settle.ensures.spots)))),
       ),
     )
 
@@ -93,17 +93,17 @@ pub finish-requires-2-clause-book : goal.finish-requires-2-clause-book
 finish-requires-2-clause-book g c = c.drain.ensures.sits.its
 
 pub returns-clause-knows : goal.returns-clause-knows
-returns-clause-knows g c = let key = c.drain.new.key in let pass = c.drain.new.pass in let last = c.finish-2 in knows_noted key last.new.self pass last.new.pass (private pass (Return (number_of key))) last.ensures.noted
+returns-clause-knows g c = let key = c.drain.new.key in let pass = c.drain.new.pass in let last = c.finish-2 in knows_noted key last.new.self pass last.new.pass (private pass (Return (slot_number key))) last.ensures.noted
 
 pub returns-clause-flushes : goal.returns-clause-flushes
 returns-clause-flushes g c =
     let key = c.args.key.now in let pass = c.args.pass.now in let one = c.begin_flush.new.self in let pass1 = c.begin_flush.new.pass in let made = c.new-queue in let queue = further_in made.result in let had = g.R.Reclaim.had c.args.reclaimer.now in
-    let notes = begun_notes key one made.new.pass pass pass1 (Begin (number_of key) Flush) [] made.ensures.1 c.begin_flush.ensures.noted in let begins = flush_begins key one pass pass1 notes in let none = ap labels_of made.ensures.0.1 in
-    let a = stand one pass1 c.args.batch.now made.result had in
-    let sits = begun_sits key pass Flush [] a begins c.requires.book.0 (knows_noted key one pass pass1 (private pass (Begin (number_of key) Flush)) notes) c.requires.batch made.ensures.0 in
-    let settle = c.settle-retired in let b = stand settle.new.key settle.new.pass settle.new.batch settle.new.queue (g.R.Reclaim.had settle.new.reclaimer) in
+    let notes = begun_notes key one made.new.pass pass pass1 (Begin (slot_number key) Flush) [] made.ensures.1 c.begin_flush.ensures.noted in let begins = flush_begins key one pass pass1 notes in let none = ap labels_of made.ensures.0.1 in
+    let a = call_state one pass1 c.args.batch.now made.result had in
+    let sits = begun_sits key pass Flush [] a begins c.requires.book.0 (knows_noted key one pass pass1 (private pass (Begin (slot_number key) Flush)) notes) c.requires.batch made.ensures.0 in
+    let settle = c.settle-retired in let b = call_state settle.new.key settle.new.pass settle.new.batch settle.new.queue (g.R.Reclaim.had settle.new.reclaimer) in
     let on = onward_twice key one b.key pass pass1 b.pass (keeps_onward key one pass pass1 begins.keeps) (settles_on a b settle.result settle.ensures.settles) in
-    let drain = c.drain in let d = stand drain.new.key drain.new.pass drain.new.batch drain.new.queue (g.R.Reclaim.had drain.new.reclaimer) in
+    let drain = c.drain in let d = call_state drain.new.key drain.new.pass drain.new.batch drain.new.queue (g.R.Reclaim.had drain.new.reclaimer) in
     let all = onward_twice key b.key d.key pass b.pass d.pass on drain.ensures.on in let last = c.finish-2 in
     let over = keeps_returned d.key last.new.self d.pass last.new.pass last.ensures.noted in
     record {

@@ -5,12 +5,12 @@ use Rattle.seize_machine.specs.declared.machine.event.Job.TheVariants.{Leave}
 use Rattle.seize_book.specs.Adding.{private}
 use Rattle.seize_book.specs.Private.{labels_of}
 use Rattle.seize_words.specs.Reservations.{beginning}
-use Rattle.seize_book.specs.Slots.{number_of}
+use Rattle.seize_book.specs.Slots.{slot_number}
 use Rattle.seize_book.specs.Tokens.{Name}
 use Rattle.seize_book.specs.declared.book.pass.Pass.{Pass}
 use Rattle.seize_words.proofs.Facts.{knows_noted}
 use Rattle.seize_calls.specs.Furthers.{further_in}
-use Rattle.seize_calls.specs.Settling.{stand}
+use Rattle.seize_calls.specs.Settling.{call_state}
 use Rattle.seize_calls.proofs.Events.{begins_so, call_begun, leave_so}
 use Rattle.seize_calls.proofs.Whole.{none_queued}
 use Rattle.seize_calls.proofs.Leaving.{at_walk, has_left, walked_over, walked_sits}
@@ -25,7 +25,7 @@ begin_leave-requires-clause-book g c = c.requires.book.0 ∙ sym (ap (λ (p : Pa
 pub leave-word-requires-clause-book : goal.leave-word-requires-clause-book
 leave-word-requires-clause-book g c =
     let key = c.args.key.now in let pass = c.args.pass.now in let one = c.begin_leave.new.self in let pass1 = c.begin_leave.new.pass in let made = c.new-queue in let queue = further_in made.result in let had = g.R.Reclaim.had c.args.reclaimer.now in
-    let notes = begun_notes key one made.new.pass pass pass1 (Begin (number_of key) Leave) [] made.ensures.1 c.begin_leave.ensures.noted in let none = ap labels_of made.ensures.0.1 in
+    let notes = begun_notes key one made.new.pass pass pass1 (Begin (slot_number key) Leave) [] made.ensures.1 c.begin_leave.ensures.noted in let none = ap labels_of made.ensures.0.1 in
     let call : Call = record { place = Out false; queue = [] } in let so = leave_so key one pass pass1 notes in
     let begins = begins_so key one pass pass1 Leave [] notes call so in let out = call_begun key one pass pass1 Leave [] notes call so in
     let keeps = begins.keeps in (keeps.its.0 ∙ (c.requires.book.0 ∙ sym keeps.same.0), c.requires.book.1 ∙ sym keeps.same.0, c.requires.book.2 ∙ sym keeps.its.1)
@@ -33,7 +33,7 @@ leave-word-requires-clause-book g c =
 pub leave-word-requires-clause-leaving : goal.leave-word-requires-clause-leaving
 leave-word-requires-clause-leaving g c =
     let key = c.args.key.now in let pass = c.args.pass.now in let one = c.begin_leave.new.self in let pass1 = c.begin_leave.new.pass in let made = c.new-queue in let queue = further_in made.result in let had = g.R.Reclaim.had c.args.reclaimer.now in
-    let notes = begun_notes key one made.new.pass pass pass1 (Begin (number_of key) Leave) [] made.ensures.1 c.begin_leave.ensures.noted in let none = ap labels_of made.ensures.0.1 in
+    let notes = begun_notes key one made.new.pass pass pass1 (Begin (slot_number key) Leave) [] made.ensures.1 c.begin_leave.ensures.noted in let none = ap labels_of made.ensures.0.1 in
     let call : Call = record { place = Out false; queue = [] } in let so = leave_so key one pass pass1 notes in
     let begins = begins_so key one pass pass1 Leave [] notes call so in let out = call_begun key one pass pass1 Leave [] notes call so in
     ([], out)
@@ -41,7 +41,7 @@ leave-word-requires-clause-leaving g c =
 pub leave-word-requires-clause-last : goal.leave-word-requires-clause-last
 leave-word-requires-clause-last g c =
     let key = c.args.key.now in let pass = c.args.pass.now in let one = c.begin_leave.new.self in let pass1 = c.begin_leave.new.pass in let made = c.new-queue in let queue = further_in made.result in let had = g.R.Reclaim.had c.args.reclaimer.now in
-    let notes = begun_notes key one made.new.pass pass pass1 (Begin (number_of key) Leave) [] made.ensures.1 c.begin_leave.ensures.noted in let none = ap labels_of made.ensures.0.1 in
+    let notes = begun_notes key one made.new.pass pass pass1 (Begin (slot_number key) Leave) [] made.ensures.1 c.begin_leave.ensures.noted in let none = ap labels_of made.ensures.0.1 in
     let call : Call = record { place = Out false; queue = [] } in let so = leave_so key one pass pass1 notes in
     let begins = begins_so key one pass pass1 Leave [] notes call so in let out = call_begun key one pass pass1 Leave [] notes call so in
     let last = c.requires.last in (last.0 ∙ sym begins.keeps.its.0, last.1 ∙ sym begins.keeps.its.1, last.2 ∙ sym begins.keeps.life)
@@ -49,7 +49,7 @@ leave-word-requires-clause-last g c =
 pub walk_all-requires : goal.walk_all-requires
 walk_all-requires g c =
     let key = c.args.key.now in let pass = c.args.pass.now in let one = c.begin_leave.new.self in let pass1 = c.begin_leave.new.pass in let made = c.new-queue in let queue = further_in made.result in let had = g.R.Reclaim.had c.args.reclaimer.now in
-    let notes = begun_notes key one made.new.pass pass pass1 (Begin (number_of key) Leave) [] made.ensures.1 c.begin_leave.ensures.noted in let none = ap labels_of made.ensures.0.1 in
+    let notes = begun_notes key one made.new.pass pass pass1 (Begin (slot_number key) Leave) [] made.ensures.1 c.begin_leave.ensures.noted in let none = ap labels_of made.ensures.0.1 in
     let call : Call = record { place = Out false; queue = [] } in let so = leave_so key one pass pass1 notes in
     let begins = begins_so key one pass pass1 Leave [] notes call so in let out = call_begun key one pass pass1 Leave [] notes call so in
     let swap = c.leave-word in let two = swap.new.key in let pass2 = swap.new.pass in let noted = swap.ensures.noted in let named = noted.0.0 ∙ begins.keeps.same.0 in
@@ -61,7 +61,7 @@ walk_all-requires g c =
           made.ensures.0.0 ∙ sym named,
           (
             none_queued queue pass2 made.ensures.0.1,
-            (knows_noted one two pass1 pass2 (beginning pass1 0 (SwapOut (number_of one))) noted, (at, (c.requires.serves, c.requires.spots))),
+            (knows_noted one two pass1 pass2 (beginning pass1 0 (SwapOut (slot_number one))) noted, (at, (c.requires.serves, c.requires.spots))),
           ),
         ),
       ),
@@ -70,7 +70,7 @@ walk_all-requires g c =
 pub drain-requires : goal.drain-requires
 drain-requires g c =
     let key = c.args.key.now in let pass = c.args.pass.now in let one = c.begin_leave.new.self in let pass1 = c.begin_leave.new.pass in let made = c.new-queue in let queue = further_in made.result in let had = g.R.Reclaim.had c.args.reclaimer.now in
-    let notes = begun_notes key one made.new.pass pass pass1 (Begin (number_of key) Leave) [] made.ensures.1 c.begin_leave.ensures.noted in let none = ap labels_of made.ensures.0.1 in
+    let notes = begun_notes key one made.new.pass pass pass1 (Begin (slot_number key) Leave) [] made.ensures.1 c.begin_leave.ensures.noted in let none = ap labels_of made.ensures.0.1 in
     let call : Call = record { place = Out false; queue = [] } in let so = leave_so key one pass pass1 notes in
     let begins = begins_so key one pass pass1 Leave [] notes call so in let out = call_begun key one pass pass1 Leave [] notes call so in
     let swap = c.leave-word in let two = swap.new.key in let pass2 = swap.new.pass in let noted = swap.ensures.noted in let named = noted.0.0 ∙ begins.keeps.same.0 in
@@ -81,7 +81,7 @@ drain-requires g c =
       (
         (c.requires.words.0 ∙ same, c.requires.words.1 ∙ same),
         (
-          c.requires.size ∙ ap (λ (n : Name). n.size) (sym (all.goes_on.0.its.0 ∙ (noted.1.0 ∙ begins.keeps.its.0))),
+          c.requires.size ∙ sym (all.goes_on.0.same.2 ∙ (noted.0.2 ∙ begins.keeps.same.2)),
           (
             walked_sits key one two pass pass1 pass2 Leave false 0 begins c.requires.inside.1 out noted c.args.head.now swap.result (swap.ensures.walks ([], out)) c.requires.book.2 three pass3 values queue queue3 had had3 made.ensures.0.1 all c.requires.book.0 walk.ensures.knows c.requires.batch made.ensures.0 walk.ensures.told,
             (walked_over key one two pass pass1 pass2 Leave false 0 begins c.requires.inside.1 out noted c.args.head.now swap.result (swap.ensures.walks ([], out)) c.requires.book.2 three pass3 values queue queue3 had had3 made.ensures.0.1 all, (walk.ensures.serves, walk.ensures.spots)),
@@ -97,16 +97,16 @@ pub finish-requires-clause-book : goal.finish-requires-clause-book
 finish-requires-clause-book g c = c.drain.ensures.sits.its
 
 pub returns-clause-knows : goal.returns-clause-knows
-returns-clause-knows g c = let key = c.drain.new.key in let pass = c.drain.new.pass in knows_noted key c.finish.new.self pass c.finish.new.pass (private pass (Return (number_of key))) c.finish.ensures.noted
+returns-clause-knows g c = let key = c.drain.new.key in let pass = c.drain.new.pass in knows_noted key c.finish.new.self pass c.finish.new.pass (private pass (Return (slot_number key))) c.finish.ensures.noted
 
 pub returns-clause-leaves : goal.returns-clause-leaves
 returns-clause-leaves g c =
     let key = c.args.key.now in let pass = c.args.pass.now in let one = c.begin_leave.new.self in let pass1 = c.begin_leave.new.pass in let made = c.new-queue in let queue = further_in made.result in let had = g.R.Reclaim.had c.args.reclaimer.now in
-    let notes = begun_notes key one made.new.pass pass pass1 (Begin (number_of key) Leave) [] made.ensures.1 c.begin_leave.ensures.noted in let none = ap labels_of made.ensures.0.1 in
+    let notes = begun_notes key one made.new.pass pass pass1 (Begin (slot_number key) Leave) [] made.ensures.1 c.begin_leave.ensures.noted in let none = ap labels_of made.ensures.0.1 in
     let call : Call = record { place = Out false; queue = [] } in let so = leave_so key one pass pass1 notes in
     let begins = begins_so key one pass pass1 Leave [] notes call so in let out = call_begun key one pass pass1 Leave [] notes call so in
     let swap = c.leave-word in let two = swap.new.key in let pass2 = swap.new.pass in let noted = swap.ensures.noted in let named = noted.0.0 ∙ begins.keeps.same.0 in
     let at = at_walk key one two pass pass1 pass2 Leave false 0 begins c.requires.inside.1 out noted c.args.head.now swap.result (swap.ensures.walks ([], out)) c.requires.book.2 in
     let walk = c.walk_all in let three = walk.new.key in let pass3 = walk.new.pass in let queue3 = further_in walk.new.queue in let had3 = g.R.Reclaim.had walk.new.reclaimer in let values = c.args.batch.now.values in let all = walk.ensures.walks at in
-    let drain = c.drain in let d = stand drain.new.key drain.new.pass drain.new.batch drain.new.queue (g.R.Reclaim.had drain.new.reclaimer) in let on = drain.ensures.on in let last = c.finish in
+    let drain = c.drain in let d = call_state drain.new.key drain.new.pass drain.new.batch drain.new.queue (g.R.Reclaim.had drain.new.reclaimer) in let on = drain.ensures.on in let last = c.finish in
     has_left key one two pass pass1 pass2 Leave false 0 begins c.requires.inside.1 out noted c.args.head.now swap.result (swap.ensures.walks ([], out)) c.requires.book.2 three pass3 values queue queue3 had had3 made.ensures.0.1 all d drain.ensures.drains on drain.ensures.sits drain.ensures.over.1 last.new.self last.new.pass last.ensures.noted

@@ -6,12 +6,12 @@ use Rattle.seize_machine.specs.declared.machine.event.Job.TheVariants.{Refresh}
 use Rattle.seize_book.specs.Adding.{private}
 use Rattle.seize_book.specs.Private.{labels_of}
 use Rattle.seize_words.specs.Reservations.{beginning}
-use Rattle.seize_book.specs.Slots.{number_of}
+use Rattle.seize_book.specs.Slots.{slot_number}
 use Rattle.seize_book.specs.Tokens.{Name}
 use Rattle.seize_book.specs.declared.book.pass.Pass.{Pass}
 use Rattle.seize_words.proofs.Facts.{knows_noted}
 use Rattle.seize_calls.specs.Furthers.{further_in}
-use Rattle.seize_calls.specs.Settling.{stand}
+use Rattle.seize_calls.specs.Settling.{call_state}
 use Rattle.seize_book.specs.Entry.{Entry}
 use Rattle.seize_book.specs.Laws.{life}
 use Rattle.seize_calls.proofs.Events.{begins_so, call_begun, keeps_returned, refresh_so}
@@ -29,7 +29,7 @@ begin_refresh-requires-clause-book g c = c.requires.book.0 ∙ sym (ap (λ (p : 
 pub refresh-word-requires-clause-book : goal.refresh-word-requires-clause-book
 refresh-word-requires-clause-book g c =
     let key = c.args.key.now in let pass = c.args.pass.now in let one = c.begin_refresh.new.self in let pass1 = c.begin_refresh.new.pass in let made = c.new-queue in let queue = further_in made.result in let had = g.R.Reclaim.had c.args.reclaimer.now in
-    let notes = begun_notes key one made.new.pass pass pass1 (Begin (number_of key) Refresh) [] made.ensures.1 c.begin_refresh.ensures.noted in let none = ap labels_of made.ensures.0.1 in
+    let notes = begun_notes key one made.new.pass pass pass1 (Begin (slot_number key) Refresh) [] made.ensures.1 c.begin_refresh.ensures.noted in let none = ap labels_of made.ensures.0.1 in
     let call : Call = record { place = Out true; queue = [] } in let so = refresh_so key one pass pass1 notes in
     let begins = begins_so key one pass pass1 Refresh [] notes call so in let out = call_begun key one pass pass1 Refresh [] notes call so in
     let keeps = begins.keeps in (keeps.its.0 ∙ (c.requires.book.0 ∙ sym keeps.same.0), c.requires.book.1 ∙ sym keeps.same.0, c.requires.book.2 ∙ sym keeps.its.1)
@@ -37,7 +37,7 @@ refresh-word-requires-clause-book g c =
 pub refresh-word-requires-clause-refreshing : goal.refresh-word-requires-clause-refreshing
 refresh-word-requires-clause-refreshing g c =
     let key = c.args.key.now in let pass = c.args.pass.now in let one = c.begin_refresh.new.self in let pass1 = c.begin_refresh.new.pass in let made = c.new-queue in let queue = further_in made.result in let had = g.R.Reclaim.had c.args.reclaimer.now in
-    let notes = begun_notes key one made.new.pass pass pass1 (Begin (number_of key) Refresh) [] made.ensures.1 c.begin_refresh.ensures.noted in let none = ap labels_of made.ensures.0.1 in
+    let notes = begun_notes key one made.new.pass pass pass1 (Begin (slot_number key) Refresh) [] made.ensures.1 c.begin_refresh.ensures.noted in let none = ap labels_of made.ensures.0.1 in
     let call : Call = record { place = Out true; queue = [] } in let so = refresh_so key one pass pass1 notes in
     let begins = begins_so key one pass pass1 Refresh [] notes call so in let out = call_begun key one pass pass1 Refresh [] notes call so in
     ([], out)
@@ -45,7 +45,7 @@ refresh-word-requires-clause-refreshing g c =
 pub refresh-word-requires-clause-last : goal.refresh-word-requires-clause-last
 refresh-word-requires-clause-last g c =
     let key = c.args.key.now in let pass = c.args.pass.now in let one = c.begin_refresh.new.self in let pass1 = c.begin_refresh.new.pass in let made = c.new-queue in let queue = further_in made.result in let had = g.R.Reclaim.had c.args.reclaimer.now in
-    let notes = begun_notes key one made.new.pass pass pass1 (Begin (number_of key) Refresh) [] made.ensures.1 c.begin_refresh.ensures.noted in let none = ap labels_of made.ensures.0.1 in
+    let notes = begun_notes key one made.new.pass pass pass1 (Begin (slot_number key) Refresh) [] made.ensures.1 c.begin_refresh.ensures.noted in let none = ap labels_of made.ensures.0.1 in
     let call : Call = record { place = Out true; queue = [] } in let so = refresh_so key one pass pass1 notes in
     let begins = begins_so key one pass pass1 Refresh [] notes call so in let out = call_begun key one pass pass1 Refresh [] notes call so in
     let last = c.requires.last in (last.0 ∙ sym begins.keeps.its.0, last.1 ∙ sym begins.keeps.its.1, last.2 ∙ sym begins.keeps.life)
@@ -53,7 +53,7 @@ refresh-word-requires-clause-last g c =
 pub walk_all-requires : goal.walk_all-requires
 walk_all-requires g c =
     let key = c.args.key.now in let pass = c.args.pass.now in let one = c.begin_refresh.new.self in let pass1 = c.begin_refresh.new.pass in let made = c.new-queue in let queue = further_in made.result in let had = g.R.Reclaim.had c.args.reclaimer.now in
-    let notes = begun_notes key one made.new.pass pass pass1 (Begin (number_of key) Refresh) [] made.ensures.1 c.begin_refresh.ensures.noted in let none = ap labels_of made.ensures.0.1 in
+    let notes = begun_notes key one made.new.pass pass pass1 (Begin (slot_number key) Refresh) [] made.ensures.1 c.begin_refresh.ensures.noted in let none = ap labels_of made.ensures.0.1 in
     let call : Call = record { place = Out true; queue = [] } in let so = refresh_so key one pass pass1 notes in
     let begins = begins_so key one pass pass1 Refresh [] notes call so in let out = call_begun key one pass pass1 Refresh [] notes call so in
     let swap = c.refresh-word in let two = swap.new.key in let pass2 = swap.new.pass in let noted = swap.ensures.noted in let named = noted.0.0 ∙ begins.keeps.same.0 in
@@ -65,7 +65,7 @@ walk_all-requires g c =
           made.ensures.0.0 ∙ sym named,
           (
             none_queued queue pass2 made.ensures.0.1,
-            (knows_noted one two pass1 pass2 (beginning pass1 swap.new.activation.life (SwapOut (number_of one))) noted, (at, (c.requires.serves, c.requires.spots))),
+            (knows_noted one two pass1 pass2 (beginning pass1 swap.new.activation.life (SwapOut (slot_number one))) noted, (at, (c.requires.serves, c.requires.spots))),
           ),
         ),
       ),
@@ -74,7 +74,7 @@ walk_all-requires g c =
 pub drain-requires : goal.drain-requires
 drain-requires g c =
     let key = c.args.key.now in let pass = c.args.pass.now in let one = c.begin_refresh.new.self in let pass1 = c.begin_refresh.new.pass in let made = c.new-queue in let queue = further_in made.result in let had = g.R.Reclaim.had c.args.reclaimer.now in
-    let notes = begun_notes key one made.new.pass pass pass1 (Begin (number_of key) Refresh) [] made.ensures.1 c.begin_refresh.ensures.noted in let none = ap labels_of made.ensures.0.1 in
+    let notes = begun_notes key one made.new.pass pass pass1 (Begin (slot_number key) Refresh) [] made.ensures.1 c.begin_refresh.ensures.noted in let none = ap labels_of made.ensures.0.1 in
     let call : Call = record { place = Out true; queue = [] } in let so = refresh_so key one pass pass1 notes in
     let begins = begins_so key one pass pass1 Refresh [] notes call so in let out = call_begun key one pass pass1 Refresh [] notes call so in
     let swap = c.refresh-word in let two = swap.new.key in let pass2 = swap.new.pass in let noted = swap.ensures.noted in let named = noted.0.0 ∙ begins.keeps.same.0 in
@@ -85,7 +85,7 @@ drain-requires g c =
       (
         (c.requires.words.0 ∙ same, c.requires.words.1 ∙ same),
         (
-          c.requires.size ∙ ap (λ (n : Name). n.size) (sym (all.goes_on.0.its.0 ∙ (noted.1.0 ∙ begins.keeps.its.0))),
+          c.requires.size ∙ sym (all.goes_on.0.same.2 ∙ (noted.0.2 ∙ begins.keeps.same.2)),
           (
             walked_sits key one two pass pass1 pass2 Refresh true swap.new.activation.life begins c.requires.inside.1 out noted c.args.head.now swap.result (swap.ensures.walks ([], out)) c.requires.book.2 three pass3 values queue queue3 had had3 made.ensures.0.1 all c.requires.book.0 walk.ensures.knows c.requires.batch made.ensures.0 walk.ensures.told,
             (walked_over key one two pass pass1 pass2 Refresh true swap.new.activation.life begins c.requires.inside.1 out noted c.args.head.now swap.result (swap.ensures.walks ([], out)) c.requires.book.2 three pass3 values queue queue3 had had3 made.ensures.0.1 all, (walk.ensures.serves, walk.ensures.spots)),
@@ -101,30 +101,30 @@ pub finish-requires-clause-book : goal.finish-requires-clause-book
 finish-requires-clause-book g c = c.drain.ensures.sits.its
 
 pub returns-clause-knows : goal.returns-clause-knows
-returns-clause-knows g c = let key = c.drain.new.key in let pass = c.drain.new.pass in knows_noted key c.finish.new.self pass c.finish.new.pass (private pass (Return (number_of key))) c.finish.ensures.noted
+returns-clause-knows g c = let key = c.drain.new.key in let pass = c.drain.new.pass in knows_noted key c.finish.new.self pass c.finish.new.pass (private pass (Return (slot_number key))) c.finish.ensures.noted
 
 pub returns-clause-leaves : goal.returns-clause-leaves
 returns-clause-leaves g c =
     let key = c.args.key.now in let pass = c.args.pass.now in let one = c.begin_refresh.new.self in let pass1 = c.begin_refresh.new.pass in let made = c.new-queue in let queue = further_in made.result in let had = g.R.Reclaim.had c.args.reclaimer.now in
-    let notes = begun_notes key one made.new.pass pass pass1 (Begin (number_of key) Refresh) [] made.ensures.1 c.begin_refresh.ensures.noted in let none = ap labels_of made.ensures.0.1 in
+    let notes = begun_notes key one made.new.pass pass pass1 (Begin (slot_number key) Refresh) [] made.ensures.1 c.begin_refresh.ensures.noted in let none = ap labels_of made.ensures.0.1 in
     let call : Call = record { place = Out true; queue = [] } in let so = refresh_so key one pass pass1 notes in
     let begins = begins_so key one pass pass1 Refresh [] notes call so in let out = call_begun key one pass pass1 Refresh [] notes call so in
     let swap = c.refresh-word in let two = swap.new.key in let pass2 = swap.new.pass in let noted = swap.ensures.noted in let named = noted.0.0 ∙ begins.keeps.same.0 in
     let at = at_walk key one two pass pass1 pass2 Refresh true swap.new.activation.life begins c.requires.inside.1 out noted c.args.head.now swap.result (swap.ensures.walks ([], out)) c.requires.book.2 in
     let walk = c.walk_all in let three = walk.new.key in let pass3 = walk.new.pass in let queue3 = further_in walk.new.queue in let had3 = g.R.Reclaim.had walk.new.reclaimer in let values = c.args.batch.now.values in let all = walk.ensures.walks at in
-    let drain = c.drain in let d = stand drain.new.key drain.new.pass drain.new.batch drain.new.queue (g.R.Reclaim.had drain.new.reclaimer) in let on = drain.ensures.on in let last = c.finish in
+    let drain = c.drain in let d = call_state drain.new.key drain.new.pass drain.new.batch drain.new.queue (g.R.Reclaim.had drain.new.reclaimer) in let on = drain.ensures.on in let last = c.finish in
     has_left key one two pass pass1 pass2 Refresh true swap.new.activation.life begins c.requires.inside.1 out noted c.args.head.now swap.result (swap.ensures.walks ([], out)) c.requires.book.2 three pass3 values queue queue3 had had3 made.ensures.0.1 all d drain.ensures.drains on drain.ensures.sits drain.ensures.over.1 last.new.self last.new.pass last.ensures.noted
 
 pub returns-clause-last : goal.returns-clause-last
 returns-clause-last g c =
     let key = c.args.key.now in let pass = c.args.pass.now in let one = c.begin_refresh.new.self in let pass1 = c.begin_refresh.new.pass in let made = c.new-queue in let queue = further_in made.result in let had = g.R.Reclaim.had c.args.reclaimer.now in
-    let notes = begun_notes key one made.new.pass pass pass1 (Begin (number_of key) Refresh) [] made.ensures.1 c.begin_refresh.ensures.noted in let none = ap labels_of made.ensures.0.1 in
+    let notes = begun_notes key one made.new.pass pass pass1 (Begin (slot_number key) Refresh) [] made.ensures.1 c.begin_refresh.ensures.noted in let none = ap labels_of made.ensures.0.1 in
     let call : Call = record { place = Out true; queue = [] } in let so = refresh_so key one pass pass1 notes in
     let begins = begins_so key one pass pass1 Refresh [] notes call so in let out = call_begun key one pass pass1 Refresh [] notes call so in
     let swap = c.refresh-word in let two = swap.new.key in let pass2 = swap.new.pass in let noted = swap.ensures.noted in let named = noted.0.0 ∙ begins.keeps.same.0 in
     let at = at_walk key one two pass pass1 pass2 Refresh true swap.new.activation.life begins c.requires.inside.1 out noted c.args.head.now swap.result (swap.ensures.walks ([], out)) c.requires.book.2 in
     let walk = c.walk_all in let three = walk.new.key in let pass3 = walk.new.pass in let queue3 = further_in walk.new.queue in let had3 = g.R.Reclaim.had walk.new.reclaimer in let values = c.args.batch.now.values in let all = walk.ensures.walks at in
-    let drain = c.drain in let d = stand drain.new.key drain.new.pass drain.new.batch drain.new.queue (g.R.Reclaim.had drain.new.reclaimer) in let on = drain.ensures.on in let last = c.finish in
+    let drain = c.drain in let d = call_state drain.new.key drain.new.pass drain.new.batch drain.new.queue (g.R.Reclaim.had drain.new.reclaimer) in let on = drain.ensures.on in let last = c.finish in
     let its = swap.ensures.activation in let over = keeps_returned d.key last.new.self d.pass last.new.pass last.ensures.noted in
     let both = onward_twice two three last.new.self pass2 pass3 last.new.pass (keeps_onward two three pass2 pass3 all.goes_on.0) (onward_twice three d.key last.new.self pass3 d.pass last.new.pass on (keeps_onward d.key last.new.self d.pass last.new.pass over)) in
     (its.book ∙ sym both.its.0, its.slot ∙ sym both.its.1, sym its.its ∙ ap (λ (t : ℕ × List Entry). life t.0 t.1) (λ i. (its.slot i, its.since i)) ∙ sym both.life)
@@ -132,13 +132,13 @@ returns-clause-last g c =
 pub returns-clause-begun : goal.returns-clause-begun
 returns-clause-begun g c =
     let key = c.args.key.now in let pass = c.args.pass.now in let one = c.begin_refresh.new.self in let pass1 = c.begin_refresh.new.pass in let made = c.new-queue in let queue = further_in made.result in let had = g.R.Reclaim.had c.args.reclaimer.now in
-    let notes = begun_notes key one made.new.pass pass pass1 (Begin (number_of key) Refresh) [] made.ensures.1 c.begin_refresh.ensures.noted in let none = ap labels_of made.ensures.0.1 in
+    let notes = begun_notes key one made.new.pass pass pass1 (Begin (slot_number key) Refresh) [] made.ensures.1 c.begin_refresh.ensures.noted in let none = ap labels_of made.ensures.0.1 in
     let call : Call = record { place = Out true; queue = [] } in let so = refresh_so key one pass pass1 notes in
     let begins = begins_so key one pass pass1 Refresh [] notes call so in let out = call_begun key one pass pass1 Refresh [] notes call so in
     let swap = c.refresh-word in let two = swap.new.key in let pass2 = swap.new.pass in let noted = swap.ensures.noted in let named = noted.0.0 ∙ begins.keeps.same.0 in
     let at = at_walk key one two pass pass1 pass2 Refresh true swap.new.activation.life begins c.requires.inside.1 out noted c.args.head.now swap.result (swap.ensures.walks ([], out)) c.requires.book.2 in
     let walk = c.walk_all in let three = walk.new.key in let pass3 = walk.new.pass in let queue3 = further_in walk.new.queue in let had3 = g.R.Reclaim.had walk.new.reclaimer in let values = c.args.batch.now.values in let all = walk.ensures.walks at in
-    let drain = c.drain in let d = stand drain.new.key drain.new.pass drain.new.batch drain.new.queue (g.R.Reclaim.had drain.new.reclaimer) in let on = drain.ensures.on in let last = c.finish in
+    let drain = c.drain in let d = call_state drain.new.key drain.new.pass drain.new.batch drain.new.queue (g.R.Reclaim.had drain.new.reclaimer) in let on = drain.ensures.on in let last = c.finish in
     let its = swap.ensures.activation in let over = keeps_returned d.key last.new.self d.pass last.new.pass last.ensures.noted in
     let both = onward_twice two three last.new.self pass2 pass3 last.new.pass (keeps_onward two three pass2 pass3 all.goes_on.0) (onward_twice three d.key last.new.self pass3 d.pass last.new.pass on (keeps_onward d.key last.new.self d.pass last.new.pass over)) in
     record {

@@ -1,6 +1,6 @@
 use Rattle.std.proofs.Common.{◌≡◌, List, [], sym, ap, subst, ◌∙◌}
 use Rattle.seize_book.specs.Entry.{Entry}
-use Rattle.seize_book.specs.Ledger.{Held}
+use Rattle.seize_book.specs.Ledger.{HeldKey}
 use Rattle.seize_book.specs.Linked.{next_in}
 use Rattle.seize_book.specs.Others.{book_of}
 use Rattle.seize_book.specs.Private.{note_of}
@@ -19,6 +19,6 @@ pub returns-clause-new : goal.returns-clause-new
 returns-clause-new g c = λ all its.
     let value = c.args.value in let one = c.set_note in let led = c.lead_on.new.values in let book = book_of value in
     let same : book ≡ led.keys.name = c.requires.book.1 ∙ sym c.requires.book.0 ∙ sym c.lead_on.ensures.leads.0 in
-    subst (λ (t : Name × List (Held Entry)). AllNew t.0 t.1) (λ i. (sym c.push.ensures.0 i, sym c.push.ensures.2 i))
+    subst (λ (t : Name × List (HeldKey Entry)). AllNew t.0 t.1) (λ i. (sym c.push.ensures.0 i, sym c.push.ensures.2 i))
     (new_append led.keys.name led.keys.held one.new.self.keys.held (c.lead_on.ensures.new all)
-    (subst (λ (t : Name × List (Held Entry)). AllNew t.0 t.1) (λ i. (same i, sym one.ensures.1 i)) (new_noted book [] value.keys.held _ its)))
+    (subst (λ (t : Name × List (HeldKey Entry)). AllNew t.0 t.1) (λ i. (same i, sym one.ensures.1 i)) (new_noted book [] value.keys.held _ its)))

@@ -46,17 +46,17 @@ pub returns-then-next-eq0-clause-handed : goal.returns-then-next-eq0-clause-hand
 returns-then-next-eq0-clause-handed g c = λ given.
     let l = c.loop-front in let r = l.invariant.0 given in let key = c.args.key.now in let pass = c.args.pass.now in let values = c.args.values.now in let front = c.args.front in let blocks = c.args.blocks.now in
     let old = g.R.Reclaim.had c.args.reclaimer.now in let had = g.R.Reclaim.had l.reclaimer in let value = c.next-value.result in let rest = c.next-value.new.self in let nexts = c.next-value.ensures in
-    let hand = c.hand_one-next in let store = ap (λ (n : Name). is_some n.store) (sym c.requires.book.1) ∙ ap is_some blocks.stands in
-    (handed_over key pass values front given (further_in c.args.queue.now) old l.key l.pass l.values (further_in l.queue) l.number had r value rest nexts store hand.new.key hand.new.pass (further_in hand.new.queue) (g.R.Reclaim.had hand.new.reclaimer) hand.ensures.handed.0 hand.ensures.handed.1 (sym hand.ensures.next ∙ c.if-next-eq0.true), all_had key pass values front given (further_in c.args.queue.now) old l.key l.pass l.values (further_in l.queue) l.number had r value rest nexts store hand.new.key hand.new.pass (further_in hand.new.queue) (g.R.Reclaim.had hand.new.reclaimer) hand.ensures.handed.0 hand.ensures.handed.1 (sym hand.ensures.next ∙ c.if-next-eq0.true))
+    let hand = c.hand_one-next in
+    (handed_over key pass values front given (further_in c.args.queue.now) old l.key l.pass l.values (further_in l.queue) l.number had r value rest nexts hand.new.key hand.new.pass (further_in hand.new.queue) (g.R.Reclaim.had hand.new.reclaimer) hand.ensures.handed.0 hand.ensures.handed.1 (sym hand.ensures.next ∙ c.if-next-eq0.true), all_had key pass values front given (further_in c.args.queue.now) old l.key l.pass l.values (further_in l.queue) l.number had r value rest nexts hand.new.key hand.new.pass (further_in hand.new.queue) (g.R.Reclaim.had hand.new.reclaimer) hand.ensures.handed.0 hand.ensures.handed.1 (sym hand.ensures.next ∙ c.if-next-eq0.true))
 
 pub loop-front-preserved : goal.loop-front-preserved
 loop-front-preserved g c =
     let l = c.loop-front in let key = c.args.key.now in let pass = c.args.pass.now in let values = c.args.values.now in let front = c.args.front in let blocks = c.args.blocks.now in
     let old = g.R.Reclaim.had c.args.reclaimer.now in let had = g.R.Reclaim.had l.reclaimer in let value = c.next-value.result in let rest = c.next-value.new.self in let nexts = c.next-value.ensures in
-    let hand = c.hand_one-next in let had' = g.R.Reclaim.had hand.new.reclaimer in let store = ap (λ (n : Name). is_some n.store) (sym c.requires.book.1) ∙ ap is_some blocks.stands in (
+    let hand = c.hand_one-next in let had' = g.R.Reclaim.had hand.new.reclaimer in (
       λ given.
           subst (λ (w : ℕ). IsHanding given (further_in c.args.queue.now) old hand.new.key hand.new.pass rest (further_in hand.new.queue) (w - 1) had') (sym hand.ensures.next)
-          (handed_on key pass values front given (further_in c.args.queue.now) old l.key l.pass l.values (further_in l.queue) l.number had (l.invariant.0 given) value rest nexts store hand.new.key hand.new.pass (further_in hand.new.queue) had' hand.ensures.handed.0 hand.ensures.handed.1
+          (handed_on key pass values front given (further_in c.args.queue.now) old l.key l.pass l.values (further_in l.queue) l.number had (l.invariant.0 given) value rest nexts hand.new.key hand.new.pass (further_in hand.new.queue) had' hand.ensures.handed.0 hand.ensures.handed.1
           (λ none. c.if-next-eq0.false (hand.ensures.next ∙ none))),
       hand.ensures.book,
       hand.ensures.knows,

@@ -1,17 +1,17 @@
 use Rattle.std.proofs.Common.{◌≡◌, ℕ, true, List, [], ◌∷◌, ◌++◌, Some, is_some, lit<, refl, sym, ap, ◌∙◌, subst}
 use base.Growing.{prefix_trans}
 use Rattle.seize_machine.specs.Machine.Event.{Hand}
-use Rattle.seize_book.specs.Adding.{telling}
-use Rattle.seize_book.specs.Blocks.{block_of}
+use Rattle.seize_book.specs.Adding.{deed_with_words}
+use Rattle.seize_book.specs.Blocks.{block_number}
 use Rattle.seize_book.specs.Others.{value_of}
 use Rattle.seize_book.specs.Private.{labels_of}
-use Rattle.seize_book.specs.Slots.{IsOf, NotesAs, hands_next, number_of, slot_of}
+use Rattle.seize_book.specs.Slots.{IsKeyOfBook, NotesAs, hands_next, slot_number, slot_of}
 use Rattle.seize_book.specs.Tokens.{Name}
 use Rattle.seize_book.specs.Passes.{LooksOn}
 use Rattle.seize_book.specs.Values.{values_of}
 use Rattle.seize_book.specs.declared.book.pass.Pass.{Pass}
 use Rattle.seize_book.specs.declared.book.slot_key.SlotKey.{SlotKey}
-use Rattle.seize_store.specs.Named.{bare_value, name_of}
+use Rattle.seize_store.specs.Named.{bare_value, store_name}
 use Rattle.seize_store.specs.declared.known.Title.{Title}
 use Rattle.seize_words.proofs.Facts.{named_seen, settles_hollow, takes_block, all_told_later, handing_named, joined_told, knows_still, looks_twice, none_new, put_told, same_key, seen_grows, settles_after, unchanged_last, unchanged_value}
 use Rattle.seize_words.specs.Chunks.{IsLentAs}
@@ -26,30 +26,28 @@ header-header-requires g c =
     let named = handing_named c.args.key.now c.args.pass.now c.requires.book.1 c.requires.knows (value_of c.args.value) c.requires.soon in
     (lit< tt, (c.requires.book.2, (value_of c.args.value, named, c.requires.number)))
 
-pub note-note-requires-clause-store : goal.note-note-requires-clause-store
-note-note-requires-clause-store g c =
-    let blocks = c.args.blocks.now in (name_of blocks.store, ap (λ (n : Name). n.store) (c.requires.book.0 ∙ sym c.requires.book.2) ∙ blocks.stands)
-
 -- the header is that of the value's block
-pub note-note-requires-clause-cell : goal.note-note-requires-clause-cell
-note-note-requires-clause-cell g c =
+pub note-note-requires : goal.note-note-requires
+note-note-requires g c =
     let v = value_of c.args.value in let looked = c.header-header in let pass = c.args.pass.now in
     let named = handing_named c.args.key.now pass c.requires.book.1 c.requires.knows v c.requires.soon in
-    sym (looked.ensures.header.2 v (named_seen pass looked.new.pass v looked.ensures.looks named) c.requires.number)
+    record {
+      cell =
+          sym (looked.ensures.header.2 v (named_seen pass looked.new.pass v looked.ensures.looks named) c.requires.number);
+    }
 
 pub redeem-block-requires : goal.redeem-block-requires
 redeem-block-requires g c =
     let looked = c.header-header in let noted = c.note-note in let value = c.args.value in let key = c.args.key.now in let blocks = c.args.blocks.now in
     let name = sym looked.ensures.looks.same.0 in let same = unchanged_value value noted.new.self noted.ensures.same in
     let its = noted.ensures.same.0 ∙ (c.requires.book.0 ∙ name) in let soon = c.requires.soon ∙ ap Some (sym same) in
-    let store = ap (λ (n : Name). is_some n.store) (sym (c.requires.book.2 ∙ name)) ∙ ap is_some blocks.stands in
-    let lent = soon_lent noted.new.self key c.args.pass.now looked.new.pass store its c.requires.book.1 c.requires.knows looked.ensures.looks soon in (
+    let lent = soon_lent noted.new.self key c.args.pass.now looked.new.pass its c.requires.book.1 c.requires.knows looked.ensures.looks soon in (
       lit< tt,
       (
         (its, c.requires.book.1 ∙ name, c.requires.book.2 ∙ name),
         (
           knows_still key c.args.pass.now looked.new.pass c.requires.knows looked.ensures.looks,
-          (soon, (unchanged_last value noted.new.self noted.ensures.same c.requires.last, (lent, ap block_of same ∙ c.requires.number))),
+          (soon, (unchanged_last value noted.new.self noted.ensures.same c.requires.last, (lent, ap block_number same ∙ c.requires.number))),
         ),
       ),
     )
@@ -85,9 +83,9 @@ settle-requires-clause-handed g c =
     let looked = c.header-header in let noted = c.note-note in let redeemed = c.redeem-block in let key = c.args.key.now in let v = value_of noted.new.self in let made = c.new-further in
     let still = sym (same_key key redeemed.new.slot redeemed.ensures.slot) in let same = unchanged_value c.args.value noted.new.self noted.ensures.same in
     let soon : hands_next (slot_of redeemed.new.slot) ≡ Some v = subst (λ (k : SlotKey). hands_next (slot_of k) ≡ Some v) still (c.requires.soon ∙ ap Some (sym same)) in
-    let book : IsOf redeemed.new.slot made.new.pass =
-    subst (λ (k : SlotKey). IsOf k made.new.pass) still (c.requires.book.1 ∙ sym looked.ensures.looks.same.0 ∙ sym redeemed.ensures.looks.same.0 ∙ sym (ap (λ (p : Pass). p.name) made.ensures.1)) in
-    settles_after redeemed.new.key redeemed.new.slot c.hand.new.key made.new.pass c.hand.new.pass v (block_of (value_of redeemed.new.key)) (values_of (further_in c.reclaim.new.further)) (kepts_of (further_in c.reclaim.new.further))
+    let book : IsKeyOfBook redeemed.new.slot made.new.pass =
+    subst (λ (k : SlotKey). IsKeyOfBook k made.new.pass) still (c.requires.book.1 ∙ sym looked.ensures.looks.same.0 ∙ sym redeemed.ensures.looks.same.0 ∙ sym (ap (λ (p : Pass). p.name) made.ensures.1)) in
+    settles_after redeemed.new.key redeemed.new.slot c.hand.new.key made.new.pass c.hand.new.pass v (block_number (value_of redeemed.new.key)) (values_of (further_in c.reclaim.new.further)) (kepts_of (further_in c.reclaim.new.further))
     (let is = redeemed.ensures.block.0.next in (is.0, is.1, is.2, refl)) book soon c.hand.ensures.noted
 
 -- what was in the queue, and what was put with this value
@@ -99,10 +97,9 @@ returns-clause-told g c =
     let on = prefix_trans c.args.pass.now.seen hand.new.pass.seen pass'.seen grows c.settle.ensures.looks.grows in
     let its = put_told redeemed.new.slot hand.new.key made.new.pass hand.new.pass (further_in c.reclaim.new.further) put hand.ensures.noted hand.ensures.keys in
     let same = hand.ensures.keys.0 ∙ (c.reclaim.ensures.further.0 ∙ (c.requires.book.2 ∙ sym c.requires.queue)) in
-    subst (λ (n : Name). AreToldIn n.store pass'.seen all.keys.held) (sym c.append.ensures.book)
-    (joined_told queue.keys.name.store pass'.seen queue.keys.held put.keys.held all.keys.held c.append.ensures.all c.append.ensures.kept
-    (all_told_later queue.keys.name.store c.args.pass.now.seen pass'.seen queue.keys.held on c.requires.told)
-    (subst (λ (n : Name). AreToldIn n.store pass'.seen put.keys.held) same (all_told_later put.keys.name.store hand.new.pass.seen pass'.seen put.keys.held c.settle.ensures.looks.grows its)))
+    (joined_told pass'.seen queue.keys.held put.keys.held all.keys.held c.append.ensures.all c.append.ensures.kept
+    (all_told_later c.args.pass.now.seen pass'.seen queue.keys.held on c.requires.told)
+    ((all_told_later hand.new.pass.seen pass'.seen put.keys.held c.settle.ensures.looks.grows its)))
 
 -- once the key is settled, the chunk may be laid into a list
 pub lay_into-requires : goal.lay_into-requires
@@ -121,8 +118,8 @@ returns-clause-laid g c =
 pub returns-clause-handed : goal.returns-clause-handed
 returns-clause-handed g c =
     let looked = c.header-header in let noted = c.note-note in let redeemed = c.redeem-block in let key = c.args.key.now in let hand = c.hand in let made = c.new-further in let puts = values_of (further_in c.reclaim.new.further) in let words = kepts_of (further_in c.reclaim.new.further) in let joins = c.append.ensures in
-    let notes : NotesAs key made.new.pass hand.new.key hand.new.pass (telling made.new.pass (Hand (number_of key) puts) words) =
-    subst (λ (k : SlotKey). NotesAs k made.new.pass hand.new.key hand.new.pass (telling made.new.pass (Hand (number_of k) puts) words)) (same_key key redeemed.new.slot redeemed.ensures.slot) hand.ensures.noted in
+    let notes : NotesAs key made.new.pass hand.new.key hand.new.pass (deed_with_words made.new.pass (Hand (slot_number key) puts) words) =
+    subst (λ (k : SlotKey). NotesAs k made.new.pass hand.new.key hand.new.pass (deed_with_words made.new.pass (Hand (slot_number k) puts) words)) (same_key key redeemed.new.slot redeemed.ensures.slot) hand.ensures.noted in
     let looks : LooksOn c.args.pass.now made.new.pass = subst (λ (p : Pass). LooksOn c.args.pass.now p) (sym made.ensures.1) (looks_twice c.args.pass.now looked.new.pass redeemed.new.pass looked.ensures.looks redeemed.ensures.looks) in
     let same : value_of noted.new.self ≡ value_of c.args.value = unchanged_value c.args.value noted.new.self noted.ensures.same in
     let lent : IsLentAs (value_of c.args.value) (g.row.T.coded.code c.take-content.result.0) = subst (λ (v : ℕ). IsLentAs v (g.row.T.coded.code c.take-content.result.0)) same

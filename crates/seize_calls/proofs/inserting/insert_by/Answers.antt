@@ -2,7 +2,7 @@ use Rattle.std.proofs.Common.{[], append-nil, refl, sym, ◌∙◌, arith}
 use Rattle.seize_machine.specs.Machine.Event.{ReadHead}
 use Rattle.seize_book.specs.Adding.{private}
 use Rattle.seize_words.specs.Reservations.{slot}
-use Rattle.seize_book.specs.Slots.{number_of}
+use Rattle.seize_book.specs.Slots.{slot_number}
 use Rattle.seize_words.proofs.Facts.{knows_noted}
 use Rattle.seize_calls.proofs.Alone.{alone_none}
 use Rattle.seize_calls.proofs.Keeps.{keeps_book}
@@ -11,7 +11,7 @@ use Rattle.seize_calls.proofs.inserting.insert_by.Goals as goal
 
 pub loop-init : goal.loop-init
 loop-init g c = λ at.
-    turns_begin c.args.key.now at c.args.pass.now (record { same = (refl, refl); its = (refl, refl); batch = refl; used = refl; active = refl; life = refl; seen = omega arith; grows = ([], append-nil c.args.pass.now.seen); alone = alone_none c.args.pass.now })
+    turns_begin c.args.key.now at c.args.pass.now (record { same = (refl, refl, refl); its = (refl, refl); batch = refl; used = refl; active = refl; life = refl; seen = omega arith; grows = ([], append-nil c.args.pass.now.seen); alone = alone_none c.args.pass.now })
 
 pub read-seen-requires-clause-book : goal.read-seen-requires-clause-book
 read-seen-requires-clause-book g c =
@@ -32,7 +32,7 @@ returns-then-seen-eq0-clause-book g c =
 pub returns-then-seen-eq0-clause-knows : goal.returns-then-seen-eq0-clause-knows
 returns-then-seen-eq0-clause-knows g c =
     let read = c.read-seen in
-    knows_noted c.loop.key read.new.key c.loop.pass read.new.pass (private c.loop.pass (ReadHead (number_of c.loop.key) (slot c.args.head.now))) read.ensures.noted
+    knows_noted c.loop.key read.new.key c.loop.pass read.new.pass (private c.loop.pass (ReadHead (slot_number c.loop.key) (slot c.args.head.now))) read.ensures.noted
 
 pub returns-then-seen-eq0-clause-inserted : goal.returns-then-seen-eq0-clause-inserted
 returns-then-seen-eq0-clause-inserted g c = λ at.

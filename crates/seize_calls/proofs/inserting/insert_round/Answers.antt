@@ -1,6 +1,6 @@
 use Rattle.std.proofs.Common.{rules, ◌≡◌, ℕ, ◌+◌, ◌<◌, Bool, if◌then◌else◌, take, lit<, refl, sym, ap, subst, ◌∙◌, arith}
 use Rattle.std.proofs.lemmas.List.{length-take-le}
-use Rattle.seize_calls.specs.Batches.{spots_of}
+use Rattle.seize_calls.specs.Batches.{slot_marks_of}
 use Rattle.seize_calls.specs.Rounds.{rest_in}
 use Rattle.seize_calls.proofs.Inserts.{HasTurned, all_turned, none_turned, round_done, round_next, round_turned}
 use Rattle.seize_calls.proofs.inserting.insert_round.Goals.{then-insert_at, else-insert_at}
@@ -8,7 +8,7 @@ use Rattle.seize_calls.proofs.inserting.insert_round.Goals as goal
 
 pub loop-init : goal.loop-init
 loop-init g c =
-    let spots = take c.args.marked (spots_of (rest_in c.args.round.now)) in
+    let spots = take c.args.marked (slot_marks_of (rest_in c.args.round.now)) in
     (λ at. none_turned c.args.key.now c.args.pass.now spots c.args.front at, c.requires.book.0, c.requires.knows, c.requires.round.0, c.requires.round.1, refl)
 
 pub insert_at-requires : goal.insert_at-requires
@@ -59,5 +59,5 @@ loop-preserved g c =
 
 pub returns-clause-all : goal.returns-clause-all
 returns-clause-all g c = λ at.
-    let l = c.loop in let long = length-take-le c.args.marked (spots_of (rest_in c.args.round.now)) c.requires.round.2 in
-    all_turned c.args.key.now c.args.pass.now (take c.args.marked (spots_of (rest_in c.args.round.now))) c.args.front at l.counter l.won l.key l.pass (l.invariant.0 at) (omega (arith, long, c.loop-test.false))
+    let l = c.loop in let long = length-take-le c.args.marked (slot_marks_of (rest_in c.args.round.now)) c.requires.round.2 in
+    all_turned c.args.key.now c.args.pass.now (take c.args.marked (slot_marks_of (rest_in c.args.round.now))) c.args.front at l.counter l.won l.key l.pass (l.invariant.0 at) (omega (arith, long, c.loop-test.false))

@@ -1,13 +1,13 @@
 use Rattle.std.proofs.Common.{rules, ◌≡◌, ℕ, ◌≤◌, ◌<◌, ◌^◌, true, List, lit<, sym, ap, subst, ◌∙◌, arith}
 use Rattle.seize_book.specs.Private.{labels_of}
-use Rattle.seize_words.specs.Reserved.{ends_at as end_of, heads_book}
+use Rattle.seize_words.specs.Reserved.{heads_book, heads_end as end_of}
 use Rattle.seize_words.specs.Totals.{slots_seen}
 use Rattle.seize_words.specs.Walks.{Knows}
 use Rattle.seize_book.specs.declared.book.pass.Pass.{Pass}
 use Rattle.seize_words.proofs.Facts.{more_seen}
-use Rattle.seize_calls.specs.Batches.{Spot, spots_of, unslotted}
-use Rattle.seize_calls.specs.Marks.{Ends}
-use Rattle.seize_calls.specs.Numbered.{counted, ends_at, starts_at}
+use Rattle.seize_calls.specs.Batches.{SlotMark, slot_marks_of, unslotted}
+use Rattle.seize_calls.specs.Marks.{EndsMarks}
+use Rattle.seize_calls.specs.Numbered.{ends_at, is_count_of, starts_at}
 use Rattle.seize_calls.proofs.Batches.{remarked_labels}
 use Rattle.seize_calls.proofs.Marks.{ends_before, knows_looked, note_seen_then}
 use Rattle.seize_calls.proofs.marking.mark.Goals as goal
@@ -20,7 +20,7 @@ read_each-marked-requires g c =
     let there : end_of c.heads.result ≤ slots_seen pass = (let more = more_seen count.0 pass count.2 in omega (arith, c.heads.ensures.1, count.3, more)) in (
       lit< tt,
       (
-        subst (λ (p : Pass). (key.keys.name ≡ p.name) × (heads_book c.heads.result ≡ p.name) × (Rattle.seize_words.specs.Chunks.book_in c.args.blocks.now ≡ p.name)) same
+        subst (λ (p : Pass). (key.keys.name ≡ p.name) × (heads_book c.heads.result ≡ p.name) × (Rattle.seize_words.specs.Chunks.blocks_book c.args.blocks.now ≡ p.name)) same
             (c.requires.book.0 ∙ sym looks.same.0, c.heads.ensures.2 ∙ c.requires.book.1 ∙ sym looks.same.0, c.requires.book.2 ∙ sym looks.same.0),
         (
           subst (λ (p : Pass). Knows key p) same (knows_looked key c.args.pass.now pass c.requires.knows looks),
@@ -36,7 +36,7 @@ read_each-marked-requires g c =
                     (λ at. let noted = note_seen_then key at c.args.pass.now count.0 c.requires.book.0 c.requires.knows count.1 in omega (arith, c.heads.ensures.1, count.3, noted)),
                     (
                       (begins.0 ∙ ap (λ (p : Pass). p.name) same, (begins.1.0, ap labels_of begins.1.1 ∙ c.requires.batch.1)),
-                      subst (λ (vs : List ℕ). counted c.args.batch.now.len vs ≡ true) c.requires.batch.1 c.args.batch.now.many,
+                      subst (λ (vs : List ℕ). is_count_of c.args.batch.now.len vs ≡ true) c.requires.batch.1 c.args.batch.now.many,
                     ),
                   ),
                 ),
@@ -52,7 +52,7 @@ invariant_of-batch g c =
     let batch = c.args.batch.now in let read = c.read_each-marked in
     let same = remarked_labels batch.values.keys.held c.end.new.values.keys.held (ap unslotted (sym c.new-round.ensures.begins.1.1) ∙ sym read.ensures.round.1 ∙ ap unslotted (sym c.end.ensures.all.1)) in
     record {
-      many = subst (λ (vs : List ℕ). counted batch.len vs ≡ true) same batch.many;
+      many = subst (λ (vs : List ℕ). is_count_of batch.len vs ≡ true) same batch.many;
       front = subst (λ (vs : List ℕ). starts_at batch.first vs ≡ true) same batch.front;
       back = subst (λ (vs : List ℕ). ends_at batch.last vs ≡ true) same batch.back;
       closed = c.end.ensures.all.2;
@@ -61,6 +61,6 @@ invariant_of-batch g c =
 pub returns-clause-marks : goal.returns-clause-marks
 returns-clause-marks g c = λ at.
     let read = c.read_each-marked in
-    subst (λ (t : Pass × List Spot). Ends at c.args.pass.now read.new.key t.0 t.1 read.result) (λ i. ((sym c.end.ensures.pass) i, (ap spots_of (sym c.end.ensures.all.1)) i))
-    (ends_before at c.args.pass.now c.load-count.new.pass read.new.key read.new.pass (spots_of (Rattle.seize_calls.specs.Rounds.all_in read.new.round)) read.result c.load-count.ensures.looks
-    (subst (λ (p : Pass). Ends at p read.new.key read.new.pass (spots_of (Rattle.seize_calls.specs.Rounds.all_in read.new.round)) read.result) c.new-round.ensures.pass (read.ensures.ends at)))
+    subst (λ (t : Pass × List SlotMark). EndsMarks at c.args.pass.now read.new.key t.0 t.1 read.result) (λ i. ((sym c.end.ensures.pass) i, (ap slot_marks_of (sym c.end.ensures.all.1)) i))
+    (ends_before at c.args.pass.now c.load-count.new.pass read.new.key read.new.pass (slot_marks_of (Rattle.seize_calls.specs.Rounds.all_in read.new.round)) read.result c.load-count.ensures.looks
+    (subst (λ (p : Pass). EndsMarks at p read.new.key read.new.pass (slot_marks_of (Rattle.seize_calls.specs.Rounds.all_in read.new.round)) read.result) c.new-round.ensures.pass (read.ensures.ends at)))

@@ -3,11 +3,11 @@ use Rattle.std.proofs.lemmas.List.{length_push}
 use Rattle.seize_machine.specs.Machine.Event.{Put}
 use Rattle.seize_book.specs.Adding.{private}
 use Rattle.seize_book.specs.Others.{value_of}
-use Rattle.seize_book.specs.Slots.{number_of, slot_of}
+use Rattle.seize_book.specs.Slots.{slot_number, slot_of}
 use Rattle.seize_book.specs.Values.{values_of}
 use Rattle.seize_words.proofs.Facts.{knows_noted}
 use Rattle.seize_calls.specs.Furthers.{further_in}
-use Rattle.seize_calls.specs.Settling.{stand}
+use Rattle.seize_calls.specs.Settling.{call_state}
 use Rattle.seize_calls.proofs.Batches.{counted_is}
 use Rattle.seize_calls.proofs.Onwards.{is_put, may_put, only_stays, put_marks, put_rests, put_sits}
 use Rattle.seize_calls.proofs.settling.put.Goals as goal
@@ -26,7 +26,7 @@ returns-then-batch-size-clause-round g c =
     let had = g.R.Reclaim.had c.args.reclaimer.now in let queue = further_in c.args.queue.now in let v = value_of c.args.value in let two = c.put.new.self in let long = counted_is c.push.new.self.len (values_of c.push.new.self.values) c.push.new.self.many in
     let puts = is_put c.args.key.now two c.args.pass.now c.put.new.pass v queue c.requires.next c.put.ensures.noted in let fits = c.ranges.size.fits in let sits = c.requires.sits in
     let many : length (values_of c.push.new.self.values) ≡ length (slot_of two).batch = ap (λ (vs : List ℕ). length vs) (c.push.ensures.1 ∙ (ap (λ (vs : List ℕ). vs ++ v ∷ []) sits.batch.1 ∙ sym puts.batch)) in
-    let a = stand two c.put.new.pass c.push.new.self c.args.queue.now had in
+    let a = call_state two c.put.new.pass c.push.new.self c.args.queue.now had in
     record {
       full = a;
       puts = puts;
@@ -38,9 +38,9 @@ returns-then-batch-size-clause-round g c =
 pub returns-then-batch-size-clause-sits : goal.returns-then-batch-size-clause-sits
 returns-then-batch-size-clause-sits g c =
     let had = g.R.Reclaim.had c.args.reclaimer.now in let key = c.args.key.now in let two = c.put.new.self in let pass = c.args.pass.now in
-    put_sits (stand key pass c.args.batch.now c.args.queue.now had) (stand two c.put.new.pass c.push.new.self c.args.queue.now had) (value_of c.args.value) c.args.kept
+    put_sits (call_state key pass c.args.batch.now c.args.queue.now had) (call_state two c.put.new.pass c.push.new.self c.args.queue.now had) (value_of c.args.value) c.args.kept
     (is_put key two pass c.put.new.pass (value_of c.args.value) (further_in c.args.queue.now) c.requires.next c.put.ensures.noted) c.push.ensures refl c.requires.sits
-    (knows_noted key two pass c.put.new.pass (private pass (Put (number_of key))) c.put.ensures.noted) c.requires.told
+    (knows_noted key two pass c.put.new.pass (private pass (Put (slot_number key))) c.put.ensures.noted) c.requires.told
 
 pub settle-requires : goal.settle-requires
 settle-requires g c =
@@ -53,8 +53,8 @@ settle-requires g c =
       (
         (c.requires.words.0 ∙ sym puts.on.same.0, c.requires.words.1 ∙ sym puts.on.same.0),
         (
-          put_sits (stand key pass c.args.batch.now c.args.queue.now had) (stand two c.put.new.pass c.push.new.self c.args.queue.now had) v c.args.kept puts c.push.ensures refl sits
-              (knows_noted key two pass c.put.new.pass (private pass (Put (number_of key))) c.put.ensures.noted) c.requires.told,
+          put_sits (call_state key pass c.args.batch.now c.args.queue.now had) (call_state two c.put.new.pass c.push.new.self c.args.queue.now had) v c.args.kept puts c.push.ensures refl sits
+              (knows_noted key two pass c.put.new.pass (private pass (Put (slot_number key))) c.put.ensures.noted) c.requires.told,
           (
             put_marks key two pass c.put.new.pass v queue c.requires.next c.put.ensures.noted (omega (arith, long, many, c.if-batch-size.false, c.requires.size)) (omega (arith, push, longer)),
             (c.requires.serves, c.requires.spots),
@@ -67,7 +67,7 @@ pub returns-clause-round : goal.returns-clause-round
 returns-clause-round g c =
     let had = g.R.Reclaim.had c.args.reclaimer.now in let queue = further_in c.args.queue.now in let two = c.put.new.self in
     record {
-      full = stand two c.put.new.pass c.push.new.self c.args.queue.now had;
+      full = call_state two c.put.new.pass c.push.new.self c.args.queue.now had;
       puts = is_put c.args.key.now two c.args.pass.now c.put.new.pass (value_of c.args.value) queue c.requires.next c.put.ensures.noted;
       pushed = c.push.ensures;
       same = (refl, refl);

@@ -2,9 +2,9 @@ use Rattle.std.proofs.Common.{sym, refl, ◌∙◌}
 use base.Growing.{prefix_refl}
 use Rattle.seize_book.specs.Values.{values_of}
 use Rattle.seize_calls.specs.Batches.{keys_in}
-use Rattle.seize_calls_rows.proofs.Links.{kept_twice}
+use Rattle.seize_calls_rows.proofs.Links.{kept_twice, sole_still}
 use Rattle.seize_calls_rows.proofs.Loose.{lost_twice}
-use Rattle.seize_calls_rows.proofs.Shut.{gave_none, gave_twice, holds_on, no_values, turn_still}
+use Rattle.seize_calls_rows.proofs.Shut.{gave_none, gave_twice, holds_on, no_values}
 use Rattle.seize_calls_rows.proofs.Workers.{goes_none, goes_twice}
 use Rattle.seize_calls_rows.proofs.turns.clear_all.Goals as goal
 
@@ -49,14 +49,14 @@ clear-first-requires-clause-holds g c =
     let two = c.clear-second in holds_on c.args.words.now c.loop.first c.loop.pass two.new.pass c.loop.invariant.0 two.ensures.goes_on
 
 pub clear-first-requires-clause-turn : goal.clear-first-requires-clause-turn
-clear-first-requires-clause-turn g c = let two = c.clear-second in turn_still c.loop.pass two.new.pass two.ensures.goes_on.same c.loop.invariant.2
+clear-first-requires-clause-turn g c = let two = c.clear-second in sole_still c.loop.pass two.new.pass two.ensures.goes_on.same c.loop.invariant.2
 
 pub loop-preserved : goal.loop-preserved
 loop-preserved g c =
     let i = c.loop.invariant in let two = c.clear-second in let one = c.clear-first in let pass = c.args.pass.now in let was = c.loop.pass in let mid = two.new.pass in let now = one.new.pass in (
       one.ensures.holds.0,
       holds_on c.args.words.now two.result mid now two.ensures.holds.0 one.ensures.goes_on,
-      turn_still mid now one.ensures.goes_on.same (turn_still was mid two.ensures.goes_on.same i.2),
+      sole_still mid now one.ensures.goes_on.same (sole_still was mid two.ensures.goes_on.same i.2),
       one.ensures.holds.1 ∙ i.3,
       two.ensures.holds.1 ∙ i.4,
       goes_twice pass was now i.5 (goes_twice was mid now two.ensures.goes_on one.ensures.goes_on),

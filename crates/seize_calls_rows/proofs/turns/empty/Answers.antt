@@ -1,7 +1,7 @@
-use Rattle.seize_calls_rows.proofs.Links.{one_gone}
+use Rattle.seize_calls_rows.proofs.Links.{one_gone, sole_still}
 use Rattle.std.proofs.Common.{◌∙◌, arith, refl}
 use Rattle.seize_calls_rows.proofs.Loose.{event_lost, lost_twice}
-use Rattle.seize_calls_rows.proofs.Shut.{one_emptier, turn_still, gave_none, gave_twice, has_turn}
+use Rattle.seize_calls_rows.proofs.Shut.{one_emptier, gave_none, gave_twice}
 use Rattle.seize_calls_rows.proofs.Workers.{entered, goes_noted, goes_twice}
 use Rattle.seize_calls_rows.specs.declared.worker.Worker.{Worker}
 use Rattle.seize_calls_rows.proofs.turns.empty.Goals as goal
@@ -11,11 +11,11 @@ loop-link-init g c =
     let one = c.enter_head-activation in let h = c.args.holder in let pass = c.args.pass.now in
     let w : Worker = record { slot = h.slot; size = h.size; key = h.key; batch = h.batch; spots = h.spots; pass = pass } in (
       entered c.args.words.now w c.requires.holds one.new.key one.new.pass one.result one.ensures.noted one.ensures.activation,
-      turn_still pass one.new.pass one.ensures.noted.0 c.requires.turn,
+      sole_still pass one.new.pass one.ensures.noted.0 c.requires.turn,
       goes_noted pass one.new.pass _ one.ensures.noted.0 one.ensures.noted.2.0,
       (λ l less. absurd (omega (arith, less))),
-      gave_none pass one.new.pass _ (goes_noted pass one.new.pass _ one.ensures.noted.0 one.ensures.noted.2.0).seen (one_gone pass one.new.pass _ one.ensures.noted.0 one.ensures.noted.2.0 (has_turn pass c.requires.turn) refl),
-      event_lost pass one.new.pass _ one.ensures.noted.0 one.ensures.noted.2.0 (has_turn pass c.requires.turn) (λ l. refl),
+      gave_none pass one.new.pass _ (goes_noted pass one.new.pass _ one.ensures.noted.0 one.ensures.noted.2.0).seen (one_gone pass one.new.pass _ one.ensures.noted.0 one.ensures.noted.2.0 c.requires.turn refl),
+      event_lost pass one.new.pass _ one.ensures.noted.0 one.ensures.noted.2.0 c.requires.turn (λ l. refl),
     )
 
 pub take_out-requires-clause-stands : goal.take_out-requires-clause-stands
@@ -28,7 +28,7 @@ pub loop-link-preserved : goal.loop-link-preserved
 loop-link-preserved g c =
     let i = c.loop-link.invariant in let one = c.take_out in let was = c.loop-link.pass in (
       one.ensures.stands,
-      turn_still was one.new.pass one.ensures.goes_on.same i.1,
+      sole_still was one.new.pass one.ensures.goes_on.same i.1,
       goes_twice c.args.pass.now was one.new.pass i.2 one.ensures.goes_on,
       one_emptier c.loop-link.link was one.new.pass i.3 one.ensures.out,
       gave_twice c.args.pass.now was one.new.pass _ _ _ i.4 one.ensures.gave,

@@ -1,5 +1,5 @@
 use Rattle.std.proofs.Common.{◌≡◌, ℕ, ◌<◌, length, true, sym, ap, subst, ◌∙◌}
-use Rattle.seize_machine.specs.Machine.State.{State, are_distinct, link_at, linked}
+use Rattle.seize_machine.specs.Machine.State.{State, are_distinct, link_at, linked_values}
 use Rattle.seize_book.specs.Book.{IsLegalList}
 use Rattle.seize_book.specs.Homesteads.{state_seen}
 use Rattle.seize_book.specs.Tokens.{Name, start}
@@ -7,7 +7,7 @@ use Rattle.seize_calls_rows.specs.Turns.{LeavesNothing}
 use Rattle.seize_calls_rows.proofs.Links.{look_keeps, sole_still}
 use Rattle.seize_calls_rows.proofs.Loose.{lost_same, lost_twice}
 use Rattle.seize_calls_rows.proofs.Seats.{sits_on}
-use Rattle.seize_calls_rows.proofs.Shut.{all_back, gave_none, gave_twice, has_turn, holds_on, nothing_still, turn_still}
+use Rattle.seize_calls_rows.proofs.Shut.{all_back, gave_none, gave_twice, holds_on, nothing_still}
 use Rattle.seize_calls_rows.proofs.Workers.{goes_looked, goes_twice}
 use Rattle.seize_calls_rows.proofs.turns.reclaim_all.Goals as goal
 
@@ -31,7 +31,7 @@ returns-clause-regains g c =
     let first = c.look-first.ensures in let second = c.look-second.ensures in let load = c.load-many.ensures in
     let looked = goes_twice p4 p5 p7 (goes_looked p4 p5 first.looks) (goes_twice p5 p6 p7 (goes_looked p5 p6 second.looks) (goes_looked p6 p7 load.looks)) in
     let goes = goes_twice p0 p1 p7 one.goes_on (goes_twice p1 p2 p7 two.goes_on (goes_twice p2 p3 p7 empty.goes_on (goes_twice p3 p4 p7 clear.goes_on looked))) in
-    let sole4 = has_turn p4 (turn_still p3 p4 clear.goes_on.same (turn_still p2 p3 empty.goes_on.same (turn_still p1 p2 two.goes_on.same (turn_still p0 p1 one.goes_on.same c.requires.turn)))) in
+    let sole4 = (sole_still p3 p4 clear.goes_on.same (sole_still p2 p3 empty.goes_on.same (sole_still p1 p2 two.goes_on.same (sole_still p0 p1 one.goes_on.same c.requires.turn)))) in
     let sole5 = sole_still p4 p5 first.looks.same sole4 in let sole6 = sole_still p5 p6 second.looks.same sole5 in
     let e5 : state_seen p5 ≡ state_seen p4 = look_keeps p4 p5 first.looks sole4 in let e6 : state_seen p6 ≡ state_seen p5 = look_keeps p5 p6 second.looks sole5 in
     let e7 : state_seen p7 ≡ state_seen p6 = look_keeps p6 p7 load.looks sole6 in
@@ -52,7 +52,7 @@ returns-clause-back g c =
     let first = c.look-first.ensures in let second = c.look-second.ensures in let load = c.load-many.ensures in
     let looked = goes_twice p4 p5 p7 (goes_looked p4 p5 first.looks) (goes_twice p5 p6 p7 (goes_looked p5 p6 second.looks) (goes_looked p6 p7 load.looks)) in
     let goes = goes_twice p0 p1 p7 one.goes_on (goes_twice p1 p2 p7 two.goes_on (goes_twice p2 p3 p7 empty.goes_on (goes_twice p3 p4 p7 clear.goes_on looked))) in
-    let sole4 = has_turn p4 (turn_still p3 p4 clear.goes_on.same (turn_still p2 p3 empty.goes_on.same (turn_still p1 p2 two.goes_on.same (turn_still p0 p1 one.goes_on.same c.requires.turn)))) in
+    let sole4 = (sole_still p3 p4 clear.goes_on.same (sole_still p2 p3 empty.goes_on.same (sole_still p1 p2 two.goes_on.same (sole_still p0 p1 one.goes_on.same c.requires.turn)))) in
     let sole5 = sole_still p4 p5 first.looks.same sole4 in let sole6 = sole_still p5 p6 second.looks.same sole5 in
     let e5 : state_seen p5 ≡ state_seen p4 = look_keeps p4 p5 first.looks sole4 in let e6 : state_seen p6 ≡ state_seen p5 = look_keeps p5 p6 second.looks sole5 in
     let e7 : state_seen p7 ≡ state_seen p6 = look_keeps p6 p7 load.looks sole6 in
@@ -60,7 +60,7 @@ returns-clause-back g c =
     let mid = load.count.0 in let em : state_seen mid ≡ state_seen p6 = look_keeps p6 mid load.count.1 sole6 in
     λ yes. let are = c.are_all-all.ensures.0 yes in
     all_back p7 (sole_still p6 p7 load.looks.same sole6) links
-    (subst (λ (n : Name). IsLegalList (start n) p7.seen) (sym load.looks.same.0) load.looks.legal) (subst (λ (n : Name). are_distinct (linked n.links) ≡ true) (sym load.looks.same.0) load.looks.distinct)
+    (subst (λ (n : Name). IsLegalList (start n) p7.seen) (sym load.looks.same.0) load.looks.legal) (subst (λ (n : Name). are_distinct (linked_values n.links) ≡ true) (sym load.looks.same.0) load.looks.distinct)
     (ap (λ (st : State). length st.slots) (e7 ∙ sym em) ∙ sym load.count.3 ∙ are.2)
     (nothing_still p5 p7 0 (e7 ∙ e6) (subst (LeavesNothing p5) (sym first.holds.2 ∙ are.0) first.nothing))
     (nothing_still p6 p7 1 e7 (subst (LeavesNothing p6) (sym second.holds.2 ∙ are.1) second.nothing))

@@ -21,7 +21,7 @@ known-second-requires-clause-family c =
 
 pub returns-clause-slots : goal.returns-clause-slots
 returns-clause-slots c =
-    let words = c.args.words.now in let place = λ (o : Option Seat). post_label (record { seat = o }) in let slot = λ (s : Seat). s.holder.slot in let is = c.shut_turns.ensures.seats in (
-      ap slot is.0 ∙ ap slot c.known-first.ensures.same ∙ slot_of_post words c.into_seat.result c.args.first.label 0 (sym c.into_value.ensures.0 ∙ ap place c.into_seat.ensures) c.requires.posts.0,
-      ap slot is.1 ∙ ap slot c.known-second.ensures.same ∙ slot_of_post words c.into_seat-2.result c.args.second.label 1 (sym c.into_value-2.ensures.0 ∙ ap place c.into_seat-2.ensures) c.requires.posts.1,
+    let words = c.args.words.now in let place = λ (o : Option Seat). post_label (record { seat = o }) in let slot = λ (s : Seat). s.holder.slot in let is = c.shut_turns.ensures.slots in (
+      is.0 ∙ ap slot c.known-first.ensures.same ∙ slot_of_post words c.into_seat.result c.args.first.label 0 (sym c.into_value.ensures.0 ∙ ap place c.into_seat.ensures) c.requires.posts.0,
+      is.1 ∙ ap slot c.known-second.ensures.same ∙ slot_of_post words c.into_seat-2.result c.args.second.label 1 (sym c.into_value-2.ensures.0 ∙ ap place c.into_seat-2.ensures) c.requires.posts.1,
     )

@@ -3,18 +3,18 @@ use Rattle.seize_machine.specs.Machine.Event.{ExchangeLink}
 use Rattle.seize_machine.specs.declared.machine.event.Exchange.TheVariants.{Swap}
 use Rattle.seize_machine.specs.Machine.State.{has, link_at}
 use Rattle.seize_book.specs.Homesteads.{state_seen}
-use Rattle.seize_book.specs.Blocks.{block_of, link_word}
+use Rattle.seize_book.specs.Blocks.{block_number, link_word}
 use Rattle.seize_book.specs.Book.{after}
 use Rattle.seize_book.specs.Others.{MayBegin, MayRetire, state_of, value_of}
 use Rattle.seize_book.specs.Private.{label_of}
 use Rattle.seize_book.specs.declared.book.keys.Keys.{Keys}
 use Rattle.seize_book.specs.Tokens.{IsSole, start}
 use Rattle.seize_book.specs.declared.book.pass.Pass.{Pass}
-use Rattle.seize_words.specs.LinkWords.{held_before, holds, number}
+use Rattle.seize_words.specs.LinkWords.{held_before, link_number, value_held}
 use Rattle.seize_words.specs.Links.{value_in}
 use Rattle.seize_calls_rows.proofs.Links.{one_gone, sole_still, takes_out}
 use Rattle.seize_calls_rows.proofs.Loose.{came_out}
-use Rattle.seize_calls_rows.proofs.Shut.{gave_none, gave_twice, has_turn, retired_did, retired_out}
+use Rattle.seize_calls_rows.proofs.Shut.{gave_none, gave_twice, retired_did, retired_out}
 use Rattle.seize_calls_rows.proofs.Workers.{batch_on, goes_known, goes_noted, goes_same, goes_twice, label_is, stands_after, stands_on, with_spots, word_of_some}
 use Rattle.seize_calls_rows.proofs.turns.take_out.Goals as goal
 
@@ -32,8 +32,8 @@ retire-requires g c =
     let old = word_of_some (held_before swaps.0) two.result swaps.0.found c.if-old-eq0.false in let v : ℕ = old.0 in
     let same : key'.keys ≡ out.keys = c.value-value.ensures in let holds = swaps.2 ∙ old.1 in let word = old.2 in
     let its : v ≡ label_of out.keys.held = sym (label_is key'.keys.held v holds) ∙ ap (λ (k : Keys). label_of k.held) same in
-    let may : MayRetire out = subst (λ (t : ℕ × Keys). MayBegin out.keys.name t.0 (state_of t.1)) (λ j. (its j, same j)) (inr (swaps.3 v holds)) in
-    let number : block_of (value_of out) ≡ two.result - 1 = ap block_of (sym its) ∙ omega (arith, word) in
+    let may : MayRetire out = subst (λ (t : ℕ × Keys). MayBegin t.0 (state_of t.1)) (λ j. (its j, same j)) (inr (swaps.3 v holds)) in
+    let number : block_number (value_of out) ≡ two.result - 1 = ap block_number (sym its) ∙ omega (arith, word) in
     (lit< tt, (search, (stands.inside.0, ((ap (λ (k : Keys). k.name) (sym same) ∙ swaps.1 ∙ one.ensures.0.0 ∙ sym goes.same.0, may, number), (search, (batch, (tt, stands.spots)))))))
 
 pub returns-clause-stands : goal.returns-clause-stands
@@ -53,8 +53,8 @@ returns-clause-goes_on g c =
 pub returns-clause-out : goal.returns-clause-out
 returns-clause-out g c =
     let one = c.none-value in let two = c.swap_link-old in let swaps = two.ensures.swaps in let takes = swaps.2.0 in let three = c.retire in let v : ℕ = value_of c.value-value.result in
-    let sole = subst (λ (p : Pass). IsSole p.name.gate p.id) (sym one.ensures.1) (has_turn c.args.pass.now c.requires.turn) in
-    let is : ExchangeLink c.args.activation.now.slot (number swaps.0) (Swap (holds one.result)) ≡ ExchangeLink c.args.activation.now.slot c.args.link (Swap None)
+    let sole = subst (λ (p : Pass). IsSole p.id) (sym one.ensures.1) c.requires.turn in
+    let is : ExchangeLink c.args.activation.now.slot (link_number swaps.0) (Swap (value_held one.result)) ≡ ExchangeLink c.args.activation.now.slot c.args.link (Swap None)
     = λ j. ExchangeLink c.args.activation.now.slot (swaps.1.1 j) (Swap (value_in (one.ensures.0.1 j))) in
     let out = takes_out one.new.pass two.new.pass _ c.args.activation.now.slot c.args.link is takes.same takes.noted sole in
     let keeps = (retired_did c.args.key.now two.new.pass _ _ three.new.key three.new.pass _ _ three.result v 0 three.ensures.retires (sole_still one.new.pass two.new.pass takes.same sole)).0 in (
@@ -65,13 +65,13 @@ returns-clause-out g c =
 pub returns-then-old-eq0-clause-gave : goal.returns-then-old-eq0-clause-gave
 returns-then-old-eq0-clause-gave g c =
     let one = c.none-value in let two = c.swap_link-old in let takes = two.ensures.swaps.2.0 in
-    let sole = subst (λ (p : Pass). IsSole p.name.gate p.id) (sym one.ensures.1) (has_turn c.args.pass.now c.requires.turn) in
+    let sole = subst (λ (p : Pass). IsSole p.id) (sym one.ensures.1) c.requires.turn in
     gave_none c.args.pass.now two.new.pass _ (goes_same c.args.pass.now one.new.pass two.new.pass one.ensures.1 (goes_noted one.new.pass two.new.pass _ takes.same takes.noted)).seen (one_gone one.new.pass two.new.pass _ takes.same takes.noted sole refl ∙ ap (λ (p : Pass). (state_seen p).gone) one.ensures.1)
 
 pub returns-clause-gave : goal.returns-clause-gave
 returns-clause-gave g c =
     let one = c.none-value in let two = c.swap_link-old in let takes = two.ensures.swaps.2.0 in let three = c.retire in let v : ℕ = value_of c.value-value.result in
-    let sole = subst (λ (p : Pass). IsSole p.name.gate p.id) (sym one.ensures.1) (has_turn c.args.pass.now c.requires.turn) in
+    let sole = subst (λ (p : Pass). IsSole p.id) (sym one.ensures.1) c.requires.turn in
     gave_twice c.args.pass.now two.new.pass three.new.pass _ _ _
     (gave_none c.args.pass.now two.new.pass _ (goes_same c.args.pass.now one.new.pass two.new.pass one.ensures.1 (goes_noted one.new.pass two.new.pass _ takes.same takes.noted)).seen (one_gone one.new.pass two.new.pass _ takes.same takes.noted sole refl ∙ ap (λ (p : Pass). (state_seen p).gone) one.ensures.1))
     (retired_did c.args.key.now two.new.pass _ _ three.new.key three.new.pass _ _ three.result v 0 three.ensures.retires (sole_still one.new.pass two.new.pass takes.same sole)).1
@@ -80,19 +80,19 @@ returns-clause-gave g c =
 pub returns-then-old-eq0-clause-lost : goal.returns-then-old-eq0-clause-lost
 returns-then-old-eq0-clause-lost g c =
     let one = c.none-value in let two = c.swap_link-old in let swaps = two.ensures.swaps in let takes = swaps.2.0 in let slot = c.args.activation.now.slot in
-    let sole = subst (λ (p : Pass). IsSole p.name.gate p.id) (sym one.ensures.1) (has_turn c.args.pass.now c.requires.turn) in
-    let is : ExchangeLink slot (number swaps.0) (Swap (holds one.result)) ≡ ExchangeLink slot c.args.link (Swap None) = λ j. ExchangeLink slot (swaps.1.1 j) (Swap (value_in (one.ensures.0.1 j))) in
+    let sole = subst (λ (p : Pass). IsSole p.id) (sym one.ensures.1) c.requires.turn in
+    let is : ExchangeLink slot (link_number swaps.0) (Swap (value_held one.result)) ≡ ExchangeLink slot c.args.link (Swap None) = λ j. ExchangeLink slot (swaps.1.1 j) (Swap (value_in (one.ensures.0.1 j))) in
     let held : held_before takes ≡ link_at (after (start one.new.pass.name) takes.noted.before) c.args.link = λ j. link_at (after (start one.new.pass.name) (sym takes.is_before j)) (swaps.1.1 j) in
     λ u loose. ⊎_elim (λ was. subst (λ (p : Pass). has u (state_seen p).loose ≡ true) one.ensures.1 was)
-    (λ out. absurd (let word : two.result ≡ block_of u + 1 = takes.found ∙ ap link_word (held ∙ out) in let zero : two.result ≡ 0 = search in omega (arith, word, zero)))
+    (λ out. absurd (let word : two.result ≡ block_number u + 1 = takes.found ∙ ap link_word (held ∙ out) in let zero : two.result ≡ 0 = search in omega (arith, word, zero)))
     (came_out one.new.pass two.new.pass _ slot c.args.link is takes.same takes.noted sole u loose)
 
 -- what came out was retired
 pub returns-clause-lost : goal.returns-clause-lost
 returns-clause-lost g c =
     let one = c.none-value in let two = c.swap_link-old in let swaps = two.ensures.swaps in let takes = swaps.2.0 in let three = c.retire in let slot = c.args.activation.now.slot in
-    let sole = subst (λ (p : Pass). IsSole p.name.gate p.id) (sym one.ensures.1) (has_turn c.args.pass.now c.requires.turn) in
-    let is : ExchangeLink slot (number swaps.0) (Swap (holds one.result)) ≡ ExchangeLink slot c.args.link (Swap None) = λ j. ExchangeLink slot (swaps.1.1 j) (Swap (value_in (one.ensures.0.1 j))) in
+    let sole = subst (λ (p : Pass). IsSole p.id) (sym one.ensures.1) c.requires.turn in
+    let is : ExchangeLink slot (link_number swaps.0) (Swap (value_held one.result)) ≡ ExchangeLink slot c.args.link (Swap None) = λ j. ExchangeLink slot (swaps.1.1 j) (Swap (value_in (one.ensures.0.1 j))) in
     let held : held_before takes ≡ link_at (after (start one.new.pass.name) takes.noted.before) c.args.link = λ j. link_at (after (start one.new.pass.name) (sym takes.is_before j)) (swaps.1.1 j) in
     let v : ℕ = value_of c.value-value.result in let key' = two.new.value in let mid = sole_still one.new.pass two.new.pass takes.same sole in let r = three.ensures.retires in
     let lost = (retired_did c.args.key.now two.new.pass _ _ three.new.key three.new.pass _ _ three.result v 0 r mid).2 in

@@ -1,5 +1,5 @@
 use Rattle.std.proofs.Common.{◌≡◌, ℕ, is_some, sym, ap, ◌∙◌, subst, inr, arith}
-use Rattle.seize_book.specs.Blocks.{block_of}
+use Rattle.seize_book.specs.Blocks.{block_number}
 use Rattle.seize_book.specs.Others.{MayBegin, state_of}
 use Rattle.seize_book.specs.Private.{label_of}
 use Rattle.seize_book.specs.declared.book.keys.Keys.{Keys}
@@ -29,6 +29,6 @@ returns-clause-out c =
     let same : key'.keys ≡ out.keys = c.value.ensures in let holds = swaps.2 ∙ old.1 in
     let its : v ≡ label_of out.keys.held = sym (label_is key'.keys.held v holds) ∙ ap (λ (k : Keys). label_of k.held) same in let word = old.2 in (
       ap (λ (k : Keys). k.name) (sym same) ∙ swaps.1 ∙ ap (λ (k : Keys). k.name) c.some-value.ensures ∙ c.lend.ensures.lent.book,
-      subst (λ (t : ℕ × Keys). MayBegin out.keys.name t.0 (state_of t.1)) (λ j. (its j, same j)) (inr (swaps.3 v holds)),
-      ap block_of (sym its) ∙ omega (arith, word),
+      subst (λ (t : ℕ × Keys). MayBegin t.0 (state_of t.1)) (λ j. (its j, same j)) (inr (swaps.3 v holds)),
+      ap block_number (sym its) ∙ omega (arith, word),
     )

@@ -1,7 +1,7 @@
-use Rattle.std.proofs.Common.{◌≡◌, true, is_some, sym, ap, ◌∙◌, arith}
+use Rattle.std.proofs.Common.{sym, ap, ◌∙◌, arith}
 use Rattle.seize_machine.specs.Machine.Event.{ReadLink}
 use Rattle.seize_book.specs.Tokens.{Name}
-use Rattle.seize_words.specs.LinkWords.{number}
+use Rattle.seize_words.specs.LinkWords.{link_number}
 use Rattle.seize_words.proofs.Facts.{glimpse_found}
 use Rattle.seize_words_rows.proofs.Shared.{goes_looked, goes_noted, goes_twice, in_still}
 use Rattle.seize_words_rows.proofs.entrants.wait_for.Goals as goal
@@ -9,8 +9,7 @@ use Rattle.seize_words_rows.proofs.entrants.wait_for.Goals as goal
 pub see-requires : goal.see-requires
 see-requires c =
     let words = c.args.words.now in let one = c.read_link-word in let sees = one.ensures.sees in let pass = c.loop.pass in let book = c.loop.invariant.0 in
-    let store : is_some pass.name.store ≡ true = ap (λ (n : Name). is_some n.store) (sym book) ∙ ap is_some words.blocks.stands in
-    (omega arith, (book ∙ sym sees.2.0.same.0, glimpse_found sees.0 c.args.activation.now pass one.new.pass (λ _. ReadLink c.args.activation.now.slot (number sees.0)) one.result.0 one.result.1 sees.2.0 sees.2.1 store c.if-word-ne0.true))
+    (omega arith, (book ∙ sym sees.2.0.same.0, glimpse_found sees.0 c.args.activation.now pass one.new.pass (λ _. ReadLink c.args.activation.now.slot (link_number sees.0)) one.result.0 one.result.1 sees.2.0 sees.2.1 c.if-word-ne0.true))
 
 pub returns-then-word-ne0 : goal.returns-then-word-ne0
 returns-then-word-ne0 c =

@@ -2,7 +2,7 @@ use Rattle.std.proofs.Common.{ℕ, arith, sym, subst, ap, ◌∙◌}
 use Rattle.seize_machine.specs.Machine.Event.{Insert}
 use Rattle.seize_machine.specs.declared.machine.event.Answer.TheVariants.{Done}
 use Rattle.seize_book.specs.Chains.{first_field, next_field}
-use Rattle.seize_words.specs.Headers.{number}
+use Rattle.seize_words.specs.Headers.{field_number}
 use Rattle.seize_words.specs.Heads.{found_end}
 use Rattle.seize_words.specs.Joined.{words_book}
 use Rattle.seize_words_rows.specs.NumberedRuns.{value_in}
@@ -18,8 +18,8 @@ pub prepare-requires-clause-stores : goal.prepare-requires-clause-stores
 prepare-requires-clause-stores c =
     let n = words_book c.args.words.now in let retired = c.args.retired.now in let v = value_in retired in let key = c.args.retirer.now in let stands = c.requires.stands in let header = c.header-header.result.now in
     let at = header_at n key c.args.pass.now c.header-header.new.pass 1 (looked v) v retired.lent.number header c.header-header.ensures.looks stands.1 stands.2 (has_first v) stands.0.its.number c.header-header.ensures.header in (
-      stores n key v stands.2 next_field (number header.next) (header.its_next.1 ∙ ap next_field (sym at.0)),
-      stores n key v stands.2 first_field (number header.first) (header.its_first.1 ∙ ap first_field (sym at.0)),
+      stores n key v stands.2 next_field (field_number header.next) (header.its_next.1 ∙ ap next_field (sym at.0)),
+      stores n key v stands.2 first_field (field_number header.first) (header.its_first.1 ∙ ap first_field (sym at.0)),
     )
 
 pub insert-requires : goal.insert-requires

@@ -4,7 +4,7 @@ use Rattle.seize_machine.specs.declared.machine.event.Answer.TheVariants.{Done}
 use Rattle.seize_machine.specs.declared.machine.event.Job.TheVariants.{Retire}
 use Rattle.seize_book.specs.Entry.{Entry}
 use Rattle.seize_book.specs.Kept.{AreTold, IsTold, kept_in}
-use Rattle.seize_book.specs.Ledger.{Held}
+use Rattle.seize_book.specs.Ledger.{HeldKey}
 use Rattle.seize_book.specs.Linked.{next_in}
 use Rattle.seize_book.specs.Others.{value_of}
 use Rattle.seize_book.specs.Private.{label_of, labels_of}
@@ -28,7 +28,7 @@ returns-clause-stands c =
     let same = told.1 ∙ same_value value one.new.value one.new.pass one.ensures.value in
     let said = is_told_on one.new.self two.new.self one.new.pass two.new.pass _ v 0 two.ensures.noted (retired_told key one.new.self add.new.pass one.new.pass v 0 one.ensures.noted) in
     let none_yet = nothing_told c.new-values.result two.new.pass c.new-values.ensures.0.1 in
-    let none = c.new-values.ensures.0.1 in let held = push.ensures.2 ∙ ap (λ (hs : List (Held Entry)). hs ++ noted.new.key.keys.held) none in
+    let none = c.new-values.ensures.0.1 in let held = push.ensures.2 ∙ ap (λ (hs : List (HeldKey Entry)). hs ++ noted.new.key.keys.held) none in
     let its = ap label_of held in let all = its ∙ same in
     let now = subst (λ (k : ℕ). Leads n two.new.pass two.new.self 1 (put k)) (sym all) second in (
       record {

@@ -2,7 +2,7 @@ use Rattle.std.proofs.Common.{◌≡◌, ℕ, zero, suc, ◌∷◌, Option, None
 use Rattle.std.proofs.lemmas.List.Elements.{All-same, All-replicate}
 use Rattle.seize.specs.Blocks.{content, Belongs}
 use Rattle.seize.specs.declared.block.owned.Owned.{Owned}
-use Rattle.seize_store.specs.Named.{name_of}
+use Rattle.seize_store.specs.Named.{store_name}
 use Rattle.seize.proofs.Numbering.{numbered-none}
 use Rattle.seize.proofs.plain.Plain.new.Goals as goal
 
@@ -12,7 +12,7 @@ map-replicate f (suc n) x = ap (λ ys. f x ∷ ys) (map-replicate f n x)
 
 pub invariant_of-result-2 : goal.invariant_of-result-2
 invariant_of-result-2 g c =
-    let Own : Option (Owned g.row.T.Denot) → Type 0 = λ link. IfSome link (Belongs g.T.Weigh.owners (name_of c.new-2.result)) in (
+    let Own : Option (Owned g.row.T.Denot) → Type 0 = λ link. IfSome link (Belongs g.T.Weigh.owners (store_name c.new-2.result)) in (
       rw (c.new-4.ensures, c.new-3.ensures.items) numbered-none,
       All-same Own c.in_ok-links.links.items (replicate c.args.links None) c.in_ok-links.ensures (All-replicate Own c.args.links None tt),
     )

@@ -2,9 +2,9 @@ use Rattle.std.proofs.Common.{◌≡◌, ℕ, List, Option, map, option_map, sli
 use Rattle.std.proofs.Math.Path.{ap₂}
 use Rattle.std.proofs.Math.Seq.{map-set}
 use Rattle.seize.specs.Blocks.{content, number_of}
-use Rattle.seize.specs.Plain.{Held}
+use Rattle.seize.specs.Plain.{PlainState}
 use Rattle.seize.specs.declared.block.owned.Owned.{Owned}
-use Rattle.seize_store.specs.Named.{name_of}
+use Rattle.seize_store.specs.Named.{store_name}
 use Rattle.seize.proofs.plain.Plain.swap.Goals as goal
 
 -- what the links hold, told by a function of blocks, where one was exchanged
@@ -16,12 +16,12 @@ links_set tell links link last new e =
 pub returns-clause-holds : goal.returns-clause-holds
 returns-clause-holds g c =
     let links = c.self.inside.links.items in let last = c.replace.new.dest in
-    let with_links : List (Option g.row.T.Denot) → List (Option ℕ) → Held g.row.T.Denot g.row.R.Denot = λ values numbers. record {
+    let with_links : List (Option g.row.T.Denot) → List (Option ℕ) → PlainState g.row.T.Denot g.row.R.Denot = λ values numbers. record {
       state = record { size = c.self.inside.size; slots = c.self.inside.slots.items; retired = c.self.inside.retired.items; links = values };
-      name = name_of c.self.inside.store;
+      name = store_name c.self.inside.store;
       numbers = numbers;
     } in
-    subst (λ (h : Held g.row.T.Denot g.row.R.Denot).
+    subst (λ (h : PlainState g.row.T.Denot g.row.R.Denot).
     with_links (map (option_map content) (slice_set links c.args.link last)) (map (option_map number_of) (slice_set links c.args.link last))
     ≡ record h {
       state = record h.state { links = slice_set h.state.links c.args.link (option_map content c.args.new) };

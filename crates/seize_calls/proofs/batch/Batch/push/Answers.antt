@@ -1,7 +1,7 @@
 use Rattle.std.proofs.Common.{◌≡◌, ℕ, true, List, [], ◌∷◌, ◌++◌, sym, subst}
 use Rattle.seize_book.specs.Others.{value_of}
 use Rattle.seize_book.specs.Private.{labels_of}
-use Rattle.seize_calls.specs.Numbered.{counted, ends_at, starts_at}
+use Rattle.seize_calls.specs.Numbered.{ends_at, is_count_of, starts_at}
 use Rattle.seize_calls.proofs.Batches.{counted_push, last_ends, none_counted, some_counted, starts_push}
 use Rattle.seize_calls.proofs.batch.Batch.push.Goals.{then-empty, else-empty}
 use Rattle.seize_calls.proofs.batch.Batch.push.Goals as goal
@@ -16,7 +16,7 @@ invariant_of-self g c =
       | else-empty w ↦ subst (λ (n : ℕ). starts_at n (vs ++ v ∷ []) ≡ true) (sym w.self-is) (starts_push batch.first vs v batch.front (some_counted batch.len vs batch.many w.if-empty.false))
     ] in
     record {
-      many = subst (λ (ws : List ℕ). counted c.saturating_add-self.result ws ≡ true) (sym all) (counted_push batch.len c.saturating_add-self.result vs v batch.many c.saturating_add-self.ensures);
+      many = subst (λ (ws : List ℕ). is_count_of c.saturating_add-self.result ws ≡ true) (sym all) (counted_push batch.len c.saturating_add-self.result vs v batch.many c.saturating_add-self.ensures);
       front = subst (λ (ws : List ℕ). starts_at c.if-empty.self ws ≡ true) (sym all) front;
       back = subst (λ (ws : List ℕ). ends_at c.args.number ws ≡ true) (sym all) (last_ends c.args.number vs v number);
       closed = c.join.ensures.closed;

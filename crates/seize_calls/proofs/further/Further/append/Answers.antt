@@ -1,7 +1,7 @@
 use Rattle.std.proofs.Common.{◌≡◌, ℕ, suc, ◌-◌, true, false, List, [], ◌++◌, refl, sym, ap, subst, ◌∙◌, append-nil, arith}
-use Rattle.seize_book.specs.Blocks.{block_of}
+use Rattle.seize_book.specs.Blocks.{block_number}
 use Rattle.seize_book.specs.Entry.{Entry}
-use Rattle.seize_book.specs.Ledger.{Held}
+use Rattle.seize_book.specs.Ledger.{HeldKey}
 use Rattle.seize_book.specs.Linked.{are_joined}
 use Rattle.seize_book.specs.Private.{labels_of}
 use Rattle.seize_book.specs.Tokens.{Name}
@@ -16,15 +16,15 @@ returns-then-other-eq0 g c =
     let own = c.args.self.now.values in let other = c.args.other.now in let none = no_keys other.values.keys.held (none_all (labels_of other.values.keys.held) (word_is other.front (labels_of other.values.keys.held) other.its_front c.if-other-eq0.true)) in
     record {
       book = refl;
-      all = sym (ap (λ (held : List (Held Entry)). labels_of own.keys.held ++ labels_of held) none ∙ append-nil (labels_of own.keys.held));
-      kept = sym (ap (λ (held : List (Held Entry)). kepts own.keys.held ++ kepts held) none ∙ append-nil (kepts own.keys.held));
+      all = sym (ap (λ (held : List (HeldKey Entry)). labels_of own.keys.held ++ labels_of held) none ∙ append-nil (labels_of own.keys.held));
+      kept = sym (ap (λ (held : List (HeldKey Entry)). kepts own.keys.held ++ kepts held) none ∙ append-nil (kepts own.keys.held));
     }
 
 pub append-requires-clause-leads : goal.append-requires-clause-leads
 append-requires-clause-leads g c =
     let led = c.lead_on.new.values in let other = c.args.other.now in
-    joined_some led.keys.name.store led.keys.held other.values.keys.held (other.front - 1) c.lead_on.ensures.leads.3 (some_word other.front (labels_of other.values.keys.held) other.its_front c.if-other-eq0.false)
-    (λ h rest is. number other.front (block_of h.label) (other.its_front ∙ ap (λ (held : List (Held Entry)). word_of_first (labels_of held)) is))
+    joined_some led.keys.held other.values.keys.held (other.front - 1) c.lead_on.ensures.leads.3 (some_word other.front (labels_of other.values.keys.held) other.its_front c.if-other-eq0.false)
+    (λ h rest is. number other.front (block_number h.label) (other.its_front ∙ ap (λ (held : List (HeldKey Entry)). word_of_first (labels_of held)) is))
   where
     number : (a b : ℕ) → a ≡ suc b → b ≡ a - 1
     number a b is = omega (arith, is)
@@ -42,7 +42,6 @@ invariant_of-self g c =
     record {
       its_front = front ∙ ap word_of_first (sym all);
       back = subst (λ (us : List ℕ). ends_at other.last us ≡ true) (sym all) (ends_append other.last vs ws some other.back);
-      closed = subst (λ (t : Name × List (Held Entry)). are_joined t.0.store t.1 [] ≡ true) (λ i. (sym c.append.ensures.0 i, sym c.append.ensures.2 i))
-          (append_closed c.lead_on.new.values.keys.name.store c.lead_on.new.values.keys.held other.values.keys.held some (subst (λ (n : Name). are_joined n.store other.values.keys.held [] ≡ true)
-          (c.requires.book.1 ∙ sym c.requires.book.0 ∙ sym c.lead_on.ensures.leads.0) other.closed));
+      closed = subst (λ (held : List (HeldKey Entry)). are_joined held [] ≡ true) (sym c.append.ensures.2)
+          (append_closed c.lead_on.new.values.keys.held other.values.keys.held some (other.closed));
     }

@@ -1,10 +1,10 @@
 use Rattle.std.proofs.Common.{◌≡◌, ℕ, true, List, [], sym, ap, subst, ◌∙◌}
+use Rattle.seize_book.proofs.Facts.{still_closed}
 use Rattle.seize_book.specs.Entry.{Entry}
-use Rattle.seize_book.specs.Ledger.{Held}
+use Rattle.seize_book.specs.Ledger.{HeldKey}
 use Rattle.seize_book.specs.Linked.{are_joined}
 use Rattle.seize_book.specs.Tokens.{Name}
 use Rattle.seize_calls.specs.Numbered.{ends_at, word_of_first}
-use Rattle.seize_calls.proofs.Chains.{renewed_closed}
 use Rattle.seize_calls.proofs.further.Further.hand.Goals as goal
 
 pub invariant_of-self : goal.invariant_of-self
@@ -13,5 +13,5 @@ invariant_of-self c =
     record {
       its_front = old.its_front ∙ ap word_of_first (sym keys.1);
       back = subst (λ (vs : List ℕ). ends_at old.last vs ≡ true) (sym keys.1) old.back;
-      closed = subst (λ (t : Name × List (Held Entry)). are_joined t.0.store t.1 [] ≡ true) (λ i. (sym keys.0 i, sym keys.2 i)) (renewed_closed old.values.keys.name.store old.values.keys.held c.hand_with.new.pass.seen ∙ old.closed);
+      closed = subst (λ (held : List (HeldKey Entry)). are_joined held [] ≡ true) (sym keys.2) (still_closed old.values.keys.held c.hand_with.new.pass.seen ∙ old.closed);
     }

@@ -1,5 +1,5 @@
 use Rattle.std.proofs.Common.{◌≡◌, ℕ, suc, ◌+◌, true, List, [], ◌∷◌, ◌++◌, sym, ap, subst, ◌∙◌, arith}
-use Rattle.seize_book.specs.Blocks.{block_of}
+use Rattle.seize_book.specs.Blocks.{block_number}
 use Rattle.seize_book.specs.Others.{value_of}
 use Rattle.seize_book.specs.Private.{labels_of}
 use Rattle.seize_calls.specs.Numbered.{ends_at, word_of_first}
@@ -15,7 +15,7 @@ invariant_of-self g c =
     let one_more : (a b : ℕ) → b ≡ a → a + 1 ≡ suc b = λ a b same. omega (arith, same) in
     let front : c.if-empty.self ≡ word_of_first (vs ++ v ∷ []) =
     elim c.if-empty.branch [
-      | then-empty w ↦ w.self-is ∙ (one_more c.args.number (block_of v) number ∙ ap (λ (ws : List ℕ). word_of_first (ws ++ v ∷ [])) (sym (none_all vs (word_is old.front vs old.its_front w.if-empty.true))))
+      | then-empty w ↦ w.self-is ∙ (one_more c.args.number (block_number v) number ∙ ap (λ (ws : List ℕ). word_of_first (ws ++ v ∷ [])) (sym (none_all vs (word_is old.front vs old.its_front w.if-empty.true))))
       | else-empty w ↦ w.self-is ∙ (old.its_front ∙ sym (word_append vs (v ∷ []) (some_word old.front vs old.its_front w.if-empty.false)))
     ] in
     record {

@@ -1,8 +1,8 @@
 use Rattle.std.proofs.Common.{◌≡◌, ℕ, ◌-◌, true, List, [], sym, ap, subst, ◌∙◌}
 use base.Stored.{Gv}
-use Rattle.seize_store.specs.Named.{name_of}
+use Rattle.seize_store.specs.Named.{store_name}
 use Rattle.seize_book.specs.Entry.{Entry}
-use Rattle.seize_book.specs.Ledger.{Held}
+use Rattle.seize_book.specs.Ledger.{HeldKey}
 use Rattle.seize_book.specs.Linked.{are_joined, next_in}
 use Rattle.seize_book.specs.Loans.{cell_of}
 use Rattle.seize_book.specs.Private.{label_of, labels_of, note_of}
@@ -13,30 +13,31 @@ use Rattle.seize_words.proofs.Facts.{noted_one, others_closed, named_seen}
 use Rattle.seize_calls.proofs.round.Round.mark.Goals as goal
 
 -- the header is that of the first value's block
-pub note-note-requires-clause-cell : goal.note-note-requires-clause-cell
-note-note-requires-clause-cell g c =
+pub note-note-requires : goal.note-note-requires
+note-note-requires g c =
     let round = c.args.self.now in let next = c.requires.next in let looked = c.header-header in let v = next.0 in
     let number = sym (number_of_first round.number round.rest.keys.held v next.1 next.2 round.next) in
-    sym (looked.ensures.header.2 v (named_seen c.args.pass.now looked.new.pass v looked.ensures.looks next.3) number)
-    ∙ ap cell_of (sym (first_label round.rest.keys.held c.next-value.result.keys.held c.next-value.new.self.keys.held v next.1 c.next-value.result.one next.2 c.next-value.ensures.3))
+    record {
+      cell =
+          sym (looked.ensures.header.2 v (named_seen c.args.pass.now looked.new.pass v looked.ensures.looks next.3) number)
+          ∙ ap cell_of (sym (first_label round.rest.keys.held c.next-value.result.keys.held c.next-value.new.self.keys.held v next.1 c.next-value.result.one next.2 c.next-value.ensures.3));
+    }
 
-pub set_note-requires-clause-store : goal.set_note-requires-clause-store
-set_note-requires-clause-store g c =
-    let blocks = c.args.blocks.now in let round = c.args.self.now in
-    (name_of blocks.store, ap (λ (n : Name). n.store) (c.note-note.ensures.same.0 ∙ c.next-value.ensures.1 ∙ round.one_book ∙ c.requires.book.0 ∙ sym c.requires.book.1) ∙ blocks.stands)
-
-pub set_note-requires-clause-cell : goal.set_note-requires-clause-cell
-set_note-requires-clause-cell g c =
+pub set_note-requires : goal.set_note-requires
+set_note-requires g c =
     let round = c.args.self.now in let next = c.requires.next in let looked = c.header-header in let v = next.0 in
     let number = sym (number_of_first round.number round.rest.keys.held v next.1 next.2 round.next) in
-    sym (looked.ensures.header.2 v (named_seen c.args.pass.now looked.new.pass v looked.ensures.looks next.3) number)
-    ∙ ap cell_of (sym (first_label round.rest.keys.held c.next-value.result.keys.held c.next-value.new.self.keys.held v next.1 c.next-value.result.one next.2 c.next-value.ensures.3))
-    ∙ ap (λ (held : List (Held Entry)). cell_of (label_of held)) (sym c.note-note.ensures.same.1)
+    record {
+      cell =
+          sym (looked.ensures.header.2 v (named_seen c.args.pass.now looked.new.pass v looked.ensures.looks next.3) number)
+          ∙ ap cell_of (sym (first_label round.rest.keys.held c.next-value.result.keys.held c.next-value.new.self.keys.held v next.1 c.next-value.result.one next.2 c.next-value.ensures.3))
+          ∙ ap (λ (held : List (HeldKey Entry)). cell_of (label_of held)) (sym c.note-note.ensures.same.1);
+    }
 
 pub push-requires-clause-leads : goal.push-requires-clause-leads
 push-requires-clause-leads g c =
     let round = c.args.self.now in let value = c.next-value.result in let seen = c.note-note.new.self in
-    leads_to (round.done.keys.name).store round.done.keys.held round.rest.keys.held value.keys.held c.set_note.new.self.keys.held c.next-value.new.self.keys.held value.one c.set_note.new.self.one
+    leads_to round.done.keys.held round.rest.keys.held value.keys.held c.set_note.new.self.keys.held c.next-value.new.self.keys.held value.one c.set_note.new.self.one
     (ap label_of c.set_note.ensures.1 ∙ (noted_one seen.keys.held _ seen.one).1 ∙ ap label_of c.note-note.ensures.same.1) c.next-value.ensures.3 round.leads
 
 pub invariant_of-self : goal.invariant_of-self
@@ -47,12 +48,11 @@ invariant_of-self g c =
       one_book = c.next-value.ensures.0 ∙ round.one_book ∙ sym c.push.ensures.0;
       next = subst (λ (n : ℕ). starts_at n (labels_of rest.keys.held) ≡ true) (sym c.saturating_sub-self.ensures)
           (subst (λ (g : Gv). starts_at (next_in g - 1) (labels_of rest.keys.held) ≡ true) (sym c.note-note.ensures.note)
-          (next_starts (round.rest.keys.name).store (name_of blocks.store) round.rest.keys.held value.keys.held rest.keys.held
-          (ap (λ (n : Name). n.store) (round.one_book ∙ c.requires.book.0 ∙ sym c.requires.book.1) ∙ blocks.stands) value.one c.next-value.ensures.3 round.rest.linked round.closed));
-      leads = subst (λ (t : Name × List (Held Entry)). are_joined (t.0).store t.1 rest.keys.held ≡ true) (λ i. ((round.one_book ∙ sym c.push.ensures.0) i, (sym c.push.ensures.2) i))
-          (leads_past (round.rest.keys.name).store round.done.keys.held round.rest.keys.held value.keys.held c.set_note.new.self.keys.held rest.keys.held value.one c.set_note.new.self.one
+          (next_starts round.rest.keys.held value.keys.held rest.keys.held
+          value.one c.next-value.ensures.3 round.rest.linked round.closed));
+      leads = subst (λ (held : List (HeldKey Entry)). are_joined held rest.keys.held ≡ true) (sym c.push.ensures.2)
+          (leads_past round.done.keys.held round.rest.keys.held value.keys.held c.set_note.new.self.keys.held rest.keys.held value.one c.set_note.new.self.one
           (ap next_in noted ∙ ap next_in c.note-note.ensures.note) c.next-value.ensures.3 round.rest.linked round.closed);
-      closed = subst (λ (n : Name). are_joined n.store rest.keys.held [] ≡ true) (sym c.next-value.ensures.0)
-          (others_closed (round.rest.keys.name).store value.keys.held rest.keys.held value.one
-          (subst (λ (held : List (Held Entry)). are_joined (round.rest.keys.name).store held [] ≡ true) c.next-value.ensures.3 round.closed));
+      closed = (others_closed value.keys.held rest.keys.held value.one
+          (subst (λ (held : List (HeldKey Entry)). are_joined held [] ≡ true) c.next-value.ensures.3 round.closed));
     }

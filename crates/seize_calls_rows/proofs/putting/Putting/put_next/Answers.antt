@@ -1,5 +1,5 @@
 use Rattle.std.proofs.Common.{List, lit<, subst}
-use Rattle.seize_words.specs.Chunks.{book_in}
+use Rattle.seize_words.specs.Chunks.{blocks_book}
 use Rattle.seize_calls_rows.specs.Putting.{AreReady}
 use Rattle.seize_calls_rows.specs.declared.worker.Out.{Out}
 use Rattle.seize_calls_rows.proofs.Readied.{ready_pop}
@@ -7,9 +7,9 @@ use Rattle.seize_calls_rows.proofs.putting.Putting.put_next.Goals as goal
 
 pub put-requires : goal.put-requires
 put-requires c =
-    let n = book_in c.args.blocks.now in let popped = ready_pop n c.pop.new.self.items c.in-Some.out (subst (λ (outs : List Out). AreReady n outs) c.in-Some.ensures.items c.requires.ready) in
+    let n = blocks_book c.args.blocks.now in let popped = ready_pop n c.pop.new.self.items c.in-Some.out (subst (λ (outs : List Out). AreReady n outs) c.in-Some.ensures.items c.requires.ready) in
     (lit< tt, ((c.requires.further.0, popped.1.0), ((popped.1.1, popped.1.2), c.requires.further.1)))
 
 pub returns-in-Some-clause-ready : goal.returns-in-Some-clause-ready
 returns-in-Some-clause-ready c =
-    let n = book_in c.args.blocks.now in (ready_pop n c.pop.new.self.items c.in-Some.out (subst (λ (outs : List Out). AreReady n outs) c.in-Some.ensures.items c.requires.ready)).0
+    let n = blocks_book c.args.blocks.now in (ready_pop n c.pop.new.self.items c.in-Some.out (subst (λ (outs : List Out). AreReady n outs) c.in-Some.ensures.items c.requires.ready)).0

@@ -14,7 +14,7 @@ use types.Run.{look}
 use Rattle.std_alloc.proofs.Words.{pointer_in, pointer_out}
 use Rattle.seize_store.specs.Body.{room_at}
 use Rattle.seize_store.specs.Block.{block_shares}
-use Rattle.seize_store.specs.Titled.{tag_of}
+use Rattle.seize_store.specs.Titled.{title_tag}
 use Rattle.seize_store.specs.contracts.block.Block as block
 use Rattle.seize_store.specs.contracts.known.Title as title
 use Rattle.seize_store.proofs.Fielded as seen
@@ -35,8 +35,8 @@ get_spec 𝓤 𝓛 𝓜 𝓡 wired Y W Z LY LW LZ gp dp met =
     qed 𝓛 (((‵ (flft κ qs.0) ⊛ ‵ others) ⊛ ‵ (owns (types_at En.signature.params κs) a y.0.4)) ∷ raw ((c κs a).requires gh) ∷ []) ∵
     split ! $ split ! $ move ! (2 ∷ []) $ fsplit ! $ fsplit ! $ keep ! (1 ∷ 3 ∷ 4 ∷ []) $
     enter ! 𝓣.C 𝓣.Λ fn (vptr rb ro ∷ []) Post $ alloc_all ! (λ l. pass_all ! refl ((tt, tt), tt) $ let Ev = env fn.locals l in
-    use1 𝓛 (‵ (hidden_shr D κ (p, (title.the_field.into n, tt)) rb ro) ⊛ ‵ (fhide (block_shares X U R gp.label (tag_of n) p x κ))) (lent_out 𝓛 (block.struct X U R gp) (block.the_codes Y.Denot W.Denot Z.Denot X.coded U.coded R.coded title.the_row.coded) (block.the_heap X U R gp) (block.the_lent X U R gp) κ d rb ro) $
-    split ! $ move ! (1 ∷ []) $ unhide ! $ in_a_block ! p (λ s. block_shares X U R gp.label (tag_of n) s x κ) (id⊢ 𝓤 (never 𝓤)) (λ b o e. fsplit ! $ drop ! $ fsplit ! $ move ! (1 ∷ []) $ hide ! $
+    use1 𝓛 (‵ (hidden_shr D κ (p, (title.the_field.into n, tt)) rb ro) ⊛ ‵ (fhide (block_shares X U R gp.label (title_tag n) p x κ))) (lent_out 𝓛 (block.struct X U R gp) (block.the_codes Y.Denot W.Denot Z.Denot X.coded U.coded R.coded title.the_row.coded) (block.the_heap X U R gp) (block.the_lent X U R gp) κ d rb ro) $
+    split ! $ move ! (1 ∷ []) $ unhide ! $ in_a_block ! p (λ s. block_shares X U R gp.label (title_tag n) s x κ) (id⊢ 𝓤 (never 𝓤)) (λ b o e. fsplit ! $ drop ! $ fsplit ! $ move ! (1 ∷ []) $ hide ! $
     -- [what a `&` to the value holds; nothing; the fields; the token; others]
     move ! (2 ∷ 3 ∷ []) $ rewrite ! 0 (λ (r : Ptr). ‵ (hidden_shr D κ (r, (title.the_field.into n, tt)) rb ro)) e refl $ let there : Val = vptr b (room_at X U R o) in
     pointer_in ! tt (block_ptr b o) tt rb (ro + 0) (seen.shows_place X U R gp 𝓛 κ rb ro (block_ptr b o) n) (λ q'. first ! $ blocks ! $

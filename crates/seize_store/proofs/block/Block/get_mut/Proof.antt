@@ -16,8 +16,8 @@ use denote.Signature.{mut_ref_to}
 use denote.Triple.Walked.{Goes-spent_ref}
 use Rattle.seize_store.specs.Body.{room_at, rest}
 use Rattle.seize_store.specs.Chunk.{held, Inv}
-use Rattle.seize_store.specs.Lends.{with_value}
-use Rattle.seize_store.specs.Titled.{tag_of, place_of}
+use Rattle.seize_store.specs.Lends.{block_with}
+use Rattle.seize_store.specs.Titled.{title_tag, title_place}
 use Rattle.seize_table.specs.declared.labelled.Labelled.{Ghosts}
 use Rattle.seize_store.specs.contracts.block.Block as block
 use Rattle.seize_store.specs.contracts.known.Title as title
@@ -33,18 +33,18 @@ module _ (X U R : RattleType) (gp : Ghosts U.Denot) (d : (block.the_row X U R gp
 
   -- all of the block but its value
   abbrev Besides : Fml
-  Besides = fsep (fsep (out t.1.0) (fsep (held X U R b o gp.label (tag_of d.title)) (rest X U R b o))) (fsep (finv (Inv X U R b o gp.label (tag_of d.title) t.0 t.1.0 t.1.1))
+  Besides = fsep (fsep (out t.1.0) (fsep (held X U R b o gp.label (title_tag d.title)) (rest X U R b o))) (fsep (finv (Inv X U R b o gp.label (title_tag d.title) t.0 t.1.0 t.1.1))
       (fsep (title.the_row.own_val d.title (h ∷ [])) (cell_at full_share Row.mir (both (vptr b o) h ∷ []) rb ro)))
 
-  back : {M : Type 1} {𝓤 : Ura M} (𝓛 : Logic 𝓤) → d.at ≡ block_ptr b o → place_of d.title ≡ block_ptr b o → (w : R.Denot)
-      → ent 𝓤 (sep 𝓤 (sem 𝓛 ((mem R).own_at w b (room_at X U R o))) (sem 𝓛 Besides)) (sem 𝓛 ((mem Row).own_at (with_value d w) rb ro))
+  back : {M : Type 1} {𝓤 : Ura M} (𝓛 : Logic 𝓤) → d.at ≡ block_ptr b o → title_place d.title ≡ block_ptr b o → (w : R.Denot)
+      → ent 𝓤 (sep 𝓤 (sem 𝓛 ((mem R).own_at w b (room_at X U R o))) (sem 𝓛 Besides)) (sem 𝓛 ((mem Row).own_at (block_with d w) rb ro))
   unfolding part_of
   back 𝓛 e en w = let word : List Val = both (vptr b o) h ∷ [] in
       qed 𝓛 (‵ (part_at R full_share w b (room_at X U R o)) ∷ ‵ Besides ∷ []) ∵ move ! (1 ∷ []) $ fsplit ! $ fsplit ! $ move ! (2 ∷ []) $ fsplit3 ! $
       -- [the invariant; the title; the cell; the right's name; the owner's part with the rest; the value]
       move ! (4 ∷ []) $ fsplit ! $ move ! (6 ∷ 1 ∷ []) $ fjoin ! $ move ! (1 ∷ 0 ∷ []) $ fjoin ! $ move ! (4 ∷ 0 ∷ []) $ fjoin ! $ fjoin ! $ block_in X U R gp ! b o t h d.title w en $
       rewrite ! 0 (λ (p : Ptr). ‵ (Row.own_val (record { at = p; title = d.title; value = w }) word)) (sym e) refl $ move ! (1 ∷ 0 ∷ []) $ fjoin ! $
-      fpack ! (List Val) (λ us. fsep (cell_at full_share Row.mir us rb ro) (Row.own_val (with_value d w) us)) word $ done !
+      fpack ! (List Val) (λ us. fsep (cell_at full_share Row.mir us rb ro) (Row.own_val (block_with d w) us)) word $ done !
 
 pub get_mut_spec : {M : Type 1} → statement M
 get_mut_spec 𝓤 𝓛 𝓜 𝓡 wired Y W Z LY LW LZ gp dp met =
@@ -66,9 +66,9 @@ get_mut_spec 𝓤 𝓛 𝓜 𝓡 wired Y W Z LY LW LZ gp dp met =
     first ! $ blocks ! $ sets_last ! (addr ! (through ! refl (fld ! refl (hop ! (look_in ! 6 (sub ! 0 refl (whole !))) (fld ! refl (stop !)))))) refl (tt, tt) $
     exec ! 𝓣.C 𝓣.Λ Ev (tail fn.body) (at_ret Ev Post) $ sets ! (of_opd ! (get ! refl)) refl (tt, tt) $
     move ! (3 ∷ 1 ∷ []) $ fjoin ! $ move ! (2 ∷ 0 ∷ []) $ fjoin ! $ move ! (2 ∷ 3 ∷ 4 ∷ []) $ fjoin3 ! $ move ! (1 ∷ 0 ∷ []) $ fjoin ! $ move ! (2 ∷ 3 ∷ 4 ∷ 1 ∷ 0 ∷ []) $ group ! 5 $
-    use1 𝓛 (later (some (λ (δ : GName). raw (Part 𝓛 Row R (with_value d) (named 0) κ q rb ro b at γ Rest way x δ)))) (lends_Part 𝓛 Row R (with_value d) (named 0) κ q rb ro b at γ Rest way had had x) $ await ! tt $ pick ! (λ δ.
+    use1 𝓛 (later (some (λ (δ : GName). raw (Part 𝓛 Row R (block_with d) (named 0) κ q rb ro b at γ Rest way x δ)))) (lends_Part 𝓛 Row R (block_with d) (named 0) κ q rb ro b at γ Rest way had had x) $ await ! tt $ pick ! (λ δ.
     let r : MutBor Z.Denot = record { ref_ptr = (b, at); ghost_name = δ; now = x } in
-    use1 𝓛 (‵ ((MutRef (named 0) κ R).own_val r (there ∷ [])) ⊛ ‵ (flft κ q) ⊛ ‵ (follows Row R γ δ (with_value d))) (id⊢ 𝓤 _) $ split3 ! $
+    use1 𝓛 (‵ ((MutRef (named 0) κ R).own_val r (there ∷ [])) ⊛ ‵ (flft κ q) ⊛ ‵ (follows Row R γ δ (block_with d))) (id⊢ 𝓤 _) $ split3 ! $
     move ! (1 ∷ 3 ∷ []) $ join ! $ use0 𝓛 (raw (fact 𝓤 (x ≡ x))) (fact_i 𝓤 (x ≡ x) (emp 𝓤) refl) $ move ! (3 ∷ 0 ∷ []) $ join ! $ nothing ! $ nothing ! $ fjoin ! $
     -- [what is left of the parameter; the ensures; the tokens; the result]
     returns ! (look_at ! 0 refl) $ free_all ! refl $ keep ! (2 ∷ 0 ∷ 3 ∷ 1 ∷ []) $ by ! (leaves 𝓛 En hs c y there r (tt, tt) (tt, tt)))))))

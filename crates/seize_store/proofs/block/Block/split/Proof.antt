@@ -22,7 +22,7 @@ use types.Kit.{drop, fpick, learn}
 use types.Run.{look}
 use Rattle.seize_table.specs.Pairs.{left_of}
 use Rattle.seize_store.specs.Body.{owner_at, owner_room}
-use Rattle.seize_store.specs.Titled.{chunk_of, tag_of}
+use Rattle.seize_store.specs.Titled.{chunk_of, title_tag}
 use Rattle.seize_store.specs.contracts.block.Hull as hull
 use Rattle.seize_store.specs.contracts.block.Block as block
 use Rattle.seize_store.specs.contracts.known.Title as title
@@ -51,10 +51,10 @@ split_spec 𝓤 𝓛 𝓜 𝓡 wired Y W Z LY LW LZ gp dp met =
     sets ! (agg ! (and_then ! (get ! refl) (no_more !))) refl (single_good b o) $ sets ! (of_opd ! (get ! refl)) refl fits $ let k : Val = single (vptr b o) in let all : Val = vstruct (vcons v (vcons k (vcons h vnil))) in
     sets ! (agg ! (and_then ! (get ! refl) (and_then ! (get ! refl) (and_then ! (get ! refl) (no_more !))))) refl (both_tt (has_ty T v) (has_ty (layout N) h) fv.0 fits.0, (fv.1, ((tt, tt), (fits.1, tt)))) $
     use1 𝓛 (‵ (froom T b at)) (𝓛.laws.at_room T b at v) $ use1 𝓛 (‵ (owner_room X U R b o)) (𝓛.laws.room-raw T b at) $
-    move ! (0 ∷ 3 ∷ []) $ fjoin ! $ move ! (2 ∷ 0 ∷ []) $ fjoin ! $ move ! (0 ∷ 2 ∷ []) $ fjoin ! $ move ! (0 ∷ 2 ∷ []) $ hull_in X U R gp ! b o (tag_of n) x t $ let r : C.Denot = record { at = p; tag = tag_of n; value = x } in
+    move ! (0 ∷ 3 ∷ []) $ fjoin ! $ move ! (2 ∷ 0 ∷ []) $ fjoin ! $ move ! (0 ∷ 2 ∷ []) $ fjoin ! $ move ! (0 ∷ 2 ∷ []) $ hull_in X U R gp ! b o (title_tag n) x t $ let r : C.Denot = record { at = p; tag = title_tag n; value = x } in
     -- [the hull; the part; the title; nothing; the tokens; a fact]
     nothing ! $ move ! (3 ∷ 0 ∷ []) $ fjoin ! $ move ! (1 ∷ 0 ∷ []) $ fjoin ! $ move ! (1 ∷ 0 ∷ []) $ fjoin ! $ feq_i ! (List Val) (all ∷ []) (all ∷ []) refl $ fjoin ! $
     fpack ! (Valss (U ∷ C ∷ N ∷ [])) (within (declared.shape (tuple_type (U ∷ C ∷ N ∷ []))) (u, (r, (n, tt))) (all ∷ [])) (v ∷ [], (k ∷ [], (h ∷ [], tt))) $
-    let Told : Type 0 = (gp.label u ≡ left_of (tag_of n)) × (x ≡ x) × (chunk_of n ≡ (p, tag_of n)) × (n ≡ n) in use0 𝓛 (raw (fact 𝓤 Told)) (fact_i 𝓤 Told (emp 𝓤) (so, refl, ap (λ (q : Ptr). (q, tag_of n)) en, refl)) $
+    let Told : Type 0 = (gp.label u ≡ left_of (title_tag n)) × (x ≡ x) × (chunk_of n ≡ (p, title_tag n)) × (n ≡ n) in use0 𝓛 (raw (fact 𝓤 Told)) (fact_i 𝓤 Told (emp 𝓤) (so, refl, ap (λ (q : Ptr). (q, title_tag n)) en, refl)) $
     nothing ! $ nothing ! $ fjoin ! $
     returns ! (look_at ! 0 refl) $ free_all ! refl $ keep ! (4 ∷ 0 ∷ 2 ∷ 1 ∷ []) $ by ! (leaves 𝓛 En hs c z all (u, r, n) ((tt, ((tt, (tt, (tt, tt))), tt)), tt) (tt, tt)))))))))

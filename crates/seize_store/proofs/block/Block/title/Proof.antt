@@ -8,7 +8,7 @@ use denote.Param.{param, bounded}
 use denote.RawPtr.{Ptr}
 use denote.Struct.Lending.{lent_out}
 use Rattle.seize_store.specs.Block.{block_shares}
-use Rattle.seize_store.specs.Titled.{tag_of}
+use Rattle.seize_store.specs.Titled.{title_tag}
 use Rattle.seize_store.specs.contracts.block.Block as block
 use Rattle.seize_store.specs.contracts.known.Title as title
 use Rattle.seize_store.proofs.Fielded as seen
@@ -29,7 +29,7 @@ title_spec 𝓤 𝓛 𝓜 𝓡 wired Y W Z LY LW LZ gp dp met =
     qed 𝓛 (((‵ (flft κ qs.0) ⊛ ‵ others) ⊛ ‵ (owns (types_at En.signature.params κs) a y.0.4)) ∷ raw ((c κs a).requires gh) ∷ []) ∵
     split ! $ split ! $ move ! (2 ∷ []) $ fsplit ! $ fsplit ! $ keep ! (1 ∷ 3 ∷ 4 ∷ []) $
     enter ! 𝓣.C 𝓣.Λ fn (vptr rb ro ∷ []) Post $ alloc_all ! (λ l. pass_all ! refl ((tt, tt), tt) $ let Ev = env fn.locals l in
-    use1 𝓛 (‵ (hidden_shr D κ (p, (title.the_field.into n, tt)) rb ro) ⊛ ‵ (fhide (block_shares X U R gp.label (tag_of n) p x κ))) (lent_out 𝓛 (block.struct X U R gp) (block.the_codes Y.Denot W.Denot Z.Denot X.coded U.coded R.coded title.the_row.coded) (block.the_heap X U R gp) (block.the_lent X U R gp) κ d rb ro) $
+    use1 𝓛 (‵ (hidden_shr D κ (p, (title.the_field.into n, tt)) rb ro) ⊛ ‵ (fhide (block_shares X U R gp.label (title_tag n) p x κ))) (lent_out 𝓛 (block.struct X U R gp) (block.the_codes Y.Denot W.Denot Z.Denot X.coded U.coded R.coded title.the_row.coded) (block.the_heap X U R gp) (block.the_lent X U R gp) κ d rb ro) $
     split ! $ use1 𝓛 (‵ (hidden_shr title.the_row κ n rb (ro + 8)) ⊛ ‵ (hidden_shr D κ (p, (title.the_field.into n, tt)) rb ro)) (seen.shows_title X U R gp 𝓛 κ rb ro p n) $ split ! $ let there : Val = vptr rb (ro + 8) in
     -- [what a `&` to the title holds; the fields; the value's; the token; others]
     sets ! (addr ! (through ! refl (fld ! refl (stop !)))) refl (tt, tt) $ move ! (3 ∷ 4 ∷ []) $ join ! $

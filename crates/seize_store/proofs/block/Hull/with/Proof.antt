@@ -20,7 +20,7 @@ use Rattle.seize_store.specs.Chunk.{labelled}
 use types.Run.{init, assigns_last}
 use Rattle.core.proofs.cell.Inside.{one}
 use Rattle.seize_store.specs.Body.{owner_at}
-use Rattle.seize_store.specs.Titled.{chunk_of, tag_of}
+use Rattle.seize_store.specs.Titled.{chunk_of, title_tag}
 use Rattle.seize_store.specs.contracts.block.Hull as hull
 use Rattle.seize_store.specs.contracts.block.Block as block
 use Rattle.seize_store.specs.contracts.known.Title as title
@@ -39,7 +39,7 @@ with_spec 𝓤 𝓛 𝓜 𝓡 wired Y W Z LY LW LZ gp dp met =
     proved_at 𝓛 En hs c 𝓜 𝓡 (Goes-dropped 𝓛 3 (plain (λ _. Row)) no (λ κs x f. refl), (Goes-blank 𝓛 3 (plain (λ _. N)) yes (λ κs x f. tt), (Goes-dropped 𝓛 3 (plain (λ _. U)) no (λ κs x f. refl), tt))) (#self inst) fn (code.unfolded 𝓤 H 𝓜 𝓡 wired (Y, (W, (Z, tt))) dp) (λ z are.
     let κs = z.0.0 in let qs = z.0.1 in let d = z.0.3.0 in let n = z.0.3.1.0 in let x : Z.Denot = d.value in let u : W.Denot = z.0.3.1.1.0 in let Post : Val → SProp 𝓤 = (walk_of 𝓛 En hs c).post z in let Run : List Val → SProp 𝓤 = λ ws. WpFn 𝓤 H 𝓣.C 𝓣.Λ fn ws Post in
     let toks = ‵ (flft κs.0 qs.0) ⊛ ‵ (flft κs.1.0 qs.1.0) ⊛ ‵ (flft κs.1.1.0 qs.1.1.0) ⊛ ‵ ftrue in let got = one T z.0.4.1.1.0 (((param_laws 1 W LW).lawful 𝓛).typed u z.0.4.1.1.0 are.1.1.0) in let v : Val = got.0 in
-    let was = one (layout N) z.0.4.1.0 ((title_laws.the_row_laws.lawful 𝓛).typed n z.0.4.1.0 are.1.0) in let h : Val = was.0 in let Labelled : Type 0 = gp.label u ≡ left_of (tag_of n) in let Asked : Type 0 = (chunk_of n ≡ (d.at, d.tag)) × Labelled in
+    let was = one (layout N) z.0.4.1.0 ((title_laws.the_row_laws.lawful 𝓛).typed n z.0.4.1.0 are.1.0) in let h : Val = was.0 in let Labelled : Type 0 = gp.label u ≡ left_of (title_tag n) in let Asked : Type 0 = (chunk_of n ≡ (d.at, d.tag)) × Labelled in
     qed 𝓛 ((toks ⊛ ‵ (owns (types_at En.signature.params κs) z.0.3 z.0.4)) ∷ raw (fact 𝓤 _) ∷ raw (fact 𝓤 _) ∷ raw (fact 𝓤 _) ∷ raw (fact 𝓤 Asked) ∷ []) ∵ move ! (4 ∷ []) $ heard ! Asked (λ asked. keep ! (0 ∷ []) $ split ! $ move ! (1 ∷ []) $ fsplit ! $ hull_out X U R gp ! d z.0.4.0 (λ b o t e ws. move ! (2 ∷ []) $ fsplit3 ! $
     rewrite ! 0 (λ (vs : List Val). ‵ (N.own_val n vs)) was.1 refl $ rewrite ! 1 (λ (vs : List Val). ‵ (U.own_val u vs)) got.1 refl $ move ! (4 ∷ []) $ rewrite ! 0 (λ (k : ℕ). ‵ (ticket_owns (right_of k) unlent)) (sym (ap (λ (c : Ptr × ℕ). c.1) asked.0)) refl $ move ! (4 ∷ []) $
     rewrite ! 0 (λ (k : ℕ). ‵ (bare X U R b o gp.label k x t)) (sym (ap (λ (c : Ptr × ℕ). c.1) asked.0)) refl $ fsplit ! $ fsplit3 ! $ move ! (1 ∷ []) $ let at : ℕ = owner_at X U R o in use1 𝓛 (‵ (froom T b at)) (𝓛.laws.raw-room T b at) $
@@ -51,7 +51,7 @@ with_spec 𝓤 𝓛 𝓜 𝓡 wired Y W Z LY LW LZ gp dp met =
     assigns_last ! (of_opd ! (get ! refl)) (through ! refl (stop !)) (init ! 0 refl got.2) $ exec ! 𝓣.C 𝓣.Λ Ev (after 2 fn.body) (at_ret Ev Post) $ sets ! (of_opd ! (get ! refl)) refl was.2 $
     sets ! (agg ! (and_then ! (get ! refl) (and_then ! (get ! refl) (no_more !)))) refl (block_good b o h was.2) $
     move ! (0 ∷ 6 ∷ []) $ use2 𝓛 (‵ (part_at U full_share u b at)) (part_in 𝓛 U refl full_share u b at v) $ move ! (0 ∷ 4 ∷ []) $ fjoin ! $
-    nothing ! $ fpack ! Labelled (λ _. ftrue) asked.1 $ fjoin ! $ fpack ! U.Denot (labelled X U R b o gp.label (tag_of n)) u $
+    nothing ! $ fpack ! Labelled (λ _. ftrue) asked.1 $ fjoin ! $ fpack ! U.Denot (labelled X U R b o gp.label (title_tag n)) u $
     -- [the owner's part; the right's name; the value with the rest; the invariant; the title; nothing; the tokens]
     move ! (0 ∷ 2 ∷ []) $ fjoin ! $ move ! (1 ∷ 0 ∷ []) $ fjoin ! $ move ! (0 ∷ 1 ∷ []) $ fjoin ! $ block_in X U R gp ! b o t h n x (ap (λ (c : Ptr × ℕ). c.0) asked.0 ∙ e) $
     let r : C.Denot = record { at = block_ptr b o; title = n; value = x } in let Told : Type 0 = (x ≡ x) × (n ≡ n) in

@@ -12,8 +12,8 @@ use Rattle.std.specs.declared.option.Option.{Option}
 use Rattle.std.specs.declared.option.Option.TheVariants.{Some}
 use Rattle.once_cell.specs.Once.{noted}
 use Rattle.once_cell.proofs.Notes as notes
-use Rattle.seize_store.specs.Titled.{Shows, names_of}
-use Rattle.seize_store.specs.Known.{AreKin, IsRowIn, name_in, known_row}
+use Rattle.seize_store.specs.Titled.{ShowsRow, names_of_rows}
+use Rattle.seize_store.specs.Known.{AreKin, IsRowIn, row_name, known_row}
 use Rattle.seize_store.specs.Kept.{of_kin}
 use Rattle.seize_store.specs.contracts.row.Row as row
 use Rattle.seize_store.specs.contracts.row.Rows as rows
@@ -32,7 +32,7 @@ of_spec 𝓤 𝓛 𝓜 𝓡 wired Y W Z LY LW LZ g dg gp dp dx dq met mep glue g
     proved_at 𝓛 En hs c 𝓜 𝓡 (Goes-dropped 𝓛 5 all_rows yes (λ κs x f. refl), (Goes-dropped 𝓛 5 (plain (λ _. usize)) yes (λ κs x f. refl), (Goes-ref 𝓛 5 1 tt (plain (λ _. N)), tt))) (#self inst) fn (code.unfolded 𝓤 H 𝓜 𝓡 wired (Y, (W, (Z, tt))) dg dp dx dq) (λ z are.
     let κs = z.0.0 in let qs = z.0.1 in let a = z.0.3 in let Post : Val → SProp 𝓤 = (walk_of 𝓛 En hs c).post z in let Run : List Val → SProp 𝓤 = λ ws. WpFn 𝓤 H 𝓣.C 𝓣.Λ fn ws Post in
     let κ : Lft = κs.1.0 in let q : Share = qs.1.0 in let rb : ℕ = a.0.ref_ptr.0 in let ro : ℕ = a.0.ref_ptr.1 in let i : ℕ = a.1.0 in let m = a.1.1.0 in let nb : ℕ = m.ref_ptr.0 in let no' : ℕ = m.ref_ptr.1 in let ν : ℕ = m.ghost_name in let n = m.now in
-    let store : List ℕ = names_of a.0.now in let At : Type 0 = n.cell ≡ name_in store i in let Knows : Type 0 = (chunks : List (Ptr × ℕ)) × (n.known ≡ Some chunks) × IsRowIn store i chunks in let others : Fml = fsep (flft κs.1.1.0 qs.1.1.0) (fsep (flft κs.1.1.1.0 qs.1.1.1.0) (fsep (flft κs.1.1.1.1.0 qs.1.1.1.1.0) ftrue)) in
+    let store : List ℕ = names_of_rows a.0.now in let At : Type 0 = n.cell ≡ row_name store i in let Knows : Type 0 = (chunks : List (Ptr × ℕ)) × (n.known ≡ Some chunks) × IsRowIn store i chunks in let others : Fml = fsep (flft κs.1.1.0 qs.1.1.0) (fsep (flft κs.1.1.1.0 qs.1.1.1.0) (fsep (flft κs.1.1.1.1.0 qs.1.1.1.1.0) ftrue)) in
     let Shuts = notes.Shuts 𝓛 Rw κ q nb no' ν in let T : Fml = noted Rw n.cell n.known in let Vs : List Val = vptr rb ro ∷ vint w64 i ∷ vptr nb no' ∷ [] in
     qed 𝓛 (((‵ (flft κs.0 qs.0) ⊛ ‵ (flft κ q) ⊛ ‵ others) ⊛ ‵ (owns (types_at En.signature.params κs) z.0.3 z.0.4)) ∷ raw (fact 𝓤 _) ∷ raw (fact 𝓤 _) ∷ raw (fact 𝓤 _) ∷ raw (fact 𝓤 _) ∷ raw (fact 𝓤 (At × Knows)) ∷ []) ∵
     move ! (5 ∷ []) $ heard ! (At × Knows) (λ asked. let at : At = asked.0 in let knows : Knows = asked.1 in keep ! (0 ∷ []) $ split ! $ move ! (1 ∷ []) $ fsplit ! $ drop ! $ fsplit ! $ drop ! $ fsplit ! $ fsplit ! $ keep ! (1 ∷ 3 ∷ []) $ move ! (1 ∷ []) $ split ! $ move ! (1 ∷ []) $ split ! $
@@ -46,6 +46,6 @@ of_spec 𝓤 𝓛 𝓜 𝓡 wired Y W Z LY LW LZ g dg gp dp dx dq met mep glue g
     feq_i ! (List Val) z.0.4.1.1.0 (vptr nb no' ∷ []) are.1.1.0.0 $ fjoin ! $ nothing ! $ move ! (1 ∷ 0 ∷ []) $ fjoin ! $ nothing ! $ fjoin ! $ nothing ! $ fjoin ! $
     -- [the parameters; the token; the knowledge; others; the rows' token]
     move ! (2 ∷ []) $ sets ! (agg ! (no_more !)) refl (tt, tt) $ sets ! (agg ! (and_then ! (get ! refl) (no_more !))) refl (tt, (tt, tt)) $ use0 𝓛 (‵ Blank) (known_made 𝓛) $ fjoin ! $
-    move ! (2 ∷ 3 ∷ []) $ join ! $ move ! (3 ∷ 0 ∷ []) $ join ! $ let r : Known.Denot = record { marker = record {}; store = store; row = i; chunks = chunks; made = knows.2 } in let Told : Type 0 = (n ≡ n) × Shows a.0.now i n r in
+    move ! (2 ∷ 3 ∷ []) $ join ! $ move ! (3 ∷ 0 ∷ []) $ join ! $ let r : Known.Denot = record { marker = record {}; store = store; row = i; chunks = chunks; made = knows.2 } in let Told : Type 0 = (n ≡ n) × ShowsRow a.0.now i n r in
     use0 𝓛 (raw (fact 𝓤 Told)) (fact_i 𝓤 Told (emp 𝓤) (refl, (refl, refl, knows.1))) $
     returns ! (look_at ! 0 refl) $ free_all ! refl $ keep ! (1 ∷ 3 ∷ 2 ∷ 0 ∷ []) $ by ! (leaves 𝓛 En hs c z token r (tt, (tt, (n, tt))) (tt, (tt, (tt, tt)))))))

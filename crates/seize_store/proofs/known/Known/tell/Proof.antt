@@ -10,7 +10,7 @@ use types.Run.{unit_lit}
 use Rattle.std.specs.declared.option.Option.TheVariants.{Some}
 use Rattle.once_cell.specs.Once.{noted}
 use Rattle.once_cell.proofs.Notes as notes
-use Rattle.seize_store.specs.Known.{AreKin, name_in}
+use Rattle.seize_store.specs.Known.{AreKin, row_name}
 use Rattle.seize_store.specs.Kept.{of_kin}
 use Rattle.seize_store.specs.contracts.row.Row as row
 use Rattle.seize_store.proofs.Tokens.{Known}
@@ -28,7 +28,7 @@ tell_spec 𝓤 𝓛 𝓜 𝓡 wired Y W Z LY LW LZ g dg gp dp dx dq met mep glue
     proved_at 𝓛 En hs c 𝓜 𝓡 (Goes-dropped 𝓛 5 self yes (λ κs x f. refl), (Goes-ref 𝓛 5 1 tt (plain (λ _. N)), tt)) (#self inst) fn (code.unfolded 𝓤 H 𝓜 𝓡 wired (Y, (W, (Z, tt))) dg dp dx dq) (λ z are.
     let κs = z.0.0 in let qs = z.0.1 in let a = z.0.3 in let Post : Val → SProp 𝓤 = (walk_of 𝓛 En hs c).post z in let Run : List Val → SProp 𝓤 = λ ws. WpFn 𝓤 H 𝓣.C 𝓣.Λ fn ws Post in
     let κ : Lft = κs.1.0 in let q : Share = qs.1.0 in let k = a.0.now in let rb : ℕ = a.0.ref_ptr.0 in let ro : ℕ = a.0.ref_ptr.1 in let m = a.1.0 in let nb : ℕ = m.ref_ptr.0 in let no' : ℕ = m.ref_ptr.1 in let ν : ℕ = m.ghost_name in let n = m.now in
-    let At : Type 0 = n.cell ≡ name_in k.store k.row in let others : Fml = fsep (flft κs.1.1.0 qs.1.1.0) (fsep (flft κs.1.1.1.0 qs.1.1.1.0) (fsep (flft κs.1.1.1.1.0 qs.1.1.1.1.0) ftrue)) in
+    let At : Type 0 = n.cell ≡ row_name k.store k.row in let others : Fml = fsep (flft κs.1.1.0 qs.1.1.0) (fsep (flft κs.1.1.1.0 qs.1.1.1.0) (fsep (flft κs.1.1.1.1.0 qs.1.1.1.1.0) ftrue)) in
     let n' : N.Denot = record n { known = Some k.chunks } in
     let Shuts = notes.Shuts 𝓛 Rw κ q nb no' ν in let T : Fml = noted Rw n.cell n.known in let K : Fml = noted Rw n.cell (Some k.chunks) in let Vs : List Val = vptr rb ro ∷ vptr nb no' ∷ [] in
     qed 𝓛 (((‵ (flft κs.0 qs.0) ⊛ ‵ (flft κ q) ⊛ ‵ others) ⊛ ‵ (owns (types_at En.signature.params κs) z.0.3 z.0.4)) ∷ raw (fact 𝓤 _) ∷ raw (fact 𝓤 _) ∷ raw (fact 𝓤 _) ∷ raw (fact 𝓤 At) ∷ []) ∵

@@ -3,7 +3,7 @@ use denote.RawPtr.{Ptr}
 use Rattle.seize_table.specs.Place.{IsPlace}
 use Rattle.seize_table.proofs.Places.{one_bucket}
 use Rattle.seize_store.specs.Known.{entry_of, place_in}
-use Rattle.seize_store.specs.Titled.{place_of}
+use Rattle.seize_store.specs.Titled.{title_place}
 use Rattle.seize_store.specs.declared.known.Title.{Title}
 use Rattle.seize_store.proofs.spot.Spot.apart.Goals as goal
 
@@ -13,7 +13,7 @@ same_row s t e = let r = t.known.row in
     one_bucket s.number s.known.row (entry_of s.known.row s.number) r (entry_of r s.number) s.placed (subst (λ (k : ℕ). IsPlace k r (entry_of r k)) (sym e) t.placed)
 
 -- and, in one list of chunks, at one place
-same_place : (s t : Title) → s.number ≡ t.number → s.known.chunks ≡ t.known.chunks → place_of s ≡ place_of t
+same_place : (s t : Title) → s.number ≡ t.number → s.known.chunks ≡ t.known.chunks → title_place s ≡ title_place t
 same_place s t e p =
     ap (λ (ps : List (Ptr × ℕ)). place_in ps (entry_of s.known.row s.number)) p ∙ (ap (λ (r : ℕ). place_in t.known.chunks (entry_of r s.number)) (same_row s t e) ∙ ap (λ (k : ℕ). place_in t.known.chunks (entry_of t.known.row k)) e)
 

@@ -12,7 +12,7 @@ use denote.Struct.Tuple.{Tuple}
 use Rattle.core.proofs.alloc.Shapes.{after}
 use Rattle.std_alloc.proofs.Pairs.{pair_val, pair_Typed, pair_of}
 use Rattle.seize_store.specs.Body.{stride, rooms, rim}
-use Rattle.seize_store.specs.Row.{Deed, ticket, leads, line, uncut}
+use Rattle.seize_store.specs.Row.{RowDeed, ticket, leads, line, uncut}
 use Rattle.seize_store.proofs.Fields.{single, both}
 use Rattle.seize_store.proofs.Memory as memory
 use Rattle.seize_store.proofs.Pieces.{Piece, Strip, piece_in, strip_in, strip_out, uncapped}
@@ -31,7 +31,7 @@ cut_spec 𝓤 𝓛 𝓜 𝓡 wired Y W Z LY LW LZ =
     let κs = z.0.0 in let qs = z.0.1 in let d = z.0.3.0 in let Post : Val → SProp 𝓤 = (walk_of 𝓛 En hs c).post z in let Run : List Val → SProp 𝓤 = λ ws. WpFn 𝓤 H 𝓣.C 𝓣.Λ fn ws Post in
     let toks = ‵ (flft κs.0 qs.0) ⊛ ‵ (flft κs.1.0 qs.1.0) ⊛ ‵ (flft κs.1.1.0 qs.1.1.0) ⊛ ‵ ftrue in let Asked : Type 0 = 0 < length d.places in let n : ℕ = length d.places - 1 in
     qed 𝓛 ((toks ⊛ ‵ (owns (types_at En.signature.params κs) z.0.3 z.0.4)) ∷ raw (fact 𝓤 _) ∷ raw (fact 𝓤 _) ∷ raw (fact 𝓤 _) ∷ raw (fact 𝓤 Asked) ∷ []) ∵
-    move ! (4 ∷ []) $ heard ! Asked (λ asked. keep ! (0 ∷ []) $ split ! $ move ! (1 ∷ []) $ fsplit ! $ strip_out X U R ! d z.0.4.0 (λ b o t so ws. let de : Deed = t.0 in let at : ℕ = de.at in
+    move ! (4 ∷ []) $ heard ! Asked (λ asked. keep ! (0 ∷ []) $ split ! $ move ! (1 ∷ []) $ fsplit ! $ strip_out X U R ! d z.0.4.0 (λ b o t so ws. let de : RowDeed = t.0 in let at : ℕ = de.at in
     rewrite ! 0 (λ (k : ℕ). ‵ (uncut X U R b o k t)) (let r : length d.places ≡ suc n = omega arith in r) refl $
     use1 𝓛 (some (λ (δs : List ℕ). given (s < 2 ^ 63) (‵ (rows.body X U R 𝓛 b o) ⊛ ‵ (fex (ℕ × ℕ) (ticket X U R b de o)) ⊛ ‵ (uncut X U R b (o + s) n (de, suc t.1, δs))))) (rows.cut_next X U R 𝓛 b o n t) $ pick ! (λ δs. learn ! (λ small. split3 ! $
     use1 𝓛 (‵ (rooms X U R b o) ⊛ ‵ (rim X U R b o)) (memory.spreads X U R 𝓛 b o) $ split ! $ fsplit3 ! $ move ! (2 ∷ []) $ fsplit ! $ move ! (1 ∷ []) $ fsplit3 ! $ move ! (2 ∷ []) $ fsplit3 ! $
@@ -48,7 +48,7 @@ cut_spec 𝓤 𝓛 𝓜 𝓡 wired Y W Z LY LW LZ =
     sets ! (of_opd ! (get ! refl)) refl (tt, tt) $ sets ! (agg ! (and_then ! (get ! refl) (no_more !))) refl (tt, (tt, tt)) $ sets ! (agg ! (and_then ! (get ! refl) (and_then ! (get ! refl) (no_more !)))) refl (tt, (tt, (tt, tt))) $
     sets ! (agg ! (and_then ! (get ! refl) (and_then ! (get ! refl) (no_more !)))) refl (pair_Typed (layout P) (layout S) (single (vptr b o)) (both (vptr b (o + s)) (vptr b at)) (tt, (tt, tt)) (tt, (tt, (tt, tt)))) $
     -- the piece
-    move ! (4 ∷ 9 ∷ []) $ fjoin ! $ fpack ! Deed (leads X U R b o) de $ move ! (1 ∷ 0 ∷ []) $ fjoin ! $ move ! (7 ∷ 0 ∷ []) $ fjoin ! $ move ! (1 ∷ 0 ∷ []) $ fjoin ! $ move ! (2 ∷ 0 ∷ []) $ fjoin ! $ move ! (4 ∷ 0 ∷ []) $ fjoin ! $ move ! (2 ∷ 0 ∷ []) $ fjoin ! $ move ! (2 ∷ 0 ∷ []) $ fjoin ! $
+    move ! (4 ∷ 9 ∷ []) $ fjoin ! $ fpack ! RowDeed (leads X U R b o) de $ move ! (1 ∷ 0 ∷ []) $ fjoin ! $ move ! (7 ∷ 0 ∷ []) $ fjoin ! $ move ! (1 ∷ 0 ∷ []) $ fjoin ! $ move ! (2 ∷ 0 ∷ []) $ fjoin ! $ move ! (4 ∷ 0 ∷ []) $ fjoin ! $ move ! (2 ∷ 0 ∷ []) $ fjoin ! $ move ! (2 ∷ 0 ∷ []) $ fjoin ! $
     piece_in X U R ! b o $ move ! (2 ∷ []) $ strip_in X U R ! b (o + s) n (de, suc t.1, δs) $ let r1 : P.Denot = record { at = p } in let r2 : S.Denot = record { at = q; head = block_ptr b at; places = line X U R q n } in
     move ! (1 ∷ 0 ∷ []) $ use2 𝓛 (‵ (Two.own_val (r1, r2) (pair ∷ []))) (pair_of 𝓛 P S r1 r2 (single (vptr b o)) (both (vptr b (o + s)) (vptr b at))) $
     let Told : Type 0 = d.places ≡ p ∷ line X U R q n in

@@ -17,7 +17,7 @@ use Rattle.std.specs.contracts.alloc.Global as heap
 use Rattle.std.specs.contracts.impls.GlobalAllocator.TheImpl.{ghosts}
 use Rattle.seize_store.specs.Body.{stride, row_ty, rooms, rim}
 use Rattle.seize_store.specs.Freeable.{freeable}
-use Rattle.seize_store.specs.Row.{Deed, Fits, Has, held_all, IsRow, Shared, Tail, line}
+use Rattle.seize_store.specs.Row.{RowDeed, Fits, Has, held_all, IsRow, Shared, Tail, line}
 use Rattle.seize_store.proofs.Fields.{single, both}
 use Rattle.seize_store.proofs.Memory as memory
 use Rattle.seize_store.proofs.Pieces.{Base, Strip, Rooms, base_in, line_length, strip_in, rooms_out, three, uncapped}
@@ -59,7 +59,7 @@ of_spec 𝓤 𝓛 𝓜 𝓡 wired Y W Z LY LW LZ =
     nothing ! $ fpack ! (Fits X U R (suc n)) (λ _. ftrue) fits $ move ! (11 ∷ 0 ∷ []) $ fjoin ! $ move ! (9 ∷ 0 ∷ []) $ fjoin ! $ move ! (2 ∷ 0 ∷ []) $ fjoin ! $ move ! (1 ∷ 0 ∷ []) $ fjoin ! $ move ! (3 ∷ 0 ∷ []) $ fjoin ! $ move ! (2 ∷ 0 ∷ []) $ fjoin ! $ move ! (2 ∷ 0 ∷ []) $ fjoin ! $ move ! (3 ∷ 0 ∷ []) $ fjoin ! $ move ! (2 ∷ 0 ∷ []) $
     -- [the word; the head; nothing; the other rooms; nothing; the tokens]
     use2 𝓛 (later (some (λ (γs : List ℕ). given (length γs ≡ n) (‵ (held_all γs) ⊛ ‵ (finv (Shared X U R b (record { at = o; tickets = γs }))))))) (rows.begins X U R 𝓛 b o n are.1.0.1) $ await ! tt $ pick ! (λ γs. learn ! (λ long. split ! $
-    let de : Deed = record { at = o; tickets = γs } in let t : Deed × ℕ × List ℕ = (de, 0, γs) in let none = zero-mul s in
+    let de : RowDeed = record { at = o; tickets = γs } in let t : RowDeed × ℕ × List ℕ = (de, 0, γs) in let none = zero-mul s in
     move ! (3 ∷ 0 ∷ []) $ fjoin ! $ move ! (1 ∷ 0 ∷ []) $ fjoin ! $
     nothing ! $ fpack ! ((length γs ≡ n) × Tail γs 0 γs × (o + s ≡ 0 * s + (o + s)) × (s < 2 ^ 63)) (λ _. ftrue) (long, (λ k γ has. subst (λ (j : ℕ). Has γs j γ) (let r : k ≡ k + 0 = omega arith in r) has), omega arith, small) $ fjoin ! $
     let ps : List Ptr = line X U R p n in let len_is : length ps ≡ n = line_length X U R p n in let row : IsRow X U R p ps = (ap (λ (k : ℕ). line X U R p k) (sym len_is), subst (Fits X U R) (sym len_is) (let r : n * s < 2 ^ 63 = omega arith in r)) in

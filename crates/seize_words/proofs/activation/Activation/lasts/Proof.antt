@@ -4,7 +4,7 @@ use base.Before.{before}
 use contract.BorrowLft.{meet_⊑_left}
 use types.Na.{before-Incl, before_lent}
 use Rattle.seize_book.proofs.Borrowed.{opens_pass, closes_pass, two_out, two_in}
-use Rattle.seize_book.specs.Laws.{IsIn, ended as ended_lives}
+use Rattle.seize_book.specs.Laws.{IsAmong, ended as ended_lives}
 use Rattle.seize_book.specs.Tokens.{pass_owns}
 use Rattle.seize_words.specs.contracts.activation.Activation as Activation
 use Rattle.seize_book.specs.contracts.book.pass.Pass as Pass
@@ -33,7 +33,7 @@ lasts_spec 𝓤 𝓛 𝓜 𝓡 wired =
     -- [the pass, in two; its token; the activation's token; its way back]
     opens_pass ! tt ℓ pass pb po (λ vs.
     -- [what the pass owns; the pass; its cell, in four entries; the activation's token; its way back]
-    move ! (0 ∷ 6 ∷ []) $ use2 𝓛 (later (given (¬ (IsIn (ended_lives pass.seen) activation.life)) (‵ (pass_owns pass.name pass.id pass.seen) ⊛ ‵ (flft β r)))) (lasts 𝓛 pass.name pass.id pass.seen activation.life r) $ await ! tt $ learn ! (λ alive. split ! $
+    move ! (0 ∷ 6 ∷ []) $ use2 𝓛 (later (given (¬ (IsAmong (ended_lives pass.seen) activation.life)) (‵ (pass_owns pass.name pass.id pass.seen) ⊛ ‵ (flft β r)))) (lasts 𝓛 pass.name pass.id pass.seen activation.life r) $ await ! tt $ learn ! (λ alive. split ! $
     move ! (1 ∷ 7 ∷ []) $ use2 𝓛 (later (‵ (flft κs.0 qs.0))) (apply∗ 𝓤 (𝓛.A.lft β r) (H.⇛ (𝓛.A.lft κs.0 qs.0))) $ await ! tt $
     -- [the other token; what the pass owns; the pass; its cell, in four entries]
     move ! (2 ∷ 1 ∷ []) $ join ! $ move ! (2 ∷ 0 ∷ 3 ∷ 4 ∷ 5 ∷ []) $ closes_pass ! tt ℓ pass refl vs pb po $

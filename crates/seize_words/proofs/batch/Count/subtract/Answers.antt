@@ -1,4 +1,5 @@
-use Rattle.std.proofs.Common.{ℕ, ◌==◌, Bool, if◌then◌else◌, List, [], sym, ◌∙◌, ap, subst, append-nil}
+use Rattle.std.proofs.Common.{ℕ, ◌==◌, Bool, if◌then◌else◌, List, [], refl, sym, ◌∙◌, ap, subst, append-nil}
+use Rattle.seize_book.proofs.Facts.{equal}
 use Rattle.seize_machine.specs.Machine.Event.{SubCount}
 use Rattle.seize_words.specs.Atomic.{minus}
 use Rattle.seize_book.specs.Book.{after}
@@ -9,7 +10,7 @@ use Rattle.seize_book.specs.Tokens.{Name, start}
 use Rattle.seize_book.specs.declared.book.slot_key.SlotKey.{SlotKey}
 use Rattle.seize_words.proofs.Counting.{may_subtract_count}
 use Rattle.seize_book.specs.Entry.{Entry}
-use Rattle.seize_book.specs.Ledger.{Held}
+use Rattle.seize_book.specs.Ledger.{HeldKey}
 use Rattle.seize_book.specs.Kept.{AreToldIn}
 use Rattle.seize_book.specs.Linked.{are_joined, are_linked}
 use Rattle.seize_words.proofs.Counted.{all_told, all_closed, all_linked, all_blocks, all_last, counts_so, gives_so, joined_may, joined_step, labels_are, of_those, others_are, renewed_twice, subtracted, values_known, walking_in, was_one}
@@ -22,7 +23,7 @@ subtract-old-requires c =
       book.1,
       book.0,
       joined_may count.word key [] held pass (minus 1) (λ s. SubCount s) (λ v. minus 1 v == 0) book.1 count.count (sym (append-nil held))
-          (may_subtract_count pass.name (home count) pass.id pass.name.size pass.seen held key.one walks),
+          (may_subtract_count pass.name (home count) pass.id pass.size pass.seen held key.one walks),
     )
 
 pub invariant_of-values : goal.invariant_of-values
@@ -33,7 +34,7 @@ invariant_of-values c =
     record {
       each = ap are_of_blocks c.part.ensures.3 ∙ all_blocks (home count) key keys'.held pass pass' v step walks c.requires.book.0;
       linked =
-          ap (λ (t : Name × List (Held Entry)). are_linked t.0.store t.1) (λ j. ((c.part.ensures.1 ∙ c.subtract-old.ensures.1 ∙ c.requires.book.0) j, c.part.ensures.3 j))
+          ap (λ (t : Name × List (HeldKey Entry)). are_linked t.1) (λ j. ((c.part.ensures.1 ∙ c.subtract-old.ensures.1 ∙ c.requires.book.0) j, c.part.ensures.3 j))
           ∙ all_linked (home count) key keys'.held pass pass' v step walks c.requires.book.0;
     }
 
@@ -43,7 +44,7 @@ returns-clause-counts c =
     let step = joined_step count.word key [] held keys'.held pass pass' (minus 1) v (λ s. SubCount s) (λ v. minus 1 v == 0) c.requires.book.1 count.count (sym (append-nil held)) c.subtract-old.ensures.2 in
     let walks = walking_in key.keys.name pass.name (key_of held) (own_of held) k c.requires.book.0 c.requires.walks in
     counts_so k key _ [] keys'.held pass pass' (minus 1) v (SubCount (key_of held)) (λ v. minus 1 v == 0) walks.batch walks.walk walks.queue step c.subtract-old.ensures.0
-    (c.part.ensures.0 ∙ c.subtract-old.ensures.1) c.part.ensures.2 c.requires.book.0 (subtracted k key [] keys'.held pass pass' v (λ v. minus 1 v == 0) step walks) _ (was_one v c.subtract-old.type_inv)
+    (c.part.ensures.0 ∙ c.subtract-old.ensures.1) c.part.ensures.2 c.requires.book.0 (subtracted k key [] keys'.held pass pass' v (λ v. minus 1 v == 0) step walks) (equal (key_of held) (key_of held) refl) _ (was_one v c.subtract-old.type_inv)
 
 pub returns-clause-gives : goal.returns-clause-gives
 returns-clause-gives c walks_ =
@@ -51,7 +52,7 @@ returns-clause-gives c walks_ =
     let step = joined_step count.word key [] held keys'.held pass pass' (minus 1) v (λ s. SubCount s) (λ v. minus 1 v == 0) c.requires.book.1 count.count (sym (append-nil held)) c.subtract-old.ensures.2 in
     let walks = walking_in key.keys.name pass.name (key_of held) (own_of held) k c.requires.book.0 walks_ in
     gives_so k key (record { keys = c.part.new.self; one = c.key-1.given.0 }) [] keys'.held pass pass' (minus 1) v (SubCount (key_of held)) (λ v. minus 1 v == 0) walks.batch walks.walk walks.queue step c.subtract-old.ensures.0
-    (c.part.ensures.0 ∙ c.subtract-old.ensures.1) c.part.ensures.2 c.requires.book.0 (subtracted k key [] keys'.held pass pass' v (λ v. minus 1 v == 0) step walks) _ (was_one v c.subtract-old.type_inv)
+    (c.part.ensures.0 ∙ c.subtract-old.ensures.1) c.part.ensures.2 c.requires.book.0 (subtracted k key [] keys'.held pass pass' v (λ v. minus 1 v == 0) step walks) (equal (key_of held) (key_of held) refl) _ (was_one v c.subtract-old.type_inv)
 
 -- in the pass's book, and with whether the count came to 0 as the call tells it
 pub returns-clause-keys : goal.returns-clause-keys
@@ -70,8 +71,8 @@ returns-clause-keys c walks_ =
       all,
       of_those (λ u. IsLastIn u (after (start pass'.name) pass'.seen)) (values_in key walks.batch) (v == 1) _ all (λ u among. subst (λ (n : Name). IsLastIn u (after (start n) pass'.seen)) (sym c.subtract-old.ensures.0.0)
           (all_last k key key' [] keys'.held pass pass' (minus 1) v (SubCount (key_of held)) (λ v. minus 1 v == 0) walks.batch walks.walk walks.queue step c.subtract-old.ensures.0 name c.part.ensures.2 c.requires.book.0 counting u among)),
-      ap (λ (t : Name × List (Held Entry)). are_joined t.0.store t.1 []) (λ j. ((c.part.ensures.1 ∙ c.subtract-old.ensures.1 ∙ c.requires.book.0) j, c.part.ensures.3 j))
+      ap (λ (t : Name × List (HeldKey Entry)). are_joined t.1 []) (λ j. ((c.part.ensures.1 ∙ c.subtract-old.ensures.1 ∙ c.requires.book.0) j, c.part.ensures.3 j))
           ∙ all_closed k key keys'.held pass pass' v step walks c.requires.book.0,
-      subst (λ (t : Name × List (Held Entry)). AreToldIn t.0.store pass'.seen t.1) (λ j. (sym (c.part.ensures.1 ∙ c.subtract-old.ensures.1 ∙ c.requires.book.0) j, sym c.part.ensures.3 j))
+      subst (λ (t : Name × List (HeldKey Entry)). AreToldIn pass'.seen t.1) (λ j. (sym (c.part.ensures.1 ∙ c.subtract-old.ensures.1 ∙ c.requires.book.0) j, sym c.part.ensures.3 j))
           (all_told k key keys'.held pass pass' v step walks c.requires.book.0),
     )

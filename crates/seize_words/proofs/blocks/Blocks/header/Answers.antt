@@ -1,6 +1,6 @@
 use Rattle.std.proofs.Common.{◌≡◌, ℕ, true, sym, ap, ◌∙◌, subst}
 use Rattle.seize_machine.specs.Machine.State.{has}
-use Rattle.seize_book.specs.Blocks.{block_of}
+use Rattle.seize_book.specs.Blocks.{block_number}
 use Rattle.seize_book.specs.Homesteads.{state_seen}
 use Rattle.seize_words.specs.Counts.{home}
 use Rattle.seize_book.specs.Homes.{home_of}
@@ -20,7 +20,7 @@ agree-requires g c =
 pub returns-clause-header : goal.returns-clause-header
 returns-clause-header g c =
     let seen = c.seek-known.new.self in let header = c.header-header.result.now in
-    let labelled = λ (v : ℕ) (named : has v (state_seen c.agree.new.self).named ≡ true) (is : block_of v ≡ c.args.number).
+    let labelled = λ (v : ℕ) (named : has v (state_seen c.agree.new.self).named ≡ true) (is : block_number v ≡ c.args.number).
     found_label c.seek-known.result seen (label header) c.args.number c.seek-known.ensures.homes c.seek-known.ensures.row.1
     (ap label c.header-header.ensures ∙ c.place-place.ensures.label) v (subst (λ (p : Pass). has v (state_seen p).named ≡ true) c.agree.ensures.0 named) is in (
       c.agree.ensures.1,

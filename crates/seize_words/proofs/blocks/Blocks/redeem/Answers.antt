@@ -10,17 +10,17 @@ use Rattle.seize_book.specs.Passes.{LooksOn}
 use Rattle.seize_book.specs.Tokens.{Name, chunk_label}
 use Rattle.seize_book.specs.declared.book.pass.Pass.{Pass}
 use Rattle.seize_book.specs.declared.book.slot_key.SlotKey.{SlotKey}
-use Rattle.seize_words.specs.Chunks.{book_in}
+use Rattle.seize_words.specs.Chunks.{blocks_book}
 use Rattle.seize_words.specs.Walks.{Knows}
 use Rattle.seize_words.proofs.Chunked.{found_content, found_label, named_seen, number_fits}
 use Rattle.seize_words.proofs.Traversals.{handing_named, knows_still, same_key}
 use Rattle.seize_words.proofs.blocks.Blocks.redeem.Goals as goal
 
-pub seek-known-requires-clause-named : goal.seek-known-requires-clause-named
-seek-known-requires-clause-named g c =
+pub seek-known-requires : goal.seek-known-requires
+seek-known-requires g c =
     let redeemed = c.redeem-ticket in let v = value_of c.args.key.now in
     let named = handing_named c.args.slot.now c.args.pass.now c.requires.book.1 c.requires.knows v c.requires.soon in
-    subst (λ (pass : Pass). HasNumber c.args.number (state_seen pass)) (sym redeemed.ensures.still.0) (v, named, c.requires.lent.1)
+    record { named = subst (λ (pass : Pass). HasNumber c.args.number (state_seen pass)) (sym redeemed.ensures.still.0) (v, named, c.requires.lent.1) }
 
 pub back-requires : goal.back-requires
 back-requires g c =
@@ -28,8 +28,8 @@ back-requires g c =
     let looks = subst (λ (pass : Pass). LooksOn pass seen) redeemed.ensures.still.0 sought.ensures.looks in
     let named = named_seen c.args.pass.now seen v looks (handing_named c.args.slot.now c.args.pass.now c.requires.book.1 c.requires.knows v c.requires.soon) in
     let found = found_content sought.result seen c.args.number sought.ensures.homes sought.ensures.row.1 v named c.requires.lent.1 in
-    let name : redeemed.new.pass.name ≡ book_in c.args.self.now = ap (λ (pass : Pass). pass.name) redeemed.ensures.still.0 ∙ sym c.requires.book.2 in
-    (omega arith, (some_is _ _ (sought.ensures.row.0 ∙ (ap (λ (n : Name). n.store) name ∙ c.args.self.now.stands)), (sought.ensures.row.1, (content.0, content.0.0 ∙ (sym content.1.0 ∙ sym found)))))
+    let name : redeemed.new.pass.name ≡ blocks_book c.args.self.now = ap (λ (pass : Pass). pass.name) redeemed.ensures.still.0 ∙ sym c.requires.book.2 in
+    (omega arith, (sought.ensures.row.0 ∙ (ap (λ (n : Name). n.store) name ∙ c.args.self.now.stands), (sought.ensures.row.1, (content.0, content.0.0 ∙ (sym content.1.0 ∙ sym found)))))
 
 pub returns-clause-looks : goal.returns-clause-looks
 returns-clause-looks g c = subst (λ (pass : Pass). LooksOn pass c.seek-known.new.self) c.redeem-ticket.ensures.still.0 c.seek-known.ensures.looks
@@ -48,12 +48,12 @@ returns-clause-block g c =
     let named = named_seen c.args.pass.now seen v looks (handing_named c.args.slot.now c.args.pass.now c.requires.book.1 c.requires.knows v c.requires.soon) in
     let content = found_content known seen number sought.ensures.homes sought.ensures.row.1 v named c.requires.lent.1 in
     let label = found_label known seen (label_in known.chunks (entry_of known.row number)) number sought.ensures.homes sought.ensures.row.1 refl v named c.requires.lent.1 in
-    let name : redeemed.new.pass.name ≡ book_in c.args.self.now = ap (λ (pass : Pass). pass.name) redeemed.ensures.still.0 ∙ sym c.requires.book.2 in
-    let book : book_of key' ≡ book_in c.args.self.now = redeemed.ensures.block.0 ∙ (c.requires.book.0 ∙ sym c.requires.book.2) in
+    let name : redeemed.new.pass.name ≡ blocks_book c.args.self.now = ap (λ (pass : Pass). pass.name) redeemed.ensures.still.0 ∙ sym c.requires.book.2 in
+    let book : book_of key' ≡ blocks_book c.args.self.now = redeemed.ensures.block.0 ∙ (c.requires.book.0 ∙ sym c.requires.book.2) in
     let its : (bare_known block, bare_number block) ≡ (known, number) = λ j. (title.1 j, title.0 j) in (
       record {
         holds = refl;
-        store = sym (sought.ensures.row.0 ∙ ap (λ (n : Name). n.store) name) ∙ ap (λ (k : Known). Some k.store) (sym title.1);
+        store = sym (sought.ensures.row.0 ∙ ap (λ (n : Name). n.store) name) ∙ ap (λ (k : Known). k.store) (sym title.1);
         book = book;
         next = subst (IsNextAfter key' v) (c.requires.lent.1 ∙ sym title.0) redeemed.ensures.value;
         lies =

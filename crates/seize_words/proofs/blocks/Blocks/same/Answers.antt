@@ -1,5 +1,5 @@
 use Rattle.std.proofs.Common.{ℕ, sym, ap, ◌∙◌, subst}
-use Rattle.seize_book.specs.Blocks.{block_of}
+use Rattle.seize_book.specs.Blocks.{block_number}
 use Rattle.seize_book.specs.Book.{after}
 use Rattle.seize_book.specs.Homes.{IsSound}
 use Rattle.seize_book.specs.Tokens.{Name, start}
@@ -14,5 +14,5 @@ returns-clause-same g c = λ v w one other.
     let seen = c.seek.new.self in let looks = c.seek.ensures.looks in
     let sound = subst (λ (n : Name). IsSound (after (start n) seen.seen)) (sym looks.same.0) looks.sound in (
       (λ is. stands_once c.seek.result seen c.args.one v w c.seek.ensures.homes c.seek.ensures.row.1 sound one (subst (λ (k : ℕ). StandsAt w k seen) (sym (is_equal c.args.one c.args.other is)) other)),
-      (λ is. equal c.args.one c.args.other (sym one.2 ∙ (ap block_of is ∙ other.2))),
+      (λ is. equal c.args.one c.args.other (sym one.2 ∙ (ap block_number is ∙ other.2))),
     )

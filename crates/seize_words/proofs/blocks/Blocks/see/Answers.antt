@@ -1,5 +1,4 @@
 use Rattle.std.proofs.Common.{ℕ, Option, sym, ap, ◌∙◌, subst, arith}
-use Rattle.seize_machine.proofs.Facts.{some_is}
 use Rattle.seize_book.specs.Tokens.{Name}
 use Rattle.seize_words.specs.Glimpses.{SightFor}
 use Rattle.seize_words.proofs.Chunked.{found_content, named_seen}
@@ -12,4 +11,4 @@ see-requires g c =
     let content = found_content sought.result seen c.args.number sought.ensures.homes sought.ensures.row.1 v (named_seen pass seen v sought.ensures.looks found.named) found.numbered in
     let carries = subst (λ (o : Option ℕ). SightFor o c.sight.result) found.is c.sight.ensures in
     let store = sought.ensures.row.0 ∙ (ap (λ (n : Name). n.store) (sym c.requires.book) ∙ c.args.self.now.stands) in
-    (omega arith, (some_is _ _ store, (sought.ensures.row.1, sym carries.0 ∙ sym content)))
+    (omega arith, (store, (sought.ensures.row.1, sym carries.0 ∙ sym content)))

@@ -1,5 +1,5 @@
 use Rattle.std.proofs.Common.{subst}
-use Rattle.seize_words.specs.Headers.{number}
+use Rattle.seize_words.specs.Headers.{field_number}
 use Rattle.seize_words.specs.Stepping.{LooksAt}
 use Rattle.seize_words.specs.Words.{Site}
 use Rattle.seize_book.proofs.Facts.{one_within}
@@ -14,10 +14,10 @@ pub returns-clause-told : goal.returns-clause-told
 returns-clause-told c =
     let field = c.args.self.now in let key = c.args.key.now in let pass = c.args.pass.now in let pass' = c.look.new.pass in let v = c.look.result in
     let looks = subst (λ (w : Site). LooksAt w pass.id pass.seen pass'.seen key.keys.held v) (is_at_field field.word pass.name c.requires.book.1 field.field) c.look.ensures.2 in
-    loaded (number field) key pass pass' v looks c.requires.book.0
+    loaded (field_number field) key pass pass' v looks c.requires.book.0
 
 pub returns-clause-shows : goal.returns-clause-shows
 returns-clause-shows c =
-    let field = c.args.self.now in let key = c.args.key.now in let pass = c.args.pass.now in let pass' = c.look.new.pass in let v = c.look.result in let f = number field in
+    let field = c.args.self.now in let key = c.args.key.now in let pass = c.args.pass.now in let pass' = c.look.new.pass in let v = c.look.result in let f = field_number field in
     let looks = subst (λ (w : Site). LooksAt w pass.id pass.seen pass'.seen key.keys.held v) (is_at_field field.word pass.name c.requires.book.1 field.field) c.look.ensures.2 in
     (shows_next f key pass pass' v looks c.requires.book.0, shows_first f key pass pass' v looks c.requires.book.0)

@@ -2,8 +2,8 @@ use Rattle.std.proofs.Common.{ℕ, [], ◌∷◌, Option, true, refl, sym, ◌�
 use Rattle.seize_machine.specs.Machine.Event.{ExchangeLink}
 use Rattle.seize_machine.specs.declared.machine.event.Exchange.TheVariants.{Swap}
 use Rattle.seize_book.specs.Entry.{Made}
-use Rattle.seize_words.specs.Atomic.{Takes as Took, entries}
-use Rattle.seize_words.specs.LinkWords.{holds, number}
+use Rattle.seize_words.specs.Atomic.{TakesStep as Took, entries}
+use Rattle.seize_words.specs.LinkWords.{link_number, value_held}
 use Rattle.seize_words.specs.Links.{IsNewIn}
 use Rattle.seize_words.specs.Stepping.{MayStep}
 use Rattle.seize_book.specs.Tokens.{Name}
@@ -14,35 +14,35 @@ use Rattle.seize_words.proofs.link.Link.swap.Goals as goal
 
 pub swap_in-requires : goal.swap_in-requires
 swap_in-requires c =
-    let link = c.args.self.now in let a = c.args.activation.now in let pass = c.args.pass.now in let in_ = c.requires.within in let l = number link in let value = c.args.value.now in let held = value.keys.held in
-    let fresh = subst (λ (n : Name). IsNewIn n (holds value) held) in_.book.0 c.requires.new.1 in
-    let may = may_swap_link pass.name a.slot a.life l a.since pass.seen in_.within pass.id pass.name.size c.args.new held value.value fresh c.requires.new.2 in (
+    let link = c.args.self.now in let a = c.args.activation.now in let pass = c.args.pass.now in let in_ = c.requires.within in let l = link_number link in let value = c.args.value.now in let held = value.keys.held in
+    let fresh = subst (λ (n : Name). IsNewIn n (value_held value) held) in_.book.0 c.requires.new.1 in
+    let may = may_swap_link pass.name a.slot a.life l a.since pass.seen in_.within pass.id pass.size c.args.new held value.value fresh c.requires.new.2 in (
       in_.book.0,
       c.requires.new.0 ∙ in_.book.0,
-      subst (λ (t : Site). MayStep t pass.id pass.seen held (a.life ∷ []) [] (λ v. c.args.new) (λ v log. Made (record { pass = pass.id; size = pass.name.size; event = ExchangeLink a.slot l (Swap (holds value)); life = 0; kepts = [] })) (λ v. true))
+      subst (λ (t : Site). MayStep t pass.id pass.seen held (a.life ∷ []) [] (λ v. c.args.new) (λ v log. Made (record { pass = pass.id; size = pass.size; event = ExchangeLink a.slot l (Swap (value_held value)); life = 0; kepts = [] })) (λ v. true))
           (sym (is_at link.word pass.name in_.book.0 link.link)) may,
     )
 
 pub returns : goal.returns
 returns c =
-    let link = c.args.self.now in let a = c.args.activation.now in let pass = c.args.pass.now in let in_ = c.requires.within in let l = number link in let value = c.args.value.now in
-    let ev = λ (o : Option ℕ). ExchangeLink a.slot l (Swap (holds value)) in
-    let told = subst (λ (t : Site). Took t value.keys pass c.swap_in.new.keys c.swap_in.new.pass (a.life ∷ []) (λ v. c.args.new) c.swap_in.result (entries pass 0 (λ v log. ExchangeLink a.slot l (Swap (holds value)))) (λ v. true))
+    let link = c.args.self.now in let a = c.args.activation.now in let pass = c.args.pass.now in let in_ = c.requires.within in let l = link_number link in let value = c.args.value.now in
+    let ev = λ (o : Option ℕ). ExchangeLink a.slot l (Swap (value_held value)) in
+    let told = subst (λ (t : Site). Took t value.keys pass c.swap_in.new.keys c.swap_in.new.pass (a.life ∷ []) (λ v. c.args.new) c.swap_in.result (entries pass 0 (λ v log. ExchangeLink a.slot l (Swap (value_held value)))) (λ v. true))
     (is_at link.word pass.name in_.book.0 link.link) c.swap_in.ensures in
     record {
       swaps = (
         taken link a pass c.swap_in.new.pass in_ value.keys c.swap_in.new.keys (λ v. c.args.new) c.swap_in.result ev (λ v. true) told,
         told.1,
         came_out link a pass c.swap_in.new.pass in_ value.keys c.swap_in.new.keys (λ v. c.args.new) c.swap_in.result ev (λ v. true) told refl,
-        is_out link a pass c.swap_in.new.pass in_ value.keys c.swap_in.new.keys (λ v. c.args.new) c.swap_in.result ev (λ v. true) told (λ _. Swap (holds value)) (c.requires.new.0 ∙ in_.book.0) (λ _. refl) (λ _ _. refl) refl,
+        is_out link a pass c.swap_in.new.pass in_ value.keys c.swap_in.new.keys (λ v. c.args.new) c.swap_in.result ev (λ v. true) told (λ _. Swap (value_held value)) (c.requires.new.0 ∙ in_.book.0) (λ _. refl) (λ _ _. refl) refl,
         knows_all link a pass c.swap_in.new.pass in_ value.keys c.swap_in.new.keys (λ v. c.args.new) c.swap_in.result ev (λ v. true) told,
       );
     }
 
 pub invariant_of-value : goal.invariant_of-value
 invariant_of-value c =
-    let link = c.args.self.now in let a = c.args.activation.now in let pass = c.args.pass.now in let in_ = c.requires.within in let l = number link in let value = c.args.value.now in
-    let ev = λ (o : Option ℕ). ExchangeLink a.slot l (Swap (holds value)) in
-    let told = subst (λ (t : Site). Took t value.keys pass c.swap_in.new.keys c.swap_in.new.pass (a.life ∷ []) (λ v. c.args.new) c.swap_in.result (entries pass 0 (λ v log. ExchangeLink a.slot l (Swap (holds value)))) (λ v. true))
+    let link = c.args.self.now in let a = c.args.activation.now in let pass = c.args.pass.now in let in_ = c.requires.within in let l = link_number link in let value = c.args.value.now in
+    let ev = λ (o : Option ℕ). ExchangeLink a.slot l (Swap (value_held value)) in
+    let told = subst (λ (t : Site). Took t value.keys pass c.swap_in.new.keys c.swap_in.new.pass (a.life ∷ []) (λ v. c.args.new) c.swap_in.result (entries pass 0 (λ v log. ExchangeLink a.slot l (Swap (value_held value)))) (λ v. true))
     (is_at link.word pass.name in_.book.0 link.link) c.swap_in.ensures in
     record { value = still_one link a pass c.swap_in.new.pass in_ value.keys c.swap_in.new.keys (λ v. c.args.new) c.swap_in.result ev (λ v. true) told value.value }

@@ -2,11 +2,11 @@ use Rattle.std.proofs.Common.{◌≡◌, ℕ, true, false, List, [], ◌∷◌, 
 use Rattle.seize_machine.specs.Machine.State.{Out}
 use Rattle.seize_machine.specs.Machine.Event.{SwapOut}
 use Rattle.seize_machine.proofs.Facts.{Stands}
-use Rattle.seize_words.specs.Atomic.{Takes, entries}
+use Rattle.seize_words.specs.Atomic.{TakesStep, entries}
 use Rattle.seize_book.specs.Blocks.{head_word}
 use Rattle.seize_book.specs.Book.{after}
 use Rattle.seize_book.specs.Entry.{Entry, Made}
-use Rattle.seize_book.specs.Laws.{IsIn, life}
+use Rattle.seize_book.specs.Laws.{IsAmong, life}
 use Rattle.seize_book.specs.Private.{key_of, own_of}
 use Rattle.seize_words.specs.Reservations.{slot}
 use Rattle.seize_words.specs.Stepping.{MayStep}
@@ -25,25 +25,25 @@ swap-word-requires c =
     let head = c.args.self.now in let key = c.args.key.now in let pass = c.args.pass.now in let held = key.keys.held in let book = c.requires.book in let m = slot head in let s = key_of held in
     let out = subst (λ (n : Name). Stands (after (start n) (own_of held)) s (Out true) c.requires.refreshing.0) book.0 c.requires.refreshing.1 in
     let lives = c.renew-ended.result.lives in let next = c.renew-ended.result.next in
-    let its = subst (λ (ls : List ℕ). IsIn ls (life s (own_of held))) (sym c.renew-ended.ensures.2) (inl c.requires.last.2) in (
+    let its = subst (λ (ls : List ℕ). IsAmong ls (life s (own_of held))) (sym c.renew-ended.ensures.2) (inl c.requires.last.2) in (
       book.1,
       book.0,
-      subst (λ (w : Site). MayStep w pass.id pass.seen held [] lives (λ v. 1) (λ v log. Made (record { pass = pass.id; size = pass.name.size; event = SwapOut s; life = next; kepts = [] })) (λ v. false))
-          (sym (is_at_head head.word pass.name book.1 head.head)) (may_leave pass.name m pass.id pass.name.size next true c.requires.refreshing.0 lives pass.seen held key.one out (sym book.2) its),
+      subst (λ (w : Site). MayStep w pass.id pass.seen held [] lives (λ v. 1) (λ v log. Made (record { pass = pass.id; size = pass.size; event = SwapOut s; life = next; kepts = [] })) (λ v. false))
+          (sym (is_at_head head.word pass.name book.1 head.head)) (may_leave pass.name m pass.id pass.size next true c.requires.refreshing.0 lives pass.seen held key.one out (sym book.2) its),
     )
 
 -- what the step tells, said of the key and of the activation as they are in the end
 told : (word : Site) (m s : ℕ) (pass pass' : Pass) (old k' new : Keys) (v next life : ℕ) → word ≡ at_head pass.name m → k' ≡ new → next ≡ life
-    → Takes word old pass k' pass' [] (λ v. 1) v (entries pass next (λ v log. SwapOut s)) (λ v. false) → Takes (at_head pass.name m) old pass new pass' [] (λ v. 1) v (entries pass life (λ v log. SwapOut s)) (λ v. false)
+    → TakesStep word old pass k' pass' [] (λ v. 1) v (entries pass next (λ v log. SwapOut s)) (λ v. false) → TakesStep (at_head pass.name m) old pass new pass' [] (λ v. 1) v (entries pass life (λ v log. SwapOut s)) (λ v. false)
 told word m s pass pass' old k' new v next life w b i =
-    subst (λ (t : Site × (Keys × ℕ)). Takes t.0 old pass t.1.0 pass' [] (λ v. 1) v (entries pass t.1.1 (λ v log. SwapOut s)) (λ v. false)) (λ j. (w j, (b j, i j)))
+    subst (λ (t : Site × (Keys × ℕ)). TakesStep t.0 old pass t.1.0 pass' [] (λ v. 1) v (entries pass t.1.1 (λ v log. SwapOut s)) (λ v. false)) (λ j. (w j, (b j, i j)))
 
 pub returns-clause-noted : goal.returns-clause-noted
 returns-clause-noted c =
     let head = c.args.self.now in let key = c.args.key.now in let pass = c.args.pass.now in let s = key_of key.keys.held in let m = slot head in let life = c.begun.new.self.life in
     noted_by m key _ pass c.swap-word.new.pass (λ v. 1) c.swap-word.result life (λ v log. SwapOut s)
     (told head.word m s pass c.swap-word.new.pass key.keys c.swap-word.new.keys c.begun.new.keys c.swap-word.result c.renew-ended.result.next life (is_at_head head.word pass.name c.requires.book.1 head.head)
-    (sym c.begun.ensures.1) (c.renew-ended.ensures.3 ∙ sym c.begun.ensures.0.2) c.swap-word.ensures) c.requires.book.0
+    (sym c.begun.ensures.1) (c.renew-ended.ensures.3 ∙ sym c.begun.ensures.0.2) c.swap-word.ensures) (equal s s refl) c.requires.book.0
 
 pub returns-clause-activation : goal.returns-clause-activation
 returns-clause-activation c =

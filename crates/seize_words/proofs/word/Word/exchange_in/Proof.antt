@@ -101,4 +101,4 @@ exchange_in_spec 𝓤 𝓛 𝓜 𝓡 wired P LP g d _ =
     -- [the tokens; the result; the keys, in two; the pass, in two]
     nothing ! $ feq_i ! (List Val) (vptr pb po ∷ []) (vptr pb po ∷ []) refl $ move ! (0 ∷ 6 ∷ 7 ∷ []) $ fjoin3 ! $ fjoin ! $ nothing ! $ fjoin ! $ feq_i ! (List Val) (vptr kb ko ∷ []) (vptr kb ko ∷ []) refl $ move ! (0 ∷ 4 ∷ 5 ∷ []) $ fjoin3 ! $ fjoin ! $ nothing ! $ fjoin ! $ nothing ! $ fjoin ! $ nothing ! $ fjoin ! $
     returns ! (look_at ! 0 refl) $ free_all ! refl $ keep ! (1 ∷ 0 ∷ 2 ∷ []) $
-    by ! (ends 𝓛 En hs c y pair (v, res) (tt, (tt, (tt, (keys', (tt, (pass', tt)))))) (tt, (tt, (tt, (tt, (tt, (tt, tt)))))) (fact_i 𝓤 _ (emp 𝓤) (((asked.1.0, refl), asked.1.0 ∙ sym asked.1.1, so), refl))))))))))))))))))
+    by ! (ends 𝓛 En hs c y pair (v, res) (tt, (tt, (tt, (keys', (tt, (pass', tt)))))) (tt, (tt, (tt, (tt, (tt, (tt, tt)))))) (fact_i 𝓤 _ (emp 𝓤) (((asked.1.0, refl, refl), asked.1.0 ∙ sym asked.1.1, so), refl))))))))))))))))))

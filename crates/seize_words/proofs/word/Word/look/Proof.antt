@@ -54,4 +54,4 @@ look_spec 𝓤 𝓛 𝓜 𝓡 wired =
     -- [the tokens; the result; the keys, in two; the pass, in two]
     nothing ! $ feq_i ! (List Val) (vptr pb po ∷ []) (vptr pb po ∷ []) refl $ move ! (0 ∷ 6 ∷ 7 ∷ []) $ fjoin3 ! $ fjoin ! $ feq_i ! (List Val) (vptr kb ko ∷ []) (vptr kb ko ∷ []) refl $ move ! (0 ∷ 4 ∷ 5 ∷ []) $ fjoin3 ! $ fjoin ! $ nothing ! $ fjoin ! $
     returns ! (look_at ! 0 refl) $ free_all ! refl $ keep ! (1 ∷ 0 ∷ 2 ∷ []) $
-    by ! (ends 𝓛 ended hs c y (vint w64 v) v (tt, (keys', (pass', tt))) (tt, (tt, (tt, tt))) (fact_i 𝓤 _ (emp 𝓤) ((asked.0, refl), (λ i. record keys { name = (asked.0 ∙ sym asked.1) i }), so))))))))))))))))
+    by ! (ends 𝓛 ended hs c y (vint w64 v) v (tt, (keys', (pass', tt))) (tt, (tt, (tt, tt))) (fact_i 𝓤 _ (emp 𝓤) ((asked.0, refl, refl), (λ i. record keys { name = (asked.0 ∙ sym asked.1) i }), so))))))))))))))))

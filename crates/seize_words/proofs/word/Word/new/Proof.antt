@@ -1,12 +1,12 @@
 -- `new` puts the keys beside the word.
 use Rattle.seize_book.proofs.Kit.{ℕ, ◌^◌, ◌<◌, List, [], ◌∷◌, refl, w64, proved, named, Ura, Val, vint, vptr, vstruct, vcons, vnil, SProp, ent, emp, Fml, ftrue, fsep, fex, flft, Logic, sem, ‵, ◌⊛◌, given, ◌$◌, ◌∵◌, !, qed, by, move, keep, drop, split, fsplit, fsplit3, fjoin, fjoin3, fpack, learn, use0, use1, rewrite, feq_i, done, no_more, and_then, returns, enter, alloc_all, pass_all, free_all, look_at, get, sets, agg, fact_i, tables, yes, RattleType, owns, types_at, plain, u64, makes_shadow, uint_vals, uint_Tells, mut_vals, mut_Tells, nothing, opens, closes, Stays, stay_dropped, stay_ref, walk_of, Goes-dropped, Goes-ref}
 use denote.Laws.{Typed}
-use Rattle.seize_book.specs.Ledger.{Held}
+use Rattle.seize_book.specs.Ledger.{HeldKey}
 use Rattle.seize_book.specs.Entry.{Entry}
 use Rattle.seize_words.specs.Atomic.{site_of}
 use Rattle.seize_book.specs.Private.{own_of}
 use Rattle.seize_book.specs.Tokens.{keys_own}
-use Rattle.seize_words.specs.Words.{Site, Shows, Stands, word_knows, word_owns}
+use Rattle.seize_words.specs.Words.{Site, ShowsWord, Stands, word_knows, word_owns}
 use Rattle.seize_book.specs.contracts.book.keys.Keys as Keys
 use Rattle.seize_words.specs.contracts.word.Word as Word
 use Rattle.seize_words.specs.contracts.word.Word.TheInside as Inside
@@ -32,16 +32,16 @@ new_spec 𝓤 𝓛 𝓜 𝓡 wired =
     proved 𝓛 ended hs c 𝓜 𝓡 (Goes-dropped 𝓛 1 (plain (λ _. u64)) yes (λ κs x f. refl), (Goes-ref 𝓛 1 0 tt (plain (λ _. Keys.the_row)), tt)) #self fn (code.unfolded 𝓤 H 𝓜 𝓡 wired)
     (λ κs. (uint_vals w64, (mut_vals, tt))) (λ κs. (uint_Tells w64, (mut_Tells (named 0) κs.0 Keys.the_row, tt))) (λ κs qs bounds a gh are.
     let n : ℕ = a.0 in let keys = a.1.0.now in let kb : ℕ = a.1.0.ref_ptr.0 in let ko : ℕ = a.1.0.ref_ptr.1 in let site : Site = site_of keys in
-    let since : List Entry = own_of keys.held in let vs : List (Held Entry) = Rattle.std.specs.Prelude.drop 1 keys.held in
+    let since : List Entry = own_of keys.held in let vs : List (HeldKey Entry) = Rattle.std.specs.Prelude.drop 1 keys.held in
     let y : (walk_of 𝓛 ended hs c).Ghost = ((κs, qs, bounds, a, (vint w64 n ∷ [], (vptr kb ko ∷ [], tt))), gh) in let Post : Val → SProp 𝓤 = (walk_of 𝓛 ended hs c).post y in let toks : Fml = fsep (flft κs.0 qs.0) ftrue in
     qed 𝓛 ((‵ toks ⊛ ‵ (owns (types_at ended.signature.params κs) a y.0.4)) ∷ given _ (‵ ftrue) ∷ []) ∵ move ! (1 ∷ []) $ learn ! (λ asked. drop ! $ split ! $
     fsplit ! $ move ! (2 ∷ []) $ fsplit ! $ move ! (1 ∷ []) $ fsplit ! $ fsplit3 ! $
     -- [the keys, in three entries; nothing; the number; their token; nothing]
     keep ! (1 ∷ 2 ∷ 5 ∷ []) $
     enter ! 𝓣.C 𝓣.Λ fn (vint w64 n ∷ vptr kb ko ∷ []) Post $ alloc_all ! (λ l. pass_all ! refl ((tt, record { fits = are.0.1 }), ((tt, tt), tt)) $
-    opens ! tt Keys.the_row kb ko (λ vs0. move ! (1 ∷ []) $ fsplit ! $ move ! (1 ∷ []) $ rewrite ! 0 (λ (hs : List (Held Entry)). ‵ (keys_own keys.name hs)) asked.0 refl $
+    opens ! tt Keys.the_row kb ko (λ vs0. move ! (1 ∷ []) $ fsplit ! $ move ! (1 ∷ []) $ rewrite ! 0 (λ (hs : List (HeldKey Entry)). ‵ (keys_own keys.name hs)) asked.0 refl $
     -- [what the keys own; the keys; their cell, in four entries]
-    nothing ! $ fpack ! (Shows site n since × Stands site since vs) (λ _. ftrue) (asked.1, asked.2) $ move ! (0 ∷ 1 ∷ []) $ fjoin ! $ fpack ! (List Entry × List (Held Entry)) (word_knows site n) (since, vs) $
+    nothing ! $ fpack ! (ShowsWord site n since × Stands site since vs) (λ _. ftrue) (asked.1, asked.2) $ move ! (0 ∷ 1 ∷ []) $ fjoin ! $ fpack ! (List Entry × List (HeldKey Entry)) (word_knows site n) (since, vs) $
     use1 𝓛 (‵ (Word.the_row.own_val site (word_val n ∷ []))) (word_made 𝓛 site n are.0.1) $
     -- [the word; the keys; their cell, in four entries]
     let keys' : Keys.the_row.Denot = record keys { held = [] } in

@@ -68,4 +68,4 @@ swap_in_spec 𝓤 𝓛 𝓜 𝓡 wired P LP g d _ =
     -- [the tokens; the result; the keys, in two; the pass, in two]
     nothing ! $ feq_i ! (List Val) (vptr pb po ∷ []) (vptr pb po ∷ []) refl $ move ! (0 ∷ 6 ∷ 7 ∷ []) $ fjoin3 ! $ fjoin ! $ nothing ! $ fjoin ! $ feq_i ! (List Val) (vptr kb ko ∷ []) (vptr kb ko ∷ []) refl $ move ! (0 ∷ 4 ∷ 5 ∷ []) $ fjoin3 ! $ fjoin ! $ nothing ! $ fjoin ! $ nothing ! $ fjoin ! $
     returns ! (look_at ! 0 refl) $ free_all ! refl $ keep ! (1 ∷ 0 ∷ 2 ∷ []) $
-    by ! (ends 𝓛 En hs c y (vint w64 v) v (tt, (tt, (keys', (tt, (pass', tt))))) (tt, (tt, (tt, (tt, (tt, tt))))) (fact_i 𝓤 _ (emp 𝓤) ((asked.0, refl), asked.0 ∙ sym asked.1, so)))))))))))))))))
+    by ! (ends 𝓛 En hs c y (vint w64 v) v (tt, (tt, (keys', (tt, (pass', tt))))) (tt, (tt, (tt, (tt, (tt, tt))))) (fact_i 𝓤 _ (emp 𝓤) ((asked.0, refl, refl), asked.0 ∙ sym asked.1, so)))))))))))))))))

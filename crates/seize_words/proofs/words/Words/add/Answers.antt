@@ -1,7 +1,7 @@
 use Rattle.std.proofs.Common.{arith, sym, ◌∙◌}
 use Rattle.seize_machine.specs.Machine.Event.{AddCount}
 use Rattle.seize_book.specs.Adding.{private}
-use Rattle.seize_book.specs.Slots.{number_of}
+use Rattle.seize_book.specs.Slots.{slot_number}
 use Rattle.seize_book.proofs.Facts.{all_told_later}
 use Rattle.seize_words.proofs.Joined.{adds_there, counts_on, held_adding, its_number}
 use Rattle.seize_words.proofs.Traversals.{knows_noted}
@@ -27,12 +27,12 @@ add-requires-clause-adds g c =
 pub add-requires-clause-told : goal.add-requires-clause-told
 add-requires-clause-told g c =
     let values = c.args.values.now in
-    all_told_later values.keys.name.store c.args.pass.now.seen c.header-header.new.pass.seen values.keys.held c.header-header.ensures.looks.grows c.requires.told
+    all_told_later c.args.pass.now.seen c.header-header.new.pass.seen values.keys.held c.header-header.ensures.looks.grows c.requires.told
 
 pub returns-clause-counts : goal.returns-clause-counts
 returns-clause-counts g c =
     let key = c.args.key.now in
-    counts_on key c.add.new.key c.args.pass.now c.header-header.new.pass c.add.new.pass (AddCount (number_of key)) c.add.result c.header-header.ensures.looks c.add.ensures.counts
+    counts_on key c.add.new.key c.args.pass.now c.header-header.new.pass c.add.new.pass (AddCount (slot_number key)) c.add.result c.header-header.ensures.looks c.add.ensures.counts
 
 pub returns-clause-gives : goal.returns-clause-gives
 returns-clause-gives g c = λ adds.
@@ -42,4 +42,4 @@ returns-clause-gives g c = λ adds.
 pub returns-clause-knows : goal.returns-clause-knows
 returns-clause-knows g c =
     let key = c.args.key.now in
-    knows_noted key c.add.new.key c.header-header.new.pass c.add.new.pass (private c.header-header.new.pass (AddCount (number_of key))) c.add.ensures.counts.0
+    knows_noted key c.add.new.key c.header-header.new.pass c.add.new.pass (private c.header-header.new.pass (AddCount (slot_number key))) c.add.ensures.counts.0

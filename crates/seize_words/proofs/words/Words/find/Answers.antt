@@ -1,7 +1,7 @@
 use Rattle.std.proofs.Common.{sym, ap, ◌∙◌, arith, is_some}
 use Rattle.seize_book.specs.Tokens.{Name}
 use Rattle.seize_machine.specs.Machine.Event.{ReadLink}
-use Rattle.seize_words.specs.LinkWords.{Finds, held_before, number}
+use Rattle.seize_words.specs.LinkWords.{Finds, held_before, link_number}
 use Rattle.seize_words.proofs.Facts.{glimpse_found}
 use Rattle.seize_words.proofs.Joined.{holds_none, holds_some, looks_here}
 use Rattle.seize_words.proofs.words.Words.find.Goals as goal
@@ -15,8 +15,7 @@ returns-then-word-eq0 g c =
 pub see-requires : goal.see-requires
 see-requires g c =
     let words = c.args.self.now in let sees = c.read_link-word.ensures.sees in let mid = c.read_link-word.new.pass in let found = c.read_link-word.result in
-    let store = ap is_some (ap (λ (n : Name). n.store) (sym c.requires.book) ∙ words.blocks.stands) in
-    (omega arith, (c.requires.book ∙ sym sees.2.0.same.0, glimpse_found sees.0 c.args.activation.now c.args.pass.now mid (λ _. ReadLink c.args.activation.now.slot (number sees.0)) found.0 found.1 sees.2.0 sees.2.1 store c.if-word-eq0.false))
+    (omega arith, (c.requires.book ∙ sym sees.2.0.same.0, glimpse_found sees.0 c.args.activation.now c.args.pass.now mid (λ _. ReadLink c.args.activation.now.slot (link_number sees.0)) found.0 found.1 sees.2.0 sees.2.1 c.if-word-eq0.false))
 
 pub returns : goal.returns
 returns g c =

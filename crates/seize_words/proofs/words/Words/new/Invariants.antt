@@ -1,7 +1,6 @@
-use Rattle.std.specs.Prelude.{Some}
-use Rattle.seize_store.specs.Named.{name_of as store_name}
+use Rattle.seize_store.specs.Named.{store_name}
 use Rattle.seize_table.specs.Named.{name_of}
 use Rattle.seize_words.proofs.words.Words.new.Given as goal
 
 abbrev pub ghosts-open : goal.ghosts-open
-ghosts-open g a = record { store = Some (store_name a._store.now); table = Some (name_of a._table.now) }
+ghosts-open g a = record { store = store_name a._store.now; table = name_of a._table.now }

@@ -1,7 +1,7 @@
 use Rattle.std.proofs.Common.{ℕ, true, ◌≡◌, sym, ◌∙◌, ap, subst}
 use Rattle.seize_machine.specs.Machine.Event.{ReadHead}
 use Rattle.seize_words.specs.Heads.{reads}
-use Rattle.seize_book.specs.Slots.{number_of, slot_of}
+use Rattle.seize_book.specs.Slots.{slot_number, slot_of}
 use Rattle.seize_words.proofs.Joined.{made_still, noted_on}
 use Rattle.seize_words.proofs.words.Words.read_head.Goals as goal
 
@@ -15,8 +15,8 @@ read-requires-clause-reads g c =
 pub returns-clause-noted : goal.returns-clause-noted
 returns-clause-noted g c =
     let key = c.args.key.now in let head = c.head.ensures.head in
-    noted_on key c.read.new.key c.args.pass.now c.head.new.pass c.read.new.pass c.head.ensures.looks 0 (ReadHead (number_of key) c.head.result.now.word.number) (ReadHead (number_of key) c.args.slot)
-    (ap (λ (m : ℕ). ReadHead (number_of key) m) head.1) c.read.ensures.noted
+    noted_on key c.read.new.key c.args.pass.now c.head.new.pass c.read.new.pass c.head.ensures.looks 0 (ReadHead (slot_number key) c.head.result.now.word.number) (ReadHead (slot_number key) c.args.slot)
+    (ap (λ (m : ℕ). ReadHead (slot_number key) m) head.1) c.read.ensures.noted
 
 pub returns-clause-shows : goal.returns-clause-shows
 returns-clause-shows g c =

@@ -1,7 +1,7 @@
 use Rattle.std.proofs.Common.{arith, sym, ◌∙◌}
 use Rattle.seize_machine.specs.Machine.Event.{SubCount}
 use Rattle.seize_book.specs.Adding.{private}
-use Rattle.seize_book.specs.Slots.{number_of}
+use Rattle.seize_book.specs.Slots.{slot_number}
 use Rattle.seize_words.proofs.Joined.{counts_on, held_counting, its_number, walks_there}
 use Rattle.seize_words.proofs.Traversals.{knows_noted}
 use Rattle.seize_words.proofs.words.Words.subtract.Goals as goal
@@ -25,7 +25,7 @@ subtract-requires-clause-walks g c =
 pub returns-clause-counts : goal.returns-clause-counts
 returns-clause-counts g c =
     let key = c.args.key.now in
-    counts_on key c.subtract.new.key c.args.pass.now c.header-header.new.pass c.subtract.new.pass (SubCount (number_of key)) c.subtract.result c.header-header.ensures.looks c.subtract.ensures.counts
+    counts_on key c.subtract.new.key c.args.pass.now c.header-header.new.pass c.subtract.new.pass (SubCount (slot_number key)) c.subtract.result c.header-header.ensures.looks c.subtract.ensures.counts
 
 pub returns-clause-gives : goal.returns-clause-gives
 returns-clause-gives g c = λ at.
@@ -40,4 +40,4 @@ returns-clause-keys g c = λ at.
 pub returns-clause-knows : goal.returns-clause-knows
 returns-clause-knows g c =
     let key = c.args.key.now in
-    knows_noted key c.subtract.new.key c.header-header.new.pass c.subtract.new.pass (private c.header-header.new.pass (SubCount (number_of key))) c.subtract.ensures.counts.0
+    knows_noted key c.subtract.new.key c.header-header.new.pass c.subtract.new.pass (private c.header-header.new.pass (SubCount (slot_number key))) c.subtract.ensures.counts.0

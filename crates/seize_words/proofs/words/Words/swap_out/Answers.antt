@@ -1,13 +1,13 @@
 use Rattle.std.proofs.Common.{ℕ, sym, ◌∙◌, ap}
 use Rattle.seize_machine.specs.Machine.Event.{SwapOut}
-use Rattle.seize_book.specs.Slots.{number_of}
+use Rattle.seize_book.specs.Slots.{slot_number}
 use Rattle.seize_words.proofs.Joined.{noted_on}
 use Rattle.seize_words.proofs.words.Words.swap_out.Goals as goal
 
 pub returns-clause-noted : goal.returns-clause-noted
 returns-clause-noted g c =
     let key = c.args.key.now in
-    noted_on key c.leave.new.key c.args.pass.now c.head.new.pass c.leave.new.pass c.head.ensures.looks 0 (SwapOut (number_of key)) (SwapOut c.args.slot)
+    noted_on key c.leave.new.key c.args.pass.now c.head.new.pass c.leave.new.pass c.head.ensures.looks 0 (SwapOut (slot_number key)) (SwapOut c.args.slot)
     (ap (λ (s : ℕ). SwapOut s) c.requires.holder.1) c.leave.ensures.noted
 
 pub returns-clause-found : goal.returns-clause-found

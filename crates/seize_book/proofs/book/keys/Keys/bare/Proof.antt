@@ -25,7 +25,7 @@ bare_spec 𝓤 𝓛 𝓜 𝓡 wired =
     enter ! 𝓣.C 𝓣.Λ fn (vptr pb po ∷ []) Post $ alloc_all ! (λ l. pass_all ! refl ((tt, tt), tt) $
     opens ! tt Keys.the_row pb po (λ vs. move ! (1 ∷ []) $ fsplit ! $ move ! (1 ∷ []) $
     -- [what it owns; it; its cell, in four entries]
-    use1 𝓛 (‵ (rights_own b.name b.held) ⊛ ‵ (notes_own b.name b.held)) (keys_bared 𝓛 b.name b.held) $ split ! $ fjoin ! $
+    use1 𝓛 (‵ (rights_own b.name b.held) ⊛ ‵ (notes_own b.held)) (keys_bared 𝓛 b.name b.held) $ split ! $ fjoin ! $
     let r : Rights.the_row.Denot = record { marker = record {}; name = b.name; held = b.held } in let b' : Keys.the_row.Denot = record b { held = [] } in
     nothing ! $ move ! (2 ∷ 0 ∷ []) $ fjoin ! $ move ! (2 ∷ 0 ∷ 3 ∷ 4 ∷ 5 ∷ []) $ closes ! tt Keys.the_row b' vs pb po $
     -- [it, in two; its token; what the result owns]

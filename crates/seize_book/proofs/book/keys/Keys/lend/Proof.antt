@@ -1,4 +1,5 @@
 -- `lend` lays the loan beside the key.
+use Rattle.std.proofs.Common.{◌∙◌, sym}
 use Rattle.seize_book.proofs.Kit.{ℕ, List, [], ◌∷◌, refl, proved, named, Val, vptr, vunit, SProp, emp, Fml, ftrue, fsep, flft, ‵, raw, ◌⊛◌, ◌$◌, ◌∵◌, !, qed, by, move, keep, split, fsplit, fsplit3, fjoin, fjoin3, use3, feq_i, unit_lit, of_opd, returns, enter, alloc_all, pass_all, free_all, look_at, sets, fact, fact_i, heard, rewrite, tables, yes, owns, types_at, plain, mut_vals, mut_Tells, nothing, opens, closes, Stays, stay_ref, stay_dropped, walk_of, Goes-ref, Goes-dropped}
 use Rattle.seize_content.specs.Contents.{ticket_owns}
 use Rattle.seize_content.specs.Stages.{Stage}
@@ -12,7 +13,7 @@ use Rattle.seize_book.specs.Tokens.{keys_own}
 use Rattle.seize_book.specs.contracts.book.keys.Keys as Keys
 use Rattle.seize_book.proofs.Fields.{ends, no_bytes, token}
 use Rattle.seize_book.proofs.Lending.{lends_key}
-use Rattle.seize_book.proofs.Renames.{at_place, fresh_lent, fresh_lent_is, lends}
+use Rattle.seize_book.proofs.Renames.{fresh_lent, fresh_lent_is, lends}
 use Rattle.seize_book.specs.contracts.book.keys.Keys.lend.{ended, clauses}
 use Rattle.seize_book.specs.contracts.book.keys.Keys.lend.Key.{name as #self}
 use Rattle.seize_book.proofs.book.keys.Keys.lend.Statement.{statement}
@@ -36,7 +37,7 @@ lend_spec 𝓤 𝓛 𝓜 𝓡 wired =
     -- [what the keys own; the keys; their cell, in four entries; the ticket; the pool]
     let v : ℕ = fresh_lent k.name k.held pool.name pool.value in let is = fresh_lent_is k.name k.held pool.name pool.value in let k' : Keys.the_row.Denot = record k { held = labelled v k.held } in
     move ! (6 ∷ []) $ rewrite ! 0 (λ (m : ℕ). ‵ (ticket_owns m ticket.says)) asked.2.0 refl $ rewrite ! 0 (λ (u : Stage). ‵ (ticket_owns pool.name u)) asked.2.1 refl $
-    move ! (1 ∷ 0 ∷ 7 ∷ []) $ use3 𝓛 (‵ (keys_own k.name (labelled v k.held))) (lends_key 𝓛 k.name k.held v pool.life pool.name pool.value asked.0 is.0 is.1 (at_place k.name.store (label_of k.held) ticket.name pool.name v asked.3 asked.2.0 is.2.0) is.2 is.3) $
+    move ! (1 ∷ 0 ∷ 7 ∷ []) $ use3 𝓛 (‵ (keys_own k.name (labelled v k.held))) (lends_key 𝓛 k.name k.held v pool.life pool.name pool.value asked.0 is.0 is.1 (asked.3 ∙ asked.2.0 ∙ sym is.2.0) is.2 is.3) $
     move ! (1 ∷ 0 ∷ []) $ fjoin ! $ move ! (1 ∷ 0 ∷ 2 ∷ 3 ∷ 4 ∷ []) $ closes ! tt Keys.the_row k' vs pb po $
     -- [the keys, in two; their token]
     sets ! (of_opd ! (unit_lit !)) refl (tt, tt) $ feq_i ! (List Val) (vunit ∷ []) (vunit ∷ []) refl $

@@ -5,8 +5,8 @@ use mir.MapTy.{inst_fn}
 use denote.Param.{bounded}
 use Rattle.seize_book.proofs.Borrowed.{opens_pass, closes_pass, two_out, two_in}
 use Rattle.seize_book.specs.Entry.{Entry, Deed}
-use Rattle.seize_book.specs.Ledger.{Held}
-use Rattle.seize_book.specs.Adding.{Asks, telling}
+use Rattle.seize_book.specs.Ledger.{HeldKey}
+use Rattle.seize_book.specs.Adding.{Asks, deed_with_words}
 use Rattle.seize_book.specs.Fair.{Added}
 use Rattle.seize_book.specs.Tokens.{Name, keys_own, pass_owns}
 use Rattle.seize_book.specs.contracts.book.pass.Pass as Pass
@@ -28,7 +28,7 @@ note_spec 𝓤 𝓛 𝓜 𝓡 wired P LP g d _ =
     let p = a.0.now in let r = a.1.0.now in let pb : ℕ = a.0.ref_ptr.0 in let po : ℕ = a.0.ref_ptr.1 in let rb : ℕ = a.1.0.ref_ptr.0 in let ro : ℕ = a.1.0.ref_ptr.1 in
     let ℓ : NamedLft = named_lft 4 2 tt κs in let y : (walk_of 𝓛 En hs c).Ghost = ((κs, qs, bounds, a, (vptr pb po ∷ [], (vptr rb ro ∷ [], tt))), gh) in let Post : Val → SProp 𝓤 = (walk_of 𝓛 En hs c).post y in
     let toks : Fml = fsep (flft κs.0 qs.0) (fsep (flft κs.1.0 qs.1.0) (fsep (flft κs.1.1.0 qs.1.1.0) (fsep (flft κs.1.1.1.0 qs.1.1.1.0) ftrue))) in
-    let Asked : Type 0 = Asks p r (telling r g.event g.kepts) in
+    let Asked : Type 0 = Asks p r (deed_with_words r g.event g.kepts) in
     qed 𝓛 ((‵ toks ⊛ ‵ (owns (types_at En.signature.params κs) a y.0.4)) ∷ raw (fact 𝓤 _) ∷ raw (fact 𝓤 Asked) ∷ []) ∵ keep ! (2 ∷ 0 ∷ []) $ heard ! Asked (λ asked. split ! $
     fsplit ! $ move ! (1 ∷ []) $ fsplit ! $ two_out ! $ move ! (3 ∷ []) $ fsplit ! $ fsplit3 ! $ move ! (3 ∷ []) $ fsplit ! $ fsplit3 ! $
     -- [the pass, in three entries; nothing; the keys, in three entries; the pass's token; the other tokens; the keys's token]
@@ -39,8 +39,8 @@ note_spec 𝓤 𝓛 𝓜 𝓡 wired P LP g d _ =
     -- [the rights; the keys; its cell, in four entries; the pass, in two; its token; the other tokens]
     move ! (6 ∷ 7 ∷ 8 ∷ []) $ opens_pass ! tt ℓ r rb ro (λ vs1.
     -- [what the pass owns; the pass; its cell, in four entries; the rights; the keys; its cell; the other tokens]
-    let e : Deed = telling r g.event g.kepts in
-    move ! (0 ∷ 6 ∷ []) $ use2 𝓛 (later (some (λ (t : List Entry × List (Held Entry)). given (Added r.name r.id r.seen t.0 p.held t.1 e) (‵ (pass_owns r.name r.id t.0) ⊛ ‵ (keys_own r.name t.1)))))
+    let e : Deed = deed_with_words r g.event g.kepts in
+    move ! (0 ∷ 6 ∷ []) $ use2 𝓛 (later (some (λ (t : List Entry × List (HeldKey Entry)). given (Added r.name r.id r.seen t.0 p.held t.1 e) (‵ (pass_owns r.name r.id t.0) ⊛ ‵ (keys_own r.name t.1)))))
     (adds 𝓛 r.name r.id r.seen p.held e refl asked.1) $ await ! tt $ pick ! (λ t. learn ! (λ so. split ! $
     -- [what the pass owns; the rights; the pass; its cell, in four entries; the keys; its cell; the other tokens]
     let p' : Keys.the_row.Denot = record p { held = t.1 } in let r' : (Pass.the_row ℓ).Denot = record r { seen = t.0 } in
@@ -54,4 +54,4 @@ note_spec 𝓤 𝓛 𝓜 𝓡 wired P LP g d _ =
     -- [the tokens; the result; the keys, in two; the pass, in two]
     nothing ! $ feq_i ! (List Val) (vptr rb ro ∷ []) (vptr rb ro ∷ []) refl $ move ! (0 ∷ 6 ∷ 7 ∷ []) $ fjoin3 ! $ fjoin ! $ feq_i ! (List Val) (vptr pb po ∷ []) (vptr pb po ∷ []) refl $ move ! (0 ∷ 4 ∷ 5 ∷ []) $ fjoin3 ! $ fjoin ! $
     returns ! (look_at ! 0 refl) $ free_all ! refl $ keep ! (1 ∷ 0 ∷ 2 ∷ []) $
-    by ! (ends 𝓛 En hs c y vunit tt (p', (r', tt)) (tt, (tt, tt)) (fact_i 𝓤 _ (emp 𝓤) ((refl, refl), refl, so))))))))))
+    by ! (ends 𝓛 En hs c y vunit tt (p', (r', tt)) (tt, (tt, tt)) (fact_i 𝓤 _ (emp 𝓤) ((refl, refl, refl), refl, so))))))))))

@@ -35,7 +35,7 @@ open_spec 𝓤 𝓛 𝓜 𝓡 wired =
     -- [what the keys own; the keys; their cell, in four entries]
     let o : Opened.the_row.Denot = record { marker = record {}; name = k.name; held = k.held } in let t : CellToken.the_row.Denot = record { marker = record {}; name = cell_of (label_of k.held); value = note_of k.held } in
     let k' : Keys.the_row.Denot = record k { held = [] } in
-    use1 𝓛 (‵ (opened_own k.name k.held) ⊛ ‵ (cell_token (cell_of (label_of k.held)) (note_of k.held))) (opens_key 𝓛 k.name asked.1.0 k.held asked.1.1 asked.0) $ split ! $
+    use1 𝓛 (‵ (opened_own k.name k.held) ⊛ ‵ (cell_token (cell_of (label_of k.held)) (note_of k.held))) (opens_key 𝓛 k.name k.held asked) $ split ! $
     nothing ! $ move ! (3 ∷ 0 ∷ []) $ fjoin ! $ move ! (3 ∷ 0 ∷ 4 ∷ 5 ∷ 6 ∷ []) $ closes ! tt Keys.the_row k' vs pb po $
     -- [the keys, in two; their token; what is opened; what the token of the cell owns]
     move ! (3 ∷ []) $ use0 𝓛 (‵ (Token.own_val (record {}, tt) (token ∷ []))) (token_made 𝓛) $ fjoin ! $ move ! (4 ∷ []) $ use0 𝓛 (‵ (Token.own_val (record {}, tt) (token ∷ []))) (token_made 𝓛) $ fjoin ! $

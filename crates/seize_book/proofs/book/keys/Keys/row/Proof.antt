@@ -9,15 +9,14 @@ use Rattle.core.specs.contracts.marker.PhantomData as marker
 use Rattle.seize_content.proofs.Fields.{Marked}
 use Rattle.seize_store.specs.Known.{tells}
 use Rattle.seize_store.specs.contracts.known.Known as Known
-use Rattle.seize_book.specs.Blocks.{block_of}
+use Rattle.seize_book.specs.Blocks.{block_number}
 use Rattle.seize_book.specs.Book.{blocks}
 use Rattle.seize_book.specs.Loans.{loan_of}
 use Rattle.seize_book.specs.Peeks.{keys_show, sight_if}
 use Rattle.seize_book.specs.Private.{is_one, label_of}
-use Rattle.seize_book.specs.Tokens.{leads, leads_in, told_of}
+use Rattle.seize_book.specs.Tokens.{chunk_tag, leads}
 use Rattle.seize_book.specs.contracts.book.keys.Keys as Keys
 use Rattle.seize_book.proofs.Fields.{Token, token, token_made, ends}
-use Rattle.seize_book.proofs.Lists.{the_store}
 use Rattle.seize_book.proofs.Peeks.{shows}
 use Rattle.seize_book.specs.contracts.book.keys.Keys.row.{ended, clauses}
 use Rattle.seize_book.specs.contracts.book.keys.Keys.row.Key.{name as #self}
@@ -30,20 +29,18 @@ row_spec 𝓤 𝓛 𝓜 𝓡 wired =
     let self = RefOf (0 ∷ []) tt (plain (λ _. Row)) (λ _. tt) in let hs : Stays ended.signature.params ended.kept = (stay_dropped self yes, tt) in
     proved 𝓛 ended hs c 𝓜 𝓡 (Goes-dropped 𝓛 1 self yes (λ κs x f. refl), tt) #self fn (code.unfolded 𝓤 H 𝓜 𝓡 wired) (λ κs. (shr_vals, tt)) (λ κs. (shr_Tells (named 0) κs.0 Row, tt)) (λ κs qs bounds a gh are.
     let rb : ℕ = a.0.ref_ptr.0 in let ro : ℕ = a.0.ref_ptr.1 in let κ : Lft = κs.0 in let d : Row.Denot = a.0.now in let v : ℕ = label_of d.held in
-    let y : (walk_of 𝓛 ended hs c).Ghost = ((κs, qs, bounds, a, (vptr rb ro ∷ [], tt)), gh) in let Post : Val → SProp 𝓤 = (walk_of 𝓛 ended hs c).post y in let Asked : Type 0 = (is_one blocks d.held ≡ true) × (is_some d.name.store ≡ true) in
+    let y : (walk_of 𝓛 ended hs c).Ghost = ((κs, qs, bounds, a, (vptr rb ro ∷ [], tt)), gh) in let Post : Val → SProp 𝓤 = (walk_of 𝓛 ended hs c).post y in let Asked : Type 0 = is_one blocks d.held ≡ true in
     qed 𝓛 ((‵ (fsep (flft κ qs.0) ftrue) ⊛ ‵ (owns (types_at ended.signature.params κs) a y.0.4)) ∷ raw (fact 𝓤 Asked) ∷ []) ∵ move ! (1 ∷ []) $ heard ! Asked (λ asked. split ! $ move ! (1 ∷ []) $ fsplit ! $ fsplit ! $
     -- [the reference; the keys; nothing; the token]
     keep ! (1 ∷ 3 ∷ []) $
     enter ! 𝓣.C 𝓣.Λ fn (vptr rb ro ∷ []) Post $ alloc_all ! (λ l. pass_all ! refl ((tt, tt), tt) $
     use1 𝓛 (‵ (hidden_shr (Marked unit) κ (record {}, tt) rb ro) ⊛ ‵ (fhide (keys_show d.name d.held κ))) (lent_out 𝓛 Keys.struct (Keys.the_codes (marker.the_row unit).coded) Keys.the_heap Keys.the_lent κ d rb ro) $ split ! $ move ! (1 ∷ []) $ unhide ! $
-    use1 𝓛 (‵ (leads d.name v) ⊛ ‵ (sight_if (loan_of v) κ v)) (shows 𝓛 d.name κ d.held asked.0) $ split ! $ move ! (1 ∷ []) $ drop ! $
+    use1 𝓛 (‵ (leads d.name v) ⊛ ‵ (sight_if (loan_of v) κ v)) (shows 𝓛 d.name κ d.held asked) $ split ! $ move ! (1 ∷ []) $ drop ! $
     -- [where the number leads; its marker; the token]
-    let store = the_store d.name.store asked.1 in let L : Fml = tells store.0 (block_of v) (told_of d.name v) in
-    rewrite ! 0 (λ (s : Option (List ℕ)). ‵ (leads_in s (block_of v) (told_of d.name v))) store.1 refl $
-    fpick ! (λ way. let r : Known.the_row.Denot = record { marker = record {}; store = store.0; row = way.row; chunks = way.chunks; made = way.made } in
+    fpick ! (λ way. let r : Known.the_row.Denot = record { marker = record {}; store = d.name.store; row = way.row; chunks = way.chunks; made = way.made } in
     sets ! (agg ! (no_more !)) refl (tt, tt) $ sets ! (agg ! (and_then ! (get ! refl) (no_more !))) refl (tt, (tt, tt)) $
     use0 𝓛 (‵ (Token.own_val (record {}, tt) (token ∷ []))) (token_made 𝓛) $ fjoin ! $
     -- [the result; its marker; the token]
     nothing ! $ nothing ! $ fjoin ! $
     returns ! (look_at ! 0 refl) $ free_all ! refl $ keep ! (3 ∷ 0 ∷ 1 ∷ []) $
-    by ! (ends 𝓛 ended hs c y token r (tt, tt) (tt, tt) (fact_i 𝓤 _ (emp 𝓤) (sym store.1, way.placed, ap (λ (t : ℕ × ℕ). t.0) way.tagged, ap (λ (t : ℕ × ℕ). t.1) way.tagged)))))))
+    by ! (ends 𝓛 ended hs c y token r (tt, tt) (tt, tt) (fact_i 𝓤 _ (emp 𝓤) (refl, way.placed, ap (λ (t : ℕ × ℕ). t.0) way.tagged, ap (λ (t : ℕ × ℕ). t.1) way.tagged)))))))

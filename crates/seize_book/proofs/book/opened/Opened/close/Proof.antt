@@ -29,8 +29,8 @@ close_spec 𝓤 𝓛 𝓜 𝓡 wired =
     keep ! (4 ∷ 1 ∷ []) $
     enter ! 𝓣.C 𝓣.Λ fn (token ∷ token ∷ []) Post $ alloc_all ! (λ l. pass_all ! refl ((tt, (tt, tt)), ((tt, (tt, tt)), tt)) $
     -- [what the key owns; what the token owns]
-    move ! (1 ∷ []) $ rewrite ! 0 (λ (m : ℕ). ‵ (cell_token m t.value)) asked.2 refl $ move ! (1 ∷ 0 ∷ []) $
-    use2 𝓛 (‵ (keys_own o.name (with_note t.value o.held))) (closes_key 𝓛 o.name asked.1.0 o.held t.value asked.1.1 asked.0) $
+    move ! (1 ∷ []) $ rewrite ! 0 (λ (m : ℕ). ‵ (cell_token m t.value)) asked.1 refl $ move ! (1 ∷ 0 ∷ []) $
+    use2 𝓛 (‵ (keys_own o.name (with_note t.value o.held))) (closes_key 𝓛 o.name o.held t.value asked.0) $
     let k : Keys.the_row.Denot = record { marker = record {}; name = o.name; held = with_note t.value o.held } in
     sets ! (agg ! (no_more !)) refl (tt, tt) $ sets ! (agg ! (and_then ! (get ! refl) (no_more !))) refl (tt, (tt, tt)) $
     use0 𝓛 (‵ (Token.own_val (record {}, tt) (token ∷ []))) (token_made 𝓛) $ fjoin ! $

@@ -23,7 +23,7 @@ find_spec 𝓤 𝓛 𝓜 𝓡 wired =
     (λ κs. (mut_vals, (shr_vals, tt))) (λ κs. (mut_Tells (named 0) κs.0 (Pass.the_row (named_lft 3 1 tt κs)), (shr_Tells (named 2) κs.1.1.0 Known.the_row, tt))) (λ κs qs bounds a gh are.
     let b = a.0.now in let pb : ℕ = a.0.ref_ptr.0 in let po : ℕ = a.0.ref_ptr.1 in let k = a.1.0.now in let kb : ℕ = a.1.0.ref_ptr.0 in let ko : ℕ = a.1.0.ref_ptr.1 in
     let ℓ : NamedLft = named_lft 3 1 tt κs in let y : (walk_of 𝓛 ended hs c).Ghost = ((κs, qs, bounds, a, (vptr pb po ∷ [], (vptr kb ko ∷ [], tt))), gh) in let Post : Val → SProp 𝓤 = (walk_of 𝓛 ended hs c).post y in let toks : Fml = fsep (flft κs.0 qs.0) (fsep (flft κs.1.0 qs.1.0) (fsep (flft κs.1.1.0 qs.1.1.0) ftrue)) in
-    let Asked : Type 0 = b.name.store ≡ Some k.store in
+    let Asked : Type 0 = b.name.store ≡ k.store in
     qed 𝓛 ((‵ toks ⊛ ‵ (owns (types_at ended.signature.params κs) a y.0.4)) ∷ raw (fact 𝓤 Asked) ∷ []) ∵ move ! (1 ∷ []) $ heard ! Asked (λ asked. split ! $
     fsplit ! $ two_out ! $ move ! (1 ∷ []) $ fsplit ! $ move ! (3 ∷ []) $ fsplit ! $ fsplit3 ! $ move ! (3 ∷ []) $ fsplit ! $ fsplit ! $ drop ! $ unhide ! $ fsplit ! $ drop ! $
     -- [what the token says; nothing; the pass, in three entries; the other's token; nothing; its token]

@@ -32,7 +32,7 @@ learn_spec 𝓤 𝓛 𝓜 𝓡 wired =
     opens_pass ! tt ℓ b pb po (λ vs.
     -- [what the pass owns; the pass; its cell, in four entries; the other's token; what the book owns]
     move ! (7 ∷ []) $ rewrite ! 0 (λ (z : Name). ‵ (book_owns z k.seen)) asked refl $ move ! (1 ∷ 0 ∷ []) $
-    use2 𝓛 (later (some (λ (z : List Entry). given (Longer b.seen k.seen z × (mine (start b.name) b.id z ≡ mine (start b.name) b.id b.seen) × (IsSole b.name.gate b.id → z ≡ b.seen) × IsLegalList (start b.name) z) (‵ (pass_owns b.name b.id z) ⊛ ‵ (book_owns b.name k.seen))))) (hears 𝓛 b.name b.id b.seen k.seen) $ await ! tt $ pick ! (λ z. learn ! (λ so. split ! $
+    use2 𝓛 (later (some (λ (z : List Entry). given (Longer b.seen k.seen z × (mine (start b.name) b.id z ≡ mine (start b.name) b.id b.seen) × (IsSole b.id → z ≡ b.seen) × IsLegalList (start b.name) z) (‵ (pass_owns b.name b.id z) ⊛ ‵ (book_owns b.name k.seen))))) (hears 𝓛 b.name b.id b.seen k.seen) $ await ! tt $ pick ! (λ z. learn ! (λ so. split ! $
     -- [what the pass owns; what the book owns; the pass; its cell, in four entries; the other's token]
     let b' : (Pass.the_row ℓ).Denot = record b { seen = z } in
     move ! (2 ∷ 0 ∷ []) $ join ! $ move ! (2 ∷ 0 ∷ 3 ∷ 4 ∷ 5 ∷ []) $ closes_pass ! tt ℓ b' refl vs pb po $ move ! (0 ∷ 1 ∷ 2 ∷ 4 ∷ []) $
@@ -43,4 +43,4 @@ learn_spec 𝓤 𝓛 𝓜 𝓡 wired =
     -- [the tokens; the result; the pass, in two]
     nothing ! $ nothing ! $ fjoin ! $ feq_i ! (List Val) (vptr pb po ∷ []) (vptr pb po ∷ []) refl $ move ! (0 ∷ 4 ∷ 5 ∷ []) $ fjoin3 ! $ fjoin ! $
     returns ! (look_at ! 0 refl) $ free_all ! refl $ keep ! (1 ∷ 0 ∷ 2 ∷ []) $
-    by ! (ends 𝓛 ended hs c y vunit tt (b', (tt, tt)) (tt, (tt, tt)) (fact_i 𝓤 _ (emp 𝓤) ((refl, refl), so.1, so.0, so.2, so.3)))))))))
+    by ! (ends 𝓛 ended hs c y vunit tt (b', (tt, tt)) (tt, (tt, tt)) (fact_i 𝓤 _ (emp 𝓤) ((refl, refl, refl), so.1, so.0, so.2, so.3)))))))))

@@ -42,4 +42,4 @@ meet_spec 𝓤 𝓛 𝓜 𝓡 wired =
     -- [the tokens; the result; self, in two; other, in two]
     nothing ! $ feq_i ! (List Val) (vptr rb ro ∷ []) (vptr rb ro ∷ []) refl $ move ! (0 ∷ 6 ∷ 7 ∷ []) $ fjoin3 ! $ fjoin ! $ feq_i ! (List Val) (vptr pb po ∷ []) (vptr pb po ∷ []) refl $ move ! (0 ∷ 4 ∷ 5 ∷ []) $ fjoin3 ! $ fjoin ! $
     returns ! (look_at ! 0 refl) $ free_all ! refl $ keep ! (1 ∷ 0 ∷ 2 ∷ []) $
-    by ! (ends 𝓛 ended hs c y vunit tt (p', (r', tt)) (tt, (tt, tt)) (fact_i 𝓤 _ (emp 𝓤) ((refl, refl), (refl, refl), so.1, subst (λ (m : Name). mine (start m) r.id log ≡ mine (start m) r.id r.seen) (sym asked) so.2, refl, so.0, so.3))))))))))
+    by ! (ends 𝓛 ended hs c y vunit tt (p', (r', tt)) (tt, (tt, tt)) (fact_i 𝓤 _ (emp 𝓤) ((refl, refl, refl), (refl, refl, refl), so.1, subst (λ (m : Name). mine (start m) r.id log ≡ mine (start m) r.id r.seen) (sym asked) so.2, refl, so.0, so.3))))))))))

@@ -5,14 +5,13 @@ use Rattle.seize_store.specs.Known.{tells}
 use Rattle.seize_store.specs.Named.{IsRowOf}
 use Rattle.seize_store.specs.contracts.known.Known as Known
 use Rattle.seize_book.proofs.Borrowed.{opens_pass, closes_pass, two_out, two_in}
-use Rattle.seize_book.specs.Blocks.{block_of}
+use Rattle.seize_book.specs.Blocks.{block_number}
 use Rattle.seize_book.specs.Entry.{Entry}
 use Rattle.seize_book.specs.Fair.{Before}
 use Rattle.seize_book.specs.Homesteads.{HasNumber, state_seen}
-use Rattle.seize_book.specs.Tokens.{pass_owns, told_of}
+use Rattle.seize_book.specs.Tokens.{pass_owns, chunk_tag, leads}
 use Rattle.seize_book.specs.contracts.book.pass.Pass as Pass
 use Rattle.seize_book.proofs.Fields.{Token, token, token_made, ends}
-use Rattle.seize_book.proofs.Lists.{the_store}
 use Rattle.seize_book.proofs.Looks.{finds_row, looked}
 use Rattle.seize_book.proofs.Passes.{IsDistinct}
 use Rattle.seize_book.specs.contracts.book.pass.Pass.row_of.{ended, clauses}
@@ -28,7 +27,7 @@ row_of_spec 𝓤 𝓛 𝓜 𝓡 wired =
     (λ κs. (mut_vals, (uint_vals w64, tt))) (λ κs. (mut_Tells (named 0) κs.0 (Pass.the_row (named_lft 2 1 tt κs)), (uint_Tells w64, tt))) (λ κs qs bounds a gh are.
     let b = a.0.now in let number : ℕ = a.1.0 in let pb : ℕ = a.0.ref_ptr.0 in let po : ℕ = a.0.ref_ptr.1 in
     let ℓ : NamedLft = named_lft 2 1 tt κs in let y : (walk_of 𝓛 ended hs c).Ghost = ((κs, qs, bounds, a, (vptr pb po ∷ [], (vint w64 number ∷ [], tt))), gh) in let Post : Val → SProp 𝓤 = (walk_of 𝓛 ended hs c).post y in let toks : Fml = fsep (flft κs.0 qs.0) (fsep (flft κs.1.0 qs.1.0) ftrue) in
-    let Asked : Type 0 = (is_some b.name.store ≡ true) × HasNumber number (state_seen b) in
+    let Asked : Type 0 = HasNumber number (state_seen b) in
     qed 𝓛 ((‵ toks ⊛ ‵ (owns (types_at ended.signature.params κs) a y.0.4)) ∷ raw (fact 𝓤 Asked) ∷ []) ∵ move ! (1 ∷ []) $ heard ! Asked (λ asked. split ! $
     fsplit ! $ two_out ! $ move ! (2 ∷ []) $ fsplit ! $ fsplit3 ! $
     -- [the pass, in three entries; nothing; its token; nothing]
@@ -36,10 +35,10 @@ row_of_spec 𝓤 𝓛 𝓜 𝓡 wired =
     enter ! 𝓣.C 𝓣.Λ fn (vptr pb po ∷ vint w64 number ∷ []) Post $ alloc_all ! (λ l. pass_all ! refl ((tt, tt), ((tt, record { fits = are.1.0.1 }), tt)) $
     opens_pass ! tt ℓ b pb po (λ vs.
     -- [what the pass owns; the pass; its cell, in four entries]
-    let store = the_store b.name.store asked.0 in let v : ℕ = asked.1.0 in let L : Fml = tells store.0 (block_of v) (told_of b.name v) in
-    use1 𝓛 (later (some (λ (log : List Entry). given (Before b.name b.id b.seen [] log × IsDistinct 𝓛 b.name) (‵ (pass_owns b.name b.id log) ⊛ ‵ L)))) (finds_row 𝓛 b.name b.id b.seen store.0 v store.1 asked.1.1) $ await ! tt $ pick ! (λ log. learn ! (λ so. split ! $
+    let v : ℕ = asked.0 in let L : Fml = leads b.name v in
+    use1 𝓛 (later (some (λ (log : List Entry). given (Before b.name b.id b.seen [] log × IsDistinct 𝓛 b.name) (‵ (pass_owns b.name b.id log) ⊛ ‵ L)))) (finds_row 𝓛 b.name b.id b.seen v asked.1) $ await ! tt $ pick ! (λ log. learn ! (λ so. split ! $
     -- [what the pass owns; where the number leads; the pass; its cell, in four entries]
-    move ! (1 ∷ []) $ fpick ! (λ way. let b' : (Pass.the_row ℓ).Denot = record b { seen = log } in let r : Known.the_row.Denot = record { marker = record {}; store = store.0; row = way.row; chunks = way.chunks; made = way.made } in
+    move ! (1 ∷ []) $ fpick ! (λ way. let b' : (Pass.the_row ℓ).Denot = record b { seen = log } in let r : Known.the_row.Denot = record { marker = record {}; store = b.name.store; row = way.row; chunks = way.chunks; made = way.made } in
     move ! (2 ∷ 1 ∷ []) $ join ! $ move ! (2 ∷ 0 ∷ 3 ∷ 4 ∷ 5 ∷ []) $ closes_pass ! tt ℓ b' refl vs pb po $
     -- [the pass, in two; its token; what is known of the row]
     sets ! (agg ! (no_more !)) refl (tt, tt) $ sets ! (agg ! (and_then ! (get ! refl) (no_more !))) refl (tt, (tt, tt)) $
@@ -49,4 +48,4 @@ row_of_spec 𝓤 𝓛 𝓜 𝓡 wired =
     -- [the tokens; the result; the pass, in two]
     nothing ! $ nothing ! $ fjoin ! $ feq_i ! (List Val) (vptr pb po ∷ []) (vptr pb po ∷ []) refl $ move ! (0 ∷ 4 ∷ 5 ∷ []) $ fjoin3 ! $ fjoin ! $
     returns ! (look_at ! 0 refl) $ free_all ! refl $ keep ! (1 ∷ 0 ∷ 2 ∷ []) $
-    by ! (ends 𝓛 ended hs c y token r (b', (tt, tt)) (tt, (tt, tt)) (fact_i 𝓤 _ (emp 𝓤) (looked b.name b.id b.seen log so.0 so.1, sym store.1, subst (IsRowOf r) asked.1.2 way.placed))))))))))
+    by ! (ends 𝓛 ended hs c y token r (b', (tt, tt)) (tt, (tt, tt)) (fact_i 𝓤 _ (emp 𝓤) (looked b.name b.id b.seen log so.0 so.1, refl, subst (IsRowOf r) asked.2 way.placed))))))))))

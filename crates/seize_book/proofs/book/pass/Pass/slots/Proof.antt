@@ -1,13 +1,12 @@
 -- `slots` gives what the book keeps of the table where its heads lie.
 use Rattle.seize_book.proofs.Kit.{join, Lfts, NamedLft, named_lft, ℕ, List, [], ◌∷◌, ◌≡◌, refl, sym, proved, named, Val, vptr, SProp, emp, Fml, ftrue, fsep, flft, ‵, raw, ◌⊛◌, some, given, later, await, ◌$◌, ◌∵◌, !, qed, by, move, keep, split, fsplit, fsplit3, fjoin, fjoin3, pick, learn, use0, use1, feq_i, no_more, and_then, get, agg, returns, enter, alloc_all, pass_all, free_all, look_at, sets, fact, fact_i, heard, tables, owns, types_at, plain, mut_vals, mut_Tells, nothing, Stays, stay_ref, walk_of, Goes-ref}
 use Rattle.std.specs.Prelude.{Option, Some, None, is_some, length, true}
-use Rattle.seize_table.specs.Filled.{all_filled}
 use Rattle.seize_table.specs.contracts.tls.all_filled.AllFilled as All
 use Rattle.seize_book.proofs.Borrowed.{opens_pass, closes_pass, two_out, two_in}
 use Rattle.seize_book.specs.Book.{after}
 use Rattle.seize_book.specs.Entry.{Entry}
 use Rattle.seize_book.specs.Fair.{Before}
-use Rattle.seize_book.specs.Tokens.{pass_owns, slot_labels, start}
+use Rattle.seize_book.specs.Tokens.{all_lie, pass_owns, slot_labels, start}
 use Rattle.seize_book.specs.contracts.book.pass.Pass as Pass
 use Rattle.seize_book.proofs.Fields.{Token, token, token_made, ends}
 use Rattle.seize_book.proofs.Looks.{finds_slots, looked}
@@ -17,10 +16,6 @@ use Rattle.seize_book.specs.contracts.book.pass.Pass.slots.Key.{name as #self}
 use Rattle.seize_book.proofs.book.pass.Pass.slots.Statement.{statement}
 use Rattle.seize_book.proofs.book.pass.Pass.slots.Code as code
 
-the_table : (o : Option (List ℕ)) → is_some o ≡ true → (table : List ℕ) × (o ≡ Some table)
-the_table None h = absurd (cc)
-the_table (Some table) h = (table, refl)
-
 pub slots_spec : {M : Type 1} → statement M
 slots_spec 𝓤 𝓛 𝓜 𝓡 wired =
     let H = 𝓛.H in let 𝓣 = tables 𝓤 H 𝓜 𝓡 𝓡.env in let fn = code.function in let c = clauses 𝓛 𝓜.mem 𝓡.returns in
@@ -29,19 +24,17 @@ slots_spec 𝓤 𝓛 𝓜 𝓡 wired =
     (λ κs. (mut_vals, tt)) (λ κs. (mut_Tells (named 0) κs.0 (Pass.the_row (named_lft 2 1 tt κs)), tt)) (λ κs qs bounds a gh are.
     let b = a.0.now in let pb : ℕ = a.0.ref_ptr.0 in let po : ℕ = a.0.ref_ptr.1 in
     let ℓ : NamedLft = named_lft 2 1 tt κs in let y : (walk_of 𝓛 ended hs c).Ghost = ((κs, qs, bounds, a, (vptr pb po ∷ [], tt)), gh) in let Post : Val → SProp 𝓤 = (walk_of 𝓛 ended hs c).post y in let toks : Fml = fsep (flft κs.0 qs.0) (fsep (flft κs.1.0 qs.1.0) ftrue) in
-    let Asked : Type 0 = is_some b.name.table ≡ true in
-    qed 𝓛 ((‵ toks ⊛ ‵ (owns (types_at ended.signature.params κs) a y.0.4)) ∷ raw (fact 𝓤 Asked) ∷ []) ∵ move ! (1 ∷ []) $ heard ! Asked (λ asked. split ! $
+    qed 𝓛 ((‵ toks ⊛ ‵ (owns (types_at ended.signature.params κs) a y.0.4)) ∷ raw ((c κs a).requires gh) ∷ []) ∵ split ! $
     fsplit ! $ two_out ! $ move ! (2 ∷ []) $ fsplit ! $ fsplit3 ! $
     -- [the pass, in three entries; nothing; its token; nothing]
     keep ! (1 ∷ 2 ∷ 4 ∷ []) $
     enter ! 𝓣.C 𝓣.Λ fn (vptr pb po ∷ []) Post $ alloc_all ! (λ l. pass_all ! refl ((tt, tt), tt) $
     opens_pass ! tt ℓ b pb po (λ vs.
     -- [what the pass owns; the pass; its cell, in four entries]
-    let table = the_table b.name.table asked in
-    use1 𝓛 (later (some (λ (log : List Entry). given (Before b.name b.id b.seen [] log × IsDistinct 𝓛 b.name) (‵ (pass_owns b.name b.id log) ⊛ ‵ (all_filled table.0 (slot_labels b.name (length (after (start b.name) log).slots)))))))
-    (finds_slots 𝓛 b.name b.id b.seen table.0 table.1) $ await ! tt $ pick ! (λ log. learn ! (λ so. split ! $
+    use1 𝓛 (later (some (λ (log : List Entry). given (Before b.name b.id b.seen [] log × IsDistinct 𝓛 b.name) (‵ (pass_owns b.name b.id log) ⊛ ‵ (all_lie b.name (length (after (start b.name) log).slots))))))
+    (finds_slots 𝓛 b.name b.id b.seen) $ await ! tt $ pick ! (λ log. learn ! (λ so. split ! $
     -- [what the pass owns; what is known of the table; the pass; its cell, in four entries]
-    let b' : (Pass.the_row ℓ).Denot = record b { seen = log } in let r : All.the_row.Denot = record { marker = record {}; table = table.0; labels = slot_labels b.name (length (after (start b.name) log).slots) } in
+    let b' : (Pass.the_row ℓ).Denot = record b { seen = log } in let r : All.the_row.Denot = record { marker = record {}; table = b.name.table; labels = slot_labels b.name (length (after (start b.name) log).slots) } in
     move ! (2 ∷ 0 ∷ []) $ join ! $ move ! (2 ∷ 0 ∷ 3 ∷ 4 ∷ 5 ∷ []) $ closes_pass ! tt ℓ b' refl vs pb po $
     -- [the pass, in two; its token; what is known of the table]
     sets ! (agg ! (no_more !)) refl (tt, tt) $ sets ! (agg ! (and_then ! (get ! refl) (no_more !))) refl (tt, (tt, tt)) $
@@ -51,4 +44,4 @@ slots_spec 𝓤 𝓛 𝓜 𝓡 wired =
     -- [the tokens; the result; the pass, in two]
     nothing ! $ feq_i ! (List Val) (vptr pb po ∷ []) (vptr pb po ∷ []) refl $ move ! (0 ∷ 4 ∷ 5 ∷ []) $ fjoin3 ! $ fjoin ! $
     returns ! (look_at ! 0 refl) $ free_all ! refl $ keep ! (1 ∷ 0 ∷ 2 ∷ []) $
-    by ! (ends 𝓛 ended hs c y token r (b', tt) (tt, tt) (fact_i 𝓤 _ (emp 𝓤) (looked b.name b.id b.seen log so.0 so.1, (sym table.1, refl))))))))))
+    by ! (ends 𝓛 ended hs c y token r (b', tt) (tt, tt) (fact_i 𝓤 _ (emp 𝓤) (looked b.name b.id b.seen log so.0 so.1, (refl, refl)))))))))

@@ -6,7 +6,7 @@ use Rattle.seize_book.specs.Tokens.{porter_owns}
 use Rattle.seize_book.proofs.Shares.{goes_home}
 use Rattle.seize_book.specs.contracts.book.porter.Porter as Porter
 use Rattle.seize_book.proofs.Fields.{ends}
-use Rattle.seize_book.proofs.Turns.{IsHome, home_by}
+use Rattle.seize_book.proofs.Porters.{IsHome, home_by}
 use Rattle.seize_book.specs.contracts.book.porter.Porter.come_home.{ended, clauses}
 use Rattle.seize_book.specs.contracts.book.porter.Porter.come_home.Key.{name as #self}
 use Rattle.seize_book.proofs.book.porter.Porter.come_home.Statement.{statement}

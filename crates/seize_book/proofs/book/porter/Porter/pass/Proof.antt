@@ -35,7 +35,7 @@ pass_spec 𝓤 𝓛 𝓜 𝓡 wired =
     rewrite ! 0 (λ (h : Bool). ‵ (porter_shares b.name h b.seen κ)) asked refl $
     use2 𝓛 (later (some (λ (t : ℕ × List Entry). given (IsGiven 𝓛 b.name b.seen 𝓜 𝓡 κ q t) (‵ (lent_pass b.name κ t.0 t.1) ⊛ ‵ (flft κ q))))) (gives_pass 𝓛 b.name b.seen 𝓜 𝓡 κ q) $ await ! tt $ pick ! (λ t. learn ! (λ so. split ! $
     -- [what the pass owns; the token]
-    let r : Row.Denot = record { marker = record {}; name = b.name; id = t.0; seen = t.1 } in
+    let r : Row.Denot = record { marker = record {}; name = b.name; id = t.0; size = b.size; seen = t.1 } in
     sets ! (agg ! (no_more !)) refl (tt, tt) $ sets ! (agg ! (and_then ! (get ! refl) (no_more !))) refl (tt, (tt, tt)) $
     use0 𝓛 (‵ ((Mark ℓ).own_val (record {}, tt) (token ∷ []))) (mark_made 𝓛 ℓ) $ fjoin ! $
     -- [the result; the token]
@@ -43,4 +43,4 @@ pass_spec 𝓤 𝓛 𝓜 𝓡 wired =
     -- [the tokens; the result]
     nothing ! $ nothing ! $ fjoin ! $
     returns ! (look_at ! 0 refl) $ free_all ! refl $ keep ! (1 ∷ 0 ∷ 2 ∷ []) $
-    by ! (ends 𝓛 ended hs c y token r (tt, tt) (tt, tt) (fact_i 𝓤 _ (emp 𝓤) (record { book = refl; new = so.1; others = so.0; goes_on = so.2 }))))))))
+    by ! (ends 𝓛 ended hs c y token r (tt, tt) (tt, tt) (fact_i 𝓤 _ (emp 𝓤) (record { book = (refl, refl); new = so.1; others = so.0; goes_on = so.2 }))))))))

@@ -1,14 +1,14 @@
 -- `shut` comes home, and gives the first pass what it has there.
 use Rattle.seize_book.proofs.Kit.{Fml, sym, static_lft, List, [], ◌∷◌, refl, proved, Val, SProp, emp, ftrue, ‵, raw, ◌⊛◌, some, given, later, await, ◌$◌, ◌∵◌, !, qed, by, move, keep, split, fsplit, fjoin, pick, learn, use0, use1, rewrite, no_more, and_then, returns, enter, alloc_all, pass_all, free_all, look_at, get, sets, agg, fact_i, tables, yes, owns, types_at, plain, nothing, Stays, stay_dropped, walk_of, Goes-dropped}
 use Rattle.std.proofs.Common.{true}
-use Rattle.seize_book.proofs.Borrowed.{Mark, first_own, mark_made, own_pass}
+use Rattle.seize_book.proofs.Borrowed.{Mark, mark_made}
 use Rattle.seize_book.proofs.Shares.{goes_home}
 use Rattle.seize_book.specs.Entry.{Entry}
 use Rattle.seize_book.specs.Tokens.{pass_owns, porter_owns}
 use Rattle.seize_book.specs.contracts.book.pass.Pass as Pass
 use Rattle.seize_book.specs.contracts.book.porter.Porter as Porter
 use Rattle.seize_book.proofs.Fields.{ends, no_bytes, porter_tells, token}
-use Rattle.seize_book.proofs.Turns.{IsHome, home_passes, shut_by}
+use Rattle.seize_book.proofs.Porters.{IsHome, home_passes, shut_by}
 use Rattle.seize_book.specs.contracts.book.porter.Porter.shut.{ended, clauses}
 use Rattle.seize_book.specs.contracts.book.porter.Porter.shut.Key.{name as #self}
 use Rattle.seize_book.proofs.book.porter.Porter.shut.Statement.{statement}
@@ -27,8 +27,8 @@ shut_spec 𝓤 𝓛 𝓜 𝓡 wired =
     keep ! (1 ∷ []) $
     enter ! 𝓣.C 𝓣.Λ fn (token ∷ []) Post $ alloc_all ! (λ l. pass_all ! refl ((tt, (tt, tt)), tt) $
     use1 𝓛 (later (some (λ (log : List Entry). given (IsHome 𝓛 b.name b.home b.seen log) (‵ (porter_owns b.name true 0 log))))) (goes_home 𝓛 b.name b.seen b.home) $ await ! tt $ pick ! (λ log. learn ! (λ so.
-    use1 𝓛 (‵ (pass_owns b.name 0 log)) (home_passes 𝓛 b.name log so.0) $ rewrite ! 0 (λ (P : Fml). ‵ P) (sym (own_pass b.name [] 0 log (first_own b.name.gate))) refl $
-    let r : (Pass.the_row static_lft).Denot = record { marker = record {}; name = b.name; id = 0; seen = log } in
+    use1 𝓛 (‵ (pass_owns b.name 0 log)) (home_passes 𝓛 b.name log) $
+    let r : (Pass.the_row static_lft).Denot = record { marker = record {}; name = b.name; id = 0; size = b.size; seen = log } in
     sets ! (agg ! (no_more !)) refl (tt, tt) $ sets ! (agg ! (and_then ! (get ! refl) (no_more !))) refl (tt, (tt, tt)) $
     use0 𝓛 (‵ ((Mark static_lft).own_val (record {}, tt) (token ∷ []))) (mark_made 𝓛 static_lft) $ fjoin ! $
     -- [the result]

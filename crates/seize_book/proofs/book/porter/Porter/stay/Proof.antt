@@ -31,14 +31,14 @@ use denote.Triple.Walked.{gave_ref, Goes-gave_ref}
 use Rattle.core.proofs.alloc.Shapes.{after}
 use Rattle.seize_book.specs.Entry.{Entry}
 use Rattle.seize_book.specs.Tokens.{Name, lent_pass, pass_owns, porter_owns}
-use Rattle.seize_book.specs.Turns.{HadStay, MayStay}
+use Rattle.seize_book.specs.Porters.{HadStay, MayStay}
 use Rattle.seize_book.specs.contracts.book.pass.Pass as Pass
 use Rattle.seize_book.specs.contracts.book.porter.Porter as Porter
 use Rattle.seize_book.specs.contracts.book.porter.Stay.stay as with
-use Rattle.seize_book.proofs.Borrowed.{Mark, first_own, mark_made, own_pass}
+use Rattle.seize_book.proofs.Borrowed.{Mark, mark_made}
 use Rattle.seize_book.proofs.Fields.{token}
 use Rattle.seize_book.proofs.Shares.{goes_home}
-use Rattle.seize_book.proofs.Turns.{IsHome, home_passes, pass_homes, shut_by}
+use Rattle.seize_book.proofs.Porters.{IsHome, home_passes, pass_homes, shut_by}
 use Rattle.seize_book.specs.contracts.book.porter.Porter.stay.{ended, clauses}
 use Rattle.seize_book.specs.contracts.book.porter.Porter.stay.Key.{name as #self}
 use Rattle.seize_book.proofs.book.porter.Porter.stay.Statement.{statement}
@@ -67,8 +67,8 @@ stay_spec 𝓤 𝓛 𝓜 𝓡 wired W R LW LR w dict met =
     move ! (1 ∷ 2 ∷ 5 ∷ []) $ opens ! tt Row rb ro (λ vs0. move ! (1 ∷ []) $ fsplit ! $ move ! (1 ∷ []) $
     -- [what the porter owns; the porter; its cell, in four entries; the work; the tokens of R, W]
     use1 𝓛 (later (some (λ (log : List Entry). given (IsHome 𝓛 b.name b.home b.seen log) (‵ (porter_owns b.name true 0 log))))) (goes_home 𝓛 b.name b.seen b.home) $ await ! tt $ pick ! (λ log. learn ! (λ so.
-    use1 𝓛 (‵ (pass_owns b.name 0 log)) (home_passes 𝓛 b.name log so.0) $ rewrite ! 0 (λ (P : Fml). ‵ P) (sym (own_pass b.name [] 0 log (first_own b.name.gate))) refl $
-    let x : P.Denot = record { marker = record {}; name = b.name; id = 0; seen = log } in
+    use1 𝓛 (‵ (pass_owns b.name 0 log)) (home_passes 𝓛 b.name log) $
+    let x : P.Denot = record { marker = record {}; name = b.name; id = 0; size = b.size; seen = log } in
     sets ! (agg ! (no_more !)) refl (tt, tt) $ sets ! (agg ! (and_then ! (get ! refl) (no_more !))) refl (tt, (tt, tt)) $ sets ! (addr ! (from ! (stop !))) refl (tt, tt) $ sets ! (addr ! (through ! refl (stop !))) refl (tt, tt) $
     sets ! (of_opd ! (get ! refl)) refl (tt, tt) $ sets ! (addr ! (through ! refl (stop !))) refl (tt, tt) $
     first ! $ blocks ! $ sets_last ! (addr ! (through ! refl (stop !))) refl (tt, tt) $ exec ! 𝓣.C 𝓣.Λ Ev (after 7 fn.body) (at_ret Ev Post) $ sets ! (of_opd ! (get ! refl)) refl (tt, tt) $
@@ -86,7 +86,7 @@ stay_spec 𝓤 𝓛 𝓜 𝓡 wired W R LW LR w dict met =
     let called : Lets.Ghost = (((μ, (β, (κw, (κr, tt)))), (qm, (full_share, (qw, (qr, tt)))), z.0.2, (m, (ref δ, tt)), (vy ∷ [], (vptr (l 3) 0 ∷ [], tt))), tt) in
     use1 𝓛 (raw (Lets.pre called)) (id⊢ 𝓤 _) $
     calls_at ! (fm 𝓛 𝓜 𝓡) Lets met.stay called (and_then ! (get ! refl) (and_then ! (get ! refl) (no_more !))) (λ u.
-    let Gave : W.Denot → P.Denot → R.Denot → Type 0 = λ y' x' o'. ((x'.name ≡ b.name) × (x'.id ≡ 0)) × w.gives y y' x x' o' in
+    let Gave : W.Denot → P.Denot → R.Denot → Type 0 = λ y' x' o'. ((x'.name ≡ b.name) × (x'.id ≡ 0) × (x'.size ≡ b.size)) × w.gives y y' x x' o' in
     use1 𝓛 (later (some (λ (o' : R.Denot). ((‵ (flft μ qm) ⊛ ‵ (flft β full_share) ⊛ ‵ (flft κw qw) ⊛ ‵ (flft κr qr) ⊛ ‵ ftrue) ⊛ ‵ ((param 1 R).own_val o' (u ∷ []))) ⊛
     some (λ (ws : W.Denot × (P.Denot × Unit {0})). ‵ (lasts (with.ended W R w dict) called.0.0 called.0.3 ws) ⊛ raw (fact 𝓤 (Gave ws.0 ws.1.0 o')))))) (id⊢ 𝓤 _) $ await ! tt $ pick ! (λ o'. split ! $ split ! $
     move ! (2 ∷ []) $ pick ! (λ ws. split ! $ move ! (1 ∷ []) $ heard ! (Gave ws.0 ws.1.0 o') (λ gave. let y' : W.Denot = ws.0 in let x' : P.Denot = ws.1.0 in
@@ -98,8 +98,7 @@ stay_spec 𝓤 𝓛 𝓜 𝓡 wired W R LW LR w dict met =
     use1 𝓛 (some (λ (v : Val). ‵ (fat full_share τ (l 3) 0 v) ⊛ ‵ (P.own_val x' (v ∷ [])))) (part_out_at 𝓛 P refl full_share x' (l 3) 0 τ refl) $ pick ! (λ v. split ! $ give_at ! 3 $
     -- [the pass; W's token; R's; nothing; the work's; the last work, in two; the borrow; nothing; the result; the fields; the cell, in four entries]
     fsplit ! $ move ! (1 ∷ []) $ rewrite ! 0 (λ (k : Name). ‵ (lent_pass k [] x'.id x'.seen)) gave.0.0 refl $ rewrite ! 0 (λ (k : ℕ). ‵ (lent_pass b.name [] k x'.seen)) gave.0.1 refl $
-    rewrite ! 0 (λ (P : Fml). ‵ P) (own_pass b.name [] 0 x'.seen (first_own b.name.gate)) refl $
-    use1 𝓛 (‵ (porter_owns b.name true 0 x'.seen)) (pass_homes 𝓛 b.name x'.seen so.0) $ let b' : Row.Denot = record b { seen = x'.seen; home = true } in
+    use1 𝓛 (‵ (porter_owns b.name true 0 x'.seen)) (pass_homes 𝓛 b.name x'.seen) $ let b' : Row.Denot = record b { seen = x'.seen; home = true } in
     move ! (11 ∷ 0 ∷ []) $ fjoin ! $ move ! (11 ∷ 0 ∷ 12 ∷ 13 ∷ 14 ∷ []) $ closes ! tt Row b' vs0 rb ro $
     -- [the porter, in two; its token; the marker; W's token; R's; nothing; the work's; the last work, in two; the borrow; nothing; the result]
     move ! (12 ∷ []) $ peeks ! (param 1 R) (Is (param 1 R)) (shows 𝓛 (param 1 R)) o' (u ∷ []) (λ is. let good = (((param_laws 1 R LR).lawful 𝓛).typed o' (u ∷ []) is).0 in
@@ -108,6 +107,6 @@ stay_spec 𝓤 𝓛 𝓜 𝓡 wired W R LW LR w dict met =
     -- [the tokens; the result; the porter, in two; the marker; the last work, in two]
     nothing ! $ move ! (6 ∷ 7 ∷ []) $ fjoin ! $ fjoin ! $ feq_i ! (List Val) z.0.4.0 (vptr rb ro ∷ []) es $ move ! (0 ∷ 4 ∷ 5 ∷ []) $ fjoin3 ! $ fjoin ! $
     -- [the parameters; the tokens; the result]
-    let Told : Type 0 = HadStay (λ e f. w.gives y y' e f o') b b' in let told : Told = record { lent = x; back = x'; shut = shut; same = gave.0; gives = gave.1; again = (sym gave.0.0, refl, refl) } in
+    let Told : Type 0 = HadStay (λ e f. w.gives y y' e f o') b b' in let told : Told = record { lent = x; back = x'; shut = shut; same = gave.0; gives = gave.1; again = ((gave.0.0, gave.0.2), refl, refl) } in
     use0 𝓛 (raw (fact 𝓤 Told)) (fact_i 𝓤 Told (emp 𝓤) told) $
     returns ! (look_at ! 0 refl) $ free_all ! refl $ keep ! (2 ∷ 1 ∷ 3 ∷ 0 ∷ []) $ by ! (leaves 𝓛 En hs c z u o' (b', (y', tt)) (tt, (tt, tt)))))))))))))))))))

@@ -11,8 +11,8 @@ pub note_with-requires-clause-may : goal.note_with-requires-clause-may
 note_with-requires-clause-may c =
     let a = c.args.self.now.keys.held in let b = c.args.value.now.keys.held in let pass = c.args.pass.now in
     let idle = subst (λ (n : Name). is_idle (slot_at (after (start n) (own_of a)) (key_of a)) ≡ true) c.requires.book.0 c.requires.idle in
-    let may = subst (λ (n : Name). MayBegin n (label_of b) (after (start n) (own_of b))) c.requires.book.1 c.requires.value in
-    ((λ log before. refl), may_retire pass.name pass.id pass.name.size _ pass.seen a b c.args.self.now.one c.args.value.now.one c.args.value.now.home idle may)
+    let may = subst (λ (n : Name). MayBegin (label_of b) (after (start n) (own_of b))) c.requires.book.1 c.requires.value in
+    ((λ log before. refl), may_retire pass.name pass.id pass.size _ pass.seen a b c.args.self.now.one c.args.value.now.one c.args.value.now.home idle may)
 
 pub returns-clause-spent : goal.returns-clause-spent
 returns-clause-spent c =

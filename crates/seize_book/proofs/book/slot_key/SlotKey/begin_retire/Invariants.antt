@@ -2,8 +2,8 @@ use Rattle.std.specs.Prelude.{[], ◌∷◌}
 use Rattle.seize_machine.specs.Machine.Event.{Begin}
 use Rattle.seize_machine.specs.declared.machine.event.Job.TheVariants.{Retire}
 use Rattle.seize_book.specs.Private.{label_of}
-use Rattle.seize_book.specs.Slots.{number_of}
+use Rattle.seize_book.specs.Slots.{slot_number}
 use Rattle.seize_book.proofs.book.slot_key.SlotKey.begin_retire.Given as goal
 
 abbrev pub ghosts-note_with : goal.ghosts-note_with
-ghosts-note_with a = record { event = Begin (number_of a.self.now) (Retire (label_of a.other.now.held)); kepts = a._kept ∷ [] }
+ghosts-note_with a = record { event = Begin (slot_number a.self.now) (Retire (label_of a.other.now.held)); kepts = a._kept ∷ [] }

@@ -12,7 +12,7 @@ note_with-requires-clause-may c =
     let a = c.args.self.now.keys.held in let b = c.args.numbers.now in let pass = c.args.pass.now in
     let idle = subst (λ (n : Name). is_idle (slot_at (after (start n) (own_of a)) (key_of a)) ≡ true) c.requires.book.0 c.requires.idle.0 in
     let off = subst (λ (n : Name). is_active (head_at (after (start n) (own_of a)) (key_of a)) ≡ false) c.requires.book.0 c.requires.idle.1 in
-    ((λ log before. refl), may_give pass.name pass.id pass.name.size pass.seen a b.keys.held c.args.self.now.one b.one b.zero idle off)
+    ((λ log before. refl), may_give pass.name pass.id pass.size pass.seen a b.keys.held c.args.self.now.one b.one b.zero idle off)
 
 pub returns-clause-used : goal.returns-clause-used
 returns-clause-used c =

@@ -1,17 +1,17 @@
 use Rattle.std.proofs.Common.{sym, ◌∙◌, ap, subst, List}
 use Rattle.seize_machine.specs.Machine.Event.{Hand}
 use Rattle.seize_book.specs.Ledger.{renewed}
-use Rattle.seize_book.specs.Adding.{telling}
+use Rattle.seize_book.specs.Adding.{deed_with_words}
 use Rattle.seize_book.specs.Kept.{kepts_in}
 use Rattle.seize_book.specs.Others.{IsWith, Knew}
-use Rattle.seize_book.specs.Slots.{NotesAs, hands_next, number_of, slot_of}
+use Rattle.seize_book.specs.Slots.{NotesAs, hands_next, slot_number, slot_of}
 use Rattle.seize_book.specs.Private.{are_of_blocks, labels_of}
 use Rattle.seize_book.specs.declared.book.keys.Keys.{Keys}
 use Rattle.seize_book.proofs.Further.{known_then, may_hand_with}
 use Rattle.seize_book.proofs.Hands.{hands_once, if_some}
 use Rattle.seize_book.proofs.Values.{blocks_later, labels_later}
 use Rattle.seize_book.specs.Entry.{Entry}
-use Rattle.seize_book.specs.Ledger.{Held}
+use Rattle.seize_book.specs.Ledger.{HeldKey}
 use Rattle.seize_book.specs.Linked.{are_linked}
 use Rattle.seize_book.specs.Tokens.{Name}
 use Rattle.seize_book.proofs.Linked.{are_later}
@@ -20,7 +20,7 @@ use Rattle.seize_book.proofs.book.slot_key.SlotKey.hand_with.Goals as goal
 pub note_with-requires-clause-may : goal.note_with-requires-clause-may
 note_with-requires-clause-may c =
     let key = c.args.self.now in let pass = c.args.pass.now in
-    subst (λ (ks : Keys). IsWith key ks pass (telling pass (Hand (number_of key) (labels_of ks.held)) (kepts_in ks.held))) (sym c.apart.ensures.0)
+    subst (λ (ks : Keys). IsWith key ks pass (deed_with_words pass (Hand (slot_number key) (labels_of ks.held)) (kepts_in ks.held))) (sym c.apart.ensures.0)
     (may_hand_with key c.args.further.now pass c.apart.ensures.1 c.requires.book.0 c.requires.book.1 c.requires.next c.requires.new)
 
 pub invariant_of-further : goal.invariant_of-further
@@ -29,14 +29,13 @@ invariant_of-further c =
     record {
       each = ap are_of_blocks c.note_with.ensures.other.0.1 ∙ blocks_later keys.keys.held c.note_with.new.pass.seen ∙ keys.each;
       linked =
-          ap (λ (t : Name × List (Held Entry)). are_linked t.0.store t.1) (λ j. (c.note_with.ensures.other.0.0 j, c.note_with.ensures.other.0.1 j))
-          ∙ (are_later keys.keys.name.store keys.keys.held c.note_with.new.pass.seen ∙ keys.linked);
+          ap are_linked c.note_with.ensures.other.0.1 ∙ (are_later keys.keys.held c.note_with.new.pass.seen ∙ keys.linked);
     }
 
 pub returns-clause-noted : goal.returns-clause-noted
 returns-clause-noted c =
     let key = c.args.self.now in
-    subst (λ (ks : Keys). NotesAs key c.args.pass.now c.note_with.new.self c.note_with.new.pass (telling c.args.pass.now (Hand (number_of key) (labels_of ks.held)) (kepts_in ks.held))) c.apart.ensures.0 c.note_with.ensures.noted
+    subst (λ (ks : Keys). NotesAs key c.args.pass.now c.note_with.new.self c.note_with.new.pass (deed_with_words c.args.pass.now (Hand (slot_number key) (labels_of ks.held)) (kepts_in ks.held))) c.apart.ensures.0 c.note_with.ensures.noted
 
 pub returns-clause-once : goal.returns-clause-once
 returns-clause-once c =
@@ -57,4 +56,4 @@ returns-clause-spent c =
     let key = c.args.self.now in let pass = c.args.pass.now in let pass' = c.note_with.new.pass in let told = c.note_with.ensures in let same = c.apart.ensures.0 in
     known_then key c.args.further.now pass c.apart.ensures.1 c.requires.book.0 c.requires.book.1 c.requires.next c.requires.new pass' _
     (ap labels_of told.other.0.1 ∙ labels_later c.apart.new.self.keys.held pass'.seen ∙ ap (λ (ks : Keys). labels_of ks.held) same) told.noted.0.0 told.noted.2.0.distinct
-    (subst (λ (ks : Keys). Knew key ks pass pass' (telling pass (Hand (number_of key) (labels_of ks.held)) (kepts_in ks.held))) same told.knew)
+    (subst (λ (ks : Keys). Knew key ks pass pass' (deed_with_words pass (Hand (slot_number key) (labels_of ks.held)) (kepts_in ks.held))) same told.knew)

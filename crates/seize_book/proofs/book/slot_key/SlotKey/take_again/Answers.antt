@@ -11,7 +11,7 @@ pub note_with-requires-clause-may : goal.note_with-requires-clause-may
 note_with-requires-clause-may c =
     let key = c.args.self.now in let a = key.keys.held in let b = c.args.numbers.now in let pass = c.args.pass.now in let n : Name = pass.name in
     let least = subst (λ (m : Name). IsLeast (key_of a) (after (start m) (own_of b.keys.held))) c.requires.book.1 c.requires.least in
-    ((λ log before. takes_old n a b.keys.held pass.id pass.seen log key.one b.one before least), may_take n a b.keys.held pass.id n.size pass.seen key.one b.one b.zero least)
+    ((λ log before. takes_old n a b.keys.held pass.id pass.seen log key.one b.one before least), may_take n a b.keys.held pass.id pass.size pass.seen key.one b.one b.zero least)
 
 pub returns-clause-used : goal.returns-clause-used
 returns-clause-used c =

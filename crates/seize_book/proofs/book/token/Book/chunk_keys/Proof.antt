@@ -61,7 +61,7 @@ chunk_keys_spec 𝓤 𝓛 𝓜 𝓡 wired =
     let value : ℕ → ℕ = λ k. (another_with k 0 0 c₀ 0 0 (lit< tt)).0 in
     use1 𝓛 (later (some (λ (t : ℕ × List Entry). given (IsUnused 𝓛 b.name t) (‵ (rights_own b.name (of_values (value t.0) t.0 g t.1)) ⊛ ‵ (keys_own b.name (of_header t.0 t.1)))))) (chunk 𝓛 b.name b.seen value g) $ await ! tt $ pick ! (λ t. learn ! (λ new. split ! $
     -- [the right; what the keys own; what the token owns; the tokens]
-    move ! (2 ∷ []) $ use1 𝓛 (‵ (notes_own b.name (of_values (value t.0) t.0 g t.1))) (note_new 𝓛 b.name t.0 c₀ (value t.0) g t.1 (sym (another_with t.0 0 0 c₀ 0 0 (lit< tt)).6)) $ move ! (1 ∷ 0 ∷ []) $ fjoin ! $
+    move ! (2 ∷ []) $ use1 𝓛 (‵ (notes_own (of_values (value t.0) t.0 g t.1))) (note_new 𝓛 b.name t.0 c₀ (value t.0) g t.1 (sym (another_with t.0 0 0 c₀ 0 0 (lit< tt)).6)) $ move ! (1 ∷ 0 ∷ []) $ fjoin ! $
     -- [the right, with its note; what the keys own; the tokens]
     let r : Rights.the_row.Denot = record { marker = record {}; name = b.name; held = of_values (value t.0) t.0 g t.1 } in let k : Keys.the_row.Denot = record { marker = record {}; name = b.name; held = of_header t.0 t.1 } in
     use0 𝓛 (‵ (Token.own_val (record {}, tt) (token ∷ []))) (token_made 𝓛) $ fjoin ! $

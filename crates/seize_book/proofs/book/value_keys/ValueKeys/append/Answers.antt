@@ -1,29 +1,28 @@
 use Rattle.std.proofs.Common.{List, sym, ap, ◌∙◌}
 use Rattle.seize_book.specs.Entry.{Entry}
-use Rattle.seize_book.specs.Ledger.{Held}
+use Rattle.seize_book.specs.Ledger.{HeldKey}
 use Rattle.seize_book.specs.Linked.{are_linked}
 use Rattle.seize_book.specs.Private.{are_of_blocks}
 use Rattle.seize_book.specs.Tokens.{Name}
-use Rattle.seize_book.proofs.Linked.{append_linked, none_linked}
+use Rattle.seize_book.proofs.Linked.{append_linked}
 use Rattle.seize_book.proofs.Values.{blocks_append, labels_append}
 use Rattle.seize_book.specs.Private.{labels_of}
 use Rattle.seize_book.proofs.book.value_keys.ValueKeys.append.Goals as goal
 
 pub invariant_of-self : goal.invariant_of-self
 invariant_of-self c =
-    let self = c.args.self.now in let other = c.args.other.now in let a = self.keys.held in let b = other.keys.held in let store = self.keys.name.store in
+    let self = c.args.self.now in let other = c.args.other.now in let a = self.keys.held in let b = other.keys.held in
     record {
       each = ap are_of_blocks c.join.ensures.2 ∙ blocks_append a b self.each other.each;
       linked =
-          ap (λ (t : Name × List (Held Entry)). are_linked t.0.store t.1) (λ j. (c.join.ensures.0 j, c.join.ensures.2 j))
-          ∙ append_linked store a b self.linked (ap (λ (n : Name). are_linked n.store b) (sym c.requires.book) ∙ other.linked) c.requires.leads;
+          ap are_linked c.join.ensures.2 ∙ append_linked a b self.linked other.linked c.requires.leads;
     }
 
 pub invariant_of-other : goal.invariant_of-other
 invariant_of-other c =
     record {
       each = ap are_of_blocks c.join.ensures.3;
-      linked = ap (λ (t : List (Held Entry)). are_linked c.join.new.other.name.store t) c.join.ensures.3 ∙ none_linked c.join.new.other.name.store;
+      linked = ap are_linked c.join.ensures.3;
     }
 
 pub returns : goal.returns

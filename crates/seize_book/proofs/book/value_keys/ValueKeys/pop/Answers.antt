@@ -4,7 +4,7 @@ use Rattle.seize_book.specs.Adding.{before_last}
 use Rattle.seize_book.specs.Book.{blocks}
 use Rattle.seize_book.specs.Entry.{Entry}
 use Rattle.seize_book.specs.Homes.{home_of}
-use Rattle.seize_book.specs.Ledger.{Held}
+use Rattle.seize_book.specs.Ledger.{HeldKey}
 use Rattle.seize_book.specs.Linked.{are_linked}
 use Rattle.seize_book.specs.Private.{are_of_blocks, is_one, key_of, label_of, labels_of}
 use Rattle.seize_book.specs.Tokens.{Name}
@@ -21,16 +21,15 @@ invariant_of-self c =
     let front = parts.2 ∙ ap (λ (k : Keys). take (before_last k.held) k.held) same in let whole = apart_at (before_last held) held in record {
       each = ap are_of_blocks front ∙ (blocks_apart (take (before_last held) held) (drop (before_last held) held) (ap are_of_blocks whole ∙ keys.each)).0;
       linked =
-          ap (λ (t : Name × List (Held Entry)). are_linked t.0.store t.1) (λ j. ((parts.0 ∙ ap (λ (k : Keys). k.name) same) j, front j))
-          ∙ (parted_linked keys.keys.name.store (take (before_last held) held) (drop (before_last held) held) (ap (are_linked keys.keys.name.store) whole ∙ keys.linked)).0;
+          ap are_linked front ∙ (parted_linked (take (before_last held) held) (drop (before_last held) held) (ap are_linked whole ∙ keys.linked)).0;
     }
 
 pub invariant_of-result : goal.invariant_of-result
 invariant_of-result c =
     let keys = c.args.self.now in let held = keys.keys.held in let back = c.part_last.ensures.3 ∙ ap (λ (k : Keys). drop (before_last k.held) k.held) c.none-last.ensures.0 in
     let is = last_one held (λ none. c.requires (ap labels_of none)) keys.each in record {
-      one = subst (λ (hs : List (Held Entry)). is_one blocks hs ≡ true) (sym back) is.one;
-      home = subst (λ (hs : List (Held Entry)). key_of hs ≡ home_of (label_of hs)) (sym back) is.home;
+      one = subst (λ (hs : List (HeldKey Entry)). is_one blocks hs ≡ true) (sym back) is.one;
+      home = subst (λ (hs : List (HeldKey Entry)). key_of hs ≡ home_of (label_of hs)) (sym back) is.home;
     }
 
 pub returns : goal.returns

@@ -1,6 +1,6 @@
 use Rattle.std.proofs.Common.{List, ap, ◌∙◌}
 use Rattle.seize_book.specs.Entry.{Entry}
-use Rattle.seize_book.specs.Ledger.{Held}
+use Rattle.seize_book.specs.Ledger.{HeldKey}
 use Rattle.seize_book.specs.Linked.{are_linked}
 use Rattle.seize_book.specs.Private.{are_of_blocks}
 use Rattle.seize_book.specs.Tokens.{Name}
@@ -10,10 +10,9 @@ use Rattle.seize_book.proofs.book.value_keys.ValueKeys.push.Goals as goal
 
 pub invariant_of-self : goal.invariant_of-self
 invariant_of-self c =
-    let self = c.args.self.now in let value = c.args.value in let a = self.keys.held in let b = value.keys.held in let store = self.keys.name.store in
+    let self = c.args.self.now in let value = c.args.value in let a = self.keys.held in let b = value.keys.held in
     record {
       each = ap are_of_blocks c.join.ensures.2 ∙ blocks_append a b self.each (value_blocks value);
       linked =
-          ap (λ (t : Name × List (Held Entry)). are_linked t.0.store t.1) (λ j. (c.join.ensures.0 j, c.join.ensures.2 j))
-          ∙ append_linked store a b self.linked (value_linked store value) c.requires.leads;
+          ap are_linked c.join.ensures.2 ∙ append_linked a b self.linked (value_linked value) c.requires.leads;
     }

@@ -6,7 +6,7 @@ use Rattle.std.specs.declared.option.Option.{Option}
 use Rattle.std.specs.declared.option.Option.TheVariants.{Some}
 use Rattle.once_cell.specs.Once.{noted}
 use Rattle.once_cell.proofs.Notes as notes
-use Rattle.seize_table.specs.Filled.{Way, shown_by, known_row, known_item, names_of, name_in}
+use Rattle.seize_table.specs.Filled.{EntryPlace, shown_by, known_bucket, known_item, names_of, name_in}
 use Rattle.seize_table.specs.Table.{Cell, Row, IsCell}
 use Rattle.seize_table.specs.contracts.thread_id.Thread as thread_row
 use Rattle.seize_table.proofs.Entries.{FilledAt, ItemOf, RowOf, Data as Blank, filled_at_made}
@@ -43,9 +43,9 @@ of_spec 𝓤 𝓛 𝓜 𝓡 wired T L g dg met =
     use2 𝓛 (later (‵ J ⊛ raw (all 𝓤 Ends))) (notes.note_opens 𝓛 I μ s ib io η i) $ await ! tt $ split ! $ use1 𝓛 (‵ J ⊛ ‵ J) (notes.noted_twice 𝓛 I i.cell i.known) $ split ! $ move ! (2 ∷ []) $ use1 𝓛 (raw (Ends i)) (all_e 𝓤 Ends i) $ move ! (1 ∷ 0 ∷ []) $
     use2 𝓛 (later (‵ (notes.lent 𝓛 I μ s ib io η i) ⊛ ‵ (flft μ s))) (apply∗ 𝓤 (sem 𝓛 J) _) $ await ! tt $ split ! $ feq_i ! (List Val) z.0.4.1.1.1.0 (vptr ib io ∷ []) are.1.1.1.0.0 $ fjoin ! $
     -- [the item's note; its token; what it knows; the row's note; its token; what it knows; others; two tokens]
-    let row : Row = asked.1.1.0 in let cell : Cell = asked.1.0 in let label : ℕ = asked.2.0 in let way : Way t.id = record { bucket = t.bucket; entry = t.entry; placed = t.placed; row = row; cell = cell; here = asked.1.1.2; value = asked.2.1 } in
+    let row : Row = asked.1.1.0 in let cell : Cell = asked.1.0 in let label : ℕ = asked.2.0 in let way : EntryPlace t.id = record { bucket = t.bucket; entry = t.entry; placed = t.placed; row = row; cell = cell; here = asked.1.1.2; value = asked.2.1 } in
     rewrite ! 2 (λ (k : Option (Option (ℕ × ℕ))). ‵ (noted I i.cell k)) asked.2.2 refl $ rewrite ! 2 (λ (γ : ℕ). ‵ (known_item γ label way.value)) asked.1.2 refl $
-    rewrite ! 5 (λ (k : Option Row). ‵ (noted R n.cell k)) asked.1.1.1 refl $ rewrite ! 5 (λ (γ : ℕ). ‵ (known_row γ row)) asked.0 refl $ move ! (5 ∷ 2 ∷ []) $ fjoin ! $ fpack ! (Way t.id) (shown_by names t.id label) way $ move ! (1 ∷ 2 ∷ 3 ∷ 4 ∷ 5 ∷ 6 ∷ 7 ∷ 0 ∷ []) $
+    rewrite ! 5 (λ (k : Option Row). ‵ (noted R n.cell k)) asked.1.1.1 refl $ rewrite ! 5 (λ (γ : ℕ). ‵ (known_bucket γ row)) asked.0 refl $ move ! (5 ∷ 2 ∷ []) $ fjoin ! $ fpack ! (EntryPlace t.id) (shown_by names t.id label) way $ move ! (1 ∷ 2 ∷ 3 ∷ 4 ∷ 5 ∷ 6 ∷ 7 ∷ 0 ∷ []) $
     -- [the item's note; its token; the row's note; its token; others; two tokens; what is known of the entry]
     nothing ! $ move ! (1 ∷ 0 ∷ []) $ fjoin ! $ move ! (2 ∷ 0 ∷ []) $ fjoin ! $ nothing ! $ fjoin ! $ nothing ! $ fjoin ! $
     move ! (1 ∷ 3 ∷ []) $ fjoin ! $ move ! (2 ∷ 0 ∷ []) $ fjoin ! $ move ! (2 ∷ 0 ∷ []) $ join ! $ move ! (2 ∷ 0 ∷ []) $ join ! $ move ! (2 ∷ 0 ∷ 1 ∷ []) $

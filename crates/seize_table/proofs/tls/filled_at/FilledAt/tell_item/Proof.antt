@@ -7,7 +7,7 @@ use Rattle.std.specs.declared.option.Option.TheVariants.{Some}
 use Rattle.once_cell.specs.Once.{noted}
 use Rattle.once_cell.proofs.Notes as notes
 use Rattle.core.specs.contracts.marker.PhantomData as marker
-use Rattle.seize_table.specs.Filled.{filled_at, known_row, known_item, row_row, name_in}
+use Rattle.seize_table.specs.Filled.{filled_at, known_bucket, known_item, row_row, name_in}
 use Rattle.seize_table.specs.Place.{IsPlace}
 use Rattle.seize_table.specs.Table.{Cell, Row, IsCell}
 use Rattle.seize_table.specs.contracts.thread_id.Thread as thread_row
@@ -45,7 +45,7 @@ tell_item_spec 𝓤 𝓛 𝓜 𝓡 wired T L g dg met =
     use2 𝓛 (later (‵ (notes.lent 𝓛 R κ q nb no' ν n) ⊛ ‵ (flft κ q))) (apply∗ 𝓤 (sem 𝓛 K) _) $ await ! tt $ split ! $ feq_i ! (List Val) z.0.4.1.1.0 (vptr nb no' ∷ []) are.1.1.0.0 $ fjoin ! $
     -- [the row's note; its token; what it knows; the item's note; its token; others; two tokens; what is known of the entry]
     move ! (8 ∷ []) $ fpick ! (λ w. fsplit ! $ let row : Row = asked.2.1.0 in let same_place = one_place t.id w.bucket w.entry t.bucket t.entry (subst (λ k. IsPlace k w.bucket w.entry) asked.0 w.placed) t.placed in let Same : Type 0 = w.row ≡ row in
-    rewrite ! 0 (λ (γ : ℕ). ‵ (known_row γ w.row)) (ap (λ b. name_in f.table b) same_place.0 ∙ sym asked.1) refl $ rewrite ! 4 (λ (k : Option Row). ‵ (noted R n.cell k)) asked.2.1.1 refl $ move ! (0 ∷ 4 ∷ []) $
+    rewrite ! 0 (λ (γ : ℕ). ‵ (known_bucket γ w.row)) (ap (λ b. name_in f.table b) same_place.0 ∙ sym asked.1) refl $ rewrite ! 4 (λ (k : Option Row). ‵ (noted R n.cell k)) asked.2.1.1 refl $ move ! (0 ∷ 4 ∷ []) $
     use2 𝓛 (raw (fact 𝓤 Same)) (notes.noted_agree 𝓛 row_row n.cell (Some w.row) (Some row)) $ heard ! Same (λ same. let cell : w.cell ≡ asked.2.0 = one_cell same same_place.1 w.here asked.2.1.2 in
     let i' : O.Denot = record { marker = record {}; cell = i.cell; known = Some (Some (f.label, w.value)) } in
     rewrite ! 0 (λ (γ : ℕ). ‵ (known_item γ f.label w.value)) (ap (λ (d : Cell). d.1) cell ∙ sym asked.2.2) refl $ move ! (3 ∷ 4 ∷ []) $

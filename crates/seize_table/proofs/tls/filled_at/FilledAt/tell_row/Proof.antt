@@ -8,7 +8,7 @@ use Rattle.std.specs.Prelude.{IfSome}
 use Rattle.once_cell.specs.Once.{noted}
 use Rattle.once_cell.proofs.Notes as notes
 use Rattle.core.specs.contracts.marker.PhantomData as marker
-use Rattle.seize_table.specs.Filled.{filled_at, known_row, name_in, row_row}
+use Rattle.seize_table.specs.Filled.{filled_at, known_bucket, name_in, row_row}
 use Rattle.seize_table.specs.Place.{IsPlace}
 use Rattle.seize_table.specs.Table.{Cell, IsCell}
 use Rattle.seize_table.specs.contracts.thread_id.Thread as thread_row
@@ -40,7 +40,7 @@ tell_row_spec 𝓤 𝓛 𝓜 𝓡 wired T L g dg met =
     enter ! 𝓣.C 𝓣.Λ fn Vs Post $ alloc_all ! (λ l. pass_all ! refl ((tt, tt), ((tt, tt), ((tt, tt), tt))) $
     use2 𝓛 (later (‵ (noted R n.cell n.known) ⊛ raw (all 𝓤 Shuts))) (notes.note_opens 𝓛 R κ q nb no' ν n) $ await ! tt $ split ! $ move ! (5 ∷ []) $ fpick ! (λ w. fsplit ! $
     let place = one_place t.id w.bucket w.entry t.bucket t.entry (subst (λ k. IsPlace k w.bucket w.entry) asked.0 w.placed) t.placed in let n' : N.Denot = record { marker = record {}; cell = n.cell; known = Some w.row } in
-    rewrite ! 0 (λ (γ : ℕ). ‵ (known_row γ w.row)) (ap (λ b. name_in f.table b) place.0 ∙ sym asked.1) refl $ let K : Fml = known_row n.cell w.row in let Same : Type 0 = IfSome n.known (λ r. w.row ≡ r) in
+    rewrite ! 0 (λ (γ : ℕ). ‵ (known_bucket γ w.row)) (ap (λ b. name_in f.table b) place.0 ∙ sym asked.1) refl $ let K : Fml = known_bucket n.cell w.row in let Same : Type 0 = IfSome n.known (λ r. w.row ≡ r) in
     use1 𝓛 (‵ K ⊛ ‵ K) (notes.noted_twice 𝓛 row_row n.cell (Some w.row)) $ split ! $ move ! (0 ∷ 3 ∷ []) $ use2 𝓛 (raw (fact 𝓤 Same)) (notes.noted_agree 𝓛 R n.cell (Some w.row) n.known) $ heard ! Same (λ same. move ! (2 ∷ []) $ use1 𝓛 (raw (Shuts n')) (all_e 𝓤 Shuts n') $ move ! (1 ∷ 0 ∷ []) $
     use2 𝓛 (later (‵ (notes.lent 𝓛 R κ q nb no' ν n') ⊛ ‵ (flft κ q))) (apply∗ 𝓤 (sem 𝓛 (noted R n.cell (Some w.row))) _) $ await ! tt $ split ! $
     -- [the note; its token; what is known of the item; others; two tokens]

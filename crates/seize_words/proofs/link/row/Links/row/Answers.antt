@@ -2,7 +2,7 @@ use Rattle.std.proofs.Common.{List, length, ◌≡◌, ℕ, suc, ◌+◌, ◌++�
 use Rattle.std.specs.Result.{is_ok}
 use Rattle.std.proofs.lemmas.List.{length_push, get_or-replicate}
 use Rattle.seize_book.specs.Begin.{first_links}
-use Rattle.seize_book.specs.Ledger.{Held}
+use Rattle.seize_book.specs.Ledger.{HeldKey}
 use Rattle.seize_words.specs.LinkRows.{IsLinkAt}
 use Rattle.seize_book.specs.Private.{key_of}
 use Rattle.seize_book.specs.Entry.{Entry}
@@ -31,5 +31,5 @@ loop-preserved c =
     let all = pushed n c.loop.row.items link c.loop.invariant.1.1 it c.push.new.self.items items in (
       c.next.ensures.2 ∙ c.loop.invariant.0,
       (ap (λ (l : List Link). length l) items ∙ length_push c.loop.row.items link ∙ ap (λ (k : ℕ). k + 1) c.loop.invariant.1.0, all),
-      (some.0, (let e = some.1 in let f = i.1 in omega arith), c.next.ensures.3 ∙ ap (λ (held : List (Held Entry)). drop 1 held) held ∙ ap (λ (k : ℕ). first_links k some.0) (let e : suc c.loop.counter ≡ c.loop.counter + 1 = omega arith in e)),
+      (some.0, (let e = some.1 in let f = i.1 in omega arith), c.next.ensures.3 ∙ ap (λ (held : List (HeldKey Entry)). drop 1 held) held ∙ ap (λ (k : ℕ). first_links k some.0) (let e : suc c.loop.counter ≡ c.loop.counter + 1 = omega arith in e)),
     )
