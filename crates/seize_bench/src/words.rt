@@ -175,9 +175,10 @@ fn visit(words: &Words<u64>, head: &Head, key: &mut SlotKey, pass: &mut Pass) ->
     ensures links { words_book words.now ≡ pass.new.name }
     ensures at { IfSome result (λ sum. IsAtHead head.now key.new pass.new × IsOutside key.new) }
 {
-    let activation = head.enter(key, pass);
+    let mut activation = Activation::new(key);
+    head.enter(&mut activation, key, pass);
     let sum = sum_links(words, &activation, pass);
-    if !leave(head, activation, key, pass) {
+    if !leave(head, &mut activation, key, pass) {
         return None;
     }
     Some(sum)

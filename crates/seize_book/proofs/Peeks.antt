@@ -34,7 +34,7 @@ use Rattle.seize_book.proofs.Ways.{lead_twice}
 
 -- What is seen can be seen twice, and for a shorter time.
 
-sight_laws : (k v : ℕ) → ShrLaws (λ κ. sight_if k κ v)
+pub sight_laws : (k v : ℕ) → ShrLaws (λ κ. sight_if k κ v)
 sight_laws zero v = nothing_shr_laws
 sight_laws (suc k) v = record {
   contraction = λ M 𝓤 𝓛 κ. qed 𝓛 (‵ (sight_if (suc k) κ v) ∷ []) ∵ fpick ! (λ t. let γ : ℕ = t.0 in let a : ℕ = t.1.0 in let g : Gv = t.1.1 in

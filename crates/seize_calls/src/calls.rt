@@ -12,7 +12,7 @@ ghost use Rattle.seize_book.specs.Adding.{private};
 ghost use Rattle.seize_words.specs.Chunks.{AreSpotsIn, blocks_book};
 ghost use Rattle.seize_machine.specs.Machine.State.{is_idle};
 ghost use Rattle.seize_book.specs.Others.{MayRetire, book_of, value_of};
-ghost use Rattle.seize_words.specs.Reservations.{IsHeadOfBook, IsLastOf, IsOwnHead, beginning};
+ghost use Rattle.seize_words.specs.Reservations.{IsHeadOfBook, IsLastOf, IsOfSlot, IsOwnHead, beginning};
 ghost use Rattle.seize_words.specs.Reserved.{slots_book};
 ghost use Rattle.seize_book.specs.Slots.{IsKeyOfBook, slot_number, slot_of};
 ghost use Rattle.seize_words.specs.Walks.{Knows};
@@ -126,8 +126,8 @@ pub fn retire<T: Drop, R: Reclaim<T>>(
     retired
 }
 
-/// The slot leaves, by its own head. It counts down what waited for it, and hands what is given up. What reclaimers put meanwhile joins the
-/// slot's batch then, which is this one, as with `retire`.
+/// The slot leaves, by its own head, and may enter with the same activation again. It counts down what waited for it, and hands what is
+/// given up. What reclaimers put meanwhile joins the slot's batch then, which is this one, as with `retire`.
 ///
 /// It takes no memory, but for what the reclaimer does, and ends where reclaimers come to put no more. An insertion is tried again as often
 /// as others change the head between a look at it and the try.
@@ -138,7 +138,7 @@ pub fn leave<T: Drop, R: Reclaim<T>>(
     spots: &mut Spots<Header, Part, T>,
     batch: &mut Batch,
     size: usize,
-    activation: Activation,
+    activation: &mut Activation,
     key: &mut SlotKey,
     reclaimer: &mut R,
     pass: &mut Pass,
@@ -147,12 +147,13 @@ pub fn leave<T: Drop, R: Reclaim<T>>(
     requires words { (slots_book slots.now ≡ pass.old.name) × (blocks_book blocks.now ≡ pass.old.name) }
     requires book { IsKeyOfBook key.old pass.old × IsHeadOfBook head.now pass.old × IsOwnHead head.now key.old }
     requires inside { IsInside key.old }
-    requires last { IsLastOf key.old activation }
+    requires last { IsLastOf key.old activation.old }
     requires size { size ≡ pass.old.size }
     requires batch { HasBatch key.old pass.old (keys_in batch.old) }
     requires serves { R.serves reclaimer.old (blocks_book blocks.now) }
     requires spots { AreSpotsIn blocks.now spots.old }
     ensures knows { Knows key.new pass.new }
+    ensures slot { IsOfSlot key.new activation.new }
     ensures serves { R.serves reclaimer.new (blocks_book blocks.now) }
     ensures spots { AreSpotsIn blocks.now spots.new }
     ensures leaves { let swap = private pass.old (SwapOut (slot_number key.old)) in let had = R.had reclaimer.old in

@@ -87,7 +87,7 @@ in_still a pass pass' l goes in_ = (
 -- an activation that has just begun may step on each link
 begun_in : (key : SlotKey) (a : Activation) (pass : Pass) (l : ℕ) → IsActivationOf key a → key.keys.name ≡ pass.name → own_list key ≡ pass.seen → l < length pass.name.links → IsInAt a pass l
 begun_in key a pass l begun book own is =
-    let its : a.name ≡ pass.name = begun.book ∙ book in (
+    let its : a.name ≡ pass.name = begun.of_slot.0 ∙ book in (
       its,
       record {
         active = subst (λ (m : Name). is_active (head_at (after (start m) a.since) a.slot) ≡ true) its begun.active;
@@ -132,7 +132,7 @@ label_is (h ∷ held) v e = some_is _ _ e
 
 -- the slot's last activation stays so
 pub last_kept : (key key' : SlotKey) → slot_book key' ≡ slot_book key → slot_number key' ≡ slot_number key → life_of key' ≡ life_of key → (a : Activation) → IsLastOf key a → IsLastOf key' a
-last_kept key key' book number life a last = (last.0 ∙ sym book, last.1 ∙ sym number, last.2 ∙ sym life)
+last_kept key key' book number life a last = ((last.0.0 ∙ sym book, last.0.1 ∙ sym number, last.0.2), last.1 ∙ sym life)
 
 pub holder_kept : (key key' : SlotKey) (pass pass' : Pass) (s : ℕ) → GoesOn pass pass' → slot_book key' ≡ slot_book key → slot_number key' ≡ slot_number key → IsHolder key pass s → IsHolder key' pass' s
 holder_kept key key' pass pass' s goes book number its =
@@ -175,11 +175,11 @@ module _ (words : Shared) (w : Worker) (may : MayWork words w) (key' : SlotKey) 
   pub entered : Stands words (record { slot = w.slot; size = w.size; key = key'; batch = w.batch; spots = w.spots; pass = pass'; activation = a })
   entered =
       let works = works_on words w.slot w.size w.batch w.key key' w.pass pass' may.0 goes_in notes.1.0 notes.1.1 (ap (λ (z : Slot). z.batch) same_record) in
-      let many = ap (λ (n : Name). length n.links) (sym works.book) ∙ works.links in
+      let many = ap (λ (n : Name). length n.links) (sym works.book) ∙ works.links in let of_slot = is.of_slot in
       record {
         works = works;
-        inside = (ap is_idle same_record ∙ may.1.0, (λ i. is_active (head_at (after (start (sym is.book i)) (sym is.since i)) (sym is.slot i))) ∙ is.active);
-        last = (is.book, is.slot, sym is.its ∙ (λ i. life (is.slot i) (is.since i)));
+        inside = (ap is_idle same_record ∙ may.1.0, (λ i. is_active (head_at (after (start (sym of_slot.0 i)) (sym is.since i)) (sym of_slot.1 i))) ∙ is.active);
+        last = (of_slot, sym is.its ∙ (λ i. life (of_slot.1 i) (is.since i)));
         begun = λ l less. begun_in key' a pass' l is works.holder.0 notes.1.2 (omega (arith, less, many));
         spots = may.2;
       }

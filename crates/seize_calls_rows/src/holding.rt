@@ -95,7 +95,7 @@ impl<'p> Active<'p> {
             activation,
         } = self;
         let held = match words.find(link, &activation, &mut pass).1 {
-            Some(value) => hold(value, signs, marks),
+            Some(found) => hold(found.value, signs, marks),
             None => None,
         };
         let active = Active {

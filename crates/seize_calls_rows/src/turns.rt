@@ -92,13 +92,24 @@ fn flush_and_leave(
     ensures lost { NoneLost pass.old pass.new }
 {
     let (mut spots, mut batch, mut key) = (spots, batch, key);
+    let mut activation = activation;
     let (slots, blocks) = (&words.slots, &words.blocks);
     calls::flush(
         slots, blocks, &mut spots, &mut batch, size, &mut key, counting, pass, rt,
     );
     let head = words.slots.head(slot, pass);
     calls::leave(
-        slots, head, blocks, &mut spots, &mut batch, size, activation, &mut key, counting, pass, rt,
+        slots,
+        head,
+        blocks,
+        &mut spots,
+        &mut batch,
+        size,
+        &mut activation,
+        &mut key,
+        counting,
+        pass,
+        rt,
     );
     Holder {
         slot,
@@ -167,7 +178,8 @@ fn clear(
         batch,
         spots,
     } = holder;
-    let activation = words.enter_head(slot, &mut key, pass);
+    let mut activation = Activation::new(&key);
+    words.enter_head(slot, &mut activation, &mut key, pass);
     flush_and_leave(
         words, spots, slot, size, activation, batch, key, counting, pass, rt,
     )
@@ -196,7 +208,8 @@ fn empty(
         mut batch,
         mut spots,
     } = holder;
-    let activation = words.enter_head(slot, &mut key, pass);
+    let mut activation = Activation::new(&key);
+    words.enter_head(slot, &mut activation, &mut key, pass);
     for link in 0..ROW {
         take_out(
             words,

@@ -155,7 +155,8 @@ impl<'p> Worker<'p> {
             spots,
             mut pass,
         } = self;
-        let activation = words.enter_head(slot, &mut key, &mut pass);
+        let mut activation = Activation::new(&key);
+        words.enter_head(slot, &mut activation, &mut key, &mut pass);
         Active {
             slot,
             size,
@@ -226,7 +227,10 @@ impl<'p> Active<'p> {
             mut pass,
             activation,
         } = self;
-        let found = words.find(link, &activation, &mut pass).1.copied();
+        let found = match words.find(link, &activation, &mut pass).1 {
+            Some(found) => Some(*found.value),
+            None => None,
+        };
         let active = Active {
             slot,
             size,
@@ -443,6 +447,7 @@ fn leave<'p, R: Reclaim<u64>>(
     ensures serves { R.serves reclaimer.new (words_book words.now) }
 {
     let (mut key, mut batch, mut spots, mut pass) = (key, batch, spots, pass);
+    let mut activation = activation;
     let head = words.slots.head(slot, &mut pass);
     calls::leave(
         &words.slots,
@@ -451,7 +456,7 @@ fn leave<'p, R: Reclaim<u64>>(
         &mut spots,
         &mut batch,
         size,
-        activation,
+        &mut activation,
         &mut key,
         reclaimer,
         &mut pass,

@@ -3,13 +3,11 @@ use Rattle.std.proofs.Common.{◌≡◌, ℕ, zero, Bool, true, false, if◌then
 use seplogic.Ra.Ura.{Ura}
 use base.Fraction.{full_share}
 use base.Logic.{SProp, ent, sep, ex}
-use base.Fml.{Lft, Fml, ftrue, flft, fbor}
-use types.Logic.{Logic, sem, lfts}
-use types.Kit.{‵, raw, ◌$◌, ◌∵◌, !, qed, move, keep, fjoin, show, updating, now, done}
-use types.Tokens.{bor_fracture, lft_end, lft_new}
-use denote.Sharing.{one}
+use base.Fml.{Fml, ftrue, flft}
+use types.Logic.{Logic, sem}
+use types.Kit.{‵, ◌$◌, ◌∵◌, !, qed, move, keep, fjoin, show, use1, updating, now, done}
+use types.Tokens.{lft_end, lft_new}
 use denote.Steps.{nothing}
-use denote.Struct.Lending.{Lends}
 use Rattle.seize_machine.specs.Machine.State.{State, head_at, is_active}
 use Rattle.seize_machine.specs.Machine.History.{done_by, is_swap_out}
 use Rattle.seize_machine.specs.declared.machine.event.Answer.{Answer}
@@ -19,6 +17,8 @@ use Rattle.seize_book.specs.Book.{after, IsLegalList}
 use Rattle.seize_book.specs.Entry.{Entry, Made, Used, deeds, timed_deed}
 use Rattle.seize_book.specs.Laws.{life_from, life, lives_after, ended_by, ended_from, ended, none_alive, IsAmong}
 use Rattle.seize_book.specs.Tokens.{over}
+use Rattle.seize_words.specs.Units.{all_units, has_units}
+use Rattle.seize_words.proofs.Units.{units, whole}
 use Rattle.seize_book.proofs.Lives.{legal_first, active_on, in_right, is_ended}
 
 -- an active slot is active still, in the same activation, or that ended
@@ -58,9 +58,6 @@ pub still : (st : State) (own more : List Entry) (s : ℕ) → IsLegalList st (o
     → ((is_active (head_at (after st (own ++ more)) s) ≡ true) × (life s (own ++ more) ≡ life s own)) ⊎ IsAmong (ended (own ++ more)) (life s own)
 still st own more s l a = still_from st none_alive own more s l a
 
-pub activation_lends : {M : Type 1} {𝓤 : Ura M} (𝓛 : Logic 𝓤) (β l : Lft) → Lends 𝓛 (flft β full_share) (one (λ q. flft β q)) l
-activation_lends {𝓤 = 𝓤} 𝓛 β l κ ts inc sp = qed 𝓛 (‵ (fbor κ (flft β full_share)) ∷ raw (lfts 𝓛 ts) ∷ []) ∵ updating ! $ bor_fracture ! tt (λ q. flft β q) full_share $ now ! $ done !
-
 module _ {M : Type 1} {𝓤 : Ura M} (𝓛 : Logic 𝓤) where
   open 𝓛 use {H}
 
@@ -78,17 +75,18 @@ module _ {M : Type 1} {𝓤 : Ura M} (𝓛 : Logic 𝓤) where
 
   infix 26 ◌⊢◌
   infixr 35 ◌∗◌
-  abbrev whole : ℕ → Fml
-  whole a = flft (a ∷ []) full_share
+  abbrev all_of : ℕ → Fml
+  all_of a = has_units a all_units
 
   abbrev pub Alive : ℕ → Pr
-  Alive a = ⟦ whole a ⟧
+  Alive a = ⟦ all_of a ⟧
 
   pub begins : ⟦ ftrue ⟧ ⊢ H.⇛ (ex 𝓤 Alive)
-  begins = qed 𝓛 (‵ ftrue ∷ []) ∵ updating ! $ lft_new ! tt (λ a. now ! $ show ! Alive a $ keep ! (0 ∷ []) $ done !)
+  begins = qed 𝓛 (‵ ftrue ∷ []) ∵ updating ! $ lft_new ! tt (λ a. use1 𝓛 (‵ (all_of a)) (units 𝓛 a) $ now ! $ show ! Alive a $ keep ! (0 ∷ []) $ done !)
 
   abbrev pub After : ℕ → ℕ → Pr
-  After a b = ⟦ whole b ⟧ ∗ ⟦ over (a ∷ []) ⟧
+  After a b = ⟦ all_of b ⟧ ∗ ⟦ over (a ∷ []) ⟧
 
-  pub renews : (a : ℕ) → ⟦ whole a ⟧ ⊢ H.⇛ (ex 𝓤 (After a))
-  renews a = qed 𝓛 (‵ (whole a) ∷ []) ∵ updating ! $ lft_end ! tt $ nothing ! $ move ! (1 ∷ 0 ∷ []) $ fjoin ! $ lft_new ! tt (λ b. now ! $ show ! (After a) b $ keep ! (0 ∷ 1 ∷ []) $ done !)
+  pub renews : (a : ℕ) → ⟦ all_of a ⟧ ⊢ H.⇛ (ex 𝓤 (After a))
+  renews a = qed 𝓛 (‵ (all_of a) ∷ []) ∵ updating ! $ use1 𝓛 (‵ (flft (a ∷ []) full_share)) (whole 𝓛 a) $ lft_end ! tt $ nothing ! $ move ! (1 ∷ 0 ∷ []) $ fjoin ! $
+      lft_new ! tt (λ b. use1 𝓛 (‵ (all_of b)) (units 𝓛 b) $ now ! $ show ! (After a) b $ keep ! (0 ∷ 1 ∷ []) $ done !)

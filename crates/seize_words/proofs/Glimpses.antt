@@ -6,6 +6,7 @@ use base.Fml.{Lft, Share, Fml, ftrue, fsep, flft, flent, fobor, fshr_bor}
 use base.Logic.{SProp, ent, sep, upd, upd_i}
 use types.Kit.{‵, raw, ◌⊛◌, later, updating, await, now, ◌$◌, ◌∵◌, !, qed, move, keep, drop, split, group, fsplit, fjoin, fpick, fpack, suffices, settle, done, use1, use2, use3}
 use types.Logic.{Logic, sem}
+use denote.SharingLaws.{nothing_shr_laws}
 use denote.Steps.{nothing}
 use Rattle.seize_content.specs.Contents.{sight_owns}
 use Rattle.seize_content.specs.Readers.{escrow, reader_share, ready}
@@ -22,6 +23,7 @@ use Rattle.seize_book.specs.Tokens.{Name, keys_own, pass_holds, start}
 use Rattle.seize_words.specs.Words.{IsKeyOf, Site, Stands, StandsOf}
 use Rattle.seize_book.specs.declared.book.pass.Pass.{Pass}
 use Rattle.seize_book.proofs.Lives.{living}
+use Rattle.seize_book.proofs.Peeks.{sight_laws}
 use Rattle.seize_words.proofs.Sights.{keys_read}
 use Rattle.seize_book.proofs.Loans.{pass_shows}
 use Rattle.seize_words.proofs.Steps.{Takes, had_then, left_then}
@@ -108,3 +110,8 @@ module _ {M : Type 1} {𝓤 : Ura M} (𝓛 : Logic 𝓤) where
     pub closes_glimpse : (o : Option ℕ) → ⟦ taken_share γ o ⟧ ∗ A.obor β q (escrow γ) ∗ A.shr_bor κ (λ s. flft β s) ⊢ H.⇛ (⟦ glimpse κ o ⟧ ∗ A.lft β q)
     closes_glimpse None = closes_of zero 0
     closes_glimpse (Some v) = closes_of (loan_of v) v
+
+  -- what a glimpse shows it shows twice
+  pub glimpse_twice : (κ : Lft) (o : Option ℕ) → ⟦ glimpse κ o ⟧ ⊢ ⟦ glimpse κ o ⟧ ∗ ⟦ glimpse κ o ⟧
+  glimpse_twice κ None = nothing_shr_laws.contraction M 𝓤 𝓛 κ
+  glimpse_twice κ (Some v) = (sight_laws (loan_of v) v).contraction M 𝓤 𝓛 κ

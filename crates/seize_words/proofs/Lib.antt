@@ -18,6 +18,7 @@ pub mod Noted
 pub mod Joined
 pub mod Exchanges
 pub mod Exchanged
+pub mod Units
 pub mod Activations
 pub mod Chunked
 pub mod Reserved

@@ -1,23 +1,41 @@
 -- The words in which the contracts of activations speak.
---     IsNewOf keys a           it is one of the slot that the keys are of
---     Begun a keys a'          it has begun with what the keys know
+--     IsWhole a                it has all units of its lifetime
+--     IsActivationFor keys a   it is one of the slot that the keys are of, and whole
+--     BeginsAs a keys a'       it has begun with what the keys know
 --     IsLasting a pass         it has not ended in what the pass has seen
---     Renewed a a' lives next  its lifetime is over, and it is another one of the same slot, with the next
-use Rattle.std.specs.Prelude.{◌≡◌, ℕ, List, [], ◌∷◌}
+--     Ends a a' lives next     its lifetime is over, and it is another one of the same slot, with the next
+--     SplitsUnit a a' unit     one unit was split off: a' and the unit are the same activation as a;  JoinsUnits a units a'   units came back
+use Rattle.std.specs.Prelude.{◌≡◌, ℕ, ◌+◌, ◌^◌, List, [], ◌∷◌}
 use Rattle.seize_book.specs.Laws.{IsAmong, ended}
 use Rattle.seize_book.specs.Private.{key_of, own_of}
+use Rattle.seize_words.specs.Units.{all_units}
 use Rattle.seize_words.specs.declared.activation.Activation.{Activation}
 use Rattle.seize_book.specs.declared.book.keys.Keys.{Keys}
 use Rattle.seize_book.specs.declared.book.pass.Pass.{Pass}
 
-abbrev pub IsNewOf : Keys → Activation → Type 0
-IsNewOf keys a = (a.name ≡ keys.name) × (a.slot ≡ key_of keys.held)
+abbrev pub IsWhole : Activation → Type 0
+IsWhole a = a.units ≡ all_units
 
-abbrev pub Begun : Activation → Keys → Activation → Type 0
-Begun a keys a' = (a'.name ≡ a.name) × (a'.slot ≡ a.slot) × (a'.life ≡ a.life) × (a'.since ≡ own_of keys.held)
+abbrev pub IsActivationFor : Keys → Activation → Type 0
+IsActivationFor keys a = (a.name ≡ keys.name) × (a.slot ≡ key_of keys.held) × IsWhole a
+
+abbrev pub BeginsAs : Activation → Keys → Activation → Type 0
+BeginsAs a keys a' =
+    (a'.name ≡ a.name) × (a'.slot ≡ a.slot) × (a'.life ≡ a.life) × (a'.since ≡ own_of keys.held) × (a'.units ≡ a.units)
 
 abbrev pub IsLasting : Activation → Pass → Type 0
 IsLasting a pass = ¬ (IsAmong (ended pass.seen) a.life)
 
-abbrev pub Renewed : Activation → Activation → List ℕ → ℕ → Type 0
-Renewed a a' lives next = (a'.name ≡ a.name) × (a'.slot ≡ a.slot) × (lives ≡ a.life ∷ []) × (next ≡ a'.life)
+abbrev pub Ends : Activation → Activation → List ℕ → ℕ → Type 0
+Ends a a' lives next =
+    (a'.name ≡ a.name) × (a'.slot ≡ a.slot) × (lives ≡ a.life ∷ []) × (next ≡ a'.life) × IsWhole a'
+
+-- the same activation, with so many units
+abbrev pub with_units : Activation → ℕ → Activation
+with_units a n = record a { units = n }
+
+abbrev pub SplitsUnit : Activation → Activation → Activation → Type 0
+SplitsUnit a a' unit = (unit ≡ with_units a 1) × (a' ≡ with_units a a'.units) × (a'.units + 1 ≡ a.units)
+
+abbrev pub JoinsUnits : Activation → Activation → Activation → Type 0
+JoinsUnits a units a' = a' ≡ with_units a (a.units + units.units)

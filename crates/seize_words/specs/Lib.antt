@@ -1,3 +1,4 @@
+pub mod Units
 pub mod Glimpses
 pub mod Counts
 pub mod Words

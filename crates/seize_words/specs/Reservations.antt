@@ -7,8 +7,8 @@
 --                                 to what the slot saw, and to its batch's first block. The block's number fits beside 2
 --     IsOwnHead head key, IsOut key stays     it is the slot's own head;  the slot's call is about to swap it out
 --     WalksFrom head key' v queue         the slot's call walks the batches that the word v of the head shows, and goes on with this queue
---     IsLastOf key a                      it is the slot's last activation
---     IsActivationOf key a                it has begun with what the key knows last
+--     IsOfSlot key a                      it is an activation of the key's slot, with all units
+--     IsLastOf key a                      and the slot's last one;  IsActivationOf key a     and it has begun with what the key knows last
 --     head_known key                      the head, as its key knows;  IsHeadOf head key     it is that of the key
 use Rattle.std.specs.Prelude.{◌≡◌, ℕ, ◌+◌, ◌<◌, ◌^◌, Bool, true, List, [], ◌∷◌, ◌++◌, Some}
 use Rattle.seize_machine.specs.Machine.Event.{Event}
@@ -16,6 +16,7 @@ use Rattle.seize_machine.specs.Machine.State.{Head as MachineHead, Out, Rest, he
 use Rattle.seize_book.specs.Blocks.{block_for, head_word, list_word}
 use Rattle.seize_book.specs.Book.{after}
 use Rattle.seize_book.specs.Entry.{Entry, Deed}
+use Rattle.seize_words.specs.Activations.{IsActivationFor}
 use Rattle.seize_words.specs.Headers.{HasWritten}
 use Rattle.seize_words.specs.Heads.{IsMade, IsTrying, reads}
 use Rattle.seize_book.specs.Laws.{life}
@@ -64,8 +65,11 @@ WalksFrom head key' v queue =
     (walk : List ℕ) × ((slot_of key').call ≡ Some (record { place = Rest [] walk; queue = queue }))
     × (v ≡ list_word (λ b. block_for (start_of key') (own_list key') b (slot head)) walk)
 
+abbrev pub IsOfSlot : SlotKey → Activation → Type 0
+IsOfSlot key a = IsActivationFor key.keys a
+
 abbrev pub IsLastOf : SlotKey → Activation → Type 0
-IsLastOf key a = (a.name ≡ key.keys.name) × (a.slot ≡ slot_number key) × (a.life ≡ life_of key)
+IsLastOf key a = IsOfSlot key a × (a.life ≡ life_of key)
 
 -- the entry of an event that begins an activation with this lifetime
 abbrev pub beginning : Pass → ℕ → Event → Deed
@@ -73,8 +77,7 @@ beginning pass life event = record { pass = pass.id; size = pass.size; event = e
 
 -- it has begun with what the key knows last
 pub record IsActivationOf (key : SlotKey) (a : Activation) : Type 0 where
-  pub book : a.name ≡ key.keys.name
-  pub slot : a.slot ≡ slot_number key
+  pub of_slot : IsOfSlot key a
   pub since : a.since ≡ own_list key
   pub active : is_active (head_at (after (start a.name) a.since) a.slot) ≡ true
   pub its : life a.slot a.since ≡ a.life

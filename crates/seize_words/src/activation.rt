@@ -1,39 +1,45 @@
 //! Activations: each lasts from when a slot enters or refreshes until it leaves or refreshes. Nothing here has bytes. An activation has a
-//! lifetime of its own, which whoever borrows it knows to last; what readers are lent can be lent for that long.
+//! lifetime of its own, which each of its borrowers knows to last; what readers are lent can be lent for that long.
 ghost use Rattle.std.specs.Prelude.{◌≡◌, ℕ, List, [], ◌∷◌};
 ghost use base.Fml.{flft};
-ghost use base.Fraction.{full_share};
 ghost use base.Stored.{coded_list};
 ghost use denote.Sharing.{one};
 ghost use Rattle.std.specs.Coded.{coded_ℕ};
 ghost use Rattle.seize_book.specs.Entry.{Entry, entry_coded};
 ghost use Rattle.seize_book.specs.Tokens.{Name, name_coded, over};
+ghost use Rattle.seize_words.specs.Units.{has_units};
 
-use seize_book::book::{Keys, Pass};
+use seize_book::book::{Keys, Pass, SlotKey};
 use std::marker::{Model, PhantomData};
 
-/// One activation of a slot, in the hands of who made it. While it is borrowed, the slot neither leaves nor refreshes.
+/// One activation of a slot after the other: the slot enters, refreshes and leaves with it. While it is borrowed, the slot does neither.
 ///
-/// Where it is dropped, its slot can't leave any more: it stays active for good, and what waits for it is never reclaimed.
+/// It consists of 2^64 units, and each of those who read beside one another can have one (`split`): a unit is an `Activation` too, with which
+/// links are read. The slot refreshes and leaves with all units only. Where a unit is dropped or forgotten, its slot can't leave any more: it
+/// stays active for good, and what waits for it is never reclaimed.
+#[derive(Drop)]
 pub struct Activation {
     marker: PhantomData<()>,
     /// The book.
     pub ghost name: { Name } by { name_coded },
-    /// The slot that is active, by its number.
+    /// The slot, by its number.
     pub ghost slot: { ℕ },
     /// Its lifetime.
     pub ghost life: { ℕ },
     /// The list as it was when it had begun.
     pub ghost since: { List Entry } by { coded_list entry_coded },
+    /// How many of the units it has.
+    pub ghost units: { ℕ },
 }
 
 impl Model for Activation {
-    ghost also_owns = { λ a. flft (a.life ∷ []) full_share };
+    ghost also_owns = { λ a. has_units a.life a.units };
 
     ghost also_shares = { λ a _ κ. one (λ q. flft (a.life ∷ []) q) κ };
 }
 
 /// Lifetimes of activations that are over, and the one that comes next.
+#[derive(Drop)]
 pub(crate) struct Ended {
     marker: PhantomData<()>,
     pub(crate) ghost lives: { List ℕ } by { coded_list coded_ℕ },
@@ -45,20 +51,47 @@ impl Model for Ended {
 }
 
 impl Activation {
-    ghost use Rattle.seize_words.specs.Activations.{Begun, IsLasting, IsNewOf, Renewed};
+    ghost use Rattle.std.specs.Prelude.{◌+◌, ◌<◌, ◌≤◌};
+    ghost use Rattle.seize_words.specs.Activations.{BeginsAs, Ends, IsActivationFor, IsLasting, IsWhole, JoinsUnits, SplitsUnit};
+    ghost use Rattle.seize_words.specs.Reservations.{IsOfSlot};
+    ghost use Rattle.seize_words.specs.Units.{all_units};
 
-    /// A new one of the slot that the key is of. It has still to begin.
-    pub(crate) fn new(keys: &mut Keys) -> Activation
-        ensures { IsNewOf keys.old result × (keys.new ≡ keys.old) }
+    /// An activation of the slot that has still to begin (`Head::enter`).
+    pub fn new(key: &SlotKey) -> Activation
+        ensures { IsOfSlot key.now result }
+    {
+        Activation::of(&key.keys)
+    }
+
+    // One of the slot that the key is of.
+    fn of(keys: &Keys) -> Activation
+        ensures { IsActivationFor keys.now result }
     {
         Activation {
             marker: PhantomData,
         }
     }
 
+    /// Splits off one unit, which others can read links with, for as long as the slot neither leaves nor refreshes.
+    pub fn split(&mut self) -> Activation
+        requires { 1 < self.old.units }
+        ensures { SplitsUnit self.old self.new result }
+    {
+        Activation {
+            marker: PhantomData,
+        }
+    }
+
+    /// Takes units of the same activation back.
+    pub fn join(&mut self, units: Activation)
+        requires same { units.life ≡ self.old.life }
+        requires fits { self.old.units + units.units ≤ all_units }
+        ensures { JoinsUnits self.old units self.new }
+    {}
+
     /// It has begun with the last event of its slot.
-    pub(crate) fn begun(&mut self, keys: &mut Keys)
-        ensures { Begun self.old keys.old self.new × (keys.new ≡ keys.old) }
+    pub(crate) fn begin(&mut self, keys: &mut Keys)
+        ensures { BeginsAs self.old keys.old self.new × (keys.new ≡ keys.old) }
     {}
 
     /// It has not ended in what the pass has seen, since it is borrowed. So a value that was found in it was not reclaimed there
@@ -68,24 +101,13 @@ impl Activation {
     {}
 
     /// Ends it. It is another one then, which has still to begin.
-    pub(crate) fn renew(&mut self) -> Ended
-        ensures { Renewed self.old self.new result.lives result.next }
+    pub(crate) fn end(&mut self) -> Ended
+        requires { IsWhole self.old }
+        ensures { Ends self.old self.new result.lives result.next }
     {
         Ended {
             marker: PhantomData,
         }
-    }
-}
-
-impl Drop for Activation {
-    fn drop(self) {
-        let Self { marker: _ } = self;
-    }
-}
-
-impl Drop for Ended {
-    fn drop(self) {
-        let Self { marker: _ } = self;
     }
 }
 

@@ -21,7 +21,7 @@ pub struct Head {
 }
 
 impl Head {
-    ghost use Rattle.seize_words.specs.Reservations.{FoundBefore, IsActivationOf, IsHeadOf, IsHeadOfBook, IsLastOf, IsOut, IsOwnHead, MayRead, ShowsHead, TriesAt, WalksFrom, beginning, head_known, slot};
+    ghost use Rattle.seize_words.specs.Reservations.{FoundBefore, IsActivationOf, IsHeadOf, IsHeadOfBook, IsLastOf, IsOfSlot, IsOut, IsOwnHead, MayRead, ShowsHead, TriesAt, WalksFrom, beginning, head_known, slot};
     ghost use Rattle.seize_book.specs.Slots.{IsKeyOfBook, Notes, NotesAs, active_of, slot_number, slot_of};
 
     /// The word of an inactive slot's head. The slot may be one that is not there yet.
@@ -65,32 +65,32 @@ impl Head {
     /// The slot becomes active: the event `Enter`, which begins the activation.
     ///
     /// It takes no memory and waits for nobody: one atomic swap.
-    pub fn enter(&self, key: &mut SlotKey, pass: &mut Pass) -> Activation
+    pub fn enter(&self, activation: &mut Activation, key: &mut SlotKey, pass: &mut Pass)
         requires book { IsKeyOfBook key.old pass.old × IsHeadOfBook self.now pass.old × IsOwnHead self.now key.old }
         requires outside { (is_idle (slot_of key.old) ≡ true) × (active_of key.old ≡ false) }
-        ensures noted { NotesAs key.old pass.old key.new pass.new (beginning pass.old result.life (Enter (slot_number key.old))) }
-        ensures activation { IsActivationOf key.new result }
+        requires slot { IsOfSlot key.old activation.old }
+        ensures noted { NotesAs key.old pass.old key.new pass.new (beginning pass.old activation.new.life (Enter (slot_number key.old))) }
+        ensures activation { IsActivationOf key.new activation.new }
     {
-        let mut activation = Activation::new(&mut key.keys);
-        let mut ended = activation.renew();
+        let mut ended = activation.end();
         self.word.swap::<Brand>(1, &mut key.keys, &mut ended, pass);
-        activation.begun(&mut key.keys);
-        activation
+        activation.begin(&mut key.keys);
     }
 
-    /// The slot leaves: the event `SwapOut` of a leave, which ends the activation. It gives the word of the head that comes out.
+    /// The slot leaves: the event `SwapOut` of a leave, which ends the activation. It gives the word of the head that comes out. The slot
+    /// may enter with the same activation again.
     ///
     /// It takes no memory and waits for nobody: one atomic swap.
-    pub fn leave(&self, activation: Activation, key: &mut SlotKey, pass: &mut Pass) -> u64
+    pub fn leave(&self, activation: &mut Activation, key: &mut SlotKey, pass: &mut Pass) -> u64
         requires book { IsKeyOfBook key.old pass.old × IsHeadOfBook self.now pass.old × IsOwnHead self.now key.old }
         requires leaving { IsOut key.old false }
-        requires last { IsLastOf key.old activation }
+        requires last { IsLastOf key.old activation.old }
         ensures noted { Notes key.old pass.old key.new pass.new (SwapOut (slot_number key.old)) }
+        ensures slot { IsOfSlot key.new activation.new }
         ensures found { FoundBefore self.now pass.new result }
         ensures walks { (leaving : IsOut key.old false) → WalksFrom self.now key.new result leaving.0 }
     {
-        let mut last = activation;
-        let mut ended = last.renew();
+        let mut ended = activation.end();
         self.word.swap::<Brand>(0, &mut key.keys, &mut ended, pass)
     }
 
@@ -107,9 +107,9 @@ impl Head {
         ensures found { FoundBefore self.now pass.new result }
         ensures walks { (refreshing : IsOut key.old true) → WalksFrom self.now key.new result refreshing.0 }
     {
-        let mut ended = activation.renew();
+        let mut ended = activation.end();
         let word = self.word.swap::<Brand>(1, &mut key.keys, &mut ended, pass);
-        activation.begun(&mut key.keys);
+        activation.begin(&mut key.keys);
         word
     }
 }

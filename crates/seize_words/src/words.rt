@@ -8,7 +8,7 @@ ghost use Rattle.seize_words.specs.Reserved.{slots_book};
 use crate::activation::Activation;
 use crate::blocks::Blocks;
 use crate::chunk::{Header, Part};
-use crate::glimpse::Glimpse;
+use crate::glimpse::{Found, Glimpse};
 use crate::link::{Expects, Links, MaybeKey};
 use crate::slots::{NextSlot, Reservation, Slots};
 use seize_book::book::{
@@ -49,7 +49,7 @@ impl<T: Drop> Words<T> {
     ghost use Rattle.seize_book.specs.Porters.{Opens};
     ghost use Rattle.seize_words.specs.Chunks.{IsFoundAs};
     ghost use Rattle.seize_words.specs.LinkWords.{CompareExchanges, Finds, Sees, Swaps, held_before};
-    ghost use Rattle.seize_words.specs.Reservations.{FoundBefore, IsActivationOf, IsLastOf, IsOut, ShowsHead, WalksFrom, beginning};
+    ghost use Rattle.seize_words.specs.Reservations.{FoundBefore, IsActivationOf, IsLastOf, IsOfSlot, IsOut, ShowsHead, WalksFrom, beginning};
     ghost use Rattle.seize_words.specs.Reserved.{HasNextSlot, IsSameNext, MakesNextSlot};
     ghost use Rattle.seize_book.specs.Slots.{IsKeyOfBook, Notes, NotesAs, active_of, slot_number, slot_of};
     ghost use Rattle.seize_words.specs.Totals.{NumbersOf, slots_seen};
@@ -154,14 +154,20 @@ impl<T: Drop> Words<T> {
     /// The slot becomes active: the event `Enter`, which begins the activation. See `Head::enter`.
     ///
     /// It takes no memory and waits for nobody: the look-up of the head, as `Slots::head`, and one atomic swap.
-    pub fn enter_head(&self, slot: usize, key: &mut SlotKey, pass: &mut Pass) -> Activation
+    pub fn enter_head(
+        &self,
+        slot: usize,
+        activation: &mut Activation,
+        key: &mut SlotKey,
+        pass: &mut Pass,
+    )
         requires book { words_book self.now ≡ pass.old.name }
-        requires holder { IsHolder key.old pass.old slot }
+        requires holder { IsHolder key.old pass.old slot × IsOfSlot key.old activation.old }
         requires outside { (is_idle (slot_of key.old) ≡ true) × (active_of key.old ≡ false) }
-        ensures noted { NotesAs key.old pass.old key.new pass.new (beginning pass.old result.life (Enter slot)) }
-        ensures activation { IsActivationOf key.new result }
+        ensures noted { NotesAs key.old pass.old key.new pass.new (beginning pass.old activation.new.life (Enter slot)) }
+        ensures activation { IsActivationOf key.new activation.new }
     {
-        self.slots.head(slot, pass).enter(key, pass)
+        self.slots.head(slot, pass).enter(activation, key, pass);
     }
 
     /// Reads a slot's head: the event `ReadHead`. See `Head::read`.
@@ -203,14 +209,15 @@ impl<T: Drop> Words<T> {
     pub fn swap_out(
         &self,
         slot: usize,
-        activation: Activation,
+        activation: &mut Activation,
         key: &mut SlotKey,
         pass: &mut Pass,
     ) -> u64
         requires book { words_book self.now ≡ pass.old.name }
         requires holder { IsHolder key.old pass.old slot }
-        requires leaving { IsOut key.old false × IsLastOf key.old activation }
+        requires leaving { IsOut key.old false × IsLastOf key.old activation.old }
         ensures noted { Notes key.old pass.old key.new pass.new (SwapOut slot) }
+        ensures slot { IsOfSlot key.new activation.new }
         ensures found { OnHead (words_book self.now) slot (λ head. FoundBefore head pass.new result) }
         ensures walks { (out : IsOut key.old false) → OnHead (words_book self.now) slot (λ head. WalksFrom head key.new result out.0) }
     {
@@ -305,7 +312,7 @@ impl<T: Drop> Words<T> {
 
     /// Finds what a link holds: the event `ReadLink`, after which the pass looks at the list. It gives the link's word, and what is lent
     /// with the value there, if there is one, for as long as the words and the activation are borrowed: other threads may take the value
-    /// out meanwhile, and retire it.
+    /// out meanwhile, and retire it. With it comes what the list calls the value.
     ///
     /// It takes no memory: one load of the link, and the look-up of a block, as `Blocks::see`.
     pub fn find<'g>(
@@ -313,18 +320,20 @@ impl<T: Drop> Words<T> {
         link: usize,
         activation: &'g Activation,
         pass: &mut Pass,
-    ) -> (u64, Option<&'g T>)
+    ) -> (u64, Option<Found<'g, T>>)
         requires book { words_book self.now ≡ pass.old.name }
         requires within { IsInAt activation.now pass.old link }
-        ensures finds { OnLink (words_book self.now) link (λ link. (found : Finds link activation.now pass.old pass.new result.0)
-            × (is_some result.1 ≡ is_some (held_before found.reads))
-            × IfSome result.1 (λ value. IsFoundAs (held_before found.reads) (T.row.coded.code value.now))) }
+        ensures finds { OnLink (words_book self.now) link (λ link. (finds : Finds link activation.now pass.old pass.new result.0)
+            × (is_some result.1 ≡ is_some (held_before finds.reads))
+            × IfSome result.1 (λ found. (found.glimpse.value ≡ held_before finds.reads)
+            × IsFoundAs found.glimpse.value (T.row.coded.code found.value.now))) }
     {
-        let (word, glimpse) = self.read_link(link, activation, pass);
+        let (word, mut glimpse) = self.read_link(link, activation, pass);
         if word == 0 {
             return (word, None);
         }
-        (word, Some(self.blocks.see(word - 1, glimpse, pass)))
+        let value = self.blocks.see(word - 1, glimpse.again(), pass);
+        (word, Some(Found { value, glimpse }))
     }
 
     /// Exchanges what a link holds for a value that was never named, or for none, in any case: the event `ExchangeLink`. See `Link::swap`.

@@ -88,7 +88,7 @@ holder_as key pass pass' s same seen its =
 
 -- an entry that begins no activation leaves the slot's last one
 pub last_still : (key key' : SlotKey) (pass pass' : Pass) (a : Activation) (d : Deed) → NotesAs key pass key' pass' d → starts (slot_number key) d.event ≡ false → IsLastOf key a → IsLastOf key' a
-last_still key key' pass pass' a d noted none last = (last.0 ∙ sym noted.1.0, last.1 ∙ sym noted.1.1, last.2 ∙ sym (life_kept key key' pass pass' d noted none))
+last_still key key' pass pass' a d noted none last = ((last.0.0 ∙ sym noted.1.0, last.0.1 ∙ sym noted.1.1, last.0.2), last.1 ∙ sym (life_kept key key' pass pass' d noted none))
 
 -- A walk of a head whose word was 1 is over.
 

@@ -101,9 +101,9 @@ pub fn take_out(words: &Words<u64>, link: usize, activation: &Activation, pass: 
 }
 
 // Begins to leave, and swaps the head out. It gives the head's word.
-fn swap_out(head: &Head, activation: Activation, key: &mut SlotKey, pass: &mut Pass) -> u64
+fn swap_out(head: &Head, activation: &mut Activation, key: &mut SlotKey, pass: &mut Pass) -> u64
     requires at { IsAtHead head.now key.old pass.old }
-    requires inside { IsInside key.old × IsLastOf key.old activation }
+    requires inside { IsInside key.old × IsLastOf key.old activation.old }
     ensures at { IsAtHead head.now key.new pass.new }
     ensures goes_on { GoesOn pass.old pass.new }
     ensures out { IsOutOrOver key.new result }
@@ -114,9 +114,9 @@ fn swap_out(head: &Head, activation: Activation, key: &mut SlotKey, pass: &mut P
 }
 
 /// Leaves by its head. It says whether nothing was waiting: then the call is over.
-pub fn leave(head: &Head, activation: Activation, key: &mut SlotKey, pass: &mut Pass) -> bool
+pub fn leave(head: &Head, activation: &mut Activation, key: &mut SlotKey, pass: &mut Pass) -> bool
     requires at { IsAtHead head.now key.old pass.old }
-    requires inside { IsInside key.old × IsLastOf key.old activation }
+    requires inside { IsInside key.old × IsLastOf key.old activation.old }
     ensures at { IsAtHead head.now key.new pass.new }
     ensures goes_on { GoesOn pass.old pass.new }
     ensures outside { result ≡ true → IsOutside key.new }
@@ -139,8 +139,9 @@ pub fn enter_and_leave(head: &Head, key: &mut SlotKey, pass: &mut Pass) -> bool
     ensures outside { result ≡ true → IsOutside key.new }
     ensures did { result ≡ true → Did key.old key.new (visit_events (slot_number key.old)) }
 {
-    let activation = head.enter(key, pass);
-    leave(head, activation, key, pass)
+    let mut activation = Activation::new(key);
+    head.enter(&mut activation, key, pass);
+    leave(head, &mut activation, key, pass)
 }
 
 // Enters, swaps the value of a new block into the link, and leaves. It gives the word that it put in and that of what came out. Nothing
@@ -159,9 +160,10 @@ fn swap_once(
     ensures outside { IfSome result (λ found. IsHolder key.new pass.new slot × IsOutside key.new) }
 {
     let head = words.slots.head(slot, pass);
-    let activation = head.enter(key, pass);
+    let mut activation = Activation::new(key);
+    head.enter(&mut activation, key, pass);
     let found = put_in(words, link, value, &activation, pass);
-    if !leave(head, activation, key, pass) {
+    if !leave(head, &mut activation, key, pass) {
         return None;
     }
     found
@@ -337,7 +339,8 @@ impl<'p> Entrant<'p> {
             mut key,
             mut pass,
         } = self;
-        let activation = words.enter_head(slot, &mut key, &mut pass);
+        let mut activation = Activation::new(&key);
+        words.enter_head(slot, &mut activation, &mut key, &mut pass);
         let (mut sum, mut held): (u64, u64) = (0, 0);
         for link in 0..LINKS {
             let word = take_out(words, link as usize, &activation, &mut pass);
@@ -365,10 +368,11 @@ impl<'p> Entrant<'p> {
             mut pass,
         } = self;
         let head = words.slots.head(slot, &mut pass);
-        let activation = head.enter(&mut key, &mut pass);
+        let mut activation = Activation::new(&key);
+        head.enter(&mut activation, &mut key, &mut pass);
         put_in(words, into, value, &activation, &mut pass)?;
         let seen = wait_for(words, from, &activation, &mut pass)?;
-        if leave(head, activation, &mut key, &mut pass) {
+        if leave(head, &mut activation, &mut key, &mut pass) {
             Some(seen)
         } else {
             None
@@ -385,7 +389,8 @@ impl<'p> Entrant<'p> {
             mut key,
             mut pass,
         } = self;
-        let activation = words.enter_head(slot, &mut key, &mut pass);
+        let mut activation = Activation::new(&key);
+        words.enter_head(slot, &mut activation, &mut key, &mut pass);
         put_in(words, link, value, &activation, &mut pass)?;
         see_lost(words, link, value.wrapping_add(1), &activation, &mut pass)
     }
@@ -401,7 +406,8 @@ impl<'p> Entrant<'p> {
             mut key,
             mut pass,
         } = self;
-        let activation = words.enter_head(slot, &mut key, &mut pass);
+        let mut activation = Activation::new(&key);
+        words.enter_head(slot, &mut activation, &mut key, &mut pass);
         let word = match put_in(words, link, 0, &activation, &mut pass) {
             Some((word, _)) => word,
             None => 0,
@@ -498,7 +504,10 @@ pub fn share_and_find(
     let mut pass = pass_for(words, porter, book, activation);
     let (mut last, mut rises): (u64, u64) = (0, 0);
     for _ in 0..count {
-        let found = words.find(link, activation, &mut pass).1.copied();
+        let found = match words.find(link, activation, &mut pass).1 {
+            Some(found) => Some(*found.value),
+            None => None,
+        };
         if found.is_some_and(|value| value >= last) {
             rises = rises.wrapping_add(1);
         }

@@ -12,7 +12,7 @@ ghost use Rattle.seize_book.specs.Slots.{IsKeyOfBook, written_of};
 ghost use Rattle.seize_words.specs.Headers.{IsFieldOfBook, Stores, field_number};
 ghost use Rattle.seize_words.specs.Joined.{words_book};
 ghost use Rattle.seize_words.specs.Named.{numbers_book};
-ghost use Rattle.seize_words.specs.Reservations.{IsLastOf};
+ghost use Rattle.seize_words.specs.Reservations.{IsLastOf, IsOfSlot};
 ghost use Rattle.seize_words.specs.Reserved.{HasNextSlot};
 ghost use Rattle.seize_words.specs.Totals.{made_of};
 ghost use Rattle.seize_words_rows.specs.NumberedRuns.{StandsAt, UsesBoth};
@@ -72,12 +72,18 @@ fn make_slots(
 }
 
 /// The reader enters.
-pub fn enter(words: &Words<u64>, reader: &mut SlotKey, pass: &mut Pass) -> Activation
+pub fn enter(
+    words: &Words<u64>,
+    activation: &mut Activation,
+    reader: &mut SlotKey,
+    pass: &mut Pass,
+)
     requires sees { Sees (words_book words.now) pass.old two_made × Knows (words_book words.now) reader.old 0 one_made }
+    requires slot { IsOfSlot reader.old activation.old }
     ensures leads { Leads (words_book words.now) pass.new reader.new 0 entered }
-    ensures last { IsLastOf reader.new result }
+    ensures last { IsLastOf reader.new activation.new }
 {
-    words.enter_head(0, reader, pass)
+    words.enter_head(0, activation, reader, pass);
 }
 
 /// The other slot retires the value from a block of the store, which is lent. Its batch is full with that, so its call is to read the
@@ -164,11 +170,11 @@ pub fn leave(
     words: &Words<u64>,
     retired: &Retired,
     reader: &mut SlotKey,
-    activation: Activation,
+    activation: &mut Activation,
     pass: &mut Pass,
 ) -> u64
     requires stands { StandsAt words.now retired.now pass.old inserted reader.old 0 (λ v. entered) }
-    requires last { IsLastOf reader.old activation }
+    requires last { IsLastOf reader.old activation.old }
     ensures found { result ≡ retired.now.lent.number + 2 }
     ensures stands { StandsAt words.now retired.now pass.new left reader.new 0 left }
 {

@@ -107,7 +107,8 @@ impl Entrant<'_> {
             mut key,
             mut pass,
         } = self;
-        let activation = words.enter_head(slot, &mut key, &mut pass);
+        let mut activation = Activation::new(&key);
+        words.enter_head(slot, &mut activation, &mut key, &mut pass);
         let (mut left, mut won): (u64, u64) = (0, 0);
         for turn in 0..turns {
             let (put, out, one) = replace_in_time(

@@ -117,7 +117,8 @@ fn a_batch_is_counted_by_the_number_of_its_block(rt: HostRuntime) {
     let Some((words, mut reader, mut retirer, mut pass)) = numbered_run::begin(rt.alloc()) else {
         panic!(rt; "no memory");
     };
-    let activation = numbered_run::enter(&words, &mut reader, &mut pass);
+    let mut activation = Activation::new(&reader);
+    numbered_run::enter(&words, &mut activation, &mut reader, &mut pass);
     let Some(mut retired) = numbered_run::retire(&words, 70, &mut retirer, &mut pass) else {
         panic!(rt; "no memory");
     };
@@ -126,7 +127,7 @@ fn a_batch_is_counted_by_the_number_of_its_block(rt: HostRuntime) {
     let seen = numbered_run::detach(&words, &retired, &mut retirer, &mut pass);
     let found = numbered_run::insert(&words, &retired, &mut retirer, &mut pass);
     assert_eq!(rt; (seen, found), (1, 1));
-    let list = numbered_run::leave(&words, &retired, &mut reader, activation, &mut pass);
+    let list = numbered_run::leave(&words, &retired, &mut reader, &mut activation, &mut pass);
     assert_eq!(rt; list, retired.lent.number + 2);
     let counted = numbered_run::count_down(&words, &retired, &mut reader, &mut pass);
     assert_eq!(rt; counted, (false, u64::MAX));

@@ -11,7 +11,8 @@ use Rattle.seize_book.specs.declared.book.pass.Pass.{Pass}
 use Rattle.seize_words.proofs.Facts.{knows_noted}
 use Rattle.seize_calls.specs.Furthers.{further_in}
 use Rattle.seize_calls.specs.Settling.{call_state}
-use Rattle.seize_calls.proofs.Events.{begins_so, call_begun, leave_so}
+use Rattle.seize_calls.proofs.Events.{begins_so, call_begun, keeps_returned, leave_so}
+use Rattle.seize_calls.proofs.Onwards.{keeps_onward, onward_twice}
 use Rattle.seize_calls.proofs.Whole.{none_queued}
 use Rattle.seize_calls.proofs.Leaving.{at_walk, has_left, walked_over, walked_sits}
 use Rattle.seize_calls.proofs.Whole.{begun_notes, is_over}
@@ -44,7 +45,7 @@ leave-word-requires-clause-last g c =
     let notes = begun_notes key one made.new.pass pass pass1 (Begin (slot_number key) Leave) [] made.ensures.1 c.begin_leave.ensures.noted in let none = ap labels_of made.ensures.0.1 in
     let call : Call = record { place = Out false; queue = [] } in let so = leave_so key one pass pass1 notes in
     let begins = begins_so key one pass pass1 Leave [] notes call so in let out = call_begun key one pass pass1 Leave [] notes call so in
-    let last = c.requires.last in (last.0 ∙ sym begins.keeps.its.0, last.1 ∙ sym begins.keeps.its.1, last.2 ∙ sym begins.keeps.life)
+    let last = c.requires.last in ((last.0.0 ∙ sym begins.keeps.its.0, last.0.1 ∙ sym begins.keeps.its.1, last.0.2), last.1 ∙ sym begins.keeps.life)
 
 pub walk_all-requires : goal.walk_all-requires
 walk_all-requires g c =
@@ -98,6 +99,20 @@ finish-requires-clause-book g c = c.drain.ensures.sits.its
 
 pub returns-clause-knows : goal.returns-clause-knows
 returns-clause-knows g c = let key = c.drain.new.key in let pass = c.drain.new.pass in knows_noted key c.finish.new.self pass c.finish.new.pass (private pass (Return (slot_number key))) c.finish.ensures.noted
+
+pub returns-clause-slot : goal.returns-clause-slot
+returns-clause-slot g c =
+    let key = c.args.key.now in let pass = c.args.pass.now in let one = c.begin_leave.new.self in let pass1 = c.begin_leave.new.pass in let made = c.new-queue in let queue = further_in made.result in let had = g.R.Reclaim.had c.args.reclaimer.now in
+    let notes = begun_notes key one made.new.pass pass pass1 (Begin (slot_number key) Leave) [] made.ensures.1 c.begin_leave.ensures.noted in let none = ap labels_of made.ensures.0.1 in
+    let call : Call = record { place = Out false; queue = [] } in let so = leave_so key one pass pass1 notes in
+    let begins = begins_so key one pass pass1 Leave [] notes call so in let out = call_begun key one pass pass1 Leave [] notes call so in
+    let swap = c.leave-word in let two = swap.new.key in let pass2 = swap.new.pass in let noted = swap.ensures.noted in let named = noted.0.0 ∙ begins.keeps.same.0 in
+    let at = at_walk key one two pass pass1 pass2 Leave false 0 begins c.requires.inside.1 out noted c.args.head.now swap.result (swap.ensures.walks ([], out)) c.requires.book.2 in
+    let walk = c.walk_all in let three = walk.new.key in let pass3 = walk.new.pass in let queue3 = further_in walk.new.queue in let had3 = g.R.Reclaim.had walk.new.reclaimer in let values = c.args.batch.now.values in let all = walk.ensures.walks at in
+    let drain = c.drain in let d = call_state drain.new.key drain.new.pass drain.new.batch drain.new.queue (g.R.Reclaim.had drain.new.reclaimer) in let on = drain.ensures.on in let last = c.finish in
+    let its = swap.ensures.slot in let over = keeps_returned d.key last.new.self d.pass last.new.pass last.ensures.noted in
+    let both = onward_twice two three last.new.self pass2 pass3 last.new.pass (keeps_onward two three pass2 pass3 all.goes_on.0) (onward_twice three d.key last.new.self pass3 d.pass last.new.pass on (keeps_onward d.key last.new.self d.pass last.new.pass over)) in
+    (its.0 ∙ sym both.its.0, its.1 ∙ sym both.its.1, its.2)
 
 pub returns-clause-leaves : goal.returns-clause-leaves
 returns-clause-leaves g c =

@@ -48,7 +48,7 @@ refresh-word-requires-clause-last g c =
     let notes = begun_notes key one made.new.pass pass pass1 (Begin (slot_number key) Refresh) [] made.ensures.1 c.begin_refresh.ensures.noted in let none = ap labels_of made.ensures.0.1 in
     let call : Call = record { place = Out true; queue = [] } in let so = refresh_so key one pass pass1 notes in
     let begins = begins_so key one pass pass1 Refresh [] notes call so in let out = call_begun key one pass pass1 Refresh [] notes call so in
-    let last = c.requires.last in (last.0 ∙ sym begins.keeps.its.0, last.1 ∙ sym begins.keeps.its.1, last.2 ∙ sym begins.keeps.life)
+    let last = c.requires.last in ((last.0.0 ∙ sym begins.keeps.its.0, last.0.1 ∙ sym begins.keeps.its.1, last.0.2), last.1 ∙ sym begins.keeps.life)
 
 pub walk_all-requires : goal.walk_all-requires
 walk_all-requires g c =
@@ -125,9 +125,9 @@ returns-clause-last g c =
     let at = at_walk key one two pass pass1 pass2 Refresh true swap.new.activation.life begins c.requires.inside.1 out noted c.args.head.now swap.result (swap.ensures.walks ([], out)) c.requires.book.2 in
     let walk = c.walk_all in let three = walk.new.key in let pass3 = walk.new.pass in let queue3 = further_in walk.new.queue in let had3 = g.R.Reclaim.had walk.new.reclaimer in let values = c.args.batch.now.values in let all = walk.ensures.walks at in
     let drain = c.drain in let d = call_state drain.new.key drain.new.pass drain.new.batch drain.new.queue (g.R.Reclaim.had drain.new.reclaimer) in let on = drain.ensures.on in let last = c.finish in
-    let its = swap.ensures.activation in let over = keeps_returned d.key last.new.self d.pass last.new.pass last.ensures.noted in
+    let its = swap.ensures.activation in let of_slot = its.of_slot in let over = keeps_returned d.key last.new.self d.pass last.new.pass last.ensures.noted in
     let both = onward_twice two three last.new.self pass2 pass3 last.new.pass (keeps_onward two three pass2 pass3 all.goes_on.0) (onward_twice three d.key last.new.self pass3 d.pass last.new.pass on (keeps_onward d.key last.new.self d.pass last.new.pass over)) in
-    (its.book ∙ sym both.its.0, its.slot ∙ sym both.its.1, sym its.its ∙ ap (λ (t : ℕ × List Entry). life t.0 t.1) (λ i. (its.slot i, its.since i)) ∙ sym both.life)
+    ((of_slot.0 ∙ sym both.its.0, of_slot.1 ∙ sym both.its.1, of_slot.2), sym its.its ∙ ap (λ (t : ℕ × List Entry). life t.0 t.1) (λ i. (of_slot.1 i, its.since i)) ∙ sym both.life)
 
 pub returns-clause-begun : goal.returns-clause-begun
 returns-clause-begun g c =
@@ -139,10 +139,10 @@ returns-clause-begun g c =
     let at = at_walk key one two pass pass1 pass2 Refresh true swap.new.activation.life begins c.requires.inside.1 out noted c.args.head.now swap.result (swap.ensures.walks ([], out)) c.requires.book.2 in
     let walk = c.walk_all in let three = walk.new.key in let pass3 = walk.new.pass in let queue3 = further_in walk.new.queue in let had3 = g.R.Reclaim.had walk.new.reclaimer in let values = c.args.batch.now.values in let all = walk.ensures.walks at in
     let drain = c.drain in let d = call_state drain.new.key drain.new.pass drain.new.batch drain.new.queue (g.R.Reclaim.had drain.new.reclaimer) in let on = drain.ensures.on in let last = c.finish in
-    let its = swap.ensures.activation in let over = keeps_returned d.key last.new.self d.pass last.new.pass last.ensures.noted in
+    let its = swap.ensures.activation in let of_slot = its.of_slot in let over = keeps_returned d.key last.new.self d.pass last.new.pass last.ensures.noted in
     let both = onward_twice two three last.new.self pass2 pass3 last.new.pass (keeps_onward two three pass2 pass3 all.goes_on.0) (onward_twice three d.key last.new.self pass3 d.pass last.new.pass on (keeps_onward d.key last.new.self d.pass last.new.pass over)) in
     record {
-      book = its.book ∙ (noted.1.0 ∙ begins.keeps.its.0 ∙ c.requires.book.0 ∙ sym named) ∙ sym both.same.0;
+      book = of_slot.0 ∙ (noted.1.0 ∙ begins.keeps.its.0 ∙ c.requires.book.0 ∙ sym named) ∙ sym both.same.0;
       active = its.active;
       its = its.its;
       known = subst (λ (log : List Entry). IsPrefix log last.new.pass.seen) (sym (its.since ∙ noted.1.2)) both.grows;

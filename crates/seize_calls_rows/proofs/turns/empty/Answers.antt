@@ -8,9 +8,9 @@ use Rattle.seize_calls_rows.proofs.turns.empty.Goals as goal
 
 pub loop-link-init : goal.loop-link-init
 loop-link-init g c =
-    let one = c.enter_head-activation in let h = c.args.holder in let pass = c.args.pass.now in
+    let one = c.enter_head in let h = c.args.holder in let pass = c.args.pass.now in
     let w : Worker = record { slot = h.slot; size = h.size; key = h.key; batch = h.batch; spots = h.spots; pass = pass } in (
-      entered c.args.words.now w c.requires.holds one.new.key one.new.pass one.result one.ensures.noted one.ensures.activation,
+      entered c.args.words.now w c.requires.holds one.new.key one.new.pass one.new.activation one.ensures.noted one.ensures.activation,
       sole_still pass one.new.pass one.ensures.noted.0 c.requires.turn,
       goes_noted pass one.new.pass _ one.ensures.noted.0 one.ensures.noted.2.0,
       (λ l less. absurd (omega (arith, less))),

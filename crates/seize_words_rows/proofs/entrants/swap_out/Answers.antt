@@ -10,7 +10,7 @@ pub leave-requires-clause-leaving : goal.leave-requires-clause-leaving
 leave-requires-clause-leaving c = let one = c.begin_leave in is_out c.args.key.now one.new.self c.args.pass.now one.new.pass one.ensures.noted c.requires.inside.0
 
 pub leave-requires-clause-last : goal.leave-requires-clause-last
-leave-requires-clause-last c = let one = c.begin_leave in last_still c.args.key.now one.new.self c.args.pass.now one.new.pass c.args.activation _ one.ensures.noted refl c.requires.inside.1
+leave-requires-clause-last c = let one = c.begin_leave in last_still c.args.key.now one.new.self c.args.pass.now one.new.pass c.args.activation.now _ one.ensures.noted refl c.requires.inside.1
 
 pub returns : goal.returns
 returns c =

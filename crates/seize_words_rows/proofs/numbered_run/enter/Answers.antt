@@ -9,4 +9,4 @@ use Rattle.seize_words_rows.proofs.numbered_run.enter.Goals as goal
 pub returns-clause-leads : goal.returns-clause-leads
 returns-clause-leads c =
     let one = c.enter_head in
-    steps (words_book c.args.words.now) c.args.reader.now one.new.key c.args.pass.now one.new.pass 0 one.result.life (λ s. Enter 0) two_made one_made entered Done one.ensures.noted c.requires.sees.0 c.requires.sees.1 enters
+    steps (words_book c.args.words.now) c.args.reader.now one.new.key c.args.pass.now one.new.pass 0 one.new.activation.life (λ s. Enter 0) two_made one_made entered Done one.ensures.noted c.requires.sees.0 c.requires.sees.1 enters

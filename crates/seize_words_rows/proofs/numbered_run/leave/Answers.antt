@@ -17,7 +17,7 @@ swap_out-requires c =
     let n = words_book c.args.words.now in let v = value_in c.args.retired.now in let key = c.args.reader.now in let pass = c.args.pass.now in let one = c.begin_leave in let stands = c.requires.stands in
     let first = steps n key one.new.self pass one.new.pass 0 0 (λ s. Begin s Leave) (inserted v) entered (leaving v) Done one.ensures.noted stands.1 stands.2 (begins_leave v) in
     let out = ap (λ r. r.call) (record_is n one.new.self 0 (leaving v) first.1) in
-    let last = last_still key one.new.self pass one.new.pass c.args.activation _ one.ensures.noted refl c.requires.last in
+    let last = last_still key one.new.self pass one.new.pass c.args.activation.now _ one.ensures.noted refl c.requires.last in
     (omega arith, (sym first.0.book, (holder n one.new.self one.new.pass 0 (leaving v) (leaving v) first.0 first.1 (omega arith), (([], out), last))))
 
 pub returns-clause-found : goal.returns-clause-found

@@ -1,16 +1,16 @@
--- `begun` tells what is known.
+-- `begin` tells what is known.
 use Rattle.seize_book.proofs.Kit.{ℕ, List, [], ◌∷◌, refl, proved, named, Val, vptr, vunit, SProp, emp, Fml, ftrue, fsep, flft, ‵, raw, ◌⊛◌, ◌$◌, ◌∵◌, !, qed, by, move, keep, split, fsplit, fsplit3, fjoin, fjoin3, feq_i, unit_lit, of_opd, returns, enter, alloc_all, pass_all, free_all, look_at, sets, fact_i, tables, owns, types_at, plain, mut_vals, mut_Tells, nothing, opens, closes, Stays, stay_ref, walk_of, Goes-ref}
 use Rattle.seize_book.specs.Private.{own_of}
 use Rattle.seize_words.specs.contracts.activation.Activation as Activation
 use Rattle.seize_book.specs.contracts.book.keys.Keys as Keys
 use Rattle.seize_book.proofs.Fields.{ends}
-use Rattle.seize_words.specs.contracts.activation.Activation.begun.{ended, clauses}
-use Rattle.seize_words.specs.contracts.activation.Activation.begun.Key.{name as #self}
-use Rattle.seize_words.proofs.activation.Activation.begun.Statement.{statement}
-use Rattle.seize_words.proofs.activation.Activation.begun.Code as code
+use Rattle.seize_words.specs.contracts.activation.Activation.begin.{ended, clauses}
+use Rattle.seize_words.specs.contracts.activation.Activation.begin.Key.{name as #self}
+use Rattle.seize_words.proofs.activation.Activation.begin.Statement.{statement}
+use Rattle.seize_words.proofs.activation.Activation.begin.Code as code
 
-pub begun_spec : {M : Type 1} → statement M
-begun_spec 𝓤 𝓛 𝓜 𝓡 wired =
+pub begin_spec : {M : Type 1} → statement M
+begin_spec 𝓤 𝓛 𝓜 𝓡 wired =
     let H = 𝓛.H in let 𝓣 = tables 𝓤 H 𝓜 𝓡 𝓡.env in let fn = code.function in let c = clauses 𝓛 𝓜.mem 𝓡.returns in
     let hs : Stays ended.signature.params ended.kept = (stay_ref (0 ∷ []) tt (plain (λ _. Activation.the_row)), (stay_ref (1 ∷ []) tt (plain (λ _. Keys.the_row)), tt)) in
     proved 𝓛 ended hs c 𝓜 𝓡 (Goes-ref 𝓛 2 0 tt (plain (λ _. Activation.the_row)), (Goes-ref 𝓛 2 1 tt (plain (λ _. Keys.the_row)), tt)) #self fn (code.unfolded 𝓤 H 𝓜 𝓡 wired)
@@ -32,4 +32,4 @@ begun_spec 𝓤 𝓛 𝓜 𝓡 wired =
     -- [the tokens; the result; the activation, in two; the keys, in two]
     nothing ! $ feq_i ! (List Val) (vptr rb ro ∷ []) (vptr rb ro ∷ []) refl $ move ! (0 ∷ 6 ∷ 7 ∷ []) $ fjoin3 ! $ fjoin ! $ feq_i ! (List Val) (vptr pb po ∷ []) (vptr pb po ∷ []) refl $ move ! (0 ∷ 4 ∷ 5 ∷ []) $ fjoin3 ! $ fjoin ! $
     returns ! (look_at ! 0 refl) $ free_all ! refl $ keep ! (1 ∷ 0 ∷ 2 ∷ []) $
-    by ! (ends 𝓛 ended hs c y vunit tt (p', (r, tt)) (tt, (tt, tt)) (fact_i 𝓤 _ (emp 𝓤) ((refl, refl, refl, refl), refl))))))
+    by ! (ends 𝓛 ended hs c y vunit tt (p', (r, tt)) (tt, (tt, tt)) (fact_i 𝓤 _ (emp 𝓤) ((refl, refl, refl, refl, refl), refl))))))
