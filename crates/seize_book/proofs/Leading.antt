@@ -14,6 +14,7 @@ use Rattle.seize_book.specs.declared.book.value_key.ValueKey.{ValueKey}
 use Rattle.seize_book.specs.declared.book.value_keys.ValueKeys.{ValueKeys}
 use Rattle.seize_book.proofs.Firsts.{noted_one}
 use Rattle.seize_book.proofs.Linked.{parted_joined}
+use Rattle.seize_book.proofs.Lists.{equal}
 
 abbrev Keys : Type 0
 Keys = List (HeldKey Entry)
@@ -26,12 +27,9 @@ none_closed keys none = ap (λ (a : Keys). are_joined a []) none
 one_more : (k : ℕ) → k + 1 ≡ suc k
 one_more k = grind arith
 
-same : (k : ℕ) → (k == k) ≡ true
-same k = grind arith
-
 first_is : (g : Gv) (b : Keys) → is_one blocks b ≡ true → next_in g ≡ suc (block_number (label_of b)) → leads_first g b ≡ true
 first_is g [] one next = absurd (cc)
-first_is g (h ∷ []) one next = ap (λ (k : ℕ). k == suc (block_number h.label)) next ∙ same (suc (block_number h.label))
+first_is g (h ∷ []) one next = ap (λ (k : ℕ). k == suc (block_number h.label)) next ∙ equal (suc (block_number h.label)) (suc (block_number h.label)) refl
 first_is g (h ∷ k ∷ b) one next = absurd (cc)
 
 last_joined : (a b c : Keys) → is_one blocks b ≡ true → leads_first (note_of b) c ≡ true → are_joined (a ++ b) c ≡ true

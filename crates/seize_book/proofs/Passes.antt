@@ -19,7 +19,7 @@ use Rattle.seize_book.specs.Tokens.{Name, rows, start, keys_own, rights_own, pla
 use Rattle.seize_book.proofs.Append.{appends, Appended}
 use Rattle.seize_book.proofs.Goes.{chained_push, goes, kept_now, births_of, births_below, births_free, slots_after}
 use Rattle.seize_book.proofs.Gates.{agrees, follows}
-use Rattle.seize_book.proofs.Lists.{after_push, legal_push, selected_in}
+use Rattle.seize_book.proofs.Lists.{after_push, equal, legal_push, selected_in}
 use Rattle.seize_book.proofs.Sound.{sound_push}
 use Rattle.seize_book.proofs.Ways.{Among, MorePlaced, found_lent, found_more, keys_apart, keys_whole, paths, ways, ways_born, ways_renewed, ways_tell}
 
@@ -93,14 +93,11 @@ module _ {M : Type 1} {𝓤 : Ura M} (𝓛 : Logic 𝓤) (n : Name) where
         answer = fair.done.1;
         does = fair.legal;
         leads = after_push st log (ev log) fair.done before.legal fair.legal;
-        made = selected_in (λ a. maker a.0 == p) st log (ev log) fair.done fair.legal (is p (maker (ev log)) f.1) ∙ ap (λ l. l ++ (ev log, fair.done.1) ∷ []) before.none_made;
+        made = selected_in (λ a. maker a.0 == p) st log (ev log) fair.done fair.legal (equal (maker (ev log)) p f.1) ∙ ap (λ l. l ++ (ev log, fair.done.1) ∷ []) before.none_made;
         alone = before.alone;
         lent = λ v named. ⊎_elim (λ was. before.lent v was) (λ is. is.1) (fair.labels v named);
         distinct = distinct;
       }
-    where
-      is : (p q : ℕ) → q ≡ p → (q == p) ≡ true
-      is p q e = grind arith
 
   module _ (p : ℕ) (seen : List Entry) (held : List (HeldKey Entry)) (ev : List Entry → Entry) (Told : List Entry → Type 0) (X : Pr) (Y : List Entry → Pr) where
     module _ (own : List Entry) (past : IsPrefix own seen × (mine st p own ≡ mine st p seen)) where

@@ -23,7 +23,7 @@ use Rattle.seize_book.specs.Adding.{deed_with_words}
 use Rattle.seize_book.specs.declared.book.keys.Keys.{Keys}
 use Rattle.seize_book.specs.declared.book.pass.Pass.{Pass}
 use Rattle.seize_book.specs.declared.book.value_key.ValueKey.{ValueKey}
-use Rattle.seize_book.proofs.Lists.{legal_front, reached_after}
+use Rattle.seize_book.proofs.Lists.{equal, legal_front, reached_after}
 use Rattle.seize_book.proofs.Private.{renewed_label, after_one, only, only_is, differ}
 use Rattle.seize_book.proofs.Sound.{has_last, new_named, old_named, pushed, vacant_later}
 
@@ -117,14 +117,11 @@ pub spent : (pass : Pass) (seen' : List Entry) (value value' : Keys) (s : ℕ) (
     → is_one blocks value.held ≡ true → value.name ≡ pass.name → value'.name ≡ value.name → value'.held ≡ renewed value.held seen' → IsSpent (label_of value'.held) (state_of value')
 spent pass seen' value value' s kepts noted one book name held =
     let v : ℕ = label_of value.held in let e : Deed = deed_with_words pass (Begin s (Retire v)) kepts in
-    let now = subst (IsSpent v) (sym noted.leads) (spends e.size (after (start pass.name) noted.before) v e.event (noted.later, noted.answer) (step_of _ _ _ _ noted.does) (itself v)) in
+    let now = subst (IsSpent v) (sym noted.leads) (spends e.size (after (start pass.name) noted.before) v e.event (noted.later, noted.answer) (step_of _ _ _ _ noted.does) (equal v v refl)) in
     let known = ap own_of held ∙ renewed_own value.held seen' one in
     subst (λ (st : State). IsSpent (label_of value'.held) st) (sym (ap (λ (n : Name). after (start n) (own_of value'.held)) (name ∙ book) ∙ ap (λ (l : List Entry). after (start pass.name) l) known))
     (subst (λ (w : ℕ). IsSpent w (after (start pass.name) seen')) (sym (ap label_of held ∙ renewed_label value.held seen')) now)
   where
-    itself : (v : ℕ) → (v == v) ≡ true
-    itself v = grind arith
-
     renewed_own : (held : List (HeldKey Entry)) (seen : List Entry) → is_one blocks held ≡ true → own_of (renewed held seen) ≡ seen
     renewed_own [] seen h = absurd (cc)
     renewed_own (x ∷ xs) seen h = refl

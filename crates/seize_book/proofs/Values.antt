@@ -9,6 +9,7 @@ use Rattle.seize_book.specs.Ledger.{HeldKey, WithKinds, renewed}
 use Rattle.seize_book.specs.Private.{AreKeysOf, are_of_blocks, is_one, key_of, label_of, labels_of}
 use Rattle.seize_book.specs.declared.book.value_key.ValueKey.{ValueKey}
 use Rattle.seize_book.proofs.Linked.{are_later, still_closed}
+use Rattle.seize_book.proofs.Lists.{equal}
 
 -- keys of blocks are of a kind
 pub blocks_within : (vs : List (HeldKey Entry)) → are_of_blocks vs ≡ true → WithKinds kinds vs
@@ -45,9 +46,6 @@ blocks_append (x ∷ a) b h k = let both = and_true _ _ h in ap (λ (c : Bool). 
 pub blocks_apart : (a b : List (HeldKey Entry)) → are_of_blocks (a ++ b) ≡ true → (are_of_blocks a ≡ true) × (are_of_blocks b ≡ true)
 blocks_apart [] b h = (refl, h)
 blocks_apart (x ∷ a) b h = let both = and_true _ _ h in let rest = blocks_apart a b both.1 in (ap (λ (c : Bool). c && are_of_blocks a) both.0 ∙ rest.0, rest.1)
-
-equal : (a b : ℕ) → a ≡ b → (a == b) ≡ true
-equal a b e = grind arith
 
 -- the key of one value is that of a block
 pub value_blocks : (value : ValueKey) → are_of_blocks value.keys.held ≡ true

@@ -33,10 +33,8 @@ use Rattle.seize_book.specs.Private.{is_one, key_of, label_of, note_of}
 use Rattle.seize_book.specs.Loans.{CarriesNone, cell_of, loan, loan_if, loan_of, place_of, AllCarryOne, CarriesOne}
 use Rattle.seize_book.specs.Tokens.{Name, start, leads, label_at, chunk_label, chunk_tag, all_lead, lies, lies_if, all_lie, places_known, is_placed, rights_own, keys_own, one_key, key, way, way_if, opened_own, key_note, note_if, note_at, notes_own}
 use Rattle.seize_book.proofs.Goes.{AllFree}
+use Rattle.seize_book.proofs.Lists.{equal}
 use Rattle.seize_book.proofs.Tables.{lies_twice, one_more}
-
-same : (u : ℕ) → (u == u) ≡ true
-same u = grind arith
 
 or_true : (b : Bool) → (b || true) ≡ true
 or_true true = refl
@@ -47,7 +45,7 @@ and_false true = refl
 and_false false = refl
 
 here : (u : ℕ) (us : List ℕ) → has u (u ∷ us) ≡ true
-here u us = ap (λ (b : Bool). b || has u us) (same u)
+here u us = ap (λ (b : Bool). b || has u us) (equal u u refl)
 
 there : (u v : ℕ) (us : List ℕ) → has v us ≡ true → has v (u ∷ us) ≡ true
 there u v us h = ap (λ (b : Bool). (u == v) || b) h ∙ or_true (u == v)

@@ -14,7 +14,8 @@
 --     OpensAgain pass porter    the porter, which is at home, has seen what the pass had
 --     MayStay may porter        the work may be done with each first pass that the porter may give
 --     HadStay gave porter porter'   the work was done with the first pass, `lent`, which was alone: `back` is the same pass when the work
---                               ended. The porter is at home, and has seen what `back` had seen
+--                               ended, and has seen a list that goes on from what `lent` had. The porter is at home, and has seen what
+--                               `back` had seen
 --     IsFirstPorter book porter size     the porter of a book that has just begun, which is at home, with this batch size
 --     Opens book porter keys links size store table     a new book with so many links, which are empty, and with its keys; and the
 --                               porter of its passes, which is at home, with this batch size
@@ -91,6 +92,7 @@ pub record HadStay (gave : Pass → Pass → Type 0) (porter porter' : Porter) :
   pub back : Pass
   pub shut : Shuts porter lent
   pub same : IsSamePass lent back
+  pub grows : IsPrefix lent.seen back.seen
   pub gives : gave lent back
   pub again : OpensAgain back porter'
 

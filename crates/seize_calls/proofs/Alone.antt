@@ -1,5 +1,5 @@
 -- What is added where a pass is alone.
-use Rattle.std.proofs.Common.{◌≡◌, ℕ, ◌==◌, Bool, true, cond, List, [], ◌∷◌, ◌++◌, filter, map, refl, sym, ap, subst, ◌∙◌, append_assoc, append-nil, arith}
+use Rattle.std.proofs.Common.{◌≡◌, ℕ, ◌==◌, Bool, cond, List, [], ◌∷◌, ◌++◌, filter, map, refl, sym, ap, subst, ◌∙◌, append_assoc, append-nil}
 use Rattle.std.proofs.lemmas.List.{append_cancel_left}
 use Rattle.std.proofs.lemmas.List.Elements.{filter-append}
 use Rattle.seize_machine.specs.Machine.State.{State}
@@ -12,7 +12,7 @@ use Rattle.seize_book.specs.Entry.{Deed, Entry, Made, Used, deeds, maker, timed_
 use Rattle.seize_book.specs.Passes.{IsSamePass, LooksOn, events_by, events_in, mine_of}
 use Rattle.seize_book.specs.Tokens.{IsSole, Name, Noted, start}
 use Rattle.seize_book.specs.declared.book.pass.Pass.{Pass}
-use Rattle.seize_book.proofs.Facts.{deeds_append}
+use Rattle.seize_book.proofs.Facts.{deeds_append, equal}
 use Rattle.seize_calls.specs.Alone.{AddsAlone, AllBy}
 
 abbrev pub alone_none : (pass : Pass) → AddsAlone pass pass
@@ -43,18 +43,15 @@ answered_append st [] b = refl
 answered_append st (Made d ∷ a) b = ap (λ (more : List (Entry × Answer)). (Made d, (done_by next st (timed_deed d)).1) ∷ more) (answered_append (done_by next st (timed_deed d)).0 a b)
 answered_append st (Used u ∷ a) b = ap (λ (more : List (Entry × Answer)). (Used u, Done) ∷ more) (answered_append st a b)
 
-same_number : (a b : ℕ) → a ≡ b → (a == b) ≡ true
-same_number a b e = grind arith
-
 all_mine : (st : State) (p : ℕ) (log : List Entry) → AllBy p log → filter (λ a. maker a.0 == p) (answered st log) ≡ answered st log
 all_mine st p [] all = refl
 all_mine st p (Made d ∷ log) all =
     let st1 = (done_by next st (timed_deed d)).0 in let more = filter (λ a. maker a.0 == p) (answered st1 log) in
-    ap (λ (b : Bool). cond b ((Made d, (done_by next st (timed_deed d)).1) ∷ more) more) (same_number d.pass p all.0)
+    ap (λ (b : Bool). cond b ((Made d, (done_by next st (timed_deed d)).1) ∷ more) more) (equal d.pass p all.0)
     ∙ ap (λ (rest : List (Entry × Answer)). (Made d, (done_by next st (timed_deed d)).1) ∷ rest) (all_mine st1 p log all.1)
 all_mine st p (Used u ∷ log) all =
     let more = filter (λ a. maker a.0 == p) (answered st log) in
-    ap (λ (b : Bool). cond b ((Used u, Done) ∷ more) more) (same_number u.pass p all.0) ∙ ap (λ (rest : List (Entry × Answer)). (Used u, Done) ∷ rest) (all_mine st p log all.1)
+    ap (λ (b : Bool). cond b ((Used u, Done) ∷ more) more) (equal u.pass p all.0) ∙ ap (λ (rest : List (Entry × Answer)). (Used u, Done) ∷ rest) (all_mine st p log all.1)
 
 events_append : (a b : List (Entry × Answer)) → events_in (a ++ b) ≡ events_in a ++ events_in b
 events_append [] b = refl

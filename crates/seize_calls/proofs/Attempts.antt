@@ -32,6 +32,7 @@ use Rattle.seize_book.specs.declared.book.pass.Pass.{Pass}
 use Rattle.seize_book.specs.declared.book.slot_key.SlotKey.{SlotKey}
 use Rattle.seize_book.specs.declared.book.value_keys.ValueKeys.{ValueKeys}
 use Rattle.seize_words.specs.declared.chunk.Header.{Header}
+use Rattle.seize_book.proofs.Facts.{equal}
 use Rattle.seize_words.proofs.Facts.{alike_told, all_told_later, detached_named, events_grew, knows_still, life_kept, more_slots, own_reached, seen_grows}
 use Rattle.seize_calls.proofs.Alone.{alone_looked, alone_noted, alone_twice}
 use Rattle.seize_calls.specs.Attempts.{Retires}
@@ -99,12 +100,9 @@ planned_all [] values seen are distinct below = tt
 planned_all (spot ∷ spots) [] seen are distinct below = absurd are
 planned_all (spot ∷ spots) (v ∷ values) seen are distinct below =
     let parts = and_true (not (has spot.slot (marked_slots spots))) (are_distinct (marked_slots spots)) distinct in (
-      (are.0 ∙ ap (λ (b : Bool). block_number (if b then v else serving spot.slot (marked_slots spots) values)) (sym (itself spot.slot)), below.0),
+      (are.0 ∙ ap (λ (b : Bool). block_number (if b then v else serving spot.slot (marked_slots spots) values)) (sym (equal spot.slot spot.slot refl)), below.0),
       planned_later spot.slot v seen (marked_slots spots) values spots (not_true _ parts.0) (planned_all spots values seen are.1 parts.1 below.1),
     )
-  where
-    itself : (n : ℕ) → (n == n) ≡ true
-    itself n = grind arith
 
 -- the number of the batch's first block
 pub first_block : (n : ℕ) (values : List ℕ) → starts_at n values ≡ true → 1 ≤ length values → (v : ℕ) × (first_or_none values ≡ Some v) × (n ≡ block_number v)

@@ -10,6 +10,7 @@ use Rattle.seize_book.specs.Entry.{Entry}
 use Rattle.seize_book.specs.Ledger.{HeldKey, renewed}
 use Rattle.seize_book.specs.Linked.{are_joined, are_linked, next_in}
 use Rattle.seize_book.specs.Private.{is_one, label_of, labels_of, note_of}
+use Rattle.seize_book.proofs.Facts.{equal}
 use Rattle.seize_words.proofs.Facts.{parted_joined}
 use Rattle.seize_book.specs.Kept.{kept_in, kepts_of}
 use Rattle.seize_book.specs.Values.{Keep}
@@ -30,10 +31,7 @@ ends_last n (w ∷ []) v e = sym (eq_true n (block_number v) e)
 ends_last n (w ∷ x ∷ vs) v e = ends_last n (x ∷ vs) v e
 
 pub last_ends : (n : ℕ) (vs : List ℕ) (v : ℕ) → block_number v ≡ n → ends_at n (vs ++ v ∷ []) ≡ true
-last_ends n [] v e = same n (block_number v) e
-  where
-    same : (a b : ℕ) → b ≡ a → (a == b) ≡ true
-    same a b e = grind arith
+last_ends n [] v e = equal n (block_number v) (sym e)
 last_ends n (w ∷ []) v e = last_ends n [] v e
 last_ends n (w ∷ x ∷ vs) v e = last_ends n (x ∷ vs) v e
 
@@ -45,10 +43,7 @@ pub counted_is : (n : ℕ) (vs : List ℕ) → is_count_of n vs ≡ true → n �
 counted_is n vs e = eq_true n (min (length vs) (2 ^ 64 - 1)) e
 
 pub is_counted : (n : ℕ) (vs : List ℕ) → n ≡ min (length vs) (2 ^ 64 - 1) → is_count_of n vs ≡ true
-is_counted n vs e = same n (min (length vs) (2 ^ 64 - 1)) e
-  where
-    same : (a b : ℕ) → a ≡ b → (a == b) ≡ true
-    same a b e = grind arith
+is_counted n vs e = equal n (min (length vs) (2 ^ 64 - 1)) e
 
 pub counted_push : (n k : ℕ) (vs : List ℕ) (v : ℕ) → is_count_of n vs ≡ true → k ≡ min (n + 1) (2 ^ 64 - 1) → is_count_of k (vs ++ v ∷ []) ≡ true
 counted_push n k vs v e is = let was = counted_is n vs e in let long = length_push vs v in is_counted k (vs ++ v ∷ []) (omega (arith, is, was, long))

@@ -1,5 +1,5 @@
 -- A turn of a call at one slot: it looks at the head, and tries to insert its batch there, until it wins or finds the slot inactive.
-use Rattle.std.proofs.Common.{◌≡◌, ◌≢◌, ℕ, zero, suc, ◌+◌, ◌<◌, ◌^◌, ◌==◌, Bool, true, false, if◌then◌else◌, List, [], ◌∷◌, ◌++◌, length, get_or, Option, Some, refl, sym, ap, subst, ◌∙◌, unwrap_or, append_assoc, append-nil, arith}
+use Rattle.std.proofs.Common.{◌≡◌, ◌≢◌, ℕ, zero, suc, ◌+◌, ◌<◌, ◌^◌, Bool, true, false, if◌then◌else◌, List, [], ◌∷◌, ◌++◌, length, get_or, Option, Some, refl, sym, ap, subst, ◌∙◌, unwrap_or, append_assoc, append-nil, arith}
 use Rattle.seize_machine.specs.Machine.State.{Active, Call, Head as MachineHead, Inactive, Look, State, head_at, is_active, waiting_at}
 use Rattle.seize_machine.specs.Machine.Event.{Event, ReadHead}
 use Rattle.seize_machine.specs.Machine.Next.{look, looked, looked_on, of_call, scheme}
@@ -24,6 +24,7 @@ use Rattle.seize_book.specs.declared.book.pass.Pass.{Pass}
 use Rattle.seize_book.specs.declared.book.slot_key.SlotKey.{SlotKey}
 use Rattle.seize_words.specs.declared.chunk.Header.{Header}
 use Rattle.seize_words.specs.declared.reservation.Head.{Head}
+use Rattle.seize_book.proofs.Facts.{equal}
 use Rattle.seize_words.proofs.Facts.{looked_named, plan_kept}
 use Rattle.seize_calls.specs.Inserts.{HasHome, InsertTries, Inserted, IsAtSlot, IsAtTry, Keeps, Tried, last_at, losses, plan_in, trying, turn_at, turns_at}
 use Rattle.seize_calls.specs.Marks.{reading}
@@ -104,12 +105,9 @@ module _ (key0 : SlotKey) (pass0 : Pass) (head : Head) (block front : ℕ) (at :
 
   pub reads_again : MayRead key head pass
   reads_again = (
-    ap (λ (o : Option Call). unwrap_or (of_call (reads_at m) o) false) r.looking ∙ itself m,
+    ap (λ (o : Option Call). unwrap_or (of_call (reads_at m) o) false) r.looking ∙ equal m m refl,
     subst (λ (n : Name). m < length (after (start n) pass.seen).slots) (sym is_head) (let grows = r.keeps.seen in omega (arith, seen0, grows)),
   )
-    where
-      itself : (n : ℕ) → (n == n) ≡ true
-      itself n = grind arith
 
   module _ (key' : SlotKey) (pass' : Pass) (v : ℕ) (noted : Notes key pass key' pass' (ReadHead (slot_number key) m)) (shows : ShowsHead head pass'.seen v) where
     abbrev event : Event

@@ -65,9 +65,6 @@ module _ (n : Name) (s a l : ℕ) (since seen : List Entry) (in_ : IsWithin n s 
   pub may_read_link : (p size : ℕ) → MayStep (at_link n l) p seen [] (a ∷ []) [] (λ v. v) (λ v log. Made (record { pass = p; size = size; event = ReadLink s l; life = 0; kepts = [] })) (λ v. false)
   may_read_link p size = (tt, (λ v t own log found. let w = within v p [] t log found in read_step n l v p size s seen [] (a ∷ []) t own log found w.0 w.1))
 
-  own_event : (s == s) ≡ true
-  own_event = grind arith
-
   -- and finds what the link holds
   pub read_finds : (p size : ℕ) (v : ℕ) (t : At) (log : List Entry) → FoundAs (at_link n l) v p seen [] (a ∷ []) t log → (w : ℕ)
       → link_at (after st (log ++ Made (record { pass = p; size = size; event = ReadLink s l; life = 0; kepts = [] }) ∷ [])) l ≡ Some w
@@ -76,7 +73,7 @@ module _ (n : Name) (s a l : ℕ) (since seen : List Entry) (in_ : IsWithin n s 
       let e : Deed = record { pass = p; size = size; event = ReadLink s l; life = 0; kepts = [] } in let now : State = after st log in let d : State × Answer = (now, Held_ (link_at now l)) in let here = within v p [] t log found in
       let does : Does st log (Made e) d = next_of size now (ReadLink s l) d (Step.read s l (legal_link now s l here.0 here.1)) in
       let holds : link_at now l ≡ Some w = sym (ap (λ (z : State). link_at z l) (after_push st log (Made e) d found.before.legal does)) ∙ is in
-      subst (Reader st (log ++ Made e ∷ []) w) here.2 (found_now st log e d s w does own_event holds)
+      subst (Reader st (log ++ Made e ∷ []) w) here.2 (found_now st log e d s w does (equal s s refl) holds)
 
   all_blocks : (held : List (HeldKey Entry)) → is_at_most_one held ≡ true → WithKinds kinds held
   all_blocks [] one = tt
@@ -92,7 +89,7 @@ module _ (n : Name) (s a l : ℕ) (since seen : List Entry) (in_ : IsWithin n s 
 
   is_same : (o : Option ℕ) → same_link o o ≡ true
   is_same None = refl
-  is_same (Some v) = let h : (v == v) ≡ true = grind arith in h
+  is_same (Some v) = equal v v refl
 
   same_words : (o q : Option ℕ) → same_link o q ≡ true → link_word o ≡ link_word q
   same_words None None h = refl
@@ -140,4 +137,4 @@ module _ (n : Name) (s a l : ℕ) (since seen : List Entry) (in_ : IsWithin n s 
       let not_seen : link_word old ≢ link_word current = λ x. absurd (let both : true ≡ false = sym (equal v (link_word current) (shows ∙ x)) ∙ differs in cc) in
       let does : Does st log (Made e) d = miss_does n l v p size s seen held (a ∷ []) t log log found here.0 here.1 o exchange refl fresh (missed current old o not_seen) in
       let holds : old ≡ Some w = sym (ap (λ (z : State). link_at z l) (after_push st log (Made e) d found.before.legal does)) ∙ is in
-      subst (Reader st (log ++ Made e ∷ []) w) here.2 (found_now st log e d s w does own_event holds)
+      subst (Reader st (log ++ Made e ∷ []) w) here.2 (found_now st log e d s w does (equal s s refl) holds)

@@ -1,5 +1,5 @@
 -- What is known after a slot was made by a step on the total.
-use Rattle.std.proofs.Common.{◌≡◌, ◌==◌, arith, ℕ, suc, true, false, List, [], ◌∷◌, ◌++◌, length, refl, sym, ◌∙◌, ap, subst}
+use Rattle.std.proofs.Common.{◌≡◌, ℕ, suc, true, false, List, [], ◌∷◌, ◌++◌, length, refl, sym, ◌∙◌, ap, subst}
 use base.Stored.{gnil}
 use Rattle.seize_machine.specs.Machine.State.{State, Inactive, head_at, slot_at}
 use Rattle.seize_machine.specs.Machine.Event.{Take}
@@ -21,7 +21,7 @@ use Rattle.seize_book.specs.declared.book.keys.Keys.{Keys}
 use Rattle.seize_book.specs.declared.book.numbers_key.NumbersKey.{NumbersKey}
 use Rattle.seize_book.specs.declared.book.pass.Pass.{Pass}
 use Rattle.seize_book.specs.declared.book.slot_key.SlotKey.{SlotKey}
-use Rattle.seize_book.proofs.Facts.{reached_after}
+use Rattle.seize_book.proofs.Facts.{equal, reached_after}
 use Rattle.seize_book.proofs.Lists.{selected_in}
 use Rattle.seize_words.proofs.Makes.{MayMakeIt, all_keys, at_total, may_make, new_full, new_head, new_slot, next_head, slot_kept, takes}
 
@@ -74,9 +74,6 @@ module _ (word : Site) (numbers_ : NumbersKey) (key : SlotKey) (pass : Pass) (bo
       subst (λ (t : Site × (List (HeldKey Entry) × ℕ)). MayStepWith (of_slot (suc t.1.1)) t.0 pass.id pass.seen t.1.0 [] [] (plus 1) (entries pass 0 (λ v log. Take t.1.1)) (λ v. false))
       (λ j. (sym is_word j, (sym joined.1 j, sym many j))) (may_make n a b its pass.id pass.size pass.seen)
 
-  own_event : (s == s) ≡ true
-  own_event = grind arith
-
   pub record Told (keys' : Keys) (pass' : Pass) : Type 0 where
     pub same : IsSamePass pass pass'
     pub name : keys'.name ≡ n
@@ -105,7 +102,7 @@ module _ (word : Site) (numbers_ : NumbersKey) (key : SlotKey) (pass : Pass) (bo
           held = step.keys ∙ all_keys n a b its pass.id pass.size v pass.seen step.since noted.before found pass'.seen;
           acts =
               ap (λ (log : List Entry). by_slot (start n) s log) noted.appended
-              ∙ selected_in (λ x. acts s x.0) (start n) noted.before (Made (takes pass.id pass.size s)) (noted.later, noted.answer) noted.does own_event
+              ∙ selected_in (λ x. acts s x.0) (start n) noted.before (Made (takes pass.id pass.size s)) (noted.later, noted.answer) noted.does (equal s s refl)
               ∙ ap (λ (made : List (Entry × Answer)). made ++ (Made (takes pass.id pass.size s), noted.answer) ∷ [])
               (sym (subst (λ (k : ℕ). Kept (start n) TheSlot k (own_of b) noted.before) may.1
               (slot_kept n a b its pass.id pass.size v pass.seen step.since noted.before found)).1.0);

@@ -23,7 +23,7 @@ use Rattle.seize_book.specs.Tokens.{Name, start}
 use Rattle.seize_words.specs.Words.{Site}
 use Rattle.seize_book.specs.declared.book.pass.Pass.{Pass}
 use Rattle.seize_book.specs.declared.book.slot_key.SlotKey.{SlotKey}
-use Rattle.seize_book.proofs.Facts.{after_used, deeds_used, reached_after, fields_apart, legal_prefix, plan_stays, plans_long, tried_there, after_one, differ, one_kept, only_is, plans_used, told_other, told_push}
+use Rattle.seize_book.proofs.Facts.{after_used, deeds_used, equal, reached_after, fields_apart, legal_prefix, plan_stays, plans_long, tried_there, after_one, differ, one_kept, only_is, plans_used, told_other, told_push}
 use Rattle.seize_book.proofs.Lists.{selected_in}
 use Rattle.seize_book.proofs.Lives.{life_kept}
 
@@ -114,9 +114,6 @@ module _ (n : Name) (f : ℕ) where
   its_own : (value : ℕ) (b : Bool) (v : ℕ) → b ≡ true → value ≡ (if b then value else v)
   its_own value b v e = ap (λ (c : Bool). if c then value else v) (sym e)
 
-  itself : (f == f) ≡ true
-  itself = grind arith
-
   module _ (s : ℕ) (own log : List Entry) (distinct : are_distinct (linked_values n.links) ≡ true) (legal : IsLegalList st log) (kept : Kept st TheSlot s own log) where
     pub own_legal : IsLegalList st own
     own_legal = legal_prefix st own log kept.0 legal
@@ -135,7 +132,7 @@ module _ (n : Name) (f : ℕ) where
   unfolding MayStepAs
   may_store p value seen held one stores =
       may_step p seen held (λ v. value) value one (λ v t own log found kept word.
-      made p (key_of held) (tag_of held) (own_of held) own t.0 log value value (led log found.distinct found.before.legal kept stores) (its_own value (f == f) (told log f) itself ∙ sym (told_push log (uses_it p (key_of held) value) f)))
+      made p (key_of held) (tag_of held) (own_of held) own t.0 log value value (led log found.distinct found.before.legal kept stores) (its_own value (f == f) (told log f) (equal f f refl) ∙ sym (told_push log (uses_it p (key_of held) value) f)))
     where
       led : (log : List Entry) → are_distinct (linked_values n.links) ≡ true → IsLegalList st log → Kept st TheSlot (key_of held) (own_of held) log
           → IsStoring st (key_of held) (own_of held) next_field f ⊎ IsStoring st (key_of held) (own_of held) first_field f → IsWriting (after st log) (plans st log) (key_of held) f
@@ -196,9 +193,6 @@ module _ (f : ℕ) (key key' : SlotKey) (pass pass' : Pass) (g : ℕ → ℕ) (v
   in_book : {X : Type 0} (h : State → X) → h (after (start n) own) ≡ h (after (start_of key) own)
   in_book h = ap (λ (m : Name). h (after (start m) own)) (sym book)
 
-  own_use : (s == s) ≡ true
-  own_use = grind arith
-
   pub used : Uses key pass key' pass' f value
   used = record {
     same = told_.0;
@@ -210,7 +204,7 @@ module _ (f : ℕ) (key key' : SlotKey) (pass pass' : Pass) (g : ℕ → ℕ) (v
     acts =
         ap (λ (t : Name × (ℕ × List Entry)). by_slot (start t.0) t.1.0 t.1.1) (λ i. ((seen_by.0 ∙ book) i, (seen_by.1 i, (seen_by.2 ∙ is_seen) i)))
         ∙ selected_in (λ a. acts s a.0) (start n) log e (step.noted.later, step.noted.answer)
-        (subst (λ (l : List Entry). Does (start n) l e (step.noted.later, step.noted.answer)) step.is_log step.noted.does) own_use
+        (subst (λ (l : List Entry). Does (start n) l e (step.noted.later, step.noted.answer)) step.is_log step.noted.does) (equal s s refl)
         ∙ ap (λ (made : List (Entry × Answer)). made ++ (e, step.noted.answer) ∷ []) (sym kept.1.0 ∙ ap (λ (m : Name). by_slot (start m) s own) (sym book));
     life =
         ap (λ (t : ℕ × List Entry). life t.0 t.1) (λ i. (seen_by.1 i, (seen_by.2 ∙ is_seen) i))
@@ -242,7 +236,7 @@ module _ (f : ℕ) (key key' : SlotKey) (pass pass' : Pass) (g : ℕ → ℕ) (v
   others j other = told_other log (record { pass = pass.id; slot = s; field = f; value = value }) j other
 
   this : told' f ≡ value
-  this = told_push log e f ∙ ap (λ (c : Bool). if c then value else told log f) (itself n f)
+  this = told_push log e f ∙ ap (λ (c : Bool). if c then value else told log f) (equal f f refl)
 
   in_pass : (which : ℕ → ℕ) → IsStoring (start_of key) s own which f → IsStoring (start n) s own which f
   in_pass which w = subst (λ (z : Name). IsStoring (start z) s own which f) book w

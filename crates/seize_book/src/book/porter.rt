@@ -109,7 +109,8 @@ impl Porter {
 
     /// Comes home and lends the first pass of the book to a piece of work. The pass has seen the whole list, which is the porter's own if
     /// that was at home. It is alone: until the work ends, nobody else can add to the list. Afterwards the porter is at home, and has seen
-    /// what the pass had seen when the work ended. The caller knows the work as it is then.
+    /// what the pass had seen when the work ended, which goes on from what it had seen when it was lent. The caller knows the work as it is
+    /// then.
     ///
     /// The call itself takes no memory and waits for nobody; the work may do both.
     pub fn stay<W: Stay<R>, R>(&mut self, work: &mut W) -> R

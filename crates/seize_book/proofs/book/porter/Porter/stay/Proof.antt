@@ -1,6 +1,7 @@
 -- `stay` comes home, and makes the first pass of what the porter owns there. The work has this pass where it lies, by a loan; when the loan
--- is over, the porter is made of the pass again.
-use Rattle.seize_book.proofs.Kit.{◌≡◌, ℕ, List, [], ◌∷◌, ◌++◌, refl, sym, subst, leaves, named, fm, Val, vptr, SProp, ent, emp, Lft, Share, Fml, ftrue, flft, ‵, raw, ◌⊛◌, some, given, later, at_ret, ◌$◌, ◌∵◌, !, qed, by, move, keep, split, split3, join, fsplit, fjoin, pick, learn, use0, use1, use2, use3, await, rewrite, stop, addr, of_opd, no_more, and_then, first, blocks, exec, returns, enter, alloc_all, pass_all, free_all, look_at, get, through, sets, env, agg, fact, fact_i, tables, RattleType, owns, types_at, plain, feq_i, fjoin3, fsplit3, mut_Tells, nothing, opens, closes, heard, Stays, stay_ref, walk_of, Goes-ref, static_lft}
+-- is over, the porter is made of the pass again. A token of the book is kept meanwhile, which has seen what the pass had: the porter at home
+-- has seen that too.
+use Rattle.seize_book.proofs.Kit.{◌≡◌, ℕ, List, [], ◌∷◌, ◌++◌, refl, sym, subst, leaves, named, fm, Val, vptr, SProp, ent, emp, Lft, Share, Fml, ftrue, flft, ‵, raw, ◌⊛◌, some, given, later, at_ret, ◌$◌, ◌∵◌, !, qed, by, move, keep, drop, split, split3, join, fsplit, fjoin, pick, learn, use0, use1, use2, use3, await, rewrite, stop, addr, of_opd, no_more, and_then, first, blocks, exec, returns, enter, alloc_all, pass_all, free_all, look_at, get, through, sets, env, agg, fact, fact_i, tables, RattleType, owns, types_at, plain, feq_i, fjoin3, fsplit3, mut_Tells, nothing, opens, closes, heard, Stays, stay_ref, walk_of, Goes-ref, static_lft}
 use Rattle.std.proofs.Common.{true}
 use Rattle.std.proofs.raw_atomic.Walks.{proved_at}
 use mir.Syntax.{Ty, a_type, dcons, dnil}
@@ -29,16 +30,20 @@ use denote.Triple.Spec.{triple_of}
 use denote.Triple.Statement.{Contract}
 use denote.Triple.Walked.{gave_ref, Goes-gave_ref}
 use Rattle.core.proofs.alloc.Shapes.{after}
-use Rattle.seize_book.specs.Entry.{Entry}
-use Rattle.seize_book.specs.Tokens.{Name, lent_pass, pass_owns, porter_owns}
+use mathlib.Core.List.{IsPrefix}
+use Rattle.seize_book.specs.Begin.{book_owns}
+use Rattle.seize_book.specs.Entry.{Entry, entry_coded}
+use Rattle.seize_book.specs.Ledger.{reached}
+use Rattle.seize_book.specs.Tokens.{Name, knows, lent_pass, pass_owns, porter_owns}
 use Rattle.seize_book.specs.Porters.{HadStay, MayStay}
 use Rattle.seize_book.specs.contracts.book.pass.Pass as Pass
 use Rattle.seize_book.specs.contracts.book.porter.Porter as Porter
 use Rattle.seize_book.specs.contracts.book.porter.Stay.stay as with
 use Rattle.seize_book.proofs.Borrowed.{Mark, mark_made}
 use Rattle.seize_book.proofs.Fields.{token}
+use Rattle.seize_book.proofs.Learning.{covered}
 use Rattle.seize_book.proofs.Shares.{goes_home}
-use Rattle.seize_book.proofs.Porters.{IsHome, home_passes, pass_homes, shut_by}
+use Rattle.seize_book.proofs.Porters.{IsHome, home_passes, pass_homes, porter_knows, shut_by}
 use Rattle.seize_book.specs.contracts.book.porter.Porter.stay.{ended, clauses}
 use Rattle.seize_book.specs.contracts.book.porter.Porter.stay.Key.{name as #self}
 use Rattle.seize_book.proofs.book.porter.Porter.stay.Statement.{statement}
@@ -67,7 +72,9 @@ stay_spec 𝓤 𝓛 𝓜 𝓡 wired W R LW LR w dict met =
     move ! (1 ∷ 2 ∷ 5 ∷ []) $ opens ! tt Row rb ro (λ vs0. move ! (1 ∷ []) $ fsplit ! $ move ! (1 ∷ []) $
     -- [what the porter owns; the porter; its cell, in four entries; the work; the tokens of R, W]
     use1 𝓛 (later (some (λ (log : List Entry). given (IsHome 𝓛 b.name b.home b.seen log) (‵ (porter_owns b.name true 0 log))))) (goes_home 𝓛 b.name b.seen b.home) $ await ! tt $ pick ! (λ log. learn ! (λ so.
-    use1 𝓛 (‵ (pass_owns b.name 0 log)) (home_passes 𝓛 b.name log) $
+    use1 𝓛 (‵ (porter_owns b.name true 0 log) ⊛ ‵ (knows b.name) ⊛ ‵ (reached entry_coded b.name.log log)) (porter_knows 𝓛 b.name true 0 log) $ split3 ! $ move ! (1 ∷ 2 ∷ []) $ fjoin ! $
+    -- [the token of the book; what the porter owns; the porter; its cell, in four entries; the work; the tokens of R, W, the work's]
+    move ! (1 ∷ 2 ∷ 3 ∷ 4 ∷ 5 ∷ 6 ∷ 7 ∷ 8 ∷ 9 ∷ 10 ∷ []) $ use1 𝓛 (‵ (pass_owns b.name 0 log)) (home_passes 𝓛 b.name log) $
     let x : P.Denot = record { marker = record {}; name = b.name; id = 0; size = b.size; seen = log } in
     sets ! (agg ! (no_more !)) refl (tt, tt) $ sets ! (agg ! (and_then ! (get ! refl) (no_more !))) refl (tt, (tt, tt)) $ sets ! (addr ! (from ! (stop !))) refl (tt, tt) $ sets ! (addr ! (through ! refl (stop !))) refl (tt, tt) $
     sets ! (of_opd ! (get ! refl)) refl (tt, tt) $ sets ! (addr ! (through ! refl (stop !))) refl (tt, tt) $
@@ -98,7 +105,10 @@ stay_spec 𝓤 𝓛 𝓜 𝓡 wired W R LW LR w dict met =
     use1 𝓛 (some (λ (v : Val). ‵ (fat full_share τ (l 3) 0 v) ⊛ ‵ (P.own_val x' (v ∷ [])))) (part_out_at 𝓛 P refl full_share x' (l 3) 0 τ refl) $ pick ! (λ v. split ! $ give_at ! 3 $
     -- [the pass; W's token; R's; nothing; the work's; the last work, in two; the borrow; nothing; the result; the fields; the cell, in four entries]
     fsplit ! $ move ! (1 ∷ []) $ rewrite ! 0 (λ (k : Name). ‵ (lent_pass k [] x'.id x'.seen)) gave.0.0 refl $ rewrite ! 0 (λ (k : ℕ). ‵ (lent_pass b.name [] k x'.seen)) gave.0.1 refl $
-    use1 𝓛 (‵ (porter_owns b.name true 0 x'.seen)) (pass_homes 𝓛 b.name x'.seen) $ let b' : Row.Denot = record b { seen = x'.seen; home = true } in
+    use1 𝓛 (‵ (porter_owns b.name true 0 x'.seen)) (pass_homes 𝓛 b.name x'.seen) $ move ! (0 ∷ 16 ∷ []) $
+    use2 𝓛 (later (given (IsPrefix log x'.seen) (‵ (porter_owns b.name true 0 x'.seen) ⊛ ‵ (book_owns b.name log)))) (covered 𝓛 b.name x'.seen log) $ await ! tt $ learn ! (λ grows. split ! $ move ! (1 ∷ []) $ drop ! $
+    -- [what the porter owns; the marker; W's token; R's; nothing; the work's; the last work, in two; the borrow; nothing; the result; the fields; the cell]
+    let b' : Row.Denot = record b { seen = x'.seen; home = true } in
     move ! (11 ∷ 0 ∷ []) $ fjoin ! $ move ! (11 ∷ 0 ∷ 12 ∷ 13 ∷ 14 ∷ []) $ closes ! tt Row b' vs0 rb ro $
     -- [the porter, in two; its token; the marker; W's token; R's; nothing; the work's; the last work, in two; the borrow; nothing; the result]
     move ! (12 ∷ []) $ peeks ! (param 1 R) (Is (param 1 R)) (shows 𝓛 (param 1 R)) o' (u ∷ []) (λ is. let good = (((param_laws 1 R LR).lawful 𝓛).typed o' (u ∷ []) is).0 in
@@ -107,6 +117,6 @@ stay_spec 𝓤 𝓛 𝓜 𝓡 wired W R LW LR w dict met =
     -- [the tokens; the result; the porter, in two; the marker; the last work, in two]
     nothing ! $ move ! (6 ∷ 7 ∷ []) $ fjoin ! $ fjoin ! $ feq_i ! (List Val) z.0.4.0 (vptr rb ro ∷ []) es $ move ! (0 ∷ 4 ∷ 5 ∷ []) $ fjoin3 ! $ fjoin ! $
     -- [the parameters; the tokens; the result]
-    let Told : Type 0 = HadStay (λ e f. w.gives y y' e f o') b b' in let told : Told = record { lent = x; back = x'; shut = shut; same = gave.0; gives = gave.1; again = ((gave.0.0, gave.0.2), refl, refl) } in
+    let Told : Type 0 = HadStay (λ e f. w.gives y y' e f o') b b' in let told : Told = record { lent = x; back = x'; shut = shut; same = gave.0; grows = grows; gives = gave.1; again = ((gave.0.0, gave.0.2), refl, refl) } in
     use0 𝓛 (raw (fact 𝓤 Told)) (fact_i 𝓤 Told (emp 𝓤) told) $
-    returns ! (look_at ! 0 refl) $ free_all ! refl $ keep ! (2 ∷ 1 ∷ 3 ∷ 0 ∷ []) $ by ! (leaves 𝓛 En hs c z u o' (b', (y', tt)) (tt, (tt, tt)))))))))))))))))))
+    returns ! (look_at ! 0 refl) $ free_all ! refl $ keep ! (2 ∷ 1 ∷ 3 ∷ 0 ∷ []) $ by ! (leaves 𝓛 En hs c z u o' (b', (y', tt)) (tt, (tt, tt))))))))))))))))))))
