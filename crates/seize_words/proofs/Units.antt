@@ -43,18 +43,18 @@ module _ {M : Type 1} {𝓤 : Ura M} (𝓛 : Logic 𝓤) (life : ℕ) where
   units_in n s are = qed 𝓛 (‵ (flft ν s) ∷ []) ∵ fpack ! (AreUnits s n) (λ _. flft ν s) are $ fpack ! Share (share_of life n) s $ done !
 
   pub cuts : (n : ℕ) → 0 < n → ⟦ has_units life (n + 1) ⟧ ⊢ ⟦ has_units life n ⟧ ∗ ⟦ has_units life 1 ⟧
-  cuts n some =
+  cuts n more =
       let u = counts_some 64 1 (omega arith) (omega arith) in
-      qed 𝓛 (‵ (has_units life (n + 1)) ∷ []) ∵ fpick ! (λ s. fpick ! (λ c. let fits = c.2 in let r = counts_some 64 n some (omega (arith, fits)) in
+      qed 𝓛 (‵ (has_units life (n + 1)) ∷ []) ∵ fpick ! (λ s. fpick ! (λ c. let fits = c.2 in let r = counts_some 64 n more (omega (arith, fits)) in
       let sum : s ∈ Share.op r.0 u.0 = Counts-op 64 r.0 u.0 s n 1 (n + 1) r.1 u.1 c.0 (omega arith) in
-      use1 𝓛 (‵ (flft ν r.0) ⊛ ‵ (flft ν u.0)) (𝓛.lfts.lft_cut ν s r.0 u.0 sum) $ split ! $ use1 𝓛 (‵ (has_units life n)) (units_in n r.0 (r.1, some, omega (arith, fits))) $
+      use1 𝓛 (‵ (flft ν r.0) ⊛ ‵ (flft ν u.0)) (𝓛.lfts.lft_cut ν s r.0 u.0 sum) $ split ! $ use1 𝓛 (‵ (has_units life n)) (units_in n r.0 (r.1, more, omega (arith, fits))) $
       move ! (1 ∷ []) $ use1 𝓛 (‵ (has_units life 1)) (units_in 1 u.0 (u.1, omega arith, omega arith)) $ move ! (1 ∷ 0 ∷ []) $ done !))
 
   pub glues : (n k : ℕ) → n + k ≤ all_units → ⟦ has_units life n ⟧ ∗ ⟦ has_units life k ⟧ ⊢ ⟦ has_units life (n + k) ⟧
   glues n k fits = qed 𝓛 (‵ (has_units life n) ∷ ‵ (has_units life k) ∷ []) ∵ fpick ! (λ s. fpick ! (λ c. move ! (1 ∷ []) $ fpick ! (λ u. fpick ! (λ d.
-      let more = c.1 in let some : 0 < n + k = omega (arith, more) in let r = counts_some 64 (n + k) some fits in
+      let its = c.1 in let more : 0 < n + k = omega (arith, its) in let r = counts_some 64 (n + k) more fits in
       let sum : r.0 ∈ Share.op s u = Counts-op 64 s u r.0 n k (n + k) c.0 d.0 r.1 (omega arith) in
-      move ! (1 ∷ 0 ∷ []) $ use2 𝓛 (‵ (flft ν r.0)) (𝓛.lfts.lft_glue ν r.0 s u sum) $ by ! (units_in (n + k) r.0 (r.1, some, fits))))))
+      move ! (1 ∷ 0 ∷ []) $ use2 𝓛 (‵ (flft ν r.0)) (𝓛.lfts.lft_glue ν r.0 s u sum) $ by ! (units_in (n + k) r.0 (r.1, more, fits))))))
 
   pub units : A.lft ν full_share ⊢ ⟦ has_units life all_units ⟧
   units = units_in all_units full_share (Counts-all 64, omega arith, omega arith)

@@ -90,8 +90,8 @@ impl Head {
         ensures found { FoundBefore self.now pass.new result }
         ensures walks { (leaving : IsOut key.old false) → WalksFrom self.now key.new result leaving.0 }
     {
-        let mut ended = activation.end();
-        self.word.swap::<Brand>(0, &mut key.keys, &mut ended, pass)
+        let mut over = activation.end();
+        self.word.swap::<Brand>(0, &mut key.keys, &mut over, pass)
     }
 
     /// The slot refreshes: the event `SwapOut` of a refresh, which ends the activation and begins another one. It gives the word of the

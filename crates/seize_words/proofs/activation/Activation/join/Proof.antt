@@ -1,6 +1,6 @@
 -- `join` takes units back.
-use Rattle.seize_book.proofs.Kit.{◌≡◌, ℕ, ◌+◌, List, [], ◌∷◌, ◌++◌, ◌∙◌, refl, proved, named, Val, vptr, vunit, vstruct, SProp, emp, Fml, ftrue, fsep, flft, ‵, raw, ◌⊛◌, ◌$◌, ◌∵◌, !, qed, by, move, keep, split, fsplit, fsplit3, fjoin, fjoin3, use2, rewrite, feq_i, unit_lit, of_opd, returns, enter, alloc_all, pass_all, free_all, look_at, sets, fact, fact_i, tables, yes, owns, types_at, plain, mut_vals, mut_Tells, nothing, heard, opens, closes, Stays, stay_dropped, stay_ref, walk_of, Goes-dropped, Goes-ref}
-use Rattle.std.specs.Prelude.{◌≤◌}
+use Rattle.seize_book.proofs.Kit.{◌≡◌, ℕ, List, [], ◌∷◌, ◌++◌, ◌∙◌, refl, proved, named, Val, vptr, vunit, vstruct, SProp, emp, Fml, ftrue, fsep, flft, ‵, raw, ◌⊛◌, ◌$◌, ◌∵◌, !, qed, by, move, keep, split, fsplit, fsplit3, fjoin, fjoin3, use2, rewrite, feq_i, unit_lit, of_opd, returns, enter, alloc_all, pass_all, free_all, look_at, sets, fact, fact_i, tables, yes, owns, types_at, plain, mut_vals, mut_Tells, nothing, heard, opens, closes, Stays, stay_dropped, stay_ref, walk_of, Goes-dropped, Goes-ref}
+use Rattle.std.specs.Prelude.{◌+◌, ◌≤◌}
 use denote.Laws.{Is, Tells}
 use mir.Val.{of_list}
 use Rattle.seize_words.specs.Units.{all_units, has_units}

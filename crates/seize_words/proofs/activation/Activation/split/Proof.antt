@@ -1,6 +1,6 @@
 -- `split` gives a unit out.
-use Rattle.seize_book.proofs.Kit.{◌≡◌, ℕ, ◌+◌, ◌-◌, ◌<◌, List, [], ◌∷◌, refl, sym, proved, named, Val, vptr, SProp, emp, Fml, ftrue, fsep, flft, ‵, raw, ◌⊛◌, ◌$◌, ◌∵◌, !, qed, by, move, keep, split, fsplit, fsplit3, fjoin, fjoin3, use0, use1, rewrite, feq_i, no_more, and_then, returns, enter, alloc_all, pass_all, free_all, look_at, get, sets, agg, fact, fact_i, tables, owns, types_at, plain, mut_vals, mut_Tells, nothing, heard, opens, closes, Stays, stay_ref, walk_of, Goes-ref}
-use Rattle.std.proofs.Common.{arith}
+use Rattle.seize_book.proofs.Kit.{◌≡◌, ℕ, List, [], ◌∷◌, refl, sym, proved, named, Val, vptr, SProp, emp, Fml, ftrue, fsep, flft, ‵, raw, ◌⊛◌, ◌$◌, ◌∵◌, !, qed, by, move, keep, split, fsplit, fsplit3, fjoin, fjoin3, use0, use1, rewrite, feq_i, no_more, and_then, returns, enter, alloc_all, pass_all, free_all, look_at, get, sets, agg, fact, fact_i, tables, owns, types_at, plain, mut_vals, mut_Tells, nothing, heard, opens, closes, Stays, stay_ref, walk_of, Goes-ref}
+use Rattle.std.proofs.Common.{◌+◌, ◌-◌, ◌<◌, arith}
 use Rattle.seize_words.specs.Units.{has_units}
 use Rattle.seize_words.specs.contracts.activation.Activation as Activation
 use Rattle.seize_words.proofs.Units.{cuts}

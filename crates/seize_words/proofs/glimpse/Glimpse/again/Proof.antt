@@ -1,10 +1,10 @@
 -- `again` has what a glimpse has twice.
-use Rattle.seize_book.proofs.Kit.{ℕ, List, [], ◌∷◌, refl, proved, named, Val, vptr, SProp, emp, Lft, Fml, ftrue, fsep, flft, ‵, raw, ◌⊛◌, ◌$◌, ◌∵◌, !, qed, by, move, keep, split, fsplit, fsplit3, fjoin, fjoin3, use0, use1, feq_i, no_more, and_then, returns, enter, alloc_all, pass_all, free_all, look_at, get, sets, agg, fact_i, tables, owns, types_at, plain, mut_vals, mut_Tells, nothing, opens, closes, Stays, stay_ref, walk_of, Goes-ref}
+use Rattle.seize_book.proofs.Kit.{NamedLft, ℕ, List, [], ◌∷◌, refl, proved, named, Val, vptr, SProp, emp, Lft, Fml, ftrue, fsep, flft, ‵, raw, ◌⊛◌, ◌$◌, ◌∵◌, !, qed, by, move, keep, split, fsplit, fsplit3, fjoin, fjoin3, use0, use1, feq_i, no_more, and_then, returns, enter, alloc_all, pass_all, free_all, look_at, get, sets, agg, fact_i, tables, owns, types_at, plain, mut_vals, mut_Tells, nothing, opens, closes, Stays, stay_ref, walk_of, Goes-ref}
 use contract.Lifetimes.{Lfts}
 use denote.Builtin.{unit}
 use denote.Ref.{ShrRef}
 use denote.RattleType.{RattleType}
-use denote.Signature.{NamedLft, named_lft}
+use denote.Signature.{named_lft}
 use Rattle.seize_content.proofs.Fields.{token, Marked, marked_made}
 use Rattle.seize_book.proofs.Fields.{ends}
 use Rattle.seize_words.specs.Glimpses.{glimpse}

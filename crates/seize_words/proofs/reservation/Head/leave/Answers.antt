@@ -22,8 +22,8 @@ pub swap-requires : goal.swap-requires
 swap-requires c =
     let head = c.args.self.now in let key = c.args.key.now in let pass = c.args.pass.now in let held = key.keys.held in let book = c.requires.book in let m = slot head in let s = key_of held in
     let out = subst (λ (n : Name). Stands (after (start n) (own_of held)) s (Out false) c.requires.leaving.0) book.0 c.requires.leaving.1 in
-    let lives = c.end-ended.result.lives in
-    let its = subst (λ (ls : List ℕ). IsAmong ls (life s (own_of held))) (sym c.end-ended.ensures.2) (inl c.requires.last.1) in (
+    let lives = c.end-over.result.lives in
+    let its = subst (λ (ls : List ℕ). IsAmong ls (life s (own_of held))) (sym c.end-over.ensures.2) (inl c.requires.last.1) in (
       book.1,
       book.0,
       subst (λ (w : Site). MayStep w pass.id pass.seen held [] lives (λ v. 0) (λ v log. Made (record { pass = pass.id; size = pass.size; event = SwapOut s; life = 0; kepts = [] })) (λ v. false))
@@ -38,9 +38,9 @@ returns-clause-noted c =
 
 pub returns-clause-slot : goal.returns-clause-slot
 returns-clause-slot c =
-    let head = c.args.self.now in let key = c.args.key.now in let pass = c.args.pass.now in let s = key_of key.keys.held in let m = slot head in let end = c.end-ended.ensures in
+    let head = c.args.self.now in let key = c.args.key.now in let pass = c.args.pass.now in let s = key_of key.keys.held in let m = slot head in let end = c.end-over.ensures in
     let told = subst (λ (w : Site). TakesStep w key.keys pass c.swap.new.keys c.swap.new.pass [] (λ v. 0) c.swap.result (entries pass 0 (λ v log. SwapOut s)) (λ v. false)) (is_at_head head.word pass.name c.requires.book.1 head.head) c.swap.ensures in
-    for_then m pass c.swap.new.pass key.keys c.swap.new.keys (λ v. 0) c.swap.result 0 (λ v log. SwapOut s) told key.one c.args.activation.now c.end-ended.new.self c.requires.last.0 end.0 end.1 end.4
+    for_then m pass c.swap.new.pass key.keys c.swap.new.keys (λ v. 0) c.swap.result 0 (λ v log. SwapOut s) told key.one c.args.activation.now c.end-over.new.self c.requires.last.0 end.0 end.1 end.4
 
 pub returns-clause-found : goal.returns-clause-found
 returns-clause-found c =

@@ -1,4 +1,5 @@
-use Rattle.std.proofs.Common.{sym, ap, ◌∙◌, arith, is_some}
+use Rattle.std.proofs.Common.{ℕ, ◌-◌, Option, sym, ap, subst, ◌∙◌, arith, is_some}
+use Rattle.seize_words.specs.Chunks.{IsFoundAt}
 use Rattle.seize_book.specs.Tokens.{Name}
 use Rattle.seize_machine.specs.Machine.Event.{ReadLink}
 use Rattle.seize_words.specs.LinkWords.{Finds, held_before, link_number}
@@ -16,7 +17,7 @@ returns-then-word-eq0 g c =
 pub see-value-requires : goal.see-value-requires
 see-value-requires g c =
     let words = c.args.self.now in let sees = c.read_link-word.ensures.sees in let mid = c.read_link-word.new.pass in let found = c.read_link-word.result in
-    (omega arith, (c.requires.book ∙ sym sees.2.0.same.0, glimpse_found sees.0 c.args.activation.now c.args.pass.now mid (λ _. ReadLink c.args.activation.now.slot (link_number sees.0)) found.0 found.1 sees.2.0 sees.2.1 c.if-word-eq0.false))
+    (omega arith, (c.requires.book ∙ sym sees.2.0.same.0, subst (λ (o : Option ℕ). IsFoundAt o (found.0 - 1) mid) (sym c.again.ensures.1) (glimpse_found sees.0 c.args.activation.now c.args.pass.now mid (λ _. ReadLink c.args.activation.now.slot (link_number sees.0)) found.0 found.1 sees.2.0 sees.2.1 c.if-word-eq0.false)))
 
 pub returns : goal.returns
 returns g c =
