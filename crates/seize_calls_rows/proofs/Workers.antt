@@ -36,7 +36,7 @@ use Rattle.seize_words.specs.declared.activation.Activation.{Activation}
 use Rattle.seize_words.specs.declared.chunk.Header.{Header}
 use Rattle.seize_words.specs.declared.chunk.Part.{Part}
 use Rattle.seize_words.specs.declared.link.Link.{Link}
-use Rattle.seize_words.proofs.Facts.{more_seen, more_slots, moved, seen_grows}
+use Rattle.seize_words.proofs.Facts.{begun_in, more_seen, more_slots, moved, seen_grows}
 use Rattle.seize_words.proofs.Facts.{all_told_later}
 use Rattle.seize_calls_rows.specs.Workers.{IsBatchOf, AreSpotsOf, GoesOn, MayWork, Shared, Stands, Works}
 use Rattle.seize_calls_rows.specs.declared.worker.Active.{Active}
@@ -83,19 +83,6 @@ in_still a pass pass' l goes in_ = (
   subst (λ (n : Name). IsWithin n a.slot a.life a.since pass'.seen l) (sym goes.same.0)
       (record { active = in_.1.active; its = in_.1.its; known = prefix_trans a.since pass.seen pass'.seen in_.1.known goes.seen; is_link = in_.1.is_link }),
 )
-
--- an activation that has just begun may step on each link
-begun_in : (key : SlotKey) (a : Activation) (pass : Pass) (l : ℕ) → IsActivationOf key a → key.keys.name ≡ pass.name → own_list key ≡ pass.seen → l < length pass.name.links → IsInAt a pass l
-begun_in key a pass l begun book own is =
-    let its : a.name ≡ pass.name = begun.of_slot.0 ∙ book in (
-      its,
-      record {
-        active = subst (λ (m : Name). is_active (head_at (after (start m) a.since) a.slot) ≡ true) its begun.active;
-        its = begun.its;
-        known = ([], append-nil a.since ∙ (begun.since ∙ own));
-        is_link = is;
-      },
-    )
 
 -- entering leaves the slot's record
 entered_so : (key key' : SlotKey) (log : List Entry) (pass : Pass) (its : ℕ) (later : State) (answer : Answer) → Moves key key' log (beginning pass its (Enter (slot_number key))) later answer → is_idle (slot_of key) ≡ true → active_of key ≡ false → slot_of key' ≡ slot_of key

@@ -3,7 +3,7 @@ use Rattle.std.proofs.Common.{◌≡◌, ◌≢◌, ℕ, ◌+◌, ◌-◌, ◌<�
 use Rattle.std.specs.Prelude.{slice_index_or}
 use base.Growing.{prefix_trans}
 use mathlib.Core.List.{IsPrefix}
-use Rattle.seize_machine.specs.Machine.State.{Mark, State, are_distinct, has, link_at, linked_values, slot_at}
+use Rattle.seize_machine.specs.Machine.State.{Mark, State, are_distinct, has, head_at, is_active, link_at, linked_values, slot_at}
 use Rattle.seize_machine.specs.Machine.Event.{Event}
 use Rattle.seize_machine.specs.Machine.History.{IsReached, first_or_none}
 use Rattle.seize_machine.specs.Machine.Next.{next}
@@ -14,7 +14,10 @@ use Rattle.seize_book.specs.Blocks.{Plan, block_for, block_in, block_number, fro
 use Rattle.seize_book.specs.Book.{IsLegalList, after, mine}
 use Rattle.seize_book.specs.Chains.{front_block, served}
 use Rattle.seize_book.specs.Entry.{Deed, Entry, Made, Used}
+use Rattle.seize_words.specs.Activations.{with_units}
 use Rattle.seize_words.specs.Chunks.{IsFoundAt}
+use Rattle.seize_words.specs.Joined.{IsInAt}
+use Rattle.seize_words.specs.Reservations.{IsActivationOf}
 use Rattle.seize_words.specs.Headers.{Stores, Uses, using}
 use Rattle.seize_words.specs.Heads.{IsTrying}
 use Rattle.seize_book.specs.Homes.{home_of}
@@ -261,3 +264,19 @@ glimpse_found link a pass pass' event v glimpse t its some = go (held_before t) 
       numbered = let shows : v ≡ block_number w + 1 = t.found ∙ ap link_word is in omega (arith, shows);
       lent = glimpse_lent link a pass pass' event v w glimpse t its (its ∙ is);
     }
+
+-- An activation that has just begun may step on each link, and so may each unit of it.
+pub begun_in : (key : SlotKey) (a : Activation) (pass : Pass) (l : ℕ) → IsActivationOf key a → key.keys.name ≡ pass.name → own_list key ≡ pass.seen → l < length pass.name.links → IsInAt a pass l
+begun_in key a pass l begun book own is =
+    let its : a.name ≡ pass.name = begun.of_slot.0 ∙ book in (
+      its,
+      record {
+        active = subst (λ (m : Name). is_active (head_at (after (start m) a.since) a.slot) ≡ true) its begun.active;
+        its = begun.its;
+        known = ([], append-nil a.since ∙ (begun.since ∙ own));
+        is_link = is;
+      },
+    )
+
+pub unit_in : (a unit : Activation) (pass : Pass) (l n : ℕ) → unit ≡ with_units a n → IsInAt a pass l → IsInAt unit pass l
+unit_in a unit pass l n is in_ = subst (λ (b : Activation). IsInAt b pass l) (sym is) in_

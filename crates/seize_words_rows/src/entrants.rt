@@ -1,6 +1,6 @@
 //! Slots over all words of one book, as each of several threads has one: it enters, swaps the values of new blocks into links, reads links
 //! and sees what is lent with the values there, and leaves. All words are found by their numbers.
-ghost use Rattle.std.specs.Prelude.{◌≡◌, ◌+◌, ◌<◌, IfSome, length, true};
+ghost use Rattle.std.specs.Prelude.{◌≡◌, ◌+◌, ◌<◌, IfSome, is_some, length, true};
 ghost use Rattle.seize_book.specs.Slots.{slot_number};
 ghost use Rattle.seize_table.specs.Place.{all_numbers};
 ghost use Rattle.seize_words.specs.Joined.{IsHolder, IsInAt, words_book};
@@ -167,6 +167,32 @@ fn swap_once(
         return None;
     }
     found
+}
+
+/// Enters, reads the link with one unit of the activation and with the others, has that unit back, and leaves. It gives both words. Nothing
+/// comes where something waited.
+pub fn read_in_units(
+    words: &Words<u64>,
+    head: &Head,
+    link: usize,
+    key: &mut SlotKey,
+    pass: &mut Pass,
+) -> Option<(u64, u64)>
+    requires link { (words_book words.now ≡ pass.old.name) × (link < length pass.old.name.links) }
+    requires at { IsAtHead head.now key.old pass.old }
+    requires outside { IsOutside key.old }
+    ensures outside { is_some result ≡ true → IsOutside key.new }
+{
+    let mut activation = Activation::new(key);
+    head.enter(&mut activation, key, pass);
+    let unit = activation.split();
+    let (one, _) = words.read_link(link, &unit, pass);
+    let (other, _) = words.read_link(link, &activation, pass);
+    activation.join(unit);
+    if !leave(head, &mut activation, key, pass) {
+        return None;
+    }
+    Some((one, other))
 }
 
 // Reads the link until it holds something, and sees what is lent with that. Nothing comes where it never did.
@@ -377,6 +403,28 @@ impl<'p> Entrant<'p> {
         } else {
             None
         }
+    }
+
+    /// Enters twice: swaps a value into the link, and reads the link with two units of one activation. It gives the word that it put in, and
+    /// the two that it read. Nothing comes where memory was refused, or where something waited.
+    pub fn put_and_read(
+        self,
+        words: &Words<u64>,
+        link: usize,
+        value: u64,
+    ) -> Option<(u64, (u64, u64))>
+        requires may { MayEnter words.now self }
+        requires link { link < 8 }
+    {
+        let Entrant {
+            slot,
+            mut key,
+            mut pass,
+        } = self;
+        let (put, _) = swap_once(words, link, value, slot, &mut key, &mut pass)?;
+        let head = words.slots.head(slot, &mut pass);
+        let read = read_in_units(words, head, link, &mut key, &mut pass)?;
+        Some((put, read))
     }
 
     /// Enters, swaps a value into the link, and loses an exchange there for another one. It gives what it saw that the link held then.

@@ -72,12 +72,7 @@ fn make_slots(
 }
 
 /// The reader enters.
-pub fn enter(
-    words: &Words<u64>,
-    activation: &mut Activation,
-    reader: &mut SlotKey,
-    pass: &mut Pass,
-)
+pub fn enter(words: &Words<u64>, activation: &mut Activation, reader: &mut SlotKey, pass: &mut Pass)
     requires sees { Sees (words_book words.now) pass.old two_made × Knows (words_book words.now) reader.old 0 one_made }
     requires slot { IsOfSlot reader.old activation.old }
     ensures leads { Leads (words_book words.now) pass.new reader.new 0 entered }

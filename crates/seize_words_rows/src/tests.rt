@@ -431,6 +431,21 @@ fn four_threads_lose_and_invent_no_block(rt: HostRuntime) {
     assert_eq!(rt; last.empty_links(&words), (left, LINKS));
 }
 
+// A link is read with a unit of an activation and with the rest of it, and the slot leaves with all.
+#[test]
+fn units_of_one_activation_read(rt: HostRuntime) {
+    let Some((words, porter, source)) = open(rt.alloc()) else {
+        panic!(rt; "no memory");
+    };
+    let Some((one, _)) = source.make(&words, &porter) else {
+        panic!(rt; "no memory");
+    };
+    let Some((put, read)) = one.put_and_read(&words, 5, 40) else {
+        panic!(rt; "no memory");
+    };
+    assert_eq!(rt; read, (put, put));
+}
+
 // Two threads share one slot's activation by `&`, and a book that has seen it begin; each has a pass of its own. One swaps greater and
 // greater values in, and the other finds what is there meanwhile: no value is less than the one before.
 #[test]
