@@ -54,3 +54,5 @@ pub use Rattle.seize_book.proofs.LentValues.{gone_lent, named_lent}
 pub use Rattle.seize_book.proofs.Standing.{found_stands, gone_over}
 -- of two beginnings one is the longer, and has seen what the other has
 pub use Rattle.seize_book.proofs.Meets.{longer}
+-- a pass that is the same twice over is the same
+pub use Rattle.seize_book.proofs.Meets.{same_twice}

@@ -1,4 +1,4 @@
--- Two passes of one book. Assumes `Logic`.
+-- Two passes of one book, and one pass as it goes on. Assumes `Logic`.
 use Rattle.std.proofs.Common.{◌≡◌, ℕ, List, [], ◌∷◌, refl, sym, ◌∙◌, ap, subst, ◌⊎◌, inl, inr, ⊎_elim, arith}
 use mathlib.Core.List.{IsPrefix}
 use seplogic.Ra.Ura.{Ura}
@@ -13,8 +13,9 @@ use Rattle.seize_book.specs.Ledger.{AllApart, HeldKey, logs, reached, WithKinds,
 use Rattle.seize_book.specs.Entry.{Entry, entry_coded}
 use Rattle.seize_book.specs.Book.{mine, rules, kinds}
 use Rattle.seize_book.specs.Fair.{pass_key}
-use Rattle.seize_book.specs.Passes.{Longer}
+use Rattle.seize_book.specs.Passes.{IsSamePass, Longer}
 use Rattle.seize_book.specs.Tokens.{Name, rows, start, beside, inside, knows, IsSole, gate_keeps, gate_gives, pass_holds, pass_owns}
+use Rattle.seize_book.specs.declared.book.pass.Pass.{Pass}
 use Rattle.seize_book.proofs.Apart.{all_apart}
 use Rattle.seize_book.proofs.Append.{looks, looks_beside}
 use Rattle.seize_book.proofs.Gates.{agrees, gives_as}
@@ -43,6 +44,10 @@ in_line (x ∷ p) (y ∷ q) l h k =
 pub longer : (a b c : List Entry) → Least IsPrefix a b c → Longer a b c
 longer a b c l =
     ⊎_elim (λ p. inl (p, prefix_anti c b (l.2 b p (prefix_refl b)) l.1)) (λ p. inr (p, prefix_anti c a (l.2 a (prefix_refl a) p) l.0)) (in_line a b c l.0 l.1)
+
+-- a pass that is the same as before, and again the same, is the same
+pub same_twice : (one two three : Pass) → IsSamePass one two → IsSamePass two three → IsSamePass one three
+same_twice one two three first second = (second.0 ∙ first.0, second.1 ∙ first.1, second.2 ∙ first.2)
 
 -- where one of them is all that there is
 pub least_all : (a c log : List Entry) → IsPrefix a c → IsPrefix c log → log ≡ a → a ≡ c

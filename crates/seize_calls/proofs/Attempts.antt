@@ -32,7 +32,7 @@ use Rattle.seize_book.specs.declared.book.pass.Pass.{Pass}
 use Rattle.seize_book.specs.declared.book.slot_key.SlotKey.{SlotKey}
 use Rattle.seize_book.specs.declared.book.value_keys.ValueKeys.{ValueKeys}
 use Rattle.seize_words.specs.declared.chunk.Header.{Header}
-use Rattle.seize_book.proofs.Facts.{equal}
+use Rattle.seize_book.proofs.Facts.{equal, same_twice}
 use Rattle.seize_words.proofs.Facts.{alike_told, all_told_later, detached_named, events_grew, knows_still, life_kept, more_slots, own_reached, seen_grows}
 use Rattle.seize_calls.proofs.Alone.{alone_looked, alone_noted, alone_twice}
 use Rattle.seize_calls.specs.Attempts.{Retires}
@@ -196,7 +196,7 @@ module _ (key0 : SlotKey) (at : BeginsToMark key0) (pass0 : Pass) (key : SlotKey
         (more_slots pass.name pass.seen pass1.seen (seen_grows pass.name pass.id pass.seen pass1.seen _ notes.2.0) notes.2.0.legal)
 
     pub same_one : IsSamePass pass0 pass1
-    same_one = (notes.0.0 ∙ same.0, notes.0.1 ∙ same.1, notes.0.2 ∙ same.2)
+    same_one = same_twice pass0 pass pass1 same notes.0
 
     pub its_one : (key1.keys.name ≡ key0.keys.name) × (slot_number key1 ≡ slot_number key0)
     its_one = (notes.1.0 ∙ its.0, notes.1.1 ∙ its.1)
@@ -293,10 +293,10 @@ module _ (key0 : SlotKey) (at : BeginsToMark key0) (pass0 : Pass) (key : SlotKey
               ap (λ (x : Deed). (x, answer)) (same_private pass0 pass'' same'' (event (slot_number key''))) ∙ ap (λ (k : ℕ). (private pass0 (event k), answer)) its''
 
           same_two : IsSamePass pass0 pass2
-          same_two = (all.keeps.same.0 ∙ same_one.0, all.keeps.same.1 ∙ same_one.1, all.keeps.same.2 ∙ same_one.2)
+          same_two = same_twice pass0 pass1 pass2 same_one all.keeps.same
 
           same_three : IsSamePass pass0 pass3
-          same_three = (looks.same.0 ∙ same_two.0, looks.same.1 ∙ same_two.1, looks.same.2 ∙ same_two.2)
+          same_three = same_twice pass0 pass2 pass3 same_two looks.same
 
           abbrev events : List (Deed × Answer)
           events = events_by pass0 ++ readings pass0 s 0 ends.finds
@@ -360,7 +360,7 @@ module _ (key0 : SlotKey) (at : BeginsToMark key0) (pass0 : Pass) (key : SlotKey
               many_slots (e ∷ es) = ap suc (many_slots es)
 
           pub same_last : IsSamePass pass0 pass'
-          same_last = (added.0.0 ∙ same_three.0, added.0.1 ∙ same_three.1, added.0.2 ∙ same_three.2)
+          same_last = same_twice pass0 pass3 pass' same_three added.0
 
           pub its_last : (key'.keys.name ≡ key0.keys.name) × (slot_number key' ≡ slot_number key0)
           its_last = (added.1.0 ∙ all.keeps.its.0 ∙ its_one.0, added.1.1 ∙ all.keeps.its.1 ∙ its_one.1)

@@ -16,7 +16,7 @@ use Rattle.seize_book.specs.Tokens.{IsSole}
 use Rattle.seize_book.specs.declared.book.pass.Pass.{Pass}
 use Rattle.seize_book.specs.declared.book.slot_key.SlotKey.{SlotKey}
 use Rattle.seize_book.specs.declared.book.value_keys.ValueKeys.{ValueKeys}
-use Rattle.seize_book.proofs.Facts.{deeds_append}
+use Rattle.seize_book.proofs.Facts.{deeds_append, same_twice}
 use Rattle.seize_book.specs.Values.{values_of}
 use Rattle.seize_calls.specs.Calls.{RetiresOne}
 use Rattle.seize_calls.specs.Settling.{CallState, Stays, done_event}
@@ -69,10 +69,10 @@ module _ (key : SlotKey) (pass : Pass) (v kept : ℕ) (values : ValueKeys) (had 
   same_one = r.begins.begins.keeps.same
 
   same_two : IsSamePass pass full.pass
-  same_two = (r.round.puts.on.same.0 ∙ same_one.0, r.round.puts.on.same.1 ∙ same_one.1, r.round.puts.on.same.2 ∙ same_one.2)
+  same_two = same_twice pass begun.pass full.pass same_one r.round.puts.on.same
 
   same_three : IsSamePass pass r.settled.pass
-  same_three = (stays.on.same.0 ∙ same_two.0, stays.on.same.1 ∙ same_two.1, stays.on.same.2 ∙ same_two.2)
+  same_three = same_twice pass full.pass r.settled.pass same_two stays.on.same
 
   its : slot_number full.key ≡ s
   its = r.round.puts.on.its.1 ∙ r.begins.begins.keeps.its.1

@@ -22,6 +22,7 @@ use Rattle.seize_book.specs.Slots.{IsKeyOfBook, NotesAs, own_list, slot_number, 
 use Rattle.seize_book.specs.Tokens.{Name, start}
 use Rattle.seize_book.specs.declared.book.pass.Pass.{Pass}
 use Rattle.seize_book.specs.declared.book.slot_key.SlotKey.{SlotKey}
+use Rattle.seize_book.proofs.Facts.{same_twice}
 use Rattle.seize_words.proofs.Facts.{deeds_grew, life_kept, more_seen, more_slots, seen_grows}
 use Rattle.seize_calls.specs.Inserts.{Keeps}
 use Rattle.seize_calls.proofs.Alone.{alone_looked, alone_noted, alone_twice}
@@ -147,7 +148,7 @@ keeps_looked key pass pass' looks = record { same = looks.same; its = (refl, ref
 
 pub keeps_twice : (key one two : SlotKey) (pass pass1 pass2 : Pass) → Keeps key pass one pass1 → Keeps one pass1 two pass2 → Keeps key pass two pass2
 keeps_twice key one two pass pass1 pass2 first second = record {
-  same = (second.same.0 ∙ first.same.0, second.same.1 ∙ first.same.1, second.same.2 ∙ first.same.2);
+  same = same_twice pass pass1 pass2 first.same second.same;
   its = (second.its.0 ∙ first.its.0, second.its.1 ∙ first.its.1);
   batch = second.batch ∙ first.batch;
   used = second.used ∙ first.used;

@@ -20,6 +20,7 @@ use Rattle.seize_book.specs.Tokens.{Name}
 use Rattle.seize_book.specs.declared.book.pass.Pass.{Pass}
 use Rattle.seize_book.specs.declared.book.slot_key.SlotKey.{SlotKey}
 use Rattle.seize_words.specs.declared.reservation.Head.{Head as Word}
+use Rattle.seize_book.proofs.Facts.{same_twice}
 use Rattle.seize_words.proofs.Facts.{all_told_later, deeds_grew, seen_grows}
 use Rattle.seize_calls.proofs.Alone.{alone_noted, alone_twice}
 use Rattle.seize_book.specs.Slots.{IsKeyOfBook}
@@ -89,7 +90,7 @@ module _ (key one two : SlotKey) (pass pass1 pass2 : Pass) (job : Job) (stays : 
   }
 
   same_two : IsSamePass pass pass2
-  same_two = (notes.0.0 ∙ begins.keeps.same.0, notes.0.1 ∙ begins.keeps.same.1, notes.0.2 ∙ begins.keeps.same.2)
+  same_two = same_twice pass pass1 pass2 begins.keeps.same notes.0
 
   its_two : (two.keys.name ≡ key.keys.name) × (slot_number two ≡ s)
   its_two = (notes.1.0 ∙ begins.keeps.its.0, notes.1.1 ∙ begins.keeps.its.1)
@@ -109,7 +110,7 @@ module _ (key one two : SlotKey) (pass pass1 pass2 : Pass) (job : Job) (stays : 
     behind = record { key = three; pass = pass3; batch = values; queue = queue3; had = had3 }
 
     pub same_three : IsSamePass pass pass3
-    same_three = (all.goes_on.0.same.0 ∙ same_two.0, all.goes_on.0.same.1 ∙ same_two.1, all.goes_on.0.same.2 ∙ same_two.2)
+    same_three = same_twice pass pass2 pass3 same_two all.goes_on.0.same
 
     its_three : (three.keys.name ≡ key.keys.name) × (slot_number three ≡ s)
     its_three = (all.goes_on.0.its.0 ∙ its_two.0, all.goes_on.0.its.1 ∙ its_two.1)
@@ -156,7 +157,7 @@ module _ (key one two : SlotKey) (pass pass1 pass2 : Pass) (job : Job) (stays : 
         drains = drains;
         returns = returned b key' pass' last empty;
         rests =
-            whole_rests key pass b key' pass' (onward.same.0 ∙ same_three.0, onward.same.1 ∙ same_three.1, onward.same.2 ∙ same_three.2)
+            whole_rests key pass b key' pass' (same_twice pass pass3 b.pass same_three onward.same)
             (prefix_trans pass.seen pass1.seen b.pass.seen begins.keeps.grows
             (prefix_trans pass1.seen pass2.seen b.pass.seen (seen_grows pass1.name pass1.id pass1.seen pass2.seen _ notes.2.0) (prefix_trans pass2.seen pass3.seen b.pass.seen all.goes_on.0.grows onward.grows)))
             (alone_twice pass pass1 b.pass begins.keeps.same begins.keeps.alone

@@ -28,6 +28,7 @@ use Rattle.seize_words.specs.Walks.{Knows}
 use Rattle.seize_book.specs.declared.book.pass.Pass.{Pass}
 use Rattle.seize_book.specs.declared.book.slot_key.SlotKey.{SlotKey}
 use Rattle.seize_words.specs.declared.reservation.Head.{Head as Word}
+use Rattle.seize_book.proofs.Facts.{same_twice}
 use Rattle.seize_words.proofs.Facts.{events_grew, knows_noted, knows_still, life_kept, more_seen, more_slots, note_seen, seen_grows}
 use Rattle.seize_calls.specs.Alone.{AddsAlone}
 use Rattle.seize_calls.proofs.Alone.{alone_looked, alone_none, alone_noted, alone_twice}
@@ -257,7 +258,7 @@ module _ (key0 : SlotKey) (at : BeginsToMark key0) (end : ℕ) (pass0 : Pass) (h
         ∙ ap (λ (vs : List ℕ). Some (record { place = marked_place active i at.note (actives 0 r.finds) vs; queue = at.queue })) (ap (λ (z : Slot). z.batch) noted.2.1.was ∙ r.batch)
 
     pub same : IsSamePass pass0 pass'
-    same = (noted.0.0 ∙ r.same.0, noted.0.1 ∙ r.same.1, noted.0.2 ∙ r.same.2)
+    same = same_twice pass0 pass pass' r.same noted.0
 
     pub same_key : (key'.keys.name ≡ key0.keys.name) × (slot_number key' ≡ slot_number key0)
     same_key = (noted.1.0 ∙ r.its.0, noted.1.1 ∙ r.its.1)
@@ -357,7 +358,7 @@ module _ (key0 : SlotKey) (at : BeginsToMark key0) (end : ℕ) (pass0 : Pass) (h
 
         pub one_marked : IsReading at end pass0 held (i + 1) (k + 1) key' pass'' round'
         one_marked = record {
-          same = (looks.same.0 ∙ same.0, looks.same.1 ∙ same.1, looks.same.2 ∙ same.2);
+          same = same_twice pass0 pass' pass'' same looks.same;
           its = same_key;
           knows = knows_still key' pass' pass'' knows looks;
           there = let more = more_seen pass' pass'' looks in omega (arith, there, more);

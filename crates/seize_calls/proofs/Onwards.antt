@@ -14,6 +14,7 @@ use Rattle.seize_book.specs.declared.book.slot_key.SlotKey.{SlotKey}
 use Rattle.seize_book.specs.declared.book.value_keys.ValueKeys.{ValueKeys}
 use Rattle.seize_book.specs.Kept.{AreTold, AreToldIn, IsTold}
 use Rattle.seize_book.specs.Tokens.{Name}
+use Rattle.seize_book.proofs.Facts.{same_twice}
 use Rattle.seize_words.proofs.Facts.{all_told_later, pushed_told, told_later}
 use Rattle.seize_words.specs.Walks.{Knows}
 use Rattle.seize_calls.specs.Batches.{IsPushed}
@@ -28,7 +29,7 @@ onward_none key pass = record { same = (refl, refl, refl); its = (refl, refl); u
 
 pub onward_twice : (key one two : SlotKey) (pass pass1 pass2 : Pass) → Onward key pass one pass1 → Onward one pass1 two pass2 → Onward key pass two pass2
 onward_twice key one two pass pass1 pass2 first second = record {
-  same = (second.same.0 ∙ first.same.0, second.same.1 ∙ first.same.1, second.same.2 ∙ first.same.2);
+  same = same_twice pass pass1 pass2 first.same second.same;
   its = (second.its.0 ∙ first.its.0, second.its.1 ∙ first.its.1);
   used = second.used ∙ first.used;
   active = second.active ∙ first.active;

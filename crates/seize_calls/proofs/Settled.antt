@@ -20,6 +20,7 @@ use Rattle.seize_book.specs.Private.{labels_of}
 use Rattle.seize_book.specs.declared.book.pass.Pass.{Pass}
 use Rattle.seize_book.specs.declared.book.slot_key.SlotKey.{SlotKey}
 use Rattle.seize_book.specs.declared.book.value_keys.ValueKeys.{ValueKeys}
+use Rattle.seize_book.proofs.Facts.{same_twice}
 use Rattle.seize_words.proofs.Facts.{alike_told, all_of_told, all_told_grow, all_told_later, all_told_renewed, own_reached}
 use Rattle.seize_calls.specs.Attempts.{Retires}
 use Rattle.seize_book.specs.Kept.{AllTold, AreTold, AreToldIn, kepts_of}
@@ -138,7 +139,7 @@ module _ (a : CallState) (m : Marking a.key a.queue) where
           let keeps = handed.goes_on.0 in let all = sym r.is_count ∙ on in
           record {
             on = record {
-              same = (keeps.same.0 ∙ same.0, keeps.same.1 ∙ same.1, keeps.same.2 ∙ same.2);
+              same = same_twice a.pass pass1 pass2 same keeps.same;
               its = (keeps.its.0 ∙ its.0, keeps.its.1 ∙ its.1);
               used = keeps.used ∙ r.used;
               active = keeps.active ∙ r.active;

@@ -23,6 +23,7 @@ use Rattle.seize_book.specs.Private.{labels_of}
 use Rattle.seize_book.specs.declared.book.pass.Pass.{Pass}
 use Rattle.seize_book.specs.declared.book.slot_key.SlotKey.{SlotKey}
 use Rattle.seize_book.specs.declared.book.value_keys.ValueKeys.{ValueKeys}
+use Rattle.seize_book.proofs.Facts.{same_twice}
 use Rattle.seize_words.proofs.Facts.{events_grew}
 use Rattle.seize_calls.proofs.Alone.{alone_none}
 use Rattle.seize_calls.specs.Inserts.{Keeps}
@@ -136,7 +137,7 @@ module _ (key0 : SlotKey) (word : ℕ) (at : IsAtWalk key0 word) (pass0 : Pass) 
       )
 
       mid_same : IsSamePass pass0 down.mid
-      mid_same = (down.looks.same.0 ∙ r.goes_on.0.same.0, down.looks.same.1 ∙ r.goes_on.0.same.1, down.looks.same.2 ∙ r.goes_on.0.same.2)
+      mid_same = same_twice pass0 pass down.mid r.goes_on.0.same down.looks.same
 
       made_down : events_by pass' ≡ events_by pass0 ++ countings pass0 (slot_number key0) (r.held ++ count ∷ [])
       made_down =

@@ -19,6 +19,7 @@ use Rattle.seize_book.specs.declared.book.pass.Pass.{Pass}
 use Rattle.seize_book.specs.declared.book.slot_key.SlotKey.{SlotKey}
 use Rattle.seize_book.specs.declared.book.value_keys.ValueKeys.{ValueKeys}
 use Rattle.seize_words.specs.Named.{slot_book}
+use Rattle.seize_book.proofs.Facts.{same_twice}
 use Rattle.seize_words.proofs.Facts.{all_told_later}
 use Rattle.seize_words.specs.Walks.{Knows}
 use Rattle.seize_calls.specs.Alone.{AddsAlone}
@@ -42,7 +43,7 @@ pub whole_rests : (key : SlotKey) (pass : Pass) (a : CallState) (key' : SlotKey)
 whole_rests key pass a key' pass' same grows alone its used sits notes =
     let keeps = keeps_returned a.key key' a.pass pass' notes in
     record {
-      same = (keeps.same.0 ∙ same.0, keeps.same.1 ∙ same.1, keeps.same.2 ∙ same.2);
+      same = same_twice pass a.pass pass' same keeps.same;
       grows = prefix_trans pass.seen a.pass.seen pass'.seen grows keeps.grows;
       alone = alone_twice pass a.pass pass' same alone keeps.alone;
       its = (keeps.its.0 ∙ its.0, keeps.its.1 ∙ its.1);

@@ -36,6 +36,7 @@ use Rattle.seize_words.specs.declared.activation.Activation.{Activation}
 use Rattle.seize_words.specs.declared.chunk.Header.{Header}
 use Rattle.seize_words.specs.declared.chunk.Part.{Part}
 use Rattle.seize_words.specs.declared.link.Link.{Link}
+use Rattle.seize_book.proofs.Facts.{same_twice}
 use Rattle.seize_words.proofs.Facts.{begun_in, more_seen, more_slots, moved, seen_grows}
 use Rattle.seize_words.proofs.Facts.{all_told_later}
 use Rattle.seize_calls_rows.specs.Workers.{IsBatchOf, AreSpotsOf, GoesOn, MayWork, Shared, Stands, Works}
@@ -60,7 +61,7 @@ pub goes_twice : (one two three : Pass) → GoesOn one two → GoesOn two three 
 goes_twice one two three first last =
     let many = first.slots in let more = last.slots in
     record {
-      same = (last.same.0 ∙ first.same.0, last.same.1 ∙ first.same.1, last.same.2 ∙ first.same.2);
+      same = same_twice one two three first.same last.same;
       seen = prefix_trans one.seen two.seen three.seen first.seen last.seen;
       slots = omega (arith, many, more);
     }

@@ -27,6 +27,7 @@ use Rattle.seize_book.specs.declared.book.pass.Pass.{Pass}
 use Rattle.seize_book.specs.declared.book.slot_key.SlotKey.{SlotKey}
 use Rattle.seize_words.specs.declared.chunk.Header.{Header}
 use Rattle.seize_words.specs.declared.reservation.Head.{Head}
+use Rattle.seize_book.proofs.Facts.{same_twice}
 use Rattle.seize_words.proofs.Chunked.{named_seen}
 use Rattle.seize_words.proofs.Reserved.{still_seen}
 use Rattle.seize_words.proofs.Traversals.{first_named}
@@ -56,7 +57,7 @@ module _ (key key' : SlotKey) (pass mid pass' : Pass) (looks : LooksOn pass mid)
     }
 
     abbrev notes_after : NotesAs key mid key' pass' d → NotesAs key pass key' pass' d
-    notes_after n = ((n.0.0 ∙ looks.same.0, n.0.1 ∙ looks.same.1, n.0.2 ∙ looks.same.2), n.1, (noted_after n.2.0, n.2.1))
+    notes_after n = (same_twice pass mid pass' looks.same n.0, n.1, (noted_after n.2.0, n.2.1))
 
   pub noted_on : (life : ℕ) (event event' : Event) → event ≡ event' → NotesAs key mid key' pass' (beginning mid life event) → NotesAs key pass key' pass' (beginning pass life event')
   noted_on life event event' is n =

@@ -8,7 +8,7 @@ use Rattle.seize_book.specs.Book.{IsLegalList, after, heads, rules, slots}
 use Rattle.seize_book.specs.Entry.{Entry, Made, Deed, deeds}
 use Rattle.seize_book.specs.Ledger.{HeldKey, AllKept, renewed}
 use Rattle.seize_book.specs.Laws.{life, life_from, starts}
-use Rattle.seize_words.specs.Activations.{IsActivationFor, IsWhole}
+use Rattle.seize_words.specs.Activations.{IsActivationFor, HasAllUnits}
 use Rattle.seize_words.specs.Reservations.{IsActivationOf}
 use Rattle.seize_book.specs.Private.{is_one, key_of, own_of}
 use Rattle.seize_book.specs.Slots.{IsAfter, IsKeyOfBook, Moves, NotesAs, slot_number}
@@ -79,7 +79,7 @@ life_push s log e = ap (life_from 0 s) (deeds_append log (Made e ∷ [])) ∙ fr
 
 -- An activation of the slot is one still, when the slot has made a step.
 pub for_then : (m : ℕ) (pass pass' : Pass) (keys keys' : Keys) (f : ℕ → ℕ) (v life : ℕ) (event : Events) (told : TakesStep (at_head pass.name m) keys pass keys' pass' [] f v (entries pass life event) (λ _. false))
-    → is_one slots keys.held ≡ true → (a a' : Activation) → IsActivationFor keys a → a'.name ≡ a.name → a'.slot ≡ a.slot → IsWhole a' → IsActivationFor keys' a'
+    → is_one slots keys.held ≡ true → (a a' : Activation) → IsActivationFor keys a → a'.name ≡ a.name → a'.slot ≡ a.slot → HasAllUnits a' → IsActivationFor keys' a'
 for_then m pass pass' keys keys' f v life event told one a a' of name slot whole =
     (name ∙ of.0 ∙ sym told.1, slot ∙ of.1 ∙ sym (ap key_of told.2.keys ∙ (after_one slots keys.held pass'.seen one).0), whole)
 
@@ -89,7 +89,7 @@ active_word block Inactive e = absurd (omega (arith, e))
 
 pub activation_is : (m : ℕ) (pass pass' : Pass) (keys keys' : Keys) (f : ℕ → ℕ) (v life : ℕ) (event : Events) (told : TakesStep (at_head pass.name m) keys pass keys' pass' [] f v (entries pass life event) (λ _. false))
     → f v ≡ 1 → starts m (event v told.2.log) ≡ true → is_one slots keys.held ≡ true → keys.name ≡ pass.name → key_of keys.held ≡ m
-    → (key' : SlotKey) (a : Activation) → key'.keys ≡ keys' → a.name ≡ keys.name → a.slot ≡ key_of keys.held → a.since ≡ own_of keys'.held → a.life ≡ life → IsWhole a → IsActivationOf key' a
+    → (key' : SlotKey) (a : Activation) → key'.keys ≡ keys' → a.name ≡ keys.name → a.slot ≡ key_of keys.held → a.since ≡ own_of keys'.held → a.life ≡ life → HasAllUnits a → IsActivationOf key' a
 activation_is m pass pass' keys keys' f v life_ event told one begins is_slot book is_m key' a same name slot since its whole =
     let step = told.2 in let e : Deed = deed pass life_ event v step.log in let after_it = after_one slots keys.held pass'.seen is_slot in
     let number = ap key_of step.keys ∙ after_it.0 in let own = ap own_of step.keys ∙ after_it.1 in let all = since ∙ own in

@@ -37,7 +37,7 @@ use Rattle.seize_book.specs.declared.book.slot_key.SlotKey.{SlotKey}
 use Rattle.seize_words.specs.declared.chunk.Header.{Header}
 use Rattle.seize_words.proofs.Chunked.{named_seen}
 use Rattle.seize_words.proofs.Finds.{IsLiving, first_contained, front_living, held_living, values_of, walked_living}
-use Rattle.seize_book.proofs.Facts.{soon_named, block_stays, legal_prefix, marked_after, slots_in, walks_marked, named_later}
+use Rattle.seize_book.proofs.Facts.{soon_named, block_stays, legal_prefix, marked_after, same_twice, slots_in, walks_marked, named_later}
 
 -- a slot's key is its keys
 pub same_key : (key key' : SlotKey) → IsStill key key' → key' ≡ key
@@ -56,7 +56,7 @@ front_shown key key' still f front shows word at its =
 -- two looks are one
 pub looks_twice : (a b c : Pass) → LooksOn a b → LooksOn b c → LooksOn a c
 looks_twice a b c one two = record {
-  same = (two.same.0 ∙ one.same.0, two.same.1 ∙ one.same.1, two.same.2 ∙ one.same.2);
+  same = same_twice a b c one.same two.same;
   none_made = two.none_made ∙ one.none_made;
   grows = prefix_trans a.seen b.seen c.seen one.grows two.grows;
   alone = λ s. two.alone (subst IsSole (sym one.same.1) s) ∙ one.alone s;

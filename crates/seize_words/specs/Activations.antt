@@ -1,10 +1,11 @@
 -- The words in which the contracts of activations speak.
---     IsWhole a                it has all units of its lifetime
+--     HasAllUnits a            it has all units of its lifetime
 --     IsActivationFor keys a   it is one of the slot that the keys are of, and whole
 --     BeginsAs a keys a'       it has begun with what the keys know
 --     IsLasting a pass         it has not ended in what the pass has seen
 --     Ends a a' lives next     its lifetime is over, and it is another one of the same slot, with the next
---     SplitsUnit a a' unit     one unit was split off: a' and the unit are the same activation as a;  JoinsUnits a units a'   units came back
+--     SplitsUnit a a' unit     one unit was split off: a' and the unit are the same activation as a
+--     JoinsUnits a units a'    units came back
 use Rattle.std.specs.Prelude.{◌≡◌, ℕ, ◌+◌, ◌^◌, List, [], ◌∷◌}
 use Rattle.seize_book.specs.Laws.{IsAmong, ended}
 use Rattle.seize_book.specs.Private.{key_of, own_of}
@@ -13,11 +14,11 @@ use Rattle.seize_words.specs.declared.activation.Activation.{Activation}
 use Rattle.seize_book.specs.declared.book.keys.Keys.{Keys}
 use Rattle.seize_book.specs.declared.book.pass.Pass.{Pass}
 
-abbrev pub IsWhole : Activation → Type 0
-IsWhole a = a.units ≡ all_units
+abbrev pub HasAllUnits : Activation → Type 0
+HasAllUnits a = a.units ≡ all_units
 
 abbrev pub IsActivationFor : Keys → Activation → Type 0
-IsActivationFor keys a = (a.name ≡ keys.name) × (a.slot ≡ key_of keys.held) × IsWhole a
+IsActivationFor keys a = (a.name ≡ keys.name) × (a.slot ≡ key_of keys.held) × HasAllUnits a
 
 abbrev pub BeginsAs : Activation → Keys → Activation → Type 0
 BeginsAs a keys a' =
@@ -28,7 +29,7 @@ IsLasting a pass = ¬ (IsAmong (ended pass.seen) a.life)
 
 abbrev pub Ends : Activation → Activation → List ℕ → ℕ → Type 0
 Ends a a' lives next =
-    (a'.name ≡ a.name) × (a'.slot ≡ a.slot) × (lives ≡ a.life ∷ []) × (next ≡ a'.life) × IsWhole a'
+    (a'.name ≡ a.name) × (a'.slot ≡ a.slot) × (lives ≡ a.life ∷ []) × (next ≡ a'.life) × HasAllUnits a'
 
 -- the same activation, with so many units
 abbrev pub with_units : Activation → ℕ → Activation

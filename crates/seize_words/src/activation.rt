@@ -14,9 +14,9 @@ use std::marker::{Model, PhantomData};
 
 /// One activation of a slot after the other: the slot enters, refreshes and leaves with it. While it is borrowed, the slot does neither.
 ///
-/// It consists of 2^64 units, and each of those who read beside one another can have one (`split`): a unit is an `Activation` too, with which
-/// links are read. The slot refreshes and leaves with all units only. Where a unit is dropped or forgotten, its slot can't leave any more: it
-/// stays active for good, and what waits for it is never reclaimed.
+/// It consists of 2^64 units, and callers who read beside one another can each have one (`split`): a unit is an `Activation` too, with
+/// which links are read. The slot refreshes and leaves with all units only. Where a unit is dropped or forgotten, its slot can't leave any
+/// more: it stays active for good, and what waits for it is never reclaimed.
 #[derive(Drop)]
 pub struct Activation {
     marker: PhantomData<()>,
@@ -52,7 +52,7 @@ impl Model for Ended {
 
 impl Activation {
     ghost use Rattle.std.specs.Prelude.{◌+◌, ◌<◌, ◌≤◌};
-    ghost use Rattle.seize_words.specs.Activations.{BeginsAs, Ends, IsActivationFor, IsLasting, IsWhole, JoinsUnits, SplitsUnit};
+    ghost use Rattle.seize_words.specs.Activations.{BeginsAs, Ends, IsActivationFor, IsLasting, HasAllUnits, JoinsUnits, SplitsUnit};
     ghost use Rattle.seize_words.specs.Reservations.{IsOfSlot};
     ghost use Rattle.seize_words.specs.Units.{all_units};
 
@@ -102,7 +102,7 @@ impl Activation {
 
     /// Ends it. It is another one then, which has still to begin.
     pub(crate) fn end(&mut self) -> Ended
-        requires { IsWhole self.old }
+        requires { HasAllUnits self.old }
         ensures { Ends self.old self.new result.lives result.next }
     {
         Ended {

@@ -24,6 +24,7 @@ use Rattle.seize_book.specs.declared.book.pass.Pass.{Pass}
 use Rattle.seize_book.specs.declared.book.slot_key.SlotKey.{SlotKey}
 use Rattle.seize_book.specs.declared.book.token.Book.{Book}
 use Rattle.seize_words.specs.declared.reservation.Head.{Head}
+use Rattle.seize_book.proofs.Facts.{same_twice}
 use Rattle.seize_words.proofs.Facts.{life_kept, more_seen, more_slots, seen_grows}
 use Rattle.seize_words_rows.specs.Entrants.{GoesOn, MayRead, Shared, seen_by}
 use Rattle.seize_words_rows.specs.Leaves.{IsAtHead, IsInside}
@@ -47,7 +48,7 @@ pub goes_twice : (one two three : Pass) → GoesOn one two → GoesOn two three 
 goes_twice one two three first last =
     let many = first.slots in let more = last.slots in
     record {
-      same = (last.same.0 ∙ first.same.0, last.same.1 ∙ first.same.1, last.same.2 ∙ first.same.2);
+      same = same_twice one two three first.same last.same;
       seen = prefix_trans one.seen two.seen three.seen first.seen last.seen;
       slots = omega (arith, many, more);
     }

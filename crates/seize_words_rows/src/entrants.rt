@@ -405,8 +405,8 @@ impl<'p> Entrant<'p> {
         }
     }
 
-    /// Enters twice: swaps a value into the link, and reads the link with two units of one activation. It gives the word that it put in, and
-    /// the two that it read. Nothing comes where memory was refused, or where something waited.
+    /// Enters twice: swaps a value into the link, and reads the link with two units of one activation. It gives the word that it put in,
+    /// and the two that it read. Nothing comes where memory was refused, or where something waited.
     pub fn put_and_read(
         self,
         words: &Words<u64>,
