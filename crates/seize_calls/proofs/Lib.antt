@@ -19,3 +19,4 @@ pub mod Tries
 pub mod Turns
 pub mod Walks
 pub mod Whole
+pub mod Slots

@@ -9,4 +9,6 @@ pub mod Marks
 pub mod Numbered
 pub mod Rounds
 pub mod Settling
+pub mod Slots
+pub mod Together
 pub mod Walking

@@ -2,7 +2,7 @@
 //! code over the calls of `seize_words`, and holds beside whatever others add meanwhile.
 //!
 //! `batch` is what a slot's holder keeps of its batch, and `round` goes through it, from block to block. `marking` and `inserting` are the
-//! two halves of an attempt, which `attempt` joins. `handing` gives values to reclaimers, `further` is what these put, and `settling` and
+//! two halves of an attempt, which `attempt` joins. `slot` has all that belongs to a slot in one value, with its calls. `handing` gives values to reclaimers, `further` is what these put, and `settling` and
 //! `draining` are what a call does with its batch and with its queue.
 #![tactic(auto)]
 
@@ -17,4 +17,5 @@ pub mod inserting;
 pub mod marking;
 pub mod round;
 pub mod settling;
+pub mod slot;
 pub mod walking;

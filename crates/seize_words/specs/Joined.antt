@@ -1,5 +1,5 @@
 -- The words in which the contracts speak of all words of one book.
---     words_book words               the book whose words they are
+--     words_book words               the book whose words they are;  with_size words n     the same, with this batch size
 --     OpensWords words porter numbers next links size     a new book with no slot yet, with so many links, which are empty; the porter of
 --                                    its passes, which is at home, with this batch size; and what its slots are made with
 --     IsHolder key pass slot         the key is that of this slot, which is there, as the pass has seen
@@ -56,9 +56,12 @@ pub record HasJustBegun (book : Book) (numbers : NumbersKey) (next : NextSlot) (
   pub numbers_are : (numbers.keys.name ≡ book.name) × (made_of numbers ≡ 0)
   pub next_is : HasNextSlot numbers next
 
+abbrev pub with_size : {T : Type 0} → Words T → ℕ → Words T
+with_size words n = record words { size = n }
+
 abbrev pub OpensWords : {T : Type 0} → Words T → Porter → NumbersKey → NextSlot → ℕ → ℕ → Type 0
 OpensWords words porter numbers next many size =
-    IsFirstPorter words.blocks.book porter size × HasJustBegun words.blocks.book numbers next many
+    IsFirstPorter words.blocks.book porter size × HasJustBegun words.blocks.book numbers next many × (words.size ≡ size)
 
 abbrev pub IsHolder : SlotKey → Pass → ℕ → Type 0
 IsHolder key pass s = IsKeyOfBook key pass × (slot_number key ≡ s) × (s < slots_seen pass)

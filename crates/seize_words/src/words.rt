@@ -30,6 +30,8 @@ pub struct Words<T> {
     pub slots: Slots,
     /// The blocks, with their counts and fields, by their numbers.
     pub blocks: Blocks<T>,
+    /// The batch size, in values. A size of 0 serves as 1.
+    pub size: usize,
     ghost linked: { links_name links ≡ blocks_book blocks },
     ghost slotted: { slots_book slots ≡ blocks_book blocks },
 }
@@ -45,8 +47,8 @@ impl<T: Drop> Words<T> {
     ghost use Rattle.seize_book.specs.Books.{HasKeys};
     ghost use Rattle.seize_words.specs.Counts.{Counts, GivesUp, LeavesKeys, TakesKeys};
     ghost use Rattle.seize_words.specs.Heads.{found_end};
-    ghost use Rattle.seize_words.specs.Joined.{AddsWithAt, IsAddingAt, IsCountingAt, IsHolder, IsInAt, IsNewTo, IsStoreOf, MayReadAt, OnHead, OnLink, OpensWords, TriesAtSlot, words_book};
-    ghost use Rattle.seize_book.specs.Porters.{Opens};
+    ghost use Rattle.seize_words.specs.Joined.{AddsWithAt, IsAddingAt, IsCountingAt, IsHolder, IsInAt, IsNewTo, IsStoreOf, MayReadAt, OnHead, OnLink, OpensWords, TriesAtSlot, with_size, words_book};
+    ghost use Rattle.seize_book.specs.Porters.{Opens, Resizes};
     ghost use Rattle.seize_words.specs.Chunks.{IsFoundAs};
     ghost use Rattle.seize_words.specs.LinkWords.{CompareExchanges, Finds, Sees, Swaps, held_before};
     ghost use Rattle.seize_words.specs.Reservations.{FoundBefore, IsActivationOf, IsLastOf, IsOfSlot, IsOut, ShowsHead, WalksFrom, beginning};
@@ -58,8 +60,8 @@ impl<T: Drop> Words<T> {
     ghost use Rattle.seize_book.specs.Values.{AreOfBook, IsEmpty};
 
     /// The words of a new book, with so many links, which are empty, and no slot; the porter of its passes, which is at home; and the keys
-    /// with which its slots are made. A slot attempts its batch when that has `size` values, and at least one; `Porter::set_size` sets
-    /// another size. The table of heads has the buckets of the numbers from 0 to `capacity`. It asks for their memory and for that of the
+    /// with which its slots are made. A slot attempts its batch when that has `size` values, and at least one; `set_size` sets another
+    /// size. The table of heads has the buckets of the numbers from 0 to `capacity`. It asks for their memory and for that of the
     /// links; the store of blocks has no rows yet.
     ///
     /// # Errors
@@ -79,7 +81,7 @@ impl<T: Drop> Words<T> {
         let (unopened, family) = Unopened::new();
         let store = Store::new(alloc, &family);
         let (book, porter, keys) = Words::open::<Brand>(&store, &table, unopened, links, size);
-        let (words, numbers, next) = Words::of(alloc, store, table, book, keys, links)?;
+        let (words, numbers, next) = Words::of(alloc, store, table, book, keys, links, size)?;
         Ok((words, porter, numbers, next))
     }
 
@@ -107,10 +109,12 @@ impl<T: Drop> Words<T> {
         book: Book,
         keys: BookKeys,
         links: usize,
+        size: usize,
     ) -> Result<(Words<T>, NumbersKey, NextSlot), Refusal>
         requires lie { IsStoreOf store book × (book.name.table ≡ name_of table) }
         requires keys { HasKeys book keys links book.name.store book.name.table }
         ensures made { IfOk result (λ made. (made.0.blocks.book ≡ book) × (made.1 ≡ keys.numbers) × HasNextSlot made.1 made.2) }
+        ensures size { IfOk result (λ made. made.0.size ≡ size) }
         ensures refused { IfErr result (λ e. e ≡ NoMemory) }
     {
         let BookKeys {
@@ -126,8 +130,19 @@ impl<T: Drop> Words<T> {
             links,
             slots,
             blocks: Blocks::of(store, book),
+            size,
         };
         Ok((words, numbers, next))
+    }
+
+    /// Sets the batch size, of the passes that the porter lends from then on too. See `Porter::set_size`.
+    pub fn set_size(&mut self, porter: &mut Porter, size: usize)
+        requires book { porter.old.name ≡ words_book self.old }
+        ensures words { self.new ≡ with_size self.old size }
+        ensures porter { Resizes porter.old porter.new size }
+    {
+        porter.set_size(size);
+        self.size = size;
     }
 
     /// Makes the slot that comes next, as `Slots::make` does: the event `Take` of a number that was never in use.

@@ -1,0 +1,96 @@
+-- The words in which the contracts of a slot as one value speak.
+--     IsSlotOf words slot      it is a slot of these words, and of each value in its batch the list says what is kept of it
+--     number_of slot           its number;  IsActive slot     it is active, as its key knows
+--     IsPassFor words pass     it is a pass of their book, with their batch size
+--     MayEnterWith slot a      the slot is inactive, and it is an activation of it, with all units
+--     HasActivation slot a     the slot is active, and this is its activation, with all units
+--     KeepsActivation slot slot'     it is active where it was, in the same activation
+--     IsLooseOf words loose    it is a value of their book, which may be retired;  value_in loose     its name
+--     Prepares slot pass ready     the pass has seen what the slot had seen, and nothing was made with it
+--     Calls slot pass slot' pass' Does     once the pass was ready, this was done. It is the same slot, and has seen what the pass has
+--     SlotEnters, SlotRetires, SlotFlushes, SlotLeaves, SlotRefreshes     so a call of the slot did, with this pass and with what the
+--                              reclaimer had: see `RetiresOne`, `Flushes` and `Leaves`
+use Rattle.std.specs.Prelude.{◌≡◌, ℕ, Bool, true, false}
+use mathlib.Core.List.{IsPrefix}
+use Rattle.seize_machine.specs.Machine.Event.{Enter, SwapOut}
+use Rattle.seize_machine.specs.declared.machine.event.Job.TheVariants.{Leave, Refresh}
+use Rattle.seize_book.specs.Adding.{private}
+use Rattle.seize_book.specs.Kept.{AreTold}
+use Rattle.seize_book.specs.Others.{MayRetire, book_of, value_of}
+use Rattle.seize_book.specs.Passes.{IsSamePass, MadeNone}
+use Rattle.seize_book.specs.Slots.{NotesAs, active_of, life_of, slot_number}
+use Rattle.seize_book.specs.Tokens.{IsSole}
+use Rattle.seize_book.specs.declared.book.pass.Pass.{Pass}
+use Rattle.seize_words.specs.Joined.{words_book}
+use Rattle.seize_words.specs.Reservations.{IsLastOf, IsOfSlot, beginning}
+use Rattle.seize_words.specs.declared.activation.Activation.{Activation}
+use Rattle.seize_words.specs.declared.words.Words.{Words}
+use Rattle.seize_calls.specs.Batches.{keys_in}
+use Rattle.seize_calls.specs.Calls.{Flushes, Leaves, RetiresOne}
+use Rattle.seize_calls.specs.Handing.{Had}
+use Rattle.seize_calls.specs.Together.{what_saw}
+use Rattle.seize_calls.specs.declared.slot.Loose.{Loose}
+use Rattle.seize_calls.specs.declared.slot.Slot.{Slot}
+
+abbrev pub IsSlotOf : {T : Type 0} → Words T → Slot T → Type 0
+IsSlotOf words slot = (slot.seen.name ≡ words_book words) × AreTold (keys_in slot.batch) (what_saw slot.seen)
+
+abbrev pub number_of : {T : Type 0} → Slot T → ℕ
+number_of slot = slot.number
+
+abbrev pub IsPassFor : {T : Type 0} → Words T → Pass → Type 0
+IsPassFor words pass = (words_book words ≡ pass.name) × (words.size ≡ pass.size)
+
+abbrev pub IsActive : {T : Type 0} → Slot T → Type 0
+IsActive slot = active_of slot.key ≡ true
+
+abbrev pub MayEnterWith : {T : Type 0} → Slot T → Activation → Type 0
+MayEnterWith slot a = (active_of slot.key ≡ false) × IsOfSlot slot.key a
+
+abbrev pub HasActivation : {T : Type 0} → Slot T → Activation → Type 0
+HasActivation slot a = IsActive slot × IsLastOf slot.key a
+
+abbrev pub KeepsActivation : {T : Type 0} → Slot T → Slot T → Type 0
+KeepsActivation slot slot' = (active_of slot'.key ≡ active_of slot.key) × (life_of slot'.key ≡ life_of slot.key)
+
+abbrev pub value_in : Loose → ℕ
+value_in loose = value_of loose.value
+
+abbrev pub IsLooseOf : {T : Type 0} → Words T → Loose → Type 0
+IsLooseOf words loose = (book_of loose.value ≡ words_book words) × MayRetire loose.value
+
+pub record Prepares {T : Type 0} (slot : Slot T) (pass ready : Pass) : Type 0 where
+  pub same : IsSamePass pass ready
+  pub none_made : MadeNone pass ready
+  pub grows : IsPrefix pass.seen ready.seen × IsPrefix slot.seen.seen ready.seen
+  pub alone : IsSole pass.id → ready.seen ≡ pass.seen
+
+pub record Calls {T : Type 0} (slot : Slot T) (pass : Pass) (slot' : Slot T) (pass' : Pass) (Does : Pass → Type 0) : Type 0 where
+  pub same : (slot'.number ≡ slot.number) × (slot'.seen.name ≡ slot.seen.name)
+  pub ready : Pass
+  pub prepares : Prepares slot pass ready
+  pub does : Does ready
+  pub seen : slot'.seen.seen ≡ pass'.seen
+
+abbrev pub SlotEnters : {T : Type 0} → Slot T → Pass → Activation → Slot T → Pass → Type 0
+SlotEnters slot pass a slot' pass' =
+    Calls slot pass slot' pass' (λ p. NotesAs slot.key p slot'.key pass' (beginning p a.life (Enter (number_of slot))))
+
+abbrev pub SlotRetires : {T : Type 0} → Slot T → Pass → Loose → ℕ → Had → Slot T → Pass → Had → Bool → Type 0
+SlotRetires slot pass loose kept had slot' pass' had' retired =
+    Calls slot pass slot' pass' (λ p.
+    RetiresOne slot.key p (value_in loose) kept (keys_in slot.batch) had slot'.key pass' (keys_in slot'.batch) had' retired)
+
+abbrev pub SlotFlushes : {T : Type 0} → Slot T → Pass → Had → Slot T → Pass → Had → Bool → Type 0
+SlotFlushes slot pass had slot' pass' had' retired =
+    Calls slot pass slot' pass' (λ p. Flushes slot.key p (keys_in slot.batch) had slot'.key pass' (keys_in slot'.batch) had' retired)
+
+abbrev pub SlotLeaves : {T : Type 0} → Slot T → Pass → Had → Slot T → Pass → Had → Type 0
+SlotLeaves slot pass had slot' pass' had' =
+    Calls slot pass slot' pass' (λ p.
+    Leaves Leave false (private p (SwapOut (slot_number slot.key))) slot.key p (keys_in slot.batch) had slot'.key pass' (keys_in slot'.batch) had')
+
+abbrev pub SlotRefreshes : {T : Type 0} → Slot T → Pass → Activation → Had → Slot T → Pass → Had → Type 0
+SlotRefreshes slot pass a had slot' pass' had' =
+    Calls slot pass slot' pass' (λ p. let swap = beginning p a.life (SwapOut (slot_number slot.key)) in
+    Leaves Refresh true swap slot.key p (keys_in slot.batch) had slot'.key pass' (keys_in slot'.batch) had')

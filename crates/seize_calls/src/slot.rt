@@ -1,0 +1,214 @@
+//! A slot as its holder has it, in one value, and its calls. They are those of `calls`, with all that belongs to the slot; a pass that is
+//! lent anew for each call learns first what the ones before it saw.
+ghost use Rattle.std.specs.Prelude.{◌≡◌, IfErr, IfOk};
+ghost use Rattle.seize_book.specs.Blocks.{block_number};
+ghost use Rattle.seize_book.specs.Others.{value_of};
+ghost use Rattle.seize_words.specs.Joined.{words_book};
+ghost use Rattle.seize_calls.specs.Together.{BelongTogether};
+
+use crate::batch::Batch;
+use crate::calls;
+use crate::handing::Reclaim;
+use seize_store::Spots;
+use seize_words::activation::Activation;
+use seize_words::book::{Book, Pass, SlotKey, ValueKey};
+use seize_words::chunk::{Header, Part};
+use seize_words::words::Words;
+use std::sync::Wait;
+
+/// A value that is in no link, and is to be retired, with the number of its block.
+///
+/// It has no `Drop`, so it can't be lost by oversight: it is retired, or goes on.
+pub struct Loose {
+    /// The number of its block.
+    pub number: u64,
+    /// The right to retire it.
+    pub value: ValueKey,
+    ghost its: { block_number (value_of value) ≡ number },
+}
+
+/// What the holder of a slot has: the right to its calls, its batch, and chunks of blocks that are gone, for its next ones. No call of the
+/// slot is under way.
+///
+/// Where it is dropped, its slot stays as it is for good: active if it is active, and with its batch.
+#[derive(Drop)]
+pub struct Slot<T> {
+    number: usize,
+    key: SlotKey,
+    batch: Batch,
+    spots: Spots<Header, Part, T>,
+    seen: Book,
+    ghost together: { BelongTogether number key batch spots seen },
+}
+
+impl<T: Drop> Slot<T> {
+    ghost use Rattle.seize_calls.specs.Calls.{HasBegun};
+    ghost use Rattle.seize_calls.specs.Slots.{HasActivation, IsActive, IsLooseOf, IsPassFor, IsSlotOf, KeepsActivation, MayEnterWith, number_of};
+    ghost use Rattle.seize_calls.specs.Slots.{SlotEnters, SlotFlushes, SlotLeaves, SlotRefreshes, SlotRetires};
+
+    /// The slot enters, which begins the activation.
+    ///
+    /// It takes no memory and waits for nobody: the look-up of the slot's head, and one atomic swap.
+    pub fn enter(&mut self, words: &Words<T>, activation: &mut Activation, pass: &mut Pass)
+        requires of { IsSlotOf words.now self.old × IsPassFor words.now pass.old }
+        requires outside { MayEnterWith self.old activation.old }
+        ensures of { IsSlotOf words.now self.new }
+        ensures activation { HasActivation self.new activation.new × HasBegun activation.new pass.new }
+        ensures enters { SlotEnters self.old pass.old activation.new self.new pass.new }
+    {
+        pass.learn(&self.seen);
+        words.enter_head(self.number, activation, &mut self.key, pass);
+        self.seen.learn(pass);
+    }
+
+    /// Retires the value: it comes last in the slot's batch, and the word is kept of it. Where the batch has as many values as the batch size
+    /// says, it is attempted. It says whether the batch was retired.
+    ///
+    /// It takes no memory, but for what the reclaimer does, and ends where reclaimers come to put no more. An insertion is tried again as
+    /// often as others change the head between a look at it and the try.
+    pub fn retire<R: Reclaim<T>>(
+        &mut self,
+        words: &Words<T>,
+        value: Loose,
+        kept: u64,
+        reclaimer: &mut R,
+        pass: &mut Pass,
+        rt: &impl Wait,
+    ) -> bool
+        requires of { IsSlotOf words.now self.old × IsPassFor words.now pass.old }
+        requires value { IsLooseOf words.now value }
+        requires serves { R.serves reclaimer.old (words_book words.now) }
+        ensures of { IsSlotOf words.now self.new × KeepsActivation self.old self.new }
+        ensures serves { R.serves reclaimer.new (words_book words.now) }
+        ensures retires { let had = R.had reclaimer.old in
+            SlotRetires self.old pass.old value kept had self.new pass.new (R.had reclaimer.new) result }
+    {
+        pass.learn(&self.seen);
+        let Loose { number, value } = value;
+        let retired = calls::retire(
+            &words.slots,
+            &words.blocks,
+            &mut self.spots,
+            &mut self.batch,
+            words.size,
+            number,
+            kept,
+            value,
+            &mut self.key,
+            reclaimer,
+            pass,
+            rt,
+        );
+        self.seen.learn(pass);
+        retired
+    }
+
+    /// Attempts the batch of the slot, which is active, at any length. It says whether the batch was retired with the values that it had.
+    ///
+    /// It takes no memory and waits as `retire` does.
+    pub fn flush<R: Reclaim<T>>(
+        &mut self,
+        words: &Words<T>,
+        reclaimer: &mut R,
+        pass: &mut Pass,
+        rt: &impl Wait,
+    ) -> bool
+        requires of { IsSlotOf words.now self.old × IsPassFor words.now pass.old }
+        requires inside { IsActive self.old }
+        requires serves { R.serves reclaimer.old (words_book words.now) }
+        ensures of { IsSlotOf words.now self.new × KeepsActivation self.old self.new }
+        ensures serves { R.serves reclaimer.new (words_book words.now) }
+        ensures flushes { SlotFlushes self.old pass.old (R.had reclaimer.old) self.new pass.new (R.had reclaimer.new) result }
+    {
+        pass.learn(&self.seen);
+        let retired = calls::flush(
+            &words.slots,
+            &words.blocks,
+            &mut self.spots,
+            &mut self.batch,
+            words.size,
+            &mut self.key,
+            reclaimer,
+            pass,
+            rt,
+        );
+        self.seen.learn(pass);
+        retired
+    }
+
+    /// The slot leaves, and may enter with the same activation again. It counts down what waited for it, and hands what is given up. What
+    /// reclaimers put meanwhile joins the slot's batch, as with `retire`.
+    ///
+    /// It takes no memory and waits as `retire` does.
+    pub fn leave<R: Reclaim<T>>(
+        &mut self,
+        words: &Words<T>,
+        activation: &mut Activation,
+        reclaimer: &mut R,
+        pass: &mut Pass,
+        rt: &impl Wait,
+    )
+        requires of { IsSlotOf words.now self.old × IsPassFor words.now pass.old }
+        requires inside { HasActivation self.old activation.old }
+        requires serves { R.serves reclaimer.old (words_book words.now) }
+        ensures of { IsSlotOf words.now self.new × MayEnterWith self.new activation.new }
+        ensures serves { R.serves reclaimer.new (words_book words.now) }
+        ensures leaves { SlotLeaves self.old pass.old (R.had reclaimer.old) self.new pass.new (R.had reclaimer.new) }
+    {
+        pass.learn(&self.seen);
+        let head = words.slots.head(self.number, pass);
+        calls::leave(
+            &words.slots,
+            head,
+            &words.blocks,
+            &mut self.spots,
+            &mut self.batch,
+            words.size,
+            activation,
+            &mut self.key,
+            reclaimer,
+            pass,
+            rt,
+        );
+        self.seen.learn(pass);
+    }
+
+    /// The slot refreshes: it ends its activation and begins another, and stays active. It counts down what waited for it, and hands what is
+    /// given up. What reclaimers put meanwhile joins the slot's batch, as with `retire`.
+    ///
+    /// It takes no memory and waits as `retire` does.
+    pub fn refresh<R: Reclaim<T>>(
+        &mut self,
+        words: &Words<T>,
+        activation: &mut Activation,
+        reclaimer: &mut R,
+        pass: &mut Pass,
+        rt: &impl Wait,
+    )
+        requires of { IsSlotOf words.now self.old × IsPassFor words.now pass.old }
+        requires inside { HasActivation self.old activation.old }
+        requires serves { R.serves reclaimer.old (words_book words.now) }
+        ensures of { IsSlotOf words.now self.new }
+        ensures inside { HasActivation self.new activation.new × HasBegun activation.new pass.new }
+        ensures serves { R.serves reclaimer.new (words_book words.now) }
+        ensures refreshes { let had = R.had reclaimer.old in
+            SlotRefreshes self.old pass.old activation.new had self.new pass.new (R.had reclaimer.new) }
+    {
+        pass.learn(&self.seen);
+        let head = words.slots.head(self.number, pass);
+        calls::refresh(
+            &words.slots,
+            head,
+            &words.blocks,
+            &mut self.spots,
+            &mut self.batch,
+            words.size,
+            activation,
+            &mut self.key,
+            reclaimer,
+            pass,
+            rt,
+        );
+        self.seen.learn(pass);
+    }
+}
