@@ -36,7 +36,7 @@ use Rattle.seize_book.proofs.Facts.{equal, same_twice}
 use Rattle.seize_words.proofs.Facts.{alike_told, all_told_later, detached_named, events_grew, knows_still, life_kept, more_slots, own_reached, seen_grows}
 use Rattle.seize_calls.proofs.Alone.{alone_looked, alone_noted, alone_twice}
 use Rattle.seize_calls.specs.Attempts.{Retires}
-use Rattle.seize_book.specs.Kept.{AreTold, AreToldIn}
+use Rattle.seize_book.specs.Kept.{AreTold}
 use Rattle.seize_calls.proofs.Batches.{remarked_kepts, remarked_labels}
 use Rattle.seize_calls.specs.Batches.{AreRemarked, SlotMark, marked_slots, slot_marks_of}
 use Rattle.seize_calls.specs.Inserts.{ArePlanned, InsertedAll, IsInserting, plan_in, turns_at}

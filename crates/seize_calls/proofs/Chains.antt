@@ -1,5 +1,5 @@
 -- Keys of values that come to others, as a chain through their blocks.
-use Rattle.std.proofs.Common.{◌≡◌, ◌≢◌, ℕ, suc, true, false, List, [], ◌∷◌, ◌++◌, Option, Some, None, refl, ◌∙◌, inr, arith}
+use Rattle.std.proofs.Common.{◌≡◌, ◌≢◌, ℕ, true, false, List, [], ◌∷◌, ◌++◌, refl, ◌∙◌, arith}
 use base.Stored.{Gv}
 use Rattle.seize_machine.specs.Machine.State.{has}
 use Rattle.seize_book.specs.Blocks.{block_number}
@@ -7,9 +7,9 @@ use Rattle.seize_book.specs.Book.{after, blocks}
 use Rattle.seize_book.specs.Books.{IsNextIn}
 use Rattle.seize_book.specs.Entry.{Entry}
 use Rattle.seize_book.specs.Homes.{IsVacant, home_of}
-use Rattle.seize_book.specs.Ledger.{HeldKey, renewed}
+use Rattle.seize_book.specs.Ledger.{HeldKey}
 use Rattle.seize_book.specs.Lending.{IsLentKey}
-use Rattle.seize_book.specs.Linked.{are_joined, leads_first, next_in}
+use Rattle.seize_book.specs.Linked.{are_joined}
 use Rattle.seize_book.specs.Notes.{with_note}
 use Rattle.seize_book.specs.Others.{book_of}
 use Rattle.seize_book.specs.Private.{is_one, label_of, labels_of, own_of}
@@ -17,7 +17,6 @@ use Rattle.seize_book.specs.Loans.{CarriesOne}
 use Rattle.seize_book.specs.Tokens.{Name, start}
 use Rattle.seize_book.specs.Values.{AllNew}
 use Rattle.seize_book.specs.declared.book.value_key.ValueKey.{ValueKey}
-use Rattle.seize_machine.proofs.Facts.{eq_true}
 use Rattle.seize_words.proofs.Facts.{closed_after}
 use Rattle.seize_calls.proofs.Rounds.{joined_like}
 use Rattle.seize_calls.specs.Batches.{IsNewValue}

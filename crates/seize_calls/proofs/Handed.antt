@@ -1,5 +1,5 @@
 -- One value goes to its reclaimer, out of its block.
-use Rattle.std.proofs.Common.{◌≡◌, ℕ, true, List, [], ◌∷◌, ◌++◌, get_or, Some, is_some, refl, sym, ap, ◌∙◌, append_assoc, append-nil}
+use Rattle.std.proofs.Common.{◌≡◌, ℕ, List, [], ◌∷◌, ◌++◌, get_or, Some, refl, sym, ap, ◌∙◌, append_assoc, append-nil}
 use Rattle.std.proofs.lemmas.List.{get_or-set_same}
 use Rattle.seize_machine.specs.Machine.State.{Head, Inactive, Slot, State, is_active, no_slot, slot_at}
 use Rattle.seize_machine.specs.Machine.Event.{Event, Hand}
@@ -14,13 +14,12 @@ use Rattle.seize_book.specs.Lending.{IsLentKey}
 use Rattle.seize_book.specs.Others.{IsValueOf, value_of}
 use Rattle.seize_book.specs.Passes.{LooksOn, events_by}
 use Rattle.seize_book.specs.Slots.{IsKeyOfBook, NotesAs, hands_next, slot_number, slot_of}
-use Rattle.seize_book.specs.Tokens.{Name}
 use Rattle.seize_words.specs.Walks.{Knows}
 use Rattle.seize_book.specs.Values.{values_of}
 use Rattle.seize_book.specs.declared.book.pass.Pass.{Pass}
 use Rattle.seize_book.specs.declared.book.slot_key.SlotKey.{SlotKey}
 use Rattle.seize_book.specs.declared.book.value_key.ValueKey.{ValueKey}
-use Rattle.seize_words.proofs.Facts.{deeds_grew, hand_leaves, handing_named, knows_noted, knows_still, named_lent}
+use Rattle.seize_words.proofs.Facts.{deeds_grew, hand_leaves, handing_named, knows_still, named_lent}
 use Rattle.seize_book.specs.declared.book.value_keys.ValueKeys.{ValueKeys}
 use Rattle.seize_calls.specs.Handing.{AreTheirs, Had, Handings, HasHad, Queues, values_handed, values_put, words_put}
 use Rattle.seize_calls.specs.Walking.{HandsOne, KeepsAndKnows}

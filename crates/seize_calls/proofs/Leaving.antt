@@ -16,7 +16,6 @@ use Rattle.seize_book.specs.Entry.{Deed, Entry, Made}
 use Rattle.seize_book.specs.Passes.{IsSamePass, events_by}
 use Rattle.seize_words.specs.Reservations.{WalksFrom, beginning, slot}
 use Rattle.seize_book.specs.Slots.{Notes, NotesAs, active_of, own_list, slot_number, slot_of, start_of}
-use Rattle.seize_book.specs.Tokens.{Name}
 use Rattle.seize_book.specs.declared.book.pass.Pass.{Pass}
 use Rattle.seize_book.specs.declared.book.slot_key.SlotKey.{SlotKey}
 use Rattle.seize_words.specs.declared.reservation.Head.{Head as Word}

@@ -12,8 +12,7 @@ use Rattle.seize_book.specs.Values.{values_of}
 use Rattle.seize_book.specs.declared.book.pass.Pass.{Pass}
 use Rattle.seize_book.specs.declared.book.slot_key.SlotKey.{SlotKey}
 use Rattle.seize_book.specs.declared.book.value_keys.ValueKeys.{ValueKeys}
-use Rattle.seize_book.specs.Kept.{AreTold, AreToldIn, IsTold}
-use Rattle.seize_book.specs.Tokens.{Name}
+use Rattle.seize_book.specs.Kept.{AreTold, IsTold}
 use Rattle.seize_book.proofs.Facts.{same_twice}
 use Rattle.seize_words.proofs.Facts.{all_told_later, pushed_told, told_later}
 use Rattle.seize_words.specs.Walks.{Knows}

@@ -1,6 +1,7 @@
 -- The words in which the contracts of a slot as one value speak.
 --     IsSlotOf words slot      it is a slot of these words, and of each value in its batch the list says what is kept of it
---     number_of slot           its number;  IsActive slot     it is active, as its key knows
+--     its_number slot, its_book slot, its_key slot     its number, its book, and its key;  IsActive slot     it is active, as its key knows
+--     MakesOneSlot numbers next pass numbers' slot next' pass'     the slot was made (MakesNextSlot), and has seen what the pass has
 --     IsPassFor words pass     it is a pass of their book, with their batch size
 --     MayEnterWith slot a      the slot is inactive, and it is an activation of it, with all units
 --     HasActivation slot a     the slot is active, and this is its activation, with all units
@@ -19,11 +20,15 @@ use Rattle.seize_book.specs.Kept.{AreTold}
 use Rattle.seize_book.specs.Others.{MayRetire, book_of, value_of}
 use Rattle.seize_book.specs.Passes.{IsSamePass, MadeNone}
 use Rattle.seize_book.specs.Slots.{NotesAs, active_of, life_of, slot_number}
-use Rattle.seize_book.specs.Tokens.{IsSole}
+use Rattle.seize_book.specs.Tokens.{IsSole, Name}
+use Rattle.seize_book.specs.declared.book.numbers_key.NumbersKey.{NumbersKey}
 use Rattle.seize_book.specs.declared.book.pass.Pass.{Pass}
+use Rattle.seize_book.specs.declared.book.slot_key.SlotKey.{SlotKey}
 use Rattle.seize_words.specs.Joined.{words_book}
 use Rattle.seize_words.specs.Reservations.{IsLastOf, IsOfSlot, beginning}
+use Rattle.seize_words.specs.Reserved.{MakesNextSlot}
 use Rattle.seize_words.specs.declared.activation.Activation.{Activation}
+use Rattle.seize_words.specs.declared.slots.next.NextSlot.{NextSlot}
 use Rattle.seize_words.specs.declared.words.Words.{Words}
 use Rattle.seize_calls.specs.Batches.{keys_in}
 use Rattle.seize_calls.specs.Calls.{Flushes, Leaves, RetiresOne}
@@ -35,8 +40,18 @@ use Rattle.seize_calls.specs.declared.slot.Slot.{Slot}
 abbrev pub IsSlotOf : {T : Type 0} → Words T → Slot T → Type 0
 IsSlotOf words slot = (slot.seen.name ≡ words_book words) × AreTold (keys_in slot.batch) (what_saw slot.seen)
 
-abbrev pub number_of : {T : Type 0} → Slot T → ℕ
-number_of slot = slot.number
+abbrev pub its_number : {T : Type 0} → Slot T → ℕ
+its_number slot = slot.number
+
+abbrev pub its_book : {T : Type 0} → Slot T → Name
+its_book slot = slot.seen.name
+
+abbrev pub its_key : {T : Type 0} → Slot T → SlotKey
+its_key slot = slot.key
+
+abbrev pub MakesOneSlot : {T : Type 0} → NumbersKey → NextSlot → Pass → NumbersKey → Slot T → NextSlot → Pass → Type 0
+MakesOneSlot numbers next pass numbers' slot next' pass' =
+    MakesNextSlot numbers next pass numbers' slot.key next' pass' × (slot.seen.seen ≡ pass'.seen)
 
 abbrev pub IsPassFor : {T : Type 0} → Words T → Pass → Type 0
 IsPassFor words pass = (words_book words ≡ pass.name) × (words.size ≡ pass.size)
@@ -74,7 +89,7 @@ pub record Calls {T : Type 0} (slot : Slot T) (pass : Pass) (slot' : Slot T) (pa
 
 abbrev pub SlotEnters : {T : Type 0} → Slot T → Pass → Activation → Slot T → Pass → Type 0
 SlotEnters slot pass a slot' pass' =
-    Calls slot pass slot' pass' (λ p. NotesAs slot.key p slot'.key pass' (beginning p a.life (Enter (number_of slot))))
+    Calls slot pass slot' pass' (λ p. NotesAs slot.key p slot'.key pass' (beginning p a.life (Enter (its_number slot))))
 
 abbrev pub SlotRetires : {T : Type 0} → Slot T → Pass → Loose → ℕ → Had → Slot T → Pass → Had → Bool → Type 0
 SlotRetires slot pass loose kept had slot' pass' had' retired =

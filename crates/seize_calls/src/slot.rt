@@ -10,10 +10,13 @@ use crate::batch::Batch;
 use crate::calls;
 use crate::handing::Reclaim;
 use seize_store::Spots;
+use seize_table::Refusal;
 use seize_words::activation::Activation;
-use seize_words::book::{Book, Pass, SlotKey, ValueKey};
+use seize_words::book::{Book, NumbersKey, Pass, SlotKey, ValueKey};
 use seize_words::chunk::{Header, Part};
+use seize_words::slots::NextSlot;
 use seize_words::words::Words;
+use std::alloc::Global;
 use std::sync::Wait;
 
 /// A value that is in no link, and is to be retired, with the number of its block.
@@ -42,9 +45,75 @@ pub struct Slot<T> {
 }
 
 impl<T: Drop> Slot<T> {
+    ghost use Rattle.seize_table.specs.declared.refusal.Refusal.TheVariants.{NoMemory};
+    ghost use Rattle.seize_words.specs.Reservations.{IsOfSlot};
+    ghost use Rattle.seize_words.specs.Reserved.{HasNextSlot, IsSameNext};
+    ghost use Rattle.seize_words.specs.Totals.{NumbersOf};
     ghost use Rattle.seize_calls.specs.Calls.{HasBegun};
-    ghost use Rattle.seize_calls.specs.Slots.{HasActivation, IsActive, IsLooseOf, IsPassFor, IsSlotOf, KeepsActivation, MayEnterWith, number_of};
+    ghost use Rattle.seize_calls.specs.Slots.{MakesOneSlot, Prepares, its_book, its_key};
+    ghost use Rattle.seize_calls.specs.Slots.{HasActivation, IsActive, IsLooseOf, IsPassFor, IsSlotOf, KeepsActivation, MayEnterWith, its_number};
     ghost use Rattle.seize_calls.specs.Slots.{SlotEnters, SlotFlushes, SlotLeaves, SlotRefreshes, SlotRetires};
+
+    /// Makes the slot that comes next, which is inactive and has no batch. It takes memory for its list of spots first, and for a bucket of
+    /// the table of heads where that has none for it.
+    ///
+    /// # Errors
+    ///
+    /// `NoMemory` where either was refused. Then nothing was changed but that a bucket may have been made, and the slot that comes next is
+    /// given back.
+    pub fn make(
+        words: &Words<T>,
+        alloc: Global,
+        next: NextSlot,
+        numbers: &mut NumbersKey,
+        pass: &mut Pass,
+    ) -> Result<(Slot<T>, NextSlot), (Refusal, NextSlot)>
+        requires book { (words_book words.now ≡ pass.old.name) × NumbersOf numbers.old pass.old }
+        requires next { HasNextSlot numbers.old next }
+        ensures of { IfOk result (λ made. IsSlotOf words.now made.0) }
+        ensures made { IfOk result (λ made. MakesOneSlot numbers.old next pass.old numbers.new made.0 made.1 pass.new) }
+        ensures refused { IfErr result (λ e. (e.0 ≡ NoMemory) × IsSameNext next e.1) }
+        ensures unchanged { IfErr result (λ e. (numbers.new ≡ numbers.old) × (pass.new ≡ pass.old)) }
+    {
+        let number = next.number();
+        let Ok(spots) = words.blocks.spots(alloc) else {
+            return Err((Refusal::NoMemory, next));
+        };
+        let (key, next) = words.make_slot(next, numbers, pass)?;
+        let batch = Batch::new(pass);
+        let mut seen = words.blocks.book.again();
+        seen.learn(pass);
+        let slot = Slot {
+            number,
+            key,
+            batch,
+            spots,
+            seen,
+        };
+        Ok((slot, next))
+    }
+
+    /// Its number, by which the words name it.
+    pub fn number(&self) -> usize
+        ensures { result ≡ its_number self.now }
+    {
+        self.number
+    }
+
+    /// An activation of it, which has still to begin.
+    pub fn activation(&self) -> Activation
+        ensures { IsOfSlot (its_key self.now) result }
+    {
+        Activation::new(&self.key)
+    }
+
+    /// The pass learns what the slot has seen, such as that its activation began. No event is made with it.
+    pub fn teach(&self, pass: &mut Pass)
+        requires { pass.old.name ≡ its_book self.now }
+        ensures { Prepares self.now pass.old pass.new }
+    {
+        pass.learn(&self.seen);
+    }
 
     /// The slot enters, which begins the activation.
     ///

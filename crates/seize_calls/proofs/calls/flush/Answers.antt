@@ -4,7 +4,6 @@ use Rattle.seize_machine.specs.declared.machine.event.Job.TheVariants.{Flush}
 use Rattle.seize_book.specs.Adding.{private}
 use Rattle.seize_book.specs.Private.{labels_of}
 use Rattle.seize_book.specs.Slots.{slot_number, slot_of}
-use Rattle.seize_book.specs.Tokens.{Name}
 use Rattle.seize_words.proofs.Facts.{knows_noted}
 use Rattle.seize_book.specs.Values.{values_of}
 use Rattle.seize_book.specs.declared.book.pass.Pass.{Pass}

@@ -7,7 +7,6 @@ use Rattle.seize_book.specs.Adding.{private}
 use Rattle.seize_book.specs.Private.{labels_of}
 use Rattle.seize_words.specs.Reservations.{beginning}
 use Rattle.seize_book.specs.Slots.{slot_number}
-use Rattle.seize_book.specs.Tokens.{Name}
 use Rattle.seize_book.specs.declared.book.pass.Pass.{Pass}
 use Rattle.seize_words.proofs.Facts.{knows_noted}
 use Rattle.seize_calls.specs.Furthers.{further_in}

@@ -6,7 +6,6 @@ use Rattle.seize_book.specs.Blocks.{block_number}
 use Rattle.seize_book.specs.Others.{value_of}
 use Rattle.seize_book.specs.Private.{label_of, labels_of}
 use Rattle.seize_book.specs.Slots.{slot_number}
-use Rattle.seize_book.specs.Tokens.{Name}
 use Rattle.seize_book.specs.Kept.{IsTold}
 use Rattle.seize_words.proofs.Facts.{knows_noted, retired_told}
 use Rattle.seize_book.specs.declared.book.pass.Pass.{Pass}

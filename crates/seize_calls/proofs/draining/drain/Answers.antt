@@ -1,8 +1,6 @@
-use Rattle.std.proofs.Common.{[], inr, is_some, lit<, refl, sym, ap, subst, ◌∙◌}
+use Rattle.std.proofs.Common.{[], inr, lit<, refl, sym, ◌∙◌}
 use Rattle.seize_machine.specs.Machine.State.{Rest}
-use Rattle.seize_book.specs.Kept.{AreToldIn}
 use Rattle.seize_book.specs.Others.{value_of}
-use Rattle.seize_book.specs.Tokens.{Name}
 use Rattle.seize_book.specs.Values.{values_of}
 use Rattle.seize_words.proofs.Facts.{first_told}
 use Rattle.seize_calls.specs.Furthers.{further_in}

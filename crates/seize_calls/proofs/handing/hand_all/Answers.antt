@@ -1,5 +1,4 @@
-use Rattle.std.proofs.Common.{ℕ, ◌-◌, is_some, lit<, sym, ap, ◌∙◌, subst}
-use Rattle.seize_book.specs.Tokens.{Name}
+use Rattle.std.proofs.Common.{ℕ, ◌-◌, lit<, sym, ◌∙◌, subst}
 use Rattle.seize_calls.specs.Furthers.{further_in}
 use Rattle.seize_calls.proofs.Handings.{IsHanding, all_had, handed_on, handed_over, is_last, is_soon, is_there, its_book, none_handed, some_left}
 use Rattle.seize_calls.proofs.handing.hand_all.Goals as goal

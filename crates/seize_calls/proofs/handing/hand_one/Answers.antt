@@ -6,16 +6,15 @@ use Rattle.seize_book.specs.Blocks.{block_number}
 use Rattle.seize_book.specs.Others.{value_of}
 use Rattle.seize_book.specs.Private.{labels_of}
 use Rattle.seize_book.specs.Slots.{IsKeyOfBook, NotesAs, hands_next, slot_number, slot_of}
-use Rattle.seize_book.specs.Tokens.{Name}
 use Rattle.seize_book.specs.Passes.{LooksOn}
 use Rattle.seize_book.specs.Values.{values_of}
 use Rattle.seize_book.specs.declared.book.pass.Pass.{Pass}
 use Rattle.seize_book.specs.declared.book.slot_key.SlotKey.{SlotKey}
-use Rattle.seize_store.specs.Named.{bare_value, store_name}
+use Rattle.seize_store.specs.Named.{bare_value}
 use Rattle.seize_store.specs.declared.known.Title.{Title}
 use Rattle.seize_words.proofs.Facts.{named_seen, settles_hollow, takes_block, all_told_later, handing_named, joined_told, knows_still, looks_twice, none_new, put_told, same_key, seen_grows, settles_after, unchanged_last, unchanged_value}
 use Rattle.seize_words.specs.Chunks.{IsLentAs}
-use Rattle.seize_book.specs.Kept.{AreToldIn, kept_in, kepts_of}
+use Rattle.seize_book.specs.Kept.{kept_in, kepts_of}
 use Rattle.seize_calls.specs.Furthers.{further_in}
 use Rattle.seize_calls.proofs.Batches.{kepts_kept}
 use Rattle.seize_calls.proofs.Handed.{hands_so, soon_lent}

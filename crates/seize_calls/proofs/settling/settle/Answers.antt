@@ -1,6 +1,5 @@
-use Rattle.std.proofs.Common.{is_some, ◌≡◌, ℕ, true, List, [], lit<, refl, sym, ap, subst, ◌∙◌}
+use Rattle.std.proofs.Common.{◌≡◌, ℕ, true, List, [], lit<, refl, sym, ap, subst, ◌∙◌}
 use Rattle.seize_book.specs.Private.{labels_of}
-use Rattle.seize_book.specs.Tokens.{Name}
 use Rattle.seize_words.proofs.Facts.{all_told_later, none_closed}
 use Rattle.seize_calls.specs.Furthers.{further_in}
 use Rattle.seize_calls.specs.Batches.{keys_in}

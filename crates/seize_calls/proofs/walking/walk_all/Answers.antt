@@ -1,7 +1,6 @@
-use Rattle.std.proofs.Common.{◌≡◌, is_some, lit<, sym, ap, subst, ◌∙◌}
+use Rattle.std.proofs.Common.{◌≡◌, lit<, sym, subst, ◌∙◌}
 use Rattle.seize_book.specs.Slots.{IsKeyOfBook}
 use Rattle.seize_book.specs.Kept.{AreTold}
-use Rattle.seize_book.specs.Tokens.{Name}
 use Rattle.seize_book.specs.Values.{IsEmpty}
 use Rattle.seize_words.proofs.Facts.{all_told_later}
 use Rattle.seize_words.specs.Walks.{Knows}

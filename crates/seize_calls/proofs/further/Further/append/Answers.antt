@@ -4,7 +4,6 @@ use Rattle.seize_book.specs.Entry.{Entry}
 use Rattle.seize_book.specs.Ledger.{HeldKey}
 use Rattle.seize_book.specs.Linked.{are_joined}
 use Rattle.seize_book.specs.Private.{labels_of}
-use Rattle.seize_book.specs.Tokens.{Name}
 use Rattle.seize_calls.specs.Numbered.{are_none, ends_at, word_of_first}
 use Rattle.seize_calls.proofs.Batches.{kepts}
 use Rattle.seize_calls.proofs.Chains.{append_closed, joined_some, no_keys, none_all, some_word, word_append, ends_append, word_is}

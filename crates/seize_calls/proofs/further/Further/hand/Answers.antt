@@ -3,7 +3,6 @@ use Rattle.seize_book.proofs.Facts.{still_closed}
 use Rattle.seize_book.specs.Entry.{Entry}
 use Rattle.seize_book.specs.Ledger.{HeldKey}
 use Rattle.seize_book.specs.Linked.{are_joined}
-use Rattle.seize_book.specs.Tokens.{Name}
 use Rattle.seize_calls.specs.Numbered.{ends_at, word_of_first}
 use Rattle.seize_calls.proofs.further.Further.hand.Goals as goal
 

@@ -2,7 +2,6 @@ use Rattle.std.proofs.Common.{◌≡◌, true, List, [], ◌++◌, sym, ap, subs
 use Rattle.seize_book.specs.Entry.{Entry}
 use Rattle.seize_book.specs.Ledger.{HeldKey}
 use Rattle.seize_book.specs.Linked.{are_joined}
-use Rattle.seize_book.specs.Tokens.{Name}
 use Rattle.seize_calls.proofs.Rounds.{all_closed}
 use Rattle.seize_calls.proofs.round.Round.end.Goals as goal
 

@@ -1,12 +1,10 @@
 use Rattle.std.proofs.Common.{◌≡◌, ℕ, ◌-◌, true, List, [], sym, ap, subst, ◌∙◌}
 use base.Stored.{Gv}
-use Rattle.seize_store.specs.Named.{store_name}
 use Rattle.seize_book.specs.Entry.{Entry}
 use Rattle.seize_book.specs.Ledger.{HeldKey}
 use Rattle.seize_book.specs.Linked.{are_joined, next_in}
 use Rattle.seize_book.specs.Loans.{cell_of}
 use Rattle.seize_book.specs.Private.{label_of, labels_of, note_of}
-use Rattle.seize_book.specs.Tokens.{Name}
 use Rattle.seize_calls.specs.Numbered.{starts_at}
 use Rattle.seize_calls.proofs.Rounds.{first_label, leads_past, leads_to, next_starts, number_of_first}
 use Rattle.seize_words.proofs.Facts.{noted_one, others_closed, named_seen}

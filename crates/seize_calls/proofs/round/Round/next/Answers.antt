@@ -4,7 +4,6 @@ use Rattle.seize_book.specs.Entry.{Entry}
 use Rattle.seize_book.specs.Ledger.{HeldKey}
 use Rattle.seize_book.specs.Linked.{are_joined, next_in}
 use Rattle.seize_book.specs.Private.{is_one, label_of, note_of}
-use Rattle.seize_book.specs.Tokens.{Name}
 use Rattle.seize_calls.proofs.Rounds.{leads_past, leads_to, next_starts}
 use Rattle.seize_words.proofs.Facts.{others_closed}
 use Rattle.seize_calls.proofs.round.Round.next.Goals as goal

@@ -20,9 +20,22 @@ pub leave-requires : goal.leave-requires
 leave-requires g c =
     let s = c.args.self.now in let pass = c.args.pass.now in let p = c.learn.new.self in let learns = c.learn.ensures in let of = c.requires.of in let words = c.args.words.now in
     let q = c.head-head.new.pass in let looks = c.head-head.ensures.looks in let head = c.head-head.ensures.head in
-    let ready = ready_looked s.seen p q (ready_learned s.seen pass p (of.0.0 ∙ of.1.0) learns) looks in let here = of.1.0 ∙ sym learns.0.0 ∙ sym looks.same.0 in
-    (lit< tt, ((words.slotted ∙ here, here), (((holder s.number s.key s.batch s.spots s.seen s.together q ready).0, head.0, head.1 ∙ sym s.together.numbered), ((s.together.idle, c.requires.inside.0), (c.requires.inside.1,
-    (of.1.1 ∙ sym learns.0.2 ∙ sym looks.same.2, (batch_at s.number s.key s.batch s.spots s.seen s.together q ready of.0.1, (c.requires.serves, subst (λ (n : Name). AreOfStore s.spots n.store) of.0.0 s.together.spots_in))))))))
+    let ready = ready_looked s.seen p q (ready_learned s.seen pass p (of.0.0 ∙ of.1.0) learns) looks in let here = of.1.0 ∙ sym learns.0.0 ∙ sym looks.same.0 in (
+      lit< tt,
+      (
+        (words.slotted ∙ here, here),
+        (
+          ((holder s.number s.key s.batch s.spots s.seen s.together q ready).0, head.0, head.1 ∙ sym s.together.numbered),
+          (
+            (s.together.idle, c.requires.inside.0),
+            (
+              c.requires.inside.1,
+              (of.1.1 ∙ sym learns.0.2 ∙ sym looks.same.2, (batch_at s.number s.key s.batch s.spots s.seen s.together q ready of.0.1, (c.requires.serves, subst (λ (n : Name). AreOfStore s.spots n.store) of.0.0 s.together.spots_in))),
+            ),
+          ),
+        ),
+      ),
+    )
 
 pub invariant_of-self : goal.invariant_of-self
 invariant_of-self g c =

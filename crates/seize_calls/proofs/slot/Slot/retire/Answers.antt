@@ -11,9 +11,22 @@ use Rattle.seize_calls.proofs.slot.Slot.retire.Goals as goal
 pub retire-retired-requires : goal.retire-retired-requires
 retire-retired-requires g c =
     let s = c.args.self.now in let pass = c.args.pass.now in let p = c.learn.new.self in let learns = c.learn.ensures in let of = c.requires.of in let words = c.args.words.now in let value = c.requires.value in
-    let ready = ready_learned s.seen pass p (of.0.0 ∙ of.1.0) learns in let here = of.1.0 ∙ sym learns.0.0 in
-    (lit< tt, (((holder s.number s.key s.batch s.spots s.seen s.together p ready).0, words.slotted ∙ here, here), (s.together.idle, ((value.0 ∙ here, value.1, c.args.value.its), (of.1.1 ∙ sym learns.0.2,
-    (batch_at s.number s.key s.batch s.spots s.seen s.together p ready of.0.1, (c.requires.serves, subst (λ (n : Name). AreOfStore s.spots n.store) of.0.0 s.together.spots_in)))))))
+    let ready = ready_learned s.seen pass p (of.0.0 ∙ of.1.0) learns in let here = of.1.0 ∙ sym learns.0.0 in (
+      lit< tt,
+      (
+        ((holder s.number s.key s.batch s.spots s.seen s.together p ready).0, words.slotted ∙ here, here),
+        (
+          s.together.idle,
+          (
+            (value.0 ∙ here, value.1, c.args.value.its),
+            (
+              of.1.1 ∙ sym learns.0.2,
+              (batch_at s.number s.key s.batch s.spots s.seen s.together p ready of.0.1, (c.requires.serves, subst (λ (n : Name). AreOfStore s.spots n.store) of.0.0 s.together.spots_in)),
+            ),
+          ),
+        ),
+      ),
+    )
 
 pub invariant_of-self : goal.invariant_of-self
 invariant_of-self g c =
