@@ -8,7 +8,7 @@ ghost use Rattle.seize_model.specs.Waiting.Calls as calls;
 ghost use Rattle.seize.specs.Blocks.{content, owner_of};
 ghost use Rattle.seize.specs.Plain.{fixed};
 ghost use Rattle.seize.specs.Effects.{Queued};
-ghost use Rattle.seize_store.specs.Known.{family_in};
+ghost use Rattle.seize_store.specs.RowTokens.{family_in};
 ghost use Rattle.seize_store.specs.Named.{store_name};
 ghost use Rattle.seize_table.specs.declared.refusal.Refusal.TheVariants.{NoMemory};
 

@@ -1,6 +1,6 @@
 //! Works that make and end blocks, and the same with boxes.
 ghost use Rattle.std.specs.Prelude.{◌≡◌};
-ghost use Rattle.seize_store.specs.Known.{family_in};
+ghost use Rattle.seize_store.specs.RowTokens.{family_in};
 ghost use Rattle.seize_store.specs.Named.{AreOfStore, store_name};
 
 use crate::clock::{RUNS, Samples};

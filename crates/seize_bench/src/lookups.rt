@@ -1,12 +1,12 @@
 //! Works that look numbers up, and one that follows references.
 ghost use Rattle.std.specs.Prelude.{◌≡◌, ◌%◌};
-ghost use Rattle.seize_store.specs.Known.{family_in};
+ghost use Rattle.seize_store.specs.RowTokens.{family_in};
 ghost use Rattle.seize_store.specs.Named.{row_is, store_by, store_name};
 
 use crate::blocks::{PIPED, block, filled};
 use crate::clock::Samples;
 use crate::team::runs;
-use seize_store::{Family, Owned, Seen, Store};
+use seize_store::{Family, Owned, Store, TypedRowToken};
 use std::alloc::Global;
 use std::io;
 use std::rt::Clock;
@@ -82,7 +82,7 @@ fn some_found(
     store: &Store<u64, (), u64>,
     first: usize,
     numbers: &[usize],
-    seen: &mut Seen<u64, (), u64>,
+    seen: &mut TypedRowToken<u64, (), u64>,
 ) -> u64
     requires { (store_by seen.old ≡ store_name store.now) × row_is seen.old first × (first % 32 ≡ 0) }
 {

@@ -1,7 +1,7 @@
 //! Works that threads do by slots of their own, over links that they share: they read, put values of new blocks in, and retire what came
 //! out, or what was never in a link.
 ghost use Rattle.std.specs.Prelude.{◌≡◌, ◌<◌, IfOk, IfSome};
-ghost use Rattle.seize_calls_rows.specs.Workers.{AreSpotsOf, CanMake, IsOut, Lends, MayWork, Stands, made_by};
+ghost use Rattle.seize_calls_rows.specs.Workers.{AreSpotsOf, CanMake, IsOut, Lends, MayAct, MayWork, made_by};
 ghost use Rattle.seize_words.specs.Joined.{words_book};
 
 use crate::clock::{RUNS, Samples, Span};
@@ -111,8 +111,8 @@ fn retire_new<'p>(
     dropping: &mut Dropping,
     rt: &impl Wait,
 ) -> Option<Active<'p>>
-    requires stands { Stands words.now active }
-    ensures stands { IfSome result (λ active. Stands words.now active) }
+    requires stands { MayAct words.now active }
+    ensures stands { IfSome result (λ active. MayAct words.now active) }
 {
     let Active {
         slot,
@@ -145,9 +145,9 @@ fn update<'p>(
     dropping: &mut Dropping,
     rt: &impl Wait,
 ) -> Option<Active<'p>>
-    requires stands { Stands words.now active }
+    requires stands { MayAct words.now active }
     requires link { link < 1024 }
-    ensures stands { IfSome result (λ active. Stands words.now active) }
+    ensures stands { IfSome result (λ active. MayAct words.now active) }
 {
     let (active, swapped) = active.swap_in(words, link, value);
     match swapped? {
@@ -166,9 +166,9 @@ fn update_or_read<'p>(
     dropping: &mut Dropping,
     rt: &impl Wait,
 ) -> Option<(Active<'p>, u64)>
-    requires stands { Stands words.now active }
+    requires stands { MayAct words.now active }
     requires link { link < 1024 }
-    ensures stands { IfSome result (λ done. Stands words.now done.0) }
+    ensures stands { IfSome result (λ done. MayAct words.now done.0) }
 {
     if updates {
         let active = update(active, words, link, value, dropping, rt)?;

@@ -10,7 +10,7 @@ use crate::clock::Samples;
 use crate::team::runs;
 use seize_calls_rows::worker::{Active, Lender, ROW, Source, Worker, open};
 use seize_words::activation::Activation;
-use seize_words::book::{Book, Pass, SlotKey};
+use seize_words::book::{Pass, Seen, SlotKey};
 use seize_words::link::{Link, MaybeKey};
 use seize_words::reservation::Head;
 use seize_words::words::Words;
@@ -70,7 +70,7 @@ pub(crate) fn enter<R: Clock + CpuClock + Threads + Sync>(
 }
 
 // A slot of the book enters, and its activation is to be shared, with a book that has seen it begin.
-fn share(words: &Words<u64>, lender: &Lender, source: Source) -> Option<(Activation, Book)>
+fn share(words: &Words<u64>, lender: &Lender, source: Source) -> Option<(Activation, Seen)>
     requires can { CanMake source words.now }
     requires lender { Lends words.now lender.now }
     ensures begun { IfSome result (λ shared. HasBegun words.now shared.0 shared.1) }
@@ -97,7 +97,7 @@ fn swap_many(link: &Link, activation: &Activation, pass: &mut Pass) -> u64
 }
 
 // The same of the first link, with a pass of its own.
-fn each_swapped(words: &Words<u64>, lender: &Lender, book: &Book, activation: &Activation) -> u64
+fn each_swapped(words: &Words<u64>, lender: &Lender, book: &Seen, activation: &Activation) -> u64
     requires links { HasLinks words.now }
     requires lender { Lends words.now lender.now }
     requires begun { HasBegun words.now activation.now book.now }
@@ -138,7 +138,7 @@ fn sum_links(words: &Words<u64>, activation: &Activation, pass: &mut Pass) -> u6
 }
 
 // Reads each link so many times over, under an activation that it shares, with a pass of its own.
-fn each_protected(words: &Words<u64>, lender: &Lender, book: &Book, activation: &Activation) -> u64
+fn each_protected(words: &Words<u64>, lender: &Lender, book: &Seen, activation: &Activation) -> u64
     requires links { HasLinks words.now }
     requires lender { Lends words.now lender.now }
     requires begun { HasBegun words.now activation.now book.now }

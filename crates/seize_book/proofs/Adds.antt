@@ -6,10 +6,10 @@ use base.Fml.{Fml, ftrue}
 use types.Logic.{Logic, sem}
 use types.Kit.{‵, ◌⊛◌, some, given, later, ◌$◌, ◌∵◌, !, qed, move, keep, split3, join, pick, learn, show, check, use2, updating, await, now, done}
 use denote.Steps.{nothing}
-use Rattle.seize_book.specs.Ledger.{HeldKey, renewed, born}
+use Rattle.seize_book.specs.Ledger.{HeldKey, with_list, keys_made}
 use Rattle.seize_book.specs.Entry.{Entry, Made, Deed}
 use Rattle.seize_book.specs.Book.{after, births}
-use Rattle.seize_book.specs.Fair.{Before, MayAdd, Added}
+use Rattle.seize_book.specs.Fair.{Before, MayAdd, AddsEntryWith}
 use Rattle.seize_book.specs.Tokens.{Name, start, keys_own, pass_owns}
 use Rattle.seize_book.proofs.Lives.{stays}
 use Rattle.seize_book.proofs.Passes.{keys_after, Made as MadeBy}
@@ -40,10 +40,10 @@ module _ {M : Type 1} {𝓤 : Ura M} (𝓛 : Logic 𝓤) (n : Name) (p : ℕ) (s
 
   -- the keys afterwards, where the list was `log` just before
   abbrev then_held : List Entry → List Entry → List (HeldKey Entry)
-  then_held log seen' = renewed held seen' ++ born (births (after (start n) log) e.event) seen'
+  then_held log seen' = with_list held seen' ++ keys_made (births (after (start n) log) e.event) seen'
 
   abbrev pub AddedNow : List Entry × List (HeldKey Entry) → Pr
-  AddedNow t = guard 𝓤 (Added n p seen t.0 held t.1 e) (⟦ pass_owns n p t.0 ⟧ ∗ ⟦ keys_own n t.1 ⟧)
+  AddedNow t = guard 𝓤 (AddsEntryWith n p seen t.0 held t.1 e) (⟦ pass_owns n p t.0 ⟧ ∗ ⟦ keys_own n t.1 ⟧)
 
   pub adds : e.pass ≡ p → MayAdd n p seen held e → ⟦ pass_owns n p seen ⟧ ∗ ⟦ keys_own n held ⟧ ⊢ H.⇛ (ex 𝓤 AddedNow)
   adds is may = qed 𝓛 (‵ (pass_owns n p seen) ∷ ‵ (keys_own n held) ∷ []) ∵ updating ! $ nothing ! $ move ! (2 ∷ 0 ∷ []) $ join ! $ move ! (1 ∷ 0 ∷ []) $

@@ -14,7 +14,7 @@ use types.Logic.{Logic, sem}
 use types.Growing.{latest_grows, latest_shows, latest_bounds}
 use types.Kit.{‵, raw, ◌⊛◌, some, given, ◌$◌, ◌∵◌, !, qed, by, move, keep, drop, split, split3, join, fsplit, fsplit3, fjoin, fjoin3, fpick, fpack, pick, learn, show, check, frame, each, assume, suffices, settle, done, use1, use2, use3, rewrite}
 use denote.Steps.{nothing}
-use Rattle.seize_book.specs.Ledger.{HeldKey, logs, roster, rosters, right, rights, reached, first_row, rest, row, Rules, Holds, standing, contents, Beside, WithKinds, renewed, AllKept, Known, Goes, AllBelow, born, bumped, AreNextNumbers, all_bumped, AllThere}
+use Rattle.seize_book.specs.Ledger.{HeldKey, logs, roster, rosters, right, rights, reached, first_row, rest, row, Rules, Holds, standing, contents, Beside, WithKinds, with_list, HoldersKnow, Known, Goes, AllBelow, keys_made, more_of, AreNextNumbers, more_by, AllThere}
 use Rattle.seize_book.proofs.Roster.{has, sets, mints}
 
 -- the rows, one of them set
@@ -121,16 +121,16 @@ sizes rows r = length (row rows r)
 size_more : {E : Type 0} (rows : List (List (List E))) (b : ℕ) (log : List E) → sizes (one_more rows b log) b ≡ sizes rows b + 1
 size_more rows b log = ap length (put_same rows b (row rows b ++ log ∷ [])) ∙ length_more (row rows b) log
 
-more_sizes : {E : Type 0} (rows : List (List (List E))) (b : ℕ) (log : List E) (r : ℕ) → sizes (one_more rows b log) r ≡ bumped b (sizes rows) r
+more_sizes : {E : Type 0} (rows : List (List (List E))) (b : ℕ) (log : List E) (r : ℕ) → sizes (one_more rows b log) r ≡ more_of b (sizes rows) r
 more_sizes rows b log r = go (is_true (r == b))
   where
     go : ((r == b) ≡ true) ⊎ ((r == b) ≡ false) → sizes (one_more rows b log) r ≡ (if r == b then sizes rows r + 1 else sizes rows r)
     go (inl t) = let e : r ≡ b = eq_true r b t in ap (sizes (one_more rows b log)) e ∙ size_more rows b log ∙ ap (λ (z : ℕ). sizes rows z + 1) (sym e) ∙ ap (λ (y : Bool). if y then sizes rows r + 1 else sizes rows r) (sym t)
     go (inr t) = ap length (put_other rows b r (row rows b ++ log ∷ []) (λ e. grind arith)) ∙ ap (λ (y : Bool). if y then sizes rows r + 1 else sizes rows r) (sym t)
 
-pub grown_sizes : {E : Type 0} (rows : List (List (List E))) (births : List (ℕ × ℕ)) (log : List E) (r : ℕ) → sizes (grown rows births log) r ≡ all_bumped births (sizes rows) r
+pub grown_sizes : {E : Type 0} (rows : List (List (List E))) (births : List (ℕ × ℕ)) (log : List E) (r : ℕ) → sizes (grown rows births log) r ≡ more_by births (sizes rows) r
 grown_sizes rows [] log r = refl
-grown_sizes rows (b ∷ births) log r = grown_sizes (one_more rows b.0 log) births log r ∙ ap (λ (many : ℕ → ℕ). all_bumped births many r) (fun_ext (more_sizes rows b.0 log))
+grown_sizes rows (b ∷ births) log r = grown_sizes (one_more rows b.0 log) births log r ∙ ap (λ (many : ℕ → ℕ). more_by births many r) (fun_ext (more_sizes rows b.0 log))
 
 -- how many there are of each kind, once there is this key
 abbrev pub up_to : ℕ × ℕ → (ℕ → ℕ) → ℕ → ℕ
@@ -218,21 +218,21 @@ module _ {E : Type 0} (c : Coded E) (rules : Rules E) (extra : List E → Fml) (
       use2 𝓛 (given (Has rows h.kind h.key h.own) (‵ (rosters c δs rows) ⊛ ‵ (right c δs h.kind h.key h.own))) (has_right δs rows h.kind h.key h.own w.0) $ learn ! (λ so. split ! $ move ! (0 ∷ 2 ∷ []) $
       use2 𝓛 (given (AllHas rows hs) (‵ (rosters c δs rows) ⊛ ‵ (rights c δs hs))) (has_rights rows hs w.1) $ learn ! (λ more. check ! (so, more) $ split ! $ frame ! $ move ! (1 ∷ 0 ∷ []) $ done !))
 
-  sets_rights : (rows : Rows) (held : List (HeldKey E)) (log : List E) → WithKinds (length δs) held → ⟦ rosters c δs rows ⟧ ∗ ⟦ rights c δs held ⟧ ⊢ upd 𝓤 (⟦ rosters c δs (puts rows held log) ⟧ ∗ ⟦ rights c δs (renewed held log) ⟧)
+  sets_rights : (rows : Rows) (held : List (HeldKey E)) (log : List E) → WithKinds (length δs) held → ⟦ rosters c δs rows ⟧ ∗ ⟦ rights c δs held ⟧ ⊢ upd 𝓤 (⟦ rosters c δs (puts rows held log) ⟧ ∗ ⟦ rights c δs (with_list held log) ⟧)
   sets_rights rows [] log w = upd_i 𝓤 _
-  sets_rights rows (h ∷ hs) log w = let rows' : Rows = at_key rows h.kind h.key log in let Z : Pr = ⟦ rosters c δs (puts rows' hs log) ⟧ ∗ ⟦ right c δs h.kind h.key log ⟧ ∗ ⟦ rights c δs (renewed hs log) ⟧ in
+  sets_rights rows (h ∷ hs) log w = let rows' : Rows = at_key rows h.kind h.key log in let Z : Pr = ⟦ rosters c δs (puts rows' hs log) ⟧ ∗ ⟦ right c δs h.kind h.key log ⟧ ∗ ⟦ rights c δs (with_list hs log) ⟧ in
       qed 𝓛 (‵ (rosters c δs rows) ∷ (‵ (right c δs h.kind h.key h.own) ⊛ ‵ (rights c δs hs)) ∷ []) ∵ move ! (1 ∷ []) $ split ! $ move ! (2 ∷ 0 ∷ []) $
       use2 𝓛 (raw (upd 𝓤 (⟦ rosters c δs rows' ⟧ ∗ ⟦ right c δs h.kind h.key log ⟧))) (sets_right rows h.kind h.key h.own log w.0) $ settle 𝓛 Z (‵ (rosters c δs rows') ⊛ ‵ (right c δs h.kind h.key log)) $ split ! $ move ! (0 ∷ 2 ∷ []) $
-      use2 𝓛 (raw (upd 𝓤 (⟦ rosters c δs (puts rows' hs log) ⟧ ∗ ⟦ rights c δs (renewed hs log) ⟧))) (sets_rights rows' hs log w.1) $ settle 𝓛 Z (‵ (rosters c δs (puts rows' hs log)) ⊛ ‵ (rights c δs (renewed hs log))) $ split ! $
+      use2 𝓛 (raw (upd 𝓤 (⟦ rosters c δs (puts rows' hs log) ⟧ ∗ ⟦ rights c δs (with_list hs log) ⟧))) (sets_rights rows' hs log w.1) $ settle 𝓛 Z (‵ (rosters c δs (puts rows' hs log)) ⊛ ‵ (rights c δs (with_list hs log))) $ split ! $
       suffices ! _ (upd_i 𝓤 Z) $ frame ! $ move ! (1 ∷ 0 ∷ []) $ done !
 
   -- a new key, and those that are made after it
-  mints_one : (rows last : Rows) (b : ℕ × ℕ) (births : List (ℕ × ℕ)) (log : List E) → b.0 < length δs → sizes rows b.0 ≡ b.1 → ⟦ rosters c δs (one_more rows b.0 log) ⟧ ⊢ upd 𝓤 (⟦ rosters c δs last ⟧ ∗ ⟦ rights c δs (born births log) ⟧)
-      → ⟦ rosters c δs rows ⟧ ⊢ upd 𝓤 (⟦ rosters c δs last ⟧ ∗ ⟦ rights c δs (born (b ∷ births) log) ⟧)
-  mints_one rows last b births log below is others = let rows' : Rows = one_more rows b.0 log in let k : ℕ = sizes rows b.0 in let Z : Pr = ⟦ rosters c δs last ⟧ ∗ ⟦ rights c δs (born (b ∷ births) log) ⟧ in
+  mints_one : (rows last : Rows) (b : ℕ × ℕ) (births : List (ℕ × ℕ)) (log : List E) → b.0 < length δs → sizes rows b.0 ≡ b.1 → ⟦ rosters c δs (one_more rows b.0 log) ⟧ ⊢ upd 𝓤 (⟦ rosters c δs last ⟧ ∗ ⟦ rights c δs (keys_made births log) ⟧)
+      → ⟦ rosters c δs rows ⟧ ⊢ upd 𝓤 (⟦ rosters c δs last ⟧ ∗ ⟦ rights c δs (keys_made (b ∷ births) log) ⟧)
+  mints_one rows last b births log below is others = let rows' : Rows = one_more rows b.0 log in let k : ℕ = sizes rows b.0 in let Z : Pr = ⟦ rosters c δs last ⟧ ∗ ⟦ rights c δs (keys_made (b ∷ births) log) ⟧ in
       qed 𝓛 (‵ (rosters c δs rows) ∷ []) ∵ use1 𝓛 (raw (upd 𝓤 (⟦ rosters c δs rows' ⟧ ∗ ⟦ right c δs b.0 k log ⟧))) (mints_right rows b.0 log below) $ settle 𝓛 Z (‵ (rosters c δs rows') ⊛ ‵ (right c δs b.0 k log)) $ split ! $
-      rewrite ! 1 (λ (j : ℕ). ‵ (right c δs b.0 j log)) is refl $ use1 𝓛 (raw (upd 𝓤 (⟦ rosters c δs last ⟧ ∗ ⟦ rights c δs (born births log) ⟧))) others $
-      settle 𝓛 Z (‵ (rosters c δs last) ⊛ ‵ (rights c δs (born births log))) $ split ! $ suffices ! _ (upd_i 𝓤 Z) $ frame ! $ move ! (1 ∷ 0 ∷ []) $ fjoin ! $ done !
+      rewrite ! 1 (λ (j : ℕ). ‵ (right c δs b.0 j log)) is refl $ use1 𝓛 (raw (upd 𝓤 (⟦ rosters c δs last ⟧ ∗ ⟦ rights c δs (keys_made births log) ⟧))) others $
+      settle 𝓛 Z (‵ (rosters c δs last) ⊛ ‵ (rights c δs (keys_made births log))) $ split ! $ suffices ! _ (upd_i 𝓤 Z) $ frame ! $ move ! (1 ∷ 0 ∷ []) $ fjoin ! $ done !
 
   -- a new key that nobody holds, and what is made after it
   drops_one : (rows : Rows) (r : ℕ) (log : List E) (Z : Pr) → r < length δs → ⟦ rosters c δs (one_more rows r log) ⟧ ⊢ upd 𝓤 Z → ⟦ rosters c δs rows ⟧ ⊢ upd 𝓤 Z
@@ -240,7 +240,7 @@ module _ {E : Type 0} (c : Coded E) (rules : Rules E) (extra : List E → Fml) (
       qed 𝓛 (‵ (rosters c δs rows) ∷ []) ∵ use1 𝓛 (raw (upd 𝓤 (⟦ rosters c δs rows' ⟧ ∗ ⟦ right c δs r k log ⟧))) (mints_right rows r log below) $ settle 𝓛 Z (‵ (rosters c δs rows') ⊛ ‵ (right c δs r k log)) $ split ! $ keep ! (0 ∷ []) $ by ! others
 
   -- the rights to new keys
-  pub borns : (rows : Rows) (births : List (ℕ × ℕ)) (log : List E) → AllBelow (length δs) births → AreNextNumbers (sizes rows) births → ⟦ rosters c δs rows ⟧ ⊢ upd 𝓤 (⟦ rosters c δs (grown rows births log) ⟧ ∗ ⟦ rights c δs (born births log) ⟧)
+  pub borns : (rows : Rows) (births : List (ℕ × ℕ)) (log : List E) → AllBelow (length δs) births → AreNextNumbers (sizes rows) births → ⟦ rosters c δs rows ⟧ ⊢ upd 𝓤 (⟦ rosters c δs (grown rows births log) ⟧ ∗ ⟦ rights c δs (keys_made births log) ⟧)
   borns rows [] log below next = qed 𝓛 (‵ (rosters c δs rows) ∷ []) ∵ suffices ! _ (upd_i 𝓤 (⟦ rosters c δs rows ⟧ ∗ ⟦ ftrue ⟧)) $ frame ! $ nothing ! $ done !
   borns rows (b ∷ births) log below next = let rows' : Rows = one_more rows b.0 log in
       mints_one rows (grown rows' births log) b births log below.0 next.0 (borns rows' births log below.1 (subst (λ (many : ℕ → ℕ). AreNextNumbers many births) (sym (fun_ext (more_sizes rows b.0 log))) next.1))
@@ -258,7 +258,7 @@ module _ {E : Type 0} (c : Coded E) (rules : Rules E) (extra : List E → Fml) (
   abbrev had : List E → Fml
   had log = reached c η log
 
-  all_kept : (rows : Rows) (log : List E) (held : List (HeldKey E)) → Holds rules rows log → AllHas rows held → AllKept rules held log
+  all_kept : (rows : Rows) (log : List E) (held : List (HeldKey E)) → Holds rules rows log → AllHas rows held → HoldersKnow rules held log
   all_kept rows log [] so has = tt
   all_kept rows log (h ∷ hs) so has = (so.kept h.kind h.key h.own has.0, all_kept rows log hs so has.1)
 
@@ -285,22 +285,22 @@ module _ {E : Type 0} (c : Coded E) (rules : Rules E) (extra : List E → Fml) (
   seeing held seen = some (λ (s : Rows × List E). given (Holds rules s.0 s.1 × Known rules held seen s.1 × AllThere (sizes s.0) held) (‵ (rosters c δs s.0) ⊛ ‵ (top s.1) ⊛ ‵ (extra s.1) ⊛ ‵ (rights c δs held)))
 
   abbrev KeptNow : Type 0
-  KeptNow = (r k : ℕ) (log : List E) → rules.Kept r k log log
+  KeptNow = (r k : ℕ) (log : List E) → rules.Knows r k log log
 
   holds_more : (rows : Rows) (held : List (HeldKey E)) (seen log : List E) (ev : List E → E) (births : List E → List (ℕ × ℕ)) (Told : List E → Type 0) → KeptNow → Goes rules held seen ev births Told → Holds rules rows log → Known rules held seen log → AllThere (sizes rows) held → Told log
       → Holds rules (grown (puts rows held (log ++ ev log ∷ [])) (births log) (log ++ ev log ∷ [])) (log ++ ev log ∷ [])
   holds_more rows held seen log ev births Told same goes so known there told = let log' : List E = log ++ ev log ∷ [] in let g = goes log known told in let mid : Rows = puts rows held log' in
       record {
         legal = g.0;
-        kept = λ r k own h. ⊎_elim (λ (e : own ≡ log'). subst (λ (x : List E). rules.Kept r k x log') (sym e) (same r k log'))
-            (λ h'. ⊎_elim (λ (e : own ≡ log'). subst (λ (x : List E). rules.Kept r k x log') (sym e) (same r k log')) (λ t. g.1 r k own t.0 (sizes rows r, so.sized r, get_lt (row rows r) k own t.1) (so.kept r k own t.1)) (has_puts rows held log' r k own h')) (has_grown mid (births log) log' r k own h);
-        sized = λ r. subst (λ (j : ℕ). rules.Sized r j log') (ap (λ (many : ℕ → ℕ). all_bumped (births log) many r) (sym (fun_ext (puts_length rows held log'))) ∙ sym (grown_sizes mid (births log) log' r)) ((g.2 (sizes rows) so.sized there).1 r);
+        kept = λ r k own h. ⊎_elim (λ (e : own ≡ log'). subst (λ (x : List E). rules.Knows r k x log') (sym e) (same r k log'))
+            (λ h'. ⊎_elim (λ (e : own ≡ log'). subst (λ (x : List E). rules.Knows r k x log') (sym e) (same r k log')) (λ t. g.1 r k own t.0 (sizes rows r, so.sized r, get_lt (row rows r) k own t.1) (so.kept r k own t.1)) (has_puts rows held log' r k own h')) (has_grown mid (births log) log' r k own h);
+        sized = λ r. subst (λ (j : ℕ). rules.Sized r j log') (ap (λ (many : ℕ → ℕ). more_by (births log) many r) (sym (fun_ext (puts_length rows held log'))) ∙ sym (grown_sizes mid (births log) log' r)) ((g.2 (sizes rows) so.sized there).1 r);
       }
 
   -- what is had after an event was appended
   abbrev pub Appended : List (HeldKey E) → List E → (List E → E) → (List E → List (ℕ × ℕ)) → (List E → Type 0) → (List E → Pr) → List E → Pr
   Appended held seen ev births Told Y log = guard 𝓤 (Known rules held seen log × Told log)
-      (⟦ J ⟧ ∗ ⟦ rights c δs (renewed held (log ++ ev log ∷ []) ++ born (births log) (log ++ ev log ∷ [])) ⟧ ∗ ⟦ had (log ++ ev log ∷ []) ⟧ ∗ Y log)
+      (⟦ J ⟧ ∗ ⟦ rights c δs (with_list held (log ++ ev log ∷ []) ++ keys_made (births log) (log ++ ev log ∷ [])) ⟧ ∗ ⟦ had (log ++ ev log ∷ []) ⟧ ∗ Y log)
 
   -- THE step: whoever holds the rights to all that the event changes appends it, whatever the log is
   pub appends : (held : List (HeldKey E)) (seen : List E) (ev : List E → E) (births : List E → List (ℕ × ℕ)) (Told : List E → Type 0) (X : Pr) (Y : List E → Pr) → WithKinds (length δs) held → ((log : List E) → AllBelow (length δs) (births log)) → KeptNow → Goes rules held seen ev births Told
@@ -309,15 +309,15 @@ module _ {E : Type 0} (c : Coded E) (rules : Rules E) (extra : List E → Fml) (
       → ⟦ J ⟧ ∗ ⟦ rights c δs held ⟧ ∗ ⟦ had seen ⟧ ∗ X ⊢ upd 𝓤 (ex 𝓤 (Appended held seen ev births Told Y))
   appends held seen ev births Told X Y w below same goes tells moves = let Z : Pr = ex 𝓤 (Appended held seen ev births Told Y) in
       qed 𝓛 (‵ J ∷ ‵ (rights c δs held) ∷ ‵ (had seen) ∷ raw X ∷ []) ∵ use3 𝓛 (seeing held seen) (looked held seen w) $ pick ! (λ s. learn ! (λ so. let rows : Rows = s.0 in let log : List E = s.1 in let log' : List E = log ++ ev log ∷ [] in
-      let mid : Rows = puts rows held log' in let rows' : Rows = grown mid (births log) log' in let new : List (HeldKey E) = born (births log) log' in
+      let mid : Rows = puts rows held log' in let rows' : Rows = grown mid (births log) log' in let new : List (HeldKey E) = keys_made (births log) log' in
       split ! $ move ! (1 ∷ []) $ split3 ! $
       -- [top; extra; rights; rosters; X]
       move ! (1 ∷ 4 ∷ []) $ use2 𝓛 (given (Told log) (‵ (extra log) ⊛ raw X)) (tells log so.1) $ learn ! (λ told. split ! $
       -- [extra; X; top; rights; rosters]
-      move ! (4 ∷ 3 ∷ []) $ use2 𝓛 (raw (upd 𝓤 (⟦ rosters c δs mid ⟧ ∗ ⟦ rights c δs (renewed held log') ⟧))) (sets_rights rows held log' w) $ settle 𝓛 Z (‵ (rosters c δs mid) ⊛ ‵ (rights c δs (renewed held log'))) $ split ! $
+      move ! (4 ∷ 3 ∷ []) $ use2 𝓛 (raw (upd 𝓤 (⟦ rosters c δs mid ⟧ ∗ ⟦ rights c δs (with_list held log') ⟧))) (sets_rights rows held log' w) $ settle 𝓛 Z (‵ (rosters c δs mid) ⊛ ‵ (rights c δs (with_list held log'))) $ split ! $
       use1 𝓛 (raw (upd 𝓤 (⟦ rosters c δs rows' ⟧ ∗ ⟦ rights c δs new ⟧))) (borns mid (births log) log' (below log) (subst (λ (many : ℕ → ℕ). AreNextNumbers many (births log)) (sym (fun_ext (puts_length rows held log'))) ((goes log so.1 told).2 (sizes rows) so.0.sized so.2).0)) $ settle 𝓛 Z (‵ (rosters c δs rows') ⊛ ‵ (rights c δs new)) $ split ! $
       -- [rosters; new rights; rights; extra; X; top]
-      move ! (2 ∷ 1 ∷ []) $ use2 𝓛 (‵ (rights c δs (renewed held log' ++ new))) (joins (renewed held log') new) $ move ! (1 ∷ 0 ∷ []) $
+      move ! (2 ∷ 1 ∷ []) $ use2 𝓛 (‵ (rights c δs (with_list held log' ++ new))) (joins (with_list held log') new) $ move ! (1 ∷ 0 ∷ []) $
       -- [rosters; rights; extra; X; top]
       move ! (4 ∷ []) $ use1 𝓛 (raw (upd 𝓤 ⟦ top log' ⟧)) (latest_grows (logs c) 𝓛 η log log' (ev log ∷ [], refl)) $ settle 𝓛 Z (‵ (top log')) $
       use1 𝓛 (‵ (top log') ⊛ ‵ (had log')) (latest_shows (logs c) 𝓛 full_share η log' log' ([], mathlib.Core.List.append-nil log')) $ split ! $
@@ -343,13 +343,13 @@ module _ {E : Type 0} (c : Coded E) (rules : Rules E) (extra : List E → Fml) (
   holds_renewed : (rows : Rows) (held : List (HeldKey E)) (log : List E) → KeptNow → Holds rules rows log → Holds rules (puts rows held log) log
   holds_renewed rows held log same so = record {
     legal = so.legal;
-    kept = λ r k own h. ⊎_elim (λ (e : own ≡ log). subst (λ (x : List E). rules.Kept r k x log) (sym e) (same r k log)) (λ t. so.kept r k own t.1) (has_puts rows held log r k own h);
+    kept = λ r k own h. ⊎_elim (λ (e : own ≡ log). subst (λ (x : List E). rules.Knows r k x log) (sym e) (same r k log)) (λ t. so.kept r k own t.1) (has_puts rows held log r k own h);
     sized = λ r. subst (λ (j : ℕ). rules.Sized r j log) (sym (puts_length rows held log r)) (so.sized r);
   }
 
   -- and the keys know of all that was appended
   abbrev pub Renewed : List (HeldKey E) → List E → (List E → Type 0) → (List E → Pr) → List E → Pr
-  Renewed held seen Told Y log = guard 𝓤 (Known rules held seen log × Told log) (⟦ J ⟧ ∗ ⟦ rights c δs (renewed held log) ⟧ ∗ ⟦ had log ⟧ ∗ Y log)
+  Renewed held seen Told Y log = guard 𝓤 (Known rules held seen log × Told log) (⟦ J ⟧ ∗ ⟦ rights c δs (with_list held log) ⟧ ∗ ⟦ had log ⟧ ∗ Y log)
 
   pub renews : (held : List (HeldKey E)) (seen : List E) (Told : List E → Type 0) (X : Pr) (Y : List E → Pr) → WithKinds (length δs) held → KeptNow → ((log : List E) → Known rules held seen log → ⟦ extra log ⟧ ∗ X ⊢ guard 𝓤 (Told log) (⟦ extra log ⟧ ∗ Y log))
       → ⟦ J ⟧ ∗ ⟦ rights c δs held ⟧ ∗ ⟦ had seen ⟧ ∗ X ⊢ upd 𝓤 (ex 𝓤 (Renewed held seen Told Y))
@@ -359,8 +359,8 @@ module _ {E : Type 0} (c : Coded E) (rules : Rules E) (extra : List E → Fml) (
       -- [top; reached; extra; rights; rosters; X]
       move ! (2 ∷ 5 ∷ []) $ use2 𝓛 (given (Told log) (‵ (extra log) ⊛ raw (Y log))) (tells log so.1) $ learn ! (λ told. split ! $
       -- [extra; Y; top; reached; rights; rosters]
-      move ! (5 ∷ 4 ∷ []) $ use2 𝓛 (raw (upd 𝓤 (⟦ rosters c δs (puts rows held log) ⟧ ∗ ⟦ rights c δs (renewed held log) ⟧))) (sets_rights rows held log w) $
-      settle 𝓛 Z (‵ (rosters c δs (puts rows held log)) ⊛ ‵ (rights c δs (renewed held log))) $ split ! $ suffices ! _ (upd_i 𝓤 Z) $
+      move ! (5 ∷ 4 ∷ []) $ use2 𝓛 (raw (upd 𝓤 (⟦ rosters c δs (puts rows held log) ⟧ ∗ ⟦ rights c δs (with_list held log) ⟧))) (sets_rights rows held log w) $
+      settle 𝓛 Z (‵ (rosters c δs (puts rows held log)) ⊛ ‵ (rights c δs (with_list held log))) $ split ! $ suffices ! _ (upd_i 𝓤 Z) $
       -- [rosters; rights; extra; Y; top; reached]
       move ! (0 ∷ 4 ∷ 2 ∷ []) $ use3 𝓛 (‵ J) (shut (puts rows held log) log (holds_renewed rows held log same so.0)) $
       -- [J; rights; Y; reached]
@@ -380,17 +380,17 @@ module _ {E : Type 0} (c : Coded E) (rules : Rules E) (extra : List E → Fml) (
   holds_minted : (rows : Rows) (r : ℕ) (log : List E) → KeptNow → OneMore rules r → Holds rules rows log → Holds rules (one_more rows r log) log
   holds_minted rows r log same more so = record {
     legal = so.legal;
-    kept = λ q k own h. ⊎_elim (λ (i : own ≡ log). subst (λ (x : List E). rules.Kept q k x log) (sym i) (same q k log)) (λ t. so.kept q k own t) (has_more rows r log q k own h);
+    kept = λ q k own h. ⊎_elim (λ (i : own ≡ log). subst (λ (x : List E). rules.Knows q k x log) (sym i) (same q k log)) (λ t. so.kept q k own t) (has_more rows r log q k own h);
     sized = λ q. subst (λ (j : ℕ). rules.Sized q j log) (sym (more_sizes rows r log q)) (go q (is_true (q == r)));
   }
     where
-      go : (q : ℕ) → ((q == r) ≡ true) ⊎ ((q == r) ≡ false) → rules.Sized q (bumped r (sizes rows) q) log
+      go : (q : ℕ) → ((q == r) ≡ true) ⊎ ((q == r) ≡ false) → rules.Sized q (more_of r (sizes rows) q) log
       go q (inl t) = let e : q ≡ r = eq_true q r t in subst (λ (y : Bool). rules.Sized q (if y then sizes rows q + 1 else sizes rows q) log) (sym t) (subst (λ (z : ℕ). rules.Sized z (sizes rows z + 1) log) (sym e) (more log (sizes rows r) (so.sized r)))
       go q (inr t) = subst (λ (y : Bool). rules.Sized q (if y then sizes rows q + 1 else sizes rows q) log) (sym t) (so.sized q)
 
   -- new keys and no event: the rows, and the rights to these
   abbrev Mints : List (ℕ × ℕ) → List E → Rows → Type 1
-  Mints births log rows = (rows' : Rows) × Holds rules rows' log × (⟦ rosters c δs rows ⟧ ⊢ upd 𝓤 (⟦ rosters c δs rows' ⟧ ∗ ⟦ rights c δs (born births log) ⟧))
+  Mints births log rows = (rows' : Rows) × Holds rules rows' log × (⟦ rosters c δs rows ⟧ ⊢ upd 𝓤 (⟦ rosters c δs rows' ⟧ ∗ ⟦ rights c δs (keys_made births log) ⟧))
 
   -- a key, and others after it: nobody holds those of its kind that are made before it
   fills : (d : ℕ) (b : ℕ × ℕ) (births : List (ℕ × ℕ)) (log : List E) → KeptNow → b.0 < length δs → OneMore rules b.0 → ((rows : Rows) → Holds rules rows log → MayMint rules (length δs) (sizes rows) births → Mints births log rows)
@@ -400,7 +400,7 @@ module _ {E : Type 0} (c : Coded E) (rules : Rules E) (extra : List E → Fml) (
       (made.0, made.1, mints_one rows made.0 b births log below last made.2)
   fills (suc d) b births log same below more others rows so is may = let rows' : Rows = one_more rows b.0 log in
       let made = fills d b births log same below more others rows' (holds_minted rows b.0 log same more so) (omega (arith, is, size_more rows b.0 log)) (subst (λ (many : ℕ → ℕ). MayMint rules (length δs) many births) (up_to_more rows b log) may) in
-      (made.0, made.1, drops_one rows b.0 log (⟦ rosters c δs made.0 ⟧ ∗ ⟦ rights c δs (born (b ∷ births) log) ⟧) below made.2)
+      (made.0, made.1, drops_one rows b.0 log (⟦ rosters c δs made.0 ⟧ ∗ ⟦ rights c δs (keys_made (b ∷ births) log) ⟧) below made.2)
 
   mints_all : (births : List (ℕ × ℕ)) (log : List E) → KeptNow → (rows : Rows) → Holds rules rows log → MayMint rules (length δs) (sizes rows) births → Mints births log rows
   mints_all [] log same rows so may = (rows, so, borns rows [] log tt tt)
@@ -409,12 +409,12 @@ module _ {E : Type 0} (c : Coded E) (rules : Rules E) (extra : List E → Fml) (
   -- New keys, picked by how many there are of each kind, and the rights to them. Those of a kind with smaller numbers that there were not are
   -- made too, and nobody holds them.
   abbrev pub Minted : List E → ((ℕ → ℕ) → List (ℕ × ℕ)) → (ℕ → ℕ) × List E → Pr
-  Minted seen births t = guard 𝓤 (rules.Legal t.1 × IsPrefix seen t.1 × ((r : ℕ) → rules.Sized r (t.0 r) t.1)) (⟦ J ⟧ ∗ ⟦ rights c δs (born (births t.0) t.1) ⟧ ∗ ⟦ had t.1 ⟧)
+  Minted seen births t = guard 𝓤 (rules.Legal t.1 × IsPrefix seen t.1 × ((r : ℕ) → rules.Sized r (t.0 r) t.1)) (⟦ J ⟧ ∗ ⟦ rights c δs (keys_made (births t.0) t.1) ⟧ ∗ ⟦ had t.1 ⟧)
 
   pub mint : (seen : List E) (births : (ℕ → ℕ) → List (ℕ × ℕ)) → KeptNow → ((many : ℕ → ℕ) → MayMint rules (length δs) many (births many)) → ⟦ J ⟧ ∗ ⟦ had seen ⟧ ⊢ upd 𝓤 (ex 𝓤 (Minted seen births))
   mint seen births same may = let Z : Pr = ex 𝓤 (Minted seen births) in qed 𝓛 (‵ J ∷ ‵ (had seen) ∷ []) ∵ nothing ! $ move ! (1 ∷ 0 ∷ 2 ∷ []) $ use3 𝓛 (seeing [] seen) (looked [] seen tt) $ pick ! (λ s. learn ! (λ so.
       let log : List E = s.1 in let many : ℕ → ℕ = sizes s.0 in let made = mints_all (births many) log same s.0 so.0 (may many) in split ! $ move ! (1 ∷ []) $ split3 ! $ move ! (3 ∷ []) $
-      use1 𝓛 (raw (upd 𝓤 (⟦ rosters c δs made.0 ⟧ ∗ ⟦ rights c δs (born (births many) log) ⟧))) made.2 $ settle 𝓛 Z (‵ (rosters c δs made.0) ⊛ ‵ (rights c δs (born (births many) log))) $ split ! $
+      use1 𝓛 (raw (upd 𝓤 (⟦ rosters c δs made.0 ⟧ ∗ ⟦ rights c δs (keys_made (births many) log) ⟧))) made.2 $ settle 𝓛 Z (‵ (rosters c δs made.0) ⊛ ‵ (rights c δs (keys_made (births many) log))) $ split ! $
       -- [rosters; rights; top; extra; nothing]
       move ! (2 ∷ []) $ use1 𝓛 (‵ (top log) ⊛ ‵ (had log)) (latest_shows (logs c) 𝓛 full_share η log log ([], mathlib.Core.List.append-nil log)) $ split ! $
       move ! (2 ∷ 0 ∷ 4 ∷ []) $ use3 𝓛 (‵ J) (shut made.0 log made.1) $ suffices ! _ (upd_i 𝓤 Z) $

@@ -17,15 +17,15 @@ use types.Kit.{‵, raw, ◌⊛◌, some, given, later, ◌$◌, ◌∵◌, !, q
 use types.Tokens.{name_new}
 use denote.Steps.{nothing}
 use Rattle.seize_machine.specs.Machine.State.{State, has, linked_values, are_distinct, opening}
-use Rattle.seize_book.specs.Ledger.{HeldKey, logs, halved, roster, rosters, rights, reached, row, Holds, AllBelow, AreNextNumbers, all_bumped, bumped, born}
+use Rattle.seize_book.specs.Ledger.{HeldKey, logs, halved, roster, rosters, rights, reached, row, Holds, AllBelow, AreNextNumbers, more_by, more_of, keys_made}
 use Rattle.seize_book.specs.Entry.{Entry, entry_coded}
-use Rattle.seize_book.specs.Book.{Kept, IsKeyCount, mine, kind_of, rules, passes, numbers, slots, heads, links, totals, kinds}
+use Rattle.seize_book.specs.Book.{HolderKnows, IsKeyCount, mine, kind_of, rules, passes, numbers, slots, heads, links, totals, kinds}
 use Rattle.seize_book.specs.Homes.{IsSound}
 use Rattle.seize_book.specs.Loans.{AllCarryOne}
-use Rattle.seize_book.specs.Tokens.{Name, Gate, all_but, turned, IsSole, rows, start, inside, beside, called, uncalled, name_coded, gate_keeps, gate_gives, all_lead, all_lie, rights_own, keys_own, pass_at, pass_holds}
+use Rattle.seize_book.specs.Tokens.{Name, Gate, all_but, gate_share, IsSole, rows, start, inside, beside, has_family, free_family, name_coded, gate_keeps, gate_gives, all_lead, all_lie, rights_own, keys_own, pass_at, pass_holds}
 use Rattle.seize_book.specs.Begin.{BeganWith, new_key, first_links, first_keys, book_owns}
 use Rattle.seize_book.proofs.Append.{grown, borns, has_grown, shut, sizes, grown_sizes}
-use Rattle.seize_book.specs.Chains.{told}
+use Rattle.seize_book.specs.Chains.{field_value}
 use Rattle.seize_book.proofs.Chains.{chained_opening}
 use Rattle.seize_book.proofs.Goes.{kept_now}
 use Rattle.seize_book.proofs.Tables.{none_lie}
@@ -41,7 +41,7 @@ of_links l (suc n) = (links, l) ∷ of_links (suc l) n
 abbrev firsts : ℕ → List (ℕ × ℕ)
 firsts n = (passes, 0) ∷ (numbers, 0) ∷ (totals, 0) ∷ (slots, 0) ∷ (heads, 0) ∷ of_links 0 n
 
-born_links : (l n : ℕ) → born {E = Entry} (of_links l n) [] ≡ first_links l n
+born_links : (l n : ℕ) → keys_made {E = Entry} (of_links l n) [] ≡ first_links l n
 born_links l zero = refl
 born_links l (suc n) = ap (λ hs. record { kind = links; key = l; own = []; label = 0; note = gnil } ∷ hs) (born_links (suc l) n)
 
@@ -51,15 +51,15 @@ below_links l (suc n) = (omega arith, below_links (suc l) n)
 
 next_links : (l n : ℕ) (f : ℕ → ℕ) → f links ≡ l → AreNextNumbers f (of_links l n)
 next_links l zero f e = tt
-next_links l (suc n) f e = (e, next_links (suc l) n (bumped links f) (omega (arith, e)))
+next_links l (suc n) f e = (e, next_links (suc l) n (more_of links f) (omega (arith, e)))
 
-bumped_links : (l n : ℕ) (f : ℕ → ℕ) → all_bumped (of_links l n) f links ≡ f links + n
+bumped_links : (l n : ℕ) (f : ℕ → ℕ) → more_by (of_links l n) f links ≡ f links + n
 bumped_links l zero f = omega arith
-bumped_links l (suc n) f = omega (arith, bumped_links (suc l) n (bumped links f))
+bumped_links l (suc n) f = omega (arith, bumped_links (suc l) n (more_of links f))
 
-bumped_other : (l n : ℕ) (f : ℕ → ℕ) (r : ℕ) → (r == links) ≡ false → all_bumped (of_links l n) f r ≡ f r
+bumped_other : (l n : ℕ) (f : ℕ → ℕ) (r : ℕ) → (r == links) ≡ false → more_by (of_links l n) f r ≡ f r
 bumped_other l zero f r e = refl
-bumped_other l (suc n) f r e = bumped_other (suc l) n (bumped links f) r e ∙ ap (λ b. if b then f r + 1 else f r) e
+bumped_other l (suc n) f r e = bumped_other (suc l) n (more_of links f) r e ∙ ap (λ b. if b then f r + 1 else f r) e
 
 -- empty links hold nothing
 abbrev empty : ℕ → List (Option ℕ)
@@ -74,7 +74,7 @@ row_nil zero = refl
 row_nil (suc r) = row_nil r
 
 abbrev sizes_before : ℕ → ℕ
-sizes_before = bumped heads (bumped slots (bumped totals (bumped numbers (bumped passes (sizes {E = Entry} [])))))
+sizes_before = more_of heads (more_of slots (more_of totals (more_of numbers (more_of passes (sizes {E = Entry} [])))))
 
 -- no value was named
 none_lent : (n : ℕ) → AllCarryOne (linked_values (empty n))
@@ -85,13 +85,13 @@ sound_first n = record { one = λ v w home a b c d. absurd (let x : has v [] ≡
 
 holds_first : (n : ℕ) → Holds (rules (opening 0 (empty n))) (grown [] (firsts n) []) []
 holds_first n = record {
-  legal = (refl, sound_first n, chained_opening 0 (empty n) (told []));
-  kept = λ r k own h. ⊎_elim (λ (e : own ≡ []). subst (λ (x : List Entry). Kept (opening 0 (empty n)) (kind_of r) k x []) (sym e) (kept_now (opening 0 (empty n)) r k []))
+  legal = (refl, sound_first n, chained_opening 0 (empty n) (field_value []));
+  kept = λ r k own h. ⊎_elim (λ (e : own ≡ []). subst (λ (x : List Entry). HolderKnows (opening 0 (empty n)) (kind_of r) k x []) (sym e) (kept_now (opening 0 (empty n)) r k []))
       (λ t. absurd (let h' : slice_get {X = List Entry} [] k ≡ Some own = subst (λ (z : List (List Entry)). slice_get z k ≡ Some own) (row_nil r) t in let m : Option.None ≡ Some own = h' in cc)) (has_grown [] (firsts n) [] r k own h);
   sized = λ r. subst (λ (j : ℕ). IsKeyCount (opening 0 (empty n)) (kind_of r) j []) (sym (grown_sizes [] (firsts n) [] r)) (go r);
 }
   where
-    go : (r : ℕ) → IsKeyCount (opening 0 (empty n)) (kind_of r) (all_bumped (firsts n) (sizes {E = Entry} []) r) []
+    go : (r : ℕ) → IsKeyCount (opening 0 (empty n)) (kind_of r) (more_by (firsts n) (sizes {E = Entry} []) r) []
     go zero = λ p le. refl
     go (suc zero) = bumped_other 0 n sizes_before 1 refl
     go (suc (suc zero)) = bumped_other 0 n sizes_before 2 refl
@@ -136,7 +136,7 @@ module _ {M : Type 1} {𝓤 : Ura M} (𝓛 : Logic 𝓤) where
       use1 𝓛 (‵ (latest (logs entry_coded) quarter η []) ⊛ ‵ (latest (logs entry_coded) three_quarters η [])) (latest_cut (logs entry_coded) 𝓛 full_share quarter three_quarters η [] quarters) $ split ! $
       -- [the book's share; the pass's; the tickets]
       let g : Gate = record { copy = η; tickets = κ } in
-      move ! (0 ∷ 2 ∷ []) $ fjoin ! $ fpack ! Bool (turned g []) true $ show ! Opened g $ done !))
+      move ! (0 ∷ 2 ∷ []) $ fjoin ! $ fpack ! Bool (gate_share g []) true $ show ! Opened g $ done !))
 
   -- the keys of one kind, under a new name
   abbrev fresh_row : types.Kit.Item 𝓤
@@ -149,8 +149,8 @@ module _ {M : Type 1} {𝓤 : Ura M} (𝓛 : Logic 𝓤) where
     abbrev pub Begun : ℕ → Name → Pr
     Begun f m = guard 𝓤 ((m.family ≡ f) × BeganWith m n store table) (⟦ book_owns m [] ⟧ ∗ ⟦ pass_holds m 0 [] ⟧ ∗ ⟦ keys_own m (first_keys n) ⟧)
 
-    pub begins : (f : ℕ) → ⟦ uncalled f ⟧ ⊢ H.⇛ (ex 𝓤 (Begun f))
-    begins f = qed 𝓛 (‵ (uncalled f) ∷ []) ∵ updating ! $ fsplit ! $
+    pub begins : (f : ℕ) → ⟦ free_family f ⟧ ⊢ H.⇛ (ex 𝓤 (Begun f))
+    begins f = qed 𝓛 (‵ (free_family f) ∷ []) ∵ updating ! $ fsplit ! $
         use0 𝓛 fresh_row fresh $ await ! tt $ pick ! (λ d0. use0 𝓛 fresh_row fresh $ await ! tt $ pick ! (λ d1.
         use0 𝓛 fresh_row fresh $ await ! tt $ pick ! (λ d2. use0 𝓛 fresh_row fresh $ await ! tt $ pick ! (λ d3.
         use0 𝓛 fresh_row fresh $ await ! tt $ pick ! (λ d4. use0 𝓛 fresh_row fresh $ await ! tt $ pick ! (λ d5.
@@ -183,7 +183,7 @@ module _ {M : Type 1} {𝓤 : Ura M} (𝓛 : Logic 𝓤) where
           links = empty n;
         } in let st : State = start n₀ in let bs : List (ℕ × ℕ) = firsts n in
         -- [the book's copy; the pass's; nothing was reached, twice; the list; the rosters]
-        move ! (5 ∷ []) $ use1 𝓛 (later (‵ (rosters entry_coded (rows n₀) (grown [] bs [])) ⊛ ‵ (rights entry_coded (rows n₀) (born bs []))))
+        move ! (5 ∷ []) $ use1 𝓛 (later (‵ (rosters entry_coded (rows n₀) (grown [] bs [])) ⊛ ‵ (rights entry_coded (rows n₀) (keys_made bs []))))
         (via 𝓤 _ (borns entry_coded (rules st) (beside n₀) η (rows n₀) 𝓛 [] bs [] (omega arith, (omega arith, (omega arith, (omega arith, (omega arith, below_links 0 n))))) (refl, (refl, (refl, (refl, (refl, next_links 0 n sizes_before refl)))))) (basic 𝓛 _)) $ await ! tt $ split ! $
         -- [the rosters; the rights; the book's copy; the pass's; nothing was reached, twice; the list]
         use0 𝓛 (‵ (all_lie n₀ 0)) (none_lie 𝓛 n₀) $ nothing ! $ fpack ! (AllCarryOne (linked_values (empty n))) (λ _. ftrue) (none_lent n) $ move ! (1 ∷ 0 ∷ []) $ fjoin ! $
@@ -192,7 +192,7 @@ module _ {M : Type 1} {𝓤 : Ura M} (𝓛 : Logic 𝓤) where
         use1 𝓛 (later (some (λ (j : ℕ). given (0 ≤ j) (‵ (fnamed j (inside n₀)))))) (named_past 𝓛 0 (inside n₀)) $ await ! tt $ pick ! (λ j. learn ! (λ _. let m : Name = record n₀ { number = j } in
         -- [the invariant; the rights; the pass's copy; nothing was reached, twice; what the family says, which is nothing yet]
         let c : Gv = gcons gnil (name_coded.code m) in move ! (5 ∷ 6 ∷ []) $
-        use2 𝓛 (later (‵ (fobs f c) ⊛ ‵ (fauth f c))) (via 𝓤 _ (𝓛.names.name_set_upd f gnil gnil c) (basic 𝓛 _)) $ await ! tt $ split ! $ use1 𝓛 (‵ (called m)) (𝓛.names.obs-res f c) $ move ! (1 ∷ []) $ drop ! $
+        use2 𝓛 (later (‵ (fobs f c) ⊛ ‵ (fauth f c))) (via 𝓤 _ (𝓛.names.name_set_upd f gnil gnil c) (basic 𝓛 _)) $ await ! tt $ split ! $ use1 𝓛 (‵ (has_family m)) (𝓛.names.obs-res f c) $ move ! (1 ∷ []) $ drop ! $
         -- [the book's call; the invariant; the rights; the pass's copy; nothing was reached, twice]
         nothing ! $ fpack ! (are_distinct (linked_values m.links) ≡ true) (λ _. ftrue) (ap are_distinct (none_linked n)) $ move ! (1 ∷ 0 ∷ []) $ fjoin ! $ move ! (1 ∷ 0 ∷ []) $ fjoin ! $ move ! (0 ∷ 3 ∷ []) $ fjoin ! $
         -- [the book; the rights; the pass's copy; nothing was reached]
@@ -204,5 +204,5 @@ module _ {M : Type 1} {𝓤 : Ura M} (𝓛 : Logic 𝓤) where
         now ! $ show ! (Begun f) m $ check ! (refl, (refl, refl, refl, refl)) $ move ! (2 ∷ 1 ∷ 0 ∷ []) $ done !)))))))))))))
 
   -- a family that no book has
-  pub new_family : emp 𝓤 ⊢ H.⇛ (ex 𝓤 (λ (f : ℕ). ⟦ uncalled f ⟧))
-  new_family = qed 𝓛 [] ∵ updating ! $ name_new ! tt gnil (λ f. fjoin ! $ now ! $ show ! (λ (f : ℕ). ⟦ uncalled f ⟧) f $ done !)
+  pub new_family : emp 𝓤 ⊢ H.⇛ (ex 𝓤 (λ (f : ℕ). ⟦ free_family f ⟧))
+  new_family = qed 𝓛 [] ∵ updating ! $ name_new ! tt gnil (λ f. fjoin ! $ now ! $ show ! (λ (f : ℕ). ⟦ free_family f ⟧) f $ done !)

@@ -14,7 +14,7 @@ use Rattle.seize_machine.specs.Machine.State.{State, has}
 use Rattle.seize_book.specs.Ledger.{HeldKey, logs, reached}
 use Rattle.seize_book.specs.Entry.{Entry, entry_coded}
 use Rattle.seize_book.specs.Book.{after, mine, rules, counts, blocks, fields}
-use Rattle.seize_book.specs.Chains.{first_field, next_field, told}
+use Rattle.seize_book.specs.Chains.{field_value, first_field, next_field}
 use Rattle.seize_book.specs.Deposits.{deposit}
 use Rattle.seize_book.specs.Homes.{count_in, home_of}
 use Rattle.seize_book.specs.Fair.{pass_key}
@@ -95,7 +95,7 @@ module _ {M : Type 1} {𝓤 : Ura M} (𝓛 : Logic 𝓤) (n : Name) where
 
   -- nothing is known of the block
   abbrev pub IsUnused : ℕ × List Entry → Type 0
-  IsUnused t = ((v : ℕ) → home_of v ≡ t.0 → has v (after st t.1).named ≡ false) × ((count_in (after st t.1) t.0 ≡ pos 0) × (deposit (after st t.1) t.0 ≡ [])) × (told t.1 (next_field t.0) ≡ 0) × (told t.1 (first_field t.0) ≡ 0)
+  IsUnused t = ((v : ℕ) → home_of v ≡ t.0 → has v (after st t.1).named ≡ false) × ((count_in (after st t.1) t.0 ≡ pos 0) × (deposit (after st t.1) t.0 ≡ [])) × (field_value t.1 (next_field t.0) ≡ 0) × (field_value t.1 (first_field t.0) ≡ 0)
 
   -- the key of its values, labelled with one of them, with this note; and those of its count and of its two fields
   abbrev pub HasChunk : (ℕ → ℕ) → Gv → ℕ × List Entry → Pr

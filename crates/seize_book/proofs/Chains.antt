@@ -13,8 +13,8 @@ use Rattle.seize_machine.specs.Machine.Frames.{changes_head_of}
 use Rattle.seize_machine.specs.declared.machine.event.Answer.{Answer}
 use Rattle.seize_machine.specs.declared.machine.event.Try.TheVariants.{Won, Lost}
 use Rattle.seize_machine.proofs.Facts.{Step, Stands, some_is, head_frame, held_full}
-use Rattle.seize_book.specs.Blocks.{Plan, no_plan, planned_by, block_number, serving, list_word}
-use Rattle.seize_book.specs.Chains.{next_field, first_field, served, FieldsLeadOn, IsChain, Chained, Leads}
+use Rattle.seize_book.specs.Blocks.{Plan, no_plan, planned_by, block_number, plan_value, list_word}
+use Rattle.seize_book.specs.Chains.{next_field, first_field, insertion_value, FieldsLeadOn, IsChain, HasChains, Leads}
 use Rattle.seize_book.specs.Homes.{home_of}
 use Rattle.seize_book.proofs.Plans.{AllLess, has_values, tried_there, waiting_there}
 
@@ -32,10 +32,10 @@ walking_there st r m = all_less (length st.batches) (walk_of (slot_at st m).call
 plan_kept : (ps more : List Plan) (b : ℕ) → b < length ps → get_or ps b no_plan ≡ get_or (ps ++ more) b no_plan
 plan_kept ps more b there = sym (get_or_append_left ps more no_plan b there)
 
-served_kept : (ps more : List Plan) (b m : ℕ) → b < length ps → served ps b m ≡ served (ps ++ more) b m
-served_kept ps more b m there = ap (λ (plan : Plan). serving m plan.slots plan.values) (plan_kept ps more b there)
+served_kept : (ps more : List Plan) (b m : ℕ) → b < length ps → insertion_value ps b m ≡ insertion_value (ps ++ more) b m
+served_kept ps more b m there = ap (λ (plan : Plan). plan_value m plan.slots plan.values) (plan_kept ps more b there)
 
-word_kept : (ps more : List Plan) (m : ℕ) (bs : List ℕ) → AllLess (length ps) bs → list_word (λ c. block_number (served ps c m)) bs ≡ list_word (λ c. block_number (served (ps ++ more) c m)) bs
+word_kept : (ps more : List Plan) (m : ℕ) (bs : List ℕ) → AllLess (length ps) bs → list_word (λ c. block_number (insertion_value ps c m)) bs ≡ list_word (λ c. block_number (insertion_value (ps ++ more) c m)) bs
 word_kept ps more m [] there = refl
 word_kept ps more m (b ∷ bs) there = ap (λ (v : ℕ). block_number v + 2) (served_kept ps more b m there.0)
 
@@ -158,7 +158,7 @@ module _ (size : ℕ) (st : State) (ps : List Plan) (told : ℕ → ℕ) (r : Is
     walks_step event _ (Step.compared s l exchange may how) m = walks m
 
 pub chained_step : (size : ℕ) (st : State) (event : Event) (d : State × Answer) (ps : List Plan) (told : ℕ → ℕ) → IsReached st → length ps ≡ length st.batches → Step size st event d
-    → Leads st ps told event → Chained st ps told → Chained d.0 (ps ++ planned_by st event) told
+    → Leads st ps told event → HasChains st ps told → HasChains d.0 (ps ++ planned_by st event) told
 chained_step size st event d ps told r many step leads chained m = (stays _ (heads_step size st ps told r many heads event d step leads m), stays _ (walks_step size st ps told r many heads walks event d step m))
   where
     below : (bs : List ℕ) → AllLess (length st.batches) bs → AllLess (length ps) bs
@@ -179,7 +179,7 @@ pub fields_apart : (k j : ℕ) → (next_field k ≢ first_field j) × (next_fie
 fields_apart k j = (λ e. omega (arith, e), λ e. omega (arith, e), λ e. omega (arith, e))
 
 chain_write : (ps : List Plan) (told told' : ℕ → ℕ) (f m : ℕ) (bs : List ℕ) → ((j : ℕ) → j ≢ f → told' j ≡ told j)
-    → ((b : ℕ) → Contains bs b → (next_field (home_of (served ps b m)) ≢ f) × (first_field (home_of (served ps b m)) ≢ f)) → IsChain ps told m bs → IsChain ps told' m bs
+    → ((b : ℕ) → Contains bs b → (next_field (home_of (insertion_value ps b m)) ≢ f) × (first_field (home_of (insertion_value ps b m)) ≢ f)) → IsChain ps told m bs → IsChain ps told' m bs
 chain_write ps told told' f m [] same apart chain = tt
 chain_write ps told told' f m (b ∷ bs) same apart chain =
     let own = apart b (zero, omega arith, refl) in
@@ -187,8 +187,8 @@ chain_write ps told told' f m (b ∷ bs) same apart chain =
     (leads, chain_write ps told told' f m bs same (λ c found. apart c (suc found.0, omega (arith, found.1), found.2)) chain.1)
 
 pub chained_write : (st : State) (ps : List Plan) (told told' : ℕ → ℕ) (f : ℕ) → ((j : ℕ) → j ≢ f → told' j ≡ told j)
-    → ((m b : ℕ) → (Lists st m b ⊎ Walks st m b) → (next_field (home_of (served ps b m)) ≢ f) × (first_field (home_of (served ps b m)) ≢ f))
-    → Chained st ps told → Chained st ps told'
+    → ((m b : ℕ) → (Lists st m b ⊎ Walks st m b) → (next_field (home_of (insertion_value ps b m)) ≢ f) × (first_field (home_of (insertion_value ps b m)) ≢ f))
+    → HasChains st ps told → HasChains st ps told'
 chained_write st ps told told' f same apart chained m = (
   chain_write ps told told' f m (waiting_at (head_at st m)) same (λ b listed. apart m b (inl listed)) (chained m).0,
   chain_write ps told told' f m (walk_of (slot_at st m).call) same (λ b walked. apart m b (inr walked)) (chained m).1,
@@ -201,7 +201,7 @@ all_same zero m x = refl
 all_same (suc n) zero x = refl
 all_same (suc n) (suc m) x = all_same n m x
 
-pub chained_opening : (slots : ℕ) (links : List (Option ℕ)) (told : ℕ → ℕ) → Chained (opening slots links) [] told
+pub chained_opening : (slots : ℕ) (links : List (Option ℕ)) (told : ℕ → ℕ) → HasChains (opening slots links) [] told
 chained_opening slots links told m =
     (subst (λ (head : Head). IsChain [] told m (waiting_at head)) (sym (all_same slots m Inactive)) tt, subst (λ (slot : Slot). IsChain [] told m (walk_of slot.call)) (sym (all_same slots m no_slot)) tt)
 

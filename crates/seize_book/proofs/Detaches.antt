@@ -10,7 +10,7 @@ use Rattle.seize_book.specs.Batches.{CanDetach, Detaches}
 use Rattle.seize_book.specs.Blocks.{Plan, no_plan, plan_of, plans}
 use Rattle.seize_book.specs.Entry.{Entry}
 use Rattle.seize_book.specs.Book.{IsLegalList, after}
-use Rattle.seize_book.specs.Slots.{Notes, slot_number, slot_of}
+use Rattle.seize_book.specs.Slots.{AddsEvent, slot_number, slot_of}
 use Rattle.seize_book.specs.Tokens.{Name, start}
 use Rattle.seize_book.specs.declared.book.pass.Pass.{Pass}
 use Rattle.seize_book.specs.declared.book.slot_key.SlotKey.{SlotKey}
@@ -44,7 +44,7 @@ new_batch : (size : ℕ) (st : State) (s : ℕ) (d : State × Answer) → can_de
 new_batch size st s d can h =
     ap (λ (x : State × Answer). batch_at x.0 (length st.batches)) (some_is _ _ (sym h ∙ does size st s can)) ∙ last st.batches (record { values = (slot_at st s).batch; count = pos 0 }) no_batch
 
-pub detaches : (key key' : SlotKey) (pass pass' : Pass) → key.keys.name ≡ pass.name → CanDetach key → Notes key pass key' pass' (Detach (slot_number key)) → Detaches key pass'
+pub detaches : (key key' : SlotKey) (pass pass' : Pass) → key.keys.name ≡ pass.name → CanDetach key → AddsEvent key pass key' pass' (Detach (slot_number key)) → Detaches key pass'
 detaches key key' pass pass' book can notes =
     let noted = notes.2.0 in let moves = notes.2.1 in let log : List Entry = noted.before in let s : ℕ = slot_number key in
     let st : State = after (start pass.name) log in let d : State × Answer = (noted.later, noted.answer) in

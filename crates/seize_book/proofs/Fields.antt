@@ -9,10 +9,10 @@ use denote.Triple.Walked.{Fit, has_of}
 use denote.Laws.{Is, Tells}
 use mir.Val.{of_list}
 use Rattle.core.specs.contracts.marker.PhantomData as marker
-use Rattle.seize_book.specs.contracts.book.opened.Opened as opened
+use Rattle.seize_book.specs.contracts.book.key_without_note.KeyWithoutNote as opened
 use Rattle.seize_book.specs.contracts.book.pass.Pass as pass
 use Rattle.seize_book.specs.contracts.book.porter.Porter as porter
-use Rattle.seize_book.specs.contracts.book.unopened.Unopened as unopened
+use Rattle.seize_book.specs.contracts.book.future_book.FutureBook as unopened
 
 abbrev pub token : Val
 token = vstruct (vcons (vstruct vnil) vnil)

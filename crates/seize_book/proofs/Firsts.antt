@@ -3,7 +3,7 @@ use Rattle.std.proofs.Common.{◌≡◌, ℕ, true, List, [], ◌∷◌, ◌++�
 use base.Stored.{Gv}
 use Rattle.seize_book.specs.Book.{after, blocks}
 use Rattle.seize_book.specs.Entry.{Entry}
-use Rattle.seize_book.specs.Ledger.{HeldKey, renewed}
+use Rattle.seize_book.specs.Ledger.{HeldKey, with_list}
 use Rattle.seize_book.specs.Linked.{are_joined}
 use Rattle.seize_book.specs.Notes.{IsUnchanged, with_note}
 use Rattle.seize_book.specs.Others.{IsLast, IsLastIn, value_of}
@@ -15,7 +15,7 @@ abbrev Keys : Type 0
 Keys = List (HeldKey Entry)
 
 -- Keys without the first,
-pub others_know : (held rest : Keys) (seen : List Entry) → is_one blocks held ≡ true → held ++ rest ≡ renewed (held ++ rest) seen → rest ≡ renewed rest seen
+pub others_know : (held rest : Keys) (seen : List Entry) → is_one blocks held ≡ true → held ++ rest ≡ with_list (held ++ rest) seen → rest ≡ with_list rest seen
 others_know [] rest seen one same = absurd (cc)
 others_know (h ∷ []) rest seen one same = ap tail_of same
   where
@@ -31,7 +31,7 @@ others_closed (h ∷ []) (k ∷ rest) one closed = closed
 others_closed (h ∷ g ∷ held) rest one closed = absurd (cc)
 
 -- and what the first knows.
-pub own_is : (held rest : Keys) (seen : List Entry) → is_one blocks held ≡ true → held ++ rest ≡ renewed (held ++ rest) seen → own_of held ≡ seen
+pub own_is : (held rest : Keys) (seen : List Entry) → is_one blocks held ≡ true → held ++ rest ≡ with_list (held ++ rest) seen → own_of held ≡ seen
 own_is [] rest seen one same = absurd (cc)
 own_is (h ∷ []) rest seen one same = ap own_of same
 own_is (h ∷ g ∷ held) rest seen one same = absurd (cc)

@@ -11,11 +11,11 @@ use Rattle.seize_machine.specs.Machine.Next.{are_fresh, hand, handing_at, next, 
 use Rattle.seize_machine.specs.declared.machine.event.Answer.{Answer}
 use Rattle.seize_machine.specs.declared.machine.event.Answer.TheVariants.{Handed}
 use Rattle.seize_machine.proofs.Facts.{Step, and_true, eq_true, gone_grows, is_true, loose_named, not_true, step_of}
-use Rattle.seize_book.specs.Ledger.{AllKept, AllThere, Beside, HeldKey, renewed}
+use Rattle.seize_book.specs.Ledger.{AllThere, Beside, HeldKey, HoldersKnow, with_list}
 use Rattle.seize_book.specs.Adding.{deed_with_words}
 use Rattle.seize_book.specs.Entry.{Deed, Entry, Made}
 use Rattle.seize_book.specs.Kept.{kepts_of}
-use Rattle.seize_book.specs.Book.{IsLegalList, Kept, TheBlock, after, blocks, kind_of, rules, slots}
+use Rattle.seize_book.specs.Book.{HolderKnows, IsLegalList, TheBlock, after, blocks, kind_of, rules, slots}
 use Rattle.seize_book.specs.Fair.{Before, Covers, Fair, IsLabel, MayAdd, pass_key}
 use Rattle.seize_book.specs.Homes.{HasOne, IsVacant, home_of}
 use Rattle.seize_book.specs.Books.{IsNextIn}
@@ -130,24 +130,24 @@ module _ (n : Name) (log : List Entry) (legal : IsLegalList (start n) log) where
   abbrev now : State
   now = after (start n) log
 
-  kept_block : (x : HeldKey Entry) → x.kind ≡ blocks → (rules (start n)).Kept x.kind x.key x.own log → Kept (start n) TheBlock x.key x.own log
-  kept_block x is kept = subst (λ (r : ℕ). Kept (start n) (kind_of r) x.key x.own log) is kept
+  kept_block : (x : HeldKey Entry) → x.kind ≡ blocks → (rules (start n)).Knows x.kind x.key x.own log → HolderKnows (start n) TheBlock x.key x.own log
+  kept_block x is kept = subst (λ (r : ℕ). HolderKnows (start n) (kind_of r) x.key x.own log) is kept
 
-  fresh : (held : List (HeldKey Entry)) → are_of_blocks held ≡ true → AllKept (rules (start n)) held log → AllNew n held → list_all (λ v. not (has v now.named)) (labels_of held) ≡ true
+  fresh : (held : List (HeldKey Entry)) → are_of_blocks held ≡ true → HoldersKnow (rules (start n)) held log → AllNew n held → list_all (λ v. not (has v now.named)) (labels_of held) ≡ true
   fresh [] are kept new = refl
   fresh (h ∷ held) are kept new =
       let its = first_is h held are in
       let same = (kept_block h its.0 kept.0).1 h.label (sym its.1) in
       and_from _ _ (ap not (sym same.0 ∙ new.0.0)) (fresh held its.2 kept.1 new.1)
 
-  vacant : (held : List (HeldKey Entry)) (v : ℕ) → are_of_blocks held ≡ true → AllKept (rules (start n)) held log → AllNew n held → has v (labels_of held) ≡ true → IsVacant now (home_of v)
+  vacant : (held : List (HeldKey Entry)) (v : ℕ) → are_of_blocks held ≡ true → HoldersKnow (rules (start n)) held log → AllNew n held → has v (labels_of held) ≡ true → IsVacant now (home_of v)
   vacant [] v are kept new h = absurd (cc)
   vacant (x ∷ held) v are kept new h = go (x.label == v) refl (vacant held v) h
     where
       its : (x.kind ≡ blocks) × (x.key ≡ home_of x.label) × (are_of_blocks held ≡ true)
       its = first_is x held are
 
-      go : (b : Bool) → (x.label == v) ≡ b → (are_of_blocks held ≡ true → AllKept (rules (start n)) held log → AllNew n held → has v (labels_of held) ≡ true → IsVacant now (home_of v)) → (b || has v (labels_of held)) ≡ true → IsVacant now (home_of v)
+      go : (b : Bool) → (x.label == v) ≡ b → (are_of_blocks held ≡ true → HoldersKnow (rules (start n)) held log → AllNew n held → has v (labels_of held) ≡ true → IsVacant now (home_of v)) → (b || has v (labels_of held)) ≡ true → IsVacant now (home_of v)
       go true e rest h =
           subst (λ (u : ℕ). IsVacant now (home_of u)) (eq_true x.label v e)
           (subst (IsVacant now) its.1 (vacant_later (start n) x.own log x.key legal (kept_block x its.0 kept.0) (subst (IsVacant (after (start n) x.own)) (sym its.1) new.0.1)))
@@ -334,13 +334,13 @@ pushed_new keys value keys' number pushes book all new lent =
 
 -- The key of the first of some values that were put knows what they all know.
 
-first_own : (a b held : List (HeldKey Entry)) (seen : List Entry) → is_one blocks a ≡ true → a ++ b ≡ renewed held seen → own_of a ≡ seen
+first_own : (a b held : List (HeldKey Entry)) (seen : List Entry) → is_one blocks a ≡ true → a ++ b ≡ with_list held seen → own_of a ≡ seen
 first_own [] b held seen one e = absurd (cc)
 first_own (x ∷ y ∷ a) b held seen one e = absurd (cc)
 first_own (x ∷ []) b [] seen one e = absurd (cons≢nil e)
 first_own (x ∷ []) b (h ∷ held) seen one e = ap own_of e
 
-pub next_known : (keys : ValueKeys) (value : ValueKey) (keys' : ValueKeys) (pass : Pass) (held : List (HeldKey Entry)) → Nexts keys value keys' → book_in keys ≡ pass.name → keys.keys.held ≡ renewed held pass.seen → AreSpent keys pass → AreLast keys pass
+pub next_known : (keys : ValueKeys) (value : ValueKey) (keys' : ValueKeys) (pass : Pass) (held : List (HeldKey Entry)) → Nexts keys value keys' → book_in keys ≡ pass.name → keys.keys.held ≡ with_list held pass.seen → AreSpent keys pass → AreLast keys pass
     → CannotRetire value × IsLast value
 next_known keys value keys' pass held nexts book own spent last =
     let v : ℕ = value_of value in

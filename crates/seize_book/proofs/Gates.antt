@@ -16,7 +16,7 @@ use types.Kit.{‵, raw, ◌⊛◌, given, ◌$◌, ◌∵◌, !, qed, by, move,
 use denote.Steps.{nothing}
 use Rattle.seize_book.specs.Ledger.{fact, logs}
 use Rattle.seize_book.specs.Entry.{Entry, entry_coded}
-use Rattle.seize_book.specs.Tokens.{Gate, IsSole, all_but, gate_keeps, gate_gives, gate_leaves, one_out, turned}
+use Rattle.seize_book.specs.Tokens.{Gate, IsSole, all_but, gate_keeps, gate_gives, gate_leaves, one_out, gate_share}
 use Rattle.seize_book.proofs.Tickets.{all_once, comes_back, goes_out, none_back}
 
 module _ {M : Type 1} {𝓤 : Ura M} (𝓛 : Logic 𝓤) where
@@ -43,17 +43,17 @@ module _ {M : Type 1} {𝓤 : Ura M} (𝓛 : Logic 𝓤) where
   more_than_all Z q η a b = let l = logs entry_coded in own_sum 𝓛 (growing l) η (Maybe.some full_share, a) (Maybe.some q, b) Z (λ c m. absurd (not-OpDef-full_share q m.0.1.0.0))
 
   -- they are the same
-  in_turn : (g : Gate) (log seen : List Entry) (b : Bool) → ⟦ turned g log b ⟧ ∗ ⟦ copy three_quarters g.copy seen ⟧ ⊢ guard 𝓤 (log ≡ seen) (⟦ turned g log b ⟧ ∗ ⟦ copy three_quarters g.copy seen ⟧)
-  in_turn g log seen true = qed 𝓛 (‵ (turned g log true) ∷ ‵ (copy three_quarters g.copy seen) ∷ []) ∵ fsplit ! $ move ! (0 ∷ 2 ∷ []) $
+  in_turn : (g : Gate) (log seen : List Entry) (b : Bool) → ⟦ gate_share g log b ⟧ ∗ ⟦ copy three_quarters g.copy seen ⟧ ⊢ guard 𝓤 (log ≡ seen) (⟦ gate_share g log b ⟧ ∗ ⟦ copy three_quarters g.copy seen ⟧)
+  in_turn g log seen true = qed 𝓛 (‵ (gate_share g log true) ∷ ‵ (copy three_quarters g.copy seen) ∷ []) ∵ fsplit ! $ move ! (0 ∷ 2 ∷ []) $
       use2 𝓛 (given (log ≡ seen) (‵ (copy quarter g.copy log) ⊛ ‵ (copy three_quarters g.copy seen))) (latest_agrees (logs entry_coded) 𝓛 quarter three_quarters g.copy log seen) $ learn ! (λ e. check ! e $ split ! $
       -- [the book's share; the pass's; the tickets]
       move ! (0 ∷ 2 ∷ []) $ fjoin ! $ done !)
-  in_turn g log seen false = more_than_all (guard 𝓤 (log ≡ seen) (⟦ turned g log false ⟧ ∗ ⟦ copy three_quarters g.copy seen ⟧)) three_quarters g.copy log seen
+  in_turn g log seen false = more_than_all (guard 𝓤 (log ≡ seen) (⟦ gate_share g log false ⟧ ∗ ⟦ copy three_quarters g.copy seen ⟧)) three_quarters g.copy log seen
 
   pub agrees : (g : Gate) (p : ℕ) (log seen : List Entry) → ⟦ gate_keeps g log ⟧ ∗ ⟦ gate_gives g p seen ⟧ ⊢ guard 𝓤 (IsSole p → log ≡ seen) (⟦ gate_keeps g log ⟧ ∗ ⟦ gate_gives g p seen ⟧)
   agrees g zero log seen = qed 𝓛 (‵ (gate_keeps g log) ∷ ‵ (gate_gives g zero seen) ∷ []) ∵ fpick ! (λ b.
-      use2 𝓛 (given (log ≡ seen) (‵ (turned g log b) ⊛ ‵ (copy three_quarters g.copy seen))) (in_turn g log seen b) $ learn ! (λ e. check ! (λ _. e) $ split ! $
-      fpack ! Bool (turned g log) b $ done !))
+      use2 𝓛 (given (log ≡ seen) (‵ (gate_share g log b) ⊛ ‵ (copy three_quarters g.copy seen))) (in_turn g log seen b) $ learn ! (λ e. check ! (λ _. e) $ split ! $
+      fpack ! Bool (gate_share g log) b $ done !))
   agrees g (suc p) log seen = qed 𝓛 (‵ (gate_keeps g log) ∷ ‵ (gate_gives g (suc p) seen) ∷ []) ∵ check ! (λ x. absurd (let no : suc p ≡ 0 = x in cc)) $ done !
 
   -- they grow with the list
@@ -67,19 +67,19 @@ module _ {M : Type 1} {𝓤 : Ura M} (𝓛 : Logic 𝓤) where
   abbrev Follows : Gate → ℕ → List Entry → Pr
   Follows g p log' = ⟦ gate_keeps g log' ⟧ ∗ ⟦ gate_gives g p log' ⟧
 
-  first_follows : (g : Gate) (log seen log' : List Entry) (b : Bool) → IsPrefix log log' → log ≡ seen → ⟦ turned g log b ⟧ ∗ ⟦ copy three_quarters g.copy seen ⟧ ⊢ upd 𝓤 (Follows g 0 log')
-  first_follows g log seen log' true p e = let Z : Pr = Follows g 0 log' in qed 𝓛 (‵ (turned g log true) ∷ ‵ (copy three_quarters g.copy seen) ∷ []) ∵ fsplit ! $ move ! (0 ∷ 2 ∷ []) $
+  first_follows : (g : Gate) (log seen log' : List Entry) (b : Bool) → IsPrefix log log' → log ≡ seen → ⟦ gate_share g log b ⟧ ∗ ⟦ copy three_quarters g.copy seen ⟧ ⊢ upd 𝓤 (Follows g 0 log')
+  first_follows g log seen log' true p e = let Z : Pr = Follows g 0 log' in qed 𝓛 (‵ (gate_share g log true) ∷ ‵ (copy three_quarters g.copy seen) ∷ []) ∵ fsplit ! $ move ! (0 ∷ 2 ∷ []) $
       use2 𝓛 (raw (upd 𝓤 (⟦ copy quarter g.copy log' ⟧ ∗ ⟦ copy three_quarters g.copy log' ⟧))) (both_grow g.copy log seen log' p e) $ settle 𝓛 Z (‵ (copy quarter g.copy log') ⊛ ‵ (copy three_quarters g.copy log')) $ split ! $ suffices ! _ (upd_i 𝓤 Z) $
       -- [the book's share; the pass's; the tickets]
-      move ! (0 ∷ 2 ∷ []) $ fjoin ! $ fpack ! Bool (turned g log') true $ done !
+      move ! (0 ∷ 2 ∷ []) $ fjoin ! $ fpack ! Bool (gate_share g log') true $ done !
   first_follows g log seen log' false p e = more_than_all (upd 𝓤 (Follows g 0 log')) three_quarters g.copy log seen
 
-  one_follows : (g : Gate) (q : ℕ) (log seen log' : List Entry) (b : Bool) → IsPrefix log log' → ⟦ turned g log b ⟧ ∗ ⟦ one_out g.tickets ⟧ ⊢ upd 𝓤 (Follows g (suc q) log')
-  one_follows g q log seen log' true p = let Z : Pr = upd 𝓤 (Follows g (suc q) log') in qed 𝓛 (‵ (turned g log true) ∷ ‵ (one_out g.tickets) ∷ []) ∵ fsplit ! $ move ! (1 ∷ 2 ∷ []) $
+  one_follows : (g : Gate) (q : ℕ) (log seen log' : List Entry) (b : Bool) → IsPrefix log log' → ⟦ gate_share g log b ⟧ ∗ ⟦ one_out g.tickets ⟧ ⊢ upd 𝓤 (Follows g (suc q) log')
+  one_follows g q log seen log' true p = let Z : Pr = upd 𝓤 (Follows g (suc q) log') in qed 𝓛 (‵ (gate_share g log true) ∷ ‵ (one_out g.tickets) ∷ []) ∵ fsplit ! $ move ! (1 ∷ 2 ∷ []) $
       use2 𝓛 (given ⊥ (‵ ftrue)) (none_back 𝓛 g.tickets (guard 𝓤 ⊥ ⟦ ftrue ⟧)) $ learn ! (λ x. absurd x)
-  one_follows g q log seen log' false p = let Z : Pr = Follows g (suc q) log' in qed 𝓛 (‵ (turned g log false) ∷ ‵ (one_out g.tickets) ∷ []) ∵
+  one_follows g q log seen log' false p = let Z : Pr = Follows g (suc q) log' in qed 𝓛 (‵ (gate_share g log false) ∷ ‵ (one_out g.tickets) ∷ []) ∵
       use1 𝓛 (raw (upd 𝓤 ⟦ copy full_share g.copy log' ⟧)) (latest_grows (logs entry_coded) 𝓛 g.copy log log' p) $ settle 𝓛 Z (‵ (copy full_share g.copy log')) $ suffices ! _ (upd_i 𝓤 Z) $
-      fpack ! Bool (turned g log') false $ done !
+      fpack ! Bool (gate_share g log') false $ done !
 
   pub follows : (g : Gate) (p : ℕ) (log seen log' : List Entry) → IsPrefix log log' → (IsSole p → log ≡ seen) → ⟦ gate_keeps g log ⟧ ∗ ⟦ gate_gives g p seen ⟧ ⊢ upd 𝓤 (Follows g p log')
   follows g zero log seen log' more e = qed 𝓛 (‵ (gate_keeps g log) ∷ ‵ (gate_gives g zero seen) ∷ []) ∵ fpick ! (λ b. by ! (first_follows g log seen log' b more (e refl)))
@@ -104,27 +104,27 @@ module _ {M : Type 1} {𝓤 : Ura M} (𝓛 : Logic 𝓤) where
   opens_home : (g : Gate) (out : ℕ) (seen : List Entry) → ⟦ gate_leaves g true out seen ⟧ ⊢ guard 𝓤 (out ≡ 0) ⟦ at_home g.copy seen ⟧
   opens_home g out seen = qed 𝓛 (‵ (gate_leaves g true out seen) ∷ []) ∵ fsplit ! $ move ! (1 ∷ []) $ fpick ! (λ none. drop ! $ check ! none $ done !)
 
-  all_in : (g : Gate) (log : List Entry) (b : Bool) → ⟦ turned g log b ⟧ ∗ ⟦ all_but g.tickets 0 ⟧ ⊢ ⟦ gate_keeps g log ⟧ ∗ ⟦ at_home g.copy log ⟧
-  all_in g log true = qed 𝓛 (‵ (turned g log true) ∷ ‵ (all_but g.tickets 0) ∷ []) ∵ fsplit ! $ move ! (1 ∷ 2 ∷ []) $ use2 𝓛 (given ⊥ (‵ ftrue)) (all_once 𝓛 g.tickets (guard 𝓤 ⊥ ⟦ ftrue ⟧) 0 0) $ learn ! (λ x. absurd x)
-  all_in g log false = qed 𝓛 (‵ (turned g log false) ∷ ‵ (all_but g.tickets 0) ∷ []) ∵
+  all_in : (g : Gate) (log : List Entry) (b : Bool) → ⟦ gate_share g log b ⟧ ∗ ⟦ all_but g.tickets 0 ⟧ ⊢ ⟦ gate_keeps g log ⟧ ∗ ⟦ at_home g.copy log ⟧
+  all_in g log true = qed 𝓛 (‵ (gate_share g log true) ∷ ‵ (all_but g.tickets 0) ∷ []) ∵ fsplit ! $ move ! (1 ∷ 2 ∷ []) $ use2 𝓛 (given ⊥ (‵ ftrue)) (all_once 𝓛 g.tickets (guard 𝓤 ⊥ ⟦ ftrue ⟧) 0 0) $ learn ! (λ x. absurd x)
+  all_in g log false = qed 𝓛 (‵ (gate_share g log false) ∷ ‵ (all_but g.tickets 0) ∷ []) ∵
       use1 𝓛 (‵ (copy quarter g.copy log) ⊛ ‵ (at_home g.copy log)) (latest_cut (logs entry_coded) 𝓛 full_share quarter three_quarters g.copy log quarters) $ split ! $
-      move ! (0 ∷ 2 ∷ []) $ fjoin ! $ fpack ! Bool (turned g log) true $ done !
+      move ! (0 ∷ 2 ∷ []) $ fjoin ! $ fpack ! Bool (gate_share g log) true $ done !
 
   pub comes_home : (g : Gate) (home : Bool) (log seen : List Entry) → ⟦ gate_keeps g log ⟧ ∗ ⟦ gate_leaves g home 0 seen ⟧ ⊢ Stands g home log seen
   comes_home g true log seen = qed 𝓛 (‵ (gate_keeps g log) ∷ ‵ (gate_leaves g true 0 seen) ∷ []) ∵ move ! (1 ∷ []) $
       use1 𝓛 (given (zero ≡ zero) (‵ (at_home g.copy seen))) (opens_home g 0 seen) $ learn ! (λ _. move ! (1 ∷ []) $ fpick ! (λ b. move ! (0 ∷ 1 ∷ []) $
-      use2 𝓛 (given (log ≡ seen) (‵ (turned g log b) ⊛ ‵ (at_home g.copy seen))) (in_turn g log seen b) $ learn ! (λ e. split ! $ fpack ! Bool (turned g log) b $
+      use2 𝓛 (given (log ≡ seen) (‵ (gate_share g log b) ⊛ ‵ (at_home g.copy seen))) (in_turn g log seen b) $ learn ! (λ e. split ! $ fpack ! Bool (gate_share g log) b $
       move ! (1 ∷ []) $ rewrite ! 0 (λ (x : List Entry). ‵ (at_home g.copy x)) (sym e) refl $ use1 𝓛 (‵ (gate_leaves g true 0 log)) (packs_home g log) $
       check ! (λ _. e) $ move ! (1 ∷ 0 ∷ []) $ done !)))
   comes_home g false log seen = qed 𝓛 (‵ (gate_keeps g log) ∷ ‵ (gate_leaves g false 0 seen) ∷ []) ∵ fpick ! (λ b.
       use2 𝓛 (‵ (gate_keeps g log) ⊛ ‵ (at_home g.copy log)) (all_in g log b) $ split ! $ move ! (1 ∷ []) $
       use1 𝓛 (‵ (gate_leaves g true 0 log)) (packs_home g log) $ check ! (λ e. absurd (let no : false ≡ true = e in cc)) $ move ! (1 ∷ 0 ∷ []) $ done !)
 
-  open_once : (g : Gate) (log seen : List Entry) (b : Bool) → ⟦ turned g log b ⟧ ∗ ⟦ at_home g.copy seen ⟧ ⊢ ⟦ gate_keeps g log ⟧ ∗ ⟦ all_but g.tickets 0 ⟧
-  open_once g log seen true = let l = logs entry_coded in qed 𝓛 (‵ (turned g log true) ∷ ‵ (at_home g.copy seen) ∷ []) ∵ fsplit ! $ move ! (0 ∷ 2 ∷ []) $
+  open_once : (g : Gate) (log seen : List Entry) (b : Bool) → ⟦ gate_share g log b ⟧ ∗ ⟦ at_home g.copy seen ⟧ ⊢ ⟦ gate_keeps g log ⟧ ∗ ⟦ all_but g.tickets 0 ⟧
+  open_once g log seen true = let l = logs entry_coded in qed 𝓛 (‵ (gate_share g log true) ∷ ‵ (at_home g.copy seen) ∷ []) ∵ fsplit ! $ move ! (0 ∷ 2 ∷ []) $
       use2 𝓛 (given (log ≡ seen) (‵ (copy quarter g.copy log) ⊛ ‵ (at_home g.copy seen))) (latest_agrees l 𝓛 quarter three_quarters g.copy log seen) $ learn ! (λ e. split ! $
       move ! (1 ∷ 0 ∷ []) $ rewrite ! 0 (λ (x : List Entry). ‵ (at_home g.copy x)) (sym e) refl $ move ! (1 ∷ 0 ∷ []) $
-      use2 𝓛 (‵ (turned g log false)) (latest_glue l 𝓛 full_share quarter three_quarters g.copy log quarters) $ fpack ! Bool (turned g log) false $ done !)
+      use2 𝓛 (‵ (gate_share g log false)) (latest_glue l 𝓛 full_share quarter three_quarters g.copy log quarters) $ fpack ! Bool (gate_share g log) false $ done !)
   open_once g log seen false = more_than_all (⟦ gate_keeps g log ⟧ ∗ ⟦ all_but g.tickets 0 ⟧) three_quarters g.copy log seen
 
   -- it is no more at home

@@ -11,7 +11,7 @@ use Rattle.seize_machine.proofs.Facts.{Step, next_of, step_of}
 use Rattle.seize_table.specs.Place.{all_numbers}
 use Rattle.seize_book.specs.Ledger.{HeldKey}
 use Rattle.seize_book.specs.Blocks.{plans}
-use Rattle.seize_book.specs.Chains.{told}
+use Rattle.seize_book.specs.Chains.{field_value}
 use Rattle.seize_book.specs.Entry.{Entry, Made, Deed}
 use Rattle.seize_book.specs.Book.{after, births, makes_slot, Does, slots, numbers, of_next_slot}
 use Rattle.seize_book.specs.Fair.{Before, Covers, Fair, MayAdd, EndsNone, StartsNone, pass_key}
@@ -64,7 +64,7 @@ may_turn n p seen a b e one one' zero_is pe turns ends starts goes =
           covers = covers (start n) log e p (key_of a) (key_of b) (tag_of a) (tag_of b) mine (own_of a) (own_of b) pe turns does.2 zero_is;
           names = λ many was there. (subst (λ (z : ℕ). z < many 0) (sym pe) there.0, (λ j le. (turns.1 (after (start n) log) j).0), (λ j le. (turns.1 (after (start n) log) j).1), λ f le. refl);
           one = none_named e.size (after (start n) log) e.event does.0 (step_of _ _ _ _ does.1) (λ j. (turns.1 (after (start n) log) j).1);
-          leads = unled (after (start n) log) (plans (start n) log) (told log) e.event (λ j. (turns.0 j).1);
+          leads = unled (after (start n) log) (plans (start n) log) (field_value log) e.event (λ j. (turns.0 j).1);
           labels = no_labels (pass_key p mine ∷ (only slots a ++ only numbers b)) e.size (after (start n) log) e.event does.0 (step_of _ _ _ _ does.1) (λ j. (turns.1 (after (start n) log) j).1);
           places = no_place (after (start n) log) (pass_key p mine ∷ (only slots a ++ only numbers b)) (Made e) does.2;
         }

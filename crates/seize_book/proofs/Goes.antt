@@ -6,12 +6,12 @@ use Rattle.seize_machine.specs.Machine.Event.{Event}
 use Rattle.seize_machine.specs.Machine.Frames.{used, slots_added}
 use Rattle.seize_machine.specs.declared.machine.event.Answer.{Answer}
 use Rattle.seize_machine.proofs.Facts.{step_of, slot_frame, active_frame, head_frame, link_frame, used_frame, value_frame, slots_length, links_length}
-use Rattle.seize_book.specs.Ledger.{HeldKey, Known, Goes, AllThere, AllBelow, AreNextNumbers, bumped, all_bumped}
+use Rattle.seize_book.specs.Ledger.{HeldKey, Known, Goes, AllThere, AllBelow, AreNextNumbers, more_of, more_by}
 use Rattle.seize_book.specs.Blocks.{plans}
-use Rattle.seize_book.specs.Chains.{IsLed, told}
+use Rattle.seize_book.specs.Chains.{IsLed, field_value}
 use Rattle.seize_book.specs.Entry.{Entry, Made, Used, Deed, Use, maker}
 use Rattle.seize_book.specs.Fair.{Fair}
-use Rattle.seize_book.specs.Book.{after, IsLegalList, Does, mine, Kind, ThePass, TheNumbers, TheSlot, TheHead, TheLink, TheCount, TheBlock, TheField, TheTotal, Nothing, acts, kind_of, Same, Kept, touches, makes_slot, IsKeyCount, rules, of_next_slot, births, births_by, passes, slots, heads, counts, blocks, fields, kinds}
+use Rattle.seize_book.specs.Book.{after, IsLegalList, Does, mine, Kind, ThePass, TheNumbers, TheSlot, TheHead, TheLink, TheCount, TheBlock, TheField, TheTotal, Nothing, acts, kind_of, Same, HolderKnows, touches, makes_slot, IsKeyCount, rules, of_next_slot, births, births_by, passes, slots, heads, counts, blocks, fields, kinds}
 use Rattle.seize_book.specs.Homes.{HasOne, changes_home, count_in, home_of}
 use Rattle.seize_book.specs.Tokens.{Name, start}
 use Rattle.seize_book.specs.Deposits.{deposit}
@@ -68,7 +68,7 @@ module _ (n : Name) (distinct : are_distinct (linked_values n.links) ≡ true) w
       s ∙ sym (ap (λ (z : State). length z.slots) (after_push st log (Made x) d l h) ∙ omega (arith, grown, more))
   by_event log own x d Nothing k l h t s = tt
 
-  by_use : (log own : List Entry) (u : Use) (d : State × Answer) (kind : Kind) (k : ℕ) → IsLegalList st log → HasOne (after st log) → IsLed (after st log) (plans st log) (told log) (Used u) → Does st log (Used u) d
+  by_use : (log own : List Entry) (u : Use) (d : State × Answer) (kind : Kind) (k : ℕ) → IsLegalList st log → HasOne (after st log) → IsLed (after st log) (plans st log) (field_value log) (Used u) → Does st log (Used u) d
       → touches (after st log) (Used u) kind k ≡ false → Same st kind k own log → Same st kind k own (log ++ Used u ∷ [])
   by_use log own u d ThePass p l one led h t s = s ∙ sym (selected_out (λ a. maker a.0 == p) st log (Used u) d h t)
   by_use log own u d TheNumbers k l one led h t s = s ∙ sym (ap used (after_used st log u))
@@ -88,7 +88,7 @@ module _ (n : Name) (distinct : are_distinct (linked_values n.links) ≡ true) w
   by_use log own u d TheTotal k l one led h t s = s ∙ sym (ap (λ (z : State). length z.slots) (after_used st log u))
   by_use log own u d Nothing k l one led h t s = tt
 
-  same_push : (log own : List Entry) (e : Entry) (d : State × Answer) (kind : Kind) (k : ℕ) → IsLegalList st log → HasOne (after st log) → IsLed (after st log) (plans st log) (told log) e → Does st log e d
+  same_push : (log own : List Entry) (e : Entry) (d : State × Answer) (kind : Kind) (k : ℕ) → IsLegalList st log → HasOne (after st log) → IsLed (after st log) (plans st log) (field_value log) e → Does st log e d
       → touches (after st log) e kind k ≡ false → Same st kind k own log → Same st kind k own (log ++ e ∷ [])
   same_push log own (Made x) d kind k l one led h t s = by_event log own x d kind k l h t s
   same_push log own (Used u) d kind k l one led h t s = by_use log own u d kind k l one led h t s
@@ -105,7 +105,7 @@ same_now st TheField f log = refl
 same_now st TheTotal k log = refl
 same_now st Nothing k log = tt
 
-pub kept_now : (st : State) (r k : ℕ) (log : List Entry) → Kept st (kind_of r) k log log
+pub kept_now : (st : State) (r k : ℕ) (log : List Entry) → HolderKnows st (kind_of r) k log log
 kept_now st r k log = (([], append-nil log), same_now st (kind_of r) k log)
 
 -- the numbers of keys after an entry that makes so many slots
@@ -116,9 +116,9 @@ record Sizes (st : State) (log : List Entry) (e : Entry) (many : ℕ → ℕ) (m
   links_are : length (after st (log ++ e ∷ [])).links ≡ length (after st log).links
   none_counted : (k : ℕ) → many counts ≤ k → (count_in (after st (log ++ e ∷ [])) k ≡ pos 0) × (deposit (after st (log ++ e ∷ [])) k ≡ [])
   none_named : (v : ℕ) → many blocks ≤ home_of v → has v (after st (log ++ e ∷ [])).named ≡ false
-  none_told : (f : ℕ) → many fields ≤ f → told (log ++ e ∷ []) f ≡ 0
+  none_told : (f : ℕ) → many fields ≤ f → field_value (log ++ e ∷ []) f ≡ 0
 
-nothing_new : (st : State) (log : List Entry) (e : Entry) (many : ℕ → ℕ) → Sizes st log e many 0 → AreNextNumbers many [] × ((r : ℕ) → IsKeyCount st (kind_of r) (all_bumped [] many r) (log ++ e ∷ []))
+nothing_new : (st : State) (log : List Entry) (e : Entry) (many : ℕ → ℕ) → Sizes st log e many 0 → AreNextNumbers many [] × ((r : ℕ) → IsKeyCount st (kind_of r) (more_by [] many r) (log ++ e ∷ []))
 nothing_new st log e many s = (tt, go)
   where
     go : (r : ℕ) → IsKeyCount st (kind_of r) (many r) (log ++ e ∷ [])
@@ -134,10 +134,10 @@ nothing_new st log e many s = (tt, go)
     go (suc (suc (suc (suc (suc (suc (suc (suc (suc r))))))))) = tt
 
 next_slot : (st : State) (log : List Entry) (e : Entry) (many : ℕ → ℕ) → Sizes st log e many 1
-    → AreNextNumbers many (of_next_slot (after st log)) × ((r : ℕ) → IsKeyCount st (kind_of r) (all_bumped (of_next_slot (after st log)) many r) (log ++ e ∷ []))
+    → AreNextNumbers many (of_next_slot (after st log)) × ((r : ℕ) → IsKeyCount st (kind_of r) (more_by (of_next_slot (after st log)) many r) (log ++ e ∷ []))
 next_slot st log e many s = ((s.was 2, (s.was 3, tt)), go)
   where
-    go : (r : ℕ) → IsKeyCount st (kind_of r) (bumped heads (bumped slots many) r) (log ++ e ∷ [])
+    go : (r : ℕ) → IsKeyCount st (kind_of r) (more_of heads (more_of slots many) r) (log ++ e ∷ [])
     go zero = s.none_made
     go (suc zero) = s.was 1
     go (suc (suc zero)) = let was : many slots ≡ suc (length (after st log).slots) = s.was 2 in omega (arith, was, s.slots_are)
@@ -155,14 +155,14 @@ slots_by st (Made x) = slots_added st x.event
 slots_by st (Used u) = 0
 
 makes : (st : State) (log : List Entry) (e : Entry) (many : ℕ → ℕ) → Sizes st log e many (slots_by (after st log) e)
-    → AreNextNumbers many (births_by (after st log) e) × ((r : ℕ) → IsKeyCount st (kind_of r) (all_bumped (births_by (after st log) e) many r) (log ++ e ∷ []))
+    → AreNextNumbers many (births_by (after st log) e) × ((r : ℕ) → IsKeyCount st (kind_of r) (more_by (births_by (after st log) e) many r) (log ++ e ∷ []))
 unfolding slots_by
 makes st log (Used u) many so = nothing_new st log (Used u) many so
 makes st log (Made x) many so = go (makes_slot (after st log) x.event) (subst (Sizes st log (Made x) many) (added_by (after st log) x.event) so)
   where
     go : (b : Bool) → Sizes st log (Made x) many (if b then 1 else 0)
         → AreNextNumbers many (if b then of_next_slot (after st log) else [])
-        × ((r : ℕ) → IsKeyCount st (kind_of r) (all_bumped (if b then of_next_slot (after st log) else []) many r) (log ++ Made x ∷ []))
+        × ((r : ℕ) → IsKeyCount st (kind_of r) (more_by (if b then of_next_slot (after st log) else []) many r) (log ++ Made x ∷ []))
     go true so = next_slot st log (Made x) many so
     go false so = nothing_new st log (Made x) many so
 

@@ -10,7 +10,7 @@ use Rattle.seize_book.specs.Entry.{Entry, Made, Deed}
 use Rattle.seize_book.specs.Book.{after, IsLegalList, Does}
 use Rattle.seize_book.specs.Adding.{deed_with_words}
 use Rattle.seize_book.specs.Books.{IsNextAfter, MaySettle}
-use Rattle.seize_book.specs.Slots.{NotesAs, HandsOnce, HandsSoon, hands_next, slot_number, slot_of}
+use Rattle.seize_book.specs.Slots.{AddsDeed, HandsOnce, HandsSoon, hands_next, slot_number, slot_of}
 use Rattle.seize_book.specs.Tokens.{Name, start}
 use Rattle.seize_book.specs.declared.book.pass.Pass.{Pass}
 use Rattle.seize_book.specs.declared.book.slot_key.SlotKey.{SlotKey}
@@ -30,7 +30,7 @@ hands_it size st s v puts d is h = go (are_fresh st.named puts) (sym (ap (hand s
     go false e = absurd (cc)
 
 pub hands_once : (key key' : SlotKey) (pass pass' : Pass) (v : ℕ) (puts kepts : List ℕ) → key.keys.name ≡ pass.name → hands_next (slot_of key) ≡ Some v
-    → NotesAs key pass key' pass' (deed_with_words pass (Hand (slot_number key) puts) kepts) → HandsOnce key pass' v
+    → AddsDeed key pass key' pass' (deed_with_words pass (Hand (slot_number key) puts) kepts) → HandsOnce key pass' v
 hands_once key key' pass pass' v puts kepts name is notes =
     let noted = notes.2.0 in let moves = notes.2.1 in let n : Name = key.keys.name in let e : Deed = deed_with_words pass (Hand (slot_number key) puts) kepts in let log = noted.before in
     let legal : IsLegalList (start n) (log ++ Made e ∷ []) = subst (λ (l : List Entry). IsLegalList (start n) l) noted.appended (subst (λ (m : Name). IsLegalList (start m) pass'.seen) (sym name) noted.legal) in
@@ -83,7 +83,7 @@ goes size st s v puts d is h = go (are_fresh st.named puts) (sym (ap (hand schem
 
 -- afterwards it is gone, as the pass has seen
 pub hands_gone : (key key' : SlotKey) (pass pass' : Pass) (v : ℕ) (puts kepts : List ℕ) → key.keys.name ≡ pass.name → hands_next (slot_of key) ≡ Some v
-    → NotesAs key pass key' pass' (deed_with_words pass (Hand (slot_number key) puts) kepts)
+    → AddsDeed key pass key' pass' (deed_with_words pass (Hand (slot_number key) puts) kepts)
     → has v (after (start pass'.name) pass'.seen).gone ≡ true
 hands_gone key key' pass pass' v puts kepts name is notes =
     let noted = notes.2.0 in let moves = notes.2.1 in let n : Name = key.keys.name in let log = noted.before in
@@ -92,7 +92,7 @@ hands_gone key key' pass pass' v puts kepts name is notes =
 
 -- so a key that was made ready by it may be settled
 pub settles_after : (value : ValueKey) (key key' : SlotKey) (pass pass' : Pass) (v number : ℕ) (puts kepts : List ℕ) → IsNextAfter value v number → key.keys.name ≡ pass.name → hands_next (slot_of key) ≡ Some v
-    → NotesAs key pass key' pass' (deed_with_words pass (Hand (slot_number key) puts) kepts) → MaySettle value pass'
+    → AddsDeed key pass key' pass' (deed_with_words pass (Hand (slot_number key) puts) kepts) → MaySettle value pass'
 settles_after value key key' pass pass' v number puts kepts next_ name is notes = (v, (next_.0, next_.1, next_.2, refl), hands_gone key key' pass pass' v puts kepts name is notes)
 
 -- what is so of a value, if there is one

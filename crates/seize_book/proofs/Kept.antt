@@ -6,11 +6,11 @@ use Rattle.seize_machine.specs.declared.machine.event.Job.TheVariants.{Retire}
 use Rattle.seize_book.specs.Adding.{deed_with_words}
 use Rattle.seize_book.specs.Entry.{Entry, Made, Used, Deed}
 use Rattle.seize_book.specs.Kept.{AllTold, AreTold, AreToldIn, IsTold, Says, kept_in, kepts_in, kepts_of, retires_by}
-use Rattle.seize_book.specs.Ledger.{HeldKey, renewed}
+use Rattle.seize_book.specs.Ledger.{HeldKey, with_list}
 use Rattle.seize_book.specs.Private.{labels_of}
-use Rattle.seize_book.specs.Slots.{NotesAs, slot_number}
+use Rattle.seize_book.specs.Slots.{AddsDeed, slot_number}
 use Rattle.seize_book.specs.Tokens.{Name}
-use Rattle.seize_book.specs.Values.{Keep, book_in, values_of}
+use Rattle.seize_book.specs.Values.{FollowsValues, book_in, values_of}
 use Rattle.seize_book.specs.declared.book.pass.Pass.{Pass}
 use Rattle.seize_book.specs.declared.book.slot_key.SlotKey.{SlotKey}
 use Rattle.seize_book.specs.declared.book.value_keys.ValueKeys.{ValueKeys}
@@ -37,7 +37,7 @@ all_told_later a b (h ∷ held) grows told = (told_later a b h.label (kept_in h.
 
 -- What keys know is no part of it.
 
-pub all_told_renewed : (log : List Entry) (held : List (HeldKey Entry)) (own : List Entry) → AreToldIn log held → AreToldIn log (renewed held own)
+pub all_told_renewed : (log : List Entry) (held : List (HeldKey Entry)) (own : List Entry) → AreToldIn log held → AreToldIn log (with_list held own)
 all_told_renewed log [] own told = tt
 all_told_renewed log (h ∷ held) own told = (told.0, all_told_renewed log held own told.1)
 
@@ -116,7 +116,7 @@ first_told log a b v k labels kepts told =
 
 -- What the slot's events say.
 
-pub retired_told : (key key' : SlotKey) (pass pass' : Pass) (v kept : ℕ) → NotesAs key pass key' pass' (deed_with_words pass (Begin (slot_number key) (Retire v)) (kept ∷ [])) → IsTold pass'.seen v kept
+pub retired_told : (key key' : SlotKey) (pass pass' : Pass) (v kept : ℕ) → AddsDeed key pass key' pass' (deed_with_words pass (Begin (slot_number key) (Retire v)) (kept ∷ [])) → IsTold pass'.seen v kept
 retired_told key key' pass pass' v kept notes =
     subst (λ (l : List Entry). IsTold l v kept) (sym notes.2.0.appended) (told_last notes.2.0.before (deed_with_words pass (Begin (slot_number key) (Retire v)) (kept ∷ [])) v kept (inl (refl, refl)))
 
@@ -128,7 +128,7 @@ all_said : (log : List Entry) (s : ℕ) (pass : Pass) (held : List (HeldKey Entr
 all_said log s pass held = each_said log (deed_with_words pass (Hand s (labels_of held)) (kepts_in held)) held (λ v k says. says)
 
 -- further values, once they were put
-pub put_told : (key key' : SlotKey) (pass pass' : Pass) (further further' : ValueKeys) → NotesAs key pass key' pass' (deed_with_words pass (Hand (slot_number key) (values_of further)) (kepts_of further)) → Keep further pass' further' → AreTold further' pass'
+pub put_told : (key key' : SlotKey) (pass pass' : Pass) (further further' : ValueKeys) → AddsDeed key pass key' pass' (deed_with_words pass (Hand (slot_number key) (values_of further)) (kepts_of further)) → FollowsValues further pass' further' → AreTold further' pass'
 put_told key key' pass pass' further further' notes keep =
     subst (AreToldIn pass'.seen) (sym keep.2)
     (all_told_renewed pass'.seen further.keys.held pass'.seen

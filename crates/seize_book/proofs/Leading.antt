@@ -6,7 +6,7 @@ use Rattle.seize_book.specs.Book.{blocks}
 use Rattle.seize_book.specs.Entry.{Entry}
 use Rattle.seize_book.specs.Ledger.{HeldKey}
 use Rattle.seize_book.specs.Linked.{are_joined, are_linked, leads_first, next_in}
-use Rattle.seize_book.specs.Notes.{HasNoted, noted_in}
+use Rattle.seize_book.specs.Notes.{HasNoted, note_in}
 use Rattle.seize_book.specs.Others.{value_of}
 use Rattle.seize_book.specs.Private.{is_one, label_of, labels_of, note_of}
 use Rattle.seize_book.specs.Values.{AreClosed, IsKeyOfOne, LeadsTo, Nexts, Pushes, book_in, values_of}
@@ -42,11 +42,11 @@ last_joined (x ∷ y ∷ a) (h ∷ []) c one leads = last_joined (y ∷ a) (h �
 are_led : (a b c : Keys) → is_one blocks b ≡ true → is_one blocks c ≡ true → next_in (note_of b) ≡ block_number (label_of c) + 1 → are_joined (a ++ b) c ≡ true
 are_led a b c one other next = last_joined a b c one (first_is (note_of b) c other (next ∙ one_more (block_number (label_of c))))
 
-pub last_leads : (keys : ValueKeys) (value : ValueKey) (keys' : ValueKeys) (other : ValueKey) → Pushes keys value keys' → next_in (noted_in value) ≡ block_number (value_of other) + 1 → LeadsTo keys' other
+pub last_leads : (keys : ValueKeys) (value : ValueKey) (keys' : ValueKeys) (other : ValueKey) → Pushes keys value keys' → next_in (note_in value) ≡ block_number (value_of other) + 1 → LeadsTo keys' other
 last_leads keys value keys' other pushes next =
     ap (λ (a : Keys). are_joined a other.keys.held) pushes.2 ∙ are_led keys.keys.held value.keys.held other.keys.held value.one other.one next
 
-pub one_leads : (value : ValueKey) (keys : ValueKeys) (other : ValueKey) → IsKeyOfOne value keys → next_in (noted_in value) ≡ block_number (value_of other) + 1 → LeadsTo keys other
+pub one_leads : (value : ValueKey) (keys : ValueKeys) (other : ValueKey) → IsKeyOfOne value keys → next_in (note_in value) ≡ block_number (value_of other) + 1 → LeadsTo keys other
 one_leads value keys other is next =
     ap (λ k. are_joined k.held other.keys.held) is.0 ∙ are_led [] value.keys.held other.keys.held value.one other.one next
 
@@ -55,13 +55,13 @@ one_leads value keys other is next =
 ends_with : (a b : Keys) → is_one blocks b ≡ true → next_in (note_of b) ≡ 0 → are_joined (a ++ b) [] ≡ true
 ends_with a b one none = last_joined a b [] one (ap (λ (k : ℕ). k == 0) none)
 
-pub last_closes : (keys : ValueKeys) (value : ValueKey) (keys' : ValueKeys) → Pushes keys value keys' → next_in (noted_in value) ≡ 0 → AreClosed keys'
+pub last_closes : (keys : ValueKeys) (value : ValueKey) (keys' : ValueKeys) → Pushes keys value keys' → next_in (note_in value) ≡ 0 → AreClosed keys'
 last_closes keys value keys' pushes none =
     ap (λ (a : Keys). are_joined a []) pushes.2 ∙ ends_with keys.keys.held value.keys.held value.one none
 
 -- a key of which this was noted says it, and is for the value that it was for
 
-pub has_noted : (g : Gv) (value value' : ValueKey) → HasNoted g value value' → (noted_in value' ≡ g) × (value_of value' ≡ value_of value)
+pub has_noted : (g : Gv) (value value' : ValueKey) → HasNoted g value value' → (note_in value' ≡ g) × (value_of value' ≡ value_of value)
 has_noted g value value' noted = let is = noted_one value.keys.held g value.one in (ap note_of noted.1 ∙ is.2, ap label_of noted.1 ∙ is.1)
 
 -- So whoever has the keys finds the block of the second by what is noted of the first.
@@ -85,7 +85,7 @@ joins_next : (a b : Keys) (w : ℕ) (ws : List ℕ) → labels_of b ≡ w ∷ ws
 joins_next a [] w ws are whole = absurd (cc)
 joins_next a (k ∷ b) w ws are whole = parted_joined a k b whole
 
-pub leads_next : (keys : ValueKeys) (value : ValueKey) (keys' : ValueKeys) (w : ℕ) (ws : List ℕ) → Nexts keys value keys' → values_of keys' ≡ w ∷ ws → next_in (noted_in value) ≡ block_number w + 1
+pub leads_next : (keys : ValueKeys) (value : ValueKey) (keys' : ValueKeys) (w : ℕ) (ws : List ℕ) → Nexts keys value keys' → values_of keys' ≡ w ∷ ws → next_in (note_in value) ≡ block_number w + 1
 leads_next keys value keys' w ws nexts are =
     let whole = ap are_linked (sym nexts.3) ∙ keys.linked in
     are_leading value.keys.held keys'.keys.held w ws value.one are (joins_next value.keys.held keys'.keys.held w ws are whole) ∙ sym (one_more (block_number w))

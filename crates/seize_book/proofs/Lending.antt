@@ -15,14 +15,14 @@ use Rattle.seize_content.proofs.Readers.{whole}
 use Rattle.seize_machine.specs.Machine.State.{Slot, State, has, slot_at}
 use Rattle.seize_machine.proofs.Facts.{eq_true, opening_reached}
 use Rattle.seize_book.specs.Blocks.{block_number}
-use Rattle.seize_book.specs.Book.{Kept, TheBlock, after, blocks, rules, slots}
+use Rattle.seize_book.specs.Book.{HolderKnows, TheBlock, after, blocks, rules, slots}
 use Rattle.seize_book.specs.Entry.{Entry, entry_coded}
 use Rattle.seize_book.specs.Homes.{home_of}
-use Rattle.seize_book.specs.Laws.{IsAmong, ended}
-use Rattle.seize_book.specs.Ledger.{AllKept, HeldKey, Known, reached}
+use Rattle.seize_book.specs.Laws.{IsAmong, ended_lives}
+use Rattle.seize_book.specs.Ledger.{HeldKey, HoldersKnow, Known, reached}
 use Rattle.seize_book.specs.Lending.{IsHandedBy}
 use Rattle.seize_book.specs.Loans.{Carries, CarriesNone, cell_of, IsReader, Loan, lent_as, loan, loan_if, loan_number, loan_of, place_of, reader, readers}
-use Rattle.seize_book.specs.Others.{labelled}
+use Rattle.seize_book.specs.Others.{with_label}
 use Rattle.seize_book.specs.Private.{is_one, key_of, label_of, own_of}
 use Rattle.seize_book.specs.Slots.{hands_next}
 use Rattle.seize_book.specs.Tokens.{Name, beside, inside, keys_own, knows, over, pass_holds, pass_owns, rights_own, rows, start, way}
@@ -70,7 +70,7 @@ module _ {M : Type 1} {𝓤 : Ura M} (𝓛 : Logic 𝓤) (n : Name) where
       nothing ! $ move ! (2 ∷ 0 ∷ []) $ fjoin ! $ move ! (1 ∷ 0 ∷ []) $ fjoin ! $ nothing ! $ fpack ! (Carries v c g) (λ _. ftrue) carries $ move ! (0 ∷ 1 ∷ []) $ fjoin ! $ fpack ! Loan (lent_as st n.log v) l $ done !
 
   pub lends_key : (held : List (HeldKey Entry)) (v a : ℕ) (c : ℕ) (g : Gv) → is_one blocks held ≡ true → home_of (label_of held) ≡ home_of v → block_number (label_of held) ≡ block_number v → place_of (label_of held) ≡ place_of v → Carries v c g → cell_of (label_of held) ≡ cell_of v
-      → ⟦ keys_own n held ⟧ ∗ ⟦ ticket_owns c (lent a g) ⟧ ∗ ⟦ pool_owns c a g ⟧ ⊢ ⟦ keys_own n (labelled v held) ⟧
+      → ⟦ keys_own n held ⟧ ∗ ⟦ ticket_owns c (lent a g) ⟧ ∗ ⟦ pool_owns c a g ⟧ ⊢ ⟦ keys_own n (with_label v held) ⟧
   lends_key [] v a c g one home block place carries cell = absurd (cc)
   lends_key (x ∷ y ∷ held) v a c g one home block place carries cell = absurd (cc)
   lends_key (h ∷ []) v a c g one home block place carries cell = let h' : HeldKey Entry = record { kind = h.kind; key = h.key; own = h.own; label = v; note = h.note } in
@@ -101,7 +101,7 @@ module _ {M : Type 1} {𝓤 : Ura M} (𝓛 : Logic 𝓤) (n : Name) where
         (looks_beside entry_coded (rules st) (beside n) n.log (rows n) 𝓛 (k ∷ []) t.0 (λ _. Unit {0}) ⟦ ftrue ⟧ (λ _. ⟦ fdead β ⟧) (one_within (k ∷ []) one) (dead t is distinct)) $
         suffices ! _ (upd_i 𝓤 (⟦ J ⟧ ∗ Z)) $ pick ! (λ log. learn ! (λ known. split ! $ frame ! $ split3 ! $ keep ! (3 ∷ 0 ∷ 2 ∷ []) $ done !)))))
       where
-        in_ended : (t : List Entry × ℕ) (log : List Entry) → IsReader st v β t → IsDistinct 𝓛 n → Known (rules st) (k ∷ []) t.0 log → IsAmong (ended log) t.1
+        in_ended : (t : List Entry × ℕ) (log : List Entry) → IsReader st v β t → IsDistinct 𝓛 n → Known (rules st) (k ∷ []) t.0 log → IsAmong (ended_lives log) t.1
         in_ended t log is distinct known =
             let kept = one_kept st (k ∷ []) log one known.2 in
             let soon_now : hands_next (slot_at (after st log) k.key) ≡ Some v = ap (λ (slot : Slot). hands_next slot) (sym kept.1.1) ∙ soon in
@@ -109,7 +109,7 @@ module _ {M : Type 1} {𝓤 : Ura M} (𝓛 : Logic 𝓤) (n : Name) where
 
         dead : (t : List Entry × ℕ) → IsReader st v β t → IsDistinct 𝓛 n → (log : List Entry) → Known (rules st) (k ∷ []) t.0 log
             → ⟦ beside n log ⟧ ∗ ⟦ ftrue ⟧ ⊢ guard 𝓤 (Unit {0}) (⟦ beside n log ⟧ ∗ ⟦ fdead β ⟧)
-        dead t is distinct log known = qed 𝓛 (‵ (beside n log) ∷ ‵ ftrue ∷ []) ∵ fsplit ! $ use1 𝓛 (‵ (over (ended log)) ⊛ ‵ (fdead (t.1 ∷ []))) (over_one 𝓛 (ended log) t.1 (in_ended t log is distinct known)) $ split ! $
+        dead t is distinct log known = qed 𝓛 (‵ (beside n log) ∷ ‵ ftrue ∷ []) ∵ fsplit ! $ use1 𝓛 (‵ (over (ended_lives log)) ⊛ ‵ (fdead (t.1 ∷ []))) (over_one 𝓛 (ended_lives log) t.1 (in_ended t log is distinct known)) $ split ! $
             rewrite ! 1 (λ (ν : Lft). ‵ (fdead ν)) (sym is.0) refl $ check ! tt $ move ! (0 ∷ 2 ∷ []) $ fjoin ! $ keep ! (0 ∷ 1 ∷ []) $ done !
 
     readers_dead : (ds : List (Lft × ℕ)) → ⟦ knows n ⟧ ∗ ⟦ K ⟧ ∗ ⟦ readers st n.log v ds ⟧ ⊢ H.⇛ (⟦ knows n ⟧ ∗ ⟦ K ⟧ ∗ ⟦ all_dead ds ⟧)
@@ -141,7 +141,7 @@ module _ {M : Type 1} {𝓤 : Ura M} (𝓛 : Logic 𝓤) (n : Name) where
   Redeemed p seen v held t = guard 𝓤 (Carries v t.0 t.1.1) (⟦ pass_owns n p seen ⟧ ∗ ⟦ keys_own n held ⟧ ∗ ⟦ ticket_owns t.0 (lent t.1.0 t.1.1) ⟧ ∗ ⟦ pool_owns t.0 t.1.0 t.1.1 ⟧)
 
   pub redeems : (p : ℕ) (seen : List Entry) (held : List (HeldKey Entry)) (w : ℕ) → IsHandedBy n held → home_of (label_of held) ≡ home_of w → block_number (label_of held) ≡ block_number w → place_of (label_of held) ≡ place_of w → CarriesNone w → cell_of (label_of held) ≡ cell_of w
-      → ⟦ pass_owns n p seen ⟧ ∗ ⟦ keys_own n held ⟧ ⊢ H.⇛ (ex 𝓤 (Redeemed p seen (label_of held) (labelled w held)))
+      → ⟦ pass_owns n p seen ⟧ ∗ ⟦ keys_own n held ⟧ ⊢ H.⇛ (ex 𝓤 (Redeemed p seen (label_of held) (with_label w held)))
   redeems p seen [] w by_ home block place none cell = absurd by_
   redeems p seen (h ∷ []) w by_ home block place none cell = absurd by_
   redeems p seen (h ∷ k ∷ x ∷ held) w by_ home block place none cell = absurd by_
@@ -158,7 +158,7 @@ module _ {M : Type 1} {𝓤 : Ura M} (𝓛 : Logic 𝓤) (n : Name) where
       move ! (0 ∷ 4 ∷ []) $ use2 𝓛 (‵ (keys_own n (k ∷ []))) (keys_whole 𝓛 n (k ∷ [])) $
       move ! (4 ∷ 7 ∷ []) $ rewrite ! 0 (λ (F : Fml). ‵ F) (same_lead 𝓛 n h.label w home block place cell) refl $ use2 𝓛 (‵ (way n h')) (bare_way 𝓛 n h' none by_.0) $
       -- [its way; the slot's key; the ticket; the pool; the book; the right; the pass]
-      move ! (5 ∷ 0 ∷ []) $ fjoin ! $ move ! (0 ∷ 1 ∷ []) $ fjoin ! $ move ! (3 ∷ 4 ∷ []) $ fjoin ! $ now ! $ show ! (Redeemed p seen v (labelled w (h ∷ k ∷ []))) t $ check ! carries $ move ! (0 ∷ 1 ∷ 2 ∷ 3 ∷ []) $ done !))
+      move ! (5 ∷ 0 ∷ []) $ fjoin ! $ move ! (0 ∷ 1 ∷ []) $ fjoin ! $ move ! (3 ∷ 4 ∷ []) $ fjoin ! $ now ! $ show ! (Redeemed p seen v (with_label w (h ∷ k ∷ []))) t $ check ! carries $ move ! (0 ∷ 1 ∷ 2 ∷ 3 ∷ []) $ done !))
 
   -- ---- or where the value was never named: nobody found it
 
@@ -166,9 +166,9 @@ module _ {M : Type 1} {𝓤 : Ura M} (𝓛 : Logic 𝓤) (n : Name) where
     abbrev Key : Fml
     Key = rights_own n (h ∷ [])
 
-    still_unnamed : (log : List Entry) → AllKept (rules st) (h ∷ []) log → has v (after st log).named ≡ false
+    still_unnamed : (log : List Entry) → HoldersKnow (rules st) (h ∷ []) log → has v (after st log).named ≡ false
     still_unnamed log kept =
-        let is : Kept st TheBlock h.key h.own log = (subst (λ (hs : List (HeldKey Entry)). AllKept (rules st) hs log) (only_is blocks (h ∷ []) one) kept).0 in
+        let is : HolderKnows st TheBlock h.key h.own log = (subst (λ (hs : List (HeldKey Entry)). HoldersKnow (rules st) hs log) (only_is blocks (h ∷ []) one) kept).0 in
         sym (is.1 v (sym its)).0 ∙ unnamed
 
     unread : (t : List Entry × ℕ) (β : Lft) → IsReader st v β t → IsDistinct 𝓛 n → (log : List Entry) → Known (rules st) (h ∷ []) t.0 log → ⊥
@@ -199,7 +199,7 @@ module _ {M : Type 1} {𝓤 : Ura M} (𝓛 : Logic 𝓤) (n : Name) where
 
   pub withdraws : (p : ℕ) (seen : List Entry) (held : List (HeldKey Entry)) (w : ℕ) → is_one blocks held ≡ true → key_of held ≡ home_of (label_of held) → has (label_of held) (after st (own_of held)).named ≡ false → ¬ (CarriesNone (label_of held))
       → home_of (label_of held) ≡ home_of w → block_number (label_of held) ≡ block_number w → place_of (label_of held) ≡ place_of w → CarriesNone w → cell_of (label_of held) ≡ cell_of w
-      → ⟦ pass_owns n p seen ⟧ ∗ ⟦ keys_own n held ⟧ ⊢ H.⇛ (ex 𝓤 (Redeemed p seen (label_of held) (labelled w held)))
+      → ⟦ pass_owns n p seen ⟧ ∗ ⟦ keys_own n held ⟧ ⊢ H.⇛ (ex 𝓤 (Redeemed p seen (label_of held) (with_label w held)))
   withdraws p seen [] w one its unnamed lent_ home block place none cell = absurd (cc)
   withdraws p seen (x ∷ y ∷ held) w one its unnamed lent_ home block place none cell = absurd (cc)
   withdraws p seen (h ∷ []) w one its unnamed lent_ home block place none cell = let h' : HeldKey Entry = record { kind = h.kind; key = h.key; own = h.own; label = w; note = h.note } in let v : ℕ = h.label in
@@ -211,6 +211,6 @@ module _ {M : Type 1} {𝓤 : Ura M} (𝓛 : Logic 𝓤) (n : Name) where
       -- [the right; the ticket; the pool; the book; where it leads; the note; nothing; the pass]
       move ! (4 ∷ 5 ∷ []) $ rewrite ! 0 (λ (F : Fml). ‵ F) (same_lead 𝓛 n h.label w home block place cell) refl $ use2 𝓛 (‵ (way n h')) (bare_way 𝓛 n h' none one) $
       -- [its way; the right; the ticket; the pool; the book; nothing; the pass]
-      move ! (0 ∷ 5 ∷ []) $ fjoin ! $ move ! (1 ∷ 0 ∷ []) $ use2 𝓛 (‵ (keys_own n (labelled w (h ∷ [])))) (keys_whole 𝓛 n (h' ∷ [])) $
+      move ! (0 ∷ 5 ∷ []) $ fjoin ! $ move ! (1 ∷ 0 ∷ []) $ use2 𝓛 (‵ (keys_own n (with_label w (h ∷ [])))) (keys_whole 𝓛 n (h' ∷ [])) $
       -- [the key; the ticket; the pool; the book; the pass]
-      move ! (3 ∷ 4 ∷ []) $ fjoin ! $ now ! $ show ! (Redeemed p seen v (labelled w (h ∷ []))) t $ check ! carries $ move ! (0 ∷ 1 ∷ 2 ∷ 3 ∷ []) $ done !))
+      move ! (3 ∷ 4 ∷ []) $ fjoin ! $ now ! $ show ! (Redeemed p seen v (with_label w (h ∷ []))) t $ check ! carries $ move ! (0 ∷ 1 ∷ 2 ∷ 3 ∷ []) $ done !))

@@ -3,7 +3,7 @@ use Rattle.std.proofs.Common.{◌≡◌, ℕ, Bool, true, ◌&&◌, List, [], �
 use base.Stored.{Gv}
 use Rattle.seize_machine.proofs.Facts.{and_true}
 use Rattle.seize_book.specs.Entry.{Entry}
-use Rattle.seize_book.specs.Ledger.{HeldKey, renewed}
+use Rattle.seize_book.specs.Ledger.{HeldKey, with_list}
 use Rattle.seize_book.specs.Book.{blocks}
 use Rattle.seize_book.specs.Private.{is_one}
 use Rattle.seize_book.specs.declared.book.value_key.ValueKey.{ValueKey}
@@ -15,17 +15,17 @@ Keys = List (HeldKey Entry)
 both : (a b : Bool) → a ≡ true → b ≡ true → (a && b) ≡ true
 both a b h k = ap (λ (c : Bool). c && b) h ∙ k
 
-first_later : (g : Gv) (held : Keys) (log : List Entry) → leads_first g (renewed held log) ≡ leads_first g held
+first_later : (g : Gv) (held : Keys) (log : List Entry) → leads_first g (with_list held log) ≡ leads_first g held
 first_later g [] log = refl
 first_later g (h ∷ held) log = refl
 
-pub are_later : (held : Keys) (log : List Entry) → are_linked (renewed held log) ≡ are_linked held
+pub are_later : (held : Keys) (log : List Entry) → are_linked (with_list held log) ≡ are_linked held
 are_later [] log = refl
 are_later (h ∷ []) log = refl
 are_later (h ∷ k ∷ held) log = λ j. first_later h.note (k ∷ held) log j && are_later (k ∷ held) log j
 
 -- and closed keys stay so
-pub still_closed : (held : Keys) (log : List Entry) → are_joined (renewed held log) [] ≡ are_joined held []
+pub still_closed : (held : Keys) (log : List Entry) → are_joined (with_list held log) [] ≡ are_joined held []
 still_closed [] log = refl
 still_closed (h ∷ []) log = refl
 still_closed (h ∷ k ∷ held) log = still_closed (k ∷ held) log

@@ -10,7 +10,7 @@ use Rattle.seize_machine.specs.declared.machine.event.Answer.{Answer}
 use Rattle.seize_machine.specs.declared.machine.event.Answer.TheVariants.{Done}
 use Rattle.seize_machine.proofs.Facts.{one_more, opening_reached, reached_by, some_is, taken_apart}
 use Rattle.seize_book.specs.Entry.{Entry, Made, Used, Deed, Use, deeds, maker, timed_deed, events_of}
-use Rattle.seize_book.specs.Book.{moments, after, IsLegalList, outcome, Does, answered, mine}
+use Rattle.seize_book.specs.Book.{moments, after, IsLegalList, outcome, Does, with_answers, mine}
 use Rattle.seize_book.specs.Tokens.{Name, start}
 
 pub deeds_append : (a b : List Entry) → deeds (a ++ b) ≡ deeds a ++ deeds b
@@ -59,13 +59,13 @@ legal_front st log (Made x) l =
     (subst (λ (ts : List Timed). Legal next st ts (answers_of (moments st (log ++ Made x ∷ []))) (after st (log ++ Made x ∷ []))) (events_push log x) (as_legal st (log ++ Made x ∷ []) l))).1.legal
 legal_front st log (Used u) l = subst (λ (ds : List Deed). are_legal (history next st (map timed_deed ds)) ≡ true) (deeds_used log u) l
 
-answered_any : (st : State) (log : List Entry) (e : Entry) → answered st (log ++ e ∷ []) ≡ answered st log ++ (e, (or_illegal (after st log) (outcome (after st log) e)).1) ∷ []
+answered_any : (st : State) (log : List Entry) (e : Entry) → with_answers st (log ++ e ∷ []) ≡ with_answers st log ++ (e, (or_illegal (after st log) (outcome (after st log) e)).1) ∷ []
 answered_any st [] e = refl
 answered_any st (Made x ∷ log) e = ap (λ (more : List (Entry × Answer)). (Made x, (done_by next st (timed_deed x)).1) ∷ more) (answered_any (done_by next st (timed_deed x)).0 log e)
 answered_any st (Used u ∷ log) e = ap (λ (more : List (Entry × Answer)). (Used u, Done) ∷ more) (answered_any st log e)
 
-answered_push : (st : State) (log : List Entry) (e : Entry) (d : State × Answer) → Does st log e d → answered st (log ++ e ∷ []) ≡ answered st log ++ (e, d.1) ∷ []
-answered_push st log e d h = answered_any st log e ∙ ap (λ o. answered st log ++ (e, (or_illegal (after st log) o).1) ∷ []) h
+answered_push : (st : State) (log : List Entry) (e : Entry) (d : State × Answer) → Does st log e d → with_answers st (log ++ e ∷ []) ≡ with_answers st log ++ (e, d.1) ∷ []
+answered_push st log e d h = answered_any st log e ∙ ap (λ o. with_answers st log ++ (e, (or_illegal (after st log) o).1) ∷ []) h
 
 filter_out : {X : Type 0} (test : X → Bool) (xs : List X) (x : X) → test x ≡ false → filter test (xs ++ x ∷ []) ≡ filter test xs
 filter_out test xs x h = filter-append test xs (x ∷ []) ∙ ap (λ (b : Bool). filter test xs ++ cond b (x ∷ []) []) h ∙ append-nil (filter test xs)
@@ -75,21 +75,21 @@ filter_in test xs x h = filter-append test xs (x ∷ []) ∙ ap (λ (b : Bool). 
 
 -- an event that does not pass the test, and one that does
 pub selected_out : (test : Entry × Answer → Bool) (st : State) (log : List Entry) (e : Entry) (d : State × Answer) → Does st log e d → test (e, d.1) ≡ false
-    → filter test (answered st (log ++ e ∷ [])) ≡ filter test (answered st log)
-selected_out test st log e d h out = ap (filter test) (answered_push st log e d h) ∙ filter_out test (answered st log) (e, d.1) out
+    → filter test (with_answers st (log ++ e ∷ [])) ≡ filter test (with_answers st log)
+selected_out test st log e d h out = ap (filter test) (answered_push st log e d h) ∙ filter_out test (with_answers st log) (e, d.1) out
 
 pub selected_in : (test : Entry × Answer → Bool) (st : State) (log : List Entry) (e : Entry) (d : State × Answer) → Does st log e d → test (e, d.1) ≡ true
-    → filter test (answered st (log ++ e ∷ [])) ≡ filter test (answered st log) ++ (e, d.1) ∷ []
-selected_in test st log e d h is = ap (filter test) (answered_push st log e d h) ∙ filter_in test (answered st log) (e, d.1) is
+    → filter test (with_answers st (log ++ e ∷ [])) ≡ filter test (with_answers st log) ++ (e, d.1) ∷ []
+selected_in test st log e d h is = ap (filter test) (answered_push st log e d h) ∙ filter_in test (with_answers st log) (e, d.1) is
 
 -- a list that goes on
-answered_append : (st : State) (a b : List Entry) → answered st (a ++ b) ≡ answered st a ++ answered (after st a) b
+answered_append : (st : State) (a b : List Entry) → with_answers st (a ++ b) ≡ with_answers st a ++ with_answers (after st a) b
 answered_append st [] b = refl
 answered_append st (Made x ∷ a) b = ap (λ (more : List (Entry × Answer)). (Made x, (done_by next st (timed_deed x)).1) ∷ more) (answered_append (done_by next st (timed_deed x)).0 a b)
 answered_append st (Used u ∷ a) b = ap (λ (more : List (Entry × Answer)). (Used u, Done) ∷ more) (answered_append st a b)
 
 mine_append : (st : State) (p : ℕ) (a b : List Entry) → mine st p (a ++ b) ≡ mine st p a ++ mine (after st a) p b
-mine_append st p a b = ap (filter (λ t. maker t.0 == p)) (answered_append st a b) ∙ filter-append (λ t. maker t.0 == p) (answered st a) (answered (after st a) b)
+mine_append st p a b = ap (filter (λ t. maker t.0 == p)) (answered_append st a b) ∙ filter-append (λ t. maker t.0 == p) (with_answers st a) (with_answers (after st a) b)
 
 no_front : {X : Type 0} (xs ys : List X) → xs ++ ys ≡ [] → xs ≡ []
 no_front [] ys e = refl

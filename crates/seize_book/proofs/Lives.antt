@@ -18,8 +18,8 @@ use Rattle.seize_machine.specs.Machine.Frames.{changes_head_of, changes_slot}
 use Rattle.seize_machine.specs.declared.machine.event.Answer.{Answer}
 use Rattle.seize_machine.proofs.Facts.{Step, step_of, head_frame, is_true, eq_true, and_true, some_is}
 use Rattle.seize_book.specs.Entry.{Entry, Made, Used, Deed, deeds, timed_deed}
-use Rattle.seize_book.specs.Book.{Kept, TheSlot, acts, by_slot, moments, outcome, IsLegalList}
-use Rattle.seize_book.specs.Laws.{AllParted, starts, life_from, life, lives_after, ended_by, ended_from, ended_in, ended, none_alive, IsAmong, AllOver}
+use Rattle.seize_book.specs.Book.{HolderKnows, TheSlot, acts, by_slot, moments, outcome, IsLegalList}
+use Rattle.seize_book.specs.Laws.{AllParted, starts, life_from, life, lives_after, ended_by, ended_from, ended_in, ended_lives, none_alive, IsAmong, AllOver}
 use Rattle.seize_book.specs.Tokens.{over}
 use Rattle.seize_book.proofs.Handed.{entry_of, moments_of, state_of}
 use Rattle.seize_book.proofs.Lists.{deeds_append, deeds_prefix, deeds_used}
@@ -152,7 +152,7 @@ all_over st log v l parted a r =
     let active : is_active (head_at (state_of st (take i (deeds log))) t) ≡ true =
     was_active (state_of st (take i (deeds log))) t found.0 v (ap (λ (m : Moment). is_link_event t m.timed.event) (sym found.2) ∙ f.2) (ap (λ (m : Moment). linked_value m.answer) (sym found.2) ∙ f.3) in
     let x = ends_after st (deeds log) 0 t i p out.0 l active (omega arith) out.1 (ap (λ (m : Moment). is_swap_out t m.timed.event) (sym out.2) ∙ (w.3).2) in
-    subst (IsAmong (ended log)) (x.alive ∙ sym r.3) (is_ended none_alive (deeds log) t x.at x.entry x.there x.out)
+    subst (IsAmong (ended_lives log)) (x.alive ∙ sym r.3) (is_ended none_alive (deeds log) t x.at x.entry x.there x.out)
 
 -- what an event adds to what has ended
 lives_by : (ℕ → ℕ) → List Deed → ℕ → ℕ
@@ -181,25 +181,25 @@ ended_more : (lives : ℕ → ℕ) (ds more : List Deed) (b : ℕ) → IsAmong (
 ended_more lives [] more b h = absurd h
 ended_more lives (e ∷ ds) more b h = in_grows (ended_by lives e.event) _ _ b (ended_more (lives_after lives e) ds more b) h
 
-pub ended_grows : (log log' : List Entry) (b : ℕ) → IsPrefix log log' → IsAmong (ended log) b → IsAmong (ended log') b
+pub ended_grows : (log log' : List Entry) (b : ℕ) → IsPrefix log log' → IsAmong (ended_lives log) b → IsAmong (ended_lives log') b
 ended_grows log log' b grows h =
     let p = deeds_prefix log log' grows in subst (λ (ds : List Deed). IsAmong (ended_from none_alive ds) b) p.1 (ended_more none_alive (deeds log) p.0 b h)
 
 -- and with one entry more
-ended_push : (log : List Entry) (e : Entry) → ended (log ++ e ∷ []) ≡ ended log ++ ended_in (lives_by none_alive (deeds log)) e
+ended_push : (log : List Entry) (e : Entry) → ended_lives (log ++ e ∷ []) ≡ ended_lives log ++ ended_in (lives_by none_alive (deeds log)) e
 ended_push log (Made x) = ap (ended_from none_alive) (deeds_append log (Made x ∷ [])) ∙ ended_by_last none_alive (deeds log) x
-ended_push log (Used u) = ap (ended_from none_alive) (deeds_used log u) ∙ sym (append-nil (ended log))
+ended_push log (Used u) = ap (ended_from none_alive) (deeds_used log u) ∙ sym (append-nil (ended_lives log))
 
 -- an entry that ends no activation
 abbrev pub EndsNothing : Entry → Type 0
 EndsNothing e = (lives : ℕ → ℕ) → ended_in lives e ≡ []
 
-same_ended : (log : List Entry) (e : Entry) → EndsNothing e → ended (log ++ e ∷ []) ≡ ended log
-same_ended log e none = ended_push log e ∙ ap (λ (l : List ℕ). ended log ++ l) (none (lives_by none_alive (deeds log))) ∙ append-nil (ended log)
+same_ended : (log : List Entry) (e : Entry) → EndsNothing e → ended_lives (log ++ e ∷ []) ≡ ended_lives log
+same_ended log e none = ended_push log e ∙ ap (λ (l : List ℕ). ended_lives log ++ l) (none (lives_by none_alive (deeds log))) ∙ append-nil (ended_lives log)
 
-out_ended : (log : List Entry) (e : Deed) (s : ℕ) → e.event ≡ SwapOut s → ended (log ++ Made e ∷ []) ≡ ended log ++ life s log ∷ []
+out_ended : (log : List Entry) (e : Deed) (s : ℕ) → e.event ≡ SwapOut s → ended_lives (log ++ Made e ∷ []) ≡ ended_lives log ++ life s log ∷ []
 out_ended log e s is =
-    ended_push log (Made e) ∙ ap (λ (x : Event). ended log ++ ended_by (lives_by none_alive (deeds log)) x) is ∙ ap (λ (x : ℕ). ended log ++ x ∷ []) (lives_are none_alive (deeds log) s)
+    ended_push log (Made e) ∙ ap (λ (x : Event). ended_lives log ++ ended_by (lives_by none_alive (deeds log)) x) is ∙ ap (λ (x : ℕ). ended_lives log ++ x ∷ []) (lives_are none_alive (deeds log) s)
 
 is_in : (xs : List ℕ) (x : ℕ) → IsAmong xs x ⊎ ¬ (IsAmong xs x)
 is_in [] x = inr (λ t. t)
@@ -257,7 +257,7 @@ life_by_slot st s log = from st 0 log
     from st a (Made e ∷ log) = one st a (Made e) log (λ b. from (done_by next st (timed_deed e)).0 b log)
     from st a (Used u ∷ log) = one st a (Used u) log (λ b. from st b log)
 
-pub life_kept : (st : State) (s : ℕ) (a b : List Entry) → Kept st TheSlot s a b → life s a ≡ life s b
+pub life_kept : (st : State) (s : ℕ) (a b : List Entry) → HolderKnows st TheSlot s a b → life s a ≡ life s b
 life_kept st s a b kept = life_by_slot st s a ∙ ap (life_in s) kept.1.0 ∙ sym (life_by_slot st s b)
 
 -- As resources.
@@ -282,32 +282,32 @@ module _ {M : Type 1} {𝓤 : Ura M} (𝓛 : Logic 𝓤) where
       rewrite ! 1 (λ (z : ℕ). ‵ (fdead (z ∷ []))) e refl $ move ! (0 ∷ 2 ∷ []) $ fjoin ! $ done !
   over_one (x ∷ xs) b (inr h) = qed 𝓛 (‵ (fdead (x ∷ [])) ∷ ‵ (over xs) ∷ []) ∵ move ! (1 ∷ []) $ use1 𝓛 (‵ (over xs) ⊛ ‵ (fdead (b ∷ []))) (over_one xs b h) $ split ! $ move ! (2 ∷ 0 ∷ []) $ fjoin ! $ done !
 
-  pub stays : (log : List Entry) (e : Entry) (X : Pr) → EndsNothing e → ⟦ over (ended log) ⟧ ∗ X ⊢ upd 𝓤 (⟦ over (ended (log ++ e ∷ [])) ⟧ ∗ X)
-  stays log e X none = let Z : Pr = ⟦ over (ended (log ++ e ∷ [])) ⟧ ∗ X in qed 𝓛 (‵ (over (ended log)) ∷ raw X ∷ []) ∵ rewrite ! 0 (λ (l : List ℕ). ‵ (over l)) (sym (same_ended log e none)) refl $ suffices ! _ (upd_i 𝓤 Z) $ done !
+  pub stays : (log : List Entry) (e : Entry) (X : Pr) → EndsNothing e → ⟦ over (ended_lives log) ⟧ ∗ X ⊢ upd 𝓤 (⟦ over (ended_lives (log ++ e ∷ [])) ⟧ ∗ X)
+  stays log e X none = let Z : Pr = ⟦ over (ended_lives (log ++ e ∷ [])) ⟧ ∗ X in qed 𝓛 (‵ (over (ended_lives log)) ∷ raw X ∷ []) ∵ rewrite ! 0 (λ (l : List ℕ). ‵ (over l)) (sym (same_ended log e none)) refl $ suffices ! _ (upd_i 𝓤 Z) $ done !
 
   over_more : (xs : List ℕ) (b : ℕ) → ⟦ over xs ⟧ ∗ ⟦ fdead (b ∷ []) ⟧ ⊢ ⟦ over (xs ++ b ∷ []) ⟧
   over_more [] b = qed 𝓛 (‵ ftrue ∷ ‵ (fdead (b ∷ [])) ∷ []) ∵ move ! (1 ∷ 0 ∷ []) $ fjoin ! $ done !
   over_more (x ∷ xs) b = qed 𝓛 ((‵ (fdead (x ∷ [])) ⊛ ‵ (over xs)) ∷ ‵ (fdead (b ∷ [])) ∷ []) ∵ split ! $ move ! (1 ∷ 2 ∷ []) $ use2 𝓛 (‵ (over (xs ++ b ∷ []))) (over_more xs b) $ move ! (1 ∷ 0 ∷ []) $ fjoin ! $ done !
 
   -- who leaves or refreshes has ended its activation before, and says so in the step
-  pub leaves : (log : List Entry) (e : Deed) (s : ℕ) → e.event ≡ SwapOut s → ⟦ over (ended log) ⟧ ∗ ⟦ fdead (life s log ∷ []) ⟧ ⊢ ⟦ over (ended (log ++ Made e ∷ [])) ⟧
-  leaves log e s is = qed 𝓛 (‵ (over (ended log)) ∷ ‵ (fdead (life s log ∷ [])) ∷ []) ∵ use2 𝓛 (‵ (over (ended log ++ life s log ∷ []))) (over_more (ended log) (life s log)) $
+  pub leaves : (log : List Entry) (e : Deed) (s : ℕ) → e.event ≡ SwapOut s → ⟦ over (ended_lives log) ⟧ ∗ ⟦ fdead (life s log ∷ []) ⟧ ⊢ ⟦ over (ended_lives (log ++ Made e ∷ [])) ⟧
+  leaves log e s is = qed 𝓛 (‵ (over (ended_lives log)) ∷ ‵ (fdead (life s log ∷ [])) ∷ []) ∵ use2 𝓛 (‵ (over (ended_lives log ++ life s log ∷ []))) (over_more (ended_lives log) (life s log)) $
       rewrite ! 0 (λ (l : List ℕ). ‵ (over l)) (sym (out_ended log e s is)) refl $ done !
 
   -- an entry that ends no activation but one of these lifetimes, which are over
   pub ends_those : (log : List Entry) (e : Entry) (lives : List ℕ) → ((a : ℕ) → IsAmong (ended_in (λ s. life s log) e) a → IsAmong lives a)
-      → ⟦ over (ended log) ⟧ ∗ ⟦ over lives ⟧ ⊢ ⟦ over (ended (log ++ e ∷ [])) ⟧
+      → ⟦ over (ended_lives log) ⟧ ∗ ⟦ over lives ⟧ ⊢ ⟦ over (ended_lives (log ++ e ∷ [])) ⟧
   ends_those log e lives among = by_entry e among
     where
-      none : (e : Entry) → EndsNothing e → ⟦ over (ended log) ⟧ ∗ ⟦ over lives ⟧ ⊢ ⟦ over (ended (log ++ e ∷ [])) ⟧
-      none e ends = qed 𝓛 (‵ (over (ended log)) ∷ ‵ (over lives) ∷ []) ∵ rewrite ! 0 (λ (l : List ℕ). ‵ (over l)) (sym (same_ended log e ends)) refl $ keep ! (0 ∷ []) $ done !
+      none : (e : Entry) → EndsNothing e → ⟦ over (ended_lives log) ⟧ ∗ ⟦ over lives ⟧ ⊢ ⟦ over (ended_lives (log ++ e ∷ [])) ⟧
+      none e ends = qed 𝓛 (‵ (over (ended_lives log)) ∷ ‵ (over lives) ∷ []) ∵ rewrite ! 0 (λ (l : List ℕ). ‵ (over l)) (sym (same_ended log e ends)) refl $ keep ! (0 ∷ []) $ done !
 
-      go : (d : Deed) (x : Event) → d.event ≡ x → ((a : ℕ) → IsAmong (ended_by (λ s. life s log) x) a → IsAmong lives a) → ⟦ over (ended log) ⟧ ∗ ⟦ over lives ⟧ ⊢ ⟦ over (ended (log ++ Made d ∷ [])) ⟧
-      go d (Event.SwapOut s) is among = qed 𝓛 (‵ (over (ended log)) ∷ ‵ (over lives) ∷ []) ∵ move ! (1 ∷ []) $ use1 𝓛 (‵ (over lives) ⊛ ‵ (fdead (life s log ∷ []))) (over_one lives (life s log) (among (life s log) (inl refl))) $ split ! $
-          move ! (2 ∷ 1 ∷ []) $ use2 𝓛 (‵ (over (ended (log ++ Made d ∷ [])))) (leaves log d s is) $ keep ! (0 ∷ []) $ done !
+      go : (d : Deed) (x : Event) → d.event ≡ x → ((a : ℕ) → IsAmong (ended_by (λ s. life s log) x) a → IsAmong lives a) → ⟦ over (ended_lives log) ⟧ ∗ ⟦ over lives ⟧ ⊢ ⟦ over (ended_lives (log ++ Made d ∷ [])) ⟧
+      go d (Event.SwapOut s) is among = qed 𝓛 (‵ (over (ended_lives log)) ∷ ‵ (over lives) ∷ []) ∵ move ! (1 ∷ []) $ use1 𝓛 (‵ (over lives) ⊛ ‵ (fdead (life s log ∷ []))) (over_one lives (life s log) (among (life s log) (inl refl))) $ split ! $
+          move ! (2 ∷ 1 ∷ []) $ use2 𝓛 (‵ (over (ended_lives (log ++ Made d ∷ [])))) (leaves log d s is) $ keep ! (0 ∷ []) $ done !
       go d _ is among = none (Made d) (λ alive. ap (ended_by alive) is)
 
-      by_entry : (e : Entry) → ((a : ℕ) → IsAmong (ended_in (λ s. life s log) e) a → IsAmong lives a) → ⟦ over (ended log) ⟧ ∗ ⟦ over lives ⟧ ⊢ ⟦ over (ended (log ++ e ∷ [])) ⟧
+      by_entry : (e : Entry) → ((a : ℕ) → IsAmong (ended_in (λ s. life s log) e) a → IsAmong lives a) → ⟦ over (ended_lives log) ⟧ ∗ ⟦ over lives ⟧ ⊢ ⟦ over (ended_lives (log ++ e ∷ [])) ⟧
       by_entry (Made d) among = go d d.event refl among
       by_entry (Used u) among = none (Used u) (λ alive. refl)
 

@@ -9,15 +9,15 @@ use types.Growing.{at_least_dup}
 use types.Kit.{‵, raw, later, updating, await, now, settle, keep, ◌⊛◌, some, given, ◌$◌, ◌∵◌, !, qed, move, drop, split, split3, join, fsplit, fjoin, fpick, fpack, pick, learn, show, check, frame, assume, rewrite, suffices, done, use1, use2, use3}
 use denote.Steps.{nothing}
 use Rattle.seize_machine.specs.Machine.State.{State, has, linked_values, are_distinct}
-use Rattle.seize_book.specs.Ledger.{HeldKey, WithKinds, Known, logs, reached, renewed}
+use Rattle.seize_book.specs.Ledger.{HeldKey, WithKinds, Known, logs, reached, with_list}
 use Rattle.seize_book.specs.Entry.{Entry, entry_coded}
 use denote.RawPtr.{Ptr}
-use Rattle.seize_store.specs.Known.{IsRowIn, known_row, tells as chunk_tells}
+use Rattle.seize_store.specs.RowTokens.{IsRowIn, known_row, tells as chunk_tells}
 use Rattle.seize_book.specs.Blocks.{block_number}
 use Rattle.seize_book.proofs.Sound.{named_later}
 use Rattle.seize_book.specs.Book.{after, IsLegalList, mine, rules, kinds}
 use Rattle.seize_book.specs.Fair.{Before, pass_key}
-use Rattle.seize_book.specs.Laws.{ended, IsAmong}
+use Rattle.seize_book.specs.Laws.{ended_lives, IsAmong}
 use Rattle.seize_book.specs.Passes.{LooksOn}
 use Rattle.seize_table.specs.Filled.{all_filled}
 use Rattle.seize_book.specs.Loans.{AllCarryOne}
@@ -164,7 +164,7 @@ module _ {M : Type 1} {𝓤 : Ura M} (𝓛 : Logic 𝓤) (n : Name) (p : ℕ) wh
           move ! (0 ∷ 2 ∷ []) $ fjoin ! $ done !)
 
       abbrev pub Found : List Entry → Pr
-      Found log = guard 𝓤 (Before n p seen held log × Told log) (⟦ pass_owns n p log ⟧ ∗ ⟦ keys (renewed held log) ⟧ ∗ Y log)
+      Found log = guard 𝓤 (Before n p seen held log × Told log) (⟦ pass_owns n p log ⟧ ∗ ⟦ keys (with_list held log) ⟧ ∗ Y log)
 
       -- the pass has seen all then, and the keys know of it
       pub looks_with : Asks → WithKinds kinds held → ⟦ pass_owns n p seen ⟧ ∗ ⟦ keys held ⟧ ∗ X ⊢ H.⇛ (ex 𝓤 Found)
@@ -177,25 +177,25 @@ module _ {M : Type 1} {𝓤 : Ura M} (𝓛 : Logic 𝓤) (n : Name) (p : ℕ) wh
           move ! (0 ∷ 5 ∷ []) $ fjoin ! $ move ! (2 ∷ 6 ∷ []) $ join ! $ move ! (2 ∷ 0 ∷ []) $ join ! $ move ! (2 ∷ 1 ∷ 0 ∷ []) $
           use3 𝓛 (raw (upd 𝓤 (ex 𝓤 (Renewed entry_coded (rules st) (beside n) n.log (rows n) 𝓛 (pass_key p own ∷ held) seen (λ log. Now log × Told log) (λ log. ⟦ gives seen ⟧ ∗ Y log)))))
           (renews entry_coded (rules st) (beside n) n.log (rows n) 𝓛 (pass_key p own ∷ held) seen (λ log. Now log × Told log) (⟦ gives seen ⟧ ∗ X) (λ log. ⟦ gives seen ⟧ ∗ Y log) (omega arith, within) (kept_now st) (tells_more asks own)) $
-          settle 𝓛 (⟦ J ⟧ ∗ Z) (some (λ (log : List Entry). given (Known (rules st) (pass_key p own ∷ held) seen log × (Now log × Told log)) (‵ J ⊛ ‵ (rights (renewed (pass_key p own ∷ held) log)) ⊛ ‵ (had log) ⊛ (‵ (gives seen) ⊛ raw (Y log))))) $
+          settle 𝓛 (⟦ J ⟧ ∗ Z) (some (λ (log : List Entry). given (Known (rules st) (pass_key p own ∷ held) seen log × (Now log × Told log)) (‵ J ⊛ ‵ (rights (with_list (pass_key p own ∷ held) log)) ⊛ ‵ (had log) ⊛ (‵ (gives seen) ⊛ raw (Y log))))) $
           suffices ! _ (upd_i 𝓤 (⟦ J ⟧ ∗ Z)) $ pick ! (λ log. learn ! (λ known. let b = before own log past.1 known.0 known.1.0 in split ! $ frame ! $ split3 ! $
           -- [the rights; what was reached; its copy and Y; the book; the ways]
           move ! (2 ∷ []) $ split ! $ use1 𝓛 (‵ (gives log)) (gives_as 𝓛 n.gate p seen log (λ s. sym (known.1.0.0 s))) $ move ! (2 ∷ []) $ fsplit ! $
           -- [its key; the rights; its copy; Y; what was reached; the book; the ways]
-          move ! (6 ∷ []) $ rewrite ! 0 (λ (F : Fml). ‵ F) (sym (ways_renewed 𝓛 n held log)) refl $ move ! (2 ∷ 0 ∷ []) $ use2 𝓛 (‵ (keys (renewed held log))) (keys_whole 𝓛 n (renewed held log)) $
+          move ! (6 ∷ []) $ rewrite ! 0 (λ (F : Fml). ‵ F) (sym (ways_renewed 𝓛 n held log)) refl $ move ! (2 ∷ 0 ∷ []) $ use2 𝓛 (‵ (keys (with_list held log))) (keys_whole 𝓛 n (with_list held log)) $
           -- [the keys; its key; its copy; Y; what was reached; the book]
           nothing ! $ move ! (2 ∷ 0 ∷ []) $ fjoin ! $ move ! (0 ∷ 4 ∷ 2 ∷ []) $ use3 𝓛 (‵ (pass_holds n p log)) (together log log (([], append-nil log), refl)) $
           -- [the pass; the keys; Y; the book]
           move ! (3 ∷ 0 ∷ []) $ fjoin ! $ show ! Found log $ check ! (b, known.1.1) $ done !))))
 
     abbrev pub Looked : List Entry → Pr
-    Looked log = guard 𝓤 (Before n p seen held log × IsDistinct 𝓛 n) (⟦ pass_owns n p log ⟧ ∗ ⟦ keys (renewed held log) ⟧)
+    Looked log = guard 𝓤 (Before n p seen held log × IsDistinct 𝓛 n) (⟦ pass_owns n p log ⟧ ∗ ⟦ keys (with_list held log) ⟧)
 
     -- where nothing is brought
     pub looks_now : WithKinds kinds held → ⟦ pass_owns n p seen ⟧ ∗ ⟦ keys held ⟧ ⊢ H.⇛ (ex 𝓤 Looked)
     looks_now within = qed 𝓛 ((‵ (knows n) ⊛ ‵ (pass_holds n p seen)) ∷ ‵ (keys held) ∷ []) ∵ updating ! $ split ! $
         use1 𝓛 (given (IsDistinct 𝓛 n) (‵ (knows n))) (distinct_links 𝓛 n) $ learn ! (λ distinct. fjoin ! $ nothing ! $ move ! (1 ∷ 2 ∷ 0 ∷ []) $
-        use3 𝓛 (later (some (λ (log : List Entry). given (Before n p seen held log × Unit {0}) (‵ (pass_owns n p log) ⊛ ‵ (keys (renewed held log)) ⊛ ‵ ftrue))))
+        use3 𝓛 (later (some (λ (log : List Entry). given (Before n p seen held log × Unit {0}) (‵ (pass_owns n p log) ⊛ ‵ (keys (with_list held log)) ⊛ ‵ ftrue))))
         (looks_with (λ _. Unit {0}) ⟦ ftrue ⟧ (λ _. ⟦ ftrue ⟧) (λ log grows legal. qed 𝓛 (‵ (places_known n (after st log)) ∷ ‵ ftrue ∷ []) ∵ check ! tt $ done !) within) $
         await ! tt $ pick ! (λ log. learn ! (λ so. split3 ! $ now ! $ show ! Looked log $ check ! (so.0, distinct) $ keep ! (0 ∷ 1 ∷ []) $ done !)))
 
@@ -252,7 +252,7 @@ module _ {M : Type 1} {𝓤 : Ura M} (𝓛 : Logic 𝓤) (n : Name) (p : ℕ) wh
           check ! tt $ move ! (1 ∷ 2 ∷ []) $ fjoin ! $ move ! (2 ∷ 0 ∷ []) $ fjoin ! $ done !
 
   -- a lifetime that the pass has seen ended is over
-  pub is_over : (seen : List Entry) (a : ℕ) → IsAmong (ended seen) a → ⟦ pass_owns n p seen ⟧ ⊢ H.⇛ (⟦ pass_owns n p seen ⟧ ∗ ⟦ fdead (a ∷ []) ⟧)
+  pub is_over : (seen : List Entry) (a : ℕ) → IsAmong (ended_lives seen) a → ⟦ pass_owns n p seen ⟧ ⊢ H.⇛ (⟦ pass_owns n p seen ⟧ ∗ ⟦ fdead (a ∷ []) ⟧)
   is_over seen a there = let Z : Pr = ⟦ pass_owns n p seen ⟧ ∗ ⟦ fdead (a ∷ []) ⟧ in qed 𝓛 ((‵ (knows n) ⊛ ‵ (pass_holds n p seen)) ∷ []) ∵ split ! $ use1 𝓛 (‵ (knows n) ⊛ ‵ (knows n)) (knows_twice 𝓛 n) $ split ! $ use1 𝓛 (‵ (finv J)) (opens 𝓛 n) $
       suffices ! _ (𝓛.invs.inv_acc J Z) $ frame ! $ assume ! (‵ J) $ move ! (2 ∷ []) $
       -- [the pass; J; the book]
@@ -267,12 +267,12 @@ module _ {M : Type 1} {𝓤 : Ura M} (𝓛 : Logic 𝓤) (n : Name) (p : ℕ) wh
       suffices ! _ (upd_i 𝓤 (⟦ J ⟧ ∗ Z)) $ pick ! (λ log. learn ! (λ known. split ! $ frame ! $ split3 ! $ keep ! (3 ∷ 2 ∷ []) $ done !))))
     where
       dead : (log : List Entry) → Known (rules st) [] seen log → ⟦ beside n log ⟧ ∗ ⟦ ftrue ⟧ ⊢ guard 𝓤 (Unit {0}) (⟦ beside n log ⟧ ∗ ⟦ fdead (a ∷ []) ⟧)
-      dead log known = qed 𝓛 (‵ (beside n log) ∷ ‵ ftrue ∷ []) ∵ fsplit ! $ use1 𝓛 (‵ (over (ended log)) ⊛ ‵ (fdead (a ∷ []))) (over_one 𝓛 (ended log) a (ended_grows seen log a known.1 there)) $ split ! $
+      dead log known = qed 𝓛 (‵ (beside n log) ∷ ‵ ftrue ∷ []) ∵ fsplit ! $ use1 𝓛 (‵ (over (ended_lives log)) ⊛ ‵ (fdead (a ∷ []))) (over_one 𝓛 (ended_lives log) a (ended_grows seen log a known.1 there)) $ split ! $
           check ! tt $ move ! (0 ∷ 2 ∷ []) $ fjoin ! $ keep ! (0 ∷ 1 ∷ []) $ done !
 
   -- and one whose token is at hand has not ended in what the pass has seen
   abbrev pub Lasts : List Entry → ℕ → Share → Pr
-  Lasts seen a q = guard 𝓤 (¬ (IsAmong (ended seen) a)) (⟦ pass_owns n p seen ⟧ ∗ ⟦ flft (a ∷ []) q ⟧)
+  Lasts seen a q = guard 𝓤 (¬ (IsAmong (ended_lives seen) a)) (⟦ pass_owns n p seen ⟧ ∗ ⟦ flft (a ∷ []) q ⟧)
 
   pub lasts : (seen : List Entry) (a : ℕ) (q : Share) → ⟦ pass_owns n p seen ⟧ ∗ ⟦ flft (a ∷ []) q ⟧ ⊢ H.⇛ (Lasts seen a q)
   lasts seen a q = let Z : Pr = Lasts seen a q in let T : Fml = flft (a ∷ []) q in qed 𝓛 ((‵ (knows n) ⊛ ‵ (pass_holds n p seen)) ∷ ‵ T ∷ []) ∵ split ! $ use1 𝓛 (‵ (knows n) ⊛ ‵ (knows n)) (knows_twice 𝓛 n) $ split ! $ use1 𝓛 (‵ (finv J)) (opens 𝓛 n) $
@@ -284,13 +284,13 @@ module _ {M : Type 1} {𝓤 : Ura M} (𝓛 : Logic 𝓤) (n : Name) (p : ℕ) wh
       move ! (2 ∷ 0 ∷ 3 ∷ []) $ use3 𝓛 (‵ (pass_holds n p seen)) (together seen own past) $ move ! (3 ∷ 0 ∷ []) $ fjoin ! $
       -- [the pass; what it has seen; J; the token]
       move ! (1 ∷ 3 ∷ []) $ join ! $ nothing ! $ move ! (3 ∷ 0 ∷ 1 ∷ []) $
-      use3 𝓛 (some (λ (log : List Entry). given (Known (rules st) [] seen log × (¬ (IsAmong (ended seen) a))) (‵ J ⊛ ‵ ftrue ⊛ ‵ (had log) ⊛ ‵ T)))
-      (looks_beside entry_coded (rules st) (beside n) n.log (rows n) 𝓛 [] seen (λ _. ¬ (IsAmong (ended seen) a)) ⟦ T ⟧ (λ _. ⟦ T ⟧) tt alive) $
+      use3 𝓛 (some (λ (log : List Entry). given (Known (rules st) [] seen log × (¬ (IsAmong (ended_lives seen) a))) (‵ J ⊛ ‵ ftrue ⊛ ‵ (had log) ⊛ ‵ T)))
+      (looks_beside entry_coded (rules st) (beside n) n.log (rows n) 𝓛 [] seen (λ _. ¬ (IsAmong (ended_lives seen) a)) ⟦ T ⟧ (λ _. ⟦ T ⟧) tt alive) $
       suffices ! _ (upd_i 𝓤 (⟦ J ⟧ ∗ Z)) $ pick ! (λ log. learn ! (λ known. split ! $ frame ! $ split3 ! $ check ! known.1 $ keep ! (3 ∷ 2 ∷ []) $ done !))))
     where
-      alive : (log : List Entry) → Known (rules st) [] seen log → ⟦ beside n log ⟧ ∗ ⟦ flft (a ∷ []) q ⟧ ⊢ guard 𝓤 (¬ (IsAmong (ended seen) a)) (⟦ beside n log ⟧ ∗ ⟦ flft (a ∷ []) q ⟧)
+      alive : (log : List Entry) → Known (rules st) [] seen log → ⟦ beside n log ⟧ ∗ ⟦ flft (a ∷ []) q ⟧ ⊢ guard 𝓤 (¬ (IsAmong (ended_lives seen) a)) (⟦ beside n log ⟧ ∗ ⟦ flft (a ∷ []) q ⟧)
       alive log known = qed 𝓛 (‵ (beside n log) ∷ ‵ (flft (a ∷ []) q) ∷ []) ∵ fsplit ! $ nothing ! $ move ! (3 ∷ 0 ∷ []) $ fjoin ! $ move ! (1 ∷ 0 ∷ []) $
-          use2 𝓛 (given ((b : ℕ) → IsAmong (a ∷ []) b → ¬ (IsAmong (ended log) b)) (‵ (over (ended log)) ⊛ ‵ (living 𝓛 (a ∷ []) q))) (none_over 𝓛 (a ∷ []) (ended log) q) $ learn ! (λ none.
+          use2 𝓛 (given ((b : ℕ) → IsAmong (a ∷ []) b → ¬ (IsAmong (ended_lives log) b)) (‵ (over (ended_lives log)) ⊛ ‵ (living 𝓛 (a ∷ []) q))) (none_over 𝓛 (a ∷ []) (ended_lives log) q) $ learn ! (λ none.
           check ! (λ there. none a (inl refl) (ended_grows seen log a known.1 there)) $ split ! $ move ! (1 ∷ []) $ fsplit ! $
           -- [the token; nothing; what has ended; the rest]
           move ! (2 ∷ 3 ∷ []) $ fjoin ! $ keep ! (0 ∷ 1 ∷ []) $ done !)

@@ -5,10 +5,10 @@ use Rattle.seize_machine.specs.Machine.Frames.{changes_slot}
 use Rattle.seize_machine.specs.Machine.Next.{next}
 use Rattle.seize_machine.specs.declared.machine.event.Answer.{Answer}
 use Rattle.seize_book.specs.Blocks.{plans}
-use Rattle.seize_book.specs.Chains.{insertion_fields, told}
+use Rattle.seize_book.specs.Chains.{field_value, insertion_fields}
 use Rattle.seize_book.specs.Entry.{Entry, Made, Deed}
-use Rattle.seize_book.specs.Book.{after, acts, by_slot, IsLegalList, Does, TheSlot, Kept, mine, slots}
-use Rattle.seize_book.specs.Slots.{Looks, Moves, own_list, slot_number}
+use Rattle.seize_book.specs.Book.{after, acts, by_slot, IsLegalList, Does, TheSlot, HolderKnows, mine, slots}
+use Rattle.seize_book.specs.Slots.{LooksWithSlotKey, Moves, own_list, slot_number}
 use Rattle.seize_book.specs.Tokens.{Name, start}
 use Rattle.seize_book.specs.Adding as adding
 use Rattle.seize_book.specs.Passes.{LooksOn}
@@ -34,7 +34,7 @@ in_book e log f = ap (λ (z : Name). f (after (start z) log)) e
 
 -- where the slot had made no event since its key's list, and the key's list now ends with this one
 pub moves : (key key' : SlotKey) (n : Name) (e : Deed) (log : List Entry) (d : State × Answer) → key.keys.name ≡ n → key'.keys.name ≡ n → changes_slot (slot_number key) e.event ≡ true → IsLegalList (start n) log → Does (start n) log (Made e) d
-    → Kept (start n) TheSlot (slot_number key) (own_list key) log → slot_number key' ≡ slot_number key → own_list key' ≡ log ++ Made e ∷ [] → Moves key key' log e d.0 d.1
+    → HolderKnows (start n) TheSlot (slot_number key) (own_list key) log → slot_number key' ≡ slot_number key → own_list key' ≡ log ++ Made e ∷ [] → Moves key key' log e d.0 d.1
 moves key key' n e log d name name' its legal does kept number own =
     let k = slot_number key in let same = kept.1 in let push = after_push (start n) log (Made e) d legal does in
     record {
@@ -67,7 +67,7 @@ looks_on keys keys' pass pass' looks =
     }
 
 -- where its holder only looked
-pub stays : (key key' : SlotKey) (pass pass' : Pass) → key.keys.name ≡ pass.name → adding.LooksWithKeys key.keys pass key'.keys pass' → is_one slots key.keys.held ≡ true → Looks key pass key' pass'
+pub stays : (key key' : SlotKey) (pass pass' : Pass) → key.keys.name ≡ pass.name → adding.LooksWithKeys key.keys pass key'.keys pass' → is_one slots key.keys.held ≡ true → LooksWithSlotKey key pass key' pass'
 stays key key' pass pass' book looks one =
     let is = looks.1 in let before = looks.2 in
     let k = slot_number key in let known = after_one slots key.keys.held pass'.seen one in let kept_all = one_kept (start pass.name) key.keys.held pass'.seen one before.kept in let kept = kept_all.1 in
@@ -79,9 +79,9 @@ stays key key' pass pass' book looks one =
       slot = in_book book pass'.seen (λ s. slot_at s k) ∙ sym kept.1 ∙ sym (in_book book (own_list key) (λ s. slot_at s k));
       active = in_book book pass'.seen (λ s. is_active (head_at s k)) ∙ sym kept.2 ∙ sym (in_book book (own_list key) (λ s. is_active (head_at s k)));
       written =
-          ap (λ (t : Name × (List Entry × ℕ)). insertion_fields (after (start t.0) t.1.0) (plans (start t.0) t.1.0) (told t.1.0) t.1.1)
+          ap (λ (t : Name × (List Entry × ℕ)). insertion_fields (after (start t.0) t.1.0) (plans (start t.0) t.1.0) (field_value t.1.0) t.1.1)
           (λ i. ((is.0 ∙ book) i, ((ap own_of is.1 ∙ known.1) i, (ap key_of is.1 ∙ known.0) i)))
-          ∙ sym kept.3 ∙ ap (λ (m : Name). insertion_fields (after (start m) (own_list key)) (plans (start m) (own_list key)) (told (own_list key)) k) (sym book);
+          ∙ sym kept.3 ∙ ap (λ (m : Name). insertion_fields (after (start m) (own_list key)) (plans (start m) (own_list key)) (field_value (own_list key)) k) (sym book);
       acts =
           ap (λ (t : Name × (ℕ × List Entry)). by_slot (start t.0) t.1.0 t.1.1) (λ j. ((is.0 ∙ book) j, ((ap key_of is.1 ∙ known.0) j, (ap own_of is.1 ∙ known.1) j)))
           ∙ sym kept.0 ∙ sym (ap (λ (m : Name). by_slot (start m) k (own_list key)) book);

@@ -9,10 +9,10 @@ use types.Kit.{‵, raw, ◌⊛◌, some, given, later, ◌$◌, ◌∵◌, !, q
 use types.Tokens.{res_dup}
 use denote.Steps.{nothing}
 use Rattle.seize_machine.specs.Machine.State.{State, linked_values, are_distinct}
-use Rattle.seize_book.specs.Ledger.{fact, HeldKey, reached, WithKinds, born}
+use Rattle.seize_book.specs.Ledger.{fact, HeldKey, reached, WithKinds, keys_made}
 use Rattle.seize_book.specs.Entry.{Entry, entry_coded}
 use Rattle.seize_book.specs.Book.{mine, rules, passes, kinds}
-use Rattle.seize_book.specs.Tokens.{Name, rows, start, beside, inside, called, knows, Gate, gate_gives, rights_own, pass_at, pass_holds, pass_owns}
+use Rattle.seize_book.specs.Tokens.{Name, rows, start, beside, inside, has_family, knows, Gate, gate_gives, rights_own, pass_at, pass_holds, pass_owns}
 use Rattle.seize_book.proofs.Append.{MayMint, mint, Minted}
 use Rattle.seize_book.proofs.Goes.{kept_now}
 use Rattle.seize_book.proofs.Passes.{IsDistinct, keys, by_pass, MayMake, Tells, Trades, keys_after, Made}
@@ -47,7 +47,7 @@ module _ {M : Type 1} {𝓤 : Ura M} (𝓛 : Logic 𝓤) (n : Name) where
   distinct = fact (are_distinct (linked_values n.links) ≡ Rattle.std.specs.Prelude.true)
 
   abbrev calls : Fml
-  calls = fsep (called n) distinct
+  calls = fsep (has_family n) distinct
 
   calls_twice : ⟦ calls ⟧ ⊢ ⟦ calls ⟧ ∗ ⟦ calls ⟧
   calls_twice = qed 𝓛 (‵ calls ∷ []) ∵ fsplit ! $ res_dup ! $ move ! (2 ∷ []) $ fpick ! (λ so. drop ! $
@@ -96,14 +96,14 @@ module _ {M : Type 1} {𝓤 : Ura M} (𝓛 : Logic 𝓤) (n : Name) where
   Picks = (ℕ → ℕ) → List (ℕ × ℕ)
 
   abbrev pub NewKeys : List Entry → Picks → (ℕ → ℕ) × List Entry → Pr
-  NewKeys seen births t = guard 𝓤 (IsPrefix seen t.1 × ((r : ℕ) → (rules st).Sized r (t.0 r) t.1)) (⟦ rights_own n (born (births t.0) t.1) ⟧ ∗ ⟦ had t.1 ⟧)
+  NewKeys seen births t = guard 𝓤 (IsPrefix seen t.1 × ((r : ℕ) → (rules st).Sized r (t.0 r) t.1)) (⟦ rights_own n (keys_made (births t.0) t.1) ⟧ ∗ ⟦ had t.1 ⟧)
 
   pub new_keys : (seen : List Entry) (births : Picks) → ((sizes : ℕ → ℕ) → MayMint (rules st) kinds sizes (births sizes)) → ⟦ knows n ⟧ ∗ ⟦ had seen ⟧ ⊢ H.⇛ (ex 𝓤 (NewKeys seen births))
   new_keys seen births may = let Z : Pr = ex 𝓤 (NewKeys seen births) in qed 𝓛 (‵ (knows n) ∷ ‵ (had seen) ∷ []) ∵ use1 𝓛 (‵ (finv J)) opens $ suffices ! _ (𝓛.invs.inv_acc J Z) $ frame ! $ assume ! (‵ J) $
       use2 𝓛 (raw (upd 𝓤 (ex 𝓤 (Minted entry_coded (rules st) (beside n) n.log (rows n) 𝓛 seen births)))) (mint entry_coded (rules st) (beside n) n.log (rows n) 𝓛 seen births (kept_now st) may) $
-      settle 𝓛 (⟦ J ⟧ ∗ Z) (some (λ (t : (ℕ → ℕ) × List Entry). given ((rules st).Legal t.1 × IsPrefix seen t.1 × ((r : ℕ) → (rules st).Sized r (t.0 r) t.1)) (‵ J ⊛ ‵ (rights_own n (born (births t.0) t.1)) ⊛ ‵ (had t.1)))) $
+      settle 𝓛 (⟦ J ⟧ ∗ Z) (some (λ (t : (ℕ → ℕ) × List Entry). given ((rules st).Legal t.1 × IsPrefix seen t.1 × ((r : ℕ) → (rules st).Sized r (t.0 r) t.1)) (‵ J ⊛ ‵ (rights_own n (keys_made (births t.0) t.1)) ⊛ ‵ (had t.1)))) $
       suffices ! _ (upd_i 𝓤 (⟦ J ⟧ ∗ Z)) $ pick ! (λ t. learn ! (λ so. split ! $ frame ! $ show ! (NewKeys seen births) t $ check ! (so.1, so.2) $ done !))
 
   -- what it gives, in a walk
   abbrev pub minted : List Entry → Picks → types.Kit.Item 𝓤
-  minted seen births = later (some (λ (t : (ℕ → ℕ) × List Entry). given (IsPrefix seen t.1 × ((r : ℕ) → (rules st).Sized r (t.0 r) t.1)) (‵ (rights_own n (born (births t.0) t.1)) ⊛ ‵ (had t.1))))
+  minted seen births = later (some (λ (t : (ℕ → ℕ) × List Entry). given (IsPrefix seen t.1 × ((r : ℕ) → (rules st).Sized r (t.0 r) t.1)) (‵ (rights_own n (keys_made (births t.0) t.1)) ⊛ ‵ (had t.1))))

@@ -13,9 +13,9 @@ use Rattle.seize_book.specs.Adding.{private}
 use Rattle.seize_book.specs.Entry.{Entry, Made}
 use Rattle.seize_book.specs.Fair.{Before}
 use Rattle.seize_book.specs.Ledger.{HeldKey}
-use Rattle.seize_book.specs.Others.{AreNumbersOf, Follows, Knew, MayTake, first_false, state_of, use_flags}
+use Rattle.seize_book.specs.Others.{AreNumbersOf, Follows, Knew, MayTakeNumber, first_false, state_of, use_flags}
 use Rattle.seize_book.specs.Private.{own_of}
-use Rattle.seize_book.specs.Slots.{IsKeyOfBook, Notes, slot_number}
+use Rattle.seize_book.specs.Slots.{AddsEvent, IsKeyOfBook, slot_number}
 use Rattle.seize_book.specs.Tokens.{Name, start}
 use Rattle.seize_book.specs.declared.book.keys.Keys.{Keys}
 use Rattle.seize_book.specs.declared.book.numbers_key.NumbersKey.{NumbersKey}
@@ -36,7 +36,7 @@ takes size st s _ below (Step.took_old _ l free least) = set_used st s (record (
 
 -- what the key of the numbers knew is so just before the event, and what it knows after it is so then
 module _ (key key' : SlotKey) (its_numbers : NumbersKey) (keys' : Keys) (pass pass' : Pass) (event : Event) (book : IsKeyOfBook key pass) (its : AreNumbersOf its_numbers pass)
-    (knew : Knew key its_numbers.keys pass pass' (private pass event)) (noted : Notes key pass key' pass' event) (follows : Follows its_numbers.keys pass' keys') where
+    (knew : Knew key its_numbers.keys pass pass' (private pass event)) (noted : AddsEvent key pass key' pass' event) (follows : Follows its_numbers.keys pass' keys') where
   abbrev st : State
   st = after (start pass.name) noted.2.0.before
 
@@ -63,7 +63,7 @@ module _ (key key' : SlotKey) (its_numbers : NumbersKey) (keys' : Keys) (pass pa
   step = step_of _ _ _ _ (subst (λ (n : Name). next pass.size (after (start n) noted.2.0.before) event ≡ Some (noted.2.0.later, noted.2.0.answer)) book noted.2.1.legal)
 
 pub gives_used : (key key' : SlotKey) (its_numbers : NumbersKey) (keys' : Keys) (pass pass' : Pass) → IsKeyOfBook key pass → AreNumbersOf its_numbers pass
-    → Knew key its_numbers.keys pass pass' (private pass (Give (slot_number key))) → Notes key pass key' pass' (Give (slot_number key)) → Follows its_numbers.keys pass' keys'
+    → Knew key its_numbers.keys pass pass' (private pass (Give (slot_number key))) → AddsEvent key pass key' pass' (Give (slot_number key)) → Follows its_numbers.keys pass' keys'
     → used (state_of keys') ≡ slice_set (use_flags its_numbers) (slot_number key) false
 gives_used key key' its_numbers keys' pass pass' book its knew noted follows =
     let s = slot_number key in let event = Give s in
@@ -71,8 +71,8 @@ gives_used key key' its_numbers keys' pass pass' book its knew noted follows =
     ∙ gives pass.size (st key key' its_numbers keys' pass pass' event book its knew noted follows) s (noted.2.0.later, noted.2.0.answer) (step key key' its_numbers keys' pass pass' event book its knew noted follows)
     ∙ ap (λ (us : List Bool). slice_set us s false) (sym (known key key' its_numbers keys' pass pass' event book its knew noted follows))
 
-pub takes_used : (key key' : SlotKey) (its_numbers : NumbersKey) (keys' : Keys) (pass pass' : Pass) → IsKeyOfBook key pass → AreNumbersOf its_numbers pass → MayTake its_numbers key
-    → Knew key its_numbers.keys pass pass' (private pass (Take (slot_number key))) → Notes key pass key' pass' (Take (slot_number key)) → Follows its_numbers.keys pass' keys'
+pub takes_used : (key key' : SlotKey) (its_numbers : NumbersKey) (keys' : Keys) (pass pass' : Pass) → IsKeyOfBook key pass → AreNumbersOf its_numbers pass → MayTakeNumber its_numbers key
+    → Knew key its_numbers.keys pass pass' (private pass (Take (slot_number key))) → AddsEvent key pass key' pass' (Take (slot_number key)) → Follows its_numbers.keys pass' keys'
     → used (state_of keys') ≡ slice_set (use_flags its_numbers) (slot_number key) true
 takes_used key key' its_numbers keys' pass pass' book its may knew noted follows =
     let s = slot_number key in let event = Take s in let there : s < length (state_of its_numbers.keys).slots = may.1 in
@@ -84,7 +84,7 @@ takes_used key key' its_numbers keys' pass pass' book its may knew noted follows
 
 -- the least number that is not in use
 pub may_take_by : (its_numbers : NumbersKey) (key : SlotKey) → slot_number key ≡ first_false (use_flags its_numbers) → slot_number key < length (use_flags its_numbers) → slot_number key < all_numbers
-    → MayTake its_numbers key
+    → MayTakeNumber its_numbers key
 may_take_by its_numbers key least below few =
     let st : State = after (start its_numbers.keys.name) (own_of its_numbers.keys.held) in
     (least ∙ sym (free_by st.slots), subst (λ (m : ℕ). slot_number key < m) (length-map st.slots (λ slot. slot.used)) below, few)

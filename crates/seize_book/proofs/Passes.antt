@@ -9,13 +9,13 @@ use types.Logic.{Logic, sem}
 use types.Kit.{‵, raw, ◌⊛◌, some, given, ◌$◌, ◌∵◌, !, qed, move, drop, split, split3, join, fsplit, fjoin, fpick, fpack, pick, learn, show, check, suffices, settle, done, rewrite, use1, use2, use3}
 use denote.Steps.{nothing}
 use Rattle.seize_machine.specs.Machine.State.{State, has, linked_values, are_distinct}
-use Rattle.seize_book.specs.Ledger.{HeldKey, reached, WithKinds, renewed, born, Known}
+use Rattle.seize_book.specs.Ledger.{HeldKey, reached, WithKinds, with_list, keys_made, Known}
 use Rattle.seize_book.specs.Entry.{Entry, entry_coded, maker}
 use Rattle.seize_book.specs.Book.{after, blocks, mine, passes, rules, kinds, slots}
 use Rattle.seize_book.specs.Fair.{Before, Fair, HasPlace, IsLabel, pass_key}
-use Rattle.seize_book.specs.Laws.{ended}
+use Rattle.seize_book.specs.Laws.{ended_lives}
 use Rattle.seize_book.specs.Loans.{AllCarryOne}
-use Rattle.seize_book.specs.Tokens.{Name, rows, start, keys_own, rights_own, places_known, over, beside, inside, IsSole, gate_keeps, gate_gives, pass_at, pass_holds, Noted}
+use Rattle.seize_book.specs.Tokens.{Name, rows, start, keys_own, rights_own, places_known, over, beside, inside, IsSole, gate_keeps, gate_gives, pass_at, pass_holds, AddsEntry}
 use Rattle.seize_book.proofs.Append.{appends, Appended}
 use Rattle.seize_book.proofs.Goes.{chained_push, goes, kept_now, births_of, births_below, births_free, slots_after}
 use Rattle.seize_book.proofs.Gates.{agrees, follows}
@@ -59,18 +59,18 @@ module _ {M : Type 1} {𝓤 : Ura M} (𝓛 : Logic 𝓤) (n : Name) where
 
   -- what its maker brings tells more of the list, beside what has ended; and it is traded
   abbrev pub Tells : ℕ → List Entry → List (HeldKey Entry) → (List Entry → Type 0) → Pr → Type 1
-  Tells p seen held Told X = (log : List Entry) → Before n p seen held log → ⟦ over (ended log) ⟧ ∗ X ⊢ guard 𝓤 (Told log) (⟦ over (ended log) ⟧ ∗ X)
+  Tells p seen held Told X = (log : List Entry) → Before n p seen held log → ⟦ over (ended_lives log) ⟧ ∗ X ⊢ guard 𝓤 (Told log) (⟦ over (ended_lives log) ⟧ ∗ X)
 
   abbrev pub Trades : ℕ → List Entry → List (HeldKey Entry) → (List Entry → Entry) → (List Entry → Type 0) → Pr → (List Entry → Pr) → Type 1
   Trades p seen held ev Told X Y = (log : List Entry) → Before n p seen held log → Told log
-      → ⟦ over (ended log) ⟧ ∗ X ⊢ upd 𝓤 (⟦ over (ended (log ++ ev log ∷ [])) ⟧ ∗ Y log)
+      → ⟦ over (ended_lives log) ⟧ ∗ X ⊢ upd 𝓤 (⟦ over (ended_lives (log ++ ev log ∷ [])) ⟧ ∗ Y log)
 
   -- what is had afterwards, where the list was `log` before
   abbrev pub keys_after : List (HeldKey Entry) → (List Entry → Entry) → List Entry → Fml
-  keys_after held ev log = keys (renewed held (log ++ ev log ∷ []) ++ born (births_of st ev log) (log ++ ev log ∷ []))
+  keys_after held ev log = keys (with_list held (log ++ ev log ∷ []) ++ keys_made (births_of st ev log) (log ++ ev log ∷ []))
 
   abbrev pub Made : ℕ → List Entry → List (HeldKey Entry) → (List Entry → Entry) → (List Entry → Type 0) → List Entry → Type 0
-  Made p seen held ev Told log = (noted : Noted n p seen (log ++ ev log ∷ []) (ev log)) × (noted.before ≡ log) × Before n p seen held log × Told log
+  Made p seen held ev Told log = (noted : AddsEntry n p seen (log ++ ev log ∷ []) (ev log)) × (noted.before ≡ log) × Before n p seen held log × Told log
 
   abbrev After : ℕ → List Entry → List (HeldKey Entry) → (List Entry → Entry) → (List Entry → Type 0) → (List Entry → Pr) → List Entry → Pr
   After p seen held ev Told Y log = guard 𝓤 (Made p seen held ev Told log) (⟦ J ⟧ ∗ ⟦ pass_holds n p (log ++ ev log ∷ []) ⟧ ∗ ⟦ keys_after held ev log ⟧ ∗ Y log)
@@ -79,7 +79,7 @@ module _ {M : Type 1} {𝓤 : Ura M} (𝓛 : Logic 𝓤) (n : Name) where
   IsDistinct = are_distinct (linked_values n.links) ≡ true
 
   made_now : IsDistinct → (p : ℕ) (seen : List Entry) (held : List (HeldKey Entry)) (ev : List Entry → Entry) (log own : List Entry) → Before n p seen held log → Fair n (pass_key p own ∷ held) log (ev log) × (maker (ev log) ≡ p)
-      → Noted n p seen (log ++ ev log ∷ []) (ev log)
+      → AddsEntry n p seen (log ++ ev log ∷ []) (ev log)
   made_now distinct p seen held ev log own before f =
       let fair : Fair n (pass_key p own ∷ held) log (ev log) = f.0 in
       record {
@@ -135,7 +135,7 @@ module _ {M : Type 1} {𝓤 : Ura M} (𝓛 : Logic 𝓤) (n : Name) where
           move ! (3 ∷ 0 ∷ []) $ use2 𝓛 (given (IsSole p → log ≡ seen) (‵ (keeps log) ⊛ ‵ (gives seen))) (agrees 𝓛 n.gate p log seen) $ learn ! (λ alone. split ! $
           -- [the book's copy; the pass's; the ways; X; where all is found; what has ended]
           move ! (4 ∷ []) $ use1 𝓛 (given (AllCarryOne (after st log).named) (‵ (places_known n (after st log)))) (found_lent 𝓛 n (after st log)) $ learn ! (λ lent.
-          move ! (5 ∷ 4 ∷ []) $ use2 𝓛 (given (Told log) (‵ (over (ended log)) ⊛ raw X)) (tells log (before log known (alone, lent))) $ learn ! (λ told. split ! $
+          move ! (5 ∷ 4 ∷ []) $ use2 𝓛 (given (Told log) (‵ (over (ended_lives log)) ⊛ raw X)) (tells log (before log known (alone, lent))) $ learn ! (λ told. split ! $
           -- [what has ended; X; where all is found; the book's copy; the pass's; the ways]
           check ! ((alone, lent), told) $ move ! (3 ∷ 2 ∷ []) $ fjoin ! $ move ! (1 ∷ 0 ∷ []) $ fjoin ! $ move ! (3 ∷ 1 ∷ []) $ join ! $ move ! (2 ∷ 0 ∷ []) $ join ! $ move ! (1 ∷ []) $ done !)))
 
@@ -153,7 +153,7 @@ module _ {M : Type 1} {𝓤 : Ura M} (𝓛 : Logic 𝓤) (n : Name) where
           -- [where all is found then; the ways; the pass's copy; X; the book's copy; what has ended]
           move ! (4 ∷ 2 ∷ []) $ use2 𝓛 (raw (upd 𝓤 (⟦ keeps (now log) ⟧ ∗ ⟦ gives (now log) ⟧))) (follows 𝓛 n.gate p log seen (now log) (ev log ∷ [], refl) told.0.0) $ settle 𝓛 Z (‵ (keeps (now log)) ⊛ ‵ (gives (now log))) $ split ! $
           -- [the book's copy; the pass's; where all is found then; the ways; X; what has ended]
-          move ! (5 ∷ 4 ∷ []) $ use2 𝓛 (raw (upd 𝓤 (⟦ over (ended (now log)) ⟧ ∗ Y log))) (trades log (before log known told.0) told.1) $ settle 𝓛 Z (‵ (over (ended (now log))) ⊛ raw (Y log)) $ split ! $
+          move ! (5 ∷ 4 ∷ []) $ use2 𝓛 (raw (upd 𝓤 (⟦ over (ended_lives (now log)) ⟧ ∗ Y log))) (trades log (before log known told.0) told.1) $ settle 𝓛 Z (‵ (over (ended_lives (now log))) ⊛ raw (Y log)) $ split ! $
           -- [what has ended then; Y; the book's copy; the pass's; where all is found then; the ways]
           suffices ! _ (upd_i 𝓤 Z) $ move ! (2 ∷ 4 ∷ []) $ fjoin ! $ move ! (1 ∷ 0 ∷ []) $ fjoin ! $ move ! (3 ∷ 1 ∷ []) $ join ! $ move ! (2 ∷ 0 ∷ []) $ join ! $ move ! (1 ∷ []) $ done !
 
@@ -172,15 +172,15 @@ module _ {M : Type 1} {𝓤 : Ura M} (𝓛 : Logic 𝓤) (n : Name) where
         (omega arith, within) (λ log. births_below (after st log) (ev log)) (kept_now st)
         (goes n distinct (all own past) seen ev (ToldAll own past) (λ log known told. (may own log (before own past log known told.0) told.1).0)) (tells_all own past tells) (trades_all own past (names own past may) trades)) $
         settle 𝓛 Z (some (λ (log : List Entry). given (Known (rules st) (all own past) seen log × ToldAll own past log)
-        (‵ J ⊛ ‵ (rights (renewed (all own past) (now own past log) ++ born (births_of st ev log) (now own past log))) ⊛ ‵ (had (now own past log)) ⊛ (‵ (gives own past (now own past log)) ⊛ ‵ (its_ways own past) ⊛ raw (Y log))))) $
+        (‵ J ⊛ ‵ (rights (with_list (all own past) (now own past log) ++ keys_made (births_of st ev log) (now own past log))) ⊛ ‵ (had (now own past log)) ⊛ (‵ (gives own past (now own past log)) ⊛ ‵ (its_ways own past) ⊛ raw (Y log))))) $
         suffices ! _ (upd_i 𝓤 Z) $ pick ! (λ log. learn ! (λ known. let log' : List Entry = now own past log in let b = before own past log known.0 known.1.0 in let bs : List (ℕ × ℕ) = births_of st ev log in
         split ! $ move ! (1 ∷ []) $ split3 ! $
         -- [the rights; what was reached; its copy, the ways and Y; J]
         move ! (2 ∷ []) $ split3 ! $ move ! (3 ∷ []) $ fsplit ! $
         -- [the pass's key; the rights; its copy; the ways; Y; what was reached; J]
         move ! (3 ∷ []) $ rewrite ! 0 (λ (F : Fml). ‵ F) (sym (ways_renewed 𝓛 n held log')) refl $
-        use1 𝓛 (‵ (ways 𝓛 n (renewed held log' ++ born bs log'))) (ways_born 𝓛 n (renewed held log') bs log' (births_free (after st log) (ev log))) $
-        move ! (2 ∷ 0 ∷ []) $ use2 𝓛 (‵ (keys (renewed held log' ++ born bs log'))) (keys_whole 𝓛 n (renewed held log' ++ born bs log')) $
+        use1 𝓛 (‵ (ways 𝓛 n (with_list held log' ++ keys_made bs log'))) (ways_born 𝓛 n (with_list held log') bs log' (births_free (after st log) (ev log))) $
+        move ! (2 ∷ 0 ∷ []) $ use2 𝓛 (‵ (keys (with_list held log' ++ keys_made bs log'))) (keys_whole 𝓛 n (with_list held log' ++ keys_made bs log')) $
         -- [the keys; the pass's key; its copy; Y; what was reached; J]
         nothing ! $ fpack ! (IsPrefix log' log' × (mine st p log' ≡ mine st p log')) (λ _. ftrue) (([], append-nil log'), refl) $
         move ! (3 ∷ 0 ∷ []) $ fjoin ! $ move ! (4 ∷ 0 ∷ []) $ fjoin ! $ move ! (2 ∷ 0 ∷ []) $ fjoin ! $ fpack ! (List Entry) (pass_at n p log') log' $

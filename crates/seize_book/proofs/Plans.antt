@@ -12,7 +12,7 @@ use Rattle.seize_machine.specs.Machine.Frames.{batches_added, changes_head_of, c
 use Rattle.seize_machine.specs.declared.machine.event.Answer.{Answer}
 use Rattle.seize_machine.proofs.Facts.{Step, Stands, counted, eq_true, slot_frame, some_is, step_of, batches_length, reached_holds, tries_tidy, head_frame, is_true, and_true}
 use Rattle.seize_book.specs.Blocks.{Plan, no_plan, planned_by, plans, block_in, block_for, list_word, word_of, head_word}
-use Rattle.seize_book.specs.Book.{Kept, TheHead, IsLegalList, after}
+use Rattle.seize_book.specs.Book.{HolderKnows, TheHead, IsLegalList, after}
 use Rattle.seize_book.specs.Entry.{Entry, Made, Used, timed_deed}
 use Rattle.seize_book.specs.Tokens.{Name, start}
 use Rattle.seize_book.proofs.Lists.{reached_after}
@@ -256,7 +256,7 @@ legal_beginning st (Made e ∷ own) more l = let a = and_true _ _ l in both_true
 pub legal_prefix : (st : State) (own log : List Entry) → IsPrefix own log → IsLegalList st log → IsLegalList st own
 legal_prefix st own log grows l = legal_beginning st own grows.0 (subst (IsLegalList st) (sym grows.1) l)
 
-pub head_stays : (n : Name) (m : ℕ) (since log : List Entry) → are_distinct (linked_values n.links) ≡ true → IsLegalList (start n) log → Kept (start n) TheHead m since log → head_word (start n) since m ≡ head_word (start n) log m
+pub head_stays : (n : Name) (m : ℕ) (since log : List Entry) → are_distinct (linked_values n.links) ≡ true → IsLegalList (start n) log → HolderKnows (start n) TheHead m since log → head_word (start n) since m ≡ head_word (start n) log m
 head_stays n m since log distinct l kept =
     let own = legal_prefix (start n) since log kept.0 l in
     let there = subst (λ (k : ℕ). AllLess k (waiting_at (head_at (after (start n) since) m))) (sym (plans_long n since own)) (waiting_there (after (start n) since) (reached_after n since distinct own) m) in

@@ -8,12 +8,12 @@ use Rattle.seize_machine.specs.Machine.Next.{next}
 use Rattle.seize_machine.specs.Machine.Frames.{changes_slot, changes_used}
 use Rattle.seize_machine.specs.declared.machine.event.Answer.{Answer}
 use Rattle.seize_machine.proofs.Facts.{is_true, eq_true, step_of}
-use Rattle.seize_book.specs.Ledger.{HeldKey, AllKept, WithKinds, renewed, born}
+use Rattle.seize_book.specs.Ledger.{HeldKey, HoldersKnow, WithKinds, with_list, keys_made}
 use Rattle.seize_book.specs.Blocks.{plans}
-use Rattle.seize_book.specs.Chains.{told}
+use Rattle.seize_book.specs.Chains.{field_value}
 use Rattle.seize_book.specs.Entry.{Entry, Made, Deed}
-use Rattle.seize_book.specs.Book.{after, births, makes_slot, TheSlot, TheTotal, Kept, kinds, rules, slots, touches}
-use Rattle.seize_book.specs.Fair.{Added, Before, Covers, Fair, MakesPlaced, EndsNone, StartsNone, MayAdd, pass_key}
+use Rattle.seize_book.specs.Book.{after, births, makes_slot, TheSlot, TheTotal, HolderKnows, kinds, rules, slots, touches}
+use Rattle.seize_book.specs.Fair.{AddsEntryWith, Before, Covers, Fair, MakesPlaced, EndsNone, StartsNone, MayAdd, pass_key}
 use Rattle.seize_book.specs.Others.{MakesNone}
 use Rattle.seize_book.specs.Private.{IsOwn, IsOpen, is_one, key_of, label_of, note_of, own_of}
 use Rattle.seize_book.specs.Tokens.{Name, start}
@@ -31,24 +31,24 @@ only_is r (x ∷ []) h = ap (λ (k : ℕ). record { kind = k; key = x.key; own =
 
 -- the key after an event that it made
 pub one_after : (r : ℕ) (held : List (HeldKey Entry)) (births : List (ℕ × ℕ)) (seen : List Entry) → is_one r held ≡ true
-    → (key_of (renewed held seen ++ born births seen) ≡ key_of held) × (own_of (renewed held seen ++ born births seen) ≡ seen)
+    → (key_of (with_list held seen ++ keys_made births seen) ≡ key_of held) × (own_of (with_list held seen ++ keys_made births seen) ≡ seen)
 one_after r [] births seen h = absurd (cc)
 one_after r (x ∷ y ∷ held) births seen h = absurd (cc)
 one_after r (x ∷ []) births seen h = (refl, refl)
 
-pub renewed_label : (held : List (HeldKey Entry)) (seen : List Entry) → label_of (renewed held seen) ≡ label_of held
+pub renewed_label : (held : List (HeldKey Entry)) (seen : List Entry) → label_of (with_list held seen) ≡ label_of held
 renewed_label [] seen = refl
 renewed_label (x ∷ held) seen = refl
 
 -- or after a look
-pub after_one : (r : ℕ) (held : List (HeldKey Entry)) (seen : List Entry) → is_one r held ≡ true → (key_of (renewed held seen) ≡ key_of held) × (own_of (renewed held seen) ≡ seen)
+pub after_one : (r : ℕ) (held : List (HeldKey Entry)) (seen : List Entry) → is_one r held ≡ true → (key_of (with_list held seen) ≡ key_of held) × (own_of (with_list held seen) ≡ seen)
 after_one r [] seen one = absurd (cc)
 after_one r (x ∷ y ∷ held) seen one = absurd (cc)
 after_one r (x ∷ []) seen one = (refl, refl)
 
 -- what it knew just before
-pub one_kept : (st : State) (held : List (HeldKey Entry)) (log : List Entry) → is_one slots held ≡ true → AllKept (rules st) held log → Kept st TheSlot (key_of held) (own_of held) log
-one_kept st held log h kept = (subst (λ (hs : List (HeldKey Entry)). AllKept (rules st) hs log) (only_is slots held h) kept).0
+pub one_kept : (st : State) (held : List (HeldKey Entry)) (log : List Entry) → is_one slots held ≡ true → HoldersKnow (rules st) held log → HolderKnows st TheSlot (key_of held) (own_of held) log
+one_kept st held log h kept = (subst (λ (hs : List (HeldKey Entry)). HoldersKnow (rules st) hs log) (only_is slots held h) kept).0
 
 pub one_within : (held : List (HeldKey Entry)) → is_one slots held ≡ true → WithKinds kinds held
 one_within held h = subst (WithKinds kinds) (sym (only_is slots held h)) (omega arith, tt)
@@ -114,7 +114,7 @@ may_add n p seen held e one pe private open_ = subst (λ (hs : List (HeldKey Ent
           covers = covers (start n) log e p (key_of held) mine (own_of held) pe private;
           names = λ many was there. (subst (λ (z : ℕ). z < many 0) (sym pe) there.0, (λ j le. (private.3 (after (start n) log) j).0), (λ j le. (private.3 (after (start n) log) j).1), λ f le. refl);
           one = none_named e.size (after (start n) log) e.event d.0 (step_of _ _ _ _ d.1) (λ j. (private.3 (after (start n) log) j).1);
-          leads = unled (after (start n) log) (plans (start n) log) (told log) e.event (λ j. (private.2 j).0);
+          leads = unled (after (start n) log) (plans (start n) log) (field_value log) e.event (λ j. (private.2 j).0);
           labels = no_labels (pass_key p mine ∷ only slots held) e.size (after (start n) log) e.event d.0 (step_of _ _ _ _ d.1) (λ j. (private.3 (after (start n) log) j).1);
           places = no_place (after (start n) log) (pass_key p mine ∷ only slots held) (Made e) (makes_none (after (start n) log) e.event private.1);
         }
@@ -122,31 +122,31 @@ may_add n p seen held e one pe private open_ = subst (λ (hs : List (HeldKey Ent
 -- A slot's key, and others after it.
 
 -- they are of the same kinds afterwards
-pub same_kind : (q : ℕ) (held : List (HeldKey Entry)) (seen : List Entry) → is_one q held ≡ true → is_one q (renewed held seen) ≡ true
+pub same_kind : (q : ℕ) (held : List (HeldKey Entry)) (seen : List Entry) → is_one q held ≡ true → is_one q (with_list held seen) ≡ true
 same_kind q [] seen h = absurd (cc)
 same_kind q (x ∷ y ∷ held) seen h = absurd (cc)
 same_kind q (x ∷ []) seen h = h
 
 abbrev all_after : List (HeldKey Entry) → List (HeldKey Entry) → List Entry → List (HeldKey Entry)
-all_after a b seen = renewed (a ++ b) seen ++ born [] seen
+all_after a b seen = with_list (a ++ b) seen ++ keys_made [] seen
 
 pub record Parted (a b : List (HeldKey Entry)) (seen : List Entry) : Type 0 where
   pub number : key_of (take 1 (all_after a b seen)) ≡ key_of a
   pub own : own_of (take 1 (all_after a b seen)) ≡ seen
-  pub others : drop 1 (all_after a b seen) ≡ renewed b seen
+  pub others : drop 1 (all_after a b seen) ≡ with_list b seen
 
 pub parted : (a b : List (HeldKey Entry)) (seen : List Entry) → is_one slots a ≡ true → Parted a b seen
 parted [] b seen h = absurd (cc)
 parted (x ∷ y ∷ a) b seen h = absurd (cc)
-parted (x ∷ []) b seen h = record { number = refl; own = refl; others = append-nil (renewed b seen) }
+parted (x ∷ []) b seen h = record { number = refl; own = refl; others = append-nil (with_list b seen) }
 
 pub held_after : (n : Name) (p : ℕ) (seen seen' : List Entry) (held held' a b : List (HeldKey Entry)) (e : Deed) → held ≡ a ++ b → MakesNone n p seen (a ++ b) e.event
-    → Added n p seen seen' held held' e → held' ≡ all_after a b seen'
+    → AddsEntryWith n p seen seen' held held' e → held' ≡ all_after a b seen'
 held_after n p seen seen' held held' a b e joined none added =
     let log = added.noted.before in
     added.keys
-    ∙ ap (λ (hs : List (HeldKey Entry)). renewed hs seen' ++ born (births (after (start n) log) e.event) seen') joined
-    ∙ ap (λ (bs : List (ℕ × ℕ)). renewed (a ++ b) seen' ++ born bs seen') (none log (subst (λ (hs : List (HeldKey Entry)). Before n p seen hs log) joined added.before))
+    ∙ ap (λ (hs : List (HeldKey Entry)). with_list hs seen' ++ keys_made (births (after (start n) log) e.event) seen') joined
+    ∙ ap (λ (bs : List (ℕ × ℕ)). with_list (a ++ b) seen' ++ keys_made bs seen') (none log (subst (λ (hs : List (HeldKey Entry)). Before n p seen hs log) joined added.before))
 
-pub two_kept : (st : State) (a b : List (HeldKey Entry)) (log : List Entry) → is_one slots a ≡ true → AllKept (rules st) (a ++ b) log → Kept st TheSlot (key_of a) (own_of a) log
-two_kept st a b log h kept = (subst (λ (hs : List (HeldKey Entry)). AllKept (rules st) (hs ++ b) log) (only_is slots a h) kept).0
+pub two_kept : (st : State) (a b : List (HeldKey Entry)) (log : List Entry) → is_one slots a ≡ true → HoldersKnow (rules st) (a ++ b) log → HolderKnows st TheSlot (key_of a) (own_of a) log
+two_kept st a b log h kept = (subst (λ (hs : List (HeldKey Entry)). HoldersKnow (rules st) (hs ++ b) log) (only_is slots a h) kept).0

@@ -11,22 +11,22 @@ use native.Mathlib.Decide.{ℕ_discrete}
 use base.Stored.{Gv}
 use Rattle.seize_content.specs.Cells.{cell_token}
 use Rattle.seize_content.specs.declared.loan.Pool.{Pool}
-use Rattle.seize_store.specs.Known.{content_in, entry_of, tells}
-use Rattle.seize_store.specs.declared.known.Known.{Known}
+use Rattle.seize_store.specs.RowTokens.{content_in, entry_of, tells}
+use Rattle.seize_store.specs.declared.row_token.RowToken.{RowToken}
 use Rattle.seize_machine.specs.Machine.State.{State, has, slot_at}
 use Rattle.seize_content.specs.declared.ticket.Ticket.{Ticket}
 use Rattle.seize_book.specs.Adding.{JoinsKeys, Parts}
 use Rattle.seize_book.specs.Bare.{Places}
 use Rattle.seize_book.specs.Blocks.{block_number}
-use Rattle.seize_book.specs.Book.{Kept, TheBlock, after, blocks, rules, slots}
+use Rattle.seize_book.specs.Book.{HolderKnows, TheBlock, after, blocks, rules, slots}
 use Rattle.seize_book.specs.Entry.{Entry}
 use Rattle.seize_book.specs.Fair.{Before}
 use Rattle.seize_book.specs.Homes.{IsVacant, home_of}
-use Rattle.seize_book.specs.Ledger.{AllKept, HeldKey, renewed}
+use Rattle.seize_book.specs.Ledger.{HeldKey, HoldersKnow, with_list}
 use Rattle.seize_book.specs.Lending.{IsHandedBy, IsLentKey, Lends, MayRedeem, Redeems}
 use Rattle.seize_book.specs.Loans.{Carries, CarriesNone, cell_of, loan_number, loan_of, place_of}
 use Rattle.seize_book.specs.Books.{IsNextIn, MaySettle}
-use Rattle.seize_book.specs.Others.{FollowsValue, IsLast, IsLastIn, Renames, labelled, state_of, value_of}
+use Rattle.seize_book.specs.Others.{FollowsValue, IsLast, IsLastIn, Renames, state_of, value_of, with_label}
 use Rattle.seize_book.specs.Private.{is_one, key_of, label_of, own_of}
 use Rattle.seize_book.specs.Slots.{hands_next, own_list, slot_number, slot_of}
 use Rattle.seize_book.specs.Tokens.{Name, chunk_label, leads, chunk_tag, rights_own, keys_own, start, way}
@@ -64,14 +64,14 @@ unfolding fresh
 fresh_home n held = let v = another n held in (sym v.1, sym v.2, sym v.4, v.5, sym v.6)
 
 pub renames : (marker : _) (n : Name) (held : List (HeldKey Entry))
-    → Renames (record { marker = marker; name = n; held = held }) (record { marker = marker; name = n; held = labelled (fresh n held) held })
+    → Renames (record { marker = marker; name = n; held = held }) (record { marker = marker; name = n; held = with_label (fresh n held) held })
 unfolding fresh
 renames marker n held = let v = another n held in
     record { value = v.0; book = refl; held = refl; home = v.1; numbered = v.2; unnamed = (past (after (start n) (own_of held)).named).1 v.0 v.3; place = v.4; cell = v.6; free = v.5 }
 
 -- the same, where the book is named by another
 pub renames_in : (marker : _) (n m : Name) → n ≡ m → (held : List (HeldKey Entry))
-    → Renames (record { marker = marker; name = n; held = held }) (record { marker = marker; name = m; held = labelled (fresh n held) held })
+    → Renames (record { marker = marker; name = n; held = held }) (record { marker = marker; name = m; held = with_label (fresh n held) held })
 unfolding fresh
 renames_in marker n m same held = let r = renames marker n held in
     record { value = r.value; book = sym same; held = r.held; home = r.home; numbered = r.numbered; unnamed = r.unnamed; place = r.place; cell = r.cell; free = r.free }
@@ -81,9 +81,9 @@ pub fresh_at : (n : Name) (held : List (HeldKey Entry)) (place number : ℕ) →
 fresh_at n held place number fits = (another_with (key_of held) place 0 (cell_of (label_of held)) number (past (after (start n) (own_of held)).named).0 fits).0
 
 -- of a block in a store, one with this number and with the place of the content there
-pub places : (r m : _) (n : Name) (held : List (HeldKey Entry)) (number : ℕ) (fits : number < 2 ^ 64) (known : Known)
+pub places : (r m : _) (n : Name) (held : List (HeldKey Entry)) (number : ℕ) (fits : number < 2 ^ 64) (known : RowToken)
     → let place : ℕ = content_in known.chunks (entry_of known.row number) in
-    Places (record { marker = r; name = n; held = held }) number known (record { marker = m; name = n; held = labelled (fresh_at n held place number fits) held })
+    Places (record { marker = r; name = n; held = held }) number known (record { marker = m; name = n; held = with_label (fresh_at n held place number fits) held })
 unfolding fresh_at
 places r m n held number fits known =
     let bound = past (after (start n) (own_of held)).named in let v = another_with (key_of held) (content_in known.chunks (entry_of known.row number)) 0 (cell_of (label_of held)) number bound.0 fits in
@@ -107,17 +107,17 @@ fresh_lent_is n held c g =
     (sym v.1, sym v.2, (v.4, v.5), sym v.6)
 
 pub lends : (marker : _) (n : Name) (held : List (HeldKey Entry)) (pool : Pool)
-    → Lends (record { marker = marker; name = n; held = held }) pool (record { marker = marker; name = n; held = labelled (fresh_lent n held pool.name pool.value) held })
+    → Lends (record { marker = marker; name = n; held = held }) pool (record { marker = marker; name = n; held = with_label (fresh_lent n held pool.name pool.value) held })
 unfolding fresh_lent
 lends marker n held pool =
     let named = past (after (start n) (own_of held)).named in let v = another_with (home_of (label_of held)) pool.name (loan_number pool.value) (cell_of (label_of held)) (block_number (label_of held)) named.0 (small (label_of held)) in
     record { value = v.0; book = refl; held = refl; home = v.1; numbered = v.2; unnamed = named.1 v.0 v.3; cell = v.6; carries = (v.4, v.5) }
 
-own_labelled : (v : ℕ) (held : List (HeldKey Entry)) → own_of (labelled v held) ≡ own_of held
+own_labelled : (v : ℕ) (held : List (HeldKey Entry)) → own_of (with_label v held) ≡ own_of held
 own_labelled v [] = refl
 own_labelled v (h ∷ held) = refl
 
-label_one : (held : List (HeldKey Entry)) (v : ℕ) → is_one blocks held ≡ true → label_of (labelled v held) ≡ v
+label_one : (held : List (HeldKey Entry)) (v : ℕ) → is_one blocks held ≡ true → label_of (with_label v held) ≡ v
 label_one [] v one = absurd (cc)
 label_one (h ∷ held) v one = refl
 
@@ -127,7 +127,7 @@ module _ {M : Type 1} {𝓤 : Ura M} (𝓛 : Logic 𝓤) (n : Name) where
 
   -- a label is no part of the right, and its number leads to the same home
   pub relabels : (held : List (HeldKey Entry)) (v : ℕ) → is_one blocks held ≡ true → home_of (label_of held) ≡ home_of v → block_number (label_of held) ≡ block_number v → place_of (label_of held) ≡ place_of v → CarriesNone v → cell_of (label_of held) ≡ cell_of v
-      → ent 𝓤 (sem 𝓛 (keys_own n held)) (sem 𝓛 (keys_own n (labelled v held)))
+      → ent 𝓤 (sem 𝓛 (keys_own n held)) (sem 𝓛 (keys_own n (with_label v held)))
   relabels [] v one home block place none cell = absurd (cc)
   relabels (h ∷ g ∷ held) v one home block place none cell = absurd (cc)
   relabels (h ∷ []) v one home block place none cell = let h' : HeldKey Entry = record { kind = h.kind; key = h.key; own = h.own; label = v; note = h.note } in let L : Fml = leads n h.label in
@@ -138,7 +138,7 @@ module _ {M : Type 1} {𝓤 : Ura M} (𝓛 : Logic 𝓤) (n : Name) where
 -- the first of several keys, which is a block's: it is renamed by itself
 pub first_labelled : (held more : List (HeldKey Entry)) (v : ℕ) → is_one blocks held ≡ true
     → (label_of (held ++ more) ≡ label_of held) × (own_of (held ++ more) ≡ own_of held)
-    × (take 1 (labelled v (held ++ more)) ≡ labelled v held) × (past_first 1 (labelled v (held ++ more)) ≡ more)
+    × (take 1 (with_label v (held ++ more)) ≡ with_label v held) × (past_first 1 (with_label v (held ++ more)) ≡ more)
 first_labelled [] more v one = absurd (cc)
 first_labelled (x ∷ y ∷ held) more v one = absurd (cc)
 first_labelled (x ∷ []) more v one = (refl, refl, refl, refl)
@@ -149,7 +149,7 @@ module _ (keys other all none redeemed parted other' : Keys) (ticket : Ticket) (
   r = redeems.0
 
   first : (label_of (keys.held ++ other.held) ≡ label_of keys.held) × (own_of (keys.held ++ other.held) ≡ own_of keys.held)
-      × (take 1 (labelled r.value (keys.held ++ other.held)) ≡ labelled r.value keys.held) × (past_first 1 (labelled r.value (keys.held ++ other.held)) ≡ other.held)
+      × (take 1 (with_label r.value (keys.held ++ other.held)) ≡ with_label r.value keys.held) × (past_first 1 (with_label r.value (keys.held ++ other.held)) ≡ other.held)
   first = first_labelled keys.held other.held r.value one
 
   label : label_of all.held ≡ label_of keys.held
@@ -159,7 +159,7 @@ module _ (keys other all none redeemed parted other' : Keys) (ticket : Ticket) (
   renames_first = record {
     value = r.value;
     book = parts.0 ∙ r.book ∙ joins.0;
-    held = parts.2 ∙ ap (take 1) (r.held ∙ ap (labelled r.value) joins.2) ∙ first.2;
+    held = parts.2 ∙ ap (take 1) (r.held ∙ ap (with_label r.value) joins.2) ∙ first.2;
     home = r.home ∙ ap home_of label;
     numbered = r.numbered ∙ ap block_number label;
     unnamed = subst (λ (st : State). has r.value st.named ≡ false) (ap (λ (t : Name × List Entry). after (start t.0) t.1) (λ j. (joins.0 j, (ap own_of joins.2 ∙ first.1) j))) r.unnamed;
@@ -170,7 +170,7 @@ module _ (keys other all none redeemed parted other' : Keys) (ticket : Ticket) (
 
   -- the others are as they were
   pub others_still : other.name ≡ keys.name → other' ≡ other
-  others_still same = λ j. record { marker = other.marker; name = (parts.1 ∙ r.book ∙ joins.0 ∙ sym same) j; held = (parts.3 ∙ ap (past_first 1) (r.held ∙ ap (labelled r.value) joins.2) ∙ first.3) j }
+  others_still same = λ j. record { marker = other.marker; name = (parts.1 ∙ r.book ∙ joins.0 ∙ sym same) j; held = (parts.3 ∙ ap (past_first 1) (r.held ∙ ap (with_label r.value) joins.2) ∙ first.3) j }
 
   -- what comes back is what was lent with the first
   pub was_lent : Carries (label_of keys.held) pool.name pool.value
@@ -214,15 +214,15 @@ module _ (value : ValueKey) (renamed : Keys) (is : Renames value.keys renamed) w
 
 -- and where it looked, after the last was reclaimed too
 module _ (value : ValueKey) (pass : Pass) (seen' : List Entry) (looked : Keys) (book : value.keys.name ≡ pass.name) (before : Before pass.name pass.id pass.seen value.keys.held seen')
-    (name : looked.name ≡ value.keys.name) (held : looked.held ≡ renewed value.keys.held seen') where
+    (name : looked.name ≡ value.keys.name) (held : looked.held ≡ with_list value.keys.held seen') where
   abbrev st : State
   st = start pass.name
 
   abbrev w : ℕ
   w = label_of value.keys.held
 
-  kept : Kept st TheBlock (key_of value.keys.held) (own_of value.keys.held) seen'
-  kept = (subst (λ (hs : List (HeldKey Entry)). AllKept (rules st) hs seen') (only_is blocks value.keys.held value.one) before.kept).0
+  kept : HolderKnows st TheBlock (key_of value.keys.held) (own_of value.keys.held) seen'
+  kept = (subst (λ (hs : List (HeldKey Entry)). HoldersKnow (rules st) hs seen') (only_is blocks value.keys.held value.one) before.kept).0
 
   in_book : state_of value.keys ≡ after st (own_of value.keys.held)
   in_book = ap (λ (n : Name). after (start n) (own_of value.keys.held)) book
@@ -263,7 +263,7 @@ pub follows_value : (value value' : ValueKey) (pass' : Pass) → FollowsValue va
 follows_value value value' pass' follows = ap label_of follows.1 ∙ renewed_label value.keys.held pass'.seen
 
 -- what a key knows that was labelled with another value of its block, which was never named
-module _ (value : ValueKey) (renamed : Keys) (v : ℕ) (book : renamed.name ≡ value.keys.name) (held : renamed.held ≡ labelled v value.keys.held) (home : home_of v ≡ home_of (value_of value))
+module _ (value : ValueKey) (renamed : Keys) (v : ℕ) (book : renamed.name ≡ value.keys.name) (held : renamed.held ≡ with_label v value.keys.held) (home : home_of v ≡ home_of (value_of value))
     (numbered : block_number v ≡ block_number (value_of value)) (unnamed : has v (state_of value.keys).named ≡ false) (next : IsNextIn value (block_number (value_of value))) where
   new_value : label_of renamed.held ≡ v
   new_value = ap label_of held ∙ label_one value.keys.held v value.one

@@ -10,7 +10,7 @@ use Rattle.seize_machine.specs.declared.machine.event.Answer.TheVariants.{Done}
 use Rattle.seize_machine.specs.declared.machine.event.Job.{Job}
 use Rattle.seize_machine.specs.declared.machine.event.Job.TheVariants.{Retire}
 use Rattle.seize_machine.proofs.Facts.{Step, next_of, step_of, beginning, eq_true, gone_named, is_true, loose_named}
-use Rattle.seize_book.specs.Ledger.{HeldKey, renewed}
+use Rattle.seize_book.specs.Ledger.{HeldKey, with_list}
 use Rattle.seize_book.specs.Entry.{Entry, Made, Deed}
 use Rattle.seize_book.specs.Book.{IsLegalList, after, blocks, slots}
 use Rattle.seize_book.specs.Fair.{Before, Covers, Fair, MayAdd, pass_key}
@@ -18,7 +18,7 @@ use Rattle.seize_book.specs.Homes.{HasOne, IsVacant, home_of}
 use Rattle.seize_book.specs.Others.{IsLastIn, IsSpent, MayBegin, state_of, value_of}
 use Rattle.seize_book.specs.Private.{is_one, key_of, label_of, own_of}
 use Rattle.seize_book.specs.Loans.{CarriesOne}
-use Rattle.seize_book.specs.Tokens.{Name, Noted, start}
+use Rattle.seize_book.specs.Tokens.{AddsEntry, Name, start}
 use Rattle.seize_book.specs.Adding.{deed_with_words}
 use Rattle.seize_book.specs.declared.book.keys.Keys.{Keys}
 use Rattle.seize_book.specs.declared.book.pass.Pass.{Pass}
@@ -113,8 +113,8 @@ spends size st v event _ (Step.begun_other s job place idle which from) h = othe
 spends size st v event _ _ h = absurd (cc)
 
 -- and so does its key know
-pub spent : (pass : Pass) (seen' : List Entry) (value value' : Keys) (s : ℕ) (kepts : List ℕ) (noted : Noted pass.name pass.id pass.seen seen' (Made (deed_with_words pass (Begin s (Retire (label_of value.held))) kepts)))
-    → is_one blocks value.held ≡ true → value.name ≡ pass.name → value'.name ≡ value.name → value'.held ≡ renewed value.held seen' → IsSpent (label_of value'.held) (state_of value')
+pub spent : (pass : Pass) (seen' : List Entry) (value value' : Keys) (s : ℕ) (kepts : List ℕ) (noted : AddsEntry pass.name pass.id pass.seen seen' (Made (deed_with_words pass (Begin s (Retire (label_of value.held))) kepts)))
+    → is_one blocks value.held ≡ true → value.name ≡ pass.name → value'.name ≡ value.name → value'.held ≡ with_list value.held seen' → IsSpent (label_of value'.held) (state_of value')
 spent pass seen' value value' s kepts noted one book name held =
     let v : ℕ = label_of value.held in let e : Deed = deed_with_words pass (Begin s (Retire v)) kepts in
     let now = subst (IsSpent v) (sym noted.leads) (spends e.size (after (start pass.name) noted.before) v e.event (noted.later, noted.answer) (step_of _ _ _ _ noted.does) (equal v v refl)) in
@@ -122,7 +122,7 @@ spent pass seen' value value' s kepts noted one book name held =
     subst (λ (st : State). IsSpent (label_of value'.held) st) (sym (ap (λ (n : Name). after (start n) (own_of value'.held)) (name ∙ book) ∙ ap (λ (l : List Entry). after (start pass.name) l) known))
     (subst (λ (w : ℕ). IsSpent w (after (start pass.name) seen')) (sym (ap label_of held ∙ renewed_label value.held seen')) now)
   where
-    renewed_own : (held : List (HeldKey Entry)) (seen : List Entry) → is_one blocks held ≡ true → own_of (renewed held seen) ≡ seen
+    renewed_own : (held : List (HeldKey Entry)) (seen : List Entry) → is_one blocks held ≡ true → own_of (with_list held seen) ≡ seen
     renewed_own [] seen h = absurd (cc)
     renewed_own (x ∷ xs) seen h = refl
 
@@ -136,8 +136,8 @@ not_gone size st _ _ _ r (Step.begun_retire s v idle may) = ⊎_elim (λ unnamed
 not_gone size st _ _ _ r (Step.begun_other s job place idle which from) = absurd (let x : Option.None ≡ Some place = from.1 in cc)
 
 -- and all others of its block were, as its key knows
-pub last : (pass : Pass) (seen' : List Entry) (value : ValueKey) (keys' : Keys) (s : ℕ) (kepts : List ℕ) (noted : Noted pass.name pass.id pass.seen seen' (Made (deed_with_words pass (Begin s (Retire (value_of value))) kepts))) → value.keys.name ≡ pass.name
-    → IsSpent (label_of keys'.held) (state_of keys') → keys'.name ≡ value.keys.name → keys'.held ≡ renewed value.keys.held seen' → IsLastIn (label_of keys'.held) (state_of keys')
+pub last : (pass : Pass) (seen' : List Entry) (value : ValueKey) (keys' : Keys) (s : ℕ) (kepts : List ℕ) (noted : AddsEntry pass.name pass.id pass.seen seen' (Made (deed_with_words pass (Begin s (Retire (value_of value))) kepts))) → value.keys.name ≡ pass.name
+    → IsSpent (label_of keys'.held) (state_of keys') → keys'.name ≡ value.keys.name → keys'.held ≡ with_list value.keys.held seen' → IsLastIn (label_of keys'.held) (state_of keys')
 last pass seen' value keys' s kepts noted book spent name held w home other named = go (is_true (has w now.gone))
   where
     now : State

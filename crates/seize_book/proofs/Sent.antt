@@ -14,11 +14,11 @@ use Rattle.seize_book.specs.Book.{after, blocks}
 use Rattle.seize_content.specs.Stages.{lent}
 use Rattle.seize_content.proofs.Sends.{ticket_sent, token_sent, lent_sent, sight_sent}
 use Rattle.seize_machine.specs.Machine.State.{State}
-use Rattle.seize_book.specs.Laws.{ended}
+use Rattle.seize_book.specs.Laws.{ended_lives}
 use Rattle.seize_book.specs.Loans.{cell_of, loan_if, loan_of, readers}
 use Rattle.seize_book.specs.Peeks.{keys_show, show_if, sight_if}
 use Rattle.seize_book.specs.Shared.{period, porter_has, porter_shares, row_has, rows_have, side}
-use Rattle.seize_book.specs.Tokens.{Gate, Name, all_but, all_lead, gate_gives, gate_leaves, gate_lends, inside, is_placed, keys_own, knows, lent_pass, lies_if, note_if, notes_own, over, porter_owns, rights_own, rows, slot_labels, start, tickets, turned, way_if}
+use Rattle.seize_book.specs.Tokens.{Gate, Name, all_but, all_lead, gate_gives, gate_leaves, gate_lends, gate_share, inside, is_placed, keys_own, knows, lent_pass, lies_if, note_if, notes_own, over, porter_owns, rights_own, rows, slot_labels, start, tickets, way_if}
 use Rattle.seize_book.specs.Begin.{book_owns}
 
 roster_keyless : (δ k : ℕ) (owns : List (List Entry)) → Keyless (roster entry_coded δ k owns)
@@ -40,7 +40,7 @@ tickets_keyless κ (k ∷ ks) = (entry_keyless token κ k tt, tickets_keyless κ
 all_but_keyless : (κ out : ℕ) → Keyless (all_but κ out)
 all_but_keyless κ out = λ t. (tickets_keyless κ t.1, (entries_keyless token κ t.0 _, λ _. tt))
 
-turned_keyless : (g : Gate) (log : List Entry) (b : Bool) → Keyless (turned g log b)
+turned_keyless : (g : Gate) (log : List Entry) (b : Bool) → Keyless (gate_share g log b)
 unfolding latest
 turned_keyless g log true = (tt, all_but_keyless g.tickets 0)
 turned_keyless g log false = tt
@@ -82,7 +82,7 @@ lies_if_keyless false n s = tt
 
 inside_keyless : (n : Name) → Keyless (inside n)
 unfolding latest
-inside_keyless n = λ s. (rosters_keyless (rows n) s.0, (tt, ((over_keyless (ended s.1), ((λ b. turned_keyless n.gate s.1 b), (leads_keyless n (after (start n) s.1).named, (filled_keyless n.table 0 (slot_labels n (length (after (start n) s.1).slots)), λ _. tt)))), (λ _. tt))))
+inside_keyless n = λ s. (rosters_keyless (rows n) s.0, (tt, ((over_keyless (ended_lives s.1), ((λ b. turned_keyless n.gate s.1 b), (leads_keyless n (after (start n) s.1).named, (filled_keyless n.table 0 (slot_labels n (length (after (start n) s.1).slots)), λ _. tt)))), (λ _. tt))))
 
 pub book_keyless : (n : Name) (seen : List Entry) → Keyless (book_owns n seen)
 unfolding at_least

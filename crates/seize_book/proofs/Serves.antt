@@ -14,8 +14,8 @@ use Rattle.seize_machine.specs.Machine.History.{IsReached, done_by}
 use Rattle.seize_machine.specs.Machine.Laws.{IsHeld, Lists, Walks, walk_of, detached_by}
 use Rattle.seize_machine.specs.declared.machine.event.Answer.{Answer}
 use Rattle.seize_machine.proofs.Facts.{Step, Stands, some_is, step_of, reached_next, opening_reached, batches_length, marks_tidy, one_owner, tried_unheld, batched_named, batched_once, batch_distinct, and_true, not_true}
-use Rattle.seize_book.specs.Blocks.{Plan, no_plan, marked_at, plan_of, planned_by, plans, serving}
-use Rattle.seize_book.specs.Chains.{served}
+use Rattle.seize_book.specs.Blocks.{Plan, no_plan, marked_at, plan_of, planned_by, plans, plan_value}
+use Rattle.seize_book.specs.Chains.{insertion_value}
 use Rattle.seize_book.specs.Homes.{home_of, HasOne}
 use Rattle.seize_book.specs.Book.{after, IsLegalList}
 use Rattle.seize_book.specs.Entry.{Entry, Made, Used, timed_deed}
@@ -309,20 +309,20 @@ marked_after n log distinct l = marked_on (start n) log [] (opening_reached n.sl
 
 -- A plan serves each of its slots with a value of its own.
 
-pub serving_in : (m : ℕ) (slots values : List ℕ) → Contains slots m → length slots ≤ length values → Contains values (serving m slots values)
+pub serving_in : (m : ℕ) (slots values : List ℕ) → Contains slots m → length slots ≤ length values → Contains values (plan_value m slots values)
 serving_in m [] values c le = absurd (nothing_in m c)
 serving_in m (k ∷ slots) [] c le = absurd (omega (arith, le))
 serving_in m (k ∷ slots) (v ∷ values) c le = go (k == m) refl (serving_in m slots values)
   where
-    go : (t : Bool) → (k == m) ≡ t → (Contains slots m → length slots ≤ length values → Contains values (serving m slots values)) → Contains (v ∷ values) (if t then v else serving m slots values)
+    go : (t : Bool) → (k == m) ≡ t → (Contains slots m → length slots ≤ length values → Contains values (plan_value m slots values)) → Contains (v ∷ values) (if t then v else plan_value m slots values)
     go true is rest = first_in v values
-    go false other rest = later_in v (serving m slots values) values (rest (there (first_or_later k m slots c)) (omega (arith, le)))
+    go false other rest = later_in v (plan_value m slots values) values (rest (there (first_or_later k m slots c)) (omega (arith, le)))
       where
         there : (k ≡ m) ⊎ Contains slots m → Contains slots m
         there (inl same) = absurd (true≢false (sym (equal k m same) ∙ other))
         there (inr c) = c
 
-pub serving_once : (m m' : ℕ) (slots values : List ℕ) → are_distinct values ≡ true → Contains slots m → Contains slots m' → length slots ≤ length values → serving m slots values ≡ serving m' slots values → m ≡ m'
+pub serving_once : (m m' : ℕ) (slots values : List ℕ) → are_distinct values ≡ true → Contains slots m → Contains slots m' → length slots ≤ length values → plan_value m slots values ≡ plan_value m' slots values → m ≡ m'
 serving_once m m' [] values distinct c c' le e = absurd (nothing_in m c)
 serving_once m m' (k ∷ slots) [] distinct c c' le e = absurd (omega (arith, le))
 serving_once m m' (k ∷ slots) (v ∷ values) distinct c c' le e = go (ℕ_discrete k m) (ℕ_discrete k m') (serving_once m m' slots values)
@@ -334,24 +334,24 @@ serving_once m m' (k ∷ slots) (v ∷ values) distinct c c' le e = go (ℕ_disc
     both = and_true _ _ distinct
 
     -- a slot further on has its value further on
-    there : (j : ℕ) → Contains (k ∷ slots) j → k ≢ j → Contains slots j × (serving j (k ∷ slots) (v ∷ values) ≡ serving j slots values)
-    there j c other = (past (first_or_later k j slots c), ap (λ (t : Bool). if t then v else serving j slots values) (unequal k j other))
+    there : (j : ℕ) → Contains (k ∷ slots) j → k ≢ j → Contains slots j × (plan_value j (k ∷ slots) (v ∷ values) ≡ plan_value j slots values)
+    there j c other = (past (first_or_later k j slots c), ap (λ (t : Bool). if t then v else plan_value j slots values) (unequal k j other))
       where
         past : (k ≡ j) ⊎ Contains slots j → Contains slots j
         past (inl same) = absurd (other same)
         past (inr c) = c
 
-    here : (j : ℕ) → k ≡ j → serving j (k ∷ slots) (v ∷ values) ≡ v
-    here j same = ap (λ (t : Bool). if t then v else serving j slots values) (equal k j same)
+    here : (j : ℕ) → k ≡ j → plan_value j (k ∷ slots) (v ∷ values) ≡ v
+    here j same = ap (λ (t : Bool). if t then v else plan_value j slots values) (equal k j same)
 
     -- which is another than the first
-    apart : (j : ℕ) → Contains (k ∷ slots) j → k ≢ j → serving j (k ∷ slots) (v ∷ values) ≡ v → ⊥
+    apart : (j : ℕ) → Contains (k ∷ slots) j → k ≢ j → plan_value j (k ∷ slots) (v ∷ values) ≡ v → ⊥
     apart j c other same =
         let at = there j c other in
         let again : Contains values v = subst (Contains values) (sym at.1 ∙ same) (serving_in j slots values at.0 fewer) in
         true≢false (sym (contained_has v values again) ∙ not_true _ both.0)
 
-    go : Dec (k ≡ m) → Dec (k ≡ m') → (are_distinct values ≡ true → Contains slots m → Contains slots m' → length slots ≤ length values → serving m slots values ≡ serving m' slots values → m ≡ m') → m ≡ m'
+    go : Dec (k ≡ m) → Dec (k ≡ m') → (are_distinct values ≡ true → Contains slots m → Contains slots m' → length slots ≤ length values → plan_value m slots values ≡ plan_value m' slots values → m ≡ m') → m ≡ m'
     go (yes is) (yes is') rest = sym is ∙ is'
     go (yes is) (no other') rest = absurd (apart m' c' other' (sym e ∙ here m is))
     go (no other) (yes is') rest = absurd (apart m c other (e ∙ here m' is'))
@@ -385,15 +385,15 @@ module _ (st : State) (ps : List Plan) (r : IsReached st) (one : HasOne st) (mar
   tried_at : (s b m : ℕ) → IsTried st s b m → IsAt b m
   tried_at s b m t = (inr (inr (s, detaches s b m t)), tries_marked st ps s b t.0 m t.1 t.2 t.3 marked t.4 m (first_in m t.1))
 
-  served_there : (b m : ℕ) → IsAt b m → Contains (batch_at st b).values (served ps b m)
-  served_there b m at = subst (λ (values : List ℕ). Contains values (served ps b m)) (sym (same b at.0)) (serving_in m (slots_in ps b) (slice_index_or ps b no_plan).values at.1 (marked.fits b).1)
+  served_there : (b m : ℕ) → IsAt b m → Contains (batch_at st b).values (insertion_value ps b m)
+  served_there b m at = subst (λ (values : List ℕ). Contains values (insertion_value ps b m)) (sym (same b at.0)) (serving_in m (slots_in ps b) (slice_index_or ps b no_plan).values at.1 (marked.fits b).1)
 
   -- one value serves one batch at one slot
-  served_once : (b m b' m' : ℕ) → IsAt b m → IsAt b' m' → served ps b m ≡ served ps b' m' → (b ≡ b') × (m ≡ m')
-  served_once b m b' m' at at' is = (b_is, serving_once m m' (slots_in ps b) (slice_index_or ps b no_plan).values distinct at.1 at_b (marked.fits b).1 (is ∙ ap (λ k. served ps k m') (sym b_is)))
+  served_once : (b m b' m' : ℕ) → IsAt b m → IsAt b' m' → insertion_value ps b m ≡ insertion_value ps b' m' → (b ≡ b') × (m ≡ m')
+  served_once b m b' m' at at' is = (b_is, serving_once m m' (slots_in ps b) (slice_index_or ps b no_plan).values distinct at.1 at_b (marked.fits b).1 (is ∙ ap (λ k. insertion_value ps k m') (sym b_is)))
     where
       b_is : b ≡ b'
-      b_is = batched_once st r b b' (served ps b m) (served_there b m at) (subst (Contains (batch_at st b').values) (sym is) (served_there b' m' at'))
+      b_is = batched_once st r b b' (insertion_value ps b m) (served_there b m at) (subst (Contains (batch_at st b').values) (sym is) (served_there b' m' at'))
 
       at_b : Contains (slots_in ps b) m'
       at_b = subst (λ k. Contains (slots_in ps k) m') (sym b_is) at'.1
@@ -402,14 +402,14 @@ module _ (st : State) (ps : List Plan) (r : IsReached st) (one : HasOne st) (mar
       distinct = subst (λ (values : List ℕ). are_distinct values ≡ true) (same b at.0) (batch_distinct st r b)
 
   -- and so does one home
-  homed_once : (b m b' m' : ℕ) → IsAt b m → IsAt b' m' → home_of (served ps b m) ≡ home_of (served ps b' m') → (b ≡ b') × (m ≡ m')
+  homed_once : (b m b' m' : ℕ) → IsAt b m → IsAt b' m' → home_of (insertion_value ps b m) ≡ home_of (insertion_value ps b' m') → (b ≡ b') × (m ≡ m')
   homed_once b m b' m' at at' home =
-      let here = batched_named st r b (served ps b m) (served_there b m at) in
-      let there = batched_named st r b' (served ps b' m') (served_there b' m' at') in
-      served_once b m b' m' at at' (one (served ps b m) (served ps b' m') home here.0 there.0 here.1 there.1)
+      let here = batched_named st r b (insertion_value ps b m) (served_there b m at) in
+      let there = batched_named st r b' (insertion_value ps b' m') (served_there b' m' at') in
+      served_once b m b' m' at at' (one (insertion_value ps b m) (insertion_value ps b' m') home here.0 there.0 here.1 there.1)
 
   -- a block that is about to be inserted is none of those in use
-  pub tried_apart : (s b m b' m' : ℕ) → IsTried st s b m → InUse st b' m' → home_of (served ps b m) ≢ home_of (served ps b' m')
+  pub tried_apart : (s b m b' m' : ℕ) → IsTried st s b m → InUse st b' m' → home_of (insertion_value ps b m) ≢ home_of (insertion_value ps b' m')
   tried_apart s b m b' m' t used home = unheld (subst (InUse st b) (sym is.1) (subst (λ k. InUse st k m') (sym is.0) used))
     where
       is : (b ≡ b') × (m ≡ m')
@@ -423,7 +423,7 @@ module _ (st : State) (ps : List Plan) (r : IsReached st) (one : HasOne st) (mar
       unheld (inr walks) = none.1 walks
 
   -- nor one that another slot is about to insert
-  pub tries_apart : (s b m s' b' m' : ℕ) → IsTried st s b m → IsTried st s' b' m' → s ≢ s' → home_of (served ps b m) ≢ home_of (served ps b' m')
+  pub tries_apart : (s b m s' b' m' : ℕ) → IsTried st s b m → IsTried st s' b' m' → s ≢ s' → home_of (insertion_value ps b m) ≢ home_of (insertion_value ps b' m')
   tries_apart s b m s' b' m' t t' other home =
       let is = homed_once b m b' m' (tried_at s b m t) (tried_at s' b' m' t') home in
       other (one_owner b s s' st r (detaches s b m t) (detaches s' b' m' t' ∙ ap (λ k. Option.Some k) (sym is.0)))

@@ -10,7 +10,7 @@ use Rattle.seize_machine.specs.Machine.Next.{next}
 use Rattle.seize_machine.specs.declared.machine.event.Answer.{Answer}
 use Rattle.seize_machine.proofs.Facts.{Step, eq_true, gone_grows, is_true, named_grows, slots_length, some_is, step_of, value_frame}
 use Rattle.seize_book.specs.Entry.{Entry, Made, Used, timed_deed}
-use Rattle.seize_book.specs.Book.{IsLegalList, Does, Kept, TheBlock, after}
+use Rattle.seize_book.specs.Book.{IsLegalList, Does, HolderKnows, TheBlock, after}
 use Rattle.seize_book.specs.Ledger.{HeldKey}
 use Rattle.seize_book.specs.Fair.{NamesLabels}
 use Rattle.seize_book.specs.Tokens.{Name}
@@ -53,7 +53,7 @@ pub gone_later : (st : State) (own log : List Entry) (v : ℕ) → IsPrefix own 
 gone_later st own log v = stays_later (λ z. has v z.gone ≡ true) (λ size st event d step. gone_grows v size st event d step) st own log
 
 -- and a home that its key knows to be vacant
-pub vacant_later : (st : State) (own log : List Entry) (k : ℕ) → IsLegalList st log → Kept st TheBlock k own log → IsVacant (after st own) k → IsVacant (after st log) k
+pub vacant_later : (st : State) (own log : List Entry) (k : ℕ) → IsLegalList st log → HolderKnows st TheBlock k own log → IsVacant (after st own) k → IsVacant (after st log) k
 vacant_later st own log k l kept vacant = λ v home named. gone_later st own log v kept.0 l (vacant v home ((kept.1 v home).0 ∙ named))
 
 -- an event that names nothing that was not named

@@ -8,7 +8,7 @@ use Rattle.seize_machine.specs.Machine.History.{Moment, Reclaimed, answers_of, h
 use Rattle.seize_machine.proofs.Facts.{eq_true, is_true, law_gone, law_protection}
 use Rattle.seize_book.specs.Entry.{Entry, deeds, events_of}
 use Rattle.seize_book.specs.Book.{IsLegalList, after, moments}
-use Rattle.seize_book.specs.Laws.{AllParted, IsAmong, Reader, ended}
+use Rattle.seize_book.specs.Laws.{AllParted, IsAmong, Reader, ended_lives}
 use Rattle.seize_book.specs.Tokens.{Name, start}
 use Rattle.seize_book.proofs.Handed.{moments_length}
 use Rattle.seize_book.proofs.Lists.{as_legal}
@@ -46,10 +46,10 @@ module _ (n : Name) (log : List Entry) (distinct : are_distinct (linked_values n
       let within : by.0 < length (moments st log) = slice_get_within (moments st log) by.0 m.0 m.1 in let long = moments_length st (deeds log) in
       (parted.0, parted.1, omega (arith, parted.2, within, long), parted.3)
 
-  pub gone_over : (v a : ℕ) → has v (after st log).gone ≡ true → Reader st log v a → IsAmong (ended log) a
+  pub gone_over : (v a : ℕ) → has v (after st log).gone ≡ true → Reader st log v a → IsAmong (ended_lives log) a
   gone_over v a gone = all_over st log v legal (gone_parted v gone) a
 
-  pub found_stands : (v a : ℕ) → Reader st log v a → ¬ (IsAmong (ended log) a) → has v (after st log).gone ≡ false
+  pub found_stands : (v a : ℕ) → Reader st log v a → ¬ (IsAmong (ended_lives log) a) → has v (after st log).gone ≡ false
   found_stands v a reader_ lasts = go (is_true (has v (after st log).gone))
     where
       go : (has v (after st log).gone ≡ true) ⊎ (has v (after st log).gone ≡ false) → has v (after st log).gone ≡ false

@@ -5,7 +5,7 @@ use Rattle.seize_machine.proofs.Facts.{and_true, eq_true}
 use Rattle.seize_book.specs.Book.{blocks, kinds}
 use Rattle.seize_book.specs.Entry.{Entry}
 use Rattle.seize_book.specs.Homes.{home_of}
-use Rattle.seize_book.specs.Ledger.{HeldKey, WithKinds, renewed}
+use Rattle.seize_book.specs.Ledger.{HeldKey, WithKinds, with_list}
 use Rattle.seize_book.specs.Private.{AreKeysOf, are_of_blocks, is_one, key_of, label_of, labels_of}
 use Rattle.seize_book.specs.declared.book.value_key.ValueKey.{ValueKey}
 use Rattle.seize_book.proofs.Linked.{are_later, still_closed}
@@ -19,15 +19,15 @@ blocks_within (x ∷ vs) are =
     (let is : x.kind ≡ blocks = eq_true x.kind blocks (and_true _ _ both.0).0 in omega arith, blocks_within vs both.1)
 
 -- the values whose keys they are stay as the keys learn more
-pub labels_later : (vs : List (HeldKey Entry)) (log : List Entry) → labels_of (renewed vs log) ≡ labels_of vs
+pub labels_later : (vs : List (HeldKey Entry)) (log : List Entry) → labels_of (with_list vs log) ≡ labels_of vs
 labels_later [] log = refl
 labels_later (x ∷ vs) log = ap (λ (ls : List ℕ). x.label ∷ ls) (labels_later vs log)
 
-pub blocks_later : (vs : List (HeldKey Entry)) (log : List Entry) → are_of_blocks (renewed vs log) ≡ are_of_blocks vs
+pub blocks_later : (vs : List (HeldKey Entry)) (log : List Entry) → are_of_blocks (with_list vs log) ≡ are_of_blocks vs
 blocks_later [] log = refl
 blocks_later (x ∷ vs) log = ap (λ (b : Bool). ((x.kind == blocks) && (x.key == home_of x.label)) && b) (blocks_later vs log)
 
-pub keys_later : (values : List ℕ) (vs : List (HeldKey Entry)) (log : List Entry) → AreKeysOf values vs → AreKeysOf values (renewed vs log)
+pub keys_later : (values : List ℕ) (vs : List (HeldKey Entry)) (log : List Entry) → AreKeysOf values vs → AreKeysOf values (with_list vs log)
 keys_later values vs log are = (labels_later vs log ∙ are.0, blocks_later vs log ∙ are.1, are_later vs log ∙ are.2, still_closed vs log ∙ are.3)
 
 pub none_of : (vs : List (HeldKey Entry)) → labels_of vs ≡ [] → vs ≡ []

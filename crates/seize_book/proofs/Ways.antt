@@ -14,7 +14,7 @@ use Rattle.seize_machine.proofs.Facts.{eq_true, is_true}
 use denote.RawPtr.{Ptr}
 use Rattle.seize_table.specs.Filled.{filled_at}
 use Rattle.seize_table.specs.Place.{IsPlace}
-use Rattle.seize_store.specs.Known.{IsRowIn, content_in, entry_of, known_row, label_in, tells}
+use Rattle.seize_store.specs.RowTokens.{IsRowIn, content_in, entry_of, known_row, label_in, tells}
 use Rattle.seize_store.proofs.Leads.{known_tells, tells_agree, tells_twice}
 use Rattle.seize_store.proofs.Tokens.{row_twice}
 use native.Mathlib.Decide.{ℕ_discrete}
@@ -26,12 +26,12 @@ use Rattle.seize_book.specs.Book.{blocks, slots}
 use Rattle.seize_book.specs.Entry.{Entry}
 use Rattle.seize_book.specs.Fair.{HasPlace, IsLabel}
 use Rattle.seize_book.specs.Homes.{home_of}
-use Rattle.seize_book.specs.Ledger.{HeldKey, born, renewed}
-use Rattle.seize_book.specs.Others.{labelled}
+use Rattle.seize_book.specs.Ledger.{HeldKey, keys_made, with_list}
+use Rattle.seize_book.specs.Others.{with_label}
 use Rattle.seize_book.specs.Notes.{with_note}
 use Rattle.seize_book.specs.Private.{is_one, key_of, label_of, note_of}
 use Rattle.seize_book.specs.Loans.{CarriesNone, cell_of, loan, loan_if, loan_of, place_of, AllCarryOne, CarriesOne}
-use Rattle.seize_book.specs.Tokens.{Name, start, leads, label_at, chunk_label, chunk_tag, all_lead, lies, lies_if, all_lie, places_known, is_placed, rights_own, keys_own, one_key, key, way, way_if, opened_own, key_note, note_if, note_at, notes_own}
+use Rattle.seize_book.specs.Tokens.{Name, start, leads, label_at, chunk_label, chunk_tag, all_lead, lies, lies_if, all_lie, places_known, is_placed, rights_own, keys_own, one_key, key, way, way_if, key_without_note_owns, key_note, note_if, note_at, notes_own}
 use Rattle.seize_book.proofs.Goes.{AllFree}
 use Rattle.seize_book.proofs.Lists.{equal}
 use Rattle.seize_book.proofs.Tables.{lies_twice, one_more}
@@ -185,7 +185,7 @@ module _ {M : Type 1} {𝓤 : Ura M} (𝓛 : Logic 𝓤) (n : Name) where
       move ! (2 ∷ 0 ∷ []) $ fjoin ! $ move ! (2 ∷ 1 ∷ []) $ fjoin ! $ move ! (1 ∷ 0 ∷ []) $ done !
 
   -- a way does not depend on what its key knows
-  pub ways_renewed : (held : Keys) (log : List Entry) → ways (renewed held log) ≡ ways held
+  pub ways_renewed : (held : Keys) (log : List Entry) → ways (with_list held log) ≡ ways held
   ways_renewed [] log = refl
   ways_renewed (h ∷ held) log = ap (λ (F : Fml). fsep (way n h) F) (ways_renewed held log)
 
@@ -217,12 +217,12 @@ module _ {M : Type 1} {𝓤 : Ura M} (𝓛 : Logic 𝓤) (n : Name) where
   new_free : (kind key : ℕ) (log : List Entry) → (kind == blocks) ≡ false → needs (record { kind = kind; key = key; own = log; label = 0; note = gnil }) ≡ false
   new_free kind key log e = ap (λ (b : Bool). b || ((kind == slots) && (0 == 1))) e ∙ and_false (kind == slots)
 
-  pub ways_born : (held : Keys) (births : List (ℕ × ℕ)) (log : List Entry) → AllFree births → ⟦ ways held ⟧ ⊢ ⟦ ways (held ++ born births log) ⟧
-  ways_born (h ∷ held) births log free = qed 𝓛 (‵ (ways (h ∷ held)) ∷ []) ∵ fsplit ! $ move ! (1 ∷ []) $ use1 𝓛 (‵ (ways (held ++ born births log))) (ways_born held births log free) $ move ! (1 ∷ 0 ∷ []) $ fjoin ! $ done !
+  pub ways_born : (held : Keys) (births : List (ℕ × ℕ)) (log : List Entry) → AllFree births → ⟦ ways held ⟧ ⊢ ⟦ ways (held ++ keys_made births log) ⟧
+  ways_born (h ∷ held) births log free = qed 𝓛 (‵ (ways (h ∷ held)) ∷ []) ∵ fsplit ! $ move ! (1 ∷ []) $ use1 𝓛 (‵ (ways (held ++ keys_made births log))) (ways_born held births log free) $ move ! (1 ∷ 0 ∷ []) $ fjoin ! $ done !
   ways_born [] [] log free = qed 𝓛 (‵ ftrue ∷ []) ∵ done !
   ways_born [] (b ∷ births) log free = let h : HeldKey Entry = record { kind = b.0; key = b.1; own = log; label = 0; note = gnil } in qed 𝓛 (‵ ftrue ∷ []) ∵
-      use1 𝓛 (‵ (ways (born births log))) (ways_born [] births log free.1) $
-      use1 𝓛 (‵ (way n h) ⊛ ‵ (ways (born births log))) (way_free h (new_free b.0 b.1 log free.0) (ways (born births log))) $ split ! $ fjoin ! $ done !
+      use1 𝓛 (‵ (ways (keys_made births log))) (ways_born [] births log free.1) $
+      use1 𝓛 (‵ (way n h) ⊛ ‵ (ways (keys_made births log))) (way_free h (new_free b.0 b.1 log free.0) (ways (keys_made births log))) $ split ! $ fjoin ! $ done !
 
   -- nor do the keys that a book begins with
   abbrev pub NeedNone : Keys → Type 0
@@ -278,7 +278,7 @@ module _ {M : Type 1} {𝓤 : Ura M} (𝓛 : Logic 𝓤) (n : Name) where
       move ! (1 ∷ 0 ∷ []) $ fjoin ! $ nothing ! $ move ! (1 ∷ 0 ∷ []) $ fjoin ! $ done !
 
   -- the key of a slot, with where its head lies
-  relabelled : (h : HeldKey Entry) → is_one slots (h ∷ []) ≡ true → ⟦ keys_own n (h ∷ []) ⟧ ∗ ⟦ lies n h.key ⟧ ⊢ ⟦ keys_own n (labelled 1 (h ∷ [])) ⟧
+  relabelled : (h : HeldKey Entry) → is_one slots (h ∷ []) ≡ true → ⟦ keys_own n (h ∷ []) ⟧ ∗ ⟦ lies n h.key ⟧ ⊢ ⟦ keys_own n (with_label 1 (h ∷ [])) ⟧
   relabelled h one = let h' : HeldKey Entry = record { kind = h.kind; key = h.key; own = h.own; label = 1; note = h.note } in let W : Fml = way n h' in
       qed 𝓛 (‵ (keys_own n (h ∷ [])) ∷ ‵ (lies n h.key) ∷ []) ∵ nothing ! $ move ! (2 ∷ 0 ∷ []) $ fjoin ! $ nothing ! $ fjoin ! $ rewrite ! 0 (λ (F : Fml). ‵ F) (sym (slot_way h' h.key (eq_true h.kind slots one, refl, refl))) refl $
       -- [the new way; the key, with its own]
@@ -294,18 +294,18 @@ module _ {M : Type 1} {𝓤 : Ura M} (𝓛 : Logic 𝓤) (n : Name) where
       rewrite ! 0 (λ (c : ℕ). ‵ (cell_token c h.note)) cell refl $ done !
 
   -- the key of a block, whose token is out
-  pub opens_key : (held : Keys) → is_one blocks held ≡ true → ⟦ keys_own n held ⟧ ⊢ ⟦ opened_own n held ⟧ ∗ ⟦ cell_token (cell_of (label_of held)) (note_of held) ⟧
+  pub opens_key : (held : Keys) → is_one blocks held ≡ true → ⟦ keys_own n held ⟧ ⊢ ⟦ key_without_note_owns n held ⟧ ∗ ⟦ cell_token (cell_of (label_of held)) (note_of held) ⟧
   opens_key [] one = absurd (cc)
   opens_key (h ∷ g ∷ held) one = absurd (cc)
   opens_key (h ∷ []) one = qed 𝓛 (‵ (keys_own n (h ∷ [])) ∷ []) ∵ fsplit ! $ fsplit ! $ move ! (1 ∷ []) $ use1 𝓛 (‵ (block_ways h.label h.note)) (way_opens h one) $ fsplit ! $
       -- [where it leads, and what is lent; the note; the right; nothing]
       move ! (2 ∷ 0 ∷ []) $ fjoin ! $ move ! (1 ∷ []) $ keep ! (1 ∷ 0 ∷ []) $ done !
 
-  pub closes_key : (held : Keys) (g : Gv) → is_one blocks held ≡ true → ⟦ opened_own n held ⟧ ∗ ⟦ cell_token (cell_of (label_of held)) g ⟧ ⊢ ⟦ keys_own n (with_note g held) ⟧
+  pub closes_key : (held : Keys) (g : Gv) → is_one blocks held ≡ true → ⟦ key_without_note_owns n held ⟧ ∗ ⟦ cell_token (cell_of (label_of held)) g ⟧ ⊢ ⟦ keys_own n (with_note g held) ⟧
   closes_key [] g one = absurd (cc)
   closes_key (h ∷ k ∷ held) g one = absurd (cc)
   closes_key (h ∷ []) g one = let h' : HeldKey Entry = record { kind = h.kind; key = h.key; own = h.own; label = h.label; note = g } in
-      qed 𝓛 (‵ (opened_own n (h ∷ [])) ∷ ‵ (cell_token (cell_of h.label) g) ∷ []) ∵ fsplit ! $ move ! (2 ∷ []) $
+      qed 𝓛 (‵ (key_without_note_owns n (h ∷ [])) ∷ ‵ (cell_token (cell_of h.label) g) ∷ []) ∵ fsplit ! $ move ! (2 ∷ []) $
       -- [the note; the right; where it leads, and what is lent]
       move ! (2 ∷ 0 ∷ []) $ fjoin ! $ use1 𝓛 (‵ (way n h')) (way_closes h' one) $ move ! (1 ∷ 0 ∷ []) $ fjoin ! $ nothing ! $ move ! (1 ∷ 0 ∷ []) $ fjoin ! $ done !
 
@@ -322,7 +322,7 @@ module _ {M : Type 1} {𝓤 : Ura M} (𝓛 : Logic 𝓤) (n : Name) where
 
   -- the key of a slot whose head lies in the table, as a token of its entry shows
   pub laid : (table : List ℕ) (s label : ℕ) (held : Keys) → is_one slots held ≡ true → n.table ≡ table → s ≡ key_of held → label ≡ label_at n (key_of held)
-      → ⟦ keys_own n held ⟧ ∗ ⟦ filled_at table s label ⟧ ⊢ ⟦ keys_own n (labelled 1 held) ⟧
+      → ⟦ keys_own n held ⟧ ∗ ⟦ filled_at table s label ⟧ ⊢ ⟦ keys_own n (with_label 1 held) ⟧
   laid table s label [] one is entry head = absurd (cc)
   laid table s label (h ∷ g ∷ held) one is entry head = absurd (cc)
   laid table s label (h ∷ []) one is entry head =
@@ -334,7 +334,7 @@ module _ {M : Type 1} {𝓤 : Ura M} (𝓛 : Logic 𝓤) (n : Name) where
   -- a key whose value's number leads to its home, as a token of the number's row shows
   pub placed : (store : List ℕ) (row : ℕ) (chunks : List (Ptr × ℕ)) (held : Keys) (v : ℕ) → is_one blocks held ≡ true → n.store ≡ store → IsRowIn store row chunks
       → IsPlace (block_number v) row (entry_of row (block_number v)) → (label_in chunks (entry_of row (block_number v)) ≡ chunk_label n (home_of v) (cell_of v)) × (content_in chunks (entry_of row (block_number v)) ≡ place_of v) → CarriesNone v
-      → cell_of (label_of held) ≡ cell_of v → ⟦ rights_own n held ⟧ ∗ ⟦ notes_own held ⟧ ∗ ⟦ known_row store row chunks ⟧ ⊢ ⟦ keys_own n (labelled v held) ⟧
+      → cell_of (label_of held) ≡ cell_of v → ⟦ rights_own n held ⟧ ∗ ⟦ notes_own held ⟧ ∗ ⟦ known_row store row chunks ⟧ ⊢ ⟦ keys_own n (with_label v held) ⟧
   placed store row chunks [] v one is made place there free cell = absurd (cc)
   placed store row chunks (h ∷ g ∷ held) v one is made place there free cell = absurd (cc)
   placed store row chunks (h ∷ []) v one is made place there free cell = let b : ℕ = block_number v in let h' : HeldKey Entry = record { kind = h.kind; key = h.key; own = h.own; label = v; note = h.note } in

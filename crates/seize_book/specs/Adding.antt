@@ -2,7 +2,7 @@
 --     deed_with_words pass event kepts     the entry of an event that is made with the pass, begins no activation, and says these words of
 --                                   the values that it retires or puts;  private pass event     it says none
 --     Asks keys pass d              the holder of the keys may add it with the pass
---     Adds keys pass keys' pass' d  it was added: see Added
+--     AddsWithKeys keys pass keys' pass' d  it was added: see AddsEntryWith
 --     MayLook keys pass             the holder of the keys may look at the list with the pass
 --     LooksWithKeys keys pass keys' pass'     the pass has seen a legal list, as in Before, and nothing was made with it; the keys know all
 --                                      of it; the links of the book's opening are distinct
@@ -12,9 +12,9 @@ use Rattle.std.specs.Prelude.{◌≡◌, ℕ, suc, true, List, [], ◌∷◌, �
 use Rattle.seize_machine.specs.Machine.Event.{Event}
 use Rattle.seize_machine.specs.Machine.State.{are_distinct, linked_values}
 use Rattle.seize_book.specs.Entry.{Deed}
-use Rattle.seize_book.specs.Ledger.{WithKinds, renewed}
+use Rattle.seize_book.specs.Ledger.{WithKinds, with_list}
 use Rattle.seize_book.specs.Book.{kinds}
-use Rattle.seize_book.specs.Fair.{Before, MayAdd, Added}
+use Rattle.seize_book.specs.Fair.{Before, MayAdd, AddsEntryWith}
 use Rattle.seize_book.specs.Passes.{IsSamePass}
 use Rattle.seize_book.specs.declared.book.keys.Keys.{Keys}
 use Rattle.seize_book.specs.declared.book.pass.Pass.{Pass}
@@ -28,16 +28,16 @@ private pass event = deed_with_words pass event []
 abbrev pub Asks : Keys → Pass → Deed → Type 0
 Asks keys pass d = (keys.name ≡ pass.name) × MayAdd pass.name pass.id pass.seen keys.held d
 
-abbrev pub Adds : Keys → Pass → Keys → Pass → Deed → Type 0
-Adds keys pass keys' pass' d =
-    IsSamePass pass pass' × (keys'.name ≡ keys.name) × Added pass.name pass.id pass.seen pass'.seen keys.held keys'.held d
+abbrev pub AddsWithKeys : Keys → Pass → Keys → Pass → Deed → Type 0
+AddsWithKeys keys pass keys' pass' d =
+    IsSamePass pass pass' × (keys'.name ≡ keys.name) × AddsEntryWith pass.name pass.id pass.seen pass'.seen keys.held keys'.held d
 
 abbrev pub MayLook : Keys → Pass → Type 0
 MayLook keys pass = (keys.name ≡ pass.name) × WithKinds kinds keys.held
 
 abbrev pub LooksWithKeys : Keys → Pass → Keys → Pass → Type 0
 LooksWithKeys keys pass keys' pass' =
-    IsSamePass pass pass' × ((keys'.name ≡ keys.name) × (keys'.held ≡ renewed keys.held pass'.seen))
+    IsSamePass pass pass' × ((keys'.name ≡ keys.name) × (keys'.held ≡ with_list keys.held pass'.seen))
     × Before pass.name pass.id pass.seen keys.held pass'.seen × (are_distinct (linked_values pass.name.links) ≡ true)
 
 abbrev pub JoinsKeys : Keys → Keys → Keys → Keys → Type 0

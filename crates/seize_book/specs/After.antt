@@ -4,7 +4,7 @@
 --     IsLegalList st log  each event is legal, after those before it
 --     outcome st e        what the entry does to the machine in this state
 --     Does st log e d     after the list, the entry is legal and does this
---     answered st log     the entries with their answers, in order
+--     with_answers st log   the entries with their answers, in order
 use Rattle.std.specs.Prelude.{◌≡◌, true, List, [], ◌∷◌, Some}
 use Rattle.seize_machine.specs.Machine.State.{State}
 use Rattle.seize_machine.specs.Machine.Next.{Outcome, next}
@@ -29,6 +29,6 @@ outcome st (Used u) = Some (st, Done)
 abbrev pub Does : State → List Entry → Entry → State × Answer → Type 0
 Does st log e d = outcome (after st log) e ≡ Some d
 
-abbrev pub answered : State → List Entry → List (Entry × Answer)
-answered st [] = []
-answered st (e ∷ log) = let done = or_illegal st (outcome st e) in (e, done.1) ∷ answered done.0 log
+abbrev pub with_answers : State → List Entry → List (Entry × Answer)
+with_answers st [] = []
+with_answers st (e ∷ log) = let done = or_illegal st (outcome st e) in (e, done.1) ∷ with_answers done.0 log

@@ -12,42 +12,42 @@
 use Rattle.std.specs.Prelude.{◌≡◌, ℕ, pos, true, false, List, [], ◌∷◌, Some}
 use base.Stored.{Gv, gnil}
 use Rattle.seize_machine.specs.Machine.State.{State, has}
-use Rattle.seize_store.specs.Known.{content_in, entry_of, label_in}
-use Rattle.seize_store.specs.declared.known.Known.{Known}
+use Rattle.seize_store.specs.RowTokens.{content_in, entry_of, label_in}
+use Rattle.seize_store.specs.declared.row_token.RowToken.{RowToken}
 use Rattle.seize_table.specs.Place.{IsPlace}
 use Rattle.seize_book.specs.Blocks.{block_number}
 use Rattle.seize_book.specs.Book.{after, blocks, counts, fields}
 use Rattle.seize_book.specs.Books.{IsCountAt, IsFieldAt, IsNextIn}
-use Rattle.seize_book.specs.Chains.{first_field, next_field, told}
+use Rattle.seize_book.specs.Chains.{field_value, first_field, next_field}
 use Rattle.seize_book.specs.Deposits.{deposit}
 use Rattle.seize_book.specs.Entry.{Entry}
 use Rattle.seize_book.specs.Homes.{count_in, home_of}
 use Rattle.seize_book.specs.Ledger.{HeldKey}
 use Rattle.seize_book.specs.Loans.{CarriesNone, cell_of, place_of}
-use Rattle.seize_book.specs.Others.{book_of, labelled, state_of, value_of}
+use Rattle.seize_book.specs.Others.{book_of, state_of, value_of, with_label}
 use Rattle.seize_book.specs.Private.{is_one, key_of, label_of, own_of}
 use Rattle.seize_book.specs.Tokens.{Name, chunk_label, start}
 use Rattle.seize_book.specs.declared.book.bare_key.BareKey.{BareKey}
 use Rattle.seize_book.specs.declared.book.chunk_keys.ChunkKeys.{ChunkKeys}
 use Rattle.seize_book.specs.declared.book.keys.Keys.{Keys}
 use Rattle.seize_book.specs.declared.book.rights.Rights.{Rights}
-use Rattle.seize_book.specs.declared.book.token.Book.{Book}
+use Rattle.seize_book.specs.declared.book.seen.Seen.{Seen}
 use Rattle.seize_book.specs.declared.book.value_key.ValueKey.{ValueKey}
 
 abbrev pub state_in : Rights → State
 state_in rights = after (start rights.name) (own_of rights.held)
 
-pub record IsWay (rights : Rights) (number : ℕ) (known : Known) : Type 0 where
+pub record IsWay (rights : Rights) (number : ℕ) (known : RowToken) : Type 0 where
   pub one : is_one blocks rights.held ≡ true
   pub store : rights.name.store ≡ known.store
   pub placed : IsPlace number known.row (entry_of known.row number)
   pub home : label_in known.chunks (entry_of known.row number)
       ≡ chunk_label rights.name (key_of rights.held) (cell_of (label_of rights.held))
 
-pub record Places (rights : Rights) (number : ℕ) (known : Known) (keys : Keys) : Type 0 where
+pub record Places (rights : Rights) (number : ℕ) (known : RowToken) (keys : Keys) : Type 0 where
   pub value : ℕ
   pub book : keys.name ≡ rights.name
-  pub held : keys.held ≡ labelled value rights.held
+  pub held : keys.held ≡ with_label value rights.held
   pub home : home_of value ≡ key_of rights.held
   pub numbered : block_number value ≡ number
   pub unnamed : has value (state_in rights).named ≡ false
@@ -99,13 +99,13 @@ pub record IsNewChunk (cell : ℕ) (g : Gv) (rights : Rights) (keys : Keys) : Ty
   pub none_named : (v : ℕ) → home_of v ≡ home_of value → has v (after (start keys.name) own).named ≡ false
   pub no_count
       : (count_in (after (start keys.name) own) (home_of value) ≡ pos 0) × (deposit (after (start keys.name) own) (home_of value) ≡ [])
-  pub none_told : (told own (next_field (home_of value)) ≡ 0) × (told own (first_field (home_of value)) ≡ 0)
+  pub none_told : (field_value own (next_field (home_of value)) ≡ 0) × (field_value own (first_field (home_of value)) ≡ 0)
 
 -- no value of its home was ever named
 abbrev pub IsUntouched : BareKey → Type 0
 IsUntouched key = (v : ℕ) → home_of v ≡ bare_home key → has v (state_in key.rights).named ≡ false
 
-pub record IsChunkOf (book : Book) (cell : ℕ) (keys : ChunkKeys) : Type 0 where
+pub record IsChunkOf (book : Seen) (cell : ℕ) (keys : ChunkKeys) : Type 0 where
   pub value : (bare_book keys.value ≡ book.name) × (bare_cell keys.value ≡ cell) × IsUntouched keys.value
   pub count : (keys.count.keys.name ≡ book.name) × IsCountAt keys.count (bare_home keys.value)
   pub next : (keys.next.keys.name ≡ book.name) × IsFieldAt next_field keys.next (bare_home keys.value)

@@ -42,12 +42,12 @@ plans st (Made d ∷ log) = planned_by st d.event ++ plans (done_by next st (tim
 plans st (Used u ∷ log) = plans st log
 
 -- the value with which a plan is carried out at slot m
-abbrev pub serving : ℕ → List ℕ → List ℕ → ℕ
-serving m (k ∷ slots) (v ∷ values) = if k == m then v else serving m slots values
-serving m _ _ = 0
+abbrev pub plan_value : ℕ → List ℕ → List ℕ → ℕ
+plan_value m (k ∷ slots) (v ∷ values) = if k == m then v else plan_value m slots values
+plan_value m _ _ = 0
 
 abbrev pub block_in : Plan → ℕ → ℕ
-block_in plan m = block_number (serving m plan.slots plan.values)
+block_in plan m = block_number (plan_value m plan.slots plan.values)
 
 abbrev pub block_for : State → List Entry → ℕ → ℕ → ℕ
 block_for st log b m = block_in (slice_index_or (plans st log) b no_plan) m

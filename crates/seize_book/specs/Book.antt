@@ -11,10 +11,10 @@ use Rattle.seize_machine.specs.Machine.Event.{Event, Take}
 use Rattle.seize_machine.specs.Machine.Frames.{changes_slot, used, changes_used, changes_head_of, changes_link}
 use Rattle.seize_machine.specs.declared.machine.event.Answer.{Answer}
 use Rattle.seize_book.specs.Ledger.{Rules}
-pub use Rattle.seize_book.specs.After.{moments, after, IsLegalList, outcome, Does, answered}
+pub use Rattle.seize_book.specs.After.{moments, after, IsLegalList, outcome, Does, with_answers}
 use Rattle.seize_book.specs.Entry.{Entry, Made, Used, maker}
 use Rattle.seize_book.specs.Blocks.{plans}
-use Rattle.seize_book.specs.Chains.{Chained, insertion_fields, told, uses}
+use Rattle.seize_book.specs.Chains.{HasChains, field_value, insertion_fields, uses}
 use Rattle.seize_book.specs.Deposits.{deposit}
 use Rattle.seize_book.specs.Homes.{IsSound, changes_count, changes_home, count_in, home_of}
 
@@ -24,10 +24,10 @@ acts s (Made d) = changes_slot s d.event
 acts s (Used u) = u.slot == s
 
 abbrev pub mine : State → ℕ → List Entry → List (Entry × Answer)
-mine st p log = filter (λ a. maker a.0 == p) (answered st log)
+mine st p log = filter (λ a. maker a.0 == p) (with_answers st log)
 
 abbrev pub by_slot : State → ℕ → List Entry → List (Entry × Answer)
-by_slot st s log = filter (λ a. acts s a.0) (answered st log)
+by_slot st s log = filter (λ a. acts s a.0) (with_answers st log)
 
 -- The kinds of keys. There is one key of the numbers, and one of the total, which says how many slots there are; of the others, one for
 -- each pass and link, one for each slot and head and for those of the slot that comes next, and four for each block: that of its values,
@@ -96,20 +96,20 @@ Same st TheSlot s a b =
     (by_slot st s a ≡ by_slot st s b)
     × (slot_at (after st a) s ≡ slot_at (after st b) s)
     × (is_active (head_at (after st a) s) ≡ is_active (head_at (after st b) s))
-    × (insertion_fields (after st a) (plans st a) (told a) s ≡ insertion_fields (after st b) (plans st b) (told b) s)
+    × (insertion_fields (after st a) (plans st a) (field_value a) s ≡ insertion_fields (after st b) (plans st b) (field_value b) s)
 Same st TheHead m a b = head_at (after st a) m ≡ head_at (after st b) m
 Same st TheLink l a b = link_at (after st a) l ≡ link_at (after st b) l
 Same st TheCount k a b = (count_in (after st a) k ≡ count_in (after st b) k) × (deposit (after st a) k ≡ deposit (after st b) k)
 Same st TheBlock k a b =
     (v : ℕ) → home_of v ≡ k
     → (has v (after st a).named ≡ has v (after st b).named) × (has v (after st a).loose ≡ has v (after st b).loose)
-Same st TheField f a b = told a f ≡ told b f
+Same st TheField f a b = field_value a f ≡ field_value b f
 Same st TheTotal k a b = length (after st a).slots ≡ length (after st b).slots
 Same st Nothing k a b = Unit {0}
 
 -- what the holder of a key knows, who last appended when the list was `own`
-abbrev pub Kept : State → Kind → ℕ → List Entry → List Entry → Type 0
-Kept st kind k own log = IsPrefix own log × Same st kind k own log
+abbrev pub HolderKnows : State → Kind → ℕ → List Entry → List Entry → Type 0
+HolderKnows st kind k own log = IsPrefix own log × Same st kind k own log
 
 -- the event makes a slot
 abbrev pub makes_slot : State → Event → Bool
@@ -138,14 +138,14 @@ IsKeyCount st TheHead n log = n ≡ suc (length (after st log).slots)
 IsKeyCount st TheLink n log = n ≡ length (after st log).links
 IsKeyCount st TheCount n log = (k : ℕ) → n ≤ k → (count_in (after st log) k ≡ pos 0) × (deposit (after st log) k ≡ [])
 IsKeyCount st TheBlock n log = (v : ℕ) → n ≤ home_of v → has v (after st log).named ≡ false
-IsKeyCount st TheField n log = (f : ℕ) → n ≤ f → told log f ≡ 0
+IsKeyCount st TheField n log = (f : ℕ) → n ≤ f → field_value log f ≡ 0
 IsKeyCount st TheTotal n log = n ≡ 1
 IsKeyCount st Nothing n log = Unit {0}
 
 abbrev pub rules : State → Rules Entry
 rules st = record {
-  Legal = λ log. IsLegalList st log × IsSound (after st log) × Chained (after st log) (plans st log) (told log);
-  Kept = λ r. Kept st (kind_of r);
+  Legal = λ log. IsLegalList st log × IsSound (after st log) × HasChains (after st log) (plans st log) (field_value log);
+  Knows = λ r. HolderKnows st (kind_of r);
   Sized = λ r. IsKeyCount st (kind_of r);
 }
 

@@ -11,13 +11,13 @@
 --     MaySettle value pass                     it is so after a value that was reclaimed since, as the pass has seen
 --     MakesNextValue value pass value' pass'   it is for the next value of the block, and the pass has looked at the list
 --     home_in count, count_known count         the block whose count it is the key of, and the count, as the key knows
---     deposit_known count, told_known field    the values whose keys stand beside it;  what was last stored in the field, as its key knows
+--     deposit_known count, field_known field   the values whose keys stand beside it;  what was last stored in the field, as its key knows
 --     IsCountAt count home                     it is that of the block with this home, the count is 0, and no keys stand beside it
 --     IsFieldAt which field home               it is that of this field of the block with this home, and nothing was stored there
 use Rattle.std.specs.Prelude.{◌≡◌, ℕ, ℤ, pos, true, false, List, [], drop, take}
 use Rattle.seize_machine.specs.Machine.State.{has}
 use Rattle.seize_book.specs.Blocks.{block_number}
-use Rattle.seize_book.specs.Chains.{told}
+use Rattle.seize_book.specs.Chains.{field_value}
 use Rattle.seize_book.specs.Deposits.{deposit}
 use Rattle.seize_book.specs.Homes.{IsVacant, count_in, home_of}
 use Rattle.seize_book.specs.Loans.{cell_of}
@@ -32,18 +32,18 @@ use Rattle.seize_book.specs.declared.book.count_key.CountKey.{CountKey}
 use Rattle.seize_book.specs.declared.book.field_key.FieldKey.{FieldKey}
 use Rattle.seize_book.specs.declared.book.keys.Keys.{Keys}
 use Rattle.seize_book.specs.declared.book.pass.Pass.{Pass}
-use Rattle.seize_book.specs.declared.book.token.Book.{Book}
+use Rattle.seize_book.specs.declared.book.seen.Seen.{Seen}
 use Rattle.seize_book.specs.declared.book.value_key.ValueKey.{ValueKey}
 
 -- the keys are all those of the book at its beginning, of which it has seen nothing more
-abbrev pub BeginsWithKeys : Book → Keys → ℕ → List ℕ → List ℕ → Type 0
+abbrev pub BeginsWithKeys : Seen → Keys → ℕ → List ℕ → List ℕ → Type 0
 BeginsWithKeys book keys links store table =
     BeganWith book.name links store table × (book.seen ≡ []) × (keys.name ≡ book.name) × (keys.held ≡ first_keys links)
 
 abbrev pub IsNewPass : Pass → Type 0
 IsNewPass pass = mine_of pass ≡ []
 
-abbrev pub Learns : Pass → Book → Pass → Type 0
+abbrev pub Learns : Pass → Seen → Pass → Type 0
 Learns pass book pass' =
     IsSamePass pass pass' × MadeNone pass pass' × Longer pass.seen book.seen pass'.seen
     × (IsSole pass.id → pass'.seen ≡ pass.seen) × IsLegalList (start pass.name) pass'.seen
@@ -61,12 +61,12 @@ pub record AreApart (keys : Keys) (all : BookKeys) : Type 0 where
   pub links : (all.links.keys.name ≡ keys.name) × (all.links.keys.held ≡ drop 4 keys.held)
 
 -- it is of the book, and nothing was ever added by its holder
-abbrev pub IsUnused : Keys → Book → Type 0
+abbrev pub IsUnused : Keys → Seen → Type 0
 IsUnused keys book = (keys.name ≡ book.name) × (own_of keys.held ≡ [])
 
 -- It begins with so many links, which are empty, and has seen nothing more. These are its keys: those of the numbers, of the total, of the
 -- first slot and its head, and of all links.
-pub record HasKeys (book : Book) (keys : BookKeys) (many : ℕ) (store table : List ℕ) : Type 0 where
+pub record HasKeys (book : Seen) (keys : BookKeys) (many : ℕ) (store table : List ℕ) : Type 0 where
   pub began : BeganWith book.name many store table × (book.seen ≡ [])
   pub numbers : IsUnused keys.numbers.keys book
   pub total : IsUnused keys.total.keys book
@@ -105,12 +105,12 @@ count_known key = count_in (state_of key.keys) (home_in key)
 abbrev pub deposit_known : CountKey → List ℕ
 deposit_known key = deposit (state_of key.keys) (home_in key)
 
-abbrev pub told_known : FieldKey → ℕ
-told_known key = told (own_of key.keys.held) (key_of key.keys.held)
+abbrev pub field_known : FieldKey → ℕ
+field_known key = field_value (own_of key.keys.held) (key_of key.keys.held)
 
 -- the count of its block, which is 0
 abbrev pub IsCountAt : CountKey → ℕ → Type 0
 IsCountAt count home = (home_in count ≡ home) × (count_known count ≡ pos 0) × (deposit_known count ≡ [])
 
 abbrev pub IsFieldAt : (ℕ → ℕ) → FieldKey → ℕ → Type 0
-IsFieldAt which field home = (key_of field.keys.held ≡ which home) × (told_known field ≡ 0)
+IsFieldAt which field home = (key_of field.keys.held ≡ which home) × (field_known field ≡ 0)

@@ -6,22 +6,22 @@
 --                                with it
 --     MakesPlaced st held e      where it makes a slot, the slot's key is held, and is labelled 1: the slot's head lies in the table
 --     MayAdd n p seen held e     it is fair whatever the list is by then, and it neither ends nor begins an activation
---     Added n p seen seen' held held' e     it was added: see Noted; the keys know of it, and its own keys were made
+--     AddsEntryWith n p seen seen' held held' e   it was added: see AddsEntry; the keys know of it, and its own keys were made
 use Rattle.std.specs.Prelude.{◌≡◌, ℕ, ◌<◌, ◌≤◌, true, false, ◌⊎◌, List, [], ◌∷◌, ◌++◌, length}
 use base.Stored.{gnil}
 use mathlib.Core.List.{IsPrefix}
 use Rattle.seize_machine.specs.Machine.State.{State, has}
 use Rattle.seize_machine.specs.Machine.Event.{Event}
 use Rattle.seize_machine.specs.declared.machine.event.Answer.{Answer}
-use Rattle.seize_book.specs.Ledger.{HeldKey, Beside, IsThere, AllThere, AllKept, WithKinds, renewed, born}
+use Rattle.seize_book.specs.Ledger.{HeldKey, Beside, IsThere, AllThere, HoldersKnow, WithKinds, with_list, keys_made}
 use Rattle.seize_book.specs.Entry.{Entry, Made, Deed, maker}
 use Rattle.seize_book.specs.Book.{after, IsLegalList, Does, mine, TheCount, TheBlock, TheField, TheTotal, kind_of, touches, IsKeyCount, rules, births, passes, slots, counts, blocks, fields, kinds}
 use Rattle.seize_book.specs.Blocks.{plans}
-use Rattle.seize_book.specs.Chains.{Chained, IsLed, told}
+use Rattle.seize_book.specs.Chains.{HasChains, IsLed, field_value}
 use Rattle.seize_book.specs.Homes.{HasOne, IsSound}
 use Rattle.seize_book.specs.Laws.{ended_by, starts}
 use Rattle.seize_book.specs.Loans.{AllCarryOne, CarriesOne}
-use Rattle.seize_book.specs.Tokens.{Name, start, IsSole, Noted}
+use Rattle.seize_book.specs.Tokens.{Name, start, IsSole, AddsEntry}
 
 abbrev pub pass_key : ℕ → List Entry → HeldKey Entry
 pass_key p own = record { kind = passes; key = p; own = own; label = 0; note = gnil }
@@ -29,10 +29,10 @@ pass_key p own = record { kind = passes; key = p; own = own; label = 0; note = g
 pub record Before (n : Name) (p : ℕ) (seen : List Entry) (held : List (HeldKey Entry)) (log : List Entry) : Type 0 where
   pub legal : IsLegalList (start n) log
   pub sound : IsSound (after (start n) log)
-  pub chained : Chained (after (start n) log) (plans (start n) log) (told log)
+  pub chained : HasChains (after (start n) log) (plans (start n) log) (field_value log)
   pub grows : IsPrefix seen log
   pub none_made : mine (start n) p log ≡ mine (start n) p seen
-  pub kept : AllKept (rules (start n)) held log
+  pub kept : HoldersKnow (rules (start n)) held log
   pub alone : IsSole p → log ≡ seen
   pub lent : AllCarryOne (after (start n) log).named
 
@@ -71,7 +71,7 @@ pub record Fair (n : Name) (held : List (HeldKey Entry)) (log : List Entry) (e :
   pub names : NamesHeld (start n) held log e
   -- all earlier values of a home were reclaimed where it names one
   pub one : HasOne (after (start n) log) → HasOne done.0
-  pub leads : IsLed (after (start n) log) (plans (start n) log) (told log) e
+  pub leads : IsLed (after (start n) log) (plans (start n) log) (field_value log) e
   pub labels : NamesLabels (after (start n) log) held done.0
   pub places : MakesPlaced (after (start n) log) held e
 
@@ -87,7 +87,7 @@ MayAdd n p seen held d =
     WithKinds kinds held × EndsNone d.event × StartsNone d.event
     × ((own log : List Entry) → Before n p seen held log → Fair n (pass_key p own ∷ held) log (Made d))
 
-pub record Added (n : Name) (p : ℕ) (seen seen' : List Entry) (held held' : List (HeldKey Entry)) (d : Deed) : Type 0 where
-  pub noted : Noted n p seen seen' (Made d)
+pub record AddsEntryWith (n : Name) (p : ℕ) (seen seen' : List Entry) (held held' : List (HeldKey Entry)) (d : Deed) : Type 0 where
+  pub noted : AddsEntry n p seen seen' (Made d)
   pub before : Before n p seen held noted.before
-  pub keys : held' ≡ renewed held seen' ++ born (births (after (start n) noted.before) d.event) seen'
+  pub keys : held' ≡ with_list held seen' ++ keys_made (births (after (start n) noted.before) d.event) seen'

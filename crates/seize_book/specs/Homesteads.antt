@@ -6,8 +6,8 @@
 --     state_seen pass      the machine after all that the pass has seen
 use Rattle.std.specs.Prelude.{◌≡◌, ℕ, true}
 use Rattle.seize_machine.specs.Machine.State.{State, has}
-use Rattle.seize_store.specs.Known.{content_in, entry_of, label_in}
-use Rattle.seize_store.specs.declared.known.Known.{Known}
+use Rattle.seize_store.specs.RowTokens.{content_in, entry_of, label_in}
+use Rattle.seize_store.specs.declared.row_token.RowToken.{RowToken}
 use Rattle.seize_table.specs.Place.{IsPlace}
 use Rattle.seize_book.specs.Blocks.{block_number}
 use Rattle.seize_book.specs.Book.{after}
@@ -16,10 +16,10 @@ use Rattle.seize_book.specs.Loans.{cell_of, place_of}
 use Rattle.seize_book.specs.Tokens.{Name, chunk_label, start}
 use Rattle.seize_book.specs.declared.book.pass.Pass.{Pass}
 
-abbrev pub entry_in : Known → ℕ → ℕ
+abbrev pub entry_in : RowToken → ℕ → ℕ
 entry_in known v = entry_of known.row (block_number v)
 
-abbrev pub AreAt : Name → Known → State → Type 0
+abbrev pub AreAt : Name → RowToken → State → Type 0
 AreAt n known st =
     (v : ℕ) → has v st.named ≡ true → IsPlace (block_number v) known.row (entry_in known v)
     → (label_in known.chunks (entry_in known v) ≡ chunk_label n (home_of v) (cell_of v))

@@ -4,7 +4,7 @@
 --     WasRetired st log v  an event of the list retired v;  AllLeft st log q    each slot that was active before event q has left or
 --                          refreshed since
 --     Reader st log v a    a is the lifetime of an activation in which a slot found v in a link
---     ended log            the lifetimes of the activations that the list ended, in order
+--     ended_lives log      the lifetimes of the activations that the list ended, in order
 --     AllOver st log v     of each activation in which a slot found v, the lifetime is among these; where a book's invariant stands,
 --                          these are over
 --     life s log           the lifetime of the last activation of slot s that the list began
@@ -62,8 +62,8 @@ ended_in lives (Used u) = []
 abbrev pub none_alive : ℕ → ℕ
 none_alive s = 0
 
-abbrev pub ended : List Entry → List ℕ
-ended log = ended_from none_alive (deeds log)
+abbrev pub ended_lives : List Entry → List ℕ
+ended_lives log = ended_from none_alive (deeds log)
 
 abbrev pub Reader : State → List Entry → ℕ → ℕ → Type 0
 Reader st log v a = (i : ℕ) × (s : ℕ) × Found (moments st log) s v i × (a ≡ life_from 0 s (take i (deeds log)))
@@ -73,4 +73,4 @@ IsAmong [] a = ⊥
 IsAmong (x ∷ xs) a = (x ≡ a) ⊎ IsAmong xs a
 
 abbrev pub AllOver : State → List Entry → ℕ → Type 0
-AllOver st log v = (a : ℕ) → Reader st log v a → IsAmong (ended log) a
+AllOver st log v = (a : ℕ) → Reader st log v a → IsAmong (ended_lives log) a

@@ -76,12 +76,12 @@ module _ {E : Type 0} (c : Coded E) where
 
 pub record Rules (E : Type 0) : Type 1 where
   pub Legal : List E → Type 0
-  pub Kept : ℕ → ℕ → List E → List E → Type 0
+  pub Knows : ℕ → ℕ → List E → List E → Type 0
   pub Sized : ℕ → ℕ → List E → Type 0
 
 pub record Holds {E : Type 0} (rules : Rules E) (rows : List (List (List E))) (log : List E) : Type 0 where
   pub legal : rules.Legal log
-  pub kept : (r k : ℕ) (own : List E) → slice_get (row rows r) k ≡ Some own → rules.Kept r k own log
+  pub kept : (r k : ℕ) (own : List E) → slice_get (row rows r) k ≡ Some own → rules.Knows r k own log
   pub sized : (r : ℕ) → rules.Sized r (length (row rows r)) log
 
 module _ {E : Type 0} (c : Coded E) (rules : Rules E) (extra : List E → Fml) (η : ℕ) (δs : List ℕ) where
@@ -107,9 +107,9 @@ abbrev pub WithKinds : {E : Type 0} → ℕ → List (HeldKey E) → Type 0
 WithKinds n [] = Unit {0}
 WithKinds n (h ∷ hs) = (h.kind < n) × WithKinds n hs
 
-abbrev pub renewed : {E : Type 0} → List (HeldKey E) → List E → List (HeldKey E)
-renewed [] log = []
-renewed (h ∷ hs) log = record { kind = h.kind; key = h.key; own = log; label = h.label; note = h.note } ∷ renewed hs log
+abbrev pub with_list : {E : Type 0} → List (HeldKey E) → List E → List (HeldKey E)
+with_list [] log = []
+with_list (h ∷ hs) log = record { kind = h.kind; key = h.key; own = log; label = h.label; note = h.note } ∷ with_list hs log
 
 -- the keys that an event makes, each by its kind and number
 
@@ -117,22 +117,22 @@ abbrev pub AllBelow : ℕ → List (ℕ × ℕ) → Type 0
 AllBelow n [] = Unit {0}
 AllBelow n (b ∷ births) = (b.0 < n) × AllBelow n births
 
-abbrev pub born : {E : Type 0} → List (ℕ × ℕ) → List E → List (HeldKey E)
-born [] own = []
-born (b ∷ births) own = record { kind = b.0; key = b.1; own = own; label = 0; note = gnil } ∷ born births own
+abbrev pub keys_made : {E : Type 0} → List (ℕ × ℕ) → List E → List (HeldKey E)
+keys_made [] own = []
+keys_made (b ∷ births) own = record { kind = b.0; key = b.1; own = own; label = 0; note = gnil } ∷ keys_made births own
 
 -- how many there are of each kind, with one more of kind b
-abbrev pub bumped : ℕ → (ℕ → ℕ) → ℕ → ℕ
-bumped b many r = if r == b then many r + 1 else many r
+abbrev pub more_of : ℕ → (ℕ → ℕ) → ℕ → ℕ
+more_of b many r = if r == b then many r + 1 else many r
 
 -- each is the next number of its kind
 abbrev pub AreNextNumbers : (ℕ → ℕ) → List (ℕ × ℕ) → Type 0
 AreNextNumbers many [] = Unit {0}
-AreNextNumbers many (b ∷ births) = (many b.0 ≡ b.1) × AreNextNumbers (bumped b.0 many) births
+AreNextNumbers many (b ∷ births) = (many b.0 ≡ b.1) × AreNextNumbers (more_of b.0 many) births
 
-abbrev pub all_bumped : List (ℕ × ℕ) → (ℕ → ℕ) → ℕ → ℕ
-all_bumped [] many = many
-all_bumped (b ∷ births) many = all_bumped births (bumped b.0 many)
+abbrev pub more_by : List (ℕ × ℕ) → (ℕ → ℕ) → ℕ → ℕ
+more_by [] many = many
+more_by (b ∷ births) many = more_by births (more_of b.0 many)
 
 -- each key that is held is one of those
 abbrev pub AllThere : {E : Type 0} → (ℕ → ℕ) → List (HeldKey E) → Type 0
@@ -140,12 +140,12 @@ AllThere many [] = Unit {0}
 AllThere many (h ∷ hs) = (h.key < many h.kind) × AllThere many hs
 
 module _ {E : Type 0} (rules : Rules E) where
-  abbrev pub AllKept : List (HeldKey E) → List E → Type 0
-  AllKept [] log = Unit {0}
-  AllKept (h ∷ hs) log = rules.Kept h.kind h.key h.own log × AllKept hs log
+  abbrev pub HoldersKnow : List (HeldKey E) → List E → Type 0
+  HoldersKnow [] log = Unit {0}
+  HoldersKnow (h ∷ hs) log = rules.Knows h.kind h.key h.own log × HoldersKnow hs log
 
   abbrev pub Known : List (HeldKey E) → List E → List E → Type 0
-  Known held seen log = rules.Legal log × IsPrefix seen log × AllKept held log
+  Known held seen log = rules.Legal log × IsPrefix seen log × HoldersKnow held log
 
   -- the key is there
   abbrev pub IsThere : ℕ → ℕ → List E → Type 0
@@ -155,11 +155,11 @@ module _ {E : Type 0} (rules : Rules E) where
   abbrev pub MakesKeys : List (HeldKey E) → List (ℕ × ℕ) → List E → List E → Type 0
   MakesKeys held births log log' =
       (many : ℕ → ℕ) → ((r : ℕ) → rules.Sized r (many r) log) → AllThere many held
-      → AreNextNumbers many births × ((r : ℕ) → rules.Sized r (all_bumped births many r) log')
+      → AreNextNumbers many births × ((r : ℕ) → rules.Sized r (more_by births many r) log')
 
   -- whatever the list is, and whatever the maker tells of it
   abbrev pub Goes : List (HeldKey E) → List E → (List E → E) → (List E → List (ℕ × ℕ)) → (List E → Type 0) → Type 0
   Goes held seen ev births Told = (log : List E) → Known held seen log → Told log
       → rules.Legal (log ++ ev log ∷ [])
-      × ((r k : ℕ) (own : List E) → Beside held r k → IsThere r k log → rules.Kept r k own log → rules.Kept r k own (log ++ ev log ∷ []))
+      × ((r k : ℕ) (own : List E) → Beside held r k → IsThere r k log → rules.Knows r k own log → rules.Knows r k own (log ++ ev log ∷ []))
       × MakesKeys held (births log) log (log ++ ev log ∷ [])

@@ -19,16 +19,16 @@ use Rattle.seize_content.specs.Loans.{IsLent}
 use Rattle.seize_content.specs.declared.loan.Pool.{Pool}
 use Rattle.seize_content.specs.declared.ticket.Ticket.{Ticket}
 use Rattle.seize_machine.specs.Machine.State.{has, slot_at}
-use Rattle.seize_store.specs.Known.{content_in, entry_of, label_in}
+use Rattle.seize_store.specs.RowTokens.{content_in, entry_of, label_in}
 use Rattle.seize_store.specs.Named.{IsRowOf}
-use Rattle.seize_store.specs.declared.known.Known.{Known}
+use Rattle.seize_store.specs.declared.row_token.RowToken.{RowToken}
 use Rattle.seize_book.specs.Blocks.{block_number}
 use Rattle.seize_book.specs.Book.{after, blocks, slots}
 use Rattle.seize_book.specs.Entry.{Entry}
 use Rattle.seize_book.specs.Homes.{home_of}
 use Rattle.seize_book.specs.Ledger.{HeldKey}
 use Rattle.seize_book.specs.Loans.{Carries, CarriesNone, cell_of, place_of, CarriesOne}
-use Rattle.seize_book.specs.Others.{Renames, book_of, labelled, state_of, value_of}
+use Rattle.seize_book.specs.Others.{Renames, book_of, state_of, value_of, with_label}
 use Rattle.seize_book.specs.Private.{is_one, key_of, label_of}
 use Rattle.seize_book.specs.Slots.{hands_next}
 use Rattle.seize_book.specs.Tokens.{Name, chunk_label, start}
@@ -47,7 +47,7 @@ MayLend keys ticket pool =
 pub record Lends (keys : Keys) (pool : Pool) (keys' : Keys) : Type 0 where
   pub value : ℕ
   pub book : keys'.name ≡ keys.name
-  pub held : keys'.held ≡ labelled value keys.held
+  pub held : keys'.held ≡ with_label value keys.held
   pub home : home_of value ≡ home_of (label_of keys.held)
   pub numbered : block_number value ≡ block_number (label_of keys.held)
   pub unnamed : has value (state_of keys).named ≡ false
@@ -71,7 +71,7 @@ MayWithdraw keys pass =
     (keys.name ≡ pass.name) × (is_one blocks keys.held ≡ true) × (key_of keys.held ≡ home_of (label_of keys.held))
     × CarriesOne (label_of keys.held) × (has (label_of keys.held) (state_of keys).named ≡ false)
 
-abbrev pub IsRowAt : Name → ℕ → Known → Type 0
+abbrev pub IsRowAt : Name → ℕ → RowToken → Type 0
 IsRowAt n v known =
     (known.store ≡ n.store) × IsRowOf known (block_number v)
     × (label_in known.chunks (entry_of known.row (block_number v)) ≡ chunk_label n (home_of v) (cell_of v))

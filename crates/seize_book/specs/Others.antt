@@ -6,7 +6,7 @@
 --                                       MayRetire value    so it is, as its key knows
 --     IsSpent v st                      it was named, and it is not loose;  CannotRetire value   so it is, as its key knows
 --     IsLeast s st                      slot s is there, and its number is the least that is not in use and one of a table;
---     MayTake numbers key               so it is for this slot, as the key of the numbers knows
+--     MayTakeNumber numbers key         so it is for this slot, as the key of the numbers knows
 --     use_flags numbers                 which numbers are in use, as this key knows;  first_false us     the least that is not
 --     IsOfBook keys pass                they are of one book;  IsValueOf value pass, AreNumbersOf numbers pass     so is this key
 --     state_of keys, value_of value     where the keys' list leads, and which value it is
@@ -16,7 +16,7 @@
 --     IsLastIn v st                     all other values of its block that were ever named were reclaimed;  IsLast value    so it is, as
 --                                       its key knows
 --     HasGone value pass                the value was reclaimed, as the pass has seen
---     labelled v held                   the first key has this label
+--     with_label v held                 the first key has this label
 --     Renames keys keys'                the first key's label is another value of its block, which was never named, as it knows; nothing
 --                                       is lent with it
 --     SameKind keys keys'               if there was one key of some kind, there is one of this kind
@@ -35,7 +35,7 @@ use Rattle.seize_machine.specs.Machine.Next.{first_free}
 use Rattle.seize_table.specs.Place.{all_numbers}
 use Rattle.seize_book.specs.Homes.{IsVacant, home_of}
 use Rattle.seize_book.specs.Loans.{CarriesNone, cell_of, place_of, CarriesOne}
-use Rattle.seize_book.specs.Ledger.{HeldKey, renewed}
+use Rattle.seize_book.specs.Ledger.{HeldKey, with_list}
 use Rattle.seize_book.specs.Entry.{Deed, Entry, Made}
 use Rattle.seize_book.specs.Fair.{Before, MayAdd}
 use Rattle.seize_book.specs.Tokens.{Name, start}
@@ -85,8 +85,8 @@ IsVacated value = IsVacant (state_of value.keys) (home_of (value_of value))
 abbrev pub IsLeast : ℕ → State → Type 0
 IsLeast s st = (s ≡ first_free st.slots) × (s < length st.slots) × (s < all_numbers)
 
-abbrev pub MayTake : NumbersKey → SlotKey → Type 0
-MayTake numbers key = IsLeast (key_of key.keys.held) (state_of numbers.keys)
+abbrev pub MayTakeNumber : NumbersKey → SlotKey → Type 0
+MayTakeNumber numbers key = IsLeast (key_of key.keys.held) (state_of numbers.keys)
 
 -- which numbers are in use, as the key of the numbers knows, and which is the least that is not
 abbrev pub use_flags : NumbersKey → List Bool
@@ -120,14 +120,14 @@ IsLast value = IsLastIn (value_of value) (state_of value.keys)
 abbrev pub HasGone : ValueKey → Pass → Type 0
 HasGone value pass = has (value_of value) (after (start pass.name) pass.seen).gone ≡ true
 
-abbrev pub labelled : ℕ → List (HeldKey Entry) → List (HeldKey Entry)
-labelled v [] = []
-labelled v (h ∷ held) = record { kind = h.kind; key = h.key; own = h.own; label = v; note = h.note } ∷ held
+abbrev pub with_label : ℕ → List (HeldKey Entry) → List (HeldKey Entry)
+with_label v [] = []
+with_label v (h ∷ held) = record { kind = h.kind; key = h.key; own = h.own; label = v; note = h.note } ∷ held
 
 pub record Renames (keys keys' : Keys) : Type 0 where
   pub value : ℕ
   pub book : keys'.name ≡ keys.name
-  pub held : keys'.held ≡ labelled value keys.held
+  pub held : keys'.held ≡ with_label value keys.held
   pub home : home_of value ≡ home_of (label_of keys.held)
   pub numbered : block_number value ≡ block_number (label_of keys.held)
   pub unnamed : has value (state_of keys).named ≡ false
@@ -139,7 +139,7 @@ abbrev pub SameKind : Keys → Keys → Type 0
 SameKind keys keys' = (r : ℕ) → is_one r keys.held ≡ true → is_one r keys'.held ≡ true
 
 abbrev pub Follows : Keys → Pass → Keys → Type 0
-Follows keys pass' keys' = (keys'.name ≡ keys.name) × (keys'.held ≡ renewed keys.held pass'.seen)
+Follows keys pass' keys' = (keys'.name ≡ keys.name) × (keys'.held ≡ with_list keys.held pass'.seen)
 
 abbrev pub FollowsValue : ValueKey → Pass → ValueKey → Type 0
 FollowsValue value pass' value' = Follows value.keys pass' value'.keys

@@ -32,7 +32,7 @@ use Rattle.seize_book.specs.Tokens.{IsSole, Name, start}
 use Rattle.seize_book.specs.declared.book.book_keys.BookKeys.{BookKeys}
 use Rattle.seize_book.specs.declared.book.pass.Pass.{Pass}
 use Rattle.seize_book.specs.declared.book.porter.Porter.{Porter}
-use Rattle.seize_book.specs.declared.book.token.Book.{Book}
+use Rattle.seize_book.specs.declared.book.seen.Seen.{Seen}
 
 abbrev pub IsPassOf : Porter → Pass → Type 0
 IsPassOf porter pass = (pass.name ≡ porter.name) × (pass.size ≡ porter.size)
@@ -78,7 +78,7 @@ pub record Shuts (porter : Porter) (pass : Pass) : Type 0 where
   pub was : WasWhole porter.home porter.seen pass.seen
 
 -- the first pass of a book that has just begun
-abbrev pub IsFirst : Book → Pass → Type 0
+abbrev pub IsFirst : Seen → Pass → Type 0
 IsFirst book pass = IsSole pass.id × (pass.name ≡ book.name) × (pass.seen ≡ [])
 
 abbrev pub OpensAgain : Pass → Porter → Type 0
@@ -97,8 +97,8 @@ pub record HadStay (gave : Pass → Pass → Type 0) (porter porter' : Porter) :
   pub again : OpensAgain back porter'
 
 -- the porter of a book that has just begun, which is at home, with this batch size
-abbrev pub IsFirstPorter : Book → Porter → ℕ → Type 0
+abbrev pub IsFirstPorter : Seen → Porter → ℕ → Type 0
 IsFirstPorter book porter size = (porter.name ≡ book.name) × (porter.size ≡ size) × (porter.seen ≡ []) × (porter.home ≡ true)
 
-abbrev pub Opens : Book → Porter → BookKeys → ℕ → ℕ → List ℕ → List ℕ → Type 0
+abbrev pub Opens : Seen → Porter → BookKeys → ℕ → ℕ → List ℕ → List ℕ → Type 0
 Opens book porter keys links size store table = IsFirstPorter book porter size × HasKeys book keys links store table

@@ -11,10 +11,10 @@
 --     Moves key key' log d later answer     after this list, which goes on from what the key knew, with the same last activation of the
 --                          slot, the event took the slot from where its key knew it to where it knows it now; and of the slot's own
 --                          entries this is the one that was added
---     NotesAs key pass key' pass' d     the slot's holder added this one event with the pass: see Noted and Moves
---     Notes key pass key' pass' event     and it is one of an event that begins no activation
---     Looks key pass key' pass'     the pass has looked at the list (LooksOn), and so has the key; the list goes on from what it knew, and
---                          the slot is in it as the key said
+--     AddsDeed key pass key' pass' d    the slot's holder added this one event with the pass: see AddsEntry and Moves
+--     AddsEvent key pass key' pass' event   and it is one of an event that begins no activation
+--     LooksWithSlotKey key pass key' pass'   the pass has looked at the list (LooksOn), and so has the key; the list goes on from what it
+--                          knew, and the slot is in it as the key said
 --     hands_next slot      the value that the slot's call is about to hand to its reclaimer
 --     HandsOnce key pass' v    it was handed now, for the first time; it was retired before, and each slot that was active then has left or
 --                          refreshed since; all who found it have left or refreshed since, and the activations in which they found it are
@@ -28,11 +28,11 @@ use Rattle.seize_machine.specs.Machine.Next.{next, of_call, handing_at}
 use Rattle.seize_machine.specs.declared.machine.event.Answer.{Answer}
 use Rattle.seize_machine.specs.Machine.History.{done_by, handed_value}
 use Rattle.seize_book.specs.Blocks.{plans}
-use Rattle.seize_book.specs.Chains.{insertion_fields, told}
+use Rattle.seize_book.specs.Chains.{field_value, insertion_fields}
 use Rattle.seize_book.specs.Entry.{Entry, Made, Deed, timed_deed}
 use Rattle.seize_book.specs.Book.{after, by_slot}
 use Rattle.seize_book.specs.Laws.{NotHanded, WasRetired, AllLeft, AllParted, AllOver, life}
-use Rattle.seize_book.specs.Tokens.{Noted, start}
+use Rattle.seize_book.specs.Tokens.{AddsEntry, start}
 use Rattle.seize_book.specs.Private.{key_of, own_of}
 use Rattle.seize_book.specs.Passes.{IsSamePass, LooksOn}
 use Rattle.seize_book.specs.Adding.{private}
@@ -60,7 +60,7 @@ slot_of key = slot_at (after (start_of key) (own_list key)) (slot_number key)
 -- what was last stored in the next and first fields of the block with which the slot's call is about to insert its batch
 abbrev pub written_of : SlotKey → Option (ℕ × ℕ)
 written_of key =
-    let own = own_list key in insertion_fields (after (start_of key) own) (plans (start_of key) own) (told own) (slot_number key)
+    let own = own_list key in insertion_fields (after (start_of key) own) (plans (start_of key) own) (field_value own) (slot_number key)
 
 abbrev pub active_of : SlotKey → Bool
 active_of key = is_active (head_at (after (start_of key) (own_list key)) (slot_number key))
@@ -88,15 +88,15 @@ pub record Moves (key key' : SlotKey) (log : List Entry) (d : Deed) (later : Sta
   pub is_now_active : active_of key' ≡ is_active (head_at later (slot_number key))
   pub acts : acts_of key' ≡ acts_of key ++ (Made d, answer) ∷ []
 
-abbrev pub NotesAs : SlotKey → Pass → SlotKey → Pass → Deed → Type 0
-NotesAs key pass key' pass' d =
+abbrev pub AddsDeed : SlotKey → Pass → SlotKey → Pass → Deed → Type 0
+AddsDeed key pass key' pass' d =
     IsSamePass pass pass' × IsAfter key pass' key'
-    × ((noted : Noted pass.name pass.id pass.seen pass'.seen (Made d)) × Moves key key' noted.before d noted.later noted.answer)
+    × ((noted : AddsEntry pass.name pass.id pass.seen pass'.seen (Made d)) × Moves key key' noted.before d noted.later noted.answer)
 
-abbrev pub Notes : SlotKey → Pass → SlotKey → Pass → Event → Type 0
-Notes key pass key' pass' event = NotesAs key pass key' pass' (private pass event)
+abbrev pub AddsEvent : SlotKey → Pass → SlotKey → Pass → Event → Type 0
+AddsEvent key pass key' pass' event = AddsDeed key pass key' pass' (private pass event)
 
-pub record Looks (key : SlotKey) (pass : Pass) (key' : SlotKey) (pass' : Pass) : Type 0 where
+pub record LooksWithSlotKey (key : SlotKey) (pass : Pass) (key' : SlotKey) (pass' : Pass) : Type 0 where
   pub on : LooksOn pass pass'
   pub seen_by : IsAfter key pass' key'
   pub knows : IsPrefix (own_list key) pass'.seen

@@ -9,7 +9,7 @@ use Rattle.std.specs.Prelude.{◌≡◌, true, length}
 use Rattle.seize_table.specs.declared.tls.all_filled.AllFilled.{AllFilled}
 use Rattle.seize_table.specs.declared.tls.filled_at.FilledAt.{FilledAt}
 use Rattle.seize_book.specs.Book.{after, slots}
-use Rattle.seize_book.specs.Others.{labelled}
+use Rattle.seize_book.specs.Others.{with_label}
 use Rattle.seize_book.specs.Private.{is_one, key_of, label_of}
 use Rattle.seize_book.specs.Slots.{own_list, slot_number}
 use Rattle.seize_book.specs.Tokens.{label_at, slot_labels, start}
@@ -31,7 +31,7 @@ pub record LiesAt (keys : Keys) (token : FilledAt) : Type 0 where
   pub head : token.label ≡ label_at keys.name (key_of keys.held)
 
 abbrev pub GetsPlace : Keys → Keys → Type 0
-GetsPlace keys keys' = (keys'.name ≡ keys.name) × (keys'.held ≡ labelled 1 keys.held)
+GetsPlace keys keys' = (keys'.name ≡ keys.name) × (keys'.held ≡ with_label 1 keys.held)
 
 abbrev pub AreSlotsOf : Pass → AllFilled → Type 0
 AreSlotsOf pass all =

@@ -1,7 +1,7 @@
 -- What the tokens of a book own. None of them has bytes.
 --     Name          a book: the number of its invariant, its names, where its blocks and heads lie, and the opening of its list
---     called        the book's family is the number by which labels say that something is of it: it stands for this name alone, for good;
---                   uncalled   for none yet
+--     has_family    the book's family is the number by which labels say that something is of it: it stands for this name alone, for good;
+--                   free_family   for none yet
 --     label_at n k  the label of what is of the book and has the number k
 --     chunk_label n k c   that of a chunk of the book's store with the home k and the cell c
 --     inside        what stands in its invariant;  knows   that there is this invariant, for good
@@ -22,8 +22,8 @@
 --     is_placed h   it is the key of a slot whose head lies in the table, as the label 1 says
 --     rights_own    the rights to some keys, in a given order;  keys_own   and with each key of a block, where its value's number leads,
 --                   what is lent with the value, and what is noted; and with that of a slot whose head lies in the table, that it does
---     opened_own    a key of a block without what is noted
---     Noted         one entry was appended with a pass
+--     key_without_note_owns   a key of a block without what is noted
+--     AddsEntry     one entry was appended with a pass
 use Rattle.std.specs.Prelude.{◌≡◌, ℕ, zero, suc, ◌+◌, Bool, true, false, ◌&&◌, ◌==◌, ◌⊎◌, List, [], ◌∷◌, ◌++◌, length, map, Option, None, slice_index_or}
 use Rattle.std.specs.List.{range_with_len}
 use Rattle.std.specs.Coded.{Coded, code_by, coded_ℕ, coded×, coded_list, coded_option}
@@ -39,16 +39,16 @@ use denote.Struct.Codes.{itself}
 use Rattle.seize_content.specs.Cells.{cell_token}
 use Rattle.seize_machine.specs.Machine.State.{State, opening, linked_values, are_distinct, has}
 use Rattle.seize_machine.specs.declared.machine.event.Answer.{Answer}
-use Rattle.seize_store.specs.Known.{tells}
+use Rattle.seize_store.specs.RowTokens.{tells}
 use Rattle.seize_table.specs.Filled.{all_filled, filled_at}
 use Rattle.seize_table.specs.Pairs.{pair}
 use Rattle.seize_book.specs.Ledger.{HeldKey, fact, logs, right, rights, reached, contents}
 use Rattle.seize_book.specs.Entry.{Entry, entry_coded}
 use Rattle.seize_book.specs.Book.{IsLegalList, Does, after, mine, blocks, passes, slots, rules}
 use Rattle.seize_book.specs.Blocks.{block_number, plans}
-use Rattle.seize_book.specs.Chains.{Chained, told}
+use Rattle.seize_book.specs.Chains.{HasChains, field_value}
 use Rattle.seize_book.specs.Homes.{IsSound, home_of}
-use Rattle.seize_book.specs.Laws.{ended}
+use Rattle.seize_book.specs.Laws.{ended_lives}
 use Rattle.seize_book.specs.Loans.{AllCarryOne, cell_of, loan, place_of}
 
 -- Who may append: at the open gate each pass that the porter lent, at the shut gate the first pass alone, and at home none. The copy of
@@ -119,11 +119,11 @@ name_coded =
 abbrev pub start : Name → State
 start n = opening n.slots n.links
 
-abbrev pub uncalled : ℕ → Fml
-uncalled family = fsep (fobs family gnil) (fauth family gnil)
+abbrev pub free_family : ℕ → Fml
+free_family family = fsep (fobs family gnil) (fauth family gnil)
 
-abbrev pub called : Name → Fml
-called n = fres n.family (gcons gnil (name_coded.code n))
+abbrev pub has_family : Name → Fml
+has_family n = fres n.family (gcons gnil (name_coded.code n))
 
 abbrev pub label_at : Name → ℕ → ℕ
 label_at n k = pair n.family k
@@ -152,12 +152,12 @@ abbrev pub all_but : ℕ → ℕ → Fml
 all_but κ out = fex (ℕ × List ℕ) (left_of_all κ out)
 
 -- the book's share of the copy of the list, and all tickets, while none is out and the gate is shut; or the whole copy
-abbrev pub turned : Gate → List Entry → Bool → Fml
-turned g log true = fsep (latest (logs entry_coded) quarter g.copy log) (all_but g.tickets 0)
-turned g log false = latest (logs entry_coded) full_share g.copy log
+abbrev pub gate_share : Gate → List Entry → Bool → Fml
+gate_share g log true = fsep (latest (logs entry_coded) quarter g.copy log) (all_but g.tickets 0)
+gate_share g log false = latest (logs entry_coded) full_share g.copy log
 
 abbrev pub gate_keeps : Gate → List Entry → Fml
-gate_keeps g log = fex Bool (turned g log)
+gate_keeps g log = fex Bool (gate_share g log)
 
 abbrev pub gate_gives : Gate → ℕ → List Entry → Fml
 gate_gives g zero seen = latest (logs entry_coded) three_quarters g.copy seen
@@ -201,14 +201,14 @@ places_known n st = fsep (all_lead n st.named) (fsep (all_lie n (length st.slots
 -- what the invariant holds beside the list and the keys: each activation that has ended is over; the gate; and where all is found that was
 -- ever named or made
 abbrev pub beside : Name → List Entry → Fml
-beside n log = fsep (over (ended log)) (fsep (gate_keeps n.gate log) (places_known n (after (start n) log)))
+beside n log = fsep (over (ended_lives log)) (fsep (gate_keeps n.gate log) (places_known n (after (start n) log)))
 
 abbrev pub inside : Name → Fml
 inside n = contents entry_coded (rules (start n)) (beside n) n.log (rows n)
 
 -- it lasts for good, and may be had twice; and the links of the opening are distinct
 abbrev pub knows : Name → Fml
-knows n = fsep (fnamed n.number (inside n)) (fsep (called n) (fact (are_distinct (linked_values n.links) ≡ true)))
+knows n = fsep (fnamed n.number (inside n)) (fsep (has_family n) (fact (are_distinct (linked_values n.links) ≡ true)))
 
 abbrev pub key : Name → ℕ → ℕ → List Entry → Fml
 key n r k own = right entry_coded (rows n) r k own
@@ -283,10 +283,10 @@ keys_own n [] = ftrue
 keys_own n (h ∷ held) = fsep (one_key n h) (keys_own n held)
 
 -- the key of a block, but for the note
-abbrev pub opened_own : Name → List (HeldKey Entry) → Fml
-opened_own n [] = ftrue
-opened_own n (h ∷ []) = fsep (key n h.kind h.key h.own) (fsep (leads n h.label) (loan (start n) n.log h.label))
-opened_own n (h ∷ g ∷ held) = ffalse
+abbrev pub key_without_note_owns : Name → List (HeldKey Entry) → Fml
+key_without_note_owns n [] = ftrue
+key_without_note_owns n (h ∷ []) = fsep (key n h.kind h.key h.own) (fsep (leads n h.label) (loan (start n) n.log h.label))
+key_without_note_owns n (h ∷ g ∷ held) = ffalse
 
 abbrev pub held_coded : Coded (HeldKey Entry)
 held_coded =
@@ -298,12 +298,12 @@ held_coded =
 -- leads. Nothing had been made with the pass since it had seen its beginning, and where it is alone nothing at all had been added. With
 -- each value that was named something is lent. The links of the book's opening are distinct, so
 -- that the laws hold of its list.
-pub record Noted (n : Name) (p : ℕ) (seen seen' : List Entry) (e : Entry) : Type 0 where
+pub record AddsEntry (n : Name) (p : ℕ) (seen seen' : List Entry) (e : Entry) : Type 0 where
   pub before : List Entry
   pub appended : seen' ≡ before ++ e ∷ []
   pub legal : IsLegalList (start n) seen'
   pub sound : IsSound (after (start n) seen')
-  pub chained : Chained (after (start n) seen') (plans (start n) seen') (told seen')
+  pub chained : HasChains (after (start n) seen') (plans (start n) seen') (field_value seen')
   pub grows : IsPrefix seen before
   pub later : State
   pub answer : Answer

@@ -13,7 +13,7 @@
 --     LieApart values                no two of them lie in one block
 --     AllNew n held, AreNew keys     each of the values was never named, and all that lay in its block before were reclaimed, as its key
 --                                    knows; and something is lent with it
---     Keep keys pass' keys'          they are the same keys, and know all that the pass has seen
+--     FollowsValues keys pass' keys'   they are the same keys, and know all that the pass has seen
 --     AreSpent keys pass             each value was named, and no call may begin to retire it, as the pass has seen
 --     AreLast keys pass              all others that lay in the blocks of these values were reclaimed, as the pass has seen
 use Rattle.std.specs.Prelude.{◌≡◌, ℕ, true, false, map, List, [], ◌∷◌, ◌++◌}
@@ -22,7 +22,7 @@ use Rattle.seize_machine.specs.Machine.State.{are_distinct, has}
 use Rattle.seize_book.specs.Book.{after}
 use Rattle.seize_book.specs.Entry.{Entry}
 use Rattle.seize_book.specs.Homes.{IsVacant, home_of}
-use Rattle.seize_book.specs.Ledger.{HeldKey, renewed}
+use Rattle.seize_book.specs.Ledger.{HeldKey, with_list}
 use Rattle.seize_book.specs.Linked.{are_joined}
 use Rattle.seize_book.specs.Others.{IsLastIn, IsSpent, book_of, value_of}
 use Rattle.seize_book.specs.Loans.{CarriesOne}
@@ -97,9 +97,9 @@ AllNew n (h ∷ held) =
 abbrev pub AreNew : ValueKeys → Type 0
 AreNew keys = AllNew (book_in keys) keys.keys.held
 
-abbrev pub Keep : ValueKeys → Pass → ValueKeys → Type 0
-Keep keys pass' keys' =
-    (book_in keys' ≡ book_in keys) × (values_of keys' ≡ values_of keys) × (keys'.keys.held ≡ renewed keys.keys.held pass'.seen)
+abbrev pub FollowsValues : ValueKeys → Pass → ValueKeys → Type 0
+FollowsValues keys pass' keys' =
+    (book_in keys' ≡ book_in keys) × (values_of keys' ≡ values_of keys) × (keys'.keys.held ≡ with_list keys.keys.held pass'.seen)
 
 abbrev pub AreSpent : ValueKeys → Pass → Type 0
 AreSpent keys pass = (v : ℕ) → Contains (values_of keys) v → IsSpent v (after (start pass.name) pass.seen)

@@ -7,10 +7,10 @@ use Rattle.seize_machine.specs.Machine.Next.{next}
 use Rattle.seize_machine.specs.Machine.History.{done_by}
 use Rattle.seize_machine.specs.declared.machine.event.Answer.{Answer}
 use Rattle.seize_machine.specs.declared.machine.event.Answer.TheVariants.{Done}
-use Rattle.seize_book.specs.Book.{after, answered, mine}
+use Rattle.seize_book.specs.Book.{after, mine, with_answers}
 use Rattle.seize_book.specs.Entry.{Deed, Entry, Made, Used, deeds, maker, timed_deed}
 use Rattle.seize_book.specs.Passes.{IsSamePass, LooksOn, events_by, events_in, mine_of}
-use Rattle.seize_book.specs.Tokens.{IsSole, Name, Noted, start}
+use Rattle.seize_book.specs.Tokens.{AddsEntry, IsSole, Name, start}
 use Rattle.seize_book.specs.declared.book.pass.Pass.{Pass}
 use Rattle.seize_book.proofs.Facts.{deeds_append, equal}
 use Rattle.seize_calls.specs.Alone.{AddsAlone, AllBy}
@@ -21,7 +21,7 @@ alone_none pass = λ sole. ([], sym (append-nil pass.seen), tt)
 pub alone_looked : (pass pass' : Pass) → LooksOn pass pass' → AddsAlone pass pass'
 alone_looked pass pass' looks = λ sole. ([], looks.alone sole ∙ sym (append-nil pass.seen), tt)
 
-pub alone_noted : (pass pass' : Pass) (e : Entry) → maker e ≡ pass.id → Noted pass.name pass.id pass.seen pass'.seen e → AddsAlone pass pass'
+pub alone_noted : (pass pass' : Pass) (e : Entry) → maker e ≡ pass.id → AddsEntry pass.name pass.id pass.seen pass'.seen e → AddsAlone pass pass'
 alone_noted pass pass' e by noted = λ sole. (e ∷ [], noted.appended ∙ ap (λ (log : List Entry). log ++ e ∷ []) (noted.alone sole), (by, tt))
 
 all_append : (p : ℕ) (a b : List Entry) → AllBy p a → AllBy p b → AllBy p (a ++ b)
@@ -38,19 +38,19 @@ alone_twice one two three same first second = λ sole.
 
 -- Then the list has the events that were made with the pass, in their order, and no others. This is for callers: by it they know the state.
 
-answered_append : (st : State) (a b : List Entry) → answered st (a ++ b) ≡ answered st a ++ answered (after st a) b
+answered_append : (st : State) (a b : List Entry) → with_answers st (a ++ b) ≡ with_answers st a ++ with_answers (after st a) b
 answered_append st [] b = refl
 answered_append st (Made d ∷ a) b = ap (λ (more : List (Entry × Answer)). (Made d, (done_by next st (timed_deed d)).1) ∷ more) (answered_append (done_by next st (timed_deed d)).0 a b)
 answered_append st (Used u ∷ a) b = ap (λ (more : List (Entry × Answer)). (Used u, Done) ∷ more) (answered_append st a b)
 
-all_mine : (st : State) (p : ℕ) (log : List Entry) → AllBy p log → filter (λ a. maker a.0 == p) (answered st log) ≡ answered st log
+all_mine : (st : State) (p : ℕ) (log : List Entry) → AllBy p log → filter (λ a. maker a.0 == p) (with_answers st log) ≡ with_answers st log
 all_mine st p [] all = refl
 all_mine st p (Made d ∷ log) all =
-    let st1 = (done_by next st (timed_deed d)).0 in let more = filter (λ a. maker a.0 == p) (answered st1 log) in
+    let st1 = (done_by next st (timed_deed d)).0 in let more = filter (λ a. maker a.0 == p) (with_answers st1 log) in
     ap (λ (b : Bool). cond b ((Made d, (done_by next st (timed_deed d)).1) ∷ more) more) (equal d.pass p all.0)
     ∙ ap (λ (rest : List (Entry × Answer)). (Made d, (done_by next st (timed_deed d)).1) ∷ rest) (all_mine st1 p log all.1)
 all_mine st p (Used u ∷ log) all =
-    let more = filter (λ a. maker a.0 == p) (answered st log) in
+    let more = filter (λ a. maker a.0 == p) (with_answers st log) in
     ap (λ (b : Bool). cond b ((Used u, Done) ∷ more) more) (equal u.pass p all.0) ∙ ap (λ (rest : List (Entry × Answer)). (Used u, Done) ∷ rest) (all_mine st p log all.1)
 
 events_append : (a b : List (Entry × Answer)) → events_in (a ++ b) ≡ events_in a ++ events_in b
@@ -58,16 +58,16 @@ events_append [] b = refl
 events_append ((Made d, answer) ∷ a) b = ap (λ (log : List (Deed × Answer)). (d, answer) ∷ log) (events_append a b)
 events_append ((Used u, answer) ∷ a) b = events_append a b
 
-their_deeds : (st : State) (log : List Entry) → map (λ a. a.0) (events_in (answered st log)) ≡ deeds log
+their_deeds : (st : State) (log : List Entry) → map (λ a. a.0) (events_in (with_answers st log)) ≡ deeds log
 their_deeds st [] = refl
 their_deeds st (Made d ∷ log) = ap (λ (ds : List Deed). d ∷ ds) (their_deeds (done_by next st (timed_deed d)).0 log)
 their_deeds st (Used u ∷ log) = their_deeds st log
 
 -- and with their answers
 pub made_there : (pass pass' : Pass) (made : List (Deed × Answer)) → IsSamePass pass pass' → (adds : AddsAlone pass pass') (sole : IsSole pass.id) → events_by pass' ≡ events_by pass ++ made
-    → events_in (answered (after (start pass.name) pass.seen) (adds sole).0) ≡ made
+    → events_in (with_answers (after (start pass.name) pass.seen) (adds sole).0) ≡ made
 made_there pass pass' made same adds sole events =
-    append_cancel_left (events_by pass) (events_in (answered st more.0)) made (sym (events_append (mine_of pass) (answered st more.0)) ∙ sym (ap events_in mine_now) ∙ events)
+    append_cancel_left (events_by pass) (events_in (with_answers st more.0)) made (sym (events_append (mine_of pass) (with_answers st more.0)) ∙ sym (ap events_in mine_now) ∙ events)
   where
     more : (added : List Entry) × (pass'.seen ≡ pass.seen ++ added) × AllBy pass.id added
     more = adds sole
@@ -75,12 +75,12 @@ made_there pass pass' made same adds sole events =
     st : State
     st = after (start pass.name) pass.seen
 
-    mine_now : mine_of pass' ≡ mine_of pass ++ answered st more.0
+    mine_now : mine_of pass' ≡ mine_of pass ++ with_answers st more.0
     mine_now =
         ap (λ (t : Name × ℕ). mine (start t.0) t.1 pass'.seen) (λ i. (same.0 i, same.1 i))
         ∙ ap (λ (log : List Entry). mine (start pass.name) pass.id log) more.1
         ∙ ap (filter (λ a. maker a.0 == pass.id)) (answered_append (start pass.name) pass.seen more.0)
-        ∙ filter-append (λ a. maker a.0 == pass.id) (answered (start pass.name) pass.seen) (answered st more.0)
+        ∙ filter-append (λ a. maker a.0 == pass.id) (with_answers (start pass.name) pass.seen) (with_answers st more.0)
         ∙ ap (λ (log : List (Entry × Answer)). mine_of pass ++ log) (all_mine st pass.id more.0 more.2)
 
 pub made_alone : (pass pass' : Pass) (made : List (Deed × Answer)) → IsSamePass pass pass' → AddsAlone pass pass' → IsSole pass.id → events_by pass' ≡ events_by pass ++ made

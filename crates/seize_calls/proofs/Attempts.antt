@@ -14,17 +14,17 @@ use Rattle.seize_machine.specs.declared.machine.event.Answer.TheVariants.{Count 
 use Rattle.seize_machine.proofs.Facts.{Step, and_true, eq_true, marking_full, marks_tidy, not_true, some_is, step_of}
 use Rattle.seize_book.specs.Adding.{private}
 use Rattle.seize_book.specs.Batches.{Detaches}
-use Rattle.seize_book.specs.Blocks.{Plan, block_number, marked_at, no_plan, plans, serving}
+use Rattle.seize_book.specs.Blocks.{Plan, block_number, marked_at, no_plan, plan_value, plans}
 use Rattle.seize_book.specs.Book.{after}
 use Rattle.seize_words.specs.Chunks.{IsHeaderOf}
-use Rattle.seize_words.specs.Counts.{AddsTo, Counts, GivesUp, LeavesKeys, values_in}
+use Rattle.seize_words.specs.Counts.{Counts, GivesUp, LeavesKeys, MayCountUp, values_in}
 use Rattle.seize_book.specs.Entry.{Deed, Entry as Logged, Made}
 use Rattle.seize_words.specs.Headers.{IsFrontBlock}
 use Rattle.seize_book.specs.Homesteads.{HasNumber, state_seen}
 use Rattle.seize_book.specs.Ledger.{HeldKey}
 use Rattle.seize_book.specs.Private.{labels_of}
 use Rattle.seize_book.specs.Passes.{IsSamePass, LooksOn, events_by}
-use Rattle.seize_book.specs.Slots.{IsKeyOfBook, Notes, own_list, slot_number, slot_of, start_of}
+use Rattle.seize_book.specs.Slots.{AddsEvent, IsKeyOfBook, own_list, slot_number, slot_of, start_of}
 use Rattle.seize_book.specs.Tokens.{Name, start}
 use Rattle.seize_words.specs.Totals.{slots_seen}
 use Rattle.seize_words.specs.Walks.{Knows}
@@ -39,10 +39,10 @@ use Rattle.seize_calls.specs.Attempts.{Retires}
 use Rattle.seize_book.specs.Kept.{AreTold}
 use Rattle.seize_calls.proofs.Batches.{remarked_kepts, remarked_labels}
 use Rattle.seize_calls.specs.Batches.{AreRemarked, SlotMark, marked_slots, slot_marks_of}
-use Rattle.seize_calls.specs.Inserts.{ArePlanned, InsertedAll, IsInserting, plan_in, turns_at}
+use Rattle.seize_calls.specs.Inserts.{ArePlanned, InsertsAtEach, IsInserting, all_insert_events, plan_in}
 use Rattle.seize_calls.specs.Marks.{BeginsToMark, EndsMarks, actives, readings}
 use Rattle.seize_calls.specs.Numbered.{starts_at}
-use Rattle.seize_calls.specs.declared.marking.Marked.TheVariants.{Ready, TooMany}
+use Rattle.seize_calls.specs.declared.marking.MarkOutcome.TheVariants.{Ready, TooMany}
 use Rattle.seize_calls.proofs.Inserts.{detached_look}
 use Rattle.seize_calls.proofs.Keeps.{keeps_book, looked_same, same_private}
 use Rattle.seize_calls.proofs.Marks.{within}
@@ -70,8 +70,8 @@ Keys = List (HeldKey Logged)
 -- these are the blocks of the first of these values
 abbrev pub AreFirst : List SlotMark → List ℕ → Type 0
 AreFirst [] values = Unit {0}
-AreFirst (spot ∷ spots) [] = ⊥
-AreFirst (spot ∷ spots) (v ∷ values) = (spot.block ≡ block_number v) × AreFirst spots values
+AreFirst (mark ∷ marks) [] = ⊥
+AreFirst (mark ∷ marks) (v ∷ values) = (mark.block ≡ block_number v) × AreFirst marks values
 
 pub are_first : (held : Keys) (k : ℕ) → AreFirst (take k (slot_marks_of held)) (labels_of held)
 are_first [] zero = tt
@@ -83,25 +83,25 @@ both_false : (a b : Bool) → (a || b) ≡ false → (a ≡ false) × (b ≡ fal
 both_false false b e = (refl, e)
 both_false true b e = absurd (cc)
 
-planned_later : (k v seen : ℕ) (slots values : List ℕ) (spots : List SlotMark) → has k (marked_slots spots) ≡ false → ArePlanned (record { slots = slots; values = values }) seen spots
-    → ArePlanned (record { slots = k ∷ slots; values = v ∷ values }) seen spots
+planned_later : (k v seen : ℕ) (slots values : List ℕ) (marks : List SlotMark) → has k (marked_slots marks) ≡ false → ArePlanned (record { slots = slots; values = values }) seen marks
+    → ArePlanned (record { slots = k ∷ slots; values = v ∷ values }) seen marks
 planned_later k v seen slots values [] none are = tt
-planned_later k v seen slots values (spot ∷ spots) none are =
-    let other = both_false (spot.slot == k) (has k (marked_slots spots)) none in
-    let apart : (k == spot.slot) ≡ false = turned k spot.slot other.0 in
-    ((are.0.0 ∙ ap (λ (b : Bool). block_number (if b then v else serving spot.slot slots values)) (sym apart), are.0.1), planned_later k v seen slots values spots other.1 are.1)
+planned_later k v seen slots values (mark ∷ marks) none are =
+    let other = both_false (mark.slot == k) (has k (marked_slots marks)) none in
+    let apart : (k == mark.slot) ≡ false = turned k mark.slot other.0 in
+    ((are.0.0 ∙ ap (λ (b : Bool). block_number (if b then v else plan_value mark.slot slots values)) (sym apart), are.0.1), planned_later k v seen slots values marks other.1 are.1)
   where
     turned : (a b : ℕ) → (b == a) ≡ false → (a == b) ≡ false
     turned a b e = grind arith
 
-pub planned_all : (spots : List SlotMark) (values : List ℕ) (seen : ℕ) → AreFirst spots values → are_distinct (marked_slots spots) ≡ true → AllBelow seen (marked_slots spots)
-    → ArePlanned (record { slots = marked_slots spots; values = values }) seen spots
+pub planned_all : (marks : List SlotMark) (values : List ℕ) (seen : ℕ) → AreFirst marks values → are_distinct (marked_slots marks) ≡ true → AllBelow seen (marked_slots marks)
+    → ArePlanned (record { slots = marked_slots marks; values = values }) seen marks
 planned_all [] values seen are distinct below = tt
-planned_all (spot ∷ spots) [] seen are distinct below = absurd are
-planned_all (spot ∷ spots) (v ∷ values) seen are distinct below =
-    let parts = and_true (not (has spot.slot (marked_slots spots))) (are_distinct (marked_slots spots)) distinct in (
-      (are.0 ∙ ap (λ (b : Bool). block_number (if b then v else serving spot.slot (marked_slots spots) values)) (sym (equal spot.slot spot.slot refl)), below.0),
-      planned_later spot.slot v seen (marked_slots spots) values spots (not_true _ parts.0) (planned_all spots values seen are.1 parts.1 below.1),
+planned_all (mark ∷ marks) [] seen are distinct below = absurd are
+planned_all (mark ∷ marks) (v ∷ values) seen are distinct below =
+    let parts = and_true (not (has mark.slot (marked_slots marks))) (are_distinct (marked_slots marks)) distinct in (
+      (are.0 ∙ ap (λ (b : Bool). block_number (if b then v else plan_value mark.slot (marked_slots marks) values)) (sym (equal mark.slot mark.slot refl)), below.0),
+      planned_later mark.slot v seen (marked_slots marks) values marks (not_true _ parts.0) (planned_all marks values seen are.1 parts.1 below.1),
     )
 
 -- the number of the batch's first block
@@ -162,7 +162,7 @@ module _ (key0 : SlotKey) (at : BeginsToMark key0) (pass0 : Pass) (key : SlotKey
   pub distinct : are_distinct marks ≡ true
   distinct = (marks_tidy (after (start_of key) (own_list key)) (slot_number key) (length ends.finds) at.note marks at.queue (own_reached key pass book knows) ends.stands.1).0
 
-  module _ (key1 : SlotKey) (pass1 : Pass) (notes : Notes key pass key1 pass1 (Detach (slot_number key))) (detaches : Detaches key pass1) where
+  module _ (key1 : SlotKey) (pass1 : Pass) (notes : AddsEvent key pass key1 pass1 (Detach (slot_number key))) (detaches : Detaches key pass1) where
     abbrev st : State
     st = after (start_of key) notes.2.0.before
 
@@ -230,7 +230,7 @@ module _ (key0 : SlotKey) (at : BeginsToMark key0) (pass0 : Pass) (key : SlotKey
         (some_is b a.batch (sym (detached_look b 0 (marked_slots first) at.queue) ∙ ap detached_by (sym inserts.stands ∙ a.stands) ∙ detached_look a.batch a.won (marked_slots first) a.queue))
 
     -- The insertions were made.
-    module _ (key2 : SlotKey) (pass2 : Pass) (won : ℕ) (all : InsertedAll inserts key2 pass2 won) (knows2 : Knows key2 pass2) where
+    module _ (key2 : SlotKey) (pass2 : Pass) (won : ℕ) (all : InsertsAtEach inserts key2 pass2 won) (knows2 : Knows key2 pass2) where
       pub book_two : IsKeyOfBook key2 pass2
       book_two = keeps_book key1 key2 pass1 pass2 all.keeps book_one
 
@@ -252,7 +252,7 @@ module _ (key0 : SlotKey) (at : BeginsToMark key0) (pass0 : Pass) (key : SlotKey
         pub book_three : IsKeyOfBook key2 pass3
         book_three = book_two ∙ sym looks.same.0
 
-        abbrev pub adds : AddsTo key2 header.count won
+        abbrev pub adds : MayCountUp key2 header.count won
         adds = record {
           batch = b;
           front = front_two.0;
@@ -276,7 +276,7 @@ module _ (key0 : SlotKey) (at : BeginsToMark key0) (pass0 : Pass) (key : SlotKey
         -- The insertions were added.
         module _ (before : ValueKeys) (values : ValueKeys) (remarked : AreRemarked before values) (values' : ValueKeys) (key' : SlotKey) (pass' : Pass) (zero' : Bool) (counts : Counts key2 pass3 key' pass' (AddCount (slot_number key2)) zero')
             (gives : GivesUp key2 key' b [] at.queue zero') (leaves : LeavesKeys values pass' values' zero') where
-          abbrev added : Notes key2 pass3 key' pass' (AddCount (slot_number key2))
+          abbrev added : AddsEvent key2 pass3 key' pass' (AddCount (slot_number key2))
           added = counts.0
 
           abbrev here : State
@@ -308,20 +308,20 @@ module _ (key0 : SlotKey) (at : BeginsToMark key0) (pass0 : Pass) (key : SlotKey
               ∙ ap (λ (a : Answer). events ++ (private pass (Detach (slot_number key)), a) ∷ []) done.5
               ∙ ap (λ (x : Deed × Answer). events ++ x ∷ []) (one_deed Detach key pass Done same its.1)
 
-          made_two : events_by pass2 ≡ (events ++ (private pass0 (Detach s), Done) ∷ []) ++ turns_at pass0 s marks all.turns
+          made_two : events_by pass2 ≡ (events ++ (private pass0 (Detach s), Done) ∷ []) ++ all_insert_events pass0 s marks all.turns
           made_two =
               all.made
-              ∙ ap (λ (log : List (Deed × Answer)). log ++ turns_at pass1 (slot_number key1) (marked_slots first) all.turns) made_one
+              ∙ ap (λ (log : List (Deed × Answer)). log ++ all_insert_events pass1 (slot_number key1) (marked_slots first) all.turns) made_one
               ∙ ap (λ (log : List (Deed × Answer)). (events ++ (private pass0 (Detach s), Done) ∷ []) ++ log)
-              (same_turns pass0 pass1 same_one (slot_number key1) (marked_slots first) all.turns ∙ ap (λ (k : ℕ). turns_at pass0 k (marked_slots first) all.turns) its_one.1
-              ∙ ap (λ (ms : List ℕ). turns_at pass0 s ms all.turns) ends.stands.3)
+              (same_turns pass0 pass1 same_one (slot_number key1) (marked_slots first) all.turns ∙ ap (λ (k : ℕ). all_insert_events pass0 k (marked_slots first) all.turns) its_one.1
+              ∙ ap (λ (ms : List ℕ). all_insert_events pass0 s ms all.turns) ends.stands.3)
 
-          made_all : events_by pass' ≡ ((events ++ (private pass0 (Detach s), Done) ∷ []) ++ turns_at pass0 s marks all.turns) ++ (private pass0 (AddCount s), Counted counts.1.0) ∷ []
+          made_all : events_by pass' ≡ ((events ++ (private pass0 (Detach s), Done) ∷ []) ++ all_insert_events pass0 s marks all.turns) ++ (private pass0 (AddCount s), Counted counts.1.0) ∷ []
           made_all =
               events_grew pass3 pass' (AddCount (slot_number key2)) added.0 added.2.0
               ∙ ap (λ (log : List (Deed × Answer)). log ++ (private pass3 (AddCount (slot_number key2)), added.2.0.answer) ∷ []) (looked_same pass2 pass3 looks ∙ made_two)
-              ∙ ap (λ (a : Answer). ((events ++ (private pass0 (Detach s), Done) ∷ []) ++ turns_at pass0 s marks all.turns) ++ (private pass3 (AddCount (slot_number key2)), a) ∷ []) counts.1.1
-              ∙ ap (λ (x : Deed × Answer). ((events ++ (private pass0 (Detach s), Done) ∷ []) ++ turns_at pass0 s marks all.turns) ++ x ∷ [])
+              ∙ ap (λ (a : Answer). ((events ++ (private pass0 (Detach s), Done) ∷ []) ++ all_insert_events pass0 s marks all.turns) ++ (private pass3 (AddCount (slot_number key2)), a) ∷ []) counts.1.1
+              ∙ ap (λ (x : Deed × Answer). ((events ++ (private pass0 (Detach s), Done) ∷ []) ++ all_insert_events pass0 s marks all.turns) ++ x ∷ [])
               (one_deed AddCount key2 pass3 (Counted counts.1.0) same_three (all.keeps.its.1 ∙ its_one.1))
 
           pub retires : Retires at pass0 before key' pass' values' zero'
@@ -366,5 +366,5 @@ module _ (key0 : SlotKey) (at : BeginsToMark key0) (pass0 : Pass) (key : SlotKey
           its_last = (added.1.0 ∙ all.keeps.its.0 ∙ its_one.0, added.1.1 ∙ all.keeps.its.1 ∙ its_one.1)
 
 -- A call that has given up says nothing of its blocks.
-pub stays_so : {key : SlotKey} (at : BeginsToMark key) (pass : Pass) (key' : SlotKey) (pass' : Pass) (spots : List SlotMark) → EndsMarks at pass key' pass' spots TooMany → EndsMarks at pass key' pass' [] TooMany
-stays_so at pass key' pass' spots e = record { finds = e.finds; within = e.within; grows = e.grows; alone = e.alone; made = e.made; batch = e.batch; used = e.used; active = e.active; life = e.life; stands = e.stands }
+pub stays_so : {key : SlotKey} (at : BeginsToMark key) (pass : Pass) (key' : SlotKey) (pass' : Pass) (marks : List SlotMark) → EndsMarks at pass key' pass' marks TooMany → EndsMarks at pass key' pass' [] TooMany
+stays_so at pass key' pass' marks e = record { finds = e.finds; within = e.within; grows = e.grows; alone = e.alone; made = e.made; batch = e.batch; used = e.used; active = e.active; life = e.life; stands = e.stands }

@@ -7,16 +7,16 @@ use Rattle.seize_machine.proofs.Facts.{eq_true}
 use Rattle.seize_book.specs.Blocks.{block_number}
 use Rattle.seize_book.specs.Book.{blocks}
 use Rattle.seize_book.specs.Entry.{Entry}
-use Rattle.seize_book.specs.Ledger.{HeldKey, renewed}
+use Rattle.seize_book.specs.Ledger.{HeldKey, with_list}
 use Rattle.seize_book.specs.Linked.{are_joined, are_linked, next_in}
 use Rattle.seize_book.specs.Private.{is_one, label_of, labels_of, note_of}
 use Rattle.seize_book.proofs.Facts.{equal}
 use Rattle.seize_words.proofs.Facts.{parted_joined}
 use Rattle.seize_book.specs.Kept.{kept_in, kepts_of}
-use Rattle.seize_book.specs.Values.{Keep}
+use Rattle.seize_book.specs.Values.{FollowsValues}
 use Rattle.seize_book.specs.declared.book.pass.Pass.{Pass}
 use Rattle.seize_book.specs.declared.book.value_keys.ValueKeys.{ValueKeys}
-use Rattle.seize_calls.specs.Batches.{unslotted, without_slot}
+use Rattle.seize_calls.specs.Batches.{without_slot, without_slots}
 use Rattle.seize_calls.specs.Numbered.{ends_at, is_count_of, starts_at}
 use Rattle.seize_calls.proofs.Rounds.{joined_past, leads_to}
 
@@ -99,14 +99,14 @@ kept_one (h ∷ x ∷ one) k is e = absurd (cc)
 kept_one (h ∷ []) k is e = ap (λ (n : ℕ). n ∷ []) e
 
 -- Keys that were marked anew are of the same values.
-pub remarked_labels : (a b : Keys) → unslotted a ≡ unslotted b → labels_of a ≡ labels_of b
+pub remarked_labels : (a b : Keys) → without_slots a ≡ without_slots b → labels_of a ≡ labels_of b
 remarked_labels a b same = sym (plain a) ∙ ap labels_of same ∙ plain b
   where
-    plain : (held : Keys) → labels_of (unslotted held) ≡ labels_of held
+    plain : (held : Keys) → labels_of (without_slots held) ≡ labels_of held
     plain [] = refl
     plain (h ∷ held) = ap (λ (vs : List ℕ). h.label ∷ vs) (plain held)
 
-pub renewed_labels : (held : Keys) (seen : List Entry) → labels_of (renewed held seen) ≡ labels_of held
+pub renewed_labels : (held : Keys) (seen : List Entry) → labels_of (with_list held seen) ≡ labels_of held
 renewed_labels [] seen = refl
 renewed_labels (h ∷ held) seen = ap (λ (vs : List ℕ). h.label ∷ vs) (renewed_labels held seen)
 
@@ -117,12 +117,12 @@ contains_more (x ∷ vs) v w (suc n, less, is) = let rest = contains_more vs v w
 
 -- What is kept of a value stays, where it is marked anew. This is for callers.
 
-pub renewed_kepts : (held : Keys) (seen : List Entry) → kepts (renewed held seen) ≡ kepts held
+pub renewed_kepts : (held : Keys) (seen : List Entry) → kepts (with_list held seen) ≡ kepts held
 renewed_kepts [] seen = refl
 renewed_kepts (h ∷ held) seen = ap (λ (ks : List ℕ). kept_in h.note ∷ ks) (renewed_kepts held seen)
 
 -- keys that know more say the same
-pub kepts_kept : (keys keys' : ValueKeys) (pass' : Pass) → Keep keys pass' keys' → kepts_of keys' ≡ kepts_of keys
+pub kepts_kept : (keys keys' : ValueKeys) (pass' : Pass) → FollowsValues keys pass' keys' → kepts_of keys' ≡ kepts_of keys
 kepts_kept keys keys' pass' keep = ap kepts keep.2 ∙ renewed_kepts keys.keys.held pass'.seen
 
 abbrev plain_kept : Gv → ℕ
@@ -140,9 +140,9 @@ without_kept (gcons a (gcons b (gcons gnil g))) = refl
 without_kept (gcons a (gcons b (gcons (gnum k) g))) = refl
 without_kept (gcons a (gcons b (gcons (gcons x y) g))) = refl
 
-pub remarked_kepts : (a b : Keys) → unslotted a ≡ unslotted b → kepts a ≡ kepts b
+pub remarked_kepts : (a b : Keys) → without_slots a ≡ without_slots b → kepts a ≡ kepts b
 remarked_kepts a b same = sym (plain a) ∙ ap (λ (held : Keys). map (λ h. plain_kept h.note) held) same ∙ plain b
   where
-    plain : (held : Keys) → map (λ h. plain_kept h.note) (unslotted held) ≡ kepts held
+    plain : (held : Keys) → map (λ h. plain_kept h.note) (without_slots held) ≡ kepts held
     plain [] = refl
     plain (h ∷ held) = λ i. without_kept h.note i ∷ plain held i

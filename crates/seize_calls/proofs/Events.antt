@@ -13,13 +13,13 @@ use Rattle.seize_machine.proofs.Facts.{Step, after_put, beginning, next_of, some
 use Rattle.seize_book.specs.Adding.{deed_with_words, private}
 use Rattle.seize_book.specs.Entry.{Deed, Made}
 use Rattle.seize_book.specs.Passes.{IsSamePass, events_by}
-use Rattle.seize_book.specs.Slots.{Notes, NotesAs, slot_number, slot_of}
+use Rattle.seize_book.specs.Slots.{AddsDeed, AddsEvent, slot_number, slot_of}
 use Rattle.seize_book.specs.declared.book.pass.Pass.{Pass}
 use Rattle.seize_book.specs.declared.book.slot_key.SlotKey.{SlotKey}
 use Rattle.seize_words.proofs.Facts.{deeds_grew, events_grew, life_kept, seen_grows}
 use Rattle.seize_calls.specs.Calls.{Begins}
 use Rattle.seize_calls.specs.Settling.{PutsValue, done_event}
-use Rattle.seize_calls.specs.Inserts.{Keeps}
+use Rattle.seize_calls.specs.Inserts.{Continues}
 use Rattle.seize_calls.proofs.Alone.{alone_noted}
 use Rattle.seize_calls.proofs.Keeps.{keeps_from, outcome, same_private, state_before, step_noted}
 use Rattle.seize_calls.proofs.Marks.{within}
@@ -30,7 +30,7 @@ after_return : (size : ℕ) (st : State) (s : ℕ) (d : State × Answer) → Ste
 after_return size st _ _ (Step.returned s stands) =
     let same = get_or-set_same st.slots s _ no_slot (within st s _ stands) in (ap (λ (z : Slot). z.call) same, ap (λ (z : Slot). z.batch) same, ap (λ (z : Slot). z.used) same, refl, refl)
 
-module _ (key key' : SlotKey) (pass pass' : Pass) (notes : Notes key pass key' pass' (Return (slot_number key))) where
+module _ (key key' : SlotKey) (pass pass' : Pass) (notes : AddsEvent key pass key' pass' (Return (slot_number key))) where
   abbrev event : Event
   event = Return (slot_number key)
 
@@ -39,7 +39,7 @@ module _ (key key' : SlotKey) (pass pass' : Pass) (notes : Notes key pass key' p
       × ((outcome key key' pass pass' event [] notes).0.heads ≡ (state_before key key' pass pass' event [] notes).heads) × ((outcome key key' pass pass' event [] notes).1 ≡ Done)
   so = after_return pass.size (state_before key key' pass pass' event [] notes) (slot_number key) (outcome key key' pass pass' event [] notes) (step_noted key key' pass pass' event [] notes)
 
-  pub keeps_returned : Keeps key pass key' pass'
+  pub keeps_returned : Continues key pass key' pass'
   keeps_returned = keeps_from key key' pass pass' event [] notes so.1 so.2 (ap (λ (hs : List Head). is_active (get_or hs (slot_number key) Inactive)) so.3) refl
 
   pub call_returned : (slot_of key').call ≡ None
@@ -82,7 +82,7 @@ retire_so size st _ _ _ (Step.begun_retire s v idle may) =
     (ap (λ (z : Slot). z.call) same, ap (λ (z : Slot). z.batch) same, ap (λ (z : Slot). z.used) same, refl, refl)
 retire_so size st _ _ _ (Step.begun_other s (Retire v) place idle which may) = absurd (let none : Option.None ≡ Some place = may.1 in cc)
 
-module _ (key key' : SlotKey) (pass pass' : Pass) (job : Job) (kepts : List ℕ) (notes : NotesAs key pass key' pass' (deed_with_words pass (Begin (slot_number key) job) kepts)) (call : Call)
+module _ (key key' : SlotKey) (pass pass' : Pass) (job : Job) (kepts : List ℕ) (notes : AddsDeed key pass key' pass' (deed_with_words pass (Begin (slot_number key) job) kepts)) (call : Call)
     (so : Kept (state_before key key' pass pass' (Begin (slot_number key) job) kepts notes) (slot_number key) (outcome key key' pass pass' (Begin (slot_number key) job) kepts notes) call) where
   pub begins_so : Begins key pass job kepts key' pass'
   begins_so = record {
@@ -98,27 +98,27 @@ module _ (key key' : SlotKey) (pass pass' : Pass) where
   abbrev out_call : Bool → Call
   out_call stays = record { place = Out stays; queue = [] }
 
-  pub leave_so : (notes : Notes key pass key' pass' (Begin (slot_number key) Leave)) → Kept (state_before key key' pass pass' (Begin (slot_number key) Leave) [] notes) (slot_number key) (outcome key key' pass pass' (Begin (slot_number key) Leave) [] notes) (out_call false)
+  pub leave_so : (notes : AddsEvent key pass key' pass' (Begin (slot_number key) Leave)) → Kept (state_before key key' pass pass' (Begin (slot_number key) Leave) [] notes) (slot_number key) (outcome key key' pass pass' (Begin (slot_number key) Leave) [] notes) (out_call false)
   leave_so notes = begun_so pass.size (state_before key key' pass pass' (Begin (slot_number key) Leave) [] notes) (slot_number key) Leave _ (Out false) (step_noted key key' pass pass' (Begin (slot_number key) Leave) [] notes) refl
 
-  pub refresh_so : (notes : Notes key pass key' pass' (Begin (slot_number key) Refresh)) → Kept (state_before key key' pass pass' (Begin (slot_number key) Refresh) [] notes) (slot_number key) (outcome key key' pass pass' (Begin (slot_number key) Refresh) [] notes) (out_call true)
+  pub refresh_so : (notes : AddsEvent key pass key' pass' (Begin (slot_number key) Refresh)) → Kept (state_before key key' pass pass' (Begin (slot_number key) Refresh) [] notes) (slot_number key) (outcome key key' pass pass' (Begin (slot_number key) Refresh) [] notes) (out_call true)
   refresh_so notes = begun_so pass.size (state_before key key' pass pass' (Begin (slot_number key) Refresh) [] notes) (slot_number key) Refresh _ (Out true) (step_noted key key' pass pass' (Begin (slot_number key) Refresh) [] notes) refl
 
-  abbrev pub flush_call : (notes : Notes key pass key' pass' (Begin (slot_number key) Flush)) → Call
+  abbrev pub flush_call : (notes : AddsEvent key pass key' pass' (Begin (slot_number key) Flush)) → Call
   flush_call notes = record { place = flushing_at (length (state_before key key' pass pass' (Begin (slot_number key) Flush) [] notes).slots) (slot_of key).batch; queue = [] }
 
-  pub flush_so : (notes : Notes key pass key' pass' (Begin (slot_number key) Flush)) → Kept (state_before key key' pass pass' (Begin (slot_number key) Flush) [] notes) (slot_number key) (outcome key key' pass pass' (Begin (slot_number key) Flush) [] notes) (flush_call notes)
+  pub flush_so : (notes : AddsEvent key pass key' pass' (Begin (slot_number key) Flush)) → Kept (state_before key key' pass pass' (Begin (slot_number key) Flush) [] notes) (slot_number key) (outcome key key' pass pass' (Begin (slot_number key) Flush) [] notes) (flush_call notes)
   flush_so notes =
       let st = state_before key key' pass pass' (Begin (slot_number key) Flush) [] notes in
       begun_so pass.size st (slot_number key) Flush _ (flushing_at (length st.slots) (slot_of key).batch) (step_noted key key' pass pass' (Begin (slot_number key) Flush) [] notes)
       (ap (λ (z : Slot). Some (flushing_at (length st.slots) z.batch)) notes.2.1.was)
 
-  pub begun_retire_so : (v kept : ℕ) (notes : NotesAs key pass key' pass' (deed_with_words pass (Begin (slot_number key) (Retire v)) (kept ∷ [])))
+  pub begun_retire_so : (v kept : ℕ) (notes : AddsDeed key pass key' pass' (deed_with_words pass (Begin (slot_number key) (Retire v)) (kept ∷ [])))
       → Kept (state_before key key' pass pass' (Begin (slot_number key) (Retire v)) (kept ∷ []) notes) (slot_number key) (outcome key key' pass pass' (Begin (slot_number key) (Retire v)) (kept ∷ []) notes) (record { place = Append v; queue = [] })
   begun_retire_so v kept notes = retire_so pass.size _ (slot_number key) v _ (step_noted key key' pass pass' (Begin (slot_number key) (Retire v)) (kept ∷ []) notes)
 
 -- A value is put.
-module _ (key key' : SlotKey) (pass pass' : Pass) (notes : Notes key pass key' pass' (Put (slot_number key))) (v : ℕ) (from : Place) (before after : List ℕ)
+module _ (key key' : SlotKey) (pass pass' : Pass) (notes : AddsEvent key pass key' pass' (Put (slot_number key))) (v : ℕ) (from : Place) (before after : List ℕ)
     (stands : (slot_of key).call ≡ Some (record { place = from; queue = before })) (turn : ((from ≡ Append v) × (before ≡ after)) ⊎ ((from ≡ Rest [] []) × (before ≡ v ∷ after))) where
   abbrev put : Event
   put = Put (slot_number key)

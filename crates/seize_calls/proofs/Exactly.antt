@@ -51,10 +51,10 @@ module _ (key : SlotKey) (pass : Pass) (v kept : ℕ) (values : ValueKeys) (had 
   begun = r.begun
 
   abbrev full : CallState
-  full = r.round.full
+  full = r.drains_one.full
 
   abbrev stays : Stays full r.settled
-  stays = r.round.settles
+  stays = r.drains_one.settles
 
   abbrev begin : List (Deed × Answer)
   begin = (deed_with_words pass (Begin s (Retire v)) (kept ∷ []), Done) ∷ []
@@ -69,23 +69,23 @@ module _ (key : SlotKey) (pass : Pass) (v kept : ℕ) (values : ValueKeys) (had 
   same_one = r.begins.begins.keeps.same
 
   same_two : IsSamePass pass full.pass
-  same_two = same_twice pass begun.pass full.pass same_one r.round.puts.on.same
+  same_two = same_twice pass begun.pass full.pass same_one r.drains_one.puts.on.same
 
   same_three : IsSamePass pass r.settled.pass
   same_three = same_twice pass full.pass r.settled.pass same_two stays.on.same
 
   its : slot_number full.key ≡ s
-  its = r.round.puts.on.its.1 ∙ r.begins.begins.keeps.its.1
+  its = r.drains_one.puts.on.its.1 ∙ r.begins.begins.keeps.its.1
 
   none : values_of r.settled.queue ≡ []
-  none = stays.queued.1 ∙ append-nil (values_of full.queue) ∙ ap (λ (keys : ValueKeys). values_of keys) r.round.same.0 ∙ r.begins.none
+  none = stays.queued.1 ∙ append-nil (values_of full.queue) ∙ ap (λ (keys : ValueKeys). values_of keys) r.drains_one.same.0 ∙ r.begins.none
 
   last : r.drained ≡ r.settled
   last = no_rounds r.settled r.drained r.drains none
 
   made_full : events_by full.pass ≡ (events_by pass ++ begin) ++ done_event pass (Put s)
   made_full =
-      r.round.puts.made ∙ ap (λ (log : List (Deed × Answer)). log ++ done_event begun.pass (Put (slot_number begun.key))) r.begins.begins.made
+      r.drains_one.puts.made ∙ ap (λ (log : List (Deed × Answer)). log ++ done_event begun.pass (Put (slot_number begun.key))) r.begins.begins.made
       ∙ ap (λ (log : List (Deed × Answer)). (events_by pass ++ begin) ++ log) (same_done pass begun.pass same_one Put s (slot_number begun.key) r.begins.begins.keeps.its.1)
 
   returned_so : events_by pass' ≡ events_by r.settled.pass ++ done_event r.settled.pass (Return (slot_number r.settled.key))

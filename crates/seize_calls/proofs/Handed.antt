@@ -13,7 +13,7 @@ use Rattle.seize_book.specs.Kept.{kepts_of}
 use Rattle.seize_book.specs.Lending.{IsLentKey}
 use Rattle.seize_book.specs.Others.{IsValueOf, value_of}
 use Rattle.seize_book.specs.Passes.{LooksOn, events_by}
-use Rattle.seize_book.specs.Slots.{IsKeyOfBook, NotesAs, hands_next, slot_number, slot_of}
+use Rattle.seize_book.specs.Slots.{AddsDeed, IsKeyOfBook, hands_next, slot_number, slot_of}
 use Rattle.seize_words.specs.Walks.{Knows}
 use Rattle.seize_book.specs.Values.{values_of}
 use Rattle.seize_book.specs.declared.book.pass.Pass.{Pass}
@@ -22,7 +22,7 @@ use Rattle.seize_book.specs.declared.book.value_key.ValueKey.{ValueKey}
 use Rattle.seize_words.proofs.Facts.{deeds_grew, hand_leaves, handing_named, knows_still, named_lent}
 use Rattle.seize_book.specs.declared.book.value_keys.ValueKeys.{ValueKeys}
 use Rattle.seize_calls.specs.Handing.{AreTheirs, Had, Handings, HasHad, Queues, values_handed, values_put, words_put}
-use Rattle.seize_calls.specs.Walking.{HandsOne, KeepsAndKnows}
+use Rattle.seize_calls.specs.Walking.{ContinuesAndKnows, HandsOne}
 use Rattle.seize_calls.proofs.Keeps.{keeps_from, keeps_looked, keeps_twice, looked_same, outcome, own_grows, same_telling, state_before, step_noted}
 use Rattle.seize_calls.proofs.Marks.{within}
 
@@ -38,7 +38,7 @@ after_hand size st _ v _ _ (Step.handed s w puts given walk queue stands fresh) 
     )
 
 -- The event, with the looks before and after it.
-module _ (key key' : SlotKey) (pass looked handed pass' : Pass) (v : ℕ) (puts words : List ℕ) (before : LooksOn pass looked) (notes : NotesAs key looked key' handed (deed_with_words looked (Hand (slot_number key) puts) words)) (behind : LooksOn handed pass') (soon : hands_next (slot_of key) ≡ Some v) where
+module _ (key key' : SlotKey) (pass looked handed pass' : Pass) (v : ℕ) (puts words : List ℕ) (before : LooksOn pass looked) (notes : AddsDeed key looked key' handed (deed_with_words looked (Hand (slot_number key) puts) words)) (behind : LooksOn handed pass') (soon : hands_next (slot_of key) ≡ Some v) where
   abbrev event : Event
   event = Hand (slot_number key) puts
 
@@ -49,7 +49,7 @@ module _ (key key' : SlotKey) (pass looked handed pass' : Pass) (v : ℕ) (puts 
       after_hand looked.size (state_before key key' looked handed event words notes) (slot_number key) v puts (outcome key key' looked handed event words notes) (step_noted key key' looked handed event words notes)
       (ap hands_next notes.2.1.was ∙ soon)
 
-  pub goes_on : KeepsAndKnows key pass key' pass'
+  pub goes_on : ContinuesAndKnows key pass key' pass'
   goes_on = (
     keeps_twice key key key' pass looked pass' (keeps_looked key pass looked before)
         (keeps_twice key key' key' looked handed pass' (keeps_from key key' looked handed event words notes so.0 so.1 (ap (λ (hs : List Head). is_active (get_or hs (slot_number key) Inactive)) so.2) refl) (keeps_looked key' handed pass' behind)),

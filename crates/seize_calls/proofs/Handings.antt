@@ -10,9 +10,9 @@ use Rattle.seize_machine.proofs.Facts.{and_true, eq_true, some_is}
 use Rattle.seize_book.specs.Blocks.{block_number}
 use Rattle.seize_book.specs.Book.{after, blocks}
 use Rattle.seize_book.specs.Entry.{Deed, Entry}
-use Rattle.seize_book.specs.Ledger.{HeldKey, renewed}
+use Rattle.seize_book.specs.Ledger.{HeldKey, with_list}
 use Rattle.seize_book.specs.Linked.{are_joined, are_linked, leads_first, next_in}
-use Rattle.seize_book.specs.Notes.{noted_in}
+use Rattle.seize_book.specs.Notes.{note_in}
 use Rattle.seize_book.specs.Others.{IsLast, IsLastIn, IsValueOf, value_of}
 use Rattle.seize_book.specs.Passes.{events_by}
 use Rattle.seize_book.specs.Private.{is_one, labels_of, note_of}
@@ -26,7 +26,7 @@ use Rattle.seize_book.specs.declared.book.value_keys.ValueKeys.{ValueKeys}
 use Rattle.seize_calls.proofs.Alone.{alone_none}
 use Rattle.seize_calls.specs.Handing.{Had, Handings, HasHad, Queues, values_handed, values_put, words_put}
 use Rattle.seize_book.specs.Kept.{kept_in, kepts_of}
-use Rattle.seize_calls.specs.Walking.{HandsAll, HandsOne, IsGiven, KeepsAndKnows, hands}
+use Rattle.seize_calls.specs.Walking.{ContinuesAndKnows, HandsAll, HandsOne, IsGiven, hands}
 use Rattle.seize_calls.proofs.Batches.{kept_one, kepts, kepts_append}
 use Rattle.seize_calls.proofs.Handed.{had_more, had_none, handed_append, put_append, queues_more, queues_none}
 use Rattle.seize_words.proofs.Facts.{labels_append, one_label, others_closed, others_know, own_is}
@@ -62,7 +62,7 @@ among_all v u us vs is among = subst (λ (ws : List ℕ). Contains ws v) (sym is
 
 -- some were handed, and some are left
 pub record IsHanding {key : SlotKey} {pass : Pass} {values : ValueKeys} {front : ℕ} (given : IsGiven key pass values front) (queue : ValueKeys) (had : Had) (key' : SlotKey) (pass' : Pass) (values' queue' : ValueKeys) (number : ℕ) (had' : Had) : Type 0 where
-  pub goes_on : KeepsAndKnows key pass key' pass'
+  pub goes_on : ContinuesAndKnows key pass key' pass'
   pub done : Keys
   pub split : values.keys.held ≡ done ++ values'.keys.held
   pub handed : Handings
@@ -71,7 +71,7 @@ pub record IsHanding {key : SlotKey} {pass : Pass} {values : ValueKeys} {front :
   pub stands : (slot_of key').call ≡ Some (record { place = Rest (values_of values') given.walk; queue = given.queue ++ values_put handed })
   pub queued : Queues queue (values_put handed) (words_put handed) queue'
   pub book : book_in values' ≡ pass.name
-  pub knows : values'.keys.held ≡ renewed values'.keys.held pass.seen
+  pub knows : values'.keys.held ≡ with_list values'.keys.held pass.seen
   pub last : AreLast values' pass
   pub closed : AreClosed values'
   pub first : ℕ
@@ -105,8 +105,8 @@ module _ (key0 : SlotKey) (pass0 : Pass) (values0 : ValueKeys) (front : ℕ) (gi
   some_left none = absurd (let e : None ≡ Some r.first = sym (ap first_or_none none) ∙ r.is_first in cc)
 
   module _ (value : ValueKey) (rest : ValueKeys) (nexts : Nexts values value rest) where
-    whole : value.keys.held ++ rest.keys.held ≡ renewed (value.keys.held ++ rest.keys.held) pass0.seen
-    whole = sym nexts.3 ∙ (r.knows ∙ ap (λ (held : Keys). renewed held pass0.seen) nexts.3)
+    whole : value.keys.held ++ rest.keys.held ≡ with_list (value.keys.held ++ rest.keys.held) pass0.seen
+    whole = sym nexts.3 ∙ (r.knows ∙ ap (λ (held : Keys). with_list held pass0.seen) nexts.3)
 
     among : (v : ℕ) → Contains (values_of rest) v → Contains (values_of values) v
     among v = among_all v (value_of value) (values_of rest) (values_of values) nexts.2
@@ -131,13 +131,13 @@ module _ (key0 : SlotKey) (pass0 : Pass) (values0 : ValueKeys) (front : ℕ) (gi
     pub is_there : block_number (value_of value) ≡ number
     is_there = ap block_number (some_is _ _ (sym (ap first_or_none nexts.2) ∙ r.is_first)) ∙ sym r.its_block
 
-    module _ (key' : SlotKey) (pass' : Pass) (queue' : ValueKeys) (had' : Had) (hand : HandsOne key pass (value_of value) queue key' pass' queue') (more : HasHad ((value_of value, hand.puts, hand.words) ∷ []) (kept_in (noted_in value) ∷ []) had had') where
-      leads : leads_first (noted_in value) rest.keys.held ≡ true
+    module _ (key' : SlotKey) (pass' : Pass) (queue' : ValueKeys) (had' : Had) (hand : HandsOne key pass (value_of value) queue key' pass' queue') (more : HasHad ((value_of value, hand.puts, hand.words) ∷ []) (kept_in (note_in value) ∷ []) had had') where
+      leads : leads_first (note_in value) rest.keys.held ≡ true
       leads =
           leads_on value.keys.held rest.keys.held value.one
           (subst (λ (held : Keys). are_linked held ≡ true) nexts.3 values.linked) (subst (λ (held : Keys). are_joined held [] ≡ true) nexts.3 r.closed)
 
-      goes : KeepsAndKnows key0 pass0 key' pass'
+      goes : ContinuesAndKnows key0 pass0 key' pass'
       goes = goes_twice key0 key key' pass0 pass pass' r.goes_on hand.goes_on
 
       split_more : values0.keys.held ≡ (r.done ++ value.keys.held) ++ rest.keys.held
@@ -167,8 +167,8 @@ module _ (key0 : SlotKey) (pass0 : Pass) (values0 : ValueKeys) (front : ℕ) (gi
       theirs_more : HasHad (r.handed ++ one) (kepts (r.done ++ value.keys.held)) had0 had'
       theirs_more =
           subst (λ (ks : List ℕ). HasHad (r.handed ++ one) ks had0 had')
-          (ap (λ (ks : List ℕ). kepts r.done ++ ks) (sym (kept_one value.keys.held (kept_in (noted_in value)) value.one refl)) ∙ sym (kepts_append r.done value.keys.held))
-          (had_more r.handed one (kepts r.done) (kept_in (noted_in value) ∷ []) had0 had had' r.theirs more)
+          (ap (λ (ks : List ℕ). kepts r.done ++ ks) (sym (kept_one value.keys.held (kept_in (note_in value)) value.one refl)) ∙ sym (kepts_append r.done value.keys.held))
+          (had_more r.handed one (kepts r.done) (kept_in (note_in value) ∷ []) had0 had had' r.theirs more)
 
       stands_more : (slot_of key').call ≡ Some (record { place = Rest (values_of rest) given.walk; queue = given.queue ++ values_put (r.handed ++ one) })
       stands_more =
@@ -178,9 +178,9 @@ module _ (key0 : SlotKey) (pass0 : Pass) (values0 : ValueKeys) (front : ℕ) (gi
           ∙ ap (λ (vs : List ℕ). given.queue ++ vs) (sym (put_append r.handed one ∙ ap (λ (vs : List ℕ). values_put r.handed ++ vs) (append-nil hand.puts))))
 
       -- the next one's block is that of the word
-      pub handed_on : next_in (noted_in value) ≢ 0 → IsHanding given queue0 had0 key' pass' rest queue' (next_in (noted_in value) - 1) had'
+      pub handed_on : next_in (note_in value) ≢ 0 → IsHanding given queue0 had0 key' pass' rest queue' (next_in (note_in value) - 1) had'
       handed_on some =
-          let first = first_after (noted_in value) rest.keys.held leads some in
+          let first = first_after (note_in value) rest.keys.held leads some in
           record {
             goes_on = goes;
             done = r.done ++ value.keys.held;
@@ -201,9 +201,9 @@ module _ (key0 : SlotKey) (pass0 : Pass) (values0 : ValueKeys) (front : ℕ) (gi
           }
 
       -- or none is left
-      module _ (none : next_in (noted_in value) ≡ 0) where
+      module _ (none : next_in (note_in value) ≡ 0) where
         empty : rest.keys.held ≡ []
-        empty = none_after (noted_in value) rest.keys.held leads none
+        empty = none_after (note_in value) rest.keys.held leads none
 
         all_done : values0.keys.held ≡ r.done ++ value.keys.held
         all_done = split_more ∙ (ap (λ (held : Keys). (r.done ++ value.keys.held) ++ held) empty ∙ append-nil (r.done ++ value.keys.held))

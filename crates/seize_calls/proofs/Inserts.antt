@@ -20,8 +20,8 @@ use Rattle.seize_words.specs.Totals.{slots_seen}
 use Rattle.seize_book.specs.declared.book.pass.Pass.{Pass}
 use Rattle.seize_book.specs.declared.book.slot_key.SlotKey.{SlotKey}
 use Rattle.seize_calls.proofs.Alone.{alone_none}
-use Rattle.seize_calls.specs.Batches.{SlotMark, marked_slots, slot_marks_of, slot_noted}
-use Rattle.seize_calls.specs.Inserts.{ArePlanned, GoesPast, IsAtNext, Inserted, InsertedAll, IsAtSlot, IsInserting, Keeps, InsertTries, plan_in, turn_at, turns_at, won_in}
+use Rattle.seize_calls.specs.Batches.{SlotMark, marked_slots, slot_in, slot_marks_of}
+use Rattle.seize_calls.specs.Inserts.{ArePlanned, GoesPast, IsAtNext, InsertsAtSlot, InsertsAtEach, IsAtSlot, IsInserting, Continues, InsertTries, plan_in, insert_events, all_insert_events, won_in}
 use Rattle.seize_calls.specs.Rounds.{done_in, rest_in}
 use Rattle.seize_calls.specs.declared.round.Round.{Round}
 use Rattle.seize_calls.proofs.Keeps.{keeps_twice}
@@ -30,13 +30,13 @@ use Rattle.seize_calls.proofs.Turns.{same_turn}
 
 -- Lists of turns.
 
-pub turns_push : (pass : Pass) (s : ℕ) (ms : List ℕ) (turns : List InsertTries) (m : ℕ) (turn : InsertTries) → length turns ≡ length ms → turns_at pass s (ms ++ m ∷ []) (turns ++ turn ∷ []) ≡ turns_at pass s ms turns ++ turn_at pass s m turn
-turns_push pass s [] [] m turn long = append-nil (turn_at pass s m turn)
+pub turns_push : (pass : Pass) (s : ℕ) (ms : List ℕ) (turns : List InsertTries) (m : ℕ) (turn : InsertTries) → length turns ≡ length ms → all_insert_events pass s (ms ++ m ∷ []) (turns ++ turn ∷ []) ≡ all_insert_events pass s ms turns ++ insert_events pass s m turn
+turns_push pass s [] [] m turn long = append-nil (insert_events pass s m turn)
 turns_push pass s [] (t ∷ turns) m turn long = absurd (omega (arith, long))
 turns_push pass s (k ∷ ms) [] m turn long = absurd (omega (arith, long))
 turns_push pass s (k ∷ ms) (t ∷ turns) m turn long =
-    ap (λ (log : List (Deed × Answer)). turn_at pass s k t ++ log) (turns_push pass s ms turns m turn (omega (arith, long)))
-    ∙ sym (append_assoc (turn_at pass s k t) (turns_at pass s ms turns) (turn_at pass s m turn))
+    ap (λ (log : List (Deed × Answer)). insert_events pass s k t ++ log) (turns_push pass s ms turns m turn (omega (arith, long)))
+    ∙ sym (append_assoc (insert_events pass s k t) (all_insert_events pass s ms turns) (insert_events pass s m turn))
 
 pub won_push : (turns : List InsertTries) (turn : InsertTries) → won_in (turns ++ turn ∷ []) ≡ won_in turns + (if turn.won then 1 else 0)
 won_push [] turn = let n : ℕ = if turn.won then 1 else 0 in let e : n + 0 ≡ 0 + n = omega arith in e
@@ -46,35 +46,35 @@ won_push (t ∷ turns) turn =
 
 -- Spots at which the call has been, and those to come.
 
-pub slots_more : (spots : List SlotMark) (i : ℕ) (d : SlotMark) → i < length spots → marked_slots (take (i + 1) spots) ≡ marked_slots (take i spots) ++ (get_or spots i d).slot ∷ []
+pub slots_more : (marks : List SlotMark) (i : ℕ) (d : SlotMark) → i < length marks → marked_slots (take (i + 1) marks) ≡ marked_slots (take i marks) ++ (get_or marks i d).slot ∷ []
 slots_more [] i d less = absurd (omega (arith, less))
-slots_more (spot ∷ spots) zero d less = refl
-slots_more (spot ∷ spots) (suc i) d less =
-    ap (λ (k : ℕ). marked_slots (take k (spot ∷ spots))) (let same : suc i + 1 ≡ suc (i + 1) = omega arith in same) ∙ ap (λ (ms : List ℕ). spot.slot ∷ ms) (slots_more spots i d (omega (arith, less)))
+slots_more (mark ∷ marks) zero d less = refl
+slots_more (mark ∷ marks) (suc i) d less =
+    ap (λ (k : ℕ). marked_slots (take k (mark ∷ marks))) (let same : suc i + 1 ≡ suc (i + 1) = omega arith in same) ∙ ap (λ (ms : List ℕ). mark.slot ∷ ms) (slots_more marks i d (omega (arith, less)))
 
-pub slots_left : (spots : List SlotMark) (i : ℕ) (d : SlotMark) → i < length spots → marked_slots (drop i spots) ≡ (get_or spots i d).slot ∷ marked_slots (drop (i + 1) spots)
+pub slots_left : (marks : List SlotMark) (i : ℕ) (d : SlotMark) → i < length marks → marked_slots (drop i marks) ≡ (get_or marks i d).slot ∷ marked_slots (drop (i + 1) marks)
 slots_left [] i d less = absurd (omega (arith, less))
-slots_left (spot ∷ spots) zero d less = refl
-slots_left (spot ∷ spots) (suc i) d less =
-    slots_left spots i d (omega (arith, less)) ∙ ap (λ (k : ℕ). (get_or spots i d).slot ∷ marked_slots (drop k (spot ∷ spots))) (let same : suc (i + 1) ≡ suc i + 1 = omega arith in same)
+slots_left (mark ∷ marks) zero d less = refl
+slots_left (mark ∷ marks) (suc i) d less =
+    slots_left marks i d (omega (arith, less)) ∙ ap (λ (k : ℕ). (get_or marks i d).slot ∷ marked_slots (drop k (mark ∷ marks))) (let same : suc (i + 1) ≡ suc i + 1 = omega arith in same)
 
-pub none_left : (spots : List SlotMark) (i : ℕ) → length spots ≤ i → marked_slots (drop i spots) ≡ []
+pub none_left : (marks : List SlotMark) (i : ℕ) → length marks ≤ i → marked_slots (drop i marks) ≡ []
 none_left [] zero le = refl
 none_left [] (suc i) le = refl
-none_left (spot ∷ spots) zero le = absurd (omega (arith, le))
-none_left (spot ∷ spots) (suc i) le = none_left spots i (omega (arith, le))
+none_left (mark ∷ marks) zero le = absurd (omega (arith, le))
+none_left (mark ∷ marks) (suc i) le = none_left marks i (omega (arith, le))
 
-pub all_taken : (spots : List SlotMark) (i : ℕ) → length spots ≤ i → take i spots ≡ spots
+pub all_taken : (marks : List SlotMark) (i : ℕ) → length marks ≤ i → take i marks ≡ marks
 all_taken [] zero le = refl
 all_taken [] (suc i) le = refl
-all_taken (spot ∷ spots) zero le = absurd (omega (arith, le))
-all_taken (spot ∷ spots) (suc i) le = ap (λ (es : List SlotMark). spot ∷ es) (all_taken spots i (omega (arith, le)))
+all_taken (mark ∷ marks) zero le = absurd (omega (arith, le))
+all_taken (mark ∷ marks) (suc i) le = ap (λ (es : List SlotMark). mark ∷ es) (all_taken marks i (omega (arith, le)))
 
-pub planned_at : (plan : Plan) (seen : ℕ) (spots : List SlotMark) (i : ℕ) (d : SlotMark) → ArePlanned plan seen spots → i < length spots
-    → ((get_or spots i d).block ≡ block_in plan (get_or spots i d).slot) × ((get_or spots i d).slot < seen)
+pub planned_at : (plan : Plan) (seen : ℕ) (marks : List SlotMark) (i : ℕ) (d : SlotMark) → ArePlanned plan seen marks → i < length marks
+    → ((get_or marks i d).block ≡ block_in plan (get_or marks i d).slot) × ((get_or marks i d).slot < seen)
 planned_at plan seen [] i d are less = absurd (omega (arith, less))
-planned_at plan seen (spot ∷ spots) zero d are less = are.0
-planned_at plan seen (spot ∷ spots) (suc i) d are less = planned_at plan seen spots i d are.1 (omega (arith, less))
+planned_at plan seen (mark ∷ marks) zero d are less = are.0
+planned_at plan seen (mark ∷ marks) (suc i) d are less = planned_at plan seen marks i d are.1 (omega (arith, less))
 
 -- The keys through which the round goes.
 
@@ -82,7 +82,7 @@ abbrev Keys : Type 0
 Keys = List (HeldKey Entry)
 
 pub round_step : (held : Keys) (k i : ℕ) (d : SlotMark) → i < k → k ≤ length (slot_marks_of held)
-    → (h : HeldKey Entry) × (drop i held ≡ h ∷ drop (i + 1) held) × (take (i + 1) held ≡ take i held ++ h ∷ []) × (get_or (take k (slot_marks_of held)) i d ≡ record { block = block_number h.label; slot = slot_noted h.note }) × Contains (labels_of held) h.label
+    → (h : HeldKey Entry) × (drop i held ≡ h ∷ drop (i + 1) held) × (take (i + 1) held ≡ take i held ++ h ∷ []) × (get_or (take k (slot_marks_of held)) i d ≡ record { block = block_number h.label; slot = slot_in h.note }) × Contains (labels_of held) h.label
 round_step [] k i d less le = absurd (omega (arith, less, le))
 round_step (h ∷ held) zero i d less le = absurd (omega (arith, less))
 round_step (h ∷ held) (suc k) zero d less le = (h, refl, refl, refl, (0, omega arith, refl))
@@ -96,59 +96,59 @@ round_step (h ∷ held) (suc k) (suc i) d less le =
     )
 
 -- the call has taken a turn at so many of them, and won so many insertions
-pub record HasTurned {key : SlotKey} {pass : Pass} {spots : List SlotMark} {front : ℕ} (at : IsInserting key pass spots front) (count won : ℕ) (key' : SlotKey) (pass' : Pass) : Type 0 where
-  pub keeps : Keeps key pass key' pass'
+pub record HasTurned {key : SlotKey} {pass : Pass} {marks : List SlotMark} {front : ℕ} (at : IsInserting key pass marks front) (count won : ℕ) (key' : SlotKey) (pass' : Pass) : Type 0 where
+  pub keeps : Continues key pass key' pass'
   pub turns : List InsertTries
   pub each : length turns ≡ count
-  pub within : count ≤ length spots
-  pub made : events_by pass' ≡ events_by pass ++ turns_at pass (slot_number key) (marked_slots (take count spots)) turns
+  pub within : count ≤ length marks
+  pub made : events_by pass' ≡ events_by pass ++ all_insert_events pass (slot_number key) (marked_slots (take count marks)) turns
   pub many : won ≡ won_in turns
   pub few : won ≤ count
   pub planned : plan_in key' at.batch ≡ plan_in key at.batch
-  pub stands : (slot_of key').call ≡ Some (record { place = look at.batch (at.won + won) (marked_slots (drop count spots)); queue = at.queue })
+  pub stands : (slot_of key').call ≡ Some (record { place = look at.batch (at.won + won) (marked_slots (drop count marks)); queue = at.queue })
 
-abbrev pub none_turned : (key : SlotKey) (pass : Pass) (spots : List SlotMark) (front : ℕ) (at : IsInserting key pass spots front) → HasTurned at 0 0 key pass
-none_turned key pass spots front at = record {
+abbrev pub none_turned : (key : SlotKey) (pass : Pass) (marks : List SlotMark) (front : ℕ) (at : IsInserting key pass marks front) → HasTurned at 0 0 key pass
+none_turned key pass marks front at = record {
   keeps = record { same = (refl, refl, refl); its = (refl, refl); batch = refl; used = refl; active = refl; life = refl; seen = omega arith; grows = ([], append-nil pass.seen); alone = alone_none pass };
   turns = [];
   each = refl;
   within = omega arith;
-  made = sym (append-nil (events_by pass)) ∙ ap (λ (log : List (Deed × Answer)). events_by pass ++ log) (sym (no_turns (marked_slots (take 0 spots))));
+  made = sym (append-nil (events_by pass)) ∙ ap (λ (log : List (Deed × Answer)). events_by pass ++ log) (sym (no_turns (marked_slots (take 0 marks))));
   many = refl;
   few = omega arith;
   planned = refl;
-  stands = at.stands ∙ ap (λ (w : ℕ). Some (record { place = look at.batch w (marked_slots spots); queue = at.queue })) (let same : at.won ≡ at.won + 0 = omega arith in same);
+  stands = at.stands ∙ ap (λ (w : ℕ). Some (record { place = look at.batch w (marked_slots marks); queue = at.queue })) (let same : at.won ≡ at.won + 0 = omega arith in same);
 }
   where
-    no_turns : (ms : List ℕ) → turns_at pass (slot_number key) ms [] ≡ []
+    no_turns : (ms : List ℕ) → all_insert_events pass (slot_number key) ms [] ≡ []
     no_turns [] = refl
     no_turns (m ∷ ms) = refl
 
-module _ (key : SlotKey) (pass : Pass) (spots : List SlotMark) (front : ℕ) (at : IsInserting key pass spots front) (i won : ℕ) (now : SlotKey) (pass1 : Pass) (r : HasTurned at i won now pass1) (d : SlotMark) (less : i < length spots) where
-  abbrev spot : SlotMark
-  spot = get_or spots i d
+module _ (key : SlotKey) (pass : Pass) (marks : List SlotMark) (front : ℕ) (at : IsInserting key pass marks front) (i won : ℕ) (now : SlotKey) (pass1 : Pass) (r : HasTurned at i won now pass1) (d : SlotMark) (less : i < length marks) where
+  abbrev mark : SlotMark
+  mark = get_or marks i d
 
   abbrev later : List ℕ
-  later = marked_slots (drop (i + 1) spots)
+  later = marked_slots (drop (i + 1) marks)
 
   -- the next turn
-  abbrev pub at_next : IsAtSlot now spot.slot spot.block front
+  abbrev pub at_next : IsAtSlot now mark.slot mark.block front
   at_next =
-      let its = planned_at (plan_in key at.batch) (slots_seen pass) spots i d at.planned less in
+      let its = planned_at (plan_in key at.batch) (slots_seen pass) marks i d at.planned less in
       record {
         batch = at.batch;
         won = at.won + won;
         later = later;
         queue = at.queue;
-        looking = r.stands ∙ ap (λ (ms : List ℕ). Some (record { place = look at.batch (at.won + won) ms; queue = at.queue })) (slots_left spots i d less);
-        its_block = its.0 ∙ ap (λ (plan : Plan). block_in plan spot.slot) (sym r.planned);
+        looking = r.stands ∙ ap (λ (ms : List ℕ). Some (record { place = look at.batch (at.won + won) ms; queue = at.queue })) (slots_left marks i d less);
+        its_block = its.0 ∙ ap (λ (plan : Plan). block_in plan mark.slot) (sym r.planned);
         its_front = front_same key now at.batch front r.planned at.its_front;
       }
 
-  pub next_seen : spot.slot < slots_seen pass1
-  next_seen = let its = planned_at (plan_in key at.batch) (slots_seen pass) spots i d at.planned less in let more = r.keeps.seen in omega (arith, its.1, more)
+  pub next_seen : mark.slot < slots_seen pass1
+  next_seen = let its = planned_at (plan_in key at.batch) (slots_seen pass) marks i d at.planned less in let more = r.keeps.seen in omega (arith, its.1, more)
 
-  module _ (key' : SlotKey) (pass' : Pass) (one : Bool) (turned : Inserted at_next pass1 key' pass' one) where
+  module _ (key' : SlotKey) (pass' : Pass) (one : Bool) (turned : InsertsAtSlot at_next pass1 key' pass' one) where
     abbrev turn : InsertTries
     turn = record { lost = turned.lost; won = one }
 
@@ -165,20 +165,20 @@ module _ (key : SlotKey) (pass : Pass) (spots : List SlotMark) (front : ℕ) (at
 
     pub turned_next : HasTurned at (i + 1) (won + more) key' pass'
     turned_next =
-        let before = events_by pass in let s = slot_number key in let ms = marked_slots (take i spots) in
+        let before = events_by pass in let s = slot_number key in let ms = marked_slots (take i marks) in
         record {
           keeps = keeps_twice key now key' pass pass1 pass' r.keeps turned.keeps;
           turns = r.turns ++ turn ∷ [];
           each = length_push r.turns turn ∙ ap (λ (n : ℕ). n + 1) r.each;
           within = omega (arith, less);
           made = turned.made
-              ∙ ap (λ (log : List (Deed × Answer)). log ++ turn_at pass1 (slot_number now) spot.slot turn) r.made
-              ∙ ap (λ (log : List (Deed × Answer)). (before ++ turns_at pass s ms r.turns) ++ log)
-              (same_turn pass pass1 r.keeps.same (slot_number now) spot.slot turn ∙ ap (λ (k : ℕ). turn_at pass k spot.slot turn) r.keeps.its.1)
-              ∙ append_assoc before (turns_at pass s ms r.turns) (turn_at pass s spot.slot turn)
+              ∙ ap (λ (log : List (Deed × Answer)). log ++ insert_events pass1 (slot_number now) mark.slot turn) r.made
+              ∙ ap (λ (log : List (Deed × Answer)). (before ++ all_insert_events pass s ms r.turns) ++ log)
+              (same_turn pass pass1 r.keeps.same (slot_number now) mark.slot turn ∙ ap (λ (k : ℕ). insert_events pass k mark.slot turn) r.keeps.its.1)
+              ∙ append_assoc before (all_insert_events pass s ms r.turns) (insert_events pass s mark.slot turn)
               ∙ ap (λ (log : List (Deed × Answer)). before ++ log)
-              (sym (turns_push pass s ms r.turns spot.slot turn (r.each ∙ sym (many_taken spots i less)))
-              ∙ ap (λ (slots : List ℕ). turns_at pass s slots (r.turns ++ turn ∷ [])) (sym (slots_more spots i d less)));
+              (sym (turns_push pass s ms r.turns mark.slot turn (r.each ∙ sym (many_taken marks i less)))
+              ∙ ap (λ (slots : List ℕ). all_insert_events pass s slots (r.turns ++ turn ∷ [])) (sym (slots_more marks i d less)));
           many = ap (λ (n : ℕ). n + more) r.many ∙ sym (won_push r.turns turn);
           few = let a = few one in let b = r.few in omega (arith, a, b);
           planned = turned.planned ∙ r.planned;
@@ -190,15 +190,15 @@ module _ (key : SlotKey) (pass : Pass) (spots : List SlotMark) (front : ℕ) (at
         many_taken (e ∷ es) zero l = refl
         many_taken (e ∷ es) (suc k) l = ap suc (many_taken es k (omega (arith, l)))
 
-pub all_turned : (key : SlotKey) (pass : Pass) (spots : List SlotMark) (front : ℕ) (at : IsInserting key pass spots front) (i won : ℕ) (key' : SlotKey) (pass' : Pass) → HasTurned at i won key' pass' → length spots ≤ i → InsertedAll at key' pass' won
-all_turned key pass spots front at i won key' pass' r past = record {
+pub all_turned : (key : SlotKey) (pass : Pass) (marks : List SlotMark) (front : ℕ) (at : IsInserting key pass marks front) (i won : ℕ) (key' : SlotKey) (pass' : Pass) → HasTurned at i won key' pass' → length marks ≤ i → InsertsAtEach at key' pass' won
+all_turned key pass marks front at i won key' pass' r past = record {
   keeps = r.keeps;
   turns = r.turns;
   each = let each = r.each in let within = r.within in omega (arith, each, within, past);
-  made = r.made ∙ ap (λ (es : List SlotMark). events_by pass ++ turns_at pass (slot_number key) (marked_slots es) r.turns) (all_taken spots i past);
+  made = r.made ∙ ap (λ (es : List SlotMark). events_by pass ++ all_insert_events pass (slot_number key) (marked_slots es) r.turns) (all_taken marks i past);
   many = r.many;
   planned = r.planned;
-  stands = r.stands ∙ ap (λ (ms : List ℕ). Some (record { place = look at.batch (at.won + won) ms; queue = at.queue })) (none_left spots i past);
+  stands = r.stands ∙ ap (λ (ms : List ℕ). Some (record { place = look at.batch (at.won + won) ms; queue = at.queue })) (none_left marks i past);
 }
 
 -- The round comes to the next block, at which the call is to insert its batch next.
@@ -212,7 +212,7 @@ module _ (key : SlotKey) (pass : Pass) (held : Keys) (k front : ℕ) (at : IsIns
   abbrev none : SlotMark
   none = record { block = 0; slot = 0 }
 
-  abbrev step : (h : HeldKey Entry) × (drop i held ≡ h ∷ drop (i + 1) held) × (take (i + 1) held ≡ take i held ++ h ∷ []) × (get_or (take k (slot_marks_of held)) i none ≡ record { block = block_number h.label; slot = slot_noted h.note }) × Contains (labels_of held) h.label
+  abbrev step : (h : HeldKey Entry) × (drop i held ≡ h ∷ drop (i + 1) held) × (take (i + 1) held ≡ take i held ++ h ∷ []) × (get_or (take k (slot_marks_of held)) i none ≡ record { block = block_number h.label; slot = slot_in h.note }) × Contains (labels_of held) h.label
   step = round_step held k i none less enough
 
   pub within : i < length (take k (slot_marks_of held))
@@ -223,7 +223,7 @@ module _ (key : SlotKey) (pass : Pass) (held : Keys) (k front : ℕ) (at : IsIns
       detached_named now pass1 book knows at.batch step.0.label (ap detached_by r.stands ∙ detached_look at.batch (at.won + won) (marked_slots (drop i (take k (slot_marks_of held)))) at.queue)
       (subst (λ (vs : List ℕ). Contains vs step.0.label) (values ∙ ap (λ (plan : Plan). plan.values) (sym r.planned)) step.4)
 
-  abbrev pub with_at : IsAtSlot now (slot_noted step.0.note) (block_number step.0.label) front → IsAtNext now pass1 round front
+  abbrev pub with_at : IsAtSlot now (slot_in step.0.note) (block_number step.0.label) front → IsAtNext now pass1 round front
   with_at a = record {
     first = step.0;
     others = drop (i + 1) held;
@@ -236,10 +236,10 @@ module _ (key : SlotKey) (pass : Pass) (held : Keys) (k front : ℕ) (at : IsIns
   abbrev pub round_next : IsAtNext now pass1 round front
   round_next = with_at (subst (λ (s : SlotMark). IsAtSlot now s.slot s.block front) step.3 (at_next key pass (take k (slot_marks_of held)) front at i won now pass1 r none within))
 
-  pub round_turned : (key' : SlotKey) (pass' : Pass) (one : Bool) → ((next : IsAtNext now pass1 round front) → Inserted next.at pass1 key' pass' one) → HasTurned at (i + 1) (won + (if one then 1 else 0)) key' pass'
+  pub round_turned : (key' : SlotKey) (pass' : Pass) (one : Bool) → ((next : IsAtNext now pass1 round front) → InsertsAtSlot next.at pass1 key' pass' one) → HasTurned at (i + 1) (won + (if one then 1 else 0)) key' pass'
   round_turned key' pass' one all =
       turned_next key pass (take k (slot_marks_of held)) front at i won now pass1 r none within key' pass' one
-      (subst (λ (s : SlotMark). (a : IsAtSlot now s.slot s.block front) → Inserted a pass1 key' pass' one) (sym step.3) (λ a. all (with_at a)) (at_next key pass (take k (slot_marks_of held)) front at i won now pass1 r none within))
+      (subst (λ (s : SlotMark). (a : IsAtSlot now s.slot s.block front) → InsertsAtSlot a pass1 key' pass' one) (sym step.3) (λ a. all (with_at a)) (at_next key pass (take k (slot_marks_of held)) front at i won now pass1 r none within))
 
   pub round_done : (round' : Round) → GoesPast round_next round' → done_in round ≡ take i held → (done_in round' ≡ take (i + 1) held) × (rest_in round' ≡ drop (i + 1) held)
   round_done round' past is = (past.1 ∙ ap (λ (hs : Keys). hs ++ step.0 ∷ []) is ∙ sym step.2, past.2)

@@ -18,13 +18,13 @@ use Rattle.seize_book.specs.Entry.{Made}
 use Rattle.seize_words.specs.Headers.{Uses, using}
 use Rattle.seize_book.specs.Laws.{starts}
 use Rattle.seize_book.specs.Passes.{IsSamePass, LooksOn, events_by, events_in}
-use Rattle.seize_book.specs.Slots.{IsKeyOfBook, NotesAs, own_list, slot_number, slot_of, start_of}
+use Rattle.seize_book.specs.Slots.{AddsDeed, IsKeyOfBook, own_list, slot_number, slot_of, start_of}
 use Rattle.seize_book.specs.Tokens.{Name, start}
 use Rattle.seize_book.specs.declared.book.pass.Pass.{Pass}
 use Rattle.seize_book.specs.declared.book.slot_key.SlotKey.{SlotKey}
 use Rattle.seize_book.proofs.Facts.{same_twice}
 use Rattle.seize_words.proofs.Facts.{deeds_grew, life_kept, more_seen, more_slots, seen_grows}
-use Rattle.seize_calls.specs.Inserts.{Keeps}
+use Rattle.seize_calls.specs.Inserts.{Continues}
 use Rattle.seize_calls.proofs.Alone.{alone_looked, alone_noted, alone_twice}
 use Rattle.seize_calls.proofs.Marks.{within}
 
@@ -85,7 +85,7 @@ insert_lost size st _ _ call _ (Step.lost s m b won later saw queue e other) is 
     written st _ s _ _ _ _ is refl (ap (λ (c : Call). Some (goes lost_on c)) (some_is _ _ (sym e ∙ is))) refl refl refl
 
 -- What the slot's key knows of it.
-module _ (key key' : SlotKey) (pass pass' : Pass) (event : Event) (kepts : List ℕ) (notes : NotesAs key pass key' pass' (deed_with_words pass event kepts)) where
+module _ (key key' : SlotKey) (pass pass' : Pass) (event : Event) (kepts : List ℕ) (notes : AddsDeed key pass key' pass' (deed_with_words pass event kepts)) where
   abbrev pub state_before : State
   state_before = after (start_of key) notes.2.0.before
 
@@ -99,7 +99,7 @@ module _ (key key' : SlotKey) (pass pass' : Pass) (event : Event) (kepts : List 
   call_before call is = ap (λ (z : Slot). z.call) notes.2.1.was ∙ is
 
   pub keeps_from : ((slot_at outcome.0 (slot_number key)).batch ≡ (slot_at state_before (slot_number key)).batch) → ((slot_at outcome.0 (slot_number key)).used ≡ (slot_at state_before (slot_number key)).used)
-      → (is_active (head_at outcome.0 (slot_number key)) ≡ is_active (head_at state_before (slot_number key))) → starts (slot_number key) event ≡ false → Keeps key pass key' pass'
+      → (is_active (head_at outcome.0 (slot_number key)) ≡ is_active (head_at state_before (slot_number key))) → starts (slot_number key) event ≡ false → Continues key pass key' pass'
   keeps_from batch used active none = record {
     same = notes.0;
     its = (notes.1.0, notes.1.1);
@@ -119,7 +119,7 @@ module _ (key key' : SlotKey) (pass pass' : Pass) (event : Event) (kepts : List 
   own_grows = subst (IsPrefix (own_list key)) (sym notes.1.2) (prefix_trans (own_list key) notes.2.0.before pass'.seen notes.2.1.knew (Made (deed_with_words pass event kepts) ∷ [], sym notes.2.0.appended))
 
   module _ (call : Call) (on : Place → Place) (answer : Answer) (goes_so : Goes state_before (slot_number key) call on outcome answer) where
-    pub keeps_noted : starts (slot_number key) event ≡ false → Keeps key pass key' pass'
+    pub keeps_noted : starts (slot_number key) event ≡ false → Continues key pass key' pass'
     keeps_noted none = keeps_from goes_so.batch goes_so.used goes_so.active none
 
     pub call_after : (slot_of key').call ≡ Some (goes on call)
@@ -128,7 +128,7 @@ module _ (key key' : SlotKey) (pass pass' : Pass) (event : Event) (kepts : List 
     pub made_noted : events_by pass' ≡ events_by pass ++ (deed_with_words pass event kepts, answer) ∷ []
     made_noted = deeds_grew pass pass' (deed_with_words pass event kepts) notes.0 notes.2.0 ∙ ap (λ (a : Answer). events_by pass ++ (deed_with_words pass event kepts, a) ∷ []) goes_so.told
 
-pub keeps_used : (key key' : SlotKey) (pass pass' : Pass) (f v : ℕ) → Uses key pass key' pass' f v → Keeps key pass key' pass'
+pub keeps_used : (key key' : SlotKey) (pass pass' : Pass) (f v : ℕ) → Uses key pass key' pass' f v → Continues key pass key' pass'
 keeps_used key key' pass pass' f v uses = record {
   same = uses.same;
   its = (uses.seen_by.0, uses.seen_by.1);
@@ -143,10 +143,10 @@ keeps_used key key' pass pass' f v uses = record {
   alone = alone_noted pass pass' (using key pass f v) refl uses.noted;
 }
 
-pub keeps_looked : (key : SlotKey) (pass pass' : Pass) → LooksOn pass pass' → Keeps key pass key pass'
+pub keeps_looked : (key : SlotKey) (pass pass' : Pass) → LooksOn pass pass' → Continues key pass key pass'
 keeps_looked key pass pass' looks = record { same = looks.same; its = (refl, refl); batch = refl; used = refl; active = refl; life = refl; seen = more_seen pass pass' looks; grows = looks.grows; alone = alone_looked pass pass' looks }
 
-pub keeps_twice : (key one two : SlotKey) (pass pass1 pass2 : Pass) → Keeps key pass one pass1 → Keeps one pass1 two pass2 → Keeps key pass two pass2
+pub keeps_twice : (key one two : SlotKey) (pass pass1 pass2 : Pass) → Continues key pass one pass1 → Continues one pass1 two pass2 → Continues key pass two pass2
 keeps_twice key one two pass pass1 pass2 first second = record {
   same = same_twice pass pass1 pass2 first.same second.same;
   its = (second.its.0 ∙ first.its.0, second.its.1 ∙ first.its.1);
@@ -159,7 +159,7 @@ keeps_twice key one two pass pass1 pass2 first second = record {
   alone = alone_twice pass pass1 pass2 first.same first.alone second.alone;
 }
 
-pub keeps_book : (key key' : SlotKey) (pass pass' : Pass) → Keeps key pass key' pass' → IsKeyOfBook key pass → IsKeyOfBook key' pass'
+pub keeps_book : (key key' : SlotKey) (pass pass' : Pass) → Continues key pass key' pass' → IsKeyOfBook key pass → IsKeyOfBook key' pass'
 keeps_book key key' pass pass' keeps book = keeps.its.0 ∙ book ∙ sym keeps.same.0
 
 -- the entry of an event is the same with a pass as it was before

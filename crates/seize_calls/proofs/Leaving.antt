@@ -15,7 +15,7 @@ use Rattle.seize_book.specs.Book.{after}
 use Rattle.seize_book.specs.Entry.{Deed, Entry, Made}
 use Rattle.seize_book.specs.Passes.{IsSamePass, events_by}
 use Rattle.seize_words.specs.Reservations.{WalksFrom, beginning, slot}
-use Rattle.seize_book.specs.Slots.{Notes, NotesAs, active_of, own_list, slot_number, slot_of, start_of}
+use Rattle.seize_book.specs.Slots.{AddsDeed, AddsEvent, active_of, own_list, slot_number, slot_of, start_of}
 use Rattle.seize_book.specs.declared.book.pass.Pass.{Pass}
 use Rattle.seize_book.specs.declared.book.slot_key.SlotKey.{SlotKey}
 use Rattle.seize_words.specs.declared.reservation.Head.{Head as Word}
@@ -65,7 +65,7 @@ after_swap size st _ stays queue _ (Step.swapped_out s other q stands) is on =
     which false = refl
 
 module _ (key one two : SlotKey) (pass pass1 pass2 : Pass) (job : Job) (stays : Bool) (life : ℕ) (begins : Begins key pass job [] one pass1) (on : active_of key ≡ true) (out : (slot_of one).call ≡ Some (record { place = Out stays; queue = [] }))
-    (notes : NotesAs one pass1 two pass2 (beginning pass1 life (SwapOut (slot_number one)))) (head : Word) (word : ℕ) (walks : WalksFrom head two word []) (own : slot head ≡ slot_number key) where
+    (notes : AddsDeed one pass1 two pass2 (beginning pass1 life (SwapOut (slot_number one)))) (head : Word) (word : ℕ) (walks : WalksFrom head two word []) (own : slot head ≡ slot_number key) where
   abbrev s : ℕ
   s = slot_number key
 
@@ -139,7 +139,7 @@ module _ (key one two : SlotKey) (pass pass1 pass2 : Pass) (job : Job) (stays : 
       queue = (all.queued.0 ∙ (queue.0 ∙ sym same_three.0), told);
     }
 
-    module _ (b : CallState) (drains : Drains behind b) (onward : Onward three pass3 b.key b.pass) (sits : IsWellFormed b) (empty : values_of b.queue ≡ []) (key' : SlotKey) (pass' : Pass) (last : Notes b.key b.pass key' pass' (Return (slot_number b.key))) where
+    module _ (b : CallState) (drains : Drains behind b) (onward : Onward three pass3 b.key b.pass) (sits : IsWellFormed b) (empty : values_of b.queue ≡ []) (key' : SlotKey) (pass' : Pass) (last : AddsEvent b.key b.pass key' pass' (Return (slot_number b.key))) where
       pub has_left : Leaves job stays swap key pass values had key' pass' b.batch b.had
       has_left = record {
         walked = all.walked;

@@ -21,7 +21,7 @@ use Rattle.seize_book.specs.Private.{labels_of}
 use Rattle.seize_words.specs.Heads.{reads_at}
 use Rattle.seize_book.specs.Passes.{IsSamePass, LooksOn, events_by, events_in}
 use Rattle.seize_words.specs.Reservations.{MayRead, ShowsHead, slot}
-use Rattle.seize_book.specs.Slots.{IsKeyOfBook, Notes, active_of, life_of, own_list, slot_number, slot_of, start_of}
+use Rattle.seize_book.specs.Slots.{AddsEvent, IsKeyOfBook, active_of, life_of, own_list, slot_number, slot_of, start_of}
 use Rattle.seize_book.specs.Tokens.{Name, start}
 use Rattle.seize_words.specs.Totals.{slots_seen}
 use Rattle.seize_words.specs.Walks.{Knows}
@@ -34,13 +34,13 @@ use Rattle.seize_calls.specs.Alone.{AddsAlone}
 use Rattle.seize_calls.proofs.Alone.{alone_looked, alone_none, alone_noted, alone_twice}
 use Rattle.seize_calls.proofs.Batches.{counted_is}
 use Rattle.seize_calls.proofs.Named.{batch_named}
-use Rattle.seize_calls.specs.Batches.{SlotMark, marked_slots, slot_marks_of, slot_noted, unslotted, without_slot}
+use Rattle.seize_calls.specs.Batches.{SlotMark, marked_slots, slot_in, slot_marks_of, without_slot, without_slots}
 use Rattle.seize_calls.specs.Marks.{BeginsToMark, EndsMarks, actives, reading, readings}
 use Rattle.seize_calls.specs.Numbered.{is_count_of}
-use Rattle.seize_calls.specs.Rounds.{HasNextValue, IsRoundOf, Remarks, all_in, book_at, done_in, remarked, rest_in}
-use Rattle.seize_calls.specs.declared.marking.Marked.{Marked}
+use Rattle.seize_calls.specs.Rounds.{HasNextValue, IsRoundOf, Remarks, all_in, book_at, done_in, rest_in, with_slot}
+use Rattle.seize_calls.specs.declared.marking.MarkOutcome.{MarkOutcome}
 use Rattle.seize_calls.specs.declared.round.Round.{Round}
-use Rattle.seize_calls.specs.declared.marking.Marked.TheVariants.{Ready, TooMany}
+use Rattle.seize_calls.specs.declared.marking.MarkOutcome.TheVariants.{Ready, TooMany}
 
 -- Lists of what was found.
 
@@ -75,9 +75,9 @@ all_same : {B : Type 0} (f : HeldKey Logged → B) (done rest : Keys) (x y : Hel
 all_same f [] rest x y e = ap (λ b. b ∷ map f rest) e
 all_same f (h ∷ done) rest x y e = ap (λ bs. f h ∷ bs) (all_same f done rest x y e)
 
-slots_push : (done : Keys) (x : HeldKey Logged) → marked_slots (slot_marks_of (done ++ x ∷ [])) ≡ marked_slots (slot_marks_of done) ++ slot_noted x.note ∷ []
+slots_push : (done : Keys) (x : HeldKey Logged) → marked_slots (slot_marks_of (done ++ x ∷ [])) ≡ marked_slots (slot_marks_of done) ++ slot_in x.note ∷ []
 slots_push [] x = refl
-slots_push (h ∷ done) x = ap (λ (ms : List ℕ). slot_noted h.note ∷ ms) (slots_push done x)
+slots_push (h ∷ done) x = ap (λ (ms : List ℕ). slot_in h.note ∷ ms) (slots_push done x)
 
 many_slots : (held : Keys) → length (marked_slots (slot_marks_of held)) ≡ length held
 many_slots [] = refl
@@ -87,7 +87,7 @@ pub take_done : (done rest : Keys) (k : ℕ) → length done ≡ k → take k (s
 take_done [] rest zero e = refl
 take_done [] rest (suc k) e = absurd (omega (arith, e))
 take_done (h ∷ done) rest zero e = absurd (omega (arith, e))
-take_done (h ∷ done) rest (suc k) e = ap (λ (spots : List SlotMark). record { block = block_number h.label; slot = slot_noted h.note } ∷ spots) (take_done done rest k (omega (arith, e)))
+take_done (h ∷ done) rest (suc k) e = ap (λ (marks : List SlotMark). record { block = block_number h.label; slot = slot_in h.note } ∷ marks) (take_done done rest k (omega (arith, e)))
 
 done_within : (done rest : Keys) → length done ≤ length (slot_marks_of (done ++ rest))
 done_within [] rest = omega arith
@@ -125,7 +125,7 @@ pub record IsReading {key : SlotKey} (at : BeginsToMark key) (end : ℕ) (pass :
   pub made : events_by pass' ≡ events_by pass ++ readings pass (slot_number key) 0 finds
   pub book : book_at round ≡ pass.name
   pub values : labels_of (all_in round) ≡ (slot_of key).batch
-  pub remarked : unslotted (all_in round) ≡ unslotted held
+  pub remarked : without_slots (all_in round) ≡ without_slots held
   pub slots : marked_slots (slot_marks_of (done_in round)) ≡ actives 0 finds
 
 -- none was read
@@ -152,7 +152,7 @@ none_read key at end pass round knows there book is =
       made = sym (append-nil (events_by pass));
       book = book;
       values = ap labels_of all ∙ is.1;
-      remarked = ap unslotted all;
+      remarked = ap without_slots all;
       slots = ap (λ (held : Keys). marked_slots (slot_marks_of held)) is.0;
     }
 
@@ -215,7 +215,7 @@ module _ (key0 : SlotKey) (at : BeginsToMark key0) (end : ℕ) (pass0 : Pass) (h
       in_turn_now : (i note : ℕ) → in_turn i note i ≡ true
       in_turn_now i note = grind arith
 
-  module _ (key' : SlotKey) (pass' : Pass) (v : ℕ) (noted : Notes key pass key' pass' (ReadHead (slot_number key) (slot head))) (shows : ShowsHead head pass'.seen v) where
+  module _ (key' : SlotKey) (pass' : Pass) (v : ℕ) (noted : AddsEvent key pass key' pass' (ReadHead (slot_number key) (slot head))) (shows : ShowsHead head pass'.seen v) where
     abbrev st : State
     st = after (start_of key) noted.2.0.before
 
@@ -350,7 +350,7 @@ module _ (key0 : SlotKey) (at : BeginsToMark key0) (end : ℕ) (pass0 : Pass) (h
           (next.0, next.1, next.2, batch_named key' pass' (same_key.0 ∙ book ∙ sym same.0) knows next.0 (subst (λ (vs : List ℕ). Contains vs next.0) (sym same_batch) next.3))
 
       module _ (round' : Round) (marks : Remarks round i round') (pass'' : Pass) (looks : LooksOn pass' pass'') where
-        now : all_in round' ≡ (done_in round ++ remarked i marks.note marks.first ∷ []) ++ rest_in round'
+        now : all_in round' ≡ (done_in round ++ with_slot i marks.note marks.first ∷ []) ++ rest_in round'
         now = ap (λ (held : Keys). held ++ rest_in round') marks.now
 
         was : all_in round ≡ done_in round ++ marks.first ∷ rest_in round'
@@ -376,11 +376,11 @@ module _ (key0 : SlotKey) (at : BeginsToMark key0) (end : ℕ) (pass0 : Pass) (h
               ∙ ap (λ (ms : List ℕ). Some (record { place = Mark (i + 1) at.note ms; queue = at.queue })) (sym one_on);
           made = ap events_in looks.none_made ∙ made true (is_on some);
           book = marks.book ∙ r.book;
-          values = ap labels_of now ∙ all_same (λ h. h.label) (done_in round) (rest_in round') (remarked i marks.note marks.first) marks.first refl ∙ ap labels_of (sym was) ∙ r.values;
-          remarked = ap unslotted now
-              ∙ all_same plain (done_in round) (rest_in round') (remarked i marks.note marks.first) marks.first (ap (λ (g : Gv). plain (anew g)) (sym marks.noted))
-              ∙ ap unslotted (sym was) ∙ r.remarked;
-          slots = ap (λ (held : Keys). marked_slots (slot_marks_of held)) marks.now ∙ slots_push (done_in round) (remarked i marks.note marks.first) ∙ ap (λ (ms : List ℕ). ms ++ i ∷ []) r.slots ∙ sym one_on;
+          values = ap labels_of now ∙ all_same (λ h. h.label) (done_in round) (rest_in round') (with_slot i marks.note marks.first) marks.first refl ∙ ap labels_of (sym was) ∙ r.values;
+          remarked = ap without_slots now
+              ∙ all_same plain (done_in round) (rest_in round') (with_slot i marks.note marks.first) marks.first (ap (λ (g : Gv). plain (anew g)) (sym marks.noted))
+              ∙ ap without_slots (sym was) ∙ r.remarked;
+          slots = ap (λ (held : Keys). marked_slots (slot_marks_of held)) marks.now ∙ slots_push (done_in round) (with_slot i marks.note marks.first) ∙ ap (λ (ms : List ℕ). ms ++ i ∷ []) r.slots ∙ sym one_on;
         }
           where
             is_short : (a b : ℕ) → a < b → nat_lt a b ≡ true
@@ -443,8 +443,8 @@ all_read {key0} at end pass0 held i k key pass round r all le = record {
     many = sym (many_slots (done_in round)) ∙ ap (λ (ms : List ℕ). length ms) r.slots ∙ r.many
 
 -- The same is so from before a look on.
-pub ends_before : {key0 : SlotKey} (at : BeginsToMark key0) (pass0 pass1 : Pass) (key : SlotKey) (pass : Pass) (spots : List SlotMark) (ends : Marked) → LooksOn pass0 pass1 → EndsMarks at pass1 key pass spots ends → EndsMarks at pass0 key pass spots ends
-ends_before {key0} at pass0 pass1 key pass spots ends looks e =
+pub ends_before : {key0 : SlotKey} (at : BeginsToMark key0) (pass0 pass1 : Pass) (key : SlotKey) (pass : Pass) (marks : List SlotMark) (ends : MarkOutcome) → LooksOn pass0 pass1 → EndsMarks at pass1 key pass marks ends → EndsMarks at pass0 key pass marks ends
+ends_before {key0} at pass0 pass1 key pass marks ends looks e =
     record {
       finds = e.finds;
       within = e.within;

@@ -7,7 +7,7 @@ use Rattle.seize_machine.specs.Machine.Next.{of_call}
 use Rattle.seize_machine.proofs.Facts.{after_put}
 use Rattle.seize_book.specs.Passes.{events_by}
 use Rattle.seize_book.specs.Private.{next_at, puts_next}
-use Rattle.seize_book.specs.Slots.{Notes, slot_number, slot_of}
+use Rattle.seize_book.specs.Slots.{AddsEvent, slot_number, slot_of}
 use Rattle.seize_book.specs.Values.{values_of}
 use Rattle.seize_book.specs.declared.book.pass.Pass.{Pass}
 use Rattle.seize_book.specs.declared.book.slot_key.SlotKey.{SlotKey}
@@ -17,8 +17,8 @@ use Rattle.seize_book.proofs.Facts.{same_twice}
 use Rattle.seize_words.proofs.Facts.{all_told_later, pushed_told, told_later}
 use Rattle.seize_words.specs.Walks.{Knows}
 use Rattle.seize_calls.specs.Batches.{IsPushed}
-use Rattle.seize_calls.specs.Inserts.{Keeps}
-use Rattle.seize_calls.specs.Settling.{CallState, Drains, DrainsOne, HasQueue, IsWellFormed, Marking, MayPut, Onward, PutsValue, Settles, Stays}
+use Rattle.seize_calls.specs.Inserts.{Continues}
+use Rattle.seize_calls.specs.Settling.{CallState, Drains, DrainsOne, HasQueue, IsToMark, IsWellFormed, MayPut, Onward, PutsValue, Settles, Stays}
 use Rattle.seize_calls.proofs.Alone.{alone_none, alone_twice}
 use Rattle.seize_calls.proofs.Events.{call_put, put_st, puts_so}
 use Rattle.seize_calls.proofs.Handed.{queues_none}
@@ -37,7 +37,7 @@ onward_twice key one two pass pass1 pass2 first second = record {
   alone = alone_twice pass pass1 pass2 first.same first.alone second.alone;
 }
 
-pub keeps_onward : (key key' : SlotKey) (pass pass' : Pass) → Keeps key pass key' pass' → Onward key pass key' pass'
+pub keeps_onward : (key key' : SlotKey) (pass pass' : Pass) → Continues key pass key' pass' → Onward key pass key' pass'
 keeps_onward key key' pass pass' keeps = record { same = keeps.same; its = keeps.its; used = keeps.used; active = keeps.active; life = keeps.life; grows = keeps.grows; alone = keeps.alone }
 
 pub settles_on : (a b : CallState) (retired : Bool) → Settles a b retired → Onward a.key a.pass b.key b.pass
@@ -68,7 +68,7 @@ only_stays a rests = record {
 -- with an empty queue there are no rounds
 pub no_rounds : (a b : CallState) → Drains a b → values_of a.queue ≡ [] → b ≡ a
 no_rounds a _ Drains.over none = refl
-no_rounds a _ (Drains.round b c queue v kept retired drains takes round) none =
+no_rounds a _ (Drains.goes_on b c queue v kept retired drains takes round) none =
     absurd (let same = no_rounds a b drains none in let e : v ∷ values_of queue ≡ [] = sym takes.1 ∙ ap (λ (x : CallState). values_of x.queue) same ∙ none in cc)
 
 -- A value is put.
@@ -82,7 +82,7 @@ may_put key v queue may = go may.0 may.1 may.2 may.3
     go from before is (inr turn) =
         ap (λ (o : Option Call). is_some (of_call next_at o)) (is ∙ (λ i. Some (record { place = turn.0 i; queue = turn.1 i })))
 
-module _ (key key' : SlotKey) (pass pass' : Pass) (v : ℕ) (queue : ValueKeys) (may : MayPut key v queue) (notes : Notes key pass key' pass' (Put (slot_number key))) where
+module _ (key key' : SlotKey) (pass pass' : Pass) (v : ℕ) (queue : ValueKeys) (may : MayPut key v queue) (notes : AddsEvent key pass key' pass' (Put (slot_number key))) where
   pub is_put : PutsValue key pass v key' pass'
   is_put = puts_so key key' pass pass' notes v may.0 may.1 (values_of queue) may.2 may.3
 
@@ -98,7 +98,7 @@ module _ (key key' : SlotKey) (pass pass' : Pass) (v : ℕ) (queue : ValueKeys) 
   many : length batch ≡ length (slot_of key').batch
   many = ap (λ (vs : List ℕ). length vs) (sym is_put.batch)
 
-  pub put_marks : pass.size ≤ length (slot_of key').batch → 1 ≤ length (slot_of key').batch → Marking key' queue
+  pub put_marks : pass.size ≤ length (slot_of key').batch → 1 ≤ length (slot_of key').batch → IsToMark key' queue
   put_marks full some = (
     record {
       note = slots;

@@ -10,7 +10,7 @@ use Rattle.seize_machine.proofs.Facts.{marking_full}
 use Rattle.seize_book.specs.Adding.{private}
 use Rattle.seize_book.specs.Book.{after}
 use Rattle.seize_book.specs.Entry.{Deed, Entry as Logged}
-use Rattle.seize_book.specs.Ledger.{HeldKey, renewed}
+use Rattle.seize_book.specs.Ledger.{HeldKey, with_list}
 use Rattle.seize_book.specs.Passes.{IsSamePass, events_by}
 use Rattle.seize_book.specs.Slots.{IsKeyOfBook, own_list, slot_number, slot_of, start_of}
 use Rattle.seize_book.specs.Tokens.{Name}
@@ -26,19 +26,19 @@ use Rattle.seize_calls.specs.Attempts.{Retires}
 use Rattle.seize_book.specs.Kept.{AllTold, AreTold, AreToldIn, kepts_of}
 use Rattle.seize_calls.specs.Batches.{AreRemarked}
 use Rattle.seize_calls.specs.Handing.{Had, HasHad, values_handed, values_put}
-use Rattle.seize_calls.specs.Inserts.{turns_at}
+use Rattle.seize_calls.specs.Inserts.{all_insert_events}
 use Rattle.seize_calls.specs.Marks.{BeginsToMark, EndsMarks, actives, readings}
-use Rattle.seize_calls.specs.Settling.{CallState, HasBatch, IsWellFormed, Marking, RetiresBatch, Stays, done_event}
+use Rattle.seize_calls.specs.Settling.{CallState, HasBatch, IsToMark, IsWellFormed, RetiresBatch, Stays, done_event}
 use Rattle.seize_calls.specs.Walking.{HandsAll, IsGiven, hands}
 use Rattle.seize_calls.specs.Numbered.{starts_at}
-use Rattle.seize_calls.specs.declared.marking.Marked.TheVariants.{TooMany}
+use Rattle.seize_calls.specs.declared.marking.MarkOutcome.TheVariants.{TooMany}
 use Rattle.seize_calls.proofs.Alone.{alone_twice}
 use Rattle.seize_calls.proofs.Attempts.{first_block}
 use Rattle.seize_calls.proofs.Batches.{kepts, remarked_kepts, remarked_labels, renewed_kepts, renewed_labels}
 use Rattle.seize_calls.proofs.Handed.{had_none, queues_none}
 use Rattle.seize_calls.proofs.Strolls.{same_hands}
 
-module _ (a : CallState) (m : Marking a.key a.queue) where
+module _ (a : CallState) (m : IsToMark a.key a.queue) where
   abbrev at : BeginsToMark a.key
   at = m.0
 
@@ -69,7 +69,7 @@ module _ (a : CallState) (m : Marking a.key a.queue) where
   -- or it was retired
   module _ (key1 : SlotKey) (pass1 : Pass) (values1 : ValueKeys) (zero : Bool) (same : IsSamePass a.pass pass1) (its : (key1.keys.name ≡ a.key.keys.name) × (slot_number key1 ≡ s)) (r : Retires at a.pass a.batch key1 pass1 values1 zero) where
     abbrev before : List (Deed × Answer)
-    before = (((events_by a.pass ++ readings a.pass s 0 r.finds) ++ done_event a.pass (Detach s)) ++ turns_at a.pass s (actives 0 r.finds) r.turns) ++ (private a.pass (AddCount s), Count r.count) ∷ []
+    before = (((events_by a.pass ++ readings a.pass s 0 r.finds) ++ done_event a.pass (Detach s)) ++ all_insert_events a.pass s (actives 0 r.finds) r.turns) ++ (private a.pass (AddCount s), Count r.count) ∷ []
 
     -- and waits
     pub has_waited : zero ≡ false → RetiresBatch a (record { key = key1; pass = pass1; batch = values1; queue = a.queue; had = a.had })
@@ -87,7 +87,7 @@ module _ (a : CallState) (m : Marking a.key a.queue) where
           handed = [];
           which = sym (ap (λ (z : Bool). if z then batch else []) none);
           made = r.made ∙ sym (append-nil before);
-          none = (r.keys.0, r.keys.1 ∙ ap (λ (z : Bool). renewed (if z then r.marked.keys.held else []) pass1.seen) off);
+          none = (r.keys.0, r.keys.1 ∙ ap (λ (z : Bool). with_list (if z then r.marked.keys.held else []) pass1.seen) off);
           queued = queues_none a.queue;
           has_had = subst (λ (z : Bool). HasHad [] (if z then kepts_of a.batch else []) a.had a.had) (sym none) (had_none a.had);
           told = subst (λ (z : Bool). AllTold pass1.seen [] (if z then kepts_of a.batch else [])) (sym none) tt;
@@ -95,12 +95,12 @@ module _ (a : CallState) (m : Marking a.key a.queue) where
 
     -- or its values are given up to the call
     module _ (on : zero ≡ true) (front : ℕ) (starts : starts_at front (values_of values1) ≡ true) (full : 1 ≤ length batch) (its_batch : HasBatch a.key a.pass a.batch) where
-      pub renewed_twice : (held : List (HeldKey Logged)) (seen : List Logged) → renewed held seen ≡ renewed (renewed held seen) seen
+      pub renewed_twice : (held : List (HeldKey Logged)) (seen : List Logged) → with_list held seen ≡ with_list (with_list held seen) seen
       renewed_twice [] seen = refl
       renewed_twice (h ∷ held) seen = ap (λ (hs : List (HeldKey Logged)). record { kind = h.kind; key = h.key; own = seen; label = h.label; note = h.note } ∷ hs) (renewed_twice held seen)
 
-      pub kept_keys : values1.keys.held ≡ renewed r.marked.keys.held pass1.seen
-      kept_keys = r.keys.1 ∙ ap (λ (z : Bool). renewed (if z then r.marked.keys.held else []) pass1.seen) on
+      pub kept_keys : values1.keys.held ≡ with_list r.marked.keys.held pass1.seen
+      kept_keys = r.keys.1 ∙ ap (λ (z : Bool). with_list (if z then r.marked.keys.held else []) pass1.seen) on
 
       pub same_values : values_of values1 ≡ batch
       same_values = ap labels_of kept_keys ∙ renewed_labels r.marked.keys.held pass1.seen ∙ remarked_labels r.marked.keys.held a.batch.keys.held r.remarked.1 ∙ its_batch.1
@@ -127,7 +127,7 @@ module _ (a : CallState) (m : Marking a.key a.queue) where
             is_first = ap first_or_none same_values ∙ its_first.1;
             its_block = its_first.2;
             book = r.keys.0;
-            keys = (refl, refl, kept_keys ∙ renewed_twice r.marked.keys.held pass1.seen ∙ ap (λ (hs : List (HeldKey Logged)). renewed hs pass1.seen) (sym kept_keys));
+            keys = (refl, refl, kept_keys ∙ renewed_twice r.marked.keys.held pass1.seen ∙ ap (λ (hs : List (HeldKey Logged)). with_list hs pass1.seen) (sym kept_keys));
             last = r.keys.2;
             closed = r.keys.3;
             told = still_told;

@@ -16,11 +16,11 @@ use Rattle.seize_book.specs.Books.{Learns}
 use Rattle.seize_book.specs.Entry.{Entry}
 use Rattle.seize_book.specs.Kept.{AreTold}
 use Rattle.seize_book.specs.Passes.{Longer, LooksOn}
-use Rattle.seize_book.specs.Slots.{Moves, NotesAs, active_of, slot_number, slot_of, start_of}
+use Rattle.seize_book.specs.Slots.{AddsDeed, Moves, active_of, slot_number, slot_of, start_of}
 use Rattle.seize_book.specs.Tokens.{Name, start}
 use Rattle.seize_book.specs.declared.book.pass.Pass.{Pass}
 use Rattle.seize_book.specs.declared.book.slot_key.SlotKey.{SlotKey}
-use Rattle.seize_book.specs.declared.book.token.Book.{Book}
+use Rattle.seize_book.specs.declared.book.seen.Seen.{Seen}
 use Rattle.seize_words.specs.Joined.{IsHolder}
 use Rattle.seize_words.specs.Reservations.{beginning}
 use Rattle.seize_words.specs.declared.activation.Activation.{Activation}
@@ -53,26 +53,26 @@ idle_of : (z : Record) → z.used ≡ true → z.call ≡ None → is_idle z ≡
 idle_of z used none = (λ j. used j && not (is_some (none j)))
 
 -- a pass that has seen what the slot had
-pub record Ready (seen : Book) (p : Pass) : Type 0 where
+pub record Ready (seen : Seen) (p : Pass) : Type 0 where
   pub named : seen.name ≡ p.name
   pub grows : IsPrefix seen.seen p.seen
   pub legal : IsLegalList (start p.name) p.seen
 
-pub ready_learned : (seen : Book) (pass p : Pass) → seen.name ≡ pass.name → Learns pass seen p → Ready seen p
+pub ready_learned : (seen : Seen) (pass p : Pass) → seen.name ≡ pass.name → Learns pass seen p → Ready seen p
 ready_learned seen pass p book learns = record {
   named = book ∙ sym learns.0.0;
   grows = longer_right pass.seen seen.seen p.seen learns.2;
   legal = subst (λ (n : Name). IsLegalList (start n) p.seen) (sym learns.0.0) learns.4;
 }
 
-pub ready_looked : (seen : Book) (p q : Pass) → Ready seen p → LooksOn p q → Ready seen q
+pub ready_looked : (seen : Seen) (p q : Pass) → Ready seen p → LooksOn p q → Ready seen q
 ready_looked seen p q ready looks = record {
   named = ready.named ∙ sym looks.same.0;
   grows = prefix_trans seen.seen p.seen q.seen ready.grows looks.grows;
   legal = subst (λ (n : Name). IsLegalList (start n) q.seen) (sym looks.same.0) looks.legal;
 }
 
-module _ {T : Type 0} (number : ℕ) (key : SlotKey) (batch : Batch) (spots : Spots Header Part T) (seen : Book) (law : BelongTogether number key batch spots seen) (p : Pass) (ready : Ready seen p) where
+module _ {T : Type 0} (number : ℕ) (key : SlotKey) (batch : Batch) (spots : Spots Header Part T) (seen : Seen) (law : BelongTogether number key batch spots seen) (p : Pass) (ready : Ready seen p) where
   pub holder : IsHolder key p number
   holder =
       let there = law.there in let more = slots_of seen.name p.name seen.seen p.seen (sym ready.named) ready.grows ready.legal in
@@ -82,7 +82,7 @@ module _ {T : Type 0} (number : ℕ) (key : SlotKey) (batch : Batch) (spots : Sp
   batch_at told = (law.batch_is.0 ∙ ready.named, law.batch_is.1, all_told_later seen.seen p.seen (keys_in batch).keys.held ready.grows told)
 
   -- after a call, which leaves no call under way
-  module _ (key' : SlotKey) (pass' : Pass) (batch' : Batch) (spots' : Spots Header Part T) (seen' : Book) (rests : Rests key p key' pass' (keys_in batch'))
+  module _ (key' : SlotKey) (pass' : Pass) (batch' : Batch) (spots' : Spots Header Part T) (seen' : Seen) (rests : Rests key p key' pass' (keys_in batch'))
       (legal' : IsLegalList (start pass'.name) pass'.seen) (of_store : AreOfStore spots' seen.name.store) (same : seen'.name ≡ seen.name) (saw : seen'.seen ≡ pass'.seen) where
     named' : pass'.name ≡ seen'.name
     named' = rests.same.0 ∙ sym ready.named ∙ sym same
@@ -109,8 +109,8 @@ entered_so key key' log pass its later answer moves idle off =
     let is : next pass.size st (Enter s) ≡ Some d = next_of pass.size st (Enter s) d (Step.entered s (ap is_idle moves.was ∙ idle) (moves.was_active ∙ off)) in
     moved key key' log (beginning pass its (Enter s)) later answer moves d is ∙ moves.was
 
-module _ {T : Type 0} (number : ℕ) (key : SlotKey) (batch : Batch) (spots : Spots Header Part T) (seen : Book) (law : BelongTogether number key batch spots seen) (p : Pass) (ready : Ready seen p)
-    (key' : SlotKey) (pass' : Pass) (a : Activation) (notes : NotesAs key p key' pass' (beginning p a.life (Enter number))) (off : active_of key ≡ false) (seen' : Book) (same : seen'.name ≡ seen.name) (saw : seen'.seen ≡ pass'.seen) where
+module _ {T : Type 0} (number : ℕ) (key : SlotKey) (batch : Batch) (spots : Spots Header Part T) (seen : Seen) (law : BelongTogether number key batch spots seen) (p : Pass) (ready : Ready seen p)
+    (key' : SlotKey) (pass' : Pass) (a : Activation) (notes : AddsDeed key p key' pass' (beginning p a.life (Enter number))) (off : active_of key ≡ false) (seen' : Seen) (same : seen'.name ≡ seen.name) (saw : seen'.seen ≡ pass'.seen) where
   stays : slot_of key' ≡ slot_of key
   stays =
       let n = notes.2.0 in

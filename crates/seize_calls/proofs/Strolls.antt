@@ -20,12 +20,12 @@ use Rattle.seize_words.proofs.Facts.{all_of_told, all_told_append, all_told_grow
 use Rattle.seize_calls.proofs.Alone.{alone_none}
 use Rattle.seize_calls.specs.Handing.{Had, Handings, HasHad, Queues, values_handed, values_put, words_put}
 use Rattle.seize_book.specs.Kept.{AllTold, kepts_of}
-use Rattle.seize_calls.specs.Walking.{EndsWalk, HandsAll, IsAtWalk, IsGiven, KeepsAndKnows, Stops, WalksAll, WalksTo, counting, countings, handed_in, hands, steps}
-use Rattle.seize_calls.specs.declared.walking.Walked.TheVariants.{GivesUp, Over}
+use Rattle.seize_calls.specs.Walking.{ContinuesAndKnows, EndsWalk, HandsAll, IsAtWalk, IsGiven, Stops, WalksAll, WalksTo, counting, countings, handed_in, hands, steps}
+use Rattle.seize_calls.specs.declared.walking.WalkOutcome.TheVariants.{GivesUp, Over}
 use Rattle.seize_calls.proofs.Handed.{had_more, had_none, handed_append, put_append, queues_more, queues_none}
 use Rattle.seize_calls.proofs.Keeps.{keeps_twice, same_private, same_telling}
 
-pub goes_twice : (key one two : SlotKey) (pass pass1 pass2 : Pass) → KeepsAndKnows key pass one pass1 → KeepsAndKnows one pass1 two pass2 → KeepsAndKnows key pass two pass2
+pub goes_twice : (key one two : SlotKey) (pass pass1 pass2 : Pass) → ContinuesAndKnows key pass one pass1 → ContinuesAndKnows one pass1 two pass2 → ContinuesAndKnows key pass two pass2
 goes_twice key one two pass pass1 pass2 first second = (keeps_twice key one two pass pass1 pass2 first.0 second.0, prefix_trans (own_list key) (own_list one) (own_list two) first.1 second.1)
 
 -- The events of a walk are the same with a pass as it was before.
@@ -92,7 +92,7 @@ handed_last walked counts zero values =
 
 -- some of the walk is behind
 pub record IsStrolling {key : SlotKey} {word : ℕ} (at : IsAtWalk key word) (pass : Pass) (queue : ValueKeys) (had : Had) (key' : SlotKey) (pass' : Pass) (leads' : ℕ) (queue' : ValueKeys) (had' : Had) : Type 0 where
-  pub goes_on : KeepsAndKnows key pass key' pass'
+  pub goes_on : ContinuesAndKnows key pass key' pass'
   pub walked : List (ℤ × Handings)
   pub kepts : List ℕ
   pub has_had : HasHad (handed_in walked) kepts had had'

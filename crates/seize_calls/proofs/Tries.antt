@@ -8,7 +8,7 @@ use Rattle.seize_machine.specs.declared.machine.event.Answer.{Answer}
 use Rattle.seize_machine.specs.declared.machine.event.Answer.TheVariants.{Done}
 use Rattle.seize_machine.specs.declared.machine.event.Try.TheVariants.{Won, Lost}
 use Rattle.seize_book.specs.Adding.{private}
-use Rattle.seize_book.specs.Blocks.{Plan, block_number, serving}
+use Rattle.seize_book.specs.Blocks.{Plan, block_number, plan_value}
 use Rattle.seize_book.specs.Chains.{first_field, next_field}
 use Rattle.seize_book.specs.Entry.{Deed}
 use Rattle.seize_words.specs.Headers.{IsFrontBlock, Stores, Uses, field_number}
@@ -16,13 +16,13 @@ use Rattle.seize_words.specs.Heads.{IsTrying}
 use Rattle.seize_book.specs.Homes.{home_of}
 use Rattle.seize_book.specs.Passes.{events_by}
 use Rattle.seize_words.specs.Reservations.{TriesAt, slot}
-use Rattle.seize_book.specs.Slots.{IsKeyOfBook, Notes, own_list, slot_number, slot_of, start_of, written_of}
+use Rattle.seize_book.specs.Slots.{AddsEvent, IsKeyOfBook, own_list, slot_number, slot_of, start_of, written_of}
 use Rattle.seize_book.specs.declared.book.pass.Pass.{Pass}
 use Rattle.seize_book.specs.declared.book.slot_key.SlotKey.{SlotKey}
 use Rattle.seize_words.specs.declared.chunk.Header.{Header}
 use Rattle.seize_words.specs.declared.reservation.Head.{Head}
 use Rattle.seize_words.proofs.Facts.{events_same, plan_kept, plan_used, still_trying}
-use Rattle.seize_calls.specs.Inserts.{IsAtTry, Keeps, Tried, plan_in}
+use Rattle.seize_calls.specs.Inserts.{Continues, IsAtTry, TriesOnce, plan_in}
 use Rattle.seize_calls.proofs.Keeps.{Goes, call_after, call_before, insert_lost, insert_won, keeps_book, keeps_noted, keeps_twice, keeps_used, made_noted, outcome, same_private, state_before, step_noted}
 
 -- the front of a batch is the same where its plan is
@@ -39,7 +39,7 @@ module _ (key : SlotKey) (pass : Pass) (head : Head) (header : Header) (seen blo
   abbrev call : Call
   call = record { place = Try t.batch t.won m t.later t.saw; queue = t.queue }
 
-  stores : (which : ℕ → ℕ) (f : ℕ) → f ≡ which (home_of (serving m (plan_in key t.batch).slots (plan_in key t.batch).values)) → Stores which f key
+  stores : (which : ℕ → ℕ) (f : ℕ) → f ≡ which (home_of (plan_value m (plan_in key t.batch).slots (plan_in key t.batch).values)) → Stores which f key
   stores which f its = record { batch = t.batch; won = t.won; at = m; later = t.later; saw = t.saw; queue = t.queue; trying = t.trying; its = its }
 
   pub stores_next : Stores next_field (field_number header.next) key
@@ -52,7 +52,7 @@ module _ (key : SlotKey) (pass : Pass) (head : Head) (header : Header) (seen blo
     between : IsKeyOfBook one pass1
     between = keeps_book key one pass pass1 (keeps_used key one pass pass1 f seen first) book
 
-    pub keeps_both : Keeps key pass two pass2
+    pub keeps_both : Continues key pass two pass2
     keeps_both = keeps_twice key one two pass pass1 pass2 (keeps_used key one pass pass1 f seen first) (keeps_used one two pass1 pass2 g front second)
 
     abbrev t1 : IsTrying (start_of one) (slot_number one) (own_list one) m seen block
@@ -86,7 +86,7 @@ module _ (key : SlotKey) (pass : Pass) (head : Head) (header : Header) (seen blo
       abbrev on : Bool → Place → Place
       on won = if won then won_on else lost_on
 
-      goes_so : (won : Bool) (notes : Notes two pass2 key' pass' (event won)) → Goes (state_before two key' pass2 pass' (event won) [] notes) (slot_number two) call (on won) (outcome two key' pass2 pass' (event won) [] notes) Done
+      goes_so : (won : Bool) (notes : AddsEvent two pass2 key' pass' (event won)) → Goes (state_before two key' pass2 pass' (event won) [] notes) (slot_number two) call (on won) (outcome two key' pass2 pass' (event won) [] notes) Done
       goes_so true notes = insert_won _ _ (slot_number two) m call _ (step_noted two key' pass2 pass' (event true) [] notes) (call_before two key' pass2 pass' (event true) [] notes call stands_two)
       goes_so false notes = insert_lost _ _ (slot_number two) m call _ (step_noted two key' pass2 pass' (event false) [] notes) (call_before two key' pass2 pass' (event false) [] notes call stands_two)
 
@@ -95,7 +95,7 @@ module _ (key : SlotKey) (pass : Pass) (head : Head) (header : Header) (seen blo
       stands_so true is = is
       stands_so false is = is
 
-      pub tried : (won : Bool) → Notes two pass2 key' pass' (event won) → Tried at pass key' pass' won
+      pub tried : (won : Bool) → AddsEvent two pass2 key' pass' (event won) → TriesOnce at pass key' pass' won
       tried won notes =
           let so = goes_so won notes in
           let keeps = keeps_noted two key' pass2 pass' (event won) [] notes call (on won) Done so refl in

@@ -8,7 +8,7 @@ use Rattle.seize_machine.specs.declared.machine.event.Answer.TheVariants.{Done, 
 use Rattle.seize_machine.specs.declared.machine.event.Try.{Try as Insertion}
 use Rattle.seize_machine.specs.declared.machine.event.Try.TheVariants.{Won, Lost}
 use Rattle.seize_book.specs.Adding.{private}
-use Rattle.seize_book.specs.Blocks.{Plan, block_for, block_in, list_word, serving, word_of}
+use Rattle.seize_book.specs.Blocks.{Plan, block_for, block_in, list_word, plan_value, word_of}
 use Rattle.seize_book.specs.Book.{after}
 use Rattle.seize_words.specs.Chunks.{IsHeaderOf}
 use Rattle.seize_book.specs.Entry.{Deed, Entry}
@@ -16,7 +16,7 @@ use Rattle.seize_words.specs.Heads.{IsTrying, reads_at}
 use Rattle.seize_book.specs.Homes.{home_of}
 use Rattle.seize_book.specs.Passes.{IsSamePass, LooksOn, events_by}
 use Rattle.seize_words.specs.Reservations.{MayRead, ShowsHead, slot}
-use Rattle.seize_book.specs.Slots.{IsKeyOfBook, Notes, own_list, slot_number, slot_of, start_of}
+use Rattle.seize_book.specs.Slots.{AddsEvent, IsKeyOfBook, own_list, slot_number, slot_of, start_of}
 use Rattle.seize_book.specs.Tokens.{Name, start}
 use Rattle.seize_words.specs.Totals.{slots_seen}
 use Rattle.seize_words.specs.Walks.{Knows}
@@ -26,7 +26,7 @@ use Rattle.seize_words.specs.declared.chunk.Header.{Header}
 use Rattle.seize_words.specs.declared.reservation.Head.{Head}
 use Rattle.seize_book.proofs.Facts.{equal}
 use Rattle.seize_words.proofs.Facts.{looked_named, plan_kept}
-use Rattle.seize_calls.specs.Inserts.{HasHome, InsertTries, Inserted, IsAtSlot, IsAtTry, Keeps, Tried, last_at, losses, plan_in, trying, turn_at, turns_at}
+use Rattle.seize_calls.specs.Inserts.{Continues, HasHome, InsertTries, InsertsAtSlot, IsAtSlot, IsAtTry, TriesOnce, all_insert_events, insert_events, last_at, losses, plan_in, trying}
 use Rattle.seize_calls.specs.Marks.{reading}
 use Rattle.seize_calls.proofs.Keeps.{Goes, call_after, call_before, heads_read, keeps_book, keeps_looked, keeps_noted, keeps_twice, looked_again, looked_same, made_noted, outcome, same_private, state_before, step_noted}
 use Rattle.seize_calls.proofs.Marks.{word_none, word_some}
@@ -34,13 +34,13 @@ use Rattle.seize_calls.proofs.Tries.{front_same}
 
 -- some insertions were lost, and the call is to look at the head again
 pub record IsTurning {key : SlotKey} {m block front : ℕ} (at : IsAtSlot key m block front) (pass : Pass) (key' : SlotKey) (pass' : Pass) : Type 0 where
-  pub keeps : Keeps key pass key' pass'
+  pub keeps : Continues key pass key' pass'
   pub lost : ℕ
   pub made : events_by pass' ≡ events_by pass ++ losses pass (slot_number key) m lost
   pub planned : plan_in key' at.batch ≡ plan_in key at.batch
   pub looking : (slot_of key').call ≡ Some (record { place = Look at.batch at.won m at.later; queue = at.queue })
 
-abbrev pub turns_begin : {m block front : ℕ} (key : SlotKey) (at : IsAtSlot key m block front) (pass : Pass) → Keeps key pass key pass → IsTurning at pass key pass
+abbrev pub turns_begin : {m block front : ℕ} (key : SlotKey) (at : IsAtSlot key m block front) (pass : Pass) → Continues key pass key pass → IsTurning at pass key pass
 turns_begin key at pass keeps = record { keeps = keeps; lost = 0; made = sym (append-nil (events_by pass)); planned = refl; looking = at.looking }
 
 -- The events of a turn are the same with a pass as it was before.
@@ -63,23 +63,23 @@ same_last pass pass' same s m true =
     ap (λ (x : Deed × Answer). x ∷ trying pass' s m Won ∷ []) (same_reading pass pass' same s m true) ∙ ap (λ (x : Deed × Answer). reading pass s m true ∷ x ∷ []) (same_trying pass pass' same s m Won)
 same_last pass pass' same s m false = ap (λ (x : Deed × Answer). x ∷ []) (same_reading pass pass' same s m false)
 
-pub same_turn : (pass pass' : Pass) → IsSamePass pass pass' → (s m : ℕ) (turn : InsertTries) → turn_at pass' s m turn ≡ turn_at pass s m turn
+pub same_turn : (pass pass' : Pass) → IsSamePass pass pass' → (s m : ℕ) (turn : InsertTries) → insert_events pass' s m turn ≡ insert_events pass s m turn
 same_turn pass pass' same s m turn =
     ap (λ (log : List (Deed × Answer)). log ++ last_at pass' s m turn.won) (same_losses pass pass' same s m turn.lost)
     ∙ ap (λ (log : List (Deed × Answer)). losses pass s m turn.lost ++ log) (same_last pass pass' same s m turn.won)
 
-pub same_turns : (pass pass' : Pass) → IsSamePass pass pass' → (s : ℕ) (ms : List ℕ) (turns : List InsertTries) → turns_at pass' s ms turns ≡ turns_at pass s ms turns
+pub same_turns : (pass pass' : Pass) → IsSamePass pass pass' → (s : ℕ) (ms : List ℕ) (turns : List InsertTries) → all_insert_events pass' s ms turns ≡ all_insert_events pass s ms turns
 same_turns pass pass' same s [] turns = refl
 same_turns pass pass' same s (m ∷ ms) [] = refl
 same_turns pass pass' same s (m ∷ ms) (turn ∷ turns) =
-    ap (λ (log : List (Deed × Answer)). log ++ turns_at pass' s ms turns) (same_turn pass pass' same s m turn)
-    ∙ ap (λ (log : List (Deed × Answer)). turn_at pass s m turn ++ log) (same_turns pass pass' same s ms turns)
+    ap (λ (log : List (Deed × Answer)). log ++ all_insert_events pass' s ms turns) (same_turn pass pass' same s m turn)
+    ∙ ap (λ (log : List (Deed × Answer)). insert_events pass s m turn ++ log) (same_turns pass pass' same s ms turns)
 
 -- the header is that of the block for the slot
 pub its_home : (key : SlotKey) (pass : Pass) (m block front : ℕ) (header : Header) (at : IsAtSlot key m block front) → IsKeyOfBook key pass → Knows key pass → IsHeaderOf header block pass
     → HasHome at header
 its_home key pass m block front header at book knows is =
-    is.1 (serving m (plan_in key at.batch).slots (plan_in key at.batch).values) (looked_named key pass book knows at.batch at.won m at.later at.queue at.looking) (sym at.its_block)
+    is.1 (plan_value m (plan_in key at.batch).slots (plan_in key at.batch).values) (looked_named key pass book knows at.batch at.won m at.later at.queue at.looking) (sym at.its_block)
 
 active_list : (h : MachineHead) → is_active h ≡ true → h ≡ Active (waiting_at h)
 active_list Inactive e = absurd (cc)
@@ -109,7 +109,7 @@ module _ (key0 : SlotKey) (pass0 : Pass) (head : Head) (block front : ℕ) (at :
     subst (λ (n : Name). m < length (after (start n) pass.seen).slots) (sym is_head) (let grows = r.keeps.seen in omega (arith, seen0, grows)),
   )
 
-  module _ (key' : SlotKey) (pass' : Pass) (v : ℕ) (noted : Notes key pass key' pass' (ReadHead (slot_number key) m)) (shows : ShowsHead head pass'.seen v) where
+  module _ (key' : SlotKey) (pass' : Pass) (v : ℕ) (noted : AddsEvent key pass key' pass' (ReadHead (slot_number key) m)) (shows : ShowsHead head pass'.seen v) where
     abbrev event : Event
     event = ReadHead (slot_number key) m
 
@@ -122,7 +122,7 @@ module _ (key0 : SlotKey) (pass0 : Pass) (head : Head) (block front : ℕ) (at :
     goes_so : Goes st (slot_number key) call (looked_on scheme h) (outcome key key' pass pass' event [] noted) (HeadRead (is_active h))
     goes_so = looked_again _ st (slot_number key) m at.batch at.won at.later at.queue _ (step_noted key key' pass pass' event [] noted) (call_before key key' pass pass' event [] noted call r.looking)
 
-    pub keeps_read : Keeps key0 pass0 key' pass'
+    pub keeps_read : Continues key0 pass0 key' pass'
     keeps_read = keeps_twice key0 key key' pass0 pass pass' r.keeps (keeps_noted key key' pass pass' event [] noted call (looked_on scheme h) (HeadRead (is_active h)) goes_so refl)
 
     pub goes_on : (slot_of key').call ≡ Some (record { place = looked h at.batch at.won m at.later; queue = at.queue })
@@ -148,7 +148,7 @@ module _ (key0 : SlotKey) (pass0 : Pass) (head : Head) (block front : ℕ) (at :
     planned_read = plan_kept key key' pass pass' (private pass event) at.batch at.its_front.0 noted (front_same key0 key at.batch front r.planned at.its_front).1 ∙ r.planned
 
     -- the slot is inactive, and skipped
-    pub skipped : v ≡ 0 → Inserted at pass0 key' pass' false
+    pub skipped : v ≡ 0 → InsertsAtSlot at pass0 key' pass' false
     skipped none =
         let off = word_none (λ b. block_for (start head.word.name) pass'.seen b m) h (sym word ∙ none) in
         record {
@@ -189,12 +189,12 @@ module _ (key0 : SlotKey) (pass0 : Pass) (head : Head) (block front : ℕ) (at :
         at_try = record {
           tries = now_trying;
           fits = fits;
-          its_home = ap (λ (plan : Plan). home_of (serving m plan.slots plan.values)) planned_read ∙ home;
+          its_home = ap (λ (plan : Plan). home_of (plan_value m plan.slots plan.values)) planned_read ∙ home;
           its_front = front_same key0 key' at.batch front planned_read at.its_front;
         }
 
-        module _ (key2 : SlotKey) (pass2 : Pass) (won : Bool) (tried : Tried at_try pass' key2 pass2 won) where
-          keeps_all : Keeps key0 pass0 key2 pass2
+        module _ (key2 : SlotKey) (pass2 : Pass) (won : Bool) (tried : TriesOnce at_try pass' key2 pass2 won) where
+          keeps_all : Continues key0 pass0 key2 pass2
           keeps_all = keeps_twice key0 key' key2 pass0 pass' pass2 keeps_read tried.keeps
 
           planned_all : plan_in key2 at.batch ≡ plan_in key0 at.batch
@@ -212,7 +212,7 @@ module _ (key0 : SlotKey) (pass0 : Pass) (head : Head) (block front : ℕ) (at :
               (ap (λ (d : Deed). (d, Done)) (same_private pass0 pass' keeps_read.same end) ∙ ap (λ (s : ℕ). trying pass0 s m (if won then Won else Lost)) keeps_read.its.1)
               ∙ append_assoc (before ++ lost) (one ∷ []) (two ∷ []) ∙ append_assoc before lost (one ∷ two ∷ [])
 
-          pub won_turn : won ≡ true → Inserted at pass0 key2 pass2 true
+          pub won_turn : won ≡ true → InsertsAtSlot at pass0 key2 pass2 true
           won_turn is = record {
             keeps = keeps_all;
             lost = r.lost;
@@ -231,11 +231,11 @@ module _ (key0 : SlotKey) (pass0 : Pass) (head : Head) (block front : ℕ) (at :
           }
 
 -- What a turn comes to from before a look on.
-pub inserted_before : {key : SlotKey} {m block front : ℕ} (at : IsAtSlot key m block front) (pass0 pass1 : Pass) (key' : SlotKey) (pass' : Pass) (won : Bool) → LooksOn pass0 pass1 → Inserted at pass1 key' pass' won → Inserted at pass0 key' pass' won
+pub inserted_before : {key : SlotKey} {m block front : ℕ} (at : IsAtSlot key m block front) (pass0 pass1 : Pass) (key' : SlotKey) (pass' : Pass) (won : Bool) → LooksOn pass0 pass1 → InsertsAtSlot at pass1 key' pass' won → InsertsAtSlot at pass0 key' pass' won
 inserted_before {key} {m} at pass0 pass1 key' pass' won looks r = record {
   keeps = keeps_twice key key key' pass0 pass1 pass' (keeps_looked key pass0 pass1 looks) r.keeps;
   lost = r.lost;
-  made = r.made ∙ ap (λ (log : List (Deed × Answer)). log ++ turn_at pass1 (slot_number key) m (record { lost = r.lost; won = won })) (looked_same pass0 pass1 looks)
+  made = r.made ∙ ap (λ (log : List (Deed × Answer)). log ++ insert_events pass1 (slot_number key) m (record { lost = r.lost; won = won })) (looked_same pass0 pass1 looks)
       ∙ ap (λ (log : List (Deed × Answer)). events_by pass0 ++ log) (same_turn pass0 pass1 looks.same (slot_number key) m (record { lost = r.lost; won = won }));
   planned = r.planned;
   stands = r.stands;

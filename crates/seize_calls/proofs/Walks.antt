@@ -16,7 +16,7 @@ use Rattle.seize_book.specs.Entry.{Deed, Entry}
 use Rattle.seize_words.specs.Headers.{IsFrontBlock}
 use Rattle.seize_book.specs.Ledger.{HeldKey}
 use Rattle.seize_book.specs.Passes.{events_by, IsSamePass}
-use Rattle.seize_book.specs.Slots.{Notes, own_list, slot_number, slot_of}
+use Rattle.seize_book.specs.Slots.{AddsEvent, own_list, slot_number, slot_of}
 use Rattle.seize_book.specs.Values.{IsEmpty}
 use Rattle.seize_words.specs.Walks.{CountsDown, IsAtBatch, word_for}
 use Rattle.seize_book.specs.Private.{labels_of}
@@ -26,8 +26,8 @@ use Rattle.seize_book.specs.declared.book.value_keys.ValueKeys.{ValueKeys}
 use Rattle.seize_book.proofs.Facts.{same_twice}
 use Rattle.seize_words.proofs.Facts.{events_grew}
 use Rattle.seize_calls.proofs.Alone.{alone_none}
-use Rattle.seize_calls.specs.Inserts.{Keeps}
-use Rattle.seize_calls.specs.Walking.{AreHeld, EndsWalk, IsAtWalk, KeepsAndKnows, Stops, counting, countings}
+use Rattle.seize_calls.specs.Inserts.{Continues}
+use Rattle.seize_calls.specs.Walking.{AreHeld, ContinuesAndKnows, EndsWalk, IsAtWalk, Stops, counting, countings}
 use Rattle.seize_calls.proofs.Keeps.{keeps_from, keeps_looked, keeps_twice, looked_same, outcome, own_grows, same_private, state_before, step_noted}
 use Rattle.seize_calls.proofs.Marks.{within}
 
@@ -52,7 +52,7 @@ after_sub size st _ d (Step.subtracted s b walk queue _ stands is) =
       ap (λ (x : State × Answer). x.0.heads) (sym eq),
     )
 
-pub keeps_counted : (key key' : SlotKey) (pass pass' : Pass) → Notes key pass key' pass' (SubCount (slot_number key)) → Keeps key pass key' pass'
+pub keeps_counted : (key key' : SlotKey) (pass pass' : Pass) → AddsEvent key pass key' pass' (SubCount (slot_number key)) → Continues key pass key' pass'
 keeps_counted key key' pass pass' notes =
     let event = SubCount (slot_number key) in
     let so = after_sub pass.size (state_before key key' pass pass' event [] notes) (slot_number key) (outcome key key' pass pass' event [] notes) (step_noted key key' pass pass' event [] notes) in
@@ -60,7 +60,7 @@ keeps_counted key key' pass pass' notes =
 
 -- some batches were counted down, and none was given up
 pub record IsWalking {key : SlotKey} {word : ℕ} (at : IsAtWalk key word) (pass : Pass) (key' : SlotKey) (pass' : Pass) (values' : ValueKeys) (leads' : ℕ) : Type 0 where
-  pub goes_on : KeepsAndKnows key pass key' pass'
+  pub goes_on : ContinuesAndKnows key pass key' pass'
   pub held : List ℤ
   pub above : AreHeld held
   pub done : List ℕ
@@ -130,7 +130,7 @@ module _ (key0 : SlotKey) (word : ℕ) (at : IsAtWalk key0 word) (pass0 : Pass) 
       abbrev count : ℤ
       count = down.counts.1.0
 
-      pub goes_down : KeepsAndKnows key0 pass0 key' pass'
+      pub goes_down : ContinuesAndKnows key0 pass0 key' pass'
       goes_down = (
         keeps_twice key0 key key' pass0 pass pass' r.goes_on.0 (keeps_twice key key key' pass down.mid pass' (keeps_looked key pass down.mid down.looks) (keeps_counted key key' down.mid pass' down.counts.0)),
         prefix_trans (own_list key0) (own_list key) (own_list key') r.goes_on.1 (own_grows key key' down.mid pass' (SubCount (slot_number key)) [] down.counts.0),

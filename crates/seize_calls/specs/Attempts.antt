@@ -2,7 +2,8 @@
 --     Attempts at pass values key' pass' values' ends     the call has given up, as after marking (EndsMarks), and the keys of the batch's
 --                        values stay, with all that is noted but the slots; or the batch was retired: see Retires
 --     Retires at pass values key' pass' values' zero      all that was made with the pass is that the slot read the heads, detached the
---                        batch, took a turn at each slot whose head was active (`turns_at`), and added the insertions won; the count is 0
+--                        batch, took a turn at each slot whose head was active (`all_insert_events`), and added the insertions won; the
+--                        count is 0
 --                        then or isn't. Where it is 0 the batch's values are given up to the call, with their keys. Nothing else of the
 --                        slot has changed but its batch, which is empty. What was added where the pass is alone was made with it
 --                        (AddsAlone)
@@ -21,11 +22,11 @@ use Rattle.seize_book.specs.declared.book.slot_key.SlotKey.{SlotKey}
 use Rattle.seize_book.specs.declared.book.value_keys.ValueKeys.{ValueKeys}
 use Rattle.seize_calls.specs.Alone.{AddsAlone}
 use Rattle.seize_calls.specs.Batches.{AreRemarked}
-use Rattle.seize_calls.specs.Inserts.{InsertTries, turns_at}
+use Rattle.seize_calls.specs.Inserts.{InsertTries, all_insert_events}
 use Rattle.seize_calls.specs.Marks.{BeginsToMark, EndsMarks, actives, readings}
-use Rattle.seize_calls.specs.declared.attempt.Attempted.{Attempted}
-use Rattle.seize_calls.specs.declared.attempt.Attempted.TheVariants.{GivenUp, Stays, Waits}
-use Rattle.seize_calls.specs.declared.marking.Marked.TheVariants.{TooMany}
+use Rattle.seize_calls.specs.declared.attempt.AttemptOutcome.{AttemptOutcome}
+use Rattle.seize_calls.specs.declared.attempt.AttemptOutcome.TheVariants.{GivenUp, Stays, Waits}
+use Rattle.seize_calls.specs.declared.marking.MarkOutcome.TheVariants.{TooMany}
 
 pub record Retires {key : SlotKey} (at : BeginsToMark key) (pass : Pass) (values : ValueKeys) (key' : SlotKey) (pass' : Pass)
     (values' : ValueKeys) (zero : Bool) : Type 0 where
@@ -38,7 +39,7 @@ pub record Retires {key : SlotKey} (at : BeginsToMark key) (pass : Pass) (values
   pub alone : AddsAlone pass pass'
   pub made : let s = slot_number key in
       events_by pass' ≡ (((events_by pass ++ readings pass s 0 finds) ++ (private pass (Detach s), Done) ∷ [])
-      ++ turns_at pass s (actives 0 finds) turns) ++ (private pass (AddCount s), Count count) ∷ []
+      ++ all_insert_events pass s (actives 0 finds) turns) ++ (private pass (AddCount s), Count count) ∷ []
   pub batch : (slot_of key').batch ≡ []
   pub used : (slot_of key').used ≡ (slot_of key).used
   pub active : active_of key' ≡ active_of key
@@ -48,7 +49,7 @@ pub record Retires {key : SlotKey} (at : BeginsToMark key) (pass : Pass) (values
   pub remarked : AreRemarked values marked
   pub keys : LeavesKeys marked pass' values' zero
 
-abbrev pub Attempts : {key : SlotKey} → BeginsToMark key → Pass → ValueKeys → SlotKey → Pass → ValueKeys → Attempted → Type 0
+abbrev pub Attempts : {key : SlotKey} → BeginsToMark key → Pass → ValueKeys → SlotKey → Pass → ValueKeys → AttemptOutcome → Type 0
 Attempts at pass values key' pass' values' Stays = EndsMarks at pass key' pass' [] TooMany × AreRemarked values values'
 Attempts at pass values key' pass' values' Waits = Retires at pass values key' pass' values' false
 Attempts at pass values key' pass' values' GivenUp = Retires at pass values key' pass' values' true

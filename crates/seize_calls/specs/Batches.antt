@@ -1,11 +1,11 @@
 -- What a slot's holder keeps of the slot's batch: the keys of its values. Which block comes next, and at which slot the batch is to be
 -- inserted with a block, is noted of the blocks themselves.
 --     keys_in batch            the keys of its values, in order;  first_in batch     the number of the first one's block
---     slot_noted g             what a note of this code says of the slot
+--     slot_in g                what a note of this code says of the slot
 --     SlotMark                 a value's block, and the slot that is noted of it
---     slot_marks_of held, slot_marks_in batch    those of the values whose keys these are, in order, or of a batch;  marked_slots spots
+--     slot_marks_of held, slot_marks_in batch    those of the values whose keys these are, in order, or of a batch;  marked_slots marks
 --                                      the slots
---     unslotted held           the keys, with all that is noted but the slots
+--     without_slots held       the keys, with all that is noted but the slots
 --     AreRemarked keys keys'   they are the same keys, and all that is noted is the same but the slots
 --     IsAsBefore batch batch'  the keys and the first number are as they were, and what is noted
 --     IsPushed keys v kept keys'    one value more comes last, of which this is kept
@@ -35,22 +35,22 @@ first_in batch = batch.first
 
 -- What is noted of them.
 
-abbrev pub slot_noted : Gv → ℕ
-slot_noted (gcons a (gcons (gnum m) g)) = m
-slot_noted g = 0
+abbrev pub slot_in : Gv → ℕ
+slot_in (gcons a (gcons (gnum m) g)) = m
+slot_in g = 0
 
 pub record SlotMark : Type 0 where
   pub block : ℕ
   pub slot : ℕ
 
 abbrev pub slot_marks_of : List (HeldKey Entry) → List SlotMark
-slot_marks_of held = map (λ h. record { block = block_number h.label; slot = slot_noted h.note }) held
+slot_marks_of held = map (λ h. record { block = block_number h.label; slot = slot_in h.note }) held
 
 abbrev pub slot_marks_in : Batch → List SlotMark
 slot_marks_in batch = slot_marks_of batch.values.keys.held
 
 abbrev pub marked_slots : List SlotMark → List ℕ
-marked_slots spots = map (λ spot. spot.slot) spots
+marked_slots marks = map (λ mark. mark.slot) marks
 
 abbrev pub without_slot : Gv → Gv
 without_slot gnil = gnil
@@ -59,11 +59,11 @@ without_slot (gcons a gnil) = gcons a gnil
 without_slot (gcons a (gnum n)) = gcons a (gnum n)
 without_slot (gcons a (gcons b g)) = gcons a g
 
-abbrev pub unslotted : List (HeldKey Entry) → List (HeldKey Entry)
-unslotted held = map (λ h. record { kind = h.kind; key = h.key; own = h.own; label = h.label; note = without_slot h.note }) held
+abbrev pub without_slots : List (HeldKey Entry) → List (HeldKey Entry)
+without_slots held = map (λ h. record { kind = h.kind; key = h.key; own = h.own; label = h.label; note = without_slot h.note }) held
 
 abbrev pub AreRemarked : ValueKeys → ValueKeys → Type 0
-AreRemarked keys keys' = (book_in keys' ≡ book_in keys) × (unslotted keys'.keys.held ≡ unslotted keys.keys.held)
+AreRemarked keys keys' = (book_in keys' ≡ book_in keys) × (without_slots keys'.keys.held ≡ without_slots keys.keys.held)
 
 abbrev pub IsAsBefore : Batch → Batch → Type 0
 IsAsBefore batch batch' =

@@ -38,7 +38,7 @@ use Rattle.seize_book.specs.declared.book.slot_key.SlotKey.{SlotKey}
 use Rattle.seize_book.specs.declared.book.value_keys.ValueKeys.{ValueKeys}
 use Rattle.seize_calls.specs.Alone.{AddsAlone}
 use Rattle.seize_calls.specs.Handing.{Had, Handings, HasHad, values_handed, values_put, words_put}
-use Rattle.seize_calls.specs.Inserts.{Keeps}
+use Rattle.seize_calls.specs.Inserts.{Continues}
 use Rattle.seize_calls.specs.Settling.{CallState, Drains, DrainsOne, HasBatch, Settles, done_event}
 use Rattle.seize_calls.specs.Walking.{handed_in, steps}
 
@@ -52,7 +52,7 @@ pub record HasBegun (a : Activation) (pass : Pass) : Type 0 where
   pub known : IsPrefix a.since pass.seen
 
 pub record Begins (key : SlotKey) (pass : Pass) (job : Job) (kepts : List ℕ) (key' : SlotKey) (pass' : Pass) : Type 0 where
-  pub keeps : Keeps key pass key' pass'
+  pub keeps : Continues key pass key' pass'
   pub made : events_by pass' ≡ events_by pass ++ (deed_with_words pass (Begin (slot_number key) job) kepts, Done) ∷ []
 
 pub record BeginsSo (key : SlotKey) (pass : Pass) (job : Job) (kepts : List ℕ) (values : ValueKeys) (had : Had)
@@ -63,7 +63,7 @@ pub record BeginsSo (key : SlotKey) (pass : Pass) (job : Job) (kepts : List ℕ)
   pub had_none : a.had ≡ had
 
 pub record Returns (a : CallState) (key' : SlotKey) (pass' : Pass) (values : ValueKeys) (had : Had) : Type 0 where
-  pub keeps : Keeps a.key a.pass key' pass'
+  pub keeps : Continues a.key a.pass key' pass'
   pub made : events_by pass' ≡ events_by a.pass ++ done_event a.pass (Return (slot_number a.key))
   pub batch : values ≡ a.batch
   pub none : values_of a.queue ≡ []
@@ -96,7 +96,7 @@ pub record RetiresOne (key : SlotKey) (pass : Pass) (v kept : ℕ) (values : Val
   pub begun : CallState
   pub begins : BeginsSo key pass (Retire v) (kept ∷ []) values had begun
   pub settled : CallState
-  pub round : DrainsOne begun v kept settled retired
+  pub drains_one : DrainsOne begun v kept settled retired
   pub drained : CallState
   pub drains : Drains settled drained
   pub returns : Returns drained key' pass' values' had'

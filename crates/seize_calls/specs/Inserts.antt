@@ -1,22 +1,22 @@
 -- How a call inserts the batch that it detached, at the slots that it marked, one after the other.
 --     InsertTries            what a call did at one slot: the insertions lost there, and whether one was won or the slot was skipped
---     turn_at pass s m turn      its events, with the pass: before each try slot s read the head of slot m; last it won, or found m
+--     insert_events pass s m turn   its events, with the pass: before each try slot s read the head of slot m; last it won, or found m
 --                            inactive
---     turns_at pass s ms turns   those of a turn at each of these slots, in order;  won_in turns     how many insertions were won
+--     all_insert_events pass s ms turns   those of a turn at each of these slots, in order;  won_in turns     how many insertions were won
 --     plan_in key b          how batch b was detached, as the slot's key knows
---     Keeps key pass key' pass'  it is the same key and pass, and the slot's batch, whether it is in use and active, and its last
+--     Continues key pass key' pass'  it is the same key and pass, and the slot's batch, whether it is in use and active, and its last
 --                            activation, are as they were; the pass has seen all that it had seen, and so no fewer slots; and what was
 --                            added where it is alone was made with it (AddsAlone)
 --     IsAtTry key head header seen block front     the slot's call is about to insert its batch at this head, where it saw this word, with
 --                            the block of this number and header; and this is the number of the batch's first block
---     Tried at pass key' pass' won   it tried once, and won or lost
+--     TriesOnce at pass key' pass' won   it tried once, and won or lost
 --     IsAtSlot key m block front     the slot's call is about to read the head of slot m again, to insert its batch there with this block
 --     HasHome at header          this is the block's header
 --     IsAtNext key pass round front     so it is at the slot that is noted of the next block of the round, with this block
 --     GoesPast next round'       the round went past it
---     Inserted at pass key' pass' won     it took a turn there, and is at the next slot
---     IsInserting key pass spots front   the slot's call is about to do so at these slots, each with its block
---     InsertedAll at pass key' pass' won   it took a turn at each, and is about to add this many insertions
+--     InsertsAtSlot at pass key' pass' won   it took a turn there, and is at the next slot
+--     IsInserting key pass marks front   the slot's call is about to do so at these slots, each with its block
+--     InsertsAtEach at pass key' pass' won   it took a turn at each, and is about to add this many insertions
 use Rattle.std.specs.Prelude.{◌≡◌, ℕ, zero, suc, ◌+◌, ◌<◌, ◌≤◌, ◌^◌, Bool, true, false, if◌then◌else◌, List, [], ◌∷◌, ◌++◌, length, Some, slice_index_or}
 use mathlib.Core.List.{IsPrefix}
 use Rattle.seize_machine.specs.Machine.Event.{Insert}
@@ -27,7 +27,7 @@ use Rattle.seize_machine.specs.declared.machine.event.Answer.TheVariants.{Done}
 use Rattle.seize_machine.specs.declared.machine.event.Try.{Try as Insertion}
 use Rattle.seize_machine.specs.declared.machine.event.Try.TheVariants.{Won, Lost}
 use Rattle.seize_book.specs.Adding.{private}
-use Rattle.seize_book.specs.Blocks.{Plan, block_in, block_number, no_plan, plans, serving}
+use Rattle.seize_book.specs.Blocks.{Plan, block_in, block_number, no_plan, plan_value, plans}
 use Rattle.seize_words.specs.Chunks.{header_home}
 use Rattle.seize_book.specs.Entry.{Deed, Entry}
 use Rattle.seize_words.specs.Headers.{IsFrontBlock}
@@ -45,7 +45,7 @@ use Rattle.seize_book.specs.declared.book.slot_key.SlotKey.{SlotKey}
 use Rattle.seize_words.specs.declared.chunk.Header.{Header}
 use Rattle.seize_words.specs.declared.reservation.Head.{Head}
 use Rattle.seize_calls.specs.Alone.{AddsAlone}
-use Rattle.seize_calls.specs.Batches.{SlotMark, marked_slots, slot_noted}
+use Rattle.seize_calls.specs.Batches.{SlotMark, marked_slots, slot_in}
 use Rattle.seize_calls.specs.Marks.{reading}
 use Rattle.seize_calls.specs.Rounds.{book_at, done_in, rest_in}
 use Rattle.seize_calls.specs.declared.round.Round.{Round}
@@ -67,12 +67,12 @@ abbrev pub last_at : Pass → ℕ → ℕ → Bool → List (Deed × Answer)
 last_at pass s m true = reading pass s m true ∷ trying pass s m Won ∷ []
 last_at pass s m false = reading pass s m false ∷ []
 
-abbrev pub turn_at : Pass → ℕ → ℕ → InsertTries → List (Deed × Answer)
-turn_at pass s m turn = losses pass s m turn.lost ++ last_at pass s m turn.won
+abbrev pub insert_events : Pass → ℕ → ℕ → InsertTries → List (Deed × Answer)
+insert_events pass s m turn = losses pass s m turn.lost ++ last_at pass s m turn.won
 
-abbrev pub turns_at : Pass → ℕ → List ℕ → List InsertTries → List (Deed × Answer)
-turns_at pass s (m ∷ ms) (turn ∷ turns) = turn_at pass s m turn ++ turns_at pass s ms turns
-turns_at pass s _ _ = []
+abbrev pub all_insert_events : Pass → ℕ → List ℕ → List InsertTries → List (Deed × Answer)
+all_insert_events pass s (m ∷ ms) (turn ∷ turns) = insert_events pass s m turn ++ all_insert_events pass s ms turns
+all_insert_events pass s _ _ = []
 
 abbrev pub won_in : List InsertTries → ℕ
 won_in [] = 0
@@ -83,7 +83,7 @@ won_in (turn ∷ turns) = (if turn.won then 1 else 0) + won_in turns
 abbrev pub plan_in : SlotKey → ℕ → Plan
 plan_in key b = slice_index_or (plans (start_of key) (own_list key)) b no_plan
 
-pub record Keeps (key : SlotKey) (pass : Pass) (key' : SlotKey) (pass' : Pass) : Type 0 where
+pub record Continues (key : SlotKey) (pass : Pass) (key' : SlotKey) (pass' : Pass) : Type 0 where
   pub same : IsSamePass pass pass'
   pub its : (slot_book key' ≡ slot_book key) × (slot_number key' ≡ slot_number key)
   pub batch : (slot_of key').batch ≡ (slot_of key).batch
@@ -97,12 +97,12 @@ pub record Keeps (key : SlotKey) (pass : Pass) (key' : SlotKey) (pass' : Pass) :
 pub record IsAtTry (key : SlotKey) (head : Head) (header : Header) (seen block front : ℕ) : Type 0 where
   pub tries : IsTrying (start_of key) (slot_number key) (own_list key) (slot head) seen block
   pub fits : block + 2 < 2 ^ 64
-  pub its_home : home_of (let plan = plan_in key tries.batch in serving (slot head) plan.slots plan.values) ≡ header_home header
+  pub its_home : home_of (let plan = plan_in key tries.batch in plan_value (slot head) plan.slots plan.values) ≡ header_home header
   pub its_front : IsFrontBlock key tries.batch front
 
-pub record Tried {key : SlotKey} {head : Head} {header : Header} {seen block front : ℕ} (at : IsAtTry key head header seen block front)
+pub record TriesOnce {key : SlotKey} {head : Head} {header : Header} {seen block front : ℕ} (at : IsAtTry key head header seen block front)
     (pass : Pass) (key' : SlotKey) (pass' : Pass) (won : Bool) : Type 0 where
-  pub keeps : Keeps key pass key' pass'
+  pub keeps : Continues key pass key' pass'
   pub made : events_by pass' ≡ events_by pass ++ trying pass (slot_number key) (slot head) (if won then Won else Lost) ∷ []
   pub planned : plan_in key' at.tries.batch ≡ plan_in key at.tries.batch
   pub stands : let t = at.tries in
@@ -120,13 +120,13 @@ pub record IsAtSlot (key : SlotKey) (m block front : ℕ) : Type 0 where
 
 -- this is the header of the block for the slot
 abbrev pub HasHome : {key : SlotKey} {m block front : ℕ} → IsAtSlot key m block front → Header → Type 0
-HasHome {key} {m} at header = home_of (let plan = plan_in key at.batch in serving m plan.slots plan.values) ≡ header_home header
+HasHome {key} {m} at header = home_of (let plan = plan_in key at.batch in plan_value m plan.slots plan.values) ≡ header_home header
 
-pub record Inserted {key : SlotKey} {m block front : ℕ} (at : IsAtSlot key m block front) (pass : Pass) (key' : SlotKey) (pass' : Pass)
+pub record InsertsAtSlot {key : SlotKey} {m block front : ℕ} (at : IsAtSlot key m block front) (pass : Pass) (key' : SlotKey) (pass' : Pass)
     (won : Bool) : Type 0 where
-  pub keeps : Keeps key pass key' pass'
+  pub keeps : Continues key pass key' pass'
   pub lost : ℕ
-  pub made : events_by pass' ≡ events_by pass ++ turn_at pass (slot_number key) m (record { lost = lost; won = won })
+  pub made : events_by pass' ≡ events_by pass ++ insert_events pass (slot_number key) m (record { lost = lost; won = won })
   pub planned : plan_in key' at.batch ≡ plan_in key at.batch
   pub stands : (slot_of key').call ≡ Some (record { place = look at.batch (if won then at.won + 1 else at.won) at.later; queue = at.queue })
 
@@ -135,8 +135,8 @@ pub record IsAtNext (key : SlotKey) (pass : Pass) (round : Round) (front : ℕ) 
   pub first : HeldKey Entry
   pub others : List (HeldKey Entry)
   pub is_first : rest_in round ≡ first ∷ others
-  pub at : IsAtSlot key (slot_noted first.note) (block_number first.label) front
-  pub seen : slot_noted first.note < slots_seen pass
+  pub at : IsAtSlot key (slot_in first.note) (block_number first.label) front
+  pub seen : slot_in first.note < slots_seen pass
   pub named : has first.label (state_seen pass).named ≡ true
 
 abbrev pub GoesPast : {key : SlotKey} {pass : Pass} {round : Round} {front : ℕ} → IsAtNext key pass round front → Round → Type 0
@@ -146,23 +146,23 @@ GoesPast {round = round} next round' =
 -- each slot is noted of the block for it, and was seen
 abbrev pub ArePlanned : Plan → ℕ → List SlotMark → Type 0
 ArePlanned plan seen [] = Unit {0}
-ArePlanned plan seen (spot ∷ spots) =
-    ((spot.block ≡ block_in plan spot.slot) × (spot.slot < seen)) × ArePlanned plan seen spots
+ArePlanned plan seen (mark ∷ marks) =
+    ((mark.block ≡ block_in plan mark.slot) × (mark.slot < seen)) × ArePlanned plan seen marks
 
-pub record IsInserting (key : SlotKey) (pass : Pass) (spots : List SlotMark) (front : ℕ) : Type 0 where
+pub record IsInserting (key : SlotKey) (pass : Pass) (marks : List SlotMark) (front : ℕ) : Type 0 where
   pub batch : ℕ
   pub won : ℕ
   pub queue : List ℕ
-  pub stands : (slot_of key).call ≡ Some (record { place = look batch won (marked_slots spots); queue = queue })
-  pub planned : ArePlanned (plan_in key batch) (slots_seen pass) spots
+  pub stands : (slot_of key).call ≡ Some (record { place = look batch won (marked_slots marks); queue = queue })
+  pub planned : ArePlanned (plan_in key batch) (slots_seen pass) marks
   pub its_front : IsFrontBlock key batch front
 
-pub record InsertedAll {key : SlotKey} {pass : Pass} {spots : List SlotMark} {front : ℕ} (at : IsInserting key pass spots front)
+pub record InsertsAtEach {key : SlotKey} {pass : Pass} {marks : List SlotMark} {front : ℕ} (at : IsInserting key pass marks front)
     (key' : SlotKey) (pass' : Pass) (won : ℕ) : Type 0 where
-  pub keeps : Keeps key pass key' pass'
+  pub keeps : Continues key pass key' pass'
   pub turns : List InsertTries
-  pub each : length turns ≡ length spots
-  pub made : events_by pass' ≡ events_by pass ++ turns_at pass (slot_number key) (marked_slots spots) turns
+  pub each : length turns ≡ length marks
+  pub made : events_by pass' ≡ events_by pass ++ all_insert_events pass (slot_number key) (marked_slots marks) turns
   pub many : won ≡ won_in turns
   pub planned : plan_in key' at.batch ≡ plan_in key at.batch
   pub stands : (slot_of key').call ≡ Some (record { place = Add at.batch (at.won + won); queue = at.queue })

@@ -4,7 +4,7 @@
 --     readings pass s n finds     slot s read heads, with the pass: from this number on, in order, as many as there are answers, which say
 --                            whether the head was active
 --     actives n finds        the numbers of those that were active, in order
---     EndsMarks at pass key' pass' spots' ends     all that was made with the pass is that the slot read the heads of some slots that there
+--     EndsMarks at pass key' pass' marks' ends     all that was made with the pass is that the slot read the heads of some slots that there
 --                            are, from the first on; the batch stays as it was, and so does whether the slot is in use and active. The
 --                            slots marked are those whose heads were active, and the batch may be detached: these slots are noted of the
 --                            first blocks, one each, in order. Or the call has given up, and has only its queue to go on with; then one
@@ -25,8 +25,8 @@ use Rattle.seize_book.specs.declared.book.pass.Pass.{Pass}
 use Rattle.seize_book.specs.declared.book.slot_key.SlotKey.{SlotKey}
 use Rattle.seize_calls.specs.Alone.{AddsAlone}
 use Rattle.seize_calls.specs.Batches.{SlotMark, marked_slots}
-use Rattle.seize_calls.specs.declared.marking.Marked.{Marked}
-use Rattle.seize_calls.specs.declared.marking.Marked.TheVariants.{Ready, TooMany}
+use Rattle.seize_calls.specs.declared.marking.MarkOutcome.{MarkOutcome}
+use Rattle.seize_calls.specs.declared.marking.MarkOutcome.TheVariants.{Ready, TooMany}
 
 pub record BeginsToMark (key : SlotKey) : Type 0 where
   pub note : ℕ
@@ -46,16 +46,16 @@ actives n (true ∷ finds) = n ∷ actives (suc n) finds
 actives n (false ∷ finds) = actives (suc n) finds
 
 -- where the call stands that has read so many heads
-abbrev pub StandsAfter : {key : SlotKey} → BeginsToMark key → List Bool → SlotKey → List SlotMark → Marked → Type 0
-StandsAfter at finds key' spots' (Ready marked) =
+abbrev pub StandsAfter : {key : SlotKey} → BeginsToMark key → List Bool → SlotKey → List SlotMark → MarkOutcome → Type 0
+StandsAfter at finds key' marks' (Ready marked) =
     CanDetach key' × ((slot_of key').call ≡ Some (record { place = Mark (length finds) at.note (actives 0 finds); queue = at.queue }))
-    × (marked ≤ length spots') × (marked_slots (take marked spots') ≡ actives 0 finds)
-StandsAfter {key} at finds key' spots' TooMany =
+    × (marked ≤ length marks') × (marked_slots (take marked marks') ≡ actives 0 finds)
+StandsAfter {key} at finds key' marks' TooMany =
     ((slot_of key').call ≡ Some (record { place = Rest [] []; queue = at.queue }))
     × (length (actives 0 finds) ≡ suc (length (slot_of key).batch))
 
-pub record EndsMarks {key : SlotKey} (at : BeginsToMark key) (pass : Pass) (key' : SlotKey) (pass' : Pass) (spots' : List SlotMark)
-    (ends : Marked) : Type 0 where
+pub record EndsMarks {key : SlotKey} (at : BeginsToMark key) (pass : Pass) (key' : SlotKey) (pass' : Pass) (marks' : List SlotMark)
+    (ends : MarkOutcome) : Type 0 where
   pub finds : List Bool
   pub within : length finds ≤ slots_seen pass'
   pub grows : IsPrefix pass.seen pass'.seen
@@ -65,4 +65,4 @@ pub record EndsMarks {key : SlotKey} (at : BeginsToMark key) (pass : Pass) (key'
   pub used : (slot_of key').used ≡ (slot_of key).used
   pub active : active_of key' ≡ active_of key
   pub life : life_of key' ≡ life_of key
-  pub stands : StandsAfter at finds key' spots' ends
+  pub stands : StandsAfter at finds key' marks' ends

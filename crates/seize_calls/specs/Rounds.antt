@@ -56,8 +56,8 @@ pub record MovesPast (round : Round) (note : Note) (round' : Round) : Type 0 whe
   pub was : rest_in round ≡ first ∷ rest_in round'
   pub now : done_in round' ≡ done_in round ++ first ∷ []
 
-abbrev pub remarked : ℕ → Note → HeldKey Entry → HeldKey Entry
-remarked m note h =
+abbrev pub with_slot : ℕ → Note → HeldKey Entry → HeldKey Entry
+with_slot m note h =
     let noted = note_code (record { next = note.next; slot = m; kept = note.kept }) in
     record { kind = h.kind; key = h.key; own = h.own; label = h.label; note = noted }
 
@@ -67,4 +67,4 @@ pub record Remarks (round : Round) (m : ℕ) (round' : Round) : Type 0 where
   pub note : Note
   pub noted : first.note ≡ note_code note
   pub was : rest_in round ≡ first ∷ rest_in round'
-  pub now : done_in round' ≡ done_in round ++ remarked m note first ∷ []
+  pub now : done_in round' ≡ done_in round ++ with_slot m note first ∷ []

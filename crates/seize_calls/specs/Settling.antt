@@ -6,7 +6,7 @@
 --                            of these, and of the queue's, the list says what is kept
 --     Onward key pass key' pass'     it is the same slot and pass; whether it is in use and active, and its last activation, are as they
 --                            were. The pass has seen what it had seen, and what was added where it is alone was made with it (AddsAlone)
---     Marking key queue      the slot's call is to read the first head, and has these values in its queue
+--     IsToMark key queue     the slot's call is to read the first head, and has these values in its queue
 --     HasQueue key queue     it has nothing else to do but with these
 --     MayPut key v queue     it is to put v, which it retires, or which is the first of its queue; then it has these
 --     Stays a b              the batch stays: the heads were read, and one slot more was active than it has values, or none was read. The
@@ -41,7 +41,7 @@ use Rattle.seize_book.specs.Kept.{AllTold, AreTold, kepts_of}
 use Rattle.seize_calls.specs.Batches.{AreRemarked, IsPushed, keys_in}
 use Rattle.seize_calls.specs.Furthers.{further_in}
 use Rattle.seize_calls.specs.Handing.{Had, Handings, HasHad, Queues, TakesFirst, values_handed, values_put, words_put}
-use Rattle.seize_calls.specs.Inserts.{InsertTries, turns_at}
+use Rattle.seize_calls.specs.Inserts.{InsertTries, all_insert_events}
 use Rattle.seize_calls.specs.Marks.{BeginsToMark, actives, readings}
 use Rattle.seize_calls.specs.Walking.{hands}
 use Rattle.seize_calls.specs.declared.batch.Batch.{Batch}
@@ -75,8 +75,8 @@ pub record Onward (key : SlotKey) (pass : Pass) (key' : SlotKey) (pass' : Pass) 
   pub grows : IsPrefix pass.seen pass'.seen
   pub alone : AddsAlone pass pass'
 
-abbrev pub Marking : SlotKey → ValueKeys → Type 0
-Marking key queue = (at : BeginsToMark key) × (at.queue ≡ values_of queue)
+abbrev pub IsToMark : SlotKey → ValueKeys → Type 0
+IsToMark key queue = (at : BeginsToMark key) × (at.queue ≡ values_of queue)
 
 abbrev pub HasQueue : SlotKey → ValueKeys → Type 0
 HasQueue key queue = (slot_of key).call ≡ Some (record { place = Rest [] []; queue = values_of queue })
@@ -113,7 +113,7 @@ pub record RetiresBatch (a b : CallState) : Type 0 where
   pub which : values_handed handed ≡ (if is_zero count then (slot_of a.key).batch else [])
   pub made : let s = slot_number a.key in let before = events_by a.pass in
       events_by b.pass
-      ≡ ((((before ++ readings a.pass s 0 finds) ++ done_event a.pass (Detach s)) ++ turns_at a.pass s (actives 0 finds) turns)
+      ≡ ((((before ++ readings a.pass s 0 finds) ++ done_event a.pass (Detach s)) ++ all_insert_events a.pass s (actives 0 finds) turns)
       ++ (private a.pass (AddCount s), Count count) ∷ []) ++ hands a.pass s handed
   pub none : IsEmpty b.batch b.pass
   pub queued : Queues a.queue (values_put handed) (words_put handed) b.queue
@@ -139,5 +139,5 @@ pub record DrainsOne (a : CallState) (v kept : ℕ) (b : CallState) (retired : B
 
 pub data Drains (a : CallState) : CallState → Type 0 where
   over : Drains a a
-  round : (b c : CallState) (queue : ValueKeys) (v kept : ℕ) (retired : Bool) → Drains a b → TakesFirst b.queue v kept queue
+  goes_on : (b c : CallState) (queue : ValueKeys) (v kept : ℕ) (retired : Bool) → Drains a b → TakesFirst b.queue v kept queue
       → DrainsOne (record { key = b.key; pass = b.pass; batch = b.batch; queue = queue; had = b.had }) v kept c retired → Drains a c

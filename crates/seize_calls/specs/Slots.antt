@@ -6,7 +6,7 @@
 --     MayEnterWith slot a      the slot is inactive, and it is an activation of it, with all units
 --     HasActivation slot a     the slot is active, and this is its activation, with all units
 --     KeepsActivation slot slot'     it is active where it was, in the same activation
---     IsLooseOf words loose    it is a value of their book, which may be retired;  value_in loose     its name
+--     IsLooseOf words loose    it is a value of their book, which may be retired;  its_value loose     its name
 --     Prepares slot pass ready     the pass has seen what the slot had seen, and nothing was made with it
 --     Calls slot pass slot' pass' Does     once the pass was ready, this was done. It is the same slot, and has seen what the pass has
 --     SlotEnters, SlotRetires, SlotFlushes, SlotLeaves, SlotRefreshes     so a call of the slot did, with this pass and with what the
@@ -19,7 +19,7 @@ use Rattle.seize_book.specs.Adding.{private}
 use Rattle.seize_book.specs.Kept.{AreTold}
 use Rattle.seize_book.specs.Others.{MayRetire, book_of, value_of}
 use Rattle.seize_book.specs.Passes.{IsSamePass, MadeNone}
-use Rattle.seize_book.specs.Slots.{NotesAs, active_of, life_of, slot_number}
+use Rattle.seize_book.specs.Slots.{AddsDeed, active_of, life_of, slot_number}
 use Rattle.seize_book.specs.Tokens.{IsSole, Name}
 use Rattle.seize_book.specs.declared.book.numbers_key.NumbersKey.{NumbersKey}
 use Rattle.seize_book.specs.declared.book.pass.Pass.{Pass}
@@ -68,8 +68,8 @@ HasActivation slot a = IsActive slot × IsLastOf slot.key a
 abbrev pub KeepsActivation : {T : Type 0} → Slot T → Slot T → Type 0
 KeepsActivation slot slot' = (active_of slot'.key ≡ active_of slot.key) × (life_of slot'.key ≡ life_of slot.key)
 
-abbrev pub value_in : Loose → ℕ
-value_in loose = value_of loose.value
+abbrev pub its_value : Loose → ℕ
+its_value loose = value_of loose.value
 
 abbrev pub IsLooseOf : {T : Type 0} → Words T → Loose → Type 0
 IsLooseOf words loose = (book_of loose.value ≡ words_book words) × MayRetire loose.value
@@ -89,12 +89,12 @@ pub record Calls {T : Type 0} (slot : Slot T) (pass : Pass) (slot' : Slot T) (pa
 
 abbrev pub SlotEnters : {T : Type 0} → Slot T → Pass → Activation → Slot T → Pass → Type 0
 SlotEnters slot pass a slot' pass' =
-    Calls slot pass slot' pass' (λ p. NotesAs slot.key p slot'.key pass' (beginning p a.life (Enter (its_number slot))))
+    Calls slot pass slot' pass' (λ p. AddsDeed slot.key p slot'.key pass' (beginning p a.life (Enter (its_number slot))))
 
 abbrev pub SlotRetires : {T : Type 0} → Slot T → Pass → Loose → ℕ → Had → Slot T → Pass → Had → Bool → Type 0
 SlotRetires slot pass loose kept had slot' pass' had' retired =
     Calls slot pass slot' pass' (λ p.
-    RetiresOne slot.key p (value_in loose) kept (keys_in slot.batch) had slot'.key pass' (keys_in slot'.batch) had' retired)
+    RetiresOne slot.key p (its_value loose) kept (keys_in slot.batch) had slot'.key pass' (keys_in slot'.batch) had' retired)
 
 abbrev pub SlotFlushes : {T : Type 0} → Slot T → Pass → Had → Slot T → Pass → Had → Bool → Type 0
 SlotFlushes slot pass had slot' pass' had' retired =
@@ -102,8 +102,8 @@ SlotFlushes slot pass had slot' pass' had' retired =
 
 abbrev pub SlotLeaves : {T : Type 0} → Slot T → Pass → Had → Slot T → Pass → Had → Type 0
 SlotLeaves slot pass had slot' pass' had' =
-    Calls slot pass slot' pass' (λ p.
-    Leaves Leave false (private p (SwapOut (slot_number slot.key))) slot.key p (keys_in slot.batch) had slot'.key pass' (keys_in slot'.batch) had')
+    Calls slot pass slot' pass' (λ p. let swap = private p (SwapOut (slot_number slot.key)) in
+    Leaves Leave false swap slot.key p (keys_in slot.batch) had slot'.key pass' (keys_in slot'.batch) had')
 
 abbrev pub SlotRefreshes : {T : Type 0} → Slot T → Pass → Activation → Had → Slot T → Pass → Had → Type 0
 SlotRefreshes slot pass a had slot' pass' had' =

@@ -1,7 +1,7 @@
 -- How a call walks what came out of its own head, and hands what is given up to it.
 --     countings pass s counts    slot s counted batches down with the pass, and these were the counts then;  hands pass s handed     it
 --                                handed these values to their reclaimers, each of which put those beside it
---     KeepsAndKnows key pass key' pass'     as Keeps, and the key knows all that it knew
+--     ContinuesAndKnows key pass key' pass'   as Continues, and the key knows all that it knew
 --     IsAtWalk key word          the slot's call has nothing to hand, and walks some batches, to which this word leads;  walk_at   these
 --     IsGiven key pass values front     these values were given up to the slot's call, which is to hand them next: their keys know all
 --                                that the pass has seen, and that all others that lay in their blocks were reclaimed. This is the number
@@ -27,7 +27,7 @@ use Rattle.seize_machine.specs.declared.machine.event.Answer.TheVariants.{Count,
 use Rattle.seize_book.specs.Adding.{deed_with_words, private}
 use Rattle.seize_book.specs.Blocks.{block_number}
 use Rattle.seize_book.specs.Kept.{AllTold, AreTold}
-use Rattle.seize_book.specs.Values.{AreClosed, AreLast, AreOfBook, IsEmpty, Keep, values_of}
+use Rattle.seize_book.specs.Values.{AreClosed, AreLast, AreOfBook, FollowsValues, IsEmpty, values_of}
 use Rattle.seize_book.specs.Entry.{Deed}
 use Rattle.seize_book.specs.Passes.{events_by}
 use Rattle.seize_book.specs.Slots.{own_list, slot_number, slot_of}
@@ -36,9 +36,9 @@ use Rattle.seize_book.specs.declared.book.pass.Pass.{Pass}
 use Rattle.seize_book.specs.declared.book.slot_key.SlotKey.{SlotKey}
 use Rattle.seize_book.specs.declared.book.value_keys.ValueKeys.{ValueKeys}
 use Rattle.seize_calls.specs.Handing.{Had, Handings, HasHad, Queues, values_handed, values_put, words_put}
-use Rattle.seize_calls.specs.Inserts.{Keeps}
-use Rattle.seize_calls.specs.declared.walking.Walked.{Walked}
-use Rattle.seize_calls.specs.declared.walking.Walked.TheVariants.{GivesUp, Over}
+use Rattle.seize_calls.specs.Inserts.{Continues}
+use Rattle.seize_calls.specs.declared.walking.WalkOutcome.{WalkOutcome}
+use Rattle.seize_calls.specs.declared.walking.WalkOutcome.TheVariants.{GivesUp, Over}
 
 abbrev pub counting : Pass → ℕ → ℤ → Deed × Answer
 counting pass s count = (private pass (SubCount s), Count count)
@@ -54,8 +54,8 @@ abbrev pub hands : Pass → ℕ → Handings → List (Deed × Answer)
 hands pass s [] = []
 hands pass s (one ∷ handed) = handing pass s one ∷ hands pass s handed
 
-abbrev pub KeepsAndKnows : SlotKey → Pass → SlotKey → Pass → Type 0
-KeepsAndKnows key pass key' pass' = Keeps key pass key' pass' × IsPrefix (own_list key) (own_list key')
+abbrev pub ContinuesAndKnows : SlotKey → Pass → SlotKey → Pass → Type 0
+ContinuesAndKnows key pass key' pass' = Continues key pass key' pass' × IsPrefix (own_list key) (own_list key')
 
 pub record IsAtWalk (key : SlotKey) (word : ℕ) : Type 0 where
   pub walk : List ℕ
@@ -71,7 +71,7 @@ pub record IsGiven (key : SlotKey) (pass : Pass) (values : ValueKeys) (front : �
   pub is_first : first_or_none (values_of values) ≡ Some first
   pub its_block : front ≡ block_number first
   pub book : AreOfBook values pass
-  pub keys : Keep values pass values
+  pub keys : FollowsValues values pass values
   pub last : AreLast values pass
   pub closed : AreClosed values
   pub told : AreTold values pass
@@ -102,13 +102,13 @@ pub record Stops {key : SlotKey} {word : ℕ} (at : IsAtWalk key word) (held : L
   pub walked : at.walk ≡ done ++ gives.walk
   pub same_queue : gives.queue ≡ at.queue
 
-abbrev pub EndsSo : {key : SlotKey} {word : ℕ} → IsAtWalk key word → List ℤ → Pass → SlotKey → Pass → ValueKeys → Walked → Type 0
+abbrev pub EndsSo : {key : SlotKey} {word : ℕ} → IsAtWalk key word → List ℤ → Pass → SlotKey → Pass → ValueKeys → WalkOutcome → Type 0
 EndsSo at held pass key' pass' values' Over = EndsWalk at held pass key' pass' values'
 EndsSo at held pass key' pass' values' (GivesUp front rest) = Stops at held pass key' pass' values' front rest
 
 pub record WalksTo {key : SlotKey} {word : ℕ} (at : IsAtWalk key word) (pass : Pass) (key' : SlotKey) (pass' : Pass) (values' : ValueKeys)
-    (ends : Walked) : Type 0 where
-  pub goes_on : KeepsAndKnows key pass key' pass'
+    (ends : WalkOutcome) : Type 0 where
+  pub goes_on : ContinuesAndKnows key pass key' pass'
   pub held : List ℤ
   pub above : AreHeld held
   pub ends_so : EndsSo at held pass key' pass' values' ends
@@ -117,7 +117,7 @@ pub record WalksTo {key : SlotKey} {word : ℕ} (at : IsAtWalk key word) (pass :
 
 pub record HandsOne (key : SlotKey) (pass : Pass) (v : ℕ) (queue : ValueKeys) (key' : SlotKey) (pass' : Pass)
     (queue' : ValueKeys) : Type 0 where
-  pub goes_on : KeepsAndKnows key pass key' pass'
+  pub goes_on : ContinuesAndKnows key pass key' pass'
   pub puts : List ℕ
   pub words : List ℕ
   pub made : events_by pass' ≡ events_by pass ++ hands pass (slot_number key) ((v, puts, words) ∷ [])
@@ -127,7 +127,7 @@ pub record HandsOne (key : SlotKey) (pass : Pass) (v : ℕ) (queue : ValueKeys) 
 
 pub record HandsAll {key : SlotKey} {pass : Pass} {values : ValueKeys} {front : ℕ} (given : IsGiven key pass values front)
     (queue : ValueKeys) (key' : SlotKey) (pass' : Pass) (values' queue' : ValueKeys) : Type 0 where
-  pub goes_on : KeepsAndKnows key pass key' pass'
+  pub goes_on : ContinuesAndKnows key pass key' pass'
   pub handed : Handings
   pub which : values_handed handed ≡ values_of values
   pub made : events_by pass' ≡ events_by pass ++ hands pass (slot_number key) handed
@@ -145,7 +145,7 @@ handed_in (step ∷ walked) = step.1 ++ handed_in walked
 
 pub record WalksAll {key : SlotKey} {word : ℕ} (at : IsAtWalk key word) (pass : Pass) (queue : ValueKeys) (had : Had) (key' : SlotKey)
     (pass' : Pass) (queue' : ValueKeys) (had' : Had) : Type 0 where
-  pub goes_on : KeepsAndKnows key pass key' pass'
+  pub goes_on : ContinuesAndKnows key pass key' pass'
   pub walked : List (ℤ × Handings)
   pub kepts : List ℕ
   pub has_had : HasHad (handed_in walked) kepts had had'

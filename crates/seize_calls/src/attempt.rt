@@ -14,7 +14,7 @@ ghost use Rattle.seize_words.specs.Walks.{Knows};
 
 use crate::batch::Batch;
 use crate::inserting::insert_each;
-use crate::marking::{Marked, mark};
+use crate::marking::{MarkOutcome, mark};
 use seize_words::blocks::Blocks;
 use seize_words::book::{Pass, SlotKey};
 use seize_words::slots::Slots;
@@ -22,7 +22,7 @@ use std::sync::Wait;
 
 /// What an attempt comes to.
 #[derive(Clone, Copy, PartialEq, Eq, Debug)]
-pub enum Attempted {
+pub enum AttemptOutcome {
     /// More slots are active than the batch has values. The call has given up, and the batch stays.
     Stays,
     /// The batch was retired, and whoever counts it down to 0 is given its values, with their keys.
@@ -41,7 +41,7 @@ pub fn attempt<T: Drop>(
     key: &mut SlotKey,
     pass: &mut Pass,
     rt: &impl Wait,
-) -> Attempted
+) -> AttemptOutcome
     requires book { IsKeyOfBook key.old pass.old × (slots_book slots.now ≡ pass.old.name) × (blocks_book blocks.now ≡ pass.old.name) }
     requires knows { Knows key.old pass.old }
     requires begins { BeginsToMark key.old }
@@ -51,17 +51,17 @@ pub fn attempt<T: Drop>(
     ensures ends { (at : BeginsToMark key.old) → Attempts at pass.old (keys_in batch.old) key.new pass.new (keys_in batch.new) result }
 {
     match mark(slots, blocks, batch, key, pass) {
-        Marked::TooMany => Attempted::Stays,
-        Marked::Ready(marked) => {
+        MarkOutcome::TooMany => AttemptOutcome::Stays,
+        MarkOutcome::Ready(marked) => {
             key.detach(pass);
             let front = batch.first;
             let won = insert_each(slots, blocks, batch, marked, key, pass, rt);
             let header = blocks.header(front, pass);
             if header.count.add(won, key, &mut batch.values, pass) {
-                Attempted::GivenUp
+                AttemptOutcome::GivenUp
             } else {
                 batch.len = 0;
-                Attempted::Waits
+                AttemptOutcome::Waits
             }
         }
     }

@@ -37,11 +37,11 @@ pub fn drain<T: Drop, R: Reclaim<T>>(
 )
     requires words { (slots_book slots.now ≡ pass.old.name) × (blocks_book blocks.now ≡ pass.old.name) }
     requires size { size ≡ pass.old.size }
-    requires sits { IsWellFormed (call_state key.old pass.old batch.old queue.old (R.had reclaimer.old)) }
+    requires well_formed { IsWellFormed (call_state key.old pass.old batch.old queue.old (R.had reclaimer.old)) }
     requires rests { HasQueue key.old (further_in queue.old) }
     requires serves { R.serves reclaimer.old (blocks_book blocks.now) }
     requires spots { AreSpotsIn blocks.now spots.old }
-    ensures sits { IsWellFormed (call_state key.new pass.new batch.new queue.new (R.had reclaimer.new)) }
+    ensures well_formed { IsWellFormed (call_state key.new pass.new batch.new queue.new (R.had reclaimer.new)) }
     ensures serves { R.serves reclaimer.new (blocks_book blocks.now) }
     ensures spots { AreSpotsIn blocks.now spots.new }
     ensures on { Onward key.old pass.old key.new pass.new }

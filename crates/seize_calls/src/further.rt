@@ -32,8 +32,8 @@ impl Further {
     ghost use Rattle.seize_book.specs.Kept.{kepts_of};
     ghost use Rattle.seize_book.specs.Lending.{IsLentKey};
     ghost use Rattle.seize_book.specs.Others.{book_of, value_of};
-    ghost use Rattle.seize_book.specs.Slots.{IsKeyOfBook, NotesAs, hands_next, slot_number, slot_of};
-    ghost use Rattle.seize_book.specs.Values.{AreNew, AreOfBook, IsEmpty, Keep};
+    ghost use Rattle.seize_book.specs.Slots.{AddsDeed, IsKeyOfBook, hands_next, slot_number, slot_of};
+    ghost use Rattle.seize_book.specs.Values.{AreNew, AreOfBook, FollowsValues, IsEmpty};
     ghost use Rattle.seize_calls.specs.Batches.{IsPushed, keys_book};
     ghost use Rattle.seize_calls.specs.Furthers.{IsFirstOut, JoinsValues, further_in};
     ghost use Rattle.seize_words.specs.Chunks.{blocks_book};
@@ -115,8 +115,8 @@ impl Further {
         requires next { is_some (hands_next (slot_of key.old)) ≡ true }
         requires new { AreNew (further_in self.old) }
         ensures noted { let hands = Hand (slot_number key.old) (values_of (further_in self.old)) in
-            NotesAs key.old pass.old key.new pass.new (deed_with_words pass.old hands (kepts_of (further_in self.old))) }
-        ensures keys { Keep (further_in self.old) pass.new (further_in self.new) }
+            AddsDeed key.old pass.old key.new pass.new (deed_with_words pass.old hands (kepts_of (further_in self.old))) }
+        ensures keys { FollowsValues (further_in self.old) pass.new (further_in self.new) }
     {
         key.hand_with(&mut self.values, pass);
     }

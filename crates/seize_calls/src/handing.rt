@@ -4,7 +4,7 @@ ghost use Rattle.std.specs.Prelude.{◌≡◌, ◌++◌, ◌∷◌, [], ℕ, Lis
 ghost use base.Stored.{Gv};
 ghost use Rattle.seize_book.specs.Blocks.{block_number};
 ghost use Rattle.seize_book.specs.Linked.{next_in};
-ghost use Rattle.seize_book.specs.Notes.{noted_in};
+ghost use Rattle.seize_book.specs.Notes.{note_in};
 ghost use Rattle.seize_book.specs.Others.{IsLast, IsValueOf, value_of};
 ghost use Rattle.seize_book.specs.Slots.{IsKeyOfBook, hands_next, slot_of};
 ghost use Rattle.seize_book.specs.Tokens.{Name};
@@ -72,12 +72,12 @@ pub fn hand_one<T: Drop, R: Reclaim<T>>(
     ensures book { IsKeyOfBook key.new pass.new }
     ensures knows { Knows key.new pass.new }
     ensures handed { (one : HandsOne key.old pass.old (value_of value) (further_in queue.old) key.new pass.new (further_in queue.new))
-        × HasHad ((value_of value, one.puts, one.words) ∷ []) (kept_in (noted_in value) ∷ []) (R.had reclaimer.old) (R.had reclaimer.new) }
+        × HasHad ((value_of value, one.puts, one.words) ∷ []) (kept_in (note_in value) ∷ []) (R.had reclaimer.old) (R.had reclaimer.new) }
     ensures told { AreTold (further_in queue.new) pass.new }
     ensures serves { R.serves reclaimer.new (blocks_book blocks.now) }
     ensures spots { AreSpotsIn blocks.now spots.new }
     ensures laid { GainsSpot spots.old spots.new number }
-    ensures next { result ≡ next_in (noted_in value) }
+    ensures next { result ≡ next_in (note_in value) }
 {
     let mut value = value;
     let header = blocks.header(number, pass);

@@ -2,7 +2,7 @@
 //! may step on all these words meanwhile, and add any events.
 ghost use Rattle.std.specs.Prelude.{◌≡◌, ◌<◌, ◌≤◌, ◌+◌, ◌^◌, [], length, take};
 ghost use Rattle.seize_calls.specs.Batches.{IsAsBefore, first_in, keys_in, slot_marks_in, slot_marks_of};
-ghost use Rattle.seize_calls.specs.Inserts.{GoesPast, HasHome, Inserted, InsertedAll, IsAtNext, IsAtSlot, IsAtTry, IsInserting, Tried};
+ghost use Rattle.seize_calls.specs.Inserts.{GoesPast, HasHome, InsertsAtEach, InsertsAtSlot, IsAtNext, IsAtSlot, IsAtTry, IsInserting, TriesOnce};
 ghost use Rattle.seize_calls.specs.Rounds.{all_in, book_at, done_in, rest_in};
 ghost use Rattle.seize_book.specs.Private.{labels_of};
 ghost use Rattle.seize_book.specs.Values.{AreOfBook, values_of};
@@ -47,7 +47,7 @@ pub fn insert_each<T: Drop>(
     ensures knows { Knows key.new pass.new }
     ensures batch { IsAsBefore batch.old batch.new }
     ensures all { (at : IsInserting key.old pass.old (take marked (slot_marks_in batch.old)) (first_in batch.old))
-        → InsertedAll at key.new pass.new result }
+        → InsertsAtEach at key.new pass.new result }
 {
     let front = batch.first;
     let mut round = Round::new(front, &mut batch.values, pass);
@@ -78,7 +78,7 @@ fn insert_round<T: Drop>(
     ensures knows { Knows key.new pass.new }
     ensures round { (book_at round.new ≡ pass.new.name) × (all_in round.new ≡ rest_in round.old) }
     ensures all { (at : IsInserting key.old pass.old (take marked (slot_marks_of (rest_in round.old))) front)
-        → InsertedAll at key.new pass.new result }
+        → InsertsAtEach at key.new pass.new result }
 {
     let mut won: u64 = 0;
     for _ in 0..marked {
@@ -107,7 +107,7 @@ fn insert_at<T: Drop>(
     ensures book { IsKeyOfBook key.new pass.new }
     ensures knows { Knows key.new pass.new }
     ensures round { (next : IsAtNext key.old pass.old round.old front) → GoesPast next round.new }
-    ensures inserted { (next : IsAtNext key.old pass.old round.old front) → Inserted next.at pass.old key.new pass.new result }
+    ensures inserted { (next : IsAtNext key.old pass.old round.old front) → InsertsAtSlot next.at pass.old key.new pass.new result }
 {
     let block = round.number();
     // So it is known that the number is one of a row, and that its word fits. Nothing runs here.
@@ -136,7 +136,7 @@ fn insert_by(
     requires seen { slot head.now < slots_seen pass.old }
     ensures book { IsKeyOfBook key.new pass.new }
     ensures knows { Knows key.new pass.new }
-    ensures inserted { (at : IsAtSlot key.old (slot head.now) block front) → Inserted at pass.old key.new pass.new result }
+    ensures inserted { (at : IsAtSlot key.old (slot head.now) block front) → InsertsAtSlot at pass.old key.new pass.new result }
 {
     for _ in rt.forever() {
         let seen = head.read(key, pass);
@@ -164,7 +164,7 @@ fn try_once(
     requires at { IsAtTry key.old head.now header.now seen block front }
     ensures book { IsKeyOfBook key.new pass.new }
     ensures knows { Knows key.new pass.new }
-    ensures tried { (at : IsAtTry key.old head.now header.now seen block front) → Tried at pass.old key.new pass.new result }
+    ensures tried { (at : IsAtTry key.old head.now header.now seen block front) → TriesOnce at pass.old key.new pass.new result }
 {
     header.next.store(seen, key, pass);
     header.first.store(front, key, pass);

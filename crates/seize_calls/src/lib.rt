@@ -2,8 +2,8 @@
 //! code over the calls of `seize_words`, and holds beside whatever others add meanwhile.
 //!
 //! `batch` is what a slot's holder keeps of its batch, and `round` goes through it, from block to block. `marking` and `inserting` are the
-//! two halves of an attempt, which `attempt` joins. `slot` has all that belongs to a slot in one value, with its calls. `handing` gives values to reclaimers, `further` is what these put, and `settling` and
-//! `draining` are what a call does with its batch and with its queue.
+//! two halves of an attempt, which `attempt` joins. `handing` gives values to reclaimers, `further` is what these put, and `settling` and
+//! `draining` are what a call does with its batch and with its queue. `slot` has all that belongs to a slot in one value, with its calls.
 #![tactic(auto)]
 
 pub mod attempt;

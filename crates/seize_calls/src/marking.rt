@@ -2,7 +2,7 @@
 //! active. Others may step on all these words meanwhile, make slots, and add any events.
 ghost use Rattle.std.specs.Prelude.{◌≡◌, ◌≤◌, ◌<◌, ◌^◌, true};
 ghost use mathlib.Core.List.{IsPrefix};
-ghost use Rattle.seize_calls.specs.Batches.{AreRemarked, keys_in, slot_marks_in, slot_marks_of, unslotted};
+ghost use Rattle.seize_calls.specs.Batches.{AreRemarked, keys_in, slot_marks_in, slot_marks_of, without_slots};
 ghost use Rattle.seize_calls.specs.Numbered.{is_count_of};
 ghost use Rattle.seize_calls.specs.Marks.{BeginsToMark, EndsMarks};
 ghost use Rattle.seize_calls.specs.Rounds.{IsRoundOf, all_in, book_at, rest_in};
@@ -22,7 +22,7 @@ use seize_words::slots::{Heads, Slots};
 
 /// What a call comes to that reads the heads.
 #[derive(Clone, Copy, PartialEq, Eq, Debug)]
-pub enum Marked {
+pub enum MarkOutcome {
     /// The batch has a value for each slot that was marked, which are so many, and may be detached.
     Ready(usize),
     /// More slots are active than the batch has values. The call has given up, and the batch stays.
@@ -40,7 +40,7 @@ pub fn mark<T: Drop>(
     batch: &mut Batch,
     key: &mut SlotKey,
     pass: &mut Pass,
-) -> Marked
+) -> MarkOutcome
     requires book { IsKeyOfBook key.old pass.old × (slots_book slots.now ≡ pass.old.name) × (blocks_book blocks.now ≡ pass.old.name) }
     requires knows { IsPrefix (own_list key.old) pass.old.seen }
     requires begins { BeginsToMark key.old }
@@ -72,7 +72,7 @@ fn read_each<T: Drop>(
     round: &mut Round,
     key: &mut SlotKey,
     pass: &mut Pass,
-) -> Marked
+) -> MarkOutcome
     requires book { IsKeyOfBook key.old pass.old × (heads_book heads ≡ pass.old.name) × (blocks_book blocks.now ≡ pass.old.name) }
     requires knows { Knows key.old pass.old }
     requires first { comes_to heads ≡ 0 }
@@ -84,7 +84,7 @@ fn read_each<T: Drop>(
     requires len { is_count_of len (slot_of key.old).batch ≡ true }
     ensures book { IsKeyOfBook key.new pass.new × IsSamePass pass.old pass.new × (slot_number key.new ≡ slot_number key.old) }
     ensures knows { Knows key.new pass.new }
-    ensures round { (book_at round.new ≡ pass.old.name) × (unslotted (all_in round.new) ≡ unslotted (rest_in round.old)) }
+    ensures round { (book_at round.new ≡ pass.old.name) × (without_slots (all_in round.new) ≡ without_slots (rest_in round.old)) }
     ensures ends { (at : BeginsToMark key.old) → EndsMarks at pass.old key.new pass.new (slot_marks_of (all_in round.new)) result }
 {
     let mut number: usize = 0;
@@ -96,10 +96,10 @@ fn read_each<T: Drop>(
             continue;
         }
         if marked >= len {
-            return Marked::TooMany;
+            return MarkOutcome::TooMany;
         }
         round.mark(blocks, slot, pass);
         marked += 1;
     }
-    Marked::Ready(marked)
+    MarkOutcome::Ready(marked)
 }

@@ -5,11 +5,11 @@ ghost use Rattle.seize_book.specs.Blocks.{block_number};
 ghost use Rattle.seize_book.specs.Kept.{IsTold};
 ghost use Rattle.seize_book.specs.Others.{IsValueOf, value_of};
 ghost use Rattle.seize_calls.specs.Furthers.{further_in};
-ghost use Rattle.seize_calls.specs.Settling.{DrainsOne, IsWellFormed, Marking, MayPut, Settles, call_state};
+ghost use Rattle.seize_calls.specs.Settling.{DrainsOne, IsToMark, IsWellFormed, MayPut, Settles, call_state};
 ghost use Rattle.seize_words.specs.Chunks.{AreSpotsIn, blocks_book};
 ghost use Rattle.seize_words.specs.Reserved.{slots_book};
 
-use crate::attempt::{Attempted, attempt};
+use crate::attempt::{AttemptOutcome, attempt};
 use crate::batch::Batch;
 use crate::further::Further;
 use crate::handing::{Reclaim, hand_all};
@@ -38,20 +38,20 @@ pub fn settle<T: Drop, R: Reclaim<T>>(
     rt: &impl Wait,
 ) -> bool
     requires words { (slots_book slots.now ≡ pass.old.name) × (blocks_book blocks.now ≡ pass.old.name) }
-    requires sits { IsWellFormed (call_state key.old pass.old batch.old queue.old (R.had reclaimer.old)) }
-    requires marking { Marking key.old (further_in queue.old) }
+    requires well_formed { IsWellFormed (call_state key.old pass.old batch.old queue.old (R.had reclaimer.old)) }
+    requires marking { IsToMark key.old (further_in queue.old) }
     requires serves { R.serves reclaimer.old (blocks_book blocks.now) }
     requires spots { AreSpotsIn blocks.now spots.old }
-    ensures sits { IsWellFormed (call_state key.new pass.new batch.new queue.new (R.had reclaimer.new)) }
+    ensures well_formed { IsWellFormed (call_state key.new pass.new batch.new queue.new (R.had reclaimer.new)) }
     ensures serves { R.serves reclaimer.new (blocks_book blocks.now) }
     ensures spots { AreSpotsIn blocks.now spots.new }
     ensures settles { let from = call_state key.old pass.old batch.old queue.old (R.had reclaimer.old) in
         Settles from (call_state key.new pass.new batch.new queue.new (R.had reclaimer.new)) result }
 {
     match attempt(slots, blocks, batch, key, pass, rt) {
-        Attempted::Stays => false,
-        Attempted::Waits => true,
-        Attempted::GivenUp => {
+        AttemptOutcome::Stays => false,
+        AttemptOutcome::Waits => true,
+        AttemptOutcome::GivenUp => {
             let front = batch.first;
             hand_all(
                 blocks,
@@ -92,16 +92,16 @@ pub fn put<T: Drop, R: Reclaim<T>>(
 ) -> bool
     requires words { (slots_book slots.now ≡ pass.old.name) × (blocks_book blocks.now ≡ pass.old.name) }
     requires size { size ≡ pass.old.size }
-    requires sits { IsWellFormed (call_state key.old pass.old batch.old queue.old (R.had reclaimer.old)) }
+    requires well_formed { IsWellFormed (call_state key.old pass.old batch.old queue.old (R.had reclaimer.old)) }
     requires next { MayPut key.old (value_of value) (further_in queue.old) }
     requires value { IsValueOf value pass.old × (block_number (value_of value) ≡ number) }
     requires told { IsTold pass.old.seen (value_of value) kept }
     requires serves { R.serves reclaimer.old (blocks_book blocks.now) }
     requires spots { AreSpotsIn blocks.now spots.old }
-    ensures sits { IsWellFormed (call_state key.new pass.new batch.new queue.new (R.had reclaimer.new)) }
+    ensures well_formed { IsWellFormed (call_state key.new pass.new batch.new queue.new (R.had reclaimer.new)) }
     ensures serves { R.serves reclaimer.new (blocks_book blocks.now) }
     ensures spots { AreSpotsIn blocks.now spots.new }
-    ensures round { let from = call_state key.old pass.old batch.old queue.old (R.had reclaimer.old) in
+    ensures drains_one { let from = call_state key.old pass.old batch.old queue.old (R.had reclaimer.old) in
         DrainsOne from (value_of value) kept (call_state key.new pass.new batch.new queue.new (R.had reclaimer.new)) result }
 {
     key.put(pass);

@@ -2,7 +2,7 @@
 //! lent anew for each call learns first what the ones before it saw.
 ghost use Rattle.std.specs.Prelude.{◌≡◌, IfErr, IfOk};
 ghost use Rattle.seize_book.specs.Blocks.{block_number};
-ghost use Rattle.seize_book.specs.Others.{value_of};
+ghost use Rattle.seize_book.specs.Others.{AreNumbersOf, value_of};
 ghost use Rattle.seize_words.specs.Joined.{words_book};
 ghost use Rattle.seize_calls.specs.Together.{BelongTogether};
 
@@ -12,7 +12,7 @@ use crate::handing::Reclaim;
 use seize_store::Spots;
 use seize_table::Refusal;
 use seize_words::activation::Activation;
-use seize_words::book::{Book, NumbersKey, Pass, SlotKey, ValueKey};
+use seize_words::book::{NumbersKey, Pass, Seen, SlotKey, ValueKey};
 use seize_words::chunk::{Header, Part};
 use seize_words::slots::NextSlot;
 use seize_words::words::Words;
@@ -40,7 +40,7 @@ pub struct Slot<T> {
     key: SlotKey,
     batch: Batch,
     spots: Spots<Header, Part, T>,
-    seen: Book,
+    seen: Seen,
     ghost together: { BelongTogether number key batch spots seen },
 }
 
@@ -48,7 +48,7 @@ impl<T: Drop> Slot<T> {
     ghost use Rattle.seize_table.specs.declared.refusal.Refusal.TheVariants.{NoMemory};
     ghost use Rattle.seize_words.specs.Reservations.{IsOfSlot};
     ghost use Rattle.seize_words.specs.Reserved.{HasNextSlot, IsSameNext};
-    ghost use Rattle.seize_words.specs.Totals.{NumbersOf};
+    ghost use Rattle.seize_words.specs.Totals.{};
     ghost use Rattle.seize_calls.specs.Calls.{HasBegun};
     ghost use Rattle.seize_calls.specs.Slots.{MakesOneSlot, Prepares, its_book, its_key};
     ghost use Rattle.seize_calls.specs.Slots.{HasActivation, IsActive, IsLooseOf, IsPassFor, IsSlotOf, KeepsActivation, MayEnterWith, its_number};
@@ -68,7 +68,7 @@ impl<T: Drop> Slot<T> {
         numbers: &mut NumbersKey,
         pass: &mut Pass,
     ) -> Result<(Slot<T>, NextSlot), (Refusal, NextSlot)>
-        requires book { (words_book words.now ≡ pass.old.name) × NumbersOf numbers.old pass.old }
+        requires book { (words_book words.now ≡ pass.old.name) × AreNumbersOf numbers.old pass.old }
         requires next { HasNextSlot numbers.old next }
         ensures of { IfOk result (λ made. IsSlotOf words.now made.0) }
         ensures made { IfOk result (λ made. MakesOneSlot numbers.old next pass.old numbers.new made.0 made.1 pass.new) }
@@ -130,8 +130,8 @@ impl<T: Drop> Slot<T> {
         self.seen.learn(pass);
     }
 
-    /// Retires the value: it comes last in the slot's batch, and the word is kept of it. Where the batch has as many values as the batch size
-    /// says, it is attempted. It says whether the batch was retired.
+    /// Retires the value: it comes last in the slot's batch, and the word is kept of it. Where the batch has as many values as the batch
+    /// size says, it is attempted. It says whether the batch was retired.
     ///
     /// It takes no memory, but for what the reclaimer does, and ends where reclaimers come to put no more. An insertion is tried again as
     /// often as others change the head between a look at it and the try.
@@ -242,8 +242,8 @@ impl<T: Drop> Slot<T> {
         self.seen.learn(pass);
     }
 
-    /// The slot refreshes: it ends its activation and begins another, and stays active. It counts down what waited for it, and hands what is
-    /// given up. What reclaimers put meanwhile joins the slot's batch, as with `retire`.
+    /// The slot refreshes: it ends its activation and begins another, and stays active. It counts down what waited for it, and hands what
+    /// is given up. What reclaimers put meanwhile joins the slot's batch, as with `retire`.
     ///
     /// It takes no memory and waits as `retire` does.
     pub fn refresh<R: Reclaim<T>>(

@@ -18,7 +18,7 @@ use seize_words::chunk::{Header, Part};
 
 /// Where a walk stops.
 #[derive(Clone, Copy, PartialEq, Eq, Debug)]
-pub enum Walked {
+pub enum WalkOutcome {
     /// Each batch was counted down, and none more was given up.
     Over,
     /// A batch was given up to the call, which is to hand its values before the walk goes on. First the number of the block of the first of
@@ -35,7 +35,7 @@ pub fn walk<T: Drop>(
     key: &mut SlotKey,
     values: &mut ValueKeys,
     pass: &mut Pass,
-) -> Walked
+) -> WalkOutcome
     requires book { IsKeyOfBook key.old pass.old × (blocks_book blocks.now ≡ pass.old.name) × IsEmpty values.old pass.old }
     requires knows { Knows key.old pass.old }
     requires at { IsAtWalk key.old word }
@@ -47,11 +47,11 @@ pub fn walk<T: Drop>(
     while leads != 1 {
         let (rest, zero, front) = blocks.count_down(leads, key, values, pass);
         if zero {
-            return Walked::GivesUp(front, rest);
+            return WalkOutcome::GivesUp(front, rest);
         }
         leads = rest;
     }
-    Walked::Over
+    WalkOutcome::Over
 }
 
 /// Counts down all the batches to which this word leads. What one of them gives up is handed before the walk goes on, and what the
@@ -87,8 +87,8 @@ pub fn walk_all<T: Drop, R: Reclaim<T>>(
     let mut leads = word;
     loop {
         match walk(blocks, leads, key, &mut values, pass) {
-            Walked::Over => return,
-            Walked::GivesUp(front, rest) => {
+            WalkOutcome::Over => return,
+            WalkOutcome::GivesUp(front, rest) => {
                 hand_all(
                     blocks,
                     spots,

@@ -11,21 +11,21 @@ use Rattle.seize_machine.specs.Machine.State.{State, link_at}
 use Rattle.seize_machine.specs.declared.machine.event.Answer.{Answer}
 use Rattle.seize_machine.specs.declared.machine.event.Answer.TheVariants.{Link}
 use Rattle.seize_machine.specs.declared.machine.event.Exchange.TheVariants.{Swap}
-use Rattle.seize_book.specs.Book.{after, answered}
+use Rattle.seize_book.specs.Book.{after, with_answers}
 use Rattle.seize_book.specs.Entry.{Deed, Entry, Made, Used, deeds, timed_deed}
 use Rattle.seize_book.specs.Homesteads.{state_seen}
 use Rattle.seize_book.specs.Passes.{IsSamePass, LooksOn, events_by, events_in}
-use Rattle.seize_book.specs.Tokens.{IsSole, Name, Noted, start}
+use Rattle.seize_book.specs.Tokens.{AddsEntry, IsSole, Name, start}
 use Rattle.seize_book.specs.declared.book.pass.Pass.{Pass}
 use Rattle.seize_book.proofs.Facts.{deeds_append, unequal}
 use Rattle.seize_calls.proofs.Alone.{made_alone, made_there}
 use Rattle.seize_calls.proofs.Handed.{handed_append}
 use Rattle.seize_calls.specs.Alone.{AddsAlone, AllBy}
 use Rattle.seize_calls.specs.Handing.{Handings, values_handed}
-use Rattle.seize_calls.specs.Inserts.{InsertTries, last_at, losses, turn_at, turns_at}
+use Rattle.seize_calls.specs.Inserts.{InsertTries, all_insert_events, insert_events, last_at, losses}
 use Rattle.seize_calls.specs.Marks.{readings}
 use Rattle.seize_calls.specs.Walking.{handed_in, hands, steps}
-use Rattle.seize_calls_rows.specs.Turns.{KeepsLinks}
+use Rattle.seize_calls_rows.specs.Turns.{HasSameLinks}
 
 -- none of these is an event that changes a link
 abbrev pub IsNone : Event → Type 0
@@ -54,11 +54,11 @@ none_last : (pass : Pass) (s m : ℕ) (won : Bool) → NoneOf (deeds_in (last_at
 none_last pass s m true = ((λ l. refl), ((λ l. refl), tt))
 none_last pass s m false = ((λ l. refl), tt)
 
-pub none_turns : (pass : Pass) (s : ℕ) (ms : List ℕ) (turns : List InsertTries) → NoneOf (deeds_in (turns_at pass s ms turns))
+pub none_turns : (pass : Pass) (s : ℕ) (ms : List ℕ) (turns : List InsertTries) → NoneOf (deeds_in (all_insert_events pass s ms turns))
 none_turns pass s [] turns = tt
 none_turns pass s (m ∷ ms) [] = tt
 none_turns pass s (m ∷ ms) (turn ∷ turns) =
-    none_both (turn_at pass s m turn) (turns_at pass s ms turns) (none_both (losses pass s m turn.lost) _ (none_lost pass s m turn.lost) (none_last pass s m turn.won)) (none_turns pass s ms turns)
+    none_both (insert_events pass s m turn) (all_insert_events pass s ms turns) (none_both (losses pass s m turn.lost) _ (none_lost pass s m turn.lost) (none_last pass s m turn.won)) (none_turns pass s ms turns)
 
 pub none_handed : (pass : Pass) (s : ℕ) (handed : Handings) → NoneOf (deeds_in (hands pass s handed))
 none_handed pass s [] = tt
@@ -90,11 +90,11 @@ handed_last : (pass : Pass) (s m : ℕ) (won : Bool) → handed_of (last_at pass
 handed_last pass s m true = refl
 handed_last pass s m false = refl
 
-pub handed_turns : (pass : Pass) (s : ℕ) (ms : List ℕ) (turns : List InsertTries) → handed_of (turns_at pass s ms turns) ≡ []
+pub handed_turns : (pass : Pass) (s : ℕ) (ms : List ℕ) (turns : List InsertTries) → handed_of (all_insert_events pass s ms turns) ≡ []
 handed_turns pass s [] turns = refl
 handed_turns pass s (m ∷ ms) [] = refl
 handed_turns pass s (m ∷ ms) (turn ∷ turns) =
-    handed_both (turn_at pass s m turn) (turns_at pass s ms turns)
+    handed_both (insert_events pass s m turn) (all_insert_events pass s ms turns)
     ∙ (λ i. (handed_both (losses pass s m turn.lost) (last_at pass s m turn.won) ∙ (λ j. handed_lost pass s m turn.lost j ++ handed_last pass s m turn.won j)) i ++ handed_turns pass s ms turns i)
 
 pub handed_hands : (pass : Pass) (s : ℕ) (handed : Handings) → handed_of (hands pass s handed) ≡ values_handed handed
@@ -153,7 +153,7 @@ after_both st [] b = refl
 after_both st (Made d ∷ a) b = after_both (done_by next st (timed_deed d)).0 a b
 after_both st (Used u ∷ a) b = after_both st a b
 
-pub none_changed : (pass pass' : Pass) → IsSamePass pass pass' → AddsAlone pass pass' → (vs : List ℕ) → IsSole pass.id → Since (events_by pass) (events_by pass') vs → KeepsLinks pass pass'
+pub none_changed : (pass pass' : Pass) → IsSamePass pass pass' → AddsAlone pass pass' → (vs : List ℕ) → IsSole pass.id → Since (events_by pass) (events_by pass') vs → HasSameLinks pass pass'
 none_changed pass pass' same adds vs sole since l =
     ap (λ (n : Name). link_at (after (start n) pass'.seen) l) same.0
     ∙ ap (λ (log : List Entry). link_at (after st log) l) more.1
@@ -184,10 +184,10 @@ gone_one st d = go (next d.size st d.event) refl
     go None is = sym (append-nil st.gone)
     go (Some done) is = gone_by d.size st d.event done (step_of d.size st d.event done is)
 
-gone_after : (st : State) (log : List Entry) → (after st log).gone ≡ st.gone ++ handed_of (events_in (answered st log))
+gone_after : (st : State) (log : List Entry) → (after st log).gone ≡ st.gone ++ handed_of (events_in (with_answers st log))
 gone_after st [] = sym (append-nil st.gone)
 gone_after st (Made d ∷ log) =
-    let done = done_by next st (timed_deed d) in let more = handed_of (events_in (answered done.0 log)) in
+    let done = done_by next st (timed_deed d) in let more = handed_of (events_in (with_answers done.0 log)) in
     gone_after done.0 log ∙ ap (λ (gone : List ℕ). gone ++ more) (gone_one st d) ∙ append_assoc st.gone (option_to_list (handed_value done.1)) more
 gone_after st (Used u ∷ log) = gone_after st log
 
@@ -213,14 +213,14 @@ gone_same size st event _ (Step.added s b won queue d e h) none = subst (λ (d :
 gone_same size st event _ (Step.subtracted s b walk queue d e h) none = subst (λ (d : State × Answer). (d.0).gone ≡ st.gone) (some_is _ _ h) refl
 gone_same size st event _ _ none = refl
 
-pub one_gone : (pass pass' : Pass) (d : Deed) → IsSamePass pass pass' → Noted pass.name pass.id pass.seen pass'.seen (Made d) → IsSole pass.id → is_hand d.event ≡ false → (state_seen pass').gone ≡ (state_seen pass).gone
+pub one_gone : (pass pass' : Pass) (d : Deed) → IsSamePass pass pass' → AddsEntry pass.name pass.id pass.seen pass'.seen (Made d) → IsSole pass.id → is_hand d.event ≡ false → (state_seen pass').gone ≡ (state_seen pass).gone
 one_gone pass pass' d same noted sole none =
     ap (λ (n : Name). (after (start n) pass'.seen).gone) same.0
     ∙ ap (λ (s : State). s.gone) noted.leads
     ∙ gone_same d.size (after (start pass.name) noted.before) d.event (noted.later, noted.answer) (step_of d.size _ d.event _ noted.does) none
     ∙ ap (λ (log : List Entry). (after (start pass.name) log).gone) (noted.alone sole)
 
-pub kept_twice : (a b c : Pass) → KeepsLinks a b → KeepsLinks b c → KeepsLinks a c
+pub kept_twice : (a b c : Pass) → HasSameLinks a b → HasSameLinks b c → HasSameLinks a c
 kept_twice a b c one two l = two l ∙ one l
 
 -- a pass that is alone stays so
@@ -243,7 +243,7 @@ emptied size st s n d is =
     let w = if_some (can_link st s n && is_none_or_fresh st None) (swapped scheme st n None, Link (link_at st n)) d is in
     ap (λ (t : State × Answer). link_at t.0 n) (sym w.1) ∙ none_there st.links n
 
-pub takes_out : (pass pass' : Pass) (d : Deed) (s n : ℕ) → d.event ≡ ExchangeLink s n (Swap None) → IsSamePass pass pass' → Noted pass.name pass.id pass.seen pass'.seen (Made d) → IsSole pass.id
+pub takes_out : (pass pass' : Pass) (d : Deed) (s n : ℕ) → d.event ≡ ExchangeLink s n (Swap None) → IsSamePass pass pass' → AddsEntry pass.name pass.id pass.seen pass'.seen (Made d) → IsSole pass.id
     → (link_at (state_seen pass') n ≡ None) × ((l : ℕ) → ¬ (l ≡ n) → link_at (state_seen pass') l ≡ link_at (state_seen pass) l)
 takes_out pass pass' d s n is same noted sole = (
   ap (λ (m : Name). link_at (after (start m) pass'.seen) n) same.0 ∙ ap (λ (st : State). link_at st n) noted.leads
@@ -254,7 +254,7 @@ takes_out pass pass' d s n is same noted sole = (
 )
 
 -- after one event that is none on a link
-pub event_keeps : (pass pass' : Pass) (d : Deed) → IsSamePass pass pass' → Noted pass.name pass.id pass.seen pass'.seen (Made d) → IsSole pass.id → IsNone d.event → KeepsLinks pass pass'
+pub event_keeps : (pass pass' : Pass) (d : Deed) → IsSamePass pass pass' → AddsEntry pass.name pass.id pass.seen pass'.seen (Made d) → IsSole pass.id → IsNone d.event → HasSameLinks pass pass'
 event_keeps pass pass' d same noted sole none l =
     let st : State = start pass.name in
     ap (λ (n : Name). link_at (after (start n) pass'.seen) l) same.0

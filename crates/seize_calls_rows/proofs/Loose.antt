@@ -10,11 +10,11 @@ use Rattle.seize_machine.specs.declared.machine.event.Answer.{Answer}
 use Rattle.seize_machine.specs.declared.machine.event.Answer.TheVariants.{Done, Illegal, Link}
 use Rattle.seize_machine.specs.declared.machine.event.Exchange.TheVariants.{Swap}
 use Rattle.seize_machine.specs.declared.machine.event.Job.TheVariants.{Retire}
-use Rattle.seize_book.specs.Book.{after, answered}
+use Rattle.seize_book.specs.Book.{after, with_answers}
 use Rattle.seize_book.specs.Entry.{Deed, Entry, Made, Used, timed_deed}
 use Rattle.seize_book.specs.Homesteads.{state_seen}
 use Rattle.seize_book.specs.Passes.{IsSamePass, events_by, events_in}
-use Rattle.seize_book.specs.Tokens.{IsSole, Name, Noted, start}
+use Rattle.seize_book.specs.Tokens.{AddsEntry, IsSole, Name, start}
 use Rattle.seize_book.specs.declared.book.pass.Pass.{Pass}
 use Rattle.seize_calls.proofs.Alone.{made_there}
 use Rattle.seize_calls.specs.Alone.{AddsAlone}
@@ -45,7 +45,7 @@ loose_one v st d none = go (next d.size st d.event) refl
     go None is h = h
     go (Some done) is h = loose_by v d.size st d.event done (step_of d.size st d.event done is) none h
 
-loose_kept : (v : ℕ) (st : State) (log : List Entry) → NoneOf (deeds_in (events_in (answered st log))) → has v (after st log).loose ≡ true → has v st.loose ≡ true
+loose_kept : (v : ℕ) (st : State) (log : List Entry) → NoneOf (deeds_in (events_in (with_answers st log))) → has v (after st log).loose ≡ true → has v st.loose ≡ true
 loose_kept v st [] none h = h
 loose_kept v st (Made d ∷ log) none h = loose_one v st d none.0 (loose_kept v (done_by next st (timed_deed d)).0 log none.1 h)
 loose_kept v st (Used u ∷ log) none h = loose_kept v st log none h
@@ -70,7 +70,7 @@ pub lost_same : (pass pass' : Pass) → state_seen pass' ≡ state_seen pass →
 lost_same pass pass' same v h = subst (λ (st : State). has v st.loose ≡ true) same h
 
 -- after one event that is none on a link
-pub event_lost : (pass pass' : Pass) (d : Deed) → IsSamePass pass pass' → Noted pass.name pass.id pass.seen pass'.seen (Made d) → IsSole pass.id → IsNone d.event → NoneLost pass pass'
+pub event_lost : (pass pass' : Pass) (d : Deed) → IsSamePass pass pass' → AddsEntry pass.name pass.id pass.seen pass'.seen (Made d) → IsSole pass.id → IsNone d.event → NoneLost pass pass'
 event_lost pass pass' d same noted sole none v h =
     let st : State = start pass.name in
     subst (λ (log : List Entry). has v (after st log).loose ≡ true) (noted.alone sole)
@@ -97,13 +97,13 @@ false_by : (a b : Bool) → b ≡ false → (a ≡ true → b ≡ true) → a �
 false_by true b none so = absurd (let e : true ≡ false = sym (so refl) ∙ none in cc)
 false_by false b none so = refl
 
-retired_after : (v s : ℕ) (st : State) (log : List Entry) (d : Deed) (rest : List (Deed × Answer)) → d.event ≡ Begin s (Retire v) → events_in (answered st log) ≡ (d, Done) ∷ rest → NoneOf (deeds_in rest)
+retired_after : (v s : ℕ) (st : State) (log : List Entry) (d : Deed) (rest : List (Deed × Answer)) → d.event ≡ Begin s (Retire v) → events_in (with_answers st log) ≡ (d, Done) ∷ rest → NoneOf (deeds_in rest)
     → has v (after st log).loose ≡ false
 retired_after v s st [] d rest is made none = absurd (let e : [] ≡ (d, Done) ∷ rest = made in cc)
 retired_after v s st (Used u ∷ log) d rest is made none = retired_after v s st log d rest is made none
 retired_after v s st (Made e ∷ log) d rest is made none =
     let done : State × Answer = done_by next st (timed_deed e) in
-    let same = same_first (e, done.1) (d, Done) (events_in (answered done.0 log)) rest made in
+    let same = same_first (e, done.1) (d, Done) (events_in (with_answers done.0 log)) rest made in
     false_by (has v (after done.0 log).loose) (has v done.0.loose)
     (retiring_one v s st e (ap (λ (a : Deed × Answer). a.0.event) same.0 ∙ is) (ap (λ (a : Deed × Answer). a.1) same.0))
     (loose_kept v done.0 log (subst (λ (more : List (Deed × Answer)). NoneOf (deeds_in more)) (sym same.1) none))
@@ -133,7 +133,7 @@ out_one v size st s n d is h =
     let w = if_some (can_link st s n && is_none_or_fresh st None) (swapped scheme st n None, Link (link_at st n)) d is in
     has_more v st.loose (link_at st n) (subst (λ (t : State × Answer). has v t.0.loose ≡ true) (sym w.1) h)
 
-pub came_out : (pass pass' : Pass) (d : Deed) (s n : ℕ) → d.event ≡ ExchangeLink s n (Swap None) → IsSamePass pass pass' → (noted : Noted pass.name pass.id pass.seen pass'.seen (Made d)) → IsSole pass.id
+pub came_out : (pass pass' : Pass) (d : Deed) (s n : ℕ) → d.event ≡ ExchangeLink s n (Swap None) → IsSamePass pass pass' → (noted : AddsEntry pass.name pass.id pass.seen pass'.seen (Made d)) → IsSole pass.id
     → (v : ℕ) → has v (state_seen pass').loose ≡ true → (has v (state_seen pass).loose ≡ true) ⊎ (link_at (after (start pass.name) noted.before) n ≡ Some v)
 came_out pass pass' d s n is same noted sole v h =
     let st : State = after (start pass.name) noted.before in

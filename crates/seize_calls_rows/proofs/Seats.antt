@@ -16,7 +16,7 @@ use Rattle.seize_words.specs.Links.{IsWithin}
 use Rattle.seize_words.specs.declared.activation.Activation.{Activation}
 use Rattle.seize_words.specs.declared.chunk.Header.{Header}
 use Rattle.seize_words.specs.declared.chunk.Part.{Part}
-use Rattle.seize_calls_rows.specs.Seats.{IsOfBook, SitsAt, SitsWith, post_at, post_label, seen_by}
+use Rattle.seize_calls_rows.specs.Seats.{HasFamilyOf, SitsAt, SitsWith, post_at, post_label, seen_by}
 use Rattle.seize_calls_rows.specs.Workers.{AreSpotsOf, GoesOn, Shared, Works}
 use Rattle.seize_calls_rows.specs.declared.seat.Holder.{Holder}
 use Rattle.seize_calls_rows.specs.declared.seat.Seat.{Seat}
@@ -76,7 +76,7 @@ sits_on words h o pass pass' goes = moved words h o pass pass' h.size (λ works.
 
 -- A sound post has a seat, and its label says the seat's book.
 
-pub family_of : (words : Shared) (seat : Seat) (n : ℕ) → n ≡ post_label (record { seat = Some seat }) → of_family (words_book words).family n → IsOfBook seat words
+pub family_of : (words : Shared) (seat : Seat) (n : ℕ) → n ≡ post_label (record { seat = Some seat }) → of_family (words_book words).family n → HasFamilyOf seat words
 family_of words seat n is of = sym (left_pair seat.seen.name.family seat.holder.slot) ∙ ap left_of (sym is) ∙ of
 
 -- and its label says which slot it is of

@@ -15,7 +15,7 @@ use Rattle.seize_book.specs.Book.{IsLegalList, after, moments}
 use Rattle.seize_book.specs.Entry.{Deed, Entry, events_of}
 use Rattle.seize_book.specs.Homesteads.{state_seen}
 use Rattle.seize_book.specs.Passes.{IsSamePass, Longer, events_by}
-use Rattle.seize_book.specs.Slots.{Looks, active_of, slot_number, slot_of}
+use Rattle.seize_book.specs.Slots.{LooksWithSlotKey, active_of, slot_number, slot_of}
 use Rattle.seize_book.specs.Tokens.{IsSole, Name, start}
 use Rattle.seize_book.specs.declared.book.pass.Pass.{Pass}
 use Rattle.seize_book.specs.declared.book.slot_key.SlotKey.{SlotKey}
@@ -28,7 +28,7 @@ use Rattle.seize_calls.specs.Batches.{keys_in}
 use Rattle.seize_words.proofs.Facts.{all_told_append, all_told_grow, all_told_later, more_slots}
 use Rattle.seize_calls.specs.Handing.{Had, Handings, HasHad, values_handed}
 use Rattle.seize_calls.specs.Marks.{actives, readings}
-use Rattle.seize_calls_rows.specs.Turns.{AllBack, EmptyBelow, Gave, Holds, KeepsLinks, LeavesNothing, NoneLost}
+use Rattle.seize_calls_rows.specs.Turns.{AllBack, EmptyBelow, Gave, HasSameLinks, Holds, LeavesNothing, NoneLost}
 use Rattle.seize_calls_rows.specs.Workers.{GoesOn, Shared, Works}
 use Rattle.seize_calls_rows.specs.declared.seat.Holder.{Holder}
 use Rattle.seize_calls.specs.declared.batch.Batch.{Batch}
@@ -65,7 +65,7 @@ gave_twice a b c had had1 had2 one two = record {
 
 -- What a call does that makes these events: it leaves the links as they were, the reclaimer had what is gone, and nothing was lost.
 abbrev pub Did : Pass → Pass → Had → Had → Type 0
-Did pass pass' had had' = KeepsLinks pass pass' × Gave pass pass' had had' × NoneLost pass pass'
+Did pass pass' had had' = HasSameLinks pass pass' × Gave pass pass' had had' × NoneLost pass pass'
 
 -- These events were made meanwhile, none of them on a link; and what was handed by them the reclaimer had.
 pub record Makes (was now : List (Deed × Answer)) (seen : List Entry) (had had' : Had) : Type 0 where
@@ -132,14 +132,14 @@ round_grows a b v kept retired r = prefix_trans a.pass.seen r.full.pass.seen b.p
 
 drains_makes : (a b : CallState) → Drains a b → Makes (events_by a.pass) (events_by b.pass) b.pass.seen a.had b.had
 drains_makes a _ Drains.over = record { handed = []; kepts = []; since = at_first (events_by a.pass); has_had = had_none a.had; told = tt }
-drains_makes a _ (Drains.round b c queue v kept retired drains takes round) =
+drains_makes a _ (Drains.goes_on b c queue v kept retired drains takes round) =
     makes_twice (events_by a.pass) (events_by b.pass) (events_by c.pass) b.pass.seen c.pass.seen a.had b.had c.had
     (round_grows (record { key = b.key; pass = b.pass; batch = b.batch; queue = queue; had = b.had }) c v kept retired round) (drains_makes a b drains)
     (round_makes (record { key = b.key; pass = b.pass; batch = b.batch; queue = queue; had = b.had }) c v kept retired round)
 
 drains_grow : (a b : CallState) → Drains a b → IsPrefix a.pass.seen b.pass.seen
 drains_grow a _ Drains.over = prefix_refl a.pass.seen
-drains_grow a _ (Drains.round b c queue v kept retired drains takes round) =
+drains_grow a _ (Drains.goes_on b c queue v kept retired drains takes round) =
     prefix_trans a.pass.seen b.pass.seen c.pass.seen (drains_grow a b drains) (round_grows (record { key = b.key; pass = b.pass; batch = b.batch; queue = queue; had = b.had }) c v kept retired round)
 
 -- it drained its queue, and returned
@@ -155,7 +155,7 @@ module _ (key : SlotKey) (pass : Pass) (values : ValueKeys) (had : Had) (key' : 
   rest_of : (v kept : ℕ) (r : RetiresOne key pass v kept values had key' pass' values' had' b) → Makes (events_by r.begun.pass) (events_by pass') pass'.seen r.begun.had had'
   rest_of v kept r =
       makes_twice (events_by r.begun.pass) (events_by r.settled.pass) (events_by pass') r.settled.pass.seen pass'.seen r.begun.had r.settled.had had'
-      (ends_grow r.settled r.drained key' pass' values' had' r.drains r.returns) (round_makes r.begun r.settled v kept b r.round)
+      (ends_grow r.settled r.drained key' pass' values' had' r.drains r.returns) (round_makes r.begun r.settled v kept b r.drains_one)
       (ends_makes r.settled r.drained key' pass' values' had' r.drains r.returns)
 
   pub retired_did : (v kept : ℕ) → RetiresOne key pass v kept values had key' pass' values' had' b → IsSole pass.id → Did pass pass' had had'
@@ -163,7 +163,7 @@ module _ (key : SlotKey) (pass : Pass) (values : ValueKeys) (had : Had) (key' : 
       let e = events_by in
       let end = ends_grow r.settled r.drained key' pass' values' had' r.drains r.returns in
       did_by pass pass' had had' r.rests.same r.rests.grows r.rests.alone sole
-      (makes_twice (e pass) (e r.begun.pass) (e pass') r.begun.pass.seen pass'.seen had r.begun.had had' (prefix_trans r.begun.pass.seen r.settled.pass.seen pass'.seen (round_grows r.begun r.settled v kept b r.round) end)
+      (makes_twice (e pass) (e r.begun.pass) (e pass') r.begun.pass.seen pass'.seen had r.begun.had had' (prefix_trans r.begun.pass.seen r.settled.pass.seen pass'.seen (round_grows r.begun r.settled v kept b r.drains_one) end)
       (makes_one _ _ _ _ had r.begun.had r.begins.begins.made (λ l. refl) r.begins.had_none) (rest_of v kept r))
 
   -- its value is no longer between a link and its retirement
@@ -243,7 +243,7 @@ not_so : (b : Bool) → not b ≡ true → b ≡ false
 not_so true h = absurd (let e : false ≡ true = h in cc)
 not_so false h = refl
 
-pub left_by : (key key' : SlotKey) (pass pass' : Pass) (s : ℕ) → Looks key pass key' pass' → key.keys.name ≡ pass.name → slot_number key ≡ s → is_idle (slot_of key) ≡ true → active_of key ≡ false → (slot_of key).batch ≡ []
+pub left_by : (key key' : SlotKey) (pass pass' : Pass) (s : ℕ) → LooksWithSlotKey key pass key' pass' → key.keys.name ≡ pass.name → slot_number key ≡ s → is_idle (slot_of key) ≡ true → active_of key ≡ false → (slot_of key).batch ≡ []
     → LeavesNothing pass' s
 left_by key key' pass pass' s looks book is idle off none =
     let name : pass'.name ≡ key.keys.name = looks.on.same.0 ∙ sym book in

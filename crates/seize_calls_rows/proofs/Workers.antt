@@ -16,8 +16,8 @@ use Rattle.seize_book.specs.Laws.{life}
 use Rattle.seize_book.specs.Ledger.{HeldKey}
 use Rattle.seize_book.specs.Passes.{IsSamePass, LooksOn}
 use Rattle.seize_book.specs.Private.{label_of}
-use Rattle.seize_book.specs.Slots.{Moves, NotesAs, active_of, life_of, own_list, slot_number, slot_of, start_of}
-use Rattle.seize_book.specs.Tokens.{Name, Noted, start}
+use Rattle.seize_book.specs.Slots.{AddsDeed, Moves, active_of, life_of, own_list, slot_number, slot_of, start_of}
+use Rattle.seize_book.specs.Tokens.{AddsEntry, Name, start}
 use Rattle.seize_book.specs.Values.{book_in}
 use Rattle.seize_book.specs.declared.book.pass.Pass.{Pass}
 use Rattle.seize_book.specs.declared.book.slot_key.SlotKey.{SlotKey}
@@ -39,12 +39,12 @@ use Rattle.seize_words.specs.declared.link.Link.{Link}
 use Rattle.seize_book.proofs.Facts.{same_twice}
 use Rattle.seize_words.proofs.Facts.{begun_in, more_seen, more_slots, moved, seen_grows}
 use Rattle.seize_words.proofs.Facts.{all_told_later}
-use Rattle.seize_calls_rows.specs.Workers.{IsBatchOf, AreSpotsOf, GoesOn, MayWork, Shared, Stands, Works}
+use Rattle.seize_calls_rows.specs.Workers.{IsBatchOf, AreSpotsOf, GoesOn, MayWork, Shared, MayAct, Works}
 use Rattle.seize_calls_rows.specs.declared.worker.Active.{Active}
 use Rattle.seize_calls_rows.specs.declared.worker.Worker.{Worker}
 
 -- after an entry with the pass
-pub goes_noted : (pass pass' : Pass) (e : Entry) → IsSamePass pass pass' → Noted pass.name pass.id pass.seen pass'.seen e → GoesOn pass pass'
+pub goes_noted : (pass pass' : Pass) (e : Entry) → IsSamePass pass pass' → AddsEntry pass.name pass.id pass.seen pass'.seen e → GoesOn pass pass'
 goes_noted pass pass' e same noted =
     let grows = seen_grows pass.name pass.id pass.seen pass'.seen e noted in
     record {
@@ -151,7 +151,7 @@ batch_on batch key pass pass' its goes =
 
 -- The slot has entered.
 module _ (words : Shared) (w : Worker) (may : MayWork words w) (key' : SlotKey) (pass' : Pass) (a : Activation)
-    (notes : NotesAs w.key w.pass key' pass' (beginning w.pass a.life (Enter w.slot))) (is : IsActivationOf key' a) where
+    (notes : AddsDeed w.key w.pass key' pass' (beginning w.pass a.life (Enter w.slot))) (is : IsActivationOf key' a) where
   goes_in : GoesOn w.pass pass'
   goes_in = goes_noted w.pass pass' _ notes.0 notes.2.0
 
@@ -160,7 +160,7 @@ module _ (words : Shared) (w : Worker) (may : MayWork words w) (key' : SlotKey) 
       let n = notes.2.0 in
       entered_so w.key key' n.before w.pass a.life n.later n.answer (subst (λ (k : ℕ). Moves w.key key' n.before (beginning w.pass a.life (Enter k)) n.later n.answer) (sym may.0.holder.1) notes.2.1) may.1.0 may.1.1
 
-  pub entered : Stands words (record { slot = w.slot; size = w.size; key = key'; batch = w.batch; spots = w.spots; pass = pass'; activation = a })
+  pub entered : MayAct words (record { slot = w.slot; size = w.size; key = key'; batch = w.batch; spots = w.spots; pass = pass'; activation = a })
   entered =
       let works = works_on words w.slot w.size w.batch w.key key' w.pass pass' may.0 goes_in notes.1.0 notes.1.1 (ap (λ (z : Slot). z.batch) same_record) in
       let many = ap (λ (n : Name). length n.links) (sym works.book) ∙ works.links in let of_slot = is.of_slot in
@@ -173,8 +173,8 @@ module _ (words : Shared) (w : Worker) (may : MayWork words w) (key' : SlotKey) 
       }
 
 -- It stands as before where the pass alone has gone on.
-pub stands_on : (words : Shared) (active : Active) (pass' : Pass) → Stands words active → GoesOn active.pass pass'
-    → Stands words (record { slot = active.slot; size = active.size; key = active.key; batch = active.batch; spots = active.spots; pass = pass'; activation = active.activation })
+pub stands_on : (words : Shared) (active : Active) (pass' : Pass) → MayAct words active → GoesOn active.pass pass'
+    → MayAct words (record { slot = active.slot; size = active.size; key = active.key; batch = active.batch; spots = active.spots; pass = pass'; activation = active.activation })
 stands_on words active pass' stands goes = record {
   works = works_on words active.slot active.size active.batch active.key active.key active.pass pass' stands.works goes refl refl refl;
   inside = stands.inside;
@@ -184,14 +184,14 @@ stands_on words active pass' stands goes = record {
 }
 
 -- And where its list has other spots of the store.
-pub with_spots : (words : Shared) (active : Active) (spots' : Spots Header Part ℕ) → AreSpotsOf words spots' → Stands words active
-    → Stands words (record { slot = active.slot; size = active.size; key = active.key; batch = active.batch; spots = spots'; pass = active.pass; activation = active.activation })
+pub with_spots : (words : Shared) (active : Active) (spots' : Spots Header Part ℕ) → AreSpotsOf words spots' → MayAct words active
+    → MayAct words (record { slot = active.slot; size = active.size; key = active.key; batch = active.batch; spots = spots'; pass = active.pass; activation = active.activation })
 with_spots words active spots' are stands = record { works = stands.works; inside = stands.inside; last = stands.last; begun = stands.begun; spots = are }
 
 -- A call has returned, of a slot that stays active.
-module _ (words : Shared) (active : Active) (stands : Stands words active) (key' : SlotKey) (pass' : Pass) (batch' : Batch) (knows : Knows key' pass') (rests : Rests active.key active.pass key' pass' (keys_in batch')) (on : active_of key' ≡ active_of active.key)
+module _ (words : Shared) (active : Active) (stands : MayAct words active) (key' : SlotKey) (pass' : Pass) (batch' : Batch) (knows : Knows key' pass') (rests : Rests active.key active.pass key' pass' (keys_in batch')) (on : active_of key' ≡ active_of active.key)
     (life_so : life_of key' ≡ life_of active.key) where
-  pub stands_after : Stands words (record { slot = active.slot; size = active.size; key = key'; batch = batch'; spots = active.spots; pass = pass'; activation = active.activation })
+  pub stands_after : MayAct words (record { slot = active.slot; size = active.size; key = key'; batch = batch'; spots = active.spots; pass = pass'; activation = active.activation })
   stands_after =
       let goes = goes_known key' active.pass pass' rests.same rests.grows knows in
       record {

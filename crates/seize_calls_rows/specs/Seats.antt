@@ -5,7 +5,7 @@
 --     SitsWith words holder activation pass     it may work with this pass, or stands;  IsLeft words seat pass    so it is of a seat
 --     SitsAt words seat            its book is that of the words, and it may work, or stands, with a pass that has seen what that has
 --     IsSeat seat                  it sits at words of some book
---     IsOfBook seat words          its book has the family of the words' book
+--     HasFamilyOf seat words       its book has the family of the words' book
 --     post_label post              which slot of which book it is of, by the book's family
 --     IsSound post                 there is a seat in it, which sits at words of some book
 --     post_at words slot           the label of the cell of this slot of the words' book;  IsPostOf words post     it is some slot's cell
@@ -15,16 +15,16 @@ use Rattle.seize_content.specs.Steady.{SteadyName}
 use Rattle.seize_table.specs.Pairs.{of_family}
 use Rattle.seize_words.specs.Joined.{words_book}
 use Rattle.seize_words.specs.declared.activation.Activation.{Activation}
-use Rattle.seize_calls_rows.specs.Workers.{MayWork, Shared, Stands}
+use Rattle.seize_calls_rows.specs.Workers.{MayAct, MayWork, Shared}
 use Rattle.seize_book.specs.declared.book.pass.Pass.{Pass}
-use Rattle.seize_book.specs.declared.book.token.Book.{Book}
+use Rattle.seize_book.specs.declared.book.seen.Seen.{Seen}
 use Rattle.seize_calls_rows.specs.declared.seat.Holder.{Holder}
 use Rattle.seize_calls_rows.specs.declared.seat.Post.{Post}
 use Rattle.seize_calls_rows.specs.declared.seat.Seat.{Seat}
 use Rattle.seize_calls_rows.specs.declared.worker.Active.{Active}
 use Rattle.seize_calls_rows.specs.declared.worker.Worker.{Worker}
 
-abbrev pub seen_by : Book → ℕ → Pass
+abbrev pub seen_by : Seen → ℕ → Pass
 seen_by book size = record { marker = record {}; name = book.name; size = size; id = 0; seen = book.seen }
 
 abbrev pub worker_with : Holder → Pass → Worker
@@ -35,7 +35,7 @@ active_with h a pass = record { slot = h.slot; size = h.size; key = h.key; batch
 
 abbrev pub SitsWith : Shared → Holder → Option Activation → Pass → Type 0
 SitsWith words holder None pass = MayWork words (worker_with holder pass)
-SitsWith words holder (Some a) pass = Stands words (active_with holder a pass)
+SitsWith words holder (Some a) pass = MayAct words (active_with holder a pass)
 
 abbrev pub IsLeft : Shared → Seat → Pass → Type 0
 IsLeft words seat pass = SitsWith words seat.holder seat.activation pass
@@ -46,8 +46,8 @@ SitsAt words seat = (seat.seen.name ≡ words_book words) × IsLeft words seat (
 abbrev pub IsSeat : Seat → Type 0
 IsSeat seat = (words : Shared) × SitsAt words seat
 
-abbrev pub IsOfBook : Seat → Shared → Type 0
-IsOfBook seat words = seat.seen.name.family ≡ (words_book words).family
+abbrev pub HasFamilyOf : Seat → Shared → Type 0
+HasFamilyOf seat words = seat.seen.name.family ≡ (words_book words).family
 
 abbrev label_of_seat : Option Seat → ℕ
 label_of_seat None = 0

@@ -1,7 +1,7 @@
 -- What is known while holders of slots work in turns, and when the gate is shut.
---     StandsAs words spots slot size batch key activation pass     as `Stands`, of each by itself;  Holds words holder pass   as `MayWork`
+--     MayActAs words spots slot size batch key activation pass     as `MayAct`, of each by itself;  Holds words holder pass   as `MayWork`
 --     HasNone holder                   its slot has no batch, as its key knows
---     KeepsLinks pass pass'            each link holds what it held
+--     HasSameLinks pass pass'          each link holds what it held
 --     TakesOut l pass pass'            but link l, which holds nothing
 --     NoneLost pass pass'              no value came out of a link, since, without a call that began to retire it
 --     EmptyBelow n pass                the links below this number hold nothing
@@ -37,13 +37,13 @@ use Rattle.seize_words.specs.Totals.{slots_seen}
 use Rattle.seize_words.specs.declared.activation.Activation.{Activation}
 use Rattle.seize_words.specs.declared.chunk.Header.{Header}
 use Rattle.seize_words.specs.declared.chunk.Part.{Part}
-use Rattle.seize_calls_rows.specs.Workers.{AreSpotsOf, IsOutside, Shared, Stands, Works}
+use Rattle.seize_calls_rows.specs.Workers.{AreSpotsOf, IsOutside, MayAct, Shared, Works}
 use Rattle.seize_calls_rows.specs.declared.seat.Holder.{Holder}
 use Rattle.seize_calls_rows.specs.declared.seat.Seat.{Seat}
 
-abbrev pub StandsAs : Shared → Spots Header Part ℕ → ℕ → ℕ → Batch → SlotKey → Activation → Pass → Type 0
-StandsAs words spots slot size batch key activation pass =
-    Stands words (record { slot = slot; size = size; key = key; batch = batch; spots = spots; pass = pass; activation = activation })
+abbrev pub MayActAs : Shared → Spots Header Part ℕ → ℕ → ℕ → Batch → SlotKey → Activation → Pass → Type 0
+MayActAs words spots slot size batch key activation pass =
+    MayAct words (record { slot = slot; size = size; key = key; batch = batch; spots = spots; pass = pass; activation = activation })
 
 abbrev pub Holds : Shared → Holder → Pass → Type 0
 Holds words holder pass =
@@ -52,8 +52,8 @@ Holds words holder pass =
 abbrev pub HasNone : Holder → Type 0
 HasNone holder = (slot_of holder.key).batch ≡ []
 
-abbrev pub KeepsLinks : Pass → Pass → Type 0
-KeepsLinks pass pass' = (l : ℕ) → link_at (state_seen pass') l ≡ link_at (state_seen pass) l
+abbrev pub HasSameLinks : Pass → Pass → Type 0
+HasSameLinks pass pass' = (l : ℕ) → link_at (state_seen pass') l ≡ link_at (state_seen pass) l
 
 abbrev pub TakesOut : ℕ → Pass → Pass → Type 0
 TakesOut n pass pass' =

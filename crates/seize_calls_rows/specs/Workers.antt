@@ -12,7 +12,7 @@
 --     AreSpotsOf words spots           the list is of spots of the store of their blocks
 --     Works words slot size batch key pass     the slot is there, and a batch has this size; and these are the keys of the slot's batch
 --     MayWork words worker             so it is with this worker's, it is outside, and its spots are of the store
---     Stands words active              so it is with this one's, it is inside, and its activation has begun: each link may be stepped on;
+--     MayAct words active              so it is with this one's, it is inside, and its activation has begun: each link may be stepped on;
 --                                      and its spots are of the store
 --     IsOut words out                  the value may be retired, as its key knows, and its block has this number
 use Rattle.std.specs.Prelude.{◌≡◌, ℕ, suc, ◌<◌, ◌≤◌, true, false, length}
@@ -95,7 +95,7 @@ abbrev pub MayWork : Shared → Worker → Type 0
 MayWork words worker =
     Works words worker.slot worker.size worker.batch worker.key worker.pass × IsOutside worker.key × AreSpotsOf words worker.spots
 
-pub record Stands (words : Shared) (active : Active) : Type 0 where
+pub record MayAct (words : Shared) (active : Active) : Type 0 where
   pub works : Works words active.slot active.size active.batch active.key active.pass
   pub inside : IsInside active.key
   pub last : IsLastOf active.key active.activation

@@ -1,6 +1,6 @@
 //! A reader that holds what it has found, while another thread retires that value and many more: each waits for the other by a sign.
 ghost use Rattle.std.specs.Prelude.{◌<◌};
-ghost use Rattle.seize_calls_rows.specs.Workers.{MayWork, Stands};
+ghost use Rattle.seize_calls_rows.specs.Workers.{MayAct, MayWork};
 
 use crate::counting::Counting;
 use crate::worker::{Active, Worker};
@@ -81,9 +81,9 @@ impl<'p> Active<'p> {
         signs: &Signs,
         marks: &[AtomicU64],
     ) -> (Active<'p>, Option<Held>)
-        requires stands { Stands words.now self }
+        requires stands { MayAct words.now self }
         requires link { link < 1024 }
-        ensures stands { Stands words.now result.0 }
+        ensures stands { MayAct words.now result.0 }
     {
         let Active {
             slot,

@@ -3,8 +3,8 @@
 //! seen, and the activation in which it read. Each turn of the slot is made with a pass of its own.
 ghost use Rattle.std.specs.Prelude.{◌≡◌, ◌<◌, Some};
 ghost use Rattle.seize_book.specs.Tokens.{label_at};
-ghost use Rattle.seize_calls_rows.specs.Seats.{IsOfBook, IsPostOf, IsSeat, IsSound, SitsAt, post_at, post_label};
-ghost use Rattle.seize_calls_rows.specs.Workers.{Lends, MayWork, Stands};
+ghost use Rattle.seize_calls_rows.specs.Seats.{HasFamilyOf, IsPostOf, IsSeat, IsSound, SitsAt, post_at, post_label};
+ghost use Rattle.seize_calls_rows.specs.Workers.{Lends, MayAct, MayWork};
 ghost use Rattle.seize_table.specs.Pairs.{of_family};
 ghost use Rattle.seize_words.specs.Joined.{words_book};
 
@@ -14,7 +14,7 @@ use seize_calls::batch::Batch;
 use seize_content::{CellToken, Steady, SteadyCell, Work};
 use seize_store::Spots;
 use seize_words::activation::Activation;
-use seize_words::book::{Book, Pass, SlotKey};
+use seize_words::book::{Pass, Seen, SlotKey};
 use seize_words::chunk::{Header, Part};
 use seize_words::words::Words;
 use std::mem;
@@ -42,7 +42,7 @@ pub struct Seat {
     /// What it has beside a pass.
     pub holder: Holder,
     /// What the passes have seen that the slot's events were made with.
-    pub seen: Book,
+    pub seen: Seen,
     /// The slot is active where there is one.
     pub activation: Option<Activation>,
 }
@@ -95,7 +95,7 @@ impl Worker<'_> {
 impl Active<'_> {
     /// Its seat.
     pub fn sit(self, words: &Words<u64>) -> Seat
-        requires stands { Stands words.now self }
+        requires stands { MayAct words.now self }
         ensures sits { SitsAt words.now result }
         ensures slot { result.holder.slot ≡ self.entry.slot }
     {
@@ -130,7 +130,7 @@ impl Seat {
     pub fn enter<'p>(self, words: &Words<u64>, lender: &'p Lender) -> Active<'p>
         requires sits { SitsAt words.now self }
         requires lender { Lends words.now lender.now }
-        ensures stands { Stands words.now result }
+        ensures stands { MayAct words.now result }
         ensures slot { result.slot ≡ self.holder.slot }
     {
         let Seat {
@@ -172,7 +172,7 @@ impl Seat {
     /// A seat of some words sits at these, where their book has its family. It does nothing when the program runs.
     pub fn known(self, words: &Words<u64>) -> Seat
         requires seat { IsSeat self }
-        requires family { IsOfBook self words.now }
+        requires family { HasFamilyOf self words.now }
         ensures sits { SitsAt words.now result }
         ensures same { result ≡ self }
     {

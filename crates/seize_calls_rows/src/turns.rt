@@ -6,7 +6,7 @@ ghost use Rattle.seize_book.specs.Passes.{LooksOn};
 ghost use Rattle.seize_book.specs.Tokens.{IsSole};
 ghost use Rattle.seize_calls_rows.specs.Turns.{AllBack, AreAll, IsShutBy, Regains};
 ghost use Rattle.seize_calls_rows.specs.Seats.{IsLeft, SitsAt, post_at};
-ghost use Rattle.seize_calls_rows.specs.Turns.{EmptyBelow, Gave, HasNone, Holds, IsShut, KeepsLinks, LeavesNothing, NoneLost, StandsAs, TakesOut};
+ghost use Rattle.seize_calls_rows.specs.Turns.{EmptyBelow, Gave, HasNone, HasSameLinks, Holds, IsShut, LeavesNothing, MayActAs, NoneLost, TakesOut};
 ghost use Rattle.seize_calls_rows.specs.Workers.{GoesOn, IsLenderOf};
 ghost use Rattle.seize_words.specs.Joined.{words_book};
 
@@ -38,10 +38,10 @@ fn take_out(
     pass: &mut Pass,
     rt: &impl Wait,
 )
-    requires stands { StandsAs words.now spots.old slot size batch.old key.old activation.now pass.old }
+    requires stands { MayActAs words.now spots.old slot size batch.old key.old activation.now pass.old }
     requires turn { IsSole pass.old.id }
     requires link { link < 1024 }
-    ensures stands { StandsAs words.now spots.new slot size batch.new key.new activation.now pass.new }
+    ensures stands { MayActAs words.now spots.new slot size batch.new key.new activation.now pass.new }
     ensures goes_on { GoesOn pass.old pass.new }
     ensures out { TakesOut link pass.old pass.new }
     ensures gave { Gave pass.old pass.new counting.old.told.had counting.new.told.had }
@@ -83,11 +83,11 @@ fn flush_and_leave(
     pass: &mut Pass,
     rt: &impl Wait,
 ) -> Holder
-    requires stands { StandsAs words.now spots slot size batch key activation pass.old }
+    requires stands { MayActAs words.now spots slot size batch key activation pass.old }
     requires turn { IsSole pass.old.id }
     ensures holds { Holds words.now result pass.new × (result.slot ≡ slot) }
     ensures goes_on { GoesOn pass.old pass.new }
-    ensures keeps { KeepsLinks pass.old pass.new }
+    ensures keeps { HasSameLinks pass.old pass.new }
     ensures gave { Gave pass.old pass.new counting.old.told.had counting.new.told.had }
     ensures lost { NoneLost pass.old pass.new }
 {
@@ -167,7 +167,7 @@ fn clear(
     requires turn { IsSole pass.old.id }
     ensures holds { Holds words.now result pass.new × (result.slot ≡ holder.slot) }
     ensures goes_on { GoesOn pass.old pass.new }
-    ensures keeps { KeepsLinks pass.old pass.new }
+    ensures keeps { HasSameLinks pass.old pass.new }
     ensures gave { Gave pass.old pass.new counting.old.told.had counting.new.told.had }
     ensures lost { NoneLost pass.old pass.new }
 {
@@ -245,7 +245,7 @@ fn clear_all(
     ensures slots { (result.0.slot ≡ first.slot) × (result.1.slot ≡ second.slot) }
     ensures bare { HasNone result.0 × HasNone result.1 }
     ensures goes_on { GoesOn pass.old pass.new }
-    ensures keeps { KeepsLinks pass.old pass.new }
+    ensures keeps { HasSameLinks pass.old pass.new }
     ensures gave { Gave pass.old pass.new counting.old.told.had counting.new.told.had }
     ensures lost { NoneLost pass.old pass.new }
 {

@@ -2,7 +2,7 @@
 //! any events meanwhile.
 ghost use Rattle.std.specs.Prelude.{◌≡◌, ◌<◌, IfSome};
 ghost use Rattle.seize_calls_rows.specs.Workers.{CanMake, HasOneMore, Lends, made_by};
-ghost use Rattle.seize_calls_rows.specs.Workers.{AreSpotsOf, GoesOn, IsOut, MayWork, Stands, Works};
+ghost use Rattle.seize_calls_rows.specs.Workers.{AreSpotsOf, GoesOn, IsOut, MayAct, MayWork, Works};
 ghost use Rattle.seize_calls.specs.Calls.{IsInside};
 ghost use Rattle.seize_words.specs.Joined.{IsInAt, words_book};
 ghost use Rattle.seize_words.specs.Reservations.{IsLastOf};
@@ -144,7 +144,7 @@ impl<'p> Worker<'p> {
     /// The slot enters.
     pub fn enter(self, words: &Words<u64>) -> Active<'p>
         requires may { MayWork words.now self }
-        ensures stands { Stands words.now result }
+        ensures stands { MayAct words.now result }
         ensures slot { result.slot ≡ self.entry.slot }
     {
         let Worker {
@@ -214,9 +214,9 @@ impl<'p> Worker<'p> {
 impl<'p> Active<'p> {
     /// What the link holds, if it holds something.
     pub fn find(self, words: &Words<u64>, link: usize) -> (Active<'p>, Option<u64>)
-        requires stands { Stands words.now self }
+        requires stands { MayAct words.now self }
         requires link { link < 1024 }
-        ensures stands { Stands words.now result.0 }
+        ensures stands { MayAct words.now result.0 }
     {
         let Active {
             slot,
@@ -251,9 +251,9 @@ impl<'p> Active<'p> {
         link: usize,
         value: u64,
     ) -> (Active<'p>, Option<Option<Out>>)
-        requires stands { Stands words.now self }
+        requires stands { MayAct words.now self }
         requires link { link < 1024 }
-        ensures stands { Stands words.now result.0 }
+        ensures stands { MayAct words.now result.0 }
         ensures slot { result.0.slot ≡ self.entry.slot }
         ensures out { IfSome result.1 (λ swapped. IfSome swapped (λ out. IsOut words.now out)) }
     {
@@ -288,10 +288,10 @@ impl<'p> Active<'p> {
         reclaimer: &mut R,
         rt: &impl Wait,
     ) -> (Active<'p>, bool)
-        requires stands { Stands words.now self }
+        requires stands { MayAct words.now self }
         requires out { IsOut words.now out }
         requires serves { R.serves reclaimer.old (words_book words.now) }
-        ensures stands { Stands words.now result.0 }
+        ensures stands { MayAct words.now result.0 }
         ensures slot { result.0.slot ≡ self.entry.slot }
         ensures serves { R.serves reclaimer.new (words_book words.now) }
     {
@@ -329,9 +329,9 @@ impl<'p> Active<'p> {
         reclaimer: &mut R,
         rt: &impl Wait,
     ) -> (Active<'p>, bool)
-        requires stands { Stands words.now self }
+        requires stands { MayAct words.now self }
         requires serves { R.serves reclaimer.old (words_book words.now) }
-        ensures stands { Stands words.now result.0 }
+        ensures stands { MayAct words.now result.0 }
         ensures serves { R.serves reclaimer.new (words_book words.now) }
     {
         let Active {
@@ -366,7 +366,7 @@ impl<'p> Active<'p> {
         counting: &mut Counting<'_>,
         rt: &impl Wait,
     ) -> (Worker<'p>, u64)
-        requires stands { Stands words.now self }
+        requires stands { MayAct words.now self }
         ensures may { MayWork words.now result.0 }
     {
         let Active {
@@ -406,7 +406,7 @@ impl<'p> Active<'p> {
         reclaimer: &mut R,
         rt: &impl Wait,
     ) -> Worker<'p>
-        requires stands { Stands words.now self }
+        requires stands { MayAct words.now self }
         requires serves { R.serves reclaimer.old (words_book words.now) }
         ensures may { MayWork words.now result }
         ensures serves { R.serves reclaimer.new (words_book words.now) }

@@ -13,8 +13,8 @@ use denote.Struct.Struct.{Struct, Struct-row_laws}
 use denote.Struct.Owning.{shape}
 use Rattle.seize_table.specs.declared.labelled.Labelled.{Ghosts}
 use Rattle.seize_store.specs.contracts.block.Block as block
-use Rattle.seize_store.specs.contracts.known.Title as title
-use Rattle.seize_store.proofs.known.Title.TheLaws as title_laws
+use Rattle.seize_store.specs.contracts.row_token.Title as title
+use Rattle.seize_store.proofs.row_token.Title.TheLaws as title_laws
 
 module _ (X U R : RattleType) (g : Ghosts U.Denot) where
   abbrev pub Words : RattleType

@@ -31,8 +31,8 @@ use Rattle.seize_store.specs.contracts.block.Hull as hull
 use Rattle.seize_store.specs.contracts.block.Out as room
 use Rattle.seize_store.specs.contracts.block.Shell as shell
 use Rattle.seize_store.specs.contracts.block.Block as block
-use Rattle.seize_store.specs.contracts.known.Title as title
-use Rattle.seize_store.proofs.known.Title.TheLaws as title_laws
+use Rattle.seize_store.specs.contracts.row_token.Title as title
+use Rattle.seize_store.proofs.row_token.Title.TheLaws as title_laws
 
 abbrev pub single : Val → Val
 single v = vstruct (vcons v vnil)

@@ -5,11 +5,11 @@ use Rattle.std.specs.declared.option.Option.TheVariants.{Some}
 use mathlib.Core.HLevel.{is_prop→PathP}
 use denote.RawPtr.{coded_ptr}
 use Rattle.once_cell.specs.declared.race.note.Note.{Note}
-use Rattle.seize_store.specs.Known.{row_name}
+use Rattle.seize_store.specs.RowTokens.{row_name}
 use Rattle.seize_table.specs.declared.labelled.Labelled.{Ghosts}
-use Rattle.seize_store.specs.declared.seen.Seen.{Seen}
+use Rattle.seize_store.specs.declared.look_up.TypedRowToken.{TypedRowToken}
 
-pub token_is : {H P T : Type 0} {g : Ghosts H} (s t : Seen H P T g) → s.note ≡ t.note → s.known ≡ t.known → s ≡ t
+pub token_is : {H P T : Type 0} {g : Ghosts H} (s t : TypedRowToken H P T g) → s.note ≡ t.note → s.known ≡ t.known → s ≡ t
 token_is s t e f = λ i. record {
   note = e i;
   known = f i;

@@ -13,8 +13,8 @@ use denote.Shadow.{makes_shadow}
 use denote.Struct.Struct.{Struct}
 use denote.Struct.Owning.{shape}
 use Rattle.once_cell.proofs.Moves.{second}
-use Rattle.seize_store.specs.Known.{known_row, row_name}
-use Rattle.seize_store.specs.contracts.known.Known as known
+use Rattle.seize_store.specs.RowTokens.{known_row, row_name}
+use Rattle.seize_store.specs.contracts.row_token.RowToken as known
 
 abbrev pub token : Val
 token = vstruct (vcons (vstruct vnil) vnil)

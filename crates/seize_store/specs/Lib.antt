@@ -4,7 +4,7 @@ pub mod Row
 pub mod Block
 pub mod Lending
 pub mod Chunk
-pub mod Known
+pub mod RowTokens
 pub mod Lends
 pub mod Named
 pub mod Parts

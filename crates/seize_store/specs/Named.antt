@@ -21,16 +21,16 @@
 use Rattle.std.specs.Prelude.{◌≡◌, ℕ, ◌+◌, ◌==◌, if◌then◌else◌, List, [], ◌∷◌, ◌++◌, All, map, length, take, vec_len}
 use denote.RawPtr.{Ptr}
 use Rattle.seize_table.specs.Place.{IsPlace}
-use Rattle.seize_store.specs.Known.{entry_of, label_in, place_in}
+use Rattle.seize_store.specs.RowTokens.{entry_of, label_in, place_in}
 use Rattle.seize_store.specs.Titled.{names_of_rows, title_place}
 use Rattle.seize_store.specs.Titled as titled
 use Rattle.seize_store.specs.declared.bare.Bare.{Bare}
 use Rattle.seize_store.specs.declared.hollow.Hollow.{Hollow}
-use Rattle.seize_store.specs.declared.known.Known.{Known}
+use Rattle.seize_store.specs.declared.row_token.RowToken.{RowToken}
 use Rattle.seize_table.specs.declared.labelled.Labelled.{Ghosts}
-use Rattle.seize_store.specs.declared.known.Title.{Title}
-use Rattle.seize_store.specs.declared.seen.Place.{Place}
-use Rattle.seize_store.specs.declared.seen.Seen.{Seen}
+use Rattle.seize_store.specs.declared.row_token.Title.{Title}
+use Rattle.seize_store.specs.declared.look_up.Place.{Place}
+use Rattle.seize_store.specs.declared.look_up.TypedRowToken.{TypedRowToken}
 use Rattle.seize_store.specs.declared.owned.Owned.{Owned}
 use Rattle.seize_store.specs.declared.spot.Spots.{Spots}
 use Rattle.seize_store.specs.declared.store.Store.{Store}
@@ -50,7 +50,7 @@ owned_number owned = owned.block.title.number
 abbrev pub title_of : {H P T : Type 0} → Owned H P T → Title
 title_of owned = owned.block.title
 
-abbrev pub known_of : {H P T : Type 0} → Owned H P T → Known
+abbrev pub known_of : {H P T : Type 0} → Owned H P T → RowToken
 known_of owned = owned.block.title.known
 
 abbrev pub AreOfStore : {H P T : Type 0} → Spots H P T → List ℕ → Type 0
@@ -71,28 +71,28 @@ count_with count = (if count == 128 then 64 else count) + 1
 abbrev pub IsSameBlock : {H P T : Type 0} → Owned H P T → Owned H P T → Type 0
 IsSameBlock one other = (owned_value one ≡ owned_value other) × (one.block.title ≡ other.block.title)
 
-abbrev pub known_by : {H P T : Type 0} {g : Ghosts H} → Seen H P T g → Known
+abbrev pub known_by : {H P T : Type 0} {g : Ghosts H} → TypedRowToken H P T g → RowToken
 known_by seen = seen.known
 
-abbrev pub store_by : {H P T : Type 0} {g : Ghosts H} → Seen H P T g → List ℕ
+abbrev pub store_by : {H P T : Type 0} {g : Ghosts H} → TypedRowToken H P T g → List ℕ
 store_by seen = seen.known.store
 
-abbrev pub row_by : {H P T : Type 0} {g : Ghosts H} → Seen H P T g → ℕ
+abbrev pub row_by : {H P T : Type 0} {g : Ghosts H} → TypedRowToken H P T g → ℕ
 row_by seen = seen.known.row
 
-abbrev pub chunks_by : {H P T : Type 0} {g : Ghosts H} → Seen H P T g → List (Ptr × ℕ)
+abbrev pub chunks_by : {H P T : Type 0} {g : Ghosts H} → TypedRowToken H P T g → List (Ptr × ℕ)
 chunks_by seen = seen.known.chunks
 
-abbrev pub row_is : {H P T : Type 0} {g : Ghosts H} → Seen H P T g → ℕ → Type 0
+abbrev pub row_is : {H P T : Type 0} {g : Ghosts H} → TypedRowToken H P T g → ℕ → Type 0
 row_is seen number = IsPlace number seen.known.row (entry_of seen.known.row number)
 
-abbrev pub place_by : {H P T : Type 0} {g : Ghosts H} → Seen H P T g → ℕ → Ptr
+abbrev pub place_by : {H P T : Type 0} {g : Ghosts H} → TypedRowToken H P T g → ℕ → Ptr
 place_by seen number = place_in seen.known.chunks (entry_of seen.known.row number)
 
-abbrev pub label_by : {H P T : Type 0} {g : Ghosts H} → Seen H P T g → ℕ → ℕ
+abbrev pub label_by : {H P T : Type 0} {g : Ghosts H} → TypedRowToken H P T g → ℕ → ℕ
 label_by seen number = label_in seen.known.chunks (entry_of seen.known.row number)
 
-abbrev pub IsRowOf : Known → ℕ → Type 0
+abbrev pub IsRowOf : RowToken → ℕ → Type 0
 IsRowOf known number = IsPlace number known.row (entry_of known.row number)
 
 abbrev pub lies_of : {H P T : Type 0} → Place H P T → Ptr
@@ -122,7 +122,7 @@ bare_store bare = bare.title.known.store
 abbrev pub bare_label : {H P T : Type 0} → Bare H P T → ℕ
 bare_label bare = titled.title_label bare.title
 
-abbrev pub bare_known : {H P T : Type 0} → Bare H P T → Known
+abbrev pub bare_known : {H P T : Type 0} → Bare H P T → RowToken
 bare_known bare = bare.title.known
 
 abbrev pub bare_content : {H P T : Type 0} → Bare H P T → ℕ
@@ -140,7 +140,7 @@ hollow_store hollow = hollow.title.known.store
 abbrev pub hollow_label : {H P T : Type 0} → Hollow H P T → ℕ
 hollow_label hollow = titled.title_label hollow.title
 
-abbrev pub hollow_known : {H P T : Type 0} → Hollow H P T → Known
+abbrev pub hollow_known : {H P T : Type 0} → Hollow H P T → RowToken
 hollow_known hollow = hollow.title.known
 
 abbrev pub hollow_content : {H P T : Type 0} → Hollow H P T → ℕ

@@ -12,7 +12,7 @@ use Rattle.seize_store.specs.declared.block.Hull.{Hull}
 use Rattle.seize_store.specs.declared.block.Out.{Out}
 use Rattle.seize_store.specs.declared.block.Shell.{Shell}
 use Rattle.seize_store.specs.declared.chunk.Chunk.{Chunk}
-use Rattle.seize_store.specs.declared.known.Title.{Title}
+use Rattle.seize_store.specs.declared.row_token.Title.{Title}
 use Rattle.seize_store.specs.declared.lender.Lender.{Lender}
 use Rattle.seize_store.specs.declared.spot.Spot.{Spot}
 use Rattle.seize_store.specs.declared.strip.Piece.{Piece}

@@ -10,11 +10,11 @@ use Rattle.std.specs.Prelude.{◌≡◌, ℕ, List, ◌∷◌, map}
 use Rattle.std.specs.declared.option.Option.TheVariants.{Some}
 use denote.RawPtr.{Ptr}
 use Rattle.once_cell.specs.declared.race.note.Note.{Note}
-use Rattle.seize_store.specs.declared.known.Known.{Known}
-use Rattle.seize_store.specs.declared.known.Title.{Title}
+use Rattle.seize_store.specs.declared.row_token.RowToken.{RowToken}
+use Rattle.seize_store.specs.declared.row_token.Title.{Title}
 use Rattle.seize_table.specs.declared.labelled.Labelled.{Ghosts}
 use Rattle.seize_store.specs.declared.row.Rows.{Rows}
-use Rattle.seize_store.specs.Known.{AreKin, IsRowIn, chunk_in, content_in, entry_of, family_in, label_in, place_in, row_name}
+use Rattle.seize_store.specs.RowTokens.{AreKin, IsRowIn, chunk_in, content_in, entry_of, family_in, label_in, place_in, row_name}
 
 abbrev pub chunk_of : Title → Ptr × ℕ
 chunk_of t = chunk_in t.known.chunks (entry_of t.known.row t.number)
@@ -45,5 +45,5 @@ IsSeen rows row note =
     (note.cell ≡ row_name (names_of_rows rows) row)
     × ((chunks : List (Ptr × ℕ)) × (note.known ≡ Some chunks) × IsRowIn (names_of_rows rows) row chunks)
 
-abbrev pub ShowsRow : {H P T : Type 0} {g : Ghosts H} → Rows H P T g → ℕ → Note (List (Ptr × ℕ)) → Known → Type 0
+abbrev pub ShowsRow : {H P T : Type 0} {g : Ghosts H} → Rows H P T g → ℕ → Note (List (Ptr × ℕ)) → RowToken → Type 0
 ShowsRow rows row note known = (known.store ≡ names_of_rows rows) × (known.row ≡ row) × (note.known ≡ Some known.chunks)

@@ -4,8 +4,8 @@ ghost use Rattle.seize_store.specs.Titled.{chunk_of};
 
 use crate::block::Hull;
 use crate::hollow::Hollow;
-use crate::known::{Known, Title};
 use crate::owned::Owned;
+use crate::row_token::{RowToken, Title};
 use seize_table::Labelled;
 use std::ops::Deref;
 
@@ -20,7 +20,7 @@ pub struct Bare<H, P: Labelled + Drop, T: Drop> {
 }
 
 impl<H, P: Labelled + Drop, T: Drop> Bare<H, P, T> {
-    ghost use Rattle.seize_store.specs.Known.{content_in, entry_of, label_in};
+    ghost use Rattle.seize_store.specs.RowTokens.{content_in, entry_of, label_in};
     ghost use Rattle.seize_store.specs.Named.{IsRowOf, bare_content, bare_known, bare_label, bare_number, bare_store, bare_title, bare_value, hollow_title, owned_value, title_of};
 
     /// The block's number. No other block of its store has it while this one stands.
@@ -31,7 +31,7 @@ impl<H, P: Labelled + Drop, T: Drop> Bare<H, P, T> {
     }
 
     /// What shows the row in which the block's chunk lies, and that it lies there.
-    pub fn known(&self) -> &Known
+    pub fn known(&self) -> &RowToken
         ensures known { result.now ≡ bare_known self.now }
         ensures row { (result.now.store ≡ bare_store self.now) × IsRowOf result.now (bare_number self.now) }
         ensures label { bare_label self.now ≡ label_in result.now.chunks (entry_of result.now.row (bare_number self.now)) }

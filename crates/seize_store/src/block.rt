@@ -1,6 +1,6 @@
 //! A chunk's room in its holder's hands: an empty room, a block, which is a value in a room, and each of these without the owner's part,
-//! a shell and a hull. Each has the ticket of the chunk's content. It uses `chunk` for the memory and `known` for titles; `spot`, `owned`,
-//! `hollow` and `bare` wrap these for who holds them.
+//! a shell and a hull. Each has the ticket of the chunk's content. It uses `chunk` for the memory and `row_token` for titles; `spot`,
+//! `owned`, `hollow` and `bare` wrap these for who holds them.
 ghost use Rattle.std.specs.Prelude.{◌≡◌, ◌≢◌, ℕ};
 ghost use Rattle.std.specs.Borrow.{sem};
 ghost use Rattle.seize_store.specs.Block.{out_owns, block_owns, block_shares, hull_owns, hull_shares, shell_owns};
@@ -8,7 +8,7 @@ ghost use Rattle.seize_store.specs.Titled.{title_place, title_tag};
 ghost use Rattle.seize_table.specs.Pairs.{left_of};
 
 use crate::chunk::{Body, Remains};
-use crate::known::Title;
+use crate::row_token::Title;
 use seize_table::Labelled;
 use std::marker::{Brand, Model};
 use std::sync::atomic::Ordering::SeqCst;

@@ -4,7 +4,7 @@ ghost use Rattle.std.specs.Prelude.{◌≡◌};
 ghost use Rattle.seize_store.specs.Titled.{chunk_of};
 
 use crate::block::Shell;
-use crate::known::{Known, Title};
+use crate::row_token::{RowToken, Title};
 use crate::spot::{Spot, Spots};
 use seize_table::Labelled;
 
@@ -20,7 +20,7 @@ pub struct Hollow<H, P: Labelled + Drop, T> {
 }
 
 impl<H, P: Labelled + Drop, T> Hollow<H, P, T> {
-    ghost use Rattle.seize_store.specs.Known.{content_in, entry_of, label_in};
+    ghost use Rattle.seize_store.specs.RowTokens.{content_in, entry_of, label_in};
     ghost use Rattle.seize_store.specs.Named.{AreOfStore, IsRowOf, count_of, count_with, hollow_content, hollow_known, hollow_label, hollow_number, hollow_store, hollow_title, titles_of, titles_with};
     ghost use Rattle.seize_store.specs.Parts.{spot_title};
 
@@ -32,7 +32,7 @@ impl<H, P: Labelled + Drop, T> Hollow<H, P, T> {
     }
 
     /// What shows the row in which the chunk lies, and that it lies there.
-    pub fn known(&self) -> &Known
+    pub fn known(&self) -> &RowToken
         ensures known { result.now ≡ hollow_known self.now }
         ensures row { (result.now.store ≡ hollow_store self.now) × IsRowOf result.now (hollow_number self.now) }
         ensures label { hollow_label self.now ≡ label_in result.now.chunks (entry_of result.now.row (hollow_number self.now)) }

@@ -1,12 +1,12 @@
 //! Blocks that are lent: while a block is in nobody's hands, whoever has a sight of its loan sees its value, and whoever has the loan's
-//! ticket and pool has the block back, by its number alone. It stands on the look-ups of `seen`, and `row` lends.
+//! ticket and pool has the block back, by its number alone. It stands on the look-ups of `look_up`, and `row` lends.
 ghost use Rattle.std.specs.Prelude.{◌≡◌};
 ghost use Rattle.seize_content.specs.Loans.{IsLent};
-ghost use Rattle.seize_store.specs.Known.{content_in, entry_of};
+ghost use Rattle.seize_store.specs.RowTokens.{content_in, entry_of};
 ghost use Rattle.seize_store.specs.Named.{IsRowOf, bare_content, bare_known, bare_number, bare_store, bare_value, store_name};
 
 use crate::bare::Bare;
-use crate::known::{Known, Title};
+use crate::row_token::{RowToken, Title};
 use crate::store::Store;
 use seize_content::{Pool, Sight, Ticket};
 use seize_table::Labelled;
@@ -28,7 +28,7 @@ impl<H: Labelled + Drop, P: Labelled + Drop, T: Drop> Store<H, P, T> {
     }
 
     /// The block of that number, in hand again, with a value of the code that was lent. It takes no memory and no atomic step.
-    pub fn back(&self, number: usize, known: &Known, ticket: Ticket, pool: Pool) -> Bare<H, P, T>
+    pub fn back(&self, number: usize, known: &RowToken, ticket: Ticket, pool: Pool) -> Bare<H, P, T>
         requires store { known.now.store ≡ store_name self.now }
         requires row { IsRowOf known.now number }
         requires loan { IsLent ticket pool × (ticket.name ≡ content_in known.now.chunks (entry_of known.now.row number)) }
@@ -52,7 +52,7 @@ impl<H: Labelled + Drop, P: Labelled + Drop, T> Store<H, P, T> {
     ///
     /// Three loads, each of which waits for the one before, as `place`: the row's cell, where its chunks begin, and then what is looked for
     /// in the value.
-    pub fn see<'g>(&'g self, number: usize, known: &Known, sight: Sight<'g>) -> &'g T
+    pub fn see<'g>(&'g self, number: usize, known: &RowToken, sight: Sight<'g>) -> &'g T
         requires store { known.now.store ≡ store_name self.now }
         requires row { IsRowOf known.now number }
         requires loan { sight.name ≡ content_in known.now.chunks (entry_of known.now.row number) }

@@ -3,12 +3,12 @@
 ghost use Rattle.std.specs.Prelude.{◌≡◌, ◌≢◌};
 ghost use Rattle.std.specs.Borrow.{sem};
 ghost use Rattle.seize_store.specs.Named.{AreOfStore, IsRowOf, bare_title, bare_value, IsSameBlock, count_of, count_with, known_of, owned_label, owned_number, store_of, title_of, titles_of, titles_with, owned_value};
-ghost use Rattle.seize_store.specs.Known.{entry_of, label_in};
+ghost use Rattle.seize_store.specs.RowTokens.{entry_of, label_in};
 ghost use Rattle.seize_store.specs.Parts.{spot_title};
 
 use crate::bare::Bare;
 use crate::block::Block;
-use crate::known::Known;
+use crate::row_token::RowToken;
 use crate::spot::{Spot, Spots};
 use seize_table::Labelled;
 use std::ops::{Deref, DerefMut};
@@ -32,7 +32,7 @@ impl<H, P: Labelled + Drop, T: Drop> Owned<H, P, T> {
     }
 
     /// What shows the row in which the block's chunk lies, and that it lies there.
-    pub fn known(&self) -> &Known
+    pub fn known(&self) -> &RowToken
         ensures row { (result.now ≡ known_of self.now) × IsRowOf result.now (owned_number self.now) }
         ensures label { owned_label self.now ≡ label_in result.now.chunks (entry_of result.now.row (owned_number self.now)) }
     {
@@ -65,7 +65,7 @@ impl<H, P: Labelled + Drop, T: Drop> Owned<H, P, T> {
     }
 
     /// The same, and what shows the row in which the value lay.
-    pub fn into_parts(self) -> (T, Known)
+    pub fn into_parts(self) -> (T, RowToken)
         ensures value { result.0 ≡ owned_value self }
         ensures known { result.1 ≡ known_of self }
     {

@@ -1,6 +1,6 @@
 //! A row of chunks, and the cells that the rows stand in. It cuts the memory of `strip` into chunks of `chunk`; `store` keeps the rows.
 ghost use Rattle.std.specs.Prelude.{◌≡◌, ◌+◌, ◌^◌, ◌<◌, All, IfOk, IfSome, length};
-ghost use Rattle.seize_store.specs.Known.{AreKin, label_in, place_in};
+ghost use Rattle.seize_store.specs.RowTokens.{AreKin, label_in, place_in};
 ghost use Rattle.seize_table.specs.Pairs.{left_of};
 ghost use Rattle.seize_table.specs.Place.{IsPlace};
 ghost use Rattle.seize_table.specs.Table.{entry_number};
@@ -11,9 +11,9 @@ use crate::family::Family;
 use crate::identity::Identity;
 use crate::kin::{Kin, NoteOf};
 use crate::lender::Lender;
+use crate::look_up::Place;
 use crate::maker::Maker;
 use crate::once_of::OnceOf;
-use crate::seen::Place;
 use crate::strip::{Rooms, Strip};
 use seize_content::{Pool, Sight, Start, Ticket};
 use seize_table::Labelled;
@@ -139,7 +139,7 @@ impl<H: Labelled + Drop, P: Labelled + Drop, T> Row<H, P, T> {
 
 impl<H: Labelled + Drop, P: Labelled + Drop, T> Row<H, P, T> {
     ghost use Rattle.seize_content.specs.Loans.{IsLent};
-    ghost use Rattle.seize_store.specs.Known.{chunk_in, content_in};
+    ghost use Rattle.seize_store.specs.RowTokens.{chunk_in, content_in};
     ghost use Rattle.seize_store.specs.Parts.{hull_with};
 
     /// Lends the block of the chunk at that entry.

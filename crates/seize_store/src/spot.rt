@@ -6,8 +6,8 @@ ghost use Rattle.seize_store.specs.Titled.{chunk_of};
 mod list;
 
 use crate::block::{Block, Out};
-use crate::known::Title;
 use crate::owned::Owned;
+use crate::row_token::Title;
 use seize_table::Labelled;
 
 /// A chunk that is out and empty, with the owner's part, and its number. Its chunk is in again when it ends.

@@ -1,7 +1,8 @@
-//! The store: rows of chunks by their numbers. It claims chunks of `row`, and gives them out as spots and blocks; look-ups are in `seen`.
+//! The store: rows of chunks by their numbers. It claims chunks of `row`, and gives them out as spots and blocks; look-ups are in
+//! `look_up`.
 ghost use Rattle.std.specs.Prelude.{◌≡◌, ◌≢◌, ℕ, ◌+◌, ◌-◌, ◌^◌, ◌<◌, ◌⊎◌, length, List, [], ◌∷◌, ◌++◌, IfOk, IfErr, IfSome, Some};
 ghost use Rattle.seize_table.specs.declared.refusal.Refusal.TheVariants.{NoMemory};
-ghost use Rattle.seize_store.specs.Known.{chunk_in, family_in};
+ghost use Rattle.seize_store.specs.RowTokens.{chunk_in, family_in};
 ghost use Rattle.seize_store.specs.Named.{AreOfStore, count_of, is_empty_list, owned_value, store_name, store_of, title_of, titles_of};
 ghost use Rattle.seize_store.specs.Parts.{room_with, spot_store};
 ghost use Rattle.seize_store.specs.Titled.{IsRowNote};
@@ -9,10 +10,10 @@ ghost use Rattle.seize_store.specs.Titled.{IsRowNote};
 use crate::block::Out;
 use crate::family::Family;
 use crate::kin::NoteOf;
-use crate::known::{Known, Title};
 use crate::maker::Maker;
 use crate::owned::Owned;
 use crate::row::{Row, Rows, number_at_place};
+use crate::row_token::{RowToken, Title};
 use crate::spot::{Spot, Spots};
 use seize_table::thread_id::{BUCKETS, Thread};
 use seize_table::{Labelled, Refusal};
@@ -170,7 +171,7 @@ impl<H: Labelled + Drop, P: Labelled + Drop, T> Store<H, P, T> {
         }
         let (entry, out) = first_in(row, from, end)?;
         let mut note = note;
-        let known = Known::of(&self.rows, bucket, &mut note);
+        let known = RowToken::of(&self.rows, bucket, &mut note);
         let number = number_at_place(bucket, entry);
         self.move_hint(number);
         let title = Title {

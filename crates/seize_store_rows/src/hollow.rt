@@ -1,6 +1,6 @@
 //! Chunks whose value was taken out before their part is back: the value ends once, where its taker ends it, and the chunk serves again.
 ghost use Rattle.std.specs.Prelude.{◌≡◌, IfOk};
-ghost use Rattle.seize_store.specs.Known.{family_in};
+ghost use Rattle.seize_store.specs.RowTokens.{family_in};
 ghost use Rattle.seize_store.specs.Named.{AreOfStore, hollow_label, store_name, store_of};
 ghost use Rattle.seize_table.specs.Pairs.{pair};
 

@@ -1,13 +1,13 @@
 //! Blocks that are lent: what threads see of one, on which thread it comes back, and what becomes of one that is lost.
 ghost use Rattle.std.specs.Prelude.{◌≡◌, IfOk};
 ghost use Rattle.seize_content.specs.Loans.{IsLent};
-ghost use Rattle.seize_store.specs.Known.{content_in, entry_of, family_in};
+ghost use Rattle.seize_store.specs.RowTokens.{content_in, entry_of, family_in};
 ghost use Rattle.seize_store.specs.Named.{IsRowOf, bare_known, bare_number, owned_number, owned_value, store_name, store_of};
 
 use crate::loans::{lent_without_its_part, seen};
 use crate::values::{Counted, Numbered, Pairs, Tallies, Tally};
 use seize_content::Pool;
-use seize_store::{Bare, Family, Known, Owned, Store};
+use seize_store::{Bare, Family, Owned, RowToken, Store};
 use seize_table::Refusal;
 use std::sync::atomic::{AtomicU64, Ordering};
 use std::test::*;
@@ -31,7 +31,7 @@ fn block(store: &Tallied, value: u64) -> Result<Block, Refusal>
 const TIMES: u64 = 100_000;
 
 // The sum of what is seen of that block so many times, modulo 2^64.
-fn see_many(store: &Tallied, number: usize, known: &Known, pool: &Pool) -> u64
+fn see_many(store: &Tallied, number: usize, known: &RowToken, pool: &Pool) -> u64
     requires row { (known.now.store ≡ store_name store.now) × IsRowOf known.now number }
     requires loan { pool.now.name ≡ content_in known.now.chunks (entry_of known.now.row number) }
 {

@@ -1,17 +1,17 @@
 //! Blocks that are lent: what readers see of one by its number, on one thread and on two, and what its owner gets back.
 ghost use Rattle.std.specs.Prelude.{◌≡◌};
 ghost use Rattle.seize_content.specs.Loans.{IsLent};
-ghost use Rattle.seize_store.specs.Known.{content_in, entry_of};
+ghost use Rattle.seize_store.specs.RowTokens.{content_in, entry_of};
 ghost use Rattle.seize_store.specs.Named.{IsRowOf, bare_known, bare_number, bare_store, bare_value, owned_number, owned_value, store_name, store_of};
 
 use seize_content::Pool;
-use seize_store::{Bare, Known, Labelled, Owned, Store};
+use seize_store::{Bare, Labelled, Owned, RowToken, Store};
 
 /// The value of the block of that number, which is lent, for as long as store and pool are borrowed.
 pub(crate) fn seen<'g, H: Labelled + Drop, P: Labelled + Drop, T>(
     store: &'g Store<H, P, T>,
     number: usize,
-    known: &Known,
+    known: &RowToken,
     pool: &'g Pool,
 ) -> &'g T
     requires store { known.now.store ≡ store_name store.now }

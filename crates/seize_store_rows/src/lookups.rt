@@ -1,11 +1,11 @@
 //! What a caller can pass on of the contracts of look-ups and tokens. The clauses here follow from those contracts alone.
 ghost use Rattle.std.specs.Prelude.{◌≡◌, ◌<◌, IfSome, length};
-ghost use Rattle.seize_store.specs.Known.{entry_of, family_in};
+ghost use Rattle.seize_store.specs.RowTokens.{entry_of, family_in};
 ghost use Rattle.seize_store.specs.Named.{chunks_by, header_of, lies_of, owned_label, owned_number, owned_place, row_by, row_is, store_by, store_name, store_of};
 ghost use Rattle.seize_table.specs.Pairs.{pair};
 
 use crate::values::{Numbered, Tallies, Tally};
-use seize_store::{Family, Labelled, Owned, Place, Seen, Store};
+use seize_store::{Family, Labelled, Owned, Place, Store, TypedRowToken};
 use seize_table::Refusal;
 use std::sync::atomic::Ordering;
 use std::test::*;
@@ -28,7 +28,7 @@ fn found_chunk<'a, H: Labelled + Drop, P: Labelled + Drop, T: Drop>(
 fn own_chunk<'a, H: Labelled + Drop, P: Labelled + Drop, T: Drop>(
     store: &'a Store<H, P, T>,
     owned: &Owned<H, P, T>,
-    seen: &mut Seen<H, P, T>,
+    seen: &mut TypedRowToken<H, P, T>,
 ) -> Place<'a, H, P, T>
     requires block { store_of owned.now ≡ store_name store.now }
     requires token { (store_by seen.old ≡ store_name store.now) × row_is seen.old (owned_number owned.now) }
@@ -44,7 +44,7 @@ fn own_chunk<'a, H: Labelled + Drop, P: Labelled + Drop, T: Drop>(
 fn own_chunk_twice<'a, H: Labelled + Drop, P: Labelled + Drop, T: Drop>(
     store: &'a Store<H, P, T>,
     owned: &Owned<H, P, T>,
-    seen: &mut Seen<H, P, T>,
+    seen: &mut TypedRowToken<H, P, T>,
 ) -> (Place<'a, H, P, T>, Place<'a, H, P, T>)
     requires block { store_of owned.now ≡ store_name store.now }
     requires token { (store_by seen.old ≡ store_name store.now) × row_is seen.old (owned_number owned.now) }
@@ -73,7 +73,10 @@ fn numbers_found(
 }
 
 // A number of the token's row has an entry in it.
-fn has_an_entry<H: Labelled + Drop, P: Labelled + Drop, T>(seen: &Seen<H, P, T>, number: usize)
+fn has_an_entry<H: Labelled + Drop, P: Labelled + Drop, T>(
+    seen: &TypedRowToken<H, P, T>,
+    number: usize,
+)
     requires { row_is seen.now number }
     ensures { entry_of (row_by seen.now) number < length (chunks_by seen.now) }
 {

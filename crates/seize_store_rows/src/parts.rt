@@ -1,6 +1,6 @@
 //! Owners' parts: each is made once, goes with whoever has its chunk, and ends once.
 ghost use Rattle.std.specs.Prelude.{◌≡◌};
-ghost use Rattle.seize_store.specs.Known.{family_in};
+ghost use Rattle.seize_store.specs.RowTokens.{family_in};
 ghost use Rattle.seize_store.specs.Named.{AreOfStore, owned_label, owned_value, store_name, title_of};
 ghost use Rattle.seize_table.specs.Pairs.{pair};
 

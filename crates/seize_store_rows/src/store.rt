@@ -1,11 +1,13 @@
 //! Blocks and their numbers on one thread, and what becomes of their memory.
 ghost use Rattle.std.specs.Prelude.{◌≡◌};
-ghost use Rattle.seize_store.specs.Known.{family_in};
+ghost use Rattle.seize_store.specs.RowTokens.{family_in};
 ghost use Rattle.seize_store.specs.Named.{AreOfStore, owned_value, store_name, title_of};
 
 use crate::node::Node;
 use crate::values::{Counted, Numbered, Pairs, Tallies, Tally, Zero};
-use seize_store::{Bare, Family, Hollow, Known, Labelled, Owned, Place, SPOTS, Seen, Spots, Store};
+use seize_store::{
+    Bare, Family, Hollow, Labelled, Owned, Place, RowToken, SPOTS, Spots, Store, TypedRowToken,
+};
 use seize_table::Refusal;
 use std::alloc::Global;
 use std::mem::size_of;
@@ -435,8 +437,8 @@ fn a_refused_growth_hands_the_value_back(rt: HostRuntime) {
 
 #[test]
 fn tokens_have_no_bytes(rt: HostRuntime) {
-    assert_eq!(rt; size_of::<Known>(), 0);
-    assert_eq!(rt; size_of::<Seen<u64, (), u64>>(), 0);
+    assert_eq!(rt; size_of::<RowToken>(), 0);
+    assert_eq!(rt; size_of::<TypedRowToken<u64, (), u64>>(), 0);
     assert_eq!(rt; size_of::<Owned<u64, (), [u64; 9]>>(), 16);
     assert_eq!(rt; size_of::<Place<u64, (), u64>>(), 16);
     assert_eq!(rt; size_of::<Hollow<u64, (), [u64; 9]>>(), 16);
@@ -497,17 +499,17 @@ fn spots_send<H, P: Labelled + Drop + Send, T>(spots: Spots<H, P, T>) -> Spots<H
 }
 
 // The token of a row passes to threads whatever the types are; one that leads to chunks, and a chunk found, as their headers do.
-fn known_sends(known: Known) -> Known {
+fn known_sends(known: RowToken) -> RowToken {
     is_sent(known)
 }
 
-fn known_shares(known: &Known) -> &Known {
+fn known_shares(known: &RowToken) -> &RowToken {
     is_shared(known)
 }
 
 fn seen_sends<H: Labelled + Drop + Send + Sync, P: Labelled + Drop + Send, T>(
-    seen: Seen<H, P, T>,
-) -> Seen<H, P, T> {
+    seen: TypedRowToken<H, P, T>,
+) -> TypedRowToken<H, P, T> {
     is_sent(seen)
 }
 

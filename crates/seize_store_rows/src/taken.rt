@@ -1,6 +1,6 @@
 //! Values that are taken out of bare blocks: what comes out, and where the chunks go afterwards.
 ghost use Rattle.std.specs.Prelude.{◌≡◌};
-ghost use Rattle.seize_store.specs.Known.{content_in, entry_of, label_in};
+ghost use Rattle.seize_store.specs.RowTokens.{content_in, entry_of, label_in};
 ghost use Rattle.seize_store.specs.Named.{AreOfStore, IsRowOf, bare_content, bare_label, bare_number, bare_value, count_of, count_with, hollow_content, hollow_label, hollow_number, owned_value, store_of, title_of, titles_of, titles_with};
 
 use seize_store::{Bare, Hollow, Labelled, Owned, Spots};

@@ -1,6 +1,6 @@
 //! Blocks from several threads.
 ghost use Rattle.std.specs.Prelude.{◌≡◌};
-ghost use Rattle.seize_store.specs.Known.{family_in};
+ghost use Rattle.seize_store.specs.RowTokens.{family_in};
 ghost use Rattle.seize_store.specs.Named.{store_name};
 
 use crate::values::{Counted, Numbered, Tallies, Tally, Zero};

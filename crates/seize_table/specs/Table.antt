@@ -2,7 +2,7 @@
 --     entry_number b e       the number whose place is entry e of bucket b
 --     IsCell note e c        the bucket that the note knows has the cell c at entry e
 --     IsItem label i x       what i shows of a cell is that it holds the value x, which has that label
---     Shows label bs t f x   the token f shows that the entry of t holds x, in the table of the buckets bs
+--     ShowsEntry label bs t f x   the token f shows that the entry of t holds x, in the table of the buckets bs
 --     IsOf label bs t f      the token f shows some value there
 --     WalksOn n v m          a step of a walk from number n leads to number m, and yields the value v or ends
 use Rattle.std.specs.Prelude.{◌≡◌, ℕ, ◌+◌, ◌-◌, ◌^◌, ◌<◌, ◌≤◌, List, slice_get, IfSome, IfNone}
@@ -37,14 +37,14 @@ pub record IsItem {T : Type 0} (label : T → ℕ) (item : Item T) (value : T) :
 abbrev pub IsCell : Note Row → ℕ → Cell → Type 0
 IsCell note entry cell = (row : Row) × (note.known ≡ Some row) × (slice_get row.items entry ≡ Some cell)
 
-pub record Shows {T : Type 0} (label : T → ℕ) (buckets : List Cell) (thread : Thread) (filled : Filled T) (value : T) : Type 0 where
+pub record ShowsEntry {T : Type 0} (label : T → ℕ) (buckets : List Cell) (thread : Thread) (filled : Filled T) (value : T) : Type 0 where
   pub bucket_is : IsBucket buckets thread.bucket filled.row.cell
   pub entry_is : (cell : Cell) × IsCell filled.row thread.entry cell × (filled.item.note.cell ≡ cell.1)
   pub value_is : IsItem label filled.item value
 
 -- the token is of that entry
 abbrev pub IsOf : {T : Type 0} → (T → ℕ) → List Cell → Thread → Filled T → Type 0
-IsOf {T} label buckets thread filled = (value : T) × Shows label buckets thread filled value
+IsOf {T} label buckets thread filled = (value : T) × ShowsEntry label buckets thread filled value
 
 -- what shows the value of a cell shows that entry e of the row holds x
 abbrev pub HasCell : {T : Type 0} → (T → ℕ) → List Cell → ℕ → Item T → T → Type 0

@@ -3,7 +3,7 @@
 ghost use Rattle.std.specs.Prelude.{◌≡◌, ◌↔◌, ◌+◌, ◌<◌, ◌≤◌, Err, length, IfOk, IfErr, IfSome, IsOkAnd, IsNone, Some, ◌⊎◌};
 ghost use Rattle.seize_table.specs.declared.tls.filled.Filled.{Filled as Token};
 ghost use Rattle.std.specs.Option.{ForSome};
-ghost use Rattle.seize_table.specs.Table.{IsBucket, IsCell, IsOf, Shows};
+ghost use Rattle.seize_table.specs.Table.{IsBucket, IsCell, IsOf, ShowsEntry};
 ghost use Rattle.seize_table.specs.declared.refusal.Refusal.TheVariants.{NoMemory, NoNumbers};
 
 mod all_filled;
@@ -100,7 +100,7 @@ impl<T: Labelled + Drop> ThreadLocal<T> {
     fn first_from(&self, bucket: usize, from: usize) -> Option<(Thread, Loaded<'_, T>)>
         requires { bucket < BUCKETS }
         ensures place { IfSome result (λ found. (found.0.bucket ≡ bucket) × (from ≤ found.0.entry)) }
-        ensures shown { IfSome result (λ found. Shows T.label (cells_of self.now) found.0 found.1.filled found.1.value.now) }
+        ensures shown { IfSome result (λ found. ShowsEntry T.label (cells_of self.now) found.0 found.1.filled found.1.value.now) }
     {
         let mut row = self.buckets[bucket].note();
         let cells = self.buckets[bucket].get_as(&mut row)?;
@@ -143,7 +143,7 @@ impl<T: Labelled + Drop> ThreadLocal<T> {
     where
         F: Drop,
         requires { F.pre create }
-        ensures shown { IfOk result (λ found. Shows T.label (cells_of self.now) thread found.filled found.value.now) }
+        ensures shown { IfOk result (λ found. ShowsEntry T.label (cells_of self.now) thread found.filled found.value.now) }
         ensures refusal { IfErr result (λ e. e ≡ NoMemory) }
     {
         let alloc = self.alloc;
@@ -172,7 +172,7 @@ impl<T: Labelled + Drop> ThreadLocal<T> {
     /// The value comes back where a growth was refused, or where the entry is filled already. Then the entry is as it was; a bucket that
     /// was made stays.
     pub fn put(&self, value: T, thread: Thread) -> Result<Filled<T>, T>
-        ensures shown { IfOk result (λ filled. Shows T.label (cells_of self.now) thread filled value) }
+        ensures shown { IfOk result (λ filled. ShowsEntry T.label (cells_of self.now) thread filled value) }
         ensures back { IfErr result (λ back. back ≡ value) }
     {
         let mut row = self.buckets[thread.bucket].note();
@@ -198,7 +198,7 @@ impl<T: Labelled + Drop> ThreadLocal<T> {
     /// The entry's value, if it is filled, with the token that shows it from then on. It takes no memory and changes nothing:
     /// three loads, of which two depend on one before them, and no atomic write.
     pub fn try_load(&self, thread: Thread) -> Option<Loaded<'_, T>>
-        ensures { IfSome result (λ found. Shows T.label (cells_of self.now) thread found.filled found.value.now) }
+        ensures { IfSome result (λ found. ShowsEntry T.label (cells_of self.now) thread found.filled found.value.now) }
     {
         let mut row = self.buckets[thread.bucket].note();
         let cell = self.buckets[thread.bucket]
@@ -224,7 +224,7 @@ impl<T: Labelled + Drop> ThreadLocal<T> {
     where
         F: Drop,
         requires { F.IsAlwaysCallable create }
-        ensures shown { IfOk result (λ found. Shows T.label (cells_of self.now) thread found.filled found.value.now) }
+        ensures shown { IfOk result (λ found. ShowsEntry T.label (cells_of self.now) thread found.filled found.value.now) }
         ensures refusal { IfErr result (λ e. e ≡ NoMemory) }
     {
         self.fill(create, thread)
@@ -246,8 +246,8 @@ impl<T: Labelled + Drop> ThreadLocal<T> {
         F: Drop,
         requires callable { IsNone seen → F.IsAlwaysCallable create }
         requires of_entry { ForSome seen (IsOf T.label (cells_of self.now) thread) }
-        ensures shown { IfOk result (λ found. Shows T.label (cells_of self.now) thread found.filled found.value.now) }
-        ensures kept { (f : Token T) (x : T) → seen ≡ Some f → Shows T.label (cells_of self.now) thread f x
+        ensures shown { IfOk result (λ found. ShowsEntry T.label (cells_of self.now) thread found.filled found.value.now) }
+        ensures kept { (f : Token T) (x : T) → seen ≡ Some f → ShowsEntry T.label (cells_of self.now) thread f x
             → IsOkAnd result (λ found. found.value.now ≡ x) }
         ensures refusal { IfErr result (λ e. e ≡ NoMemory) }
     {
@@ -263,8 +263,8 @@ impl<T: Labelled + Drop> ThreadLocal<T> {
     /// The value of an entry that was seen filled. It takes no memory and changes nothing.
     pub fn value<'a>(&'a self, thread: Thread, filled: &mut Filled<T>) -> &'a T
         requires { IsOf T.label (cells_of self.now) thread filled.old }
-        ensures value { Shows T.label (cells_of self.now) thread filled.new result.now }
-        ensures same { (x : T) → Shows T.label (cells_of self.now) thread filled.old x → result.now ≡ x }
+        ensures value { ShowsEntry T.label (cells_of self.now) thread filled.new result.now }
+        ensures same { (x : T) → ShowsEntry T.label (cells_of self.now) thread filled.old x → result.now ≡ x }
     {
         let Some(row) = self.buckets[thread.bucket].get_as(&mut filled.row) else {
             unreachable!()
@@ -282,7 +282,7 @@ impl<T: Labelled + Drop> ThreadLocal<T> {
         requires { IsOf T.label (cells_of self.now) thread filled.old }
         ensures token { filled.new ≡ filled.old }
         ensures entry { (result.table ≡ name_of self.now) × (result.number ≡ thread.id) }
-        ensures label { (x : T) → Shows T.label (cells_of self.now) thread filled.old x → result.label ≡ T.label x }
+        ensures label { (x : T) → ShowsEntry T.label (cells_of self.now) thread filled.old x → result.label ≡ T.label x }
     {
         FilledAt::of(self, &thread, &mut filled.row, &mut filled.item.note)
     }
@@ -300,8 +300,8 @@ impl<T: Labelled + Drop> ThreadLocal<T> {
     pub fn agree(&self, thread: Thread, one: &mut Filled<T>, other: Filled<T>)
         requires one { IsOf T.label (cells_of self.now) thread one.old }
         requires other { IsOf T.label (cells_of self.now) thread other }
-        ensures { (x y : T) → Shows T.label (cells_of self.now) thread one.old x
-            → Shows T.label (cells_of self.now) thread other y → x ≡ y }
+        ensures { (x y : T) → ShowsEntry T.label (cells_of self.now) thread one.old x
+            → ShowsEntry T.label (cells_of self.now) thread other y → x ≡ y }
     {
         let Filled { row, item } = other;
         one.row.compare(row);
@@ -319,7 +319,7 @@ impl<T: Labelled + Drop + Default> ThreadLocal<T> {
     ///
     /// As `load_or`: `NoMemory` where a growth was refused; then no entry is filled, and no default was made.
     pub fn load(&self, thread: Thread) -> Result<Loaded<'_, T>, Refusal>
-        ensures shown { IfOk result (λ found. Shows T.label (cells_of self.now) thread found.filled found.value.now) }
+        ensures shown { IfOk result (λ found. ShowsEntry T.label (cells_of self.now) thread found.filled found.value.now) }
         ensures refusal { IfErr result (λ e. e ≡ NoMemory) }
     {
         self.load_or(|| T::default(), thread)

@@ -15,7 +15,7 @@ use Rattle.seize_machine.specs.Machine.Next.{next}
 use Rattle.seize_machine.proofs.Facts.{step_of, is_true, and_true}
 use Rattle.seize_book.specs.Book.{after, IsLegalList}
 use Rattle.seize_book.specs.Entry.{Entry, Made, Used, deeds, timed_deed}
-use Rattle.seize_book.specs.Laws.{life_from, life, lives_after, ended_by, ended_from, ended, none_alive, IsAmong}
+use Rattle.seize_book.specs.Laws.{life_from, life, lives_after, ended_by, ended_from, ended_lives, none_alive, IsAmong}
 use Rattle.seize_book.specs.Tokens.{over}
 use Rattle.seize_words.specs.Units.{all_units, has_units}
 use Rattle.seize_words.proofs.Units.{units, whole}
@@ -55,7 +55,7 @@ still_from st lives (Made x ∷ own) more s l a =
     ⊎_elim (λ k. inl k) (λ k. inr (in_right (ended_by lives x.event) _ _ k)) (still_from (done_by next st (timed_deed x)).0 (lives_after lives x) own more s (and_true _ _ l).1 a)
 
 pub still : (st : State) (own more : List Entry) (s : ℕ) → IsLegalList st (own ++ more) → is_active (head_at (after st own) s) ≡ true
-    → ((is_active (head_at (after st (own ++ more)) s) ≡ true) × (life s (own ++ more) ≡ life s own)) ⊎ IsAmong (ended (own ++ more)) (life s own)
+    → ((is_active (head_at (after st (own ++ more)) s) ≡ true) × (life s (own ++ more) ≡ life s own)) ⊎ IsAmong (ended_lives (own ++ more)) (life s own)
 still st own more s l a = still_from st none_alive own more s l a
 
 module _ {M : Type 1} {𝓤 : Ura M} (𝓛 : Logic 𝓤) where

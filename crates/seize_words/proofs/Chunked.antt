@@ -4,8 +4,8 @@ use Rattle.std.proofs.Common.{◌≡◌, ℕ, ◌+◌, ◌<◌, ◌≤◌, ◌^�
 use Rattle.std.proofs.lemmas.List.Elements.{All-get_or}
 use denote.RawPtr.{Ptr, null_ptr}
 use Rattle.seize_machine.specs.Machine.State.{has}
-use Rattle.seize_store.specs.Known.{content_in, entry_of, family_in, label_in}
-use Rattle.seize_store.specs.declared.known.Known.{Known}
+use Rattle.seize_store.specs.RowTokens.{content_in, entry_of, family_in, label_in}
+use Rattle.seize_store.specs.declared.row_token.RowToken.{RowToken}
 use Rattle.seize_table.specs.Pairs.{left_of, of_family, pair, right_of}
 use Rattle.seize_table.specs.Place.{IsPlace}
 use Rattle.seize_table.proofs.Pairs.{left_pair, right_pair}
@@ -24,9 +24,9 @@ use Rattle.seize_store.specs.Named.{bare_title, hollow_title}
 use Rattle.seize_store.specs.Titled.{content_of, title_label}
 use Rattle.seize_store.specs.declared.bare.Bare.{Bare}
 use Rattle.seize_store.specs.declared.hollow.Hollow.{Hollow}
-use Rattle.seize_store.specs.declared.known.Title.{Title}
+use Rattle.seize_store.specs.declared.row_token.Title.{Title}
 use Rattle.seize_words.specs.Counts.{home}
-use Rattle.seize_words.specs.Chunks.{IsBlockAfter, IsBlockAs, IsBlockIn, IsHollowAfter, IsHollowAs, IsHollowIn, StandsAt}
+use Rattle.seize_words.specs.Chunks.{IsBlockAfter, IsBlockAs, IsBlockIn, IsHollowAfter, IsHollowAs, IsHollowIn, IsLiveAt}
 use Rattle.seize_words.specs.declared.blocks.Blocks.{Blocks}
 use Rattle.seize_words.specs.declared.chunk.Header.{Header}
 use Rattle.seize_words.specs.declared.chunk.Part.{Part}
@@ -54,7 +54,7 @@ abbrev pub label : Header → ℕ
 label header = chunk_label header.book.name (home header.count) header.note.name
 
 -- the labels of a store's chunks are of its family
-pub label_kin : (known : Known) (number : ℕ) → IsPlace number known.row (entry_of known.row number)
+pub label_kin : (known : RowToken) (number : ℕ) → IsPlace number known.row (entry_of known.row number)
     → left_of (label_in known.chunks (entry_of known.row number)) ≡ family_in known.store
 label_kin known number placed = let e : ℕ = entry_of known.row number in let within = placed.within in let long = known.made.1 in let less : e < length known.chunks = omega (arith, within, long) in
     All-get_or (λ (chunk : Ptr × ℕ). of_family (family_in known.store) (left_of chunk.1)) known.chunks e (null_ptr, 0) less known.made.2
@@ -66,7 +66,7 @@ named_seen pass pass' v looks named =
     (named_later (start pass.name) pass.seen pass'.seen v looks.grows looks.legal named)
 
 -- what has the label of the number's chunk has that of each value with this number
-pub found_label : (known : Known) (pass : Pass) (label number : ℕ) → AreAt pass.name known (state_seen pass) → IsPlace number known.row (entry_of known.row number)
+pub found_label : (known : RowToken) (pass : Pass) (label number : ℕ) → AreAt pass.name known (state_seen pass) → IsPlace number known.row (entry_of known.row number)
     → label ≡ label_in known.chunks (entry_of known.row number)
     → (v : ℕ) → has v (state_seen pass).named ≡ true → block_number v ≡ number → label ≡ chunk_label pass.name (home_of v) (cell_of v)
 found_label known pass label number homes placed its v named is =
@@ -74,22 +74,22 @@ found_label known pass label number homes placed its v named is =
     ∙ (homes v named (subst (λ (k : ℕ). IsPlace k known.row (entry_of known.row k)) (sym is) placed)).0)
 
 -- so of two values with one number that stand, as the pass has seen, both are one
-pub stands_once : (known : Known) (pass : Pass) (number v w : ℕ) → AreAt pass.name known (state_seen pass) → IsPlace number known.row (entry_of known.row number) → IsSound (state_seen pass)
-    → StandsAt v number pass → StandsAt w number pass → v ≡ w
+pub stands_once : (known : RowToken) (pass : Pass) (number v w : ℕ) → AreAt pass.name known (state_seen pass) → IsPlace number known.row (entry_of known.row number) → IsSound (state_seen pass)
+    → IsLiveAt v number pass → IsLiveAt w number pass → v ≡ w
 stands_once known pass number v w homes placed sound one other =
     let label : ℕ = label_in known.chunks (entry_of known.row number) in
     let same = sym (found_label known pass label number homes placed refl v one.0 one.2) ∙ found_label known pass label number homes placed refl w other.0 other.2 in
     sound.one v w (same_home pass.name pass.name (home_of v) (cell_of v) (home_of w) (cell_of w) same) one.0 other.0 one.1 other.1
 
 -- and the content of that chunk is the place of each
-pub found_content : (known : Known) (pass : Pass) (number : ℕ) → AreAt pass.name known (state_seen pass) → IsPlace number known.row (entry_of known.row number)
+pub found_content : (known : RowToken) (pass : Pass) (number : ℕ) → AreAt pass.name known (state_seen pass) → IsPlace number known.row (entry_of known.row number)
     → (v : ℕ) → has v (state_seen pass).named ≡ true → block_number v ≡ number → content_in known.chunks (entry_of known.row number) ≡ place_of v
 found_content known pass number homes placed v named is =
     ap (λ (k : ℕ). content_in known.chunks (entry_of known.row k)) (sym is)
     ∙ (homes v named (subst (λ (k : ℕ). IsPlace k known.row (entry_of known.row k)) (sym is) placed)).1
 
 -- a number of the store fits into a word beside 2
-pub number_fits : (known : Known) (number : ℕ) → IsPlace number known.row (entry_of known.row number) → number + 2 < 2 ^ 64
+pub number_fits : (known : RowToken) (number : ℕ) → IsPlace number known.row (entry_of known.row number) → number + 2 < 2 ^ 64
 number_fits known number placed =
     let row : known.row < 59 = known.made.0 in let below : 2 ^ (known.row + 5) ≤ 2 ^ 63 = pow_mono {i = known.row + 5} {j = 63} (omega (arith, row)) in
     let is = placed.place in let within = placed.within in omega (arith, below, is, within)

@@ -13,12 +13,12 @@ use Rattle.seize_machine.proofs.Facts.{Stands, batched_named, is_true, some_is}
 use Rattle.seize_book.specs.Adding.{private}
 use Rattle.seize_words.specs.Atomic.{deed, entries, minus, plus}
 use Rattle.seize_book.specs.Blocks.{Plan, count_word, front_of, no_plan, plans}
-use Rattle.seize_book.specs.Book.{IsLegalList, TheSlot, Kept, after, counts, kind_of, rules, slots}
+use Rattle.seize_book.specs.Book.{IsLegalList, TheSlot, HolderKnows, after, counts, kind_of, rules, slots}
 use Rattle.seize_words.specs.Counts.{Counts, GivesUp, IsAdding, IsWalking, values_in}
 use Rattle.seize_book.specs.Deposits.{deposit}
 use Rattle.seize_book.specs.Entry.{Deed, Entry}
 use Rattle.seize_book.specs.Homes.{count_in}
-use Rattle.seize_book.specs.Ledger.{AllKept, HeldKey, renewed}
+use Rattle.seize_book.specs.Ledger.{HeldKey, HoldersKnow, with_list}
 use Rattle.seize_book.specs.Others.{IsLastIn}
 use Rattle.seize_book.specs.Passes.{IsSamePass}
 use Rattle.seize_book.specs.Private.{is_one, key_of, own_of, AreKeysOf, are_of_blocks, labels_of}
@@ -76,10 +76,10 @@ module _ (k : ℕ) (key : SlotKey) (more held' : List (HeldKey Entry)) (pass pas
   now = after st step.log
 
   -- what the slot's key said just before
-  kept_then : Kept st TheSlot (slot_number key) (own_list key) step.log
+  kept_then : HolderKnows st TheSlot (slot_number key) (own_list key) step.log
   kept_then =
       kept_past (rules st) step.since.1 _ more step.log
-      (subst (λ (hs : List (HeldKey Entry)). AllKept (rules st) (step.since.1 ++ (hs ++ more)) step.log) (only_is slots key.keys.held key.one) step.found.before.kept.1)
+      (subst (λ (hs : List (HeldKey Entry)). HoldersKnow (rules st) (step.since.1 ++ (hs ++ more)) step.log) (only_is slots key.keys.held key.one) step.found.before.kept.1)
 
   its_word : v ≡ count_word (count_in now k)
   its_word = same pass.name k v pass.id pass.seen (key.keys.held ++ more) step.since step.log step.found
@@ -89,25 +89,25 @@ module _ (k : ℕ) (key : SlotKey) (more held' : List (HeldKey Entry)) (pass pas
   stood = deposited pass.name k v pass.id pass.seen (key.keys.held ++ more) step.since step.log step.found
 
   -- the slot's key comes first afterwards, and then those that stood beside the count, if they were traded
-  slots_key : take 1 held' ≡ renewed key.keys.held pass'.seen
+  slots_key : take 1 held' ≡ with_list key.keys.held pass'.seen
   slots_key = ap (take 1) step.keys ∙ either (trades v)
     where
-      either : (b : Bool) → take 1 (renewed (held_then (kind_of counts) b step.since.1 (key.keys.held ++ more)) pass'.seen) ≡ renewed key.keys.held pass'.seen
+      either : (b : Bool) → take 1 (with_list (held_then (kind_of counts) b step.since.1 (key.keys.held ++ more)) pass'.seen) ≡ with_list key.keys.held pass'.seen
       either b =
-          subst (λ (hs : List (HeldKey Entry)). take 1 (renewed (held_then (kind_of counts) b step.since.1 (hs ++ more)) pass'.seen) ≡ renewed hs pass'.seen) (sym (only_is slots key.keys.held key.one)) (of_one b)
+          subst (λ (hs : List (HeldKey Entry)). take 1 (with_list (held_then (kind_of counts) b step.since.1 (hs ++ more)) pass'.seen) ≡ with_list hs pass'.seen) (sym (only_is slots key.keys.held key.one)) (of_one b)
         where
-          of_one : (b : Bool) → take 1 (renewed (held_then (kind_of counts) b step.since.1 (only slots key.keys.held ++ more)) pass'.seen) ≡ renewed (only slots key.keys.held) pass'.seen
+          of_one : (b : Bool) → take 1 (with_list (held_then (kind_of counts) b step.since.1 (only slots key.keys.held ++ more)) pass'.seen) ≡ with_list (only slots key.keys.held) pass'.seen
           of_one true = refl
           of_one false = refl
 
-  other_keys : drop 1 held' ≡ renewed (if trades v then step.since.1 else more) pass'.seen
+  other_keys : drop 1 held' ≡ with_list (if trades v then step.since.1 else more) pass'.seen
   other_keys = ap (drop 1) step.keys ∙ either (trades v)
     where
-      either : (b : Bool) → drop 1 (renewed (held_then (kind_of counts) b step.since.1 (key.keys.held ++ more)) pass'.seen) ≡ renewed (if b then step.since.1 else more) pass'.seen
+      either : (b : Bool) → drop 1 (with_list (held_then (kind_of counts) b step.since.1 (key.keys.held ++ more)) pass'.seen) ≡ with_list (if b then step.since.1 else more) pass'.seen
       either b =
-          subst (λ (hs : List (HeldKey Entry)). drop 1 (renewed (held_then (kind_of counts) b step.since.1 (hs ++ more)) pass'.seen) ≡ renewed (if b then step.since.1 else more) pass'.seen) (sym (only_is slots key.keys.held key.one)) (of_one b)
+          subst (λ (hs : List (HeldKey Entry)). drop 1 (with_list (held_then (kind_of counts) b step.since.1 (hs ++ more)) pass'.seen) ≡ with_list (if b then step.since.1 else more) pass'.seen) (sym (only_is slots key.keys.held key.one)) (of_one b)
         where
-          of_one : (b : Bool) → drop 1 (renewed (held_then (kind_of counts) b step.since.1 (only slots key.keys.held ++ more)) pass'.seen) ≡ renewed (if b then step.since.1 else more) pass'.seen
+          of_one : (b : Bool) → drop 1 (with_list (held_then (kind_of counts) b step.since.1 (only slots key.keys.held ++ more)) pass'.seen) ≡ with_list (if b then step.since.1 else more) pass'.seen
           of_one true = refl
           of_one false = refl
 
@@ -118,7 +118,7 @@ module _ (k : ℕ) (key : SlotKey) (more held' : List (HeldKey Entry)) (pass pas
       let one = after_one slots key.keys.held pass'.seen key.one in let all = is ∙ slots_key in
       let number = ap key_of all ∙ one.0 in let own = ap own_of all ∙ one.1 in
       let legal : IsLegalList st noted.before = subst (IsLegalList st) (sym step.is_log) step.found.before.legal in
-      let kept = subst (Kept st TheSlot (slot_number key) (own_list key)) (sym step.is_log) kept_then in (
+      let kept = subst (HolderKnows st TheSlot (slot_number key) (own_list key)) (sym step.is_log) kept_then in (
         (name, number, own),
         moves key key' pass.name e noted.before (noted.later, noted.answer) book (name ∙ book) its legal noted.does kept number (own ∙ noted.appended),
       )
@@ -212,9 +212,9 @@ module _ (k : ℕ) (key key' : SlotKey) (more held' : List (HeldKey Entry)) (pas
 
 -- after an add they stay with the holder where the count is 0, and none comes
 pub left_with : (k won : ℕ) (key : SlotKey) (values : List (HeldKey Entry)) (held' : List (HeldKey Entry)) (pass pass' : Pass) (v : ℕ) (step : Steps k key values held' pass pass' (plus won) v (AddCount (slot_number key)) (λ v. not (plus won v == 0)))
-    → (a : IsAdding (start pass.name) (slot_number key) (own_list key) k won) → drop 1 held' ≡ renewed (if plus won v == 0 then values else []) pass'.seen
+    → (a : IsAdding (start pass.name) (slot_number key) (own_list key) k won) → drop 1 held' ≡ with_list (if plus won v == 0 then values else []) pass'.seen
 left_with k won key values held' pass pass' v step a =
-    other_keys k key values held' pass pass' (plus won) v e trades step ∙ ap (λ (hs : List (HeldKey Entry)). renewed hs pass'.seen) (either (plus won v == 0))
+    other_keys k key values held' pass pass' (plus won) v e trades step ∙ ap (λ (hs : List (HeldKey Entry)). with_list hs pass'.seen) (either (plus won v == 0))
   where
     e : Event
     e = AddCount (slot_number key)
@@ -244,7 +244,7 @@ module _ (k : ℕ) (key : SlotKey) (held' : List (HeldKey Entry)) (pass pass' : 
   reached : IsReached before
   reached = reached_after pass.name step.log step.found.distinct step.found.before.legal
 
-  pub others_are : drop 1 held' ≡ renewed (if minus 1 v == 0 then step.since.1 else []) pass'.seen
+  pub others_are : drop 1 held' ≡ with_list (if minus 1 v == 0 then step.since.1 else []) pass'.seen
   others_are = other_keys k key [] held' pass pass' (minus 1) v (SubCount (slot_number key)) (λ v. minus 1 v == 0) step
 
   zero_so : (minus 1 v == 0) ≡ is_zero c.count
@@ -261,28 +261,28 @@ module _ (k : ℕ) (key : SlotKey) (held' : List (HeldKey Entry)) (pass pass' : 
   pub labels_are : labels_of (drop 1 held') ≡ (if minus 1 v == 0 then (batch_at before a.batch).values else [])
   labels_are = ap labels_of others_are ∙ either (minus 1 v == 0) refl
     where
-      either : (z : Bool) → (minus 1 v == 0) ≡ z → labels_of (renewed (if z then step.since.1 else []) pass'.seen) ≡ (if z then (batch_at before a.batch).values else [])
+      either : (z : Bool) → (minus 1 v == 0) ≡ z → labels_of (with_list (if z then step.since.1 else []) pass'.seen) ≡ (if z then (batch_at before a.batch).values else [])
       either true done = (keys_later _ step.since.1 pass'.seen (stood k key [] held' pass pass' (minus 1) v (SubCount (slot_number key)) (λ v. minus 1 v == 0) step)).0 ∙ at_zero done
       either false done = refl
 
   pub all_blocks : are_of_blocks (drop 1 held') ≡ true
   all_blocks = ap are_of_blocks others_are ∙ either (minus 1 v == 0)
     where
-      either : (z : Bool) → are_of_blocks (renewed (if z then step.since.1 else []) pass'.seen) ≡ true
+      either : (z : Bool) → are_of_blocks (with_list (if z then step.since.1 else []) pass'.seen) ≡ true
       either true = (keys_later _ step.since.1 pass'.seen (stood k key [] held' pass pass' (minus 1) v (SubCount (slot_number key)) (λ v. minus 1 v == 0) step)).1
       either false = refl
 
   pub all_linked : are_linked (drop 1 held') ≡ true
   all_linked = ap are_linked others_are ∙ either (minus 1 v == 0)
     where
-      either : (z : Bool) → are_linked (renewed (if z then step.since.1 else []) pass'.seen) ≡ true
+      either : (z : Bool) → are_linked (with_list (if z then step.since.1 else []) pass'.seen) ≡ true
       either true = (keys_later _ step.since.1 pass'.seen (stood k key [] held' pass pass' (minus 1) v (SubCount (slot_number key)) (λ v. minus 1 v == 0) step)).2
       either false = refl
 
   pub all_closed : are_joined (drop 1 held') [] ≡ true
   all_closed = ap (λ (hs : List (HeldKey Entry)). are_joined hs []) others_are ∙ either (minus 1 v == 0)
     where
-      either : (z : Bool) → are_joined (renewed (if z then step.since.1 else []) pass'.seen) [] ≡ true
+      either : (z : Bool) → are_joined (with_list (if z then step.since.1 else []) pass'.seen) [] ≡ true
       either true = (keys_later _ step.since.1 pass'.seen (stood k key [] held' pass pass' (minus 1) v (SubCount (slot_number key)) (λ v. minus 1 v == 0) step)).3
       either false = refl
 
@@ -299,7 +299,7 @@ module _ (k : ℕ) (key : SlotKey) (held' : List (HeldKey Entry)) (pass pass' : 
       theirs : AreToldIn pass'.seen step.since.1
       theirs = all_told_later step.log pass'.seen step.since.1 grows (told_then pass.name k v pass.id pass.seen (key.keys.held ++ []) step.since step.log step.found)
 
-      either : (z : Bool) → AreToldIn pass'.seen (renewed (if z then step.since.1 else []) pass'.seen)
+      either : (z : Bool) → AreToldIn pass'.seen (with_list (if z then step.since.1 else []) pass'.seen)
       either true = all_told_renewed pass'.seen step.since.1 pass'.seen theirs
       either false = tt
 
@@ -325,23 +325,23 @@ joined_step word key more both held' pass pass' f v event trades name kind joine
     (λ i. (is_at_count word pass.name name kind i, (joined i, number i))) step
 
 -- keys that stay, or none, are of blocks, and lead on
-pub still_blocks : (done : Bool) (vs : List (HeldKey Entry)) (log : List Entry) → are_of_blocks vs ≡ true → are_of_blocks (renewed (if done then vs else []) log) ≡ true
+pub still_blocks : (done : Bool) (vs : List (HeldKey Entry)) (log : List Entry) → are_of_blocks vs ≡ true → are_of_blocks (with_list (if done then vs else []) log) ≡ true
 still_blocks true vs log are = blocks_later vs log ∙ are
 still_blocks false vs log are = refl
 
-pub still_linked : (done : Bool) (vs : List (HeldKey Entry)) (log : List Entry) → are_linked vs ≡ true → are_linked (renewed (if done then vs else []) log) ≡ true
+pub still_linked : (done : Bool) (vs : List (HeldKey Entry)) (log : List Entry) → are_linked vs ≡ true → are_linked (with_list (if done then vs else []) log) ≡ true
 still_linked true vs log are = are_later vs log ∙ are
 still_linked false vs log are = refl
 
-pub closed_still : (done : Bool) (vs : List (HeldKey Entry)) (log : List Entry) → are_joined vs [] ≡ true → are_joined (renewed (if done then vs else []) log) [] ≡ true
+pub closed_still : (done : Bool) (vs : List (HeldKey Entry)) (log : List Entry) → are_joined vs [] ≡ true → are_joined (with_list (if done then vs else []) log) [] ≡ true
 closed_still true vs log are = still_closed vs log ∙ are
 closed_still false vs log are = refl
 
 -- those that came out know all that was seen
-pub renewed_twice : (done : Bool) (vs held : List (HeldKey Entry)) (log : List Entry) → held ≡ renewed (if done then vs else []) log → held ≡ renewed held log
-renewed_twice done vs held log is = is ∙ sym (twice (if done then vs else [])) ∙ ap (λ (hs : List (HeldKey Entry)). renewed hs log) (sym is)
+pub renewed_twice : (done : Bool) (vs held : List (HeldKey Entry)) (log : List Entry) → held ≡ with_list (if done then vs else []) log → held ≡ with_list held log
+renewed_twice done vs held log is = is ∙ sym (twice (if done then vs else [])) ∙ ap (λ (hs : List (HeldKey Entry)). with_list hs log) (sym is)
   where
-    twice : (hs : List (HeldKey Entry)) → renewed (renewed hs log) log ≡ renewed hs log
+    twice : (hs : List (HeldKey Entry)) → with_list (with_list hs log) log ≡ with_list hs log
     twice [] = refl
     twice (x ∷ hs) = ap (λ (rest : List (HeldKey Entry)). record { kind = x.kind; key = x.key; own = log; label = x.label; note = x.note } ∷ rest) (twice hs)
 
@@ -353,6 +353,6 @@ pub of_those : (P : ℕ → Type 0) (values : List ℕ) (zero : Bool) (labels : 
 of_those P values true labels are all u among = all u (subst (λ (ls : List ℕ). Contains ls u) are among)
 of_those P values false labels are all u among = absurd (not_in_none u (subst (λ (ls : List ℕ). Contains ls u) are among))
 
-pub labels_stay : (done : Bool) (vs : List (HeldKey Entry)) (values : List ℕ) (log : List Entry) → labels_of vs ≡ values → labels_of (renewed (if done then vs else []) log) ≡ (if done then values else [])
+pub labels_stay : (done : Bool) (vs : List (HeldKey Entry)) (values : List ℕ) (log : List Entry) → labels_of vs ≡ values → labels_of (with_list (if done then vs else []) log) ≡ (if done then values else [])
 labels_stay true vs values log is = labels_later vs log ∙ is
 labels_stay false vs values log is = refl

@@ -14,14 +14,14 @@ use Rattle.seize_machine.specs.declared.machine.event.Answer.TheVariants.{Count 
 use Rattle.seize_machine.proofs.Facts.{Step, Stands, eq_true, next_of, reached_next, step_of}
 use Rattle.seize_words.specs.Atomic.{minus, plus}
 use Rattle.seize_book.specs.Blocks.{IsNear, Plan, count_word, front_of, no_plan, plans}
-use Rattle.seize_book.specs.Book.{Kept, TheSlot, Does, IsLegalList, after, births, counts, rules, slots}
+use Rattle.seize_book.specs.Book.{HolderKnows, TheSlot, Does, IsLegalList, after, births, counts, rules, slots}
 use Rattle.seize_words.specs.Counts.{IsAdding, IsWalking}
-use Rattle.seize_book.specs.Chains.{told}
+use Rattle.seize_book.specs.Chains.{field_value}
 use Rattle.seize_book.specs.Deposits.{deposit}
 use Rattle.seize_book.specs.Entry.{Entry, Made, Deed, timed_deed}
 use Rattle.seize_book.specs.Fair.{Covers, NamesHeld, pass_key}
 use Rattle.seize_book.specs.Homes.{IsSound, changes_count, changes_home, count_in, home_of, is_batch_in, is_home, is_in}
-use Rattle.seize_book.specs.Ledger.{HeldKey, AllKept, Beside, Rules, renewed}
+use Rattle.seize_book.specs.Ledger.{HeldKey, HoldersKnow, Beside, Rules, with_list}
 use Rattle.seize_book.specs.Private.{Tag, is_one, key_of, tag_of, own_of, AreKeysOf, are_of_blocks, labels_of}
 use Rattle.seize_words.specs.Stepping.{EndsAmong, FoundAs, IsStep, MayStep, in_step}
 use Rattle.seize_book.specs.Tokens.{Name, start}
@@ -68,7 +68,7 @@ beside_past : (vs : List (HeldKey Entry)) (h : HeldKey Entry) (more : List (Held
 beside_past [] h more r j beside = beside.0
 beside_past (x ∷ vs) h more r j beside = beside_past vs h more r j beside.1
 
-pub kept_past : (rules : Rules Entry) (vs : List (HeldKey Entry)) (h : HeldKey Entry) (more : List (HeldKey Entry)) (log : List Entry) → AllKept rules (vs ++ h ∷ more) log → rules.Kept h.kind h.key h.own log
+pub kept_past : (rules : Rules Entry) (vs : List (HeldKey Entry)) (h : HeldKey Entry) (more : List (HeldKey Entry)) (log : List Entry) → HoldersKnow rules (vs ++ h ∷ more) log → rules.Knows h.kind h.key h.own log
 kept_past rules [] h more log kept = kept.0
 kept_past rules (x ∷ vs) h more log kept = kept_past rules vs h more log kept.1
 
@@ -128,11 +128,11 @@ module _ (n : Name) (k : ℕ) where
     )
 
     made : (trades : Bool) → Does st log (Made e) d → EndsAmong [] log (Made e) → w ≡ count_word (count_in (after st (log ++ Made e ∷ [])) k)
-        → AreKeysOf (deposit (after st (log ++ Made e ∷ [])) k) (renewed (if trades then more else vs) (log ++ Made e ∷ []))
-        → AreToldIn (log ++ Made e ∷ []) (renewed (if trades then more else vs) (log ++ Made e ∷ []))
+        → AreKeysOf (deposit (after st (log ++ Made e ∷ [])) k) (with_list (if trades then more else vs) (log ++ Made e ∷ []))
+        → AreToldIn (log ++ Made e ∷ []) (with_list (if trades then more else vs) (log ++ Made e ∷ []))
         → IsStep (at_count n k) p held_all [] w (Made e) trades (since, vs) own log
     made trades does ends shows stands theirs = record {
-      fair = record { done = d; legal = does; covers = covers; names = names; one = none_named e.size (after st log) e.event d (step_of _ _ _ _ does) (λ j. c.home (after st log) j); leads = unled (after st log) (plans st log) (told log) e.event (λ j. c.head j); labels = no_labels (pass_key p own ∷ in_step (at_count n k) held_all (since, vs)) e.size (after st log) e.event d (step_of _ _ _ _ does) (λ j. c.home (after st log) j); places = no_place (after st log) (pass_key p own ∷ in_step (at_count n k) held_all (since, vs)) (Made e) (makes_none (after st log) e.event c.used) };
+      fair = record { done = d; legal = does; covers = covers; names = names; one = none_named e.size (after st log) e.event d (step_of _ _ _ _ does) (λ j. c.home (after st log) j); leads = unled (after st log) (plans st log) (field_value log) e.event (λ j. c.head j); labels = no_labels (pass_key p own ∷ in_step (at_count n k) held_all (since, vs)) e.size (after st log) e.event d (step_of _ _ _ _ does) (λ j. c.home (after st log) j); places = no_place (after st log) (pass_key p own ∷ in_step (at_count n k) held_all (since, vs)) (Made e) (makes_none (after st log) e.event c.used) };
       its = pe;
       bears = c.births (after st log);
       ends = ends;
@@ -143,7 +143,7 @@ module _ (n : Name) (k : ℕ) where
   -- it is enough to see it for the slot's key, with others after it
   MayStepAs : (p s : ℕ) (x : Tag) (seen slots_own : List Entry) (more : List (HeldKey Entry)) (f : ℕ → ℕ) (e : Deed) (trades : ℕ → Bool) → Type 0
   MayStepAs p s x seen slots_own more f e trades =
-      (v : ℕ) (t : At) (own log : List Entry) → FoundAs (at_count n k) v p seen (key s x slots_own ++ more) [] t log → Kept st TheSlot s slots_own log
+      (v : ℕ) (t : At) (own log : List Entry) → FoundAs (at_count n k) v p seen (key s x slots_own ++ more) [] t log → HolderKnows st TheSlot s slots_own log
       → v ≡ count_word (count_in (after st log) k) → AreKeysOf (deposit (after st log) k) t.1 → AreToldIn log t.1
       → IsStep (at_count n k) p (key s x slots_own ++ more) [] (f v) (Made e) (trades v) t own log
 
@@ -183,7 +183,7 @@ module _ (n : Name) (k : ℕ) where
     pub is_count : count_in (come (after st log) s b count walk queue).0 k ≡ count
     pub word : f v ≡ count_word count
 
-  module _ (s : ℕ) (own log : List Entry) (distinct : are_distinct (linked_values n.links) ≡ true) (legal : IsLegalList st log) (sound : IsSound (after st log)) (kept : Kept st TheSlot s own log) where
+  module _ (s : ℕ) (own log : List Entry) (distinct : are_distinct (linked_values n.links) ≡ true) (legal : IsLegalList st log) (sound : IsSound (after st log)) (kept : HolderKnows st TheSlot s own log) where
     abbrev now : State
     now = after st log
 
@@ -255,14 +255,14 @@ module _ (n : Name) (k : ℕ) where
       → (c : Counting s own log e f v b walk queue) → AreKeysOf (deposit (come (after st log) s b c.count walk queue).0 k) (if trades then more else vs)
       → AreToldIn log (if trades then more else vs)
       → IsStep (at_count n k) p (key s x own ++ more) [] (f v) (Made e) trades (since, vs) mine log
-  counting_step p x v b own mine since log vs more f s e walk queue trades pe legal ends c stands told =
+  counting_step p x v b own mine since log vs more f s e walk queue trades pe legal ends c stands field_value =
       let d : State × Answer = come (after st log) s b c.count walk queue in let push = after_push st log (Made e) d legal c.does in
       made p s x b own mine since log vs more (f v) e pe c.counts_it d c.touched c.in_it trades c.does ends
       (c.word ∙ ap count_word (sym c.is_count) ∙ ap (λ (z : State). count_word (count_in z k)) (sym push))
       (keys_later (deposit (after st (log ++ Made e ∷ [])) k) (if trades then more else vs) (log ++ Made e ∷ []) (subst (λ (z : State). AreKeysOf (deposit z k) (if trades then more else vs)) (sym push) stands))
-      (all_told_renewed (log ++ Made e ∷ []) (if trades then more else vs) (log ++ Made e ∷ []) (all_told_later log (log ++ Made e ∷ []) (if trades then more else vs) (Made e ∷ [], refl) told))
+      (all_told_renewed (log ++ Made e ∷ []) (if trades then more else vs) (log ++ Made e ∷ []) (all_told_later log (log ++ Made e ∷ []) (if trades then more else vs) (Made e ∷ [], refl) field_value))
 
-  module _ (s : ℕ) (own log : List Entry) (distinct : are_distinct (linked_values n.links) ≡ true) (legal : IsLegalList st log) (sound : IsSound (after st log)) (kept : Kept st TheSlot s own log) where
+  module _ (s : ℕ) (own log : List Entry) (distinct : are_distinct (linked_values n.links) ≡ true) (legal : IsLegalList st log) (sound : IsSound (after st log)) (kept : HolderKnows st TheSlot s own log) where
     abbrev before : State
     before = after st log
 
@@ -302,18 +302,18 @@ module _ (n : Name) (k : ℕ) where
       → MayStep (at_count n k) p seen (held ++ more) [] [] (plus won) (λ v log. Made (record { pass = p; size = size; event = AddCount (key_of held); life = 0; kepts = [] })) (λ v. not (plus won v == 0))
   unfolding MayStepAs
   may_add_count p size won seen held more one a these its =
-      may_step p seen held more (plus won) (record { pass = p; size = size; event = AddCount (key_of held); life = 0; kepts = [] }) (λ v. not (plus won v == 0)) one these.1 (λ v t own log found kept word are told.
+      may_step p seen held more (plus won) (record { pass = p; size = size; event = AddCount (key_of held); life = 0; kepts = [] }) (λ v. not (plus won v == 0)) one these.1 (λ v t own log found kept word are field_value.
       let c = adding (key_of held) (own_of held) log found.distinct found.before.legal found.before.sound kept p size won v word a in
       counting_step p (tag_of held) v a.batch (own_of held) own t.0 log t.1 more (plus won) (key_of held) (record { pass = p; size = size; event = AddCount (key_of held); life = 0; kepts = [] }) [] a.queue (not (plus won v == 0)) refl found.before.legal (λ q i. absurd i) c
       (added_keys (key_of held) (own_of held) log found.distinct found.before.legal found.before.sound kept p size won v a c t.1 more are these)
-      (either_told log (not (plus won v == 0)) more t.1 (all_told_later seen log more found.before.grows its) told))
+      (either_told log (not (plus won v == 0)) more t.1 (all_told_later seen log more found.before.grows its) field_value))
 
   pub may_subtract_count : (p size : ℕ) (seen : List Entry) (held : List (HeldKey Entry)) → is_one slots held ≡ true → IsWalking st (key_of held) (own_of held) k
       → MayStep (at_count n k) p seen (held ++ []) [] [] (minus 1) (λ v log. Made (record { pass = p; size = size; event = SubCount (key_of held); life = 0; kepts = [] })) (λ v. minus 1 v == 0)
   unfolding MayStepAs
   may_subtract_count p size seen held one a =
-      may_step p seen held [] (minus 1) (record { pass = p; size = size; event = SubCount (key_of held); life = 0; kepts = [] }) (λ v. minus 1 v == 0) one refl (λ v t own log found kept word are told.
+      may_step p seen held [] (minus 1) (record { pass = p; size = size; event = SubCount (key_of held); life = 0; kepts = [] }) (λ v. minus 1 v == 0) one refl (λ v t own log found kept word are field_value.
       let c = subtracting (key_of held) (own_of held) log found.distinct found.before.legal found.before.sound kept p size v word a in
       counting_step p (tag_of held) v a.batch (own_of held) own t.0 log t.1 [] (minus 1) (key_of held) (record { pass = p; size = size; event = SubCount (key_of held); life = 0; kepts = [] }) a.walk a.queue (minus 1 v == 0) refl found.before.legal (λ q i. absurd i) c
       (taken_keys (key_of held) (own_of held) log found.distinct found.before.legal found.before.sound kept p size v a c t.1 are)
-      (either_told log (minus 1 v == 0) [] t.1 tt told))
+      (either_told log (minus 1 v == 0) [] t.1 tt field_value))

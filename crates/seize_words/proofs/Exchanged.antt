@@ -13,7 +13,7 @@ use Rattle.seize_book.specs.Blocks.{link_word}
 use Rattle.seize_book.specs.Book.{kind_of, IsLegalList, after, blocks, links, rules}
 use Rattle.seize_book.specs.Entry.{Entry}
 use Rattle.seize_book.specs.Homes.{IsVacant, home_of}
-use Rattle.seize_book.specs.Ledger.{AllKept, HeldKey, renewed}
+use Rattle.seize_book.specs.Ledger.{HeldKey, HoldersKnow, with_list}
 use Rattle.seize_words.specs.LinkWords.{ActsOnLink, IsLinkFor, held_before, link_number}
 use Rattle.seize_words.specs.Links.{IsNewIn, at_link, is_at_most_one, value_in}
 use Rattle.seize_book.specs.Others.{state_of}
@@ -33,24 +33,24 @@ use Rattle.seize_book.proofs.Facts.{equal, reached_after, has_last}
 pub is_at : (word : Site) (n : Name) → word.name ≡ n → word.kind ≡ links → word ≡ at_link n word.number
 is_at word n e k = ap (λ (t : Name × ℕ). record { name = t.0; kind = t.1; number = word.number }) (λ j. (e j, k j))
 
-value_of : (o : Option ℕ) (vs : List (HeldKey Entry)) (log : List Entry) → IsKeyOf o vs → value_in (renewed vs log) ≡ o
-value_of None vs log is = ap (λ (hs : List (HeldKey Entry)). value_in (renewed hs log)) is
+value_of : (o : Option ℕ) (vs : List (HeldKey Entry)) (log : List Entry) → IsKeyOf o vs → value_in (with_list vs log) ≡ o
+value_of None vs log is = ap (λ (hs : List (HeldKey Entry)). value_in (with_list hs log)) is
 value_of (Some v) [] log is = absurd (let x : false ≡ true = is.0 in cc)
 value_of (Some v) (x ∷ y ∷ vs) log is = absurd (let x : false ≡ true = is.0 in cc)
 value_of (Some v) (x ∷ []) log is = ap Some is.2
 
-one_of : (o : Option ℕ) (vs : List (HeldKey Entry)) (log : List Entry) → IsKeyOf o vs → is_at_most_one (renewed vs log) ≡ true
-one_of None vs log is = ap (λ (hs : List (HeldKey Entry)). is_at_most_one (renewed hs log)) is
+one_of : (o : Option ℕ) (vs : List (HeldKey Entry)) (log : List Entry) → IsKeyOf o vs → is_at_most_one (with_list vs log) ≡ true
+one_of None vs log is = ap (λ (hs : List (HeldKey Entry)). is_at_most_one (with_list hs log)) is
 one_of (Some v) [] log is = absurd (let x : false ≡ true = is.0 in cc)
 one_of (Some v) (x ∷ y ∷ vs) log is = absurd (let x : false ≡ true = is.0 in cc)
 one_of (Some v) (x ∷ []) log is =
     ap (λ (b : Bool). (x.kind == blocks) && b) (equal x.key (home_of x.label) (is.1 ∙ ap home_of (sym is.2))) ∙ ap (λ (b : Bool). b && true) is.0
 
-same_value : (vs : List (HeldKey Entry)) (log : List Entry) → value_in (renewed vs log) ≡ value_in vs
+same_value : (vs : List (HeldKey Entry)) (log : List Entry) → value_in (with_list vs log) ≡ value_in vs
 same_value [] log = refl
 same_value (x ∷ vs) log = refl
 
-one_later : (vs : List (HeldKey Entry)) (log : List Entry) → is_at_most_one vs ≡ true → is_at_most_one (renewed vs log) ≡ true
+one_later : (vs : List (HeldKey Entry)) (log : List Entry) → is_at_most_one vs ≡ true → is_at_most_one (with_list vs log) ≡ true
 one_later [] log h = refl
 one_later (x ∷ []) log h = h
 one_later (x ∷ y ∷ vs) log h = absurd (cc)
@@ -70,8 +70,8 @@ kept_state size st _ _ _ _ (Step.exchanged s l exchange new can fresh stores) mi
 kept_state size st _ _ _ _ (Step.compared s l exchange can none) misses = refl
 
 -- a value that is new in a list is so in one that leads to the same state
-new_later : (n : Name) (o : Option ℕ) (vs : List (HeldKey Entry)) (log log' : List Entry) → IsLegalList (start n) log → IsNewIn n o vs → AllKept (rules (start n)) vs log → after (start n) log' ≡ after (start n) log → IsNewIn n (value_in (renewed vs log')) (renewed vs log')
-new_later n None vs log log' l new kept same = subst (λ (hs : List (HeldKey Entry)). IsNewIn n (value_in (renewed hs log')) (renewed hs log')) (sym new) refl
+new_later : (n : Name) (o : Option ℕ) (vs : List (HeldKey Entry)) (log log' : List Entry) → IsLegalList (start n) log → IsNewIn n o vs → HoldersKnow (rules (start n)) vs log → after (start n) log' ≡ after (start n) log → IsNewIn n (value_in (with_list vs log')) (with_list vs log')
+new_later n None vs log log' l new kept same = subst (λ (hs : List (HeldKey Entry)). IsNewIn n (value_in (with_list hs log')) (with_list hs log')) (sym new) refl
 new_later n (Some v) [] log log' l new kept same = absurd (let x : false ≡ true = new.0.0 in cc)
 new_later n (Some v) (x ∷ y ∷ vs) log log' l new kept same = absurd (let x : false ≡ true = new.0.0 in cc)
 new_later n (Some v) (x ∷ []) log log' l new kept same =
@@ -83,11 +83,11 @@ new_later n (Some v) (x ∷ []) log log' l new kept same =
       new.3,
     )
 
-renewed_own : (vs : List (HeldKey Entry)) (log : List Entry) (w : ℕ) → value_in (renewed vs log) ≡ Some w → own_of (renewed vs log) ≡ log
+renewed_own : (vs : List (HeldKey Entry)) (log : List Entry) (w : ℕ) → value_in (with_list vs log) ≡ Some w → own_of (with_list vs log) ≡ log
 renewed_own [] log w h = absurd (cc)
 renewed_own (x ∷ vs) log w h = refl
 
-renewed_twice : (vs : List (HeldKey Entry)) (log : List Entry) → renewed vs log ≡ renewed (renewed vs log) log
+renewed_twice : (vs : List (HeldKey Entry)) (log : List Entry) → with_list vs log ≡ with_list (with_list vs log) log
 renewed_twice [] log = refl
 renewed_twice (x ∷ vs) log = ap (λ (hs : List (HeldKey Entry)). record { kind = x.kind; key = x.key; own = log; label = x.label; note = x.note } ∷ hs) (renewed_twice vs log)
 
@@ -111,8 +111,8 @@ module _ (link : Link) (a : Activation) (pass pass' : Pass) (in_ : IsLinkFor lin
   its_key : IsKeyOf (link_at (after (start pass.name) step.log) (link_number link)) step.since.1
   its_key = subst (λ (o : Option ℕ). IsKeyOf o step.since.1) held step.found.stands
 
-  had : (b : Bool) → trades v ≡ b → keys'.held ≡ renewed (held_then (kind_of links) b step.since.1 keys.held) pass'.seen
-  had b e = step.keys ∙ ap (λ (c : Bool). renewed (held_then (kind_of links) c step.since.1 keys.held) pass'.seen) e
+  had : (b : Bool) → trades v ≡ b → keys'.held ≡ with_list (held_then (kind_of links) b step.since.1 keys.held) pass'.seen
+  had b e = step.keys ∙ ap (λ (c : Bool). with_list (held_then (kind_of links) c step.since.1 keys.held) pass'.seen) e
 
   -- where the keys changed places, it came out
   pub came_out : trades v ≡ true → value_in keys'.held ≡ held_before taken
@@ -158,8 +158,8 @@ module _ (link : Link) (a : Activation) (pass pass' : Pass) (in_ : IsLinkFor lin
       subst (λ (t : Name × List (HeldKey Entry)). IsNewIn t.0 (value_in t.1) t.1) (λ j. (sym (told.1 ∙ book) j, sym (had false e) j))
       (new_later pass.name (value_in keys.held) keys.held step.log pass'.seen step.found.before.legal new kept (step.noted.leads ∙ same))
 
-  pub knows_all : keys'.held ≡ renewed keys'.held pass'.seen
-  knows_all = step.keys ∙ renewed_twice (held_then (kind_of links) (trades v) step.since.1 keys.held) pass'.seen ∙ ap (λ (hs : List (HeldKey Entry)). renewed hs pass'.seen) (sym step.keys)
+  pub knows_all : keys'.held ≡ with_list keys'.held pass'.seen
+  knows_all = step.keys ∙ renewed_twice (held_then (kind_of links) (trades v) step.since.1 keys.held) pass'.seen ∙ ap (λ (hs : List (HeldKey Entry)). with_list hs pass'.seen) (sym step.keys)
 
   -- and there is still at most one key
   pub still_one : is_at_most_one keys.held ≡ true → is_at_most_one keys'.held ≡ true

@@ -11,14 +11,14 @@ use Rattle.seize_machine.specs.declared.machine.event.Answer.{Answer}
 use Rattle.seize_machine.specs.declared.machine.event.Answer.TheVariants.{Link as Held_}
 use Rattle.seize_machine.proofs.Facts.{Step, and_true, eq_true, is_true, links_length, next_of, step_of}
 use Rattle.atomic_table.proofs.Lists as kit
-use Rattle.seize_words.specs.Atomic.{exchanged}
+use Rattle.seize_words.specs.Atomic.{after_exchange}
 use Rattle.seize_book.specs.Blocks.{link_word}
 use Rattle.seize_book.specs.Book.{Does, IsLegalList, after, blocks, kinds}
 use Rattle.seize_book.specs.Entry.{Deed, Entry, Made, Used}
 use Rattle.seize_book.specs.Homes.{home_of}
-use Rattle.seize_book.specs.Laws.{IsAmong, Reader, ended, life}
+use Rattle.seize_book.specs.Laws.{IsAmong, Reader, ended_lives, life}
 use Rattle.seize_book.specs.Ledger.{HeldKey, WithKinds}
-use Rattle.seize_words.specs.Links.{IsNewIn, IsWithin, at_link, compared, is_at_most_one, value_in}
+use Rattle.seize_words.specs.Links.{IsNewIn, IsWithin, at_link, comparand, is_at_most_one, value_in}
 use Rattle.seize_words.specs.Stepping.{FoundAs, IsStep, MayStep}
 use Rattle.seize_book.specs.Tokens.{Name, start}
 use Rattle.seize_book.proofs.Facts.{after_push, equal, unequal}
@@ -50,7 +50,7 @@ module _ (n : Name) (s a l : ℕ) (since seen : List Entry) (in_ : IsWithin n s 
       (on.0, subst (λ (k : ℕ). l < k) (sym (links_stay st log found.before.legal)) in_.is_link, on.1)
     where
       During : List Entry → ℕ → Type 0
-      During z b = ((is_active (head_at (after st z) s) ≡ true) × (life s z ≡ b)) ⊎ IsAmong (ended z) b
+      During z b = ((is_active (head_at (after st z) s) ≡ true) × (life s z ≡ b)) ⊎ IsAmong (ended_lives z) b
 
       now : IsPrefix since log → During log a
       now grows =
@@ -97,10 +97,10 @@ module _ (n : Name) (s a l : ℕ) (since seen : List Entry) (in_ : IsWithin n s 
   same_words None (Some w) h = absurd (cc)
   same_words (Some v) None h = absurd (cc)
 
-  pub hit : (current old o : Option ℕ) → link_word old ≡ link_word current → is_stored old (Compare (compared current old) o) ≡ true
+  pub hit : (current old o : Option ℕ) → link_word old ≡ link_word current → is_stored old (Compare (comparand current old) o) ≡ true
   hit current old o e = ap (λ (b : Bool). same_link old (if b then old else current)) (equal (link_word old) (link_word current) e) ∙ is_same old
 
-  pub missed : (current old o : Option ℕ) → link_word old ≢ link_word current → is_stored old (Compare (compared current old) o) ≡ false
+  pub missed : (current old o : Option ℕ) → link_word old ≢ link_word current → is_stored old (Compare (comparand current old) o) ≡ false
   missed current old o differs = ap (λ (b : Bool). same_link old (if b then old else current)) (unequal (link_word old) (link_word current) differs) ∙ apart (is_true (same_link old current))
     where
       apart : (same_link old current ≡ true) ⊎ (same_link old current ≡ false) → same_link old current ≡ false
@@ -108,30 +108,30 @@ module _ (n : Name) (s a l : ℕ) (since seen : List Entry) (in_ : IsWithin n s 
       apart (inr h) = h
 
   pub may_compare_link : (p size new : ℕ) (current : Option ℕ) (held : List (HeldKey Entry)) → is_at_most_one held ≡ true → IsNewIn n (value_in held) held → new ≡ link_word (value_in held)
-      → MayStep (at_link n l) p seen held (a ∷ []) [] (exchanged (link_word current) new)
-      (λ v log. Made (record { pass = p; size = size; event = ExchangeLink s l (Compare (compared current (link_at (after st log) l)) (value_in held)); life = 0; kepts = [] })) (λ v. v == link_word current)
+      → MayStep (at_link n l) p seen held (a ∷ []) [] (after_exchange (link_word current) new)
+      (λ v log. Made (record { pass = p; size = size; event = ExchangeLink s l (Compare (comparand current (link_at (after st log) l)) (value_in held)); life = 0; kepts = [] })) (λ v. v == link_word current)
   may_compare_link p size new current held one fresh word = (all_blocks held one, step)
     where
       e : List Entry → Entry
-      e log = Made (record { pass = p; size = size; event = ExchangeLink s l (Compare (compared current (link_at (after st log) l)) (value_in held)); life = 0; kepts = [] })
+      e log = Made (record { pass = p; size = size; event = ExchangeLink s l (Compare (comparand current (link_at (after st log) l)) (value_in held)); life = 0; kepts = [] })
 
       step : (v : ℕ) (t : At) (own log : List Entry) → FoundAs (at_link n l) v p seen held (a ∷ []) t log
-          → IsStep (at_link n l) p held [] (exchanged (link_word current) new v) (Made (record { pass = p; size = size; event = ExchangeLink s l (Compare (compared current (link_at (after st log) l)) (value_in held)); life = 0; kepts = [] })) (v == link_word current) t own log
+          → IsStep (at_link n l) p held [] (after_exchange (link_word current) new v) (Made (record { pass = p; size = size; event = ExchangeLink s l (Compare (comparand current (link_at (after st log) l)) (value_in held)); life = 0; kepts = [] })) (v == link_word current) t own log
       step v t own log found =
           let w = within v p held t log found in let old : Option ℕ = link_at (after st log) l in let is : v ≡ link_word old = found.shows ∙ ap link_word (same n l v p seen held (a ∷ []) t log found) in
-          let goal : ℕ → Type 0 = λ x. IsStep (at_link n l) p held [] x (Made (record { pass = p; size = size; event = ExchangeLink s l (Compare (compared current old) (value_in held)); life = 0; kepts = [] })) (v == link_word current) t own log in
+          let goal : ℕ → Type 0 = λ x. IsStep (at_link n l) p held [] x (Made (record { pass = p; size = size; event = ExchangeLink s l (Compare (comparand current old) (value_in held)); life = 0; kepts = [] })) (v == link_word current) t own log in
           kit.exchanged v (link_word current) new goal
-          (λ same. subst (λ (b : Bool). IsStep (at_link n l) p held [] new (Made (record { pass = p; size = size; event = ExchangeLink s l (Compare (compared current old) (value_in held)); life = 0; kepts = [] })) b t own log) (sym (equal v (link_word current) same))
-          (store_step n l v p size s seen held (a ∷ []) t own log found w.0 w.1 (value_in held) (Compare (compared current old) (value_in held)) refl fresh new word (hit current old (value_in held) (sym is ∙ same))))
-          (λ differs. subst (λ (b : Bool). IsStep (at_link n l) p held [] v (Made (record { pass = p; size = size; event = ExchangeLink s l (Compare (compared current old) (value_in held)); life = 0; kepts = [] })) b t own log) (sym (unequal v (link_word current) differs))
-          (miss_step n l v p size s seen held (a ∷ []) t own log found w.0 w.1 (value_in held) (Compare (compared current old) (value_in held)) refl fresh (missed current old (value_in held) (λ x. differs (is ∙ x)))))
+          (λ same. subst (λ (b : Bool). IsStep (at_link n l) p held [] new (Made (record { pass = p; size = size; event = ExchangeLink s l (Compare (comparand current old) (value_in held)); life = 0; kepts = [] })) b t own log) (sym (equal v (link_word current) same))
+          (store_step n l v p size s seen held (a ∷ []) t own log found w.0 w.1 (value_in held) (Compare (comparand current old) (value_in held)) refl fresh new word (hit current old (value_in held) (sym is ∙ same))))
+          (λ differs. subst (λ (b : Bool). IsStep (at_link n l) p held [] v (Made (record { pass = p; size = size; event = ExchangeLink s l (Compare (comparand current old) (value_in held)); life = 0; kepts = [] })) b t own log) (sym (unequal v (link_word current) differs))
+          (miss_step n l v p size s seen held (a ∷ []) t own log found w.0 w.1 (value_in held) (Compare (comparand current old) (value_in held)) refl fresh (missed current old (value_in held) (λ x. differs (is ∙ x)))))
 
   -- and where something else is there, finds that
   pub compare_finds : (p size : ℕ) (current : Option ℕ) (held : List (HeldKey Entry)) → IsNewIn n (value_in held) held → (v : ℕ) (t : At) (log : List Entry) → FoundAs (at_link n l) v p seen held (a ∷ []) t log → (v == link_word current) ≡ false → (w : ℕ)
-      → link_at (after st (log ++ Made (record { pass = p; size = size; event = ExchangeLink s l (Compare (compared current (link_at (after st log) l)) (value_in held)); life = 0; kepts = [] }) ∷ [])) l ≡ Some w
-      → Reader st (log ++ Made (record { pass = p; size = size; event = ExchangeLink s l (Compare (compared current (link_at (after st log) l)) (value_in held)); life = 0; kepts = [] }) ∷ []) w a
+      → link_at (after st (log ++ Made (record { pass = p; size = size; event = ExchangeLink s l (Compare (comparand current (link_at (after st log) l)) (value_in held)); life = 0; kepts = [] }) ∷ [])) l ≡ Some w
+      → Reader st (log ++ Made (record { pass = p; size = size; event = ExchangeLink s l (Compare (comparand current (link_at (after st log) l)) (value_in held)); life = 0; kepts = [] }) ∷ []) w a
   compare_finds p size current held fresh v t log found differs w is =
-      let now : State = after st log in let old : Option ℕ = link_at now l in let o : Option ℕ = value_in held in let exchange : Exchange = Compare (compared current old) o in
+      let now : State = after st log in let old : Option ℕ = link_at now l in let o : Option ℕ = value_in held in let exchange : Exchange = Compare (comparand current old) o in
       let e : Deed = record { pass = p; size = size; event = ExchangeLink s l exchange; life = 0; kepts = [] } in let d : State × Answer = (now, Held_ old) in let here = within v p held t log found in
       let shows : v ≡ link_word old = found.shows ∙ ap link_word (same n l v p seen held (a ∷ []) t log found) in
       let not_seen : link_word old ≢ link_word current = λ x. absurd (let both : true ≡ false = sym (equal v (link_word current) (shows ∙ x)) ∙ differs in cc) in

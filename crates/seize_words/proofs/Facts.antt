@@ -10,9 +10,9 @@ use Rattle.seize_machine.specs.Machine.Next.{next}
 use Rattle.seize_machine.specs.declared.machine.event.Answer.{Answer}
 use Rattle.seize_machine.proofs.Facts.{linked_named, note_within, some_is}
 use Rattle.seize_book.specs.Adding.{private}
-use Rattle.seize_book.specs.Blocks.{Plan, block_for, block_in, block_number, front_of, link_word, list_word, no_plan, planned_by, plans, serving}
+use Rattle.seize_book.specs.Blocks.{Plan, block_for, block_in, block_number, front_of, link_word, list_word, no_plan, plan_value, planned_by, plans}
 use Rattle.seize_book.specs.Book.{IsLegalList, after, mine}
-use Rattle.seize_book.specs.Chains.{front_block, served}
+use Rattle.seize_book.specs.Chains.{front_block, insertion_value}
 use Rattle.seize_book.specs.Entry.{Deed, Entry, Made, Used}
 use Rattle.seize_words.specs.Activations.{with_units}
 use Rattle.seize_words.specs.Chunks.{IsFoundAt}
@@ -26,9 +26,9 @@ use Rattle.seize_book.specs.Laws.{life, starts}
 use Rattle.seize_words.specs.LinkWords.{ActsOnLink, IsLinkFor, held_before, link_number}
 use Rattle.seize_words.specs.Links.{IsWithin}
 use Rattle.seize_book.specs.Passes.{IsSamePass, LooksOn, events_by, events_in, mine_of}
-use Rattle.seize_book.specs.Slots.{IsKeyOfBook, Moves, NotesAs, life_of, own_list, slot_number, slot_of, start_of}
+use Rattle.seize_book.specs.Slots.{AddsDeed, IsKeyOfBook, Moves, life_of, own_list, slot_number, slot_of, start_of}
 use Rattle.seize_book.specs.Loans.{CarriesOne}
-use Rattle.seize_book.specs.Tokens.{Name, Noted, start}
+use Rattle.seize_book.specs.Tokens.{AddsEntry, Name, start}
 use Rattle.seize_words.specs.Totals.{slots_seen}
 use Rattle.seize_book.proofs.Facts.{front_there, legal_front, reached_after, AllLess, blocks_stay, legal_prefix, plan_stays, plans_append, plans_long, saw_there, tried_there}
 use Rattle.seize_words.proofs.Heads.{slots_grow}
@@ -78,7 +78,7 @@ use Rattle.seize_words.specs.declared.glimpse.Glimpse.{Glimpse}
 use Rattle.seize_words.specs.declared.link.Link.{Link}
 
 -- what was made with a pass has grown by the event and its answer
-deed_grew : (pass pass' : Pass) (d : Deed) → IsSamePass pass pass' → (noted : Noted pass.name pass.id pass.seen pass'.seen (Made d)) → mine_of pass' ≡ mine_of pass ++ (Made d, noted.answer) ∷ []
+deed_grew : (pass pass' : Pass) (d : Deed) → IsSamePass pass pass' → (noted : AddsEntry pass.name pass.id pass.seen pass'.seen (Made d)) → mine_of pass' ≡ mine_of pass ++ (Made d, noted.answer) ∷ []
 deed_grew pass pass' d same noted =
     ap (λ (n : Name). mine (start n) pass'.id pass'.seen) same.0 ∙ ap (λ (p : ℕ). mine (start pass.name) p pass'.seen) same.1 ∙ noted.made
 
@@ -89,10 +89,10 @@ events_append [] ys = refl
 events_append ((Made d, answer) ∷ xs) ys = ap (λ (made : List (Deed × Answer)). (d, answer) ∷ made) (events_append xs ys)
 events_append ((Used u, answer) ∷ xs) ys = events_append xs ys
 
-pub deeds_grew : (pass pass' : Pass) (d : Deed) → IsSamePass pass pass' → (noted : Noted pass.name pass.id pass.seen pass'.seen (Made d)) → events_by pass' ≡ events_by pass ++ (d, noted.answer) ∷ []
+pub deeds_grew : (pass pass' : Pass) (d : Deed) → IsSamePass pass pass' → (noted : AddsEntry pass.name pass.id pass.seen pass'.seen (Made d)) → events_by pass' ≡ events_by pass ++ (d, noted.answer) ∷ []
 deeds_grew pass pass' d same noted = ap events_in (deed_grew pass pass' d same noted) ∙ events_append (mine_of pass) ((Made d, noted.answer) ∷ [])
 
-pub events_grew : (pass pass' : Pass) (event : Event) → IsSamePass pass pass' → (noted : Noted pass.name pass.id pass.seen pass'.seen (Made (private pass event)))
+pub events_grew : (pass pass' : Pass) (event : Event) → IsSamePass pass pass' → (noted : AddsEntry pass.name pass.id pass.seen pass'.seen (Made (private pass event)))
     → events_by pass' ≡ events_by pass ++ (private pass event, noted.answer) ∷ []
 events_grew pass pass' event same noted = deeds_grew pass pass' (private pass event) same noted
 
@@ -112,7 +112,7 @@ pub answered : (key key' : SlotKey) (log : List Entry) (e : Deed) (later : State
 answered key key' log e later answer moves d is = ap (λ (x : State × Answer). x.1) (some_is _ _ (sym moves.legal ∙ is))
 
 -- an event that begins no activation leaves the slot's last one as it was
-pub life_kept : (key key' : SlotKey) (pass pass' : Pass) (e : Deed) → NotesAs key pass key' pass' e → starts (slot_number key) e.event ≡ false → life_of key' ≡ life_of key
+pub life_kept : (key key' : SlotKey) (pass pass' : Pass) (e : Deed) → AddsDeed key pass key' pass' e → starts (slot_number key) e.event ≡ false → life_of key' ≡ life_of key
 life_kept key key' pass pass' e noted none =
     let n = noted.2.0 in
     ap (λ (k : ℕ). life k (own_list key')) noted.1.1 ∙ ap (life (slot_number key)) (noted.1.2 ∙ n.appended) ∙ life_push (slot_number key) n.before e ∙ ap (λ (b : Bool). if b then e.life else life (slot_number key) n.before) none ∙ noted.2.1.lived
@@ -122,7 +122,7 @@ pub planned_after : (st : State) (log : List Entry) (e : Deed) → plans st (log
 planned_after st log e = plans_append st log (Made e ∷ []) ∙ ap (λ (ps : List Plan). plans st log ++ ps) (append-nil (planned_by (after st log) e.event))
 
 -- the plan of a batch that was detached, and so its front, stays in all that the slot's key knows later
-pub plan_kept : (key key' : SlotKey) (pass pass' : Pass) (e : Deed) (b v : ℕ) → NotesAs key pass key' pass' e → front_of (start_of key) (own_list key) b ≡ Some v
+pub plan_kept : (key key' : SlotKey) (pass pass' : Pass) (e : Deed) (b v : ℕ) → AddsDeed key pass key' pass' e → front_of (start_of key) (own_list key) b ≡ Some v
     → slice_index_or (plans (start_of key') (own_list key')) b no_plan ≡ slice_index_or (plans (start_of key) (own_list key)) b no_plan
 plan_kept key key' pass pass' e b v noted front =
     let n = noted.2.0 in let m = noted.2.1 in
@@ -131,7 +131,7 @@ plan_kept key key' pass pass' e b v noted front =
     ∙ sym (plan_stays (start_of key) (own_list key) (own_list key') b grows (front_there (start_of key) (own_list key) b v front))
 
 -- what a pass has seen begins with what it had seen before an event
-pub seen_grows : (n : Name) (p : ℕ) (seen seen' : List Entry) (e : Entry) → Noted n p seen seen' e → IsPrefix seen seen'
+pub seen_grows : (n : Name) (p : ℕ) (seen seen' : List Entry) (e : Entry) → AddsEntry n p seen seen' e → IsPrefix seen seen'
 seen_grows n p seen seen' e noted = prefix_trans seen noted.before seen' noted.grows (e ∷ [], sym noted.appended)
 
 -- A use of a field leaves a call where it was, which is about to insert its batch: at the same head, after the same word, with the same block.
@@ -182,8 +182,8 @@ module _ (key key' : SlotKey) (pass pass' : Pass) (f v : ℕ) (uses : Uses key p
     front_same = ap (λ (plan : Plan). block_number (unwrap_or (first_or_none plan.values) 0)) (plan_same t.batch tried)
 
     -- so do its fields
-    pub field_same : (which : ℕ → ℕ) → which (home_of (served (plans (start_of key') (own_list key')) t.batch m)) ≡ which (home_of (served (plans (start_of key) (own_list key)) t.batch m))
-    field_same which = ap (λ (plan : Plan). which (home_of (serving m plan.slots plan.values))) (plan_same t.batch tried)
+    pub field_same : (which : ℕ → ℕ) → which (home_of (insertion_value (plans (start_of key') (own_list key')) t.batch m)) ≡ which (home_of (insertion_value (plans (start_of key) (own_list key)) t.batch m))
+    field_same which = ap (λ (plan : Plan). which (home_of (plan_value m plan.slots plan.values))) (plan_same t.batch tried)
 
   -- the fields in which it may store are the same
   abbrev pub still_stores : (which : ℕ → ℕ) (g : ℕ) → Stores which g key → Stores which g key'

@@ -7,13 +7,13 @@ use Rattle.seize_machine.specs.Machine.State.{State, Rest, has, linked_values, a
 use Rattle.seize_machine.specs.Machine.History.{first_or_none}
 use Rattle.seize_machine.specs.Machine.Laws.{IsHeld, Walks, walk_of}
 use Rattle.seize_machine.proofs.Facts.{batched_named}
-use Rattle.seize_store.specs.Known.{entry_of, label_in}
-use Rattle.seize_store.specs.declared.known.Known.{Known}
+use Rattle.seize_store.specs.RowTokens.{entry_of, label_in}
+use Rattle.seize_store.specs.declared.row_token.RowToken.{RowToken}
 use Rattle.seize_table.specs.Place.{IsPlace}
 use Rattle.seize_book.specs.Blocks.{Plan, block_number, front_of, no_plan, plans}
 use Rattle.std.specs.Prelude.{slice_index_or, unwrap_or}
 use Rattle.seize_book.specs.Book.{IsLegalList, after}
-use Rattle.seize_book.specs.Chains.{served}
+use Rattle.seize_book.specs.Chains.{insertion_value}
 use Rattle.seize_book.specs.Entry.{Entry}
 use Rattle.seize_book.specs.Loans.{cell_of}
 use Rattle.seize_book.specs.Homes.{home_of}
@@ -45,17 +45,17 @@ module _ (n : Name) (log : List Entry) (distinct : are_distinct (linked_values n
       batched_named now (reached_after n log distinct legal) b v (subst (λ (values : List ℕ). Contains values v) (sym (held_values n log distinct legal b held)) there)
 
   -- that in whose block a batch waits for the slot that walks it
-  pub walked_living : (b s : ℕ) → Walks now s b → IsLiving (served (plans (start n) log) b s) now
+  pub walked_living : (b s : ℕ) → Walks now s b → IsLiving (insertion_value (plans (start n) log) b s) now
   walked_living b s walks =
       let marked = marked_after n log distinct legal in let ps : List Plan = plans (start n) log in
-      held_living b (served ps b s) (inr (inl (s, walks))) (serving_in s (slots_in ps b) (values_of (start n) log b) (walks_marked now ps s b marked walks) (marked.fits b).1)
+      held_living b (insertion_value ps b s) (inr (inl (s, walks))) (serving_in s (slots_in ps b) (values_of (start n) log b) (walks_marked now ps s b marked walks) (marked.fits b).1)
 
   -- and the first one, where the count stands
   pub front_living : (b v s : ℕ) → Walks now s b → front_of (start n) log b ≡ Some v → IsLiving v now
   front_living b v s walks front = held_living b v (inr (inl (s, walks))) (first_contained (values_of (start n) log b) v front)
 
 -- What a slot's call finds whose next batch this is: the pass has seen what its key knows, and the token's row.
-module _ (known : Known) (key : SlotKey) (pass : Pass) (book : IsKeyOfBook key pass) (grows : IsPrefix (own_list key) pass.seen) (legal : IsLegalList (start pass.name) pass.seen)
+module _ (known : RowToken) (key : SlotKey) (pass : Pass) (book : IsKeyOfBook key pass) (grows : IsPrefix (own_list key) pass.seen) (legal : IsLegalList (start pass.name) pass.seen)
     (distinct : are_distinct (linked_values pass.name.links) ≡ true) (homes : AreAt pass.name known (state_seen pass)) (b : ℕ) (walk queue : List ℕ)
     (walking : (slot_of key).call ≡ Some (record { place = Rest [] (b ∷ walk); queue = queue })) where
   abbrev st : State

@@ -15,12 +15,12 @@ use Rattle.seize_machine.specs.Machine.State.{link_at}
 use Rattle.seize_words.specs.Atomic.{FindsFor}
 use Rattle.seize_book.specs.Book.{after, kind_of, links}
 use Rattle.seize_book.specs.Entry.{Entry, entry_coded}
-use Rattle.seize_words.specs.Glimpses.{glimpse, shown, sight_if, sight_of, taken_if, taken_share}
+use Rattle.seize_words.specs.Glimpses.{glimpse, sight_if, sight_of, taken_if, taken_share, value_shown}
 use Rattle.seize_book.specs.Ledger.{HeldKey, reached}
 use Rattle.seize_book.specs.Loans.{Carries, loan_of}
 use Rattle.seize_words.specs.Stepping.{At, FoundAs}
 use Rattle.seize_book.specs.Tokens.{Name, keys_own, pass_holds, start}
-use Rattle.seize_words.specs.Words.{IsKeyOf, Site, Stands, StandsOf}
+use Rattle.seize_words.specs.Words.{AreOtherKeys, AreOtherKeysOf, IsKeyOf, Site}
 use Rattle.seize_book.specs.declared.book.pass.Pass.{Pass}
 use Rattle.seize_book.proofs.Lives.{living}
 use Rattle.seize_book.proofs.Peeks.{sight_laws}
@@ -54,7 +54,7 @@ module _ {M : Type 1} {𝓤 : Ura M} (𝓛 : Logic 𝓤) where
     n = site.name
 
     abbrev pub seen_there : ℕ → At → Option ℕ
-    seen_there v t = shown (trades v) (link_at (after (start n) t.0) site.number)
+    seen_there v t = value_shown (trades v) (link_at (after (start n) t.0) site.number)
 
     abbrev pub had_of : ℕ → At → Fml
     had_of v t = fsep (living 𝓛 (a ∷ []) r) (taken_share γ (seen_there v t))
@@ -71,14 +71,14 @@ module _ {M : Type 1} {𝓤 : Ura M} (𝓛 : Logic 𝓤) where
     abbrev old : ℕ → List Entry → Option ℕ
     old v log = link_at (after (start n) (log_of v log)) site.number
 
-    is_key : site.kind ≡ links → (v : ℕ) (t : At) (log : List Entry) → Stands site (log_of v log) (left v t log) → IsKeyOf (old v log) (left v t log)
-    is_key link v t log stands = subst (λ (k : ℕ). StandsOf n (kind_of k) site.number (log_of v log) (left v t log)) link stands
+    is_key : site.kind ≡ links → (v : ℕ) (t : At) (log : List Entry) → AreOtherKeys site (log_of v log) (left v t log) → IsKeyOf (old v log) (left v t log)
+    is_key link v t log stands = subst (λ (k : ℕ). AreOtherKeysOf n (kind_of k) site.number (log_of v log) (left v t log)) link stands
 
     Shares : ℕ → At → List Entry → Bool → Type 1
     Shares v t log b =
-        ⟦ reached entry_coded n.log (log_of v log) ⟧ ∗ ⟦ keys_own n (left v t log) ⟧ ∗ ⟦ ready γ ⟧ ∗ ⟦ flent (a ∷ []) (escrow γ) ⟧ ⊢ upd 𝓤 (⟦ keys_own n (left v t log) ⟧ ∗ ⟦ taken_share γ (shown b (old v log)) ⟧)
+        ⟦ reached entry_coded n.log (log_of v log) ⟧ ∗ ⟦ keys_own n (left v t log) ⟧ ∗ ⟦ ready γ ⟧ ∗ ⟦ flent (a ∷ []) (escrow γ) ⟧ ⊢ upd 𝓤 (⟦ keys_own n (left v t log) ⟧ ∗ ⟦ taken_share γ (value_shown b (old v log)) ⟧)
 
-    shares : (link : site.kind ≡ links) → FindsFor site pass held a entry trades → (v : ℕ) (t : At) (log : List Entry) → FoundAs site v pass.id pass.seen held (a ∷ []) t log → Stands site (log_of v log) (left v t log)
+    shares : (link : site.kind ≡ links) → FindsFor site pass held a entry trades → (v : ℕ) (t : At) (log : List Entry) → FoundAs site v pass.id pass.seen held (a ∷ []) t log → AreOtherKeys site (log_of v log) (left v t log)
         → (b : Bool) → trades v ≡ b → Shares v t log b
     unfolding Shares
     shares link finds v t log found stands true e = let Z : Pr = ⟦ keys_own n (left v t log) ⟧ ∗ ⟦ ready γ ⟧ in

@@ -15,16 +15,16 @@ use Rattle.seize_machine.specs.declared.machine.event.Answer.TheVariants.{Done}
 use Rattle.seize_machine.specs.declared.machine.event.Try.{Try as Insertion}
 use Rattle.seize_machine.specs.declared.machine.event.Try.TheVariants.{Won, Lost}
 use Rattle.seize_machine.proofs.Facts.{Step, Stands, and_true, eq_true, go_on, head_frame, heads_length, is_true, next_of, slots_length, some_is, step_of}
-use Rattle.seize_words.specs.Atomic.{exchanged}
+use Rattle.seize_words.specs.Atomic.{after_exchange}
 use Rattle.seize_book.specs.Blocks.{Plan, block_for, block_number, head_word, list_word, plans, word_of}
-use Rattle.seize_book.specs.Chains.{FieldsLeadOn, Leads, first_field, front_block, insertion_fields, next_field, served, told, written_at}
-use Rattle.seize_book.specs.Book.{Kept, TheSlot, Does, IsLegalList, after, births, heads, rules, slots}
+use Rattle.seize_book.specs.Chains.{FieldsLeadOn, Leads, field_value, first_field, front_block, insertion_fields, insertion_value, next_field, written_at}
+use Rattle.seize_book.specs.Book.{HolderKnows, TheSlot, Does, IsLegalList, after, births, heads, rules, slots}
 use Rattle.seize_book.specs.Entry.{Entry, Made, Used, Deed, timed_deed}
 use Rattle.seize_book.specs.Fair.{Covers, pass_key}
 use Rattle.seize_words.specs.Heads.{IsTrying, found_end, reads, reads_at}
 use Rattle.seize_book.specs.Homes.{changes_count, changes_home, home_of}
 use Rattle.seize_book.specs.Laws.{IsAmong, life}
-use Rattle.seize_book.specs.Ledger.{HeldKey, AllKept}
+use Rattle.seize_book.specs.Ledger.{HeldKey, HoldersKnow}
 use Rattle.seize_book.specs.Private.{Tag, is_one, key_of, tag_of, own_of}
 use Rattle.seize_words.specs.Stepping.{EndsAmong, FoundAs, IsStep, MayStep, in_step}
 use Rattle.seize_book.specs.Tokens.{Name, start}
@@ -107,7 +107,7 @@ module _ (n : Name) (m : ℕ) where
     covers (suc (suc (suc (suc (suc (suc (suc (suc zero)))))))) k b there = makes_none (after st log) e.event t.used
     covers (suc (suc (suc (suc (suc (suc (suc (suc (suc r))))))))) k b there = refl
 
-    made : Does st log (Made e) d → Leads (after st log) (plans st log) (told log) e.event → EndsAmong lives log (Made e) → w ≡ head_word st (log ++ Made e ∷ []) m → IsStep (at_head n m) p (key s x slots_own) lives w (Made e) false (since, []) own log
+    made : Does st log (Made e) d → Leads (after st log) (plans st log) (field_value log) e.event → EndsAmong lives log (Made e) → w ≡ head_word st (log ++ Made e ∷ []) m → IsStep (at_head n m) p (key s x slots_own) lives w (Made e) false (since, []) own log
     made does leads ends shows = record {
       fair = record { done = d; legal = does; covers = covers; names = λ many was there. (subst (λ (z : ℕ). z < many 0) (sym pe) there.0, (λ k le. (t.others (after st log) k).0), (λ k le. (t.others (after st log) k).1), λ f le. refl); leads = leads; one = none_named e.size (after st log) e.event d (step_of _ _ _ _ does) (λ k. (t.others (after st log) k).1); labels = no_labels (pass_key p own ∷ in_step (at_head n m) (key s x slots_own) (since, [])) e.size (after st log) e.event d (step_of _ _ _ _ does) (λ k. (t.others (after st log) k).1); places = no_place (after st log) (pass_key p own ∷ in_step (at_head n m) (key s x slots_own) (since, [])) (Made e) (makes_none (after st log) e.event t.used) };
       its = pe;
@@ -120,7 +120,7 @@ module _ (n : Name) (m : ℕ) where
   -- it is enough to see it for the slot's key alone, and with no key beside the head's
   MayStepAs : (p s : ℕ) (x : Tag) (seen slots_own : List Entry) (lives : List ℕ) (f : ℕ → ℕ) (entry : ℕ → List Entry → Entry) → Type 0
   MayStepAs p s x seen slots_own lives f entry =
-      (v : ℕ) (t : At) (own log : List Entry) → FoundAs (at_head n m) v p seen (key s x slots_own) [] t log → Kept st TheSlot s slots_own log → v ≡ head_word st log m
+      (v : ℕ) (t : At) (own log : List Entry) → FoundAs (at_head n m) v p seen (key s x slots_own) [] t log → HolderKnows st TheSlot s slots_own log → v ≡ head_word st log m
       → IsStep (at_head n m) p (key s x slots_own) lives (f v) (entry v log) false (t.0, []) own log
 
   may_step : (p : ℕ) (seen : List Entry) (held : List (HeldKey Entry)) (lives : List ℕ) (f : ℕ → ℕ) (entry : ℕ → List Entry → Entry) → is_one slots held ≡ true
@@ -130,7 +130,7 @@ module _ (n : Name) (m : ℕ) where
       subst (λ (hs : List (HeldKey Entry)). MayStep (at_head n m) p seen hs [] lives f entry (λ v. false)) (sym (only_is slots held one)) (
         (omega arith, tt),
         (λ v t own log found.
-            let kept = subst (λ (vs : List (HeldKey Entry)). AllKept (rules st) (vs ++ key (key_of held) (tag_of held) (own_of held)) log) found.stands found.before.kept.1 in
+            let kept = subst (λ (vs : List (HeldKey Entry)). HoldersKnow (rules st) (vs ++ key (key_of held) (tag_of held) (own_of held)) log) found.stands found.before.kept.1 in
             subst (λ (vs : List (HeldKey Entry)). IsStep (at_head n m) p (key (key_of held) (tag_of held) (own_of held)) lives (f v) (entry v log) false (t.0, vs) own log) (sym found.stands)
             (steps v t own log found kept.0 (shown v p seen (key (key_of held) (tag_of held) (own_of held)) t log found))),
       )
@@ -248,7 +248,7 @@ module _ (n : Name) (m : ℕ) where
 
   -- what a slot has written before it tries
   abbrev pub Wrote : ℕ → List Entry → ℕ → ℕ → Type 0
-  Wrote s own next batch = insertion_fields (after st own) (plans st own) (told own) s ≡ Some (next, front_block (plans st own) batch)
+  Wrote s own next batch = insertion_fields (after st own) (plans st own) (field_value own) s ≡ Some (next, front_block (plans st own) batch)
 
   abbrev tried_batch : Place → ℕ
   tried_batch (Try b won k later saw) = b
@@ -256,7 +256,7 @@ module _ (n : Name) (m : ℕ) where
 
   module _ (p size seen_word block : ℕ) (seen : List Entry) (held : List (HeldKey Entry)) (tries : IsTrying st (key_of held) (own_of held) m seen_word block)
       (wrote : Wrote (key_of held) (own_of held) seen_word tries.batch)
-      (v : ℕ) (t : At) (own log : List Entry) (found : FoundAs (at_head n m) v p seen (key (key_of held) (tag_of held) (own_of held)) [] t log) (kept : Kept st TheSlot (key_of held) (own_of held) log) (word : v ≡ head_word st log m) where
+      (v : ℕ) (t : At) (own log : List Entry) (found : FoundAs (at_head n m) v p seen (key (key_of held) (tag_of held) (own_of held)) [] t log) (kept : HolderKnows st TheSlot (key_of held) (own_of held) log) (word : v ≡ head_word st log m) where
     abbrev s : ℕ
     s = key_of held
 
@@ -311,16 +311,16 @@ module _ (n : Name) (m : ℕ) where
         (ap (λ (k : ℕ). k + 2) (tries.is_block ∙ stays) ∙ sym (ap (word_of (λ b. block_for st (log ++ Made (inserts Won) ∷ []) b m)) head))
       where
         -- what the slot wrote is what waits there, and the block of the batch's front
-        leads : (waiting : List ℕ) → head_at now m ≡ Active waiting → seen_word ≡ list_word (λ c. block_for st log c m) waiting → Leads now (plans st log) (told log) (Insert s m Won)
+        leads : (waiting : List ℕ) → head_at now m ≡ Active waiting → seen_word ≡ list_word (λ c. block_for st log c m) waiting → Leads now (plans st log) (field_value log) (Insert s m Won)
         leads waiting active seen_is c won later saw queue there stands head =
             let b = tries.batch in
             let same_call = some_is _ _ (sym stands_now ∙ stands) in
             let same_head : waiting ≡ there = ap waiting_at (sym active ∙ head) in
-            let now_written : Some (told log (next_field (home_of (served (plans st log) b m))), told log (first_field (home_of (served (plans st log) b m)))) ≡ insertion_fields now (plans st log) (told log) s = ap (of_call (written_at (plans st log) (told log))) (sym stands_now) in
+            let now_written : Some (field_value log (next_field (home_of (insertion_value (plans st log) b m))), field_value log (first_field (home_of (insertion_value (plans st log) b m)))) ≡ insertion_fields now (plans st log) (field_value log) s = ap (of_call (written_at (plans st log) (field_value log))) (sym stands_now) in
             let both = some_is _ _ (now_written ∙ sym kept.1.3 ∙ wrote) in
             let its : b < length (plans st then_own) = subst (λ (k : ℕ). b < k) (sym (plans_long n then_own own_legal)) (tried_there (after st then_own) s b tries.won m tries.later tries.saw tries.queue reached_own stands_own) in
-            let goal : FieldsLeadOn (plans st log) (told log) m b waiting = (ap (λ (t : ℕ × ℕ). t.0) both ∙ seen_is, ap (λ (t : ℕ × ℕ). t.1) both ∙ ap (λ (plan : Plan). block_number (unwrap_or (first_or_none plan.values) 0)) (plan_stays st then_own log b kept.0 its)) in
-            subst (λ (t : ℕ × List ℕ). FieldsLeadOn (plans st log) (told log) m t.0 t.1) (λ i. (tried_batch (same_call i).place, same_head i)) goal
+            let goal : FieldsLeadOn (plans st log) (field_value log) m b waiting = (ap (λ (t : ℕ × ℕ). t.0) both ∙ seen_is, ap (λ (t : ℕ × ℕ). t.1) both ∙ ap (λ (plan : Plan). block_number (unwrap_or (first_or_none plan.values) 0)) (plan_stays st then_own log b kept.0 its)) in
+            subst (λ (t : ℕ × List ℕ). FieldsLeadOn (plans st log) (field_value log) m t.0 t.1) (λ i. (tried_batch (same_call i).place, same_head i)) goal
 
         head_within : (waiting : List ℕ) → head_at now m ≡ Active waiting → m < length now.heads
         head_within waiting e = go (cases_lt m (length now.heads))
@@ -329,16 +329,16 @@ module _ (n : Name) (m : ℕ) where
             go (inl l) = l
             go (inr le) = absurd (let x : Inactive ≡ Active waiting = sym (get_or_past now.heads m Inactive le) ∙ e in cc)
 
-    either_way : Step_ (exchanged seen_word (block + 2) v) (found_end seen_word v)
+    either_way : Step_ (after_exchange seen_word (block + 2) v) (found_end seen_word v)
     either_way = kit.exchanged v seen_word (block + 2) (λ x. Step_ x (found_end seen_word v))
         (λ same. subst (Step_ (block + 2)) (sym (ap (λ (c : Bool). if c then Won else Lost) (equal v seen_word same))) (won same))
         (λ differs. subst (Step_ v) (sym (ap (λ (c : Bool). if c then Won else Lost) (unequal v seen_word differs))) (lost differs))
 
   pub may_insert : (p size seen_word block : ℕ) (seen : List Entry) (held : List (HeldKey Entry)) → is_one slots held ≡ true → (tries : IsTrying st (key_of held) (own_of held) m seen_word block) → Wrote (key_of held) (own_of held) seen_word tries.batch
-      → MayStep (at_head n m) p seen held [] [] (exchanged seen_word (block + 2)) (λ v log. Made (record { pass = p; size = size; event = Insert (key_of held) m (found_end seen_word v); life = 0; kepts = [] })) (λ v. false)
+      → MayStep (at_head n m) p seen held [] [] (after_exchange seen_word (block + 2)) (λ v log. Made (record { pass = p; size = size; event = Insert (key_of held) m (found_end seen_word v); life = 0; kepts = [] })) (λ v. false)
   unfolding MayStepAs
   may_insert p size seen_word block seen held one tries wrote =
-      may_step p seen held [] (exchanged seen_word (block + 2)) (λ v log. Made (record { pass = p; size = size; event = Insert (key_of held) m (found_end seen_word v); life = 0; kepts = [] })) one
+      may_step p seen held [] (after_exchange seen_word (block + 2)) (λ v log. Made (record { pass = p; size = size; event = Insert (key_of held) m (found_end seen_word v); life = 0; kepts = [] })) one
       (λ v t own log found kept word. either_way p size seen_word block seen held tries wrote v t own log found kept word)
 
   -- What the word held is what the list said of the head just before.

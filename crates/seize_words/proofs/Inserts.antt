@@ -8,7 +8,7 @@ use Rattle.seize_machine.specs.Machine.History.{IsReached}
 use Rattle.seize_machine.specs.Machine.Laws.{detached_by}
 use Rattle.seize_book.specs.Blocks.{plans}
 use Rattle.seize_book.specs.Book.{IsLegalList, after}
-use Rattle.seize_book.specs.Chains.{served}
+use Rattle.seize_book.specs.Chains.{insertion_value}
 use Rattle.seize_book.specs.Entry.{Entry}
 use Rattle.seize_words.specs.Headers.{Uses}
 use Rattle.seize_book.specs.Homesteads.{state_seen}
@@ -50,9 +50,9 @@ module _ (key : SlotKey) (pass : Pass) (book : IsKeyOfBook key pass) (knows : Kn
 
   -- and that with which it is inserted at the slot in turn
   pub looked_named : (b won m : ℕ) (later queue : List ℕ) → (slot_of key).call ≡ Some (record { place = Look b won m later; queue = queue })
-      → has (served (plans (start_of key) (own_list key)) b m) (state_seen pass).named ≡ true
+      → has (insertion_value (plans (start_of key) (own_list key)) b m) (state_seen pass).named ≡ true
   looked_named b won m later queue looking =
       let ps = plans (start_of key) (own_list key) in let marked = marked_after key.keys.name (own_list key) distinct its_own in
       let at : AtAll ps b (m ∷ later) = subst (CallMarked ps (slot_number key)) looking (marked.calls (slot_number key)) in
-      detached_named b (served ps b m) (ap detached_by looking)
+      detached_named b (insertion_value ps b m) (ap detached_by looking)
       (serving_in m (slots_in ps b) (values_of (start_of key) (own_list key) b) (at m (zero, omega arith, refl)) (marked.fits b).1)

@@ -8,20 +8,20 @@ use Rattle.seize_machine.specs.Machine.State.{Call, State, are_distinct, has, li
 use Rattle.seize_machine.specs.declared.machine.event.Answer.TheVariants.{Count as Counted}
 use Rattle.seize_book.specs.Blocks.{IsNear, link_word, plans}
 use Rattle.seize_book.specs.Book.{Does, IsLegalList, after, mine}
-use Rattle.seize_book.specs.Chains.{Chained, told}
+use Rattle.seize_book.specs.Chains.{HasChains, field_value}
 use Rattle.seize_book.specs.Entry.{Deed, Entry, Made}
 use Rattle.seize_book.specs.Homes.{IsSound, home_of}
 use Rattle.seize_book.specs.Homesteads.{HasNumber, state_seen}
 use Rattle.seize_words.specs.Chunks.{IsHeaderOf}
-use Rattle.seize_words.specs.Counts.{AddsTo, Counts, MayCountDown, home}
+use Rattle.seize_words.specs.Counts.{Counts, MayCountDown, MayCountUp, home}
 use Rattle.seize_words.specs.Headers.{IsFrontBlock}
 use Rattle.seize_words.specs.Joined.{IsAddingAt, IsCountingAt, TriesAtSlot}
 use Rattle.seize_words.specs.Walks.{Knows}
 use Rattle.seize_book.specs.Passes.{IsSamePass, LooksOn}
 use Rattle.seize_words.specs.Reservations.{TriesAt, beginning, slot}
-use Rattle.seize_book.specs.Slots.{IsKeyOfBook, NotesAs, own_list, slot_number, start_of}
+use Rattle.seize_book.specs.Slots.{AddsDeed, IsKeyOfBook, own_list, slot_number, start_of}
 use Rattle.seize_book.specs.Loans.{AllCarryOne}
-use Rattle.seize_book.specs.Tokens.{IsSole, Name, Noted, start}
+use Rattle.seize_book.specs.Tokens.{AddsEntry, IsSole, Name, start}
 use Rattle.seize_words.specs.Totals.{slots_seen}
 use Rattle.seize_book.specs.declared.book.pass.Pass.{Pass}
 use Rattle.seize_book.specs.declared.book.slot_key.SlotKey.{SlotKey}
@@ -36,13 +36,13 @@ use base.Growing.{prefix_refl, prefix_trans}
 -- an event that is noted after a look is noted
 module _ (key key' : SlotKey) (pass mid pass' : Pass) (looks : LooksOn pass mid) where
   module _ (d : Deed) where
-    abbrev noted_after : Noted mid.name mid.id mid.seen pass'.seen (Made d) → Noted pass.name pass.id pass.seen pass'.seen (Made d)
+    abbrev noted_after : AddsEntry mid.name mid.id mid.seen pass'.seen (Made d) → AddsEntry pass.name pass.id pass.seen pass'.seen (Made d)
     noted_after x = record {
       before = x.before;
       appended = x.appended;
       legal = subst (λ (n : Name). IsLegalList (start n) pass'.seen) looks.same.0 x.legal;
       sound = subst (λ (n : Name). IsSound (after (start n) pass'.seen)) looks.same.0 x.sound;
-      chained = subst (λ (n : Name). Chained (after (start n) pass'.seen) (plans (start n) pass'.seen) (told pass'.seen)) looks.same.0 x.chained;
+      chained = subst (λ (n : Name). HasChains (after (start n) pass'.seen) (plans (start n) pass'.seen) (field_value pass'.seen)) looks.same.0 x.chained;
       grows = prefix_trans pass.seen mid.seen x.before looks.grows x.grows;
       later = x.later;
       answer = x.answer;
@@ -56,12 +56,12 @@ module _ (key key' : SlotKey) (pass mid pass' : Pass) (looks : LooksOn pass mid)
       distinct = looks.distinct;
     }
 
-    abbrev notes_after : NotesAs key mid key' pass' d → NotesAs key pass key' pass' d
+    abbrev notes_after : AddsDeed key mid key' pass' d → AddsDeed key pass key' pass' d
     notes_after n = (same_twice pass mid pass' looks.same n.0, n.1, (noted_after n.2.0, n.2.1))
 
-  pub noted_on : (life : ℕ) (event event' : Event) → event ≡ event' → NotesAs key mid key' pass' (beginning mid life event) → NotesAs key pass key' pass' (beginning pass life event')
+  pub noted_on : (life : ℕ) (event event' : Event) → event ≡ event' → AddsDeed key mid key' pass' (beginning mid life event) → AddsDeed key pass key' pass' (beginning pass life event')
   noted_on life event event' is n =
-      subst (λ (d : Deed). NotesAs key pass key' pass' d)
+      subst (λ (d : Deed). AddsDeed key pass key' pass' d)
       (λ j. record { pass = looks.same.1 j; size = looks.same.2 j; event = is j; life = life; kepts = [] })
       (notes_after (beginning mid life event) n)
 
@@ -80,7 +80,7 @@ tries_at key s head seen block is tries = subst (λ (m : ℕ). TriesAtSlot key m
 -- an event that is noted after a look, with whether the count is 0
 pub counts_on : (key key' : SlotKey) (pass mid pass' : Pass) (event : Event) (none : Bool) → LooksOn pass mid → Counts key mid key' pass' event none → Counts key pass key' pass' event none
 counts_on key key' pass mid pass' event none looks counts =
-    subst (λ (d : Deed). (notes : NotesAs key pass key' pass' d) × ((count : ℤ) × (notes.2.0.answer ≡ Counted count) × (none ≡ is_zero count) × IsNear count))
+    subst (λ (d : Deed). (notes : AddsDeed key pass key' pass' d) × ((count : ℤ) × (notes.2.0.answer ≡ Counted count) × (none ≡ is_zero count) × IsNear count))
     (λ j. record { pass = looks.same.1 j; size = looks.same.2 j; event = event; life = 0; kepts = [] })
     (notes_after key key' pass mid pass' looks (beginning mid 0 event) counts.0, counts.1)
 
@@ -102,7 +102,7 @@ pub held_counting : (key : SlotKey) (block : ℕ) (a : IsCountingAt key block) �
 held_counting key block a = inr (inl (slot_number key, subst (λ (o : Option Call). Contains (walk_of o) a.batch) (sym a.walking) (zero, omega arith, refl)))
 
 module _ (key : SlotKey) (pass mid : Pass) (book : IsKeyOfBook key pass) (knows : Knows key pass) (block : ℕ) (header : Header) (looks : LooksOn pass mid) (is : IsHeaderOf header block mid) where
-  abbrev pub adds_there : (won : ℕ) (a : IsAddingAt key block won) → AddsTo key header.count won
+  abbrev pub adds_there : (won : ℕ) (a : IsAddingAt key block won) → MayCountUp key header.count won
   adds_there won a = record {
     batch = a.batch;
     front = a.front.0;
@@ -124,7 +124,7 @@ module _ (key : SlotKey) (pass mid : Pass) (book : IsKeyOfBook key pass) (knows 
   }
 
 -- a pass that looks at once after a step sees nothing more
-pub looks_here : (pass pass' : Pass) (e : Entry) → IsSamePass pass pass' → Noted pass.name pass.id pass.seen pass'.seen e → LooksOn pass' pass'
+pub looks_here : (pass pass' : Pass) (e : Entry) → IsSamePass pass pass' → AddsEntry pass.name pass.id pass.seen pass'.seen e → LooksOn pass' pass'
 looks_here pass pass' e same noted = record {
   same = (refl, refl, refl);
   none_made = refl;

@@ -9,10 +9,10 @@ use Rattle.seize_machine.specs.declared.machine.event.Answer.TheVariants.{Link a
 use Rattle.seize_machine.specs.declared.machine.event.Exchange.{Exchange}
 use Rattle.seize_machine.proofs.Facts.{Step, eq_true, next_of, swapped}
 use Rattle.seize_book.specs.Blocks.{link_word}
-use Rattle.seize_book.specs.Book.{IsLegalList, Kept, TheBlock, after, blocks, rules, Does, kind_of}
+use Rattle.seize_book.specs.Book.{IsLegalList, HolderKnows, TheBlock, after, blocks, rules, Does, kind_of}
 use Rattle.seize_book.specs.Entry.{Entry, Made}
 use Rattle.seize_book.specs.Fair.{Covers, IsLabel, NamesHeld, NamesLabels, pass_key}
-use Rattle.seize_book.specs.Ledger.{HeldKey, AllKept, AllThere, Beside, renewed}
+use Rattle.seize_book.specs.Ledger.{HeldKey, HoldersKnow, AllThere, Beside, with_list}
 use Rattle.seize_book.specs.Homes.{HasOne, IsVacant, home_of, is_home}
 use Rattle.seize_words.specs.Links.{at_link, IsNewIn}
 use Rattle.seize_words.specs.Stepping.{FoundAs, IsStep, in_step}
@@ -22,8 +22,8 @@ use Rattle.seize_words.specs.Words.{IsKeyOf}
 use Rattle.seize_book.proofs.Facts.{after_push, differ, new_named, old_named, pushed, vacant_later}
 
 -- the keys of what a link holds, later
-pub key_later : (o : Option ℕ) (vs : List (HeldKey Entry)) (log : List Entry) → IsKeyOf o vs → IsKeyOf o (renewed vs log)
-key_later None vs log is = ap (λ (hs : List (HeldKey Entry)). renewed hs log) is
+pub key_later : (o : Option ℕ) (vs : List (HeldKey Entry)) (log : List Entry) → IsKeyOf o vs → IsKeyOf o (with_list vs log)
+key_later None vs log is = ap (λ (hs : List (HeldKey Entry)). with_list hs log) is
 key_later (Some v) [] log is = is
 key_later (Some v) (x ∷ y ∷ vs) log is = is
 key_later (Some v) (x ∷ []) log is = is
@@ -46,7 +46,7 @@ there_both : (many : ℕ → ℕ) (a b : List (HeldKey Entry)) → AllThere many
 there_both many [] b h = (tt, h)
 there_both many (x ∷ a) b h = let rest = there_both many a b h.1 in ((h.0, rest.0), rest.1)
 
-pub kept_right : (st : State) (a b : List (HeldKey Entry)) (log : List Entry) → AllKept (rules st) (a ++ b) log → AllKept (rules st) b log
+pub kept_right : (st : State) (a b : List (HeldKey Entry)) (log : List Entry) → HoldersKnow (rules st) (a ++ b) log → HoldersKnow (rules st) b log
 kept_right st [] b log h = h
 kept_right st (x ∷ a) b log h = kept_right st a b log h.1
 
@@ -69,15 +69,15 @@ is_key n None vs new = new
 is_key n (Some v) vs new = new.0
 
 -- what the key of a value's block says
-block_kept : (st : State) (v : ℕ) (x : HeldKey Entry) (log : List Entry) → IsKeyOf (Some v) (x ∷ []) → (rules st).Kept x.kind x.key x.own log → Kept st TheBlock (home_of v) x.own log
-block_kept st v x log is kept = subst (λ (t : ℕ × ℕ). Kept st (kind_of t.0) t.1 x.own log) (λ j. (eq_true x.kind blocks is.0 j, is.1 j)) kept
+block_kept : (st : State) (v : ℕ) (x : HeldKey Entry) (log : List Entry) → IsKeyOf (Some v) (x ∷ []) → (rules st).Knows x.kind x.key x.own log → HolderKnows st TheBlock (home_of v) x.own log
+block_kept st v x log is kept = subst (λ (t : ℕ × ℕ). HolderKnows st (kind_of t.0) t.1 x.own log) (λ j. (eq_true x.kind blocks is.0 j, is.1 j)) kept
 
-value_kept : (st : State) (v : ℕ) (x : HeldKey Entry) (log : List Entry) → IsKeyOf (Some v) (x ∷ []) → (rules st).Kept x.kind x.key x.own log
+value_kept : (st : State) (v : ℕ) (x : HeldKey Entry) (log : List Entry) → IsKeyOf (Some v) (x ∷ []) → (rules st).Knows x.kind x.key x.own log
     → (has v (after st x.own).named ≡ has v (after st log).named) × (has v (after st x.own).loose ≡ has v (after st log).loose)
 value_kept st v x log is kept = (block_kept st v x log is kept).1 v refl
 
 -- a value that its key knows to be new is new
-pub still_new : (n : Name) (o : Option ℕ) (vs : List (HeldKey Entry)) (log : List Entry) → IsNewIn n o vs → AllKept (rules (start n)) vs log → is_none_or_fresh (after (start n) log) o ≡ true
+pub still_new : (n : Name) (o : Option ℕ) (vs : List (HeldKey Entry)) (log : List Entry) → IsNewIn n o vs → HoldersKnow (rules (start n)) vs log → is_none_or_fresh (after (start n) log) o ≡ true
 still_new n None vs log new kept = refl
 still_new n (Some v) [] log new kept = absurd (let x : false ≡ true = new.0.0 in cc)
 still_new n (Some v) (x ∷ y ∷ vs) log new kept = absurd (let x : false ≡ true = new.0.0 in cc)
@@ -85,7 +85,7 @@ still_new n (Some v) (x ∷ []) log new kept =
     ap not (sym (value_kept (start n) v x log new.0 kept.0).0 ∙ new.1)
 
 -- and its block is vacant still
-pub still_vacant : (n : Name) (v : ℕ) (vs : List (HeldKey Entry)) (log : List Entry) → IsLegalList (start n) log → IsNewIn n (Some v) vs → AllKept (rules (start n)) vs log → IsVacant (after (start n) log) (home_of v)
+pub still_vacant : (n : Name) (v : ℕ) (vs : List (HeldKey Entry)) (log : List Entry) → IsLegalList (start n) log → IsNewIn n (Some v) vs → HoldersKnow (rules (start n)) vs log → IsVacant (after (start n) log) (home_of v)
 still_vacant n v [] log l new kept = absurd (let x : false ≡ true = new.0.0 in cc)
 still_vacant n v (x ∷ y ∷ vs) log l new kept = absurd (let x : false ≡ true = new.0.0 in cc)
 still_vacant n v (x ∷ []) log l new kept = vacant_later (start n) x.own log (home_of v) l (block_kept (start n) v x log new.0 kept.0) new.2
@@ -133,7 +133,7 @@ module _ (n : Name) (l : ℕ) where
           bears = refl;
           ends = λ a i. absurd i;
           shows = found.shows ∙ ap link_word is;
-          stands = subst (λ (o : Option ℕ). IsKeyOf o (renewed t.1 (log ++ reads ∷ []))) is (key_later (link_at (after st t.0) l) t.1 (log ++ reads ∷ []) found.stands);
+          stands = subst (λ (o : Option ℕ). IsKeyOf o (with_list t.1 (log ++ reads ∷ []))) is (key_later (link_at (after st t.0) l) t.1 (log ++ reads ∷ []) found.stands);
         }
       where
         covers : Covers st (pass_key p own ∷ in_step (at_link n l) held t) log (Made (record { pass = p; size = size; event = ReadLink s l; life = 0; kepts = [] }))
@@ -213,7 +213,7 @@ module _ (n : Name) (l : ℕ) where
             bears = refl;
             ends = λ a i. absurd i;
             shows = word ∙ ap link_word (sym is);
-            stands = subst (λ (x : Option ℕ). IsKeyOf x (renewed held (log ++ exchanges ∷ []))) (sym is) (key_later o held (log ++ exchanges ∷ []) (is_key n o held new));
+            stands = subst (λ (x : Option ℕ). IsKeyOf x (with_list held (log ++ exchanges ∷ []))) (sym is) (key_later o held (log ++ exchanges ∷ []) (is_key n o held new));
           }
 
       -- one that finds something else is legal, and leaves all as it is
@@ -233,5 +233,5 @@ module _ (n : Name) (l : ℕ) where
             bears = refl;
             ends = λ a i. absurd i;
             shows = found.shows ∙ ap link_word is;
-            stands = subst (λ (x : Option ℕ). IsKeyOf x (renewed t.1 (log ++ exchanges ∷ []))) is (key_later (link_at (after st t.0) l) t.1 (log ++ exchanges ∷ []) found.stands);
+            stands = subst (λ (x : Option ℕ). IsKeyOf x (with_list t.1 (log ++ exchanges ∷ []))) is (key_later (link_at (after st t.0) l) t.1 (log ++ exchanges ∷ []) found.stands);
           }

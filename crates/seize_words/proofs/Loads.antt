@@ -6,12 +6,12 @@ use Rattle.seize_machine.specs.Machine.Laws.{IsHeld, walk_of}
 use Rattle.seize_machine.specs.Machine.History.{first_or_none}
 use Rattle.seize_machine.proofs.Facts.{Stands, held_full}
 use Rattle.seize_book.specs.Blocks.{front_of, no_plan, Plan, block_for, block_number, list_word, plans}
-use Rattle.seize_book.specs.Book.{IsLegalList, Kept, TheSlot, after, rules}
-use Rattle.seize_book.specs.Chains.{IsChain, first_field, next_field, served, told}
+use Rattle.seize_book.specs.Book.{HolderKnows, IsLegalList, TheSlot, after, rules}
+use Rattle.seize_book.specs.Chains.{IsChain, field_value, first_field, insertion_value, next_field}
 use Rattle.seize_book.specs.Entry.{Entry}
 use Rattle.seize_words.specs.Headers.{IsFrontBlock, IsPassing}
 use Rattle.seize_book.specs.Homes.{home_of}
-use Rattle.seize_book.specs.Ledger.{AllKept, HeldKey}
+use Rattle.seize_book.specs.Ledger.{HeldKey, HoldersKnow}
 use Rattle.seize_book.specs.Slots.{IsKeyOfBook, own_list, slot_number, start_of}
 use Rattle.seize_words.specs.Stepping.{LooksAt}
 use Rattle.seize_book.specs.Tokens.{Name, start}
@@ -36,8 +36,8 @@ module _ (f : ℕ) (key : SlotKey) (pass pass' : Pass) (v : ℕ) (looks : LooksA
   abbrev now : State
   now = after (start n) log
 
-  kept : Kept (start n) TheSlot s own log
-  kept = one_kept (start n) key.keys.held log key.one (subst (λ (vs : List (HeldKey Entry)). AllKept (rules (start n)) (vs ++ key.keys.held) log) looks.found.stands looks.found.before.kept.1)
+  kept : HolderKnows (start n) TheSlot s own log
+  kept = one_kept (start n) key.keys.held log key.one (subst (λ (vs : List (HeldKey Entry)). HoldersKnow (rules (start n)) (vs ++ key.keys.held) log) looks.found.stands looks.found.before.kept.1)
 
   distinct : are_distinct (linked_values n.links) ≡ true
   distinct = looks.found.distinct
@@ -45,15 +45,15 @@ module _ (f : ℕ) (key : SlotKey) (pass pass' : Pass) (v : ℕ) (looks : LooksA
   legal : IsLegalList (start n) log
   legal = looks.found.before.legal
 
-  pub loaded : v ≡ told log f
+  pub loaded : v ≡ field_value log f
   loaded = shown n f v pass.id pass.seen key.keys.held looks.since log looks.found
 
   module _ (which : ℕ → ℕ) (w : IsPassing (start n) s own which f) where
     stands_now : Stands now s (Rest [] (w.batch ∷ w.walk)) w.queue
     stands_now = ap (λ slot. slot.call) (sym kept.1.1) ∙ w.walking
 
-    chain : IsChain (plans (start n) log) (told log) s (w.batch ∷ w.walk)
-    chain = subst (λ call. IsChain (plans (start n) log) (told log) s (walk_of call)) stands_now (looks.found.before.chained s).1
+    chain : IsChain (plans (start n) log) (field_value log) s (w.batch ∷ w.walk)
+    chain = subst (λ call. IsChain (plans (start n) log) (field_value log) s (walk_of call)) stands_now (looks.found.before.chained s).1
 
     there : AllLess (length (after (start n) own).batches) (w.batch ∷ w.walk)
     there =
@@ -63,12 +63,12 @@ module _ (f : ℕ) (key : SlotKey) (pass pass' : Pass) (v : ℕ) (looks : LooksA
     planned : AllLess (length (plans (start n) own)) (w.batch ∷ w.walk)
     planned = subst (λ (k : ℕ). AllLess k (w.batch ∷ w.walk)) (sym (plans_long n own (own_legal n f s own log distinct legal kept))) there
 
-    field_now : f ≡ which (home_of (served (plans (start n) log) w.batch s))
+    field_now : f ≡ which (home_of (insertion_value (plans (start n) log) w.batch s))
     field_now = w.its ∙ ap (λ (u : ℕ). which (home_of u)) (served_stays n f s own log distinct legal kept w.batch s there.0)
 
   pub shows_next : (w : IsPassing (start_of key) s own next_field f) → v ≡ list_word (λ b. block_for (start_of key) own b s) w.walk
   shows_next = subst (λ (z : Name). (w : IsPassing (start z) s own next_field f) → v ≡ list_word (λ b. block_for (start z) own b s) w.walk) (sym book)
-      (λ w. loaded ∙ ap (told log) (field_now next_field w) ∙ (chain next_field w).0.0 ∙ sym (blocks_stay n own log s w.walk kept.0 (planned next_field w).1))
+      (λ w. loaded ∙ ap (field_value log) (field_now next_field w) ∙ (chain next_field w).0.0 ∙ sym (blocks_stay n own log s w.walk kept.0 (planned next_field w).1))
 
   -- the batch that is to be counted down has values, and so a front
   has_first : (xs : List ℕ) → 0 < length xs → (x : ℕ) × (first_or_none xs ≡ Some x)
@@ -88,7 +88,7 @@ module _ (f : ℕ) (key : SlotKey) (pass pass' : Pass) (v : ℕ) (looks : LooksA
     shown_front : (front_of (start n) own w.batch ≡ Some front.0) × (v ≡ block_number front.0)
     shown_front = (
       ap (λ (plan : Plan). first_or_none plan.values) (plan_stays (start n) own log w.batch kept.0 (planned first_field w).0) ∙ front.1,
-      loaded ∙ ap (told log) (field_now first_field w) ∙ (chain first_field w).0.1 ∙ ap (λ (o : Option ℕ). block_number (unwrap_or o 0)) front.1,
+      loaded ∙ ap (field_value log) (field_now first_field w) ∙ (chain first_field w).0.1 ∙ ap (λ (o : Option ℕ). block_number (unwrap_or o 0)) front.1,
     )
 
   pub shows_first : (w : IsPassing (start_of key) s own first_field f) → IsFrontBlock key w.batch v

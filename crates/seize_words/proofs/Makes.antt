@@ -13,9 +13,9 @@ use Rattle.seize_machine.specs.declared.machine.event.Answer.TheVariants.{Done}
 use Rattle.seize_machine.proofs.Facts.{heads_length, some_is}
 use Rattle.seize_table.specs.Place.{all_numbers}
 use Rattle.seize_words.specs.Atomic.{plus}
-use Rattle.seize_book.specs.Ledger.{HeldKey, AllKept, renewed, born}
+use Rattle.seize_book.specs.Ledger.{HeldKey, HoldersKnow, with_list, keys_made}
 use Rattle.seize_book.specs.Entry.{Entry, Made, Deed}
-use Rattle.seize_book.specs.Book.{IsLegalList, Kept, TheSlot, after, births, slots, heads, numbers, totals, of_next_slot, of_slot, rules}
+use Rattle.seize_book.specs.Book.{IsLegalList, HolderKnows, TheSlot, after, births, slots, heads, numbers, totals, of_next_slot, of_slot, rules}
 use Rattle.seize_book.specs.Fair.{Covers, pass_key}
 use Rattle.seize_book.specs.Others.{first_false, state_of, use_flags}
 use Rattle.seize_words.specs.Totals.{IsFull, made_of}
@@ -199,23 +199,23 @@ module _ (n : Name) (a b : List (HeldKey Entry)) where
         known : Now log
         known =
             let none : t.1 ≡ [] = found.stands in
-            let kept = subst (λ (hs : List (HeldKey Entry)). AllKept (rules st) (in_step (at_total n) hs (t.0, [])) log) joined
-            (subst (λ (vs : List (HeldKey Entry)). AllKept (rules st) (in_step (at_total n) (a ++ b) (t.0, vs)) log) none found.before.kept) in
+            let kept = subst (λ (hs : List (HeldKey Entry)). HoldersKnow (rules st) (in_step (at_total n) hs (t.0, [])) log) joined
+            (subst (λ (vs : List (HeldKey Entry)). HoldersKnow (rules st) (in_step (at_total n) (a ++ b) (t.0, vs)) log) none found.before.kept) in
             now log kept.1.0.1
 
         -- the slot has made no event since its key's list
-        pub slot_kept : Kept st TheSlot (key_of b) (own_of b) log
+        pub slot_kept : HolderKnows st TheSlot (key_of b) (own_of b) log
         slot_kept =
             let none : t.1 ≡ [] = found.stands in
-            (subst (λ (hs : List (HeldKey Entry)). AllKept (rules st) (in_step (at_total n) hs (t.0, [])) log) joined
-            (subst (λ (vs : List (HeldKey Entry)). AllKept (rules st) (in_step (at_total n) (a ++ b) (t.0, vs)) log) none found.before.kept)).1.1.0
+            (subst (λ (hs : List (HeldKey Entry)). HoldersKnow (rules st) (in_step (at_total n) hs (t.0, [])) log) joined
+            (subst (λ (vs : List (HeldKey Entry)). HoldersKnow (rules st) (in_step (at_total n) (a ++ b) (t.0, vs)) log) none found.before.kept)).1.1.0
 
         -- the keys then
         pub all_keys : (log' : List Entry)
-            → renewed (a ++ b) log' ++ born (of_slot (suc s)) log'
+            → with_list (a ++ b) log' ++ keys_made (of_slot (suc s)) log'
             ≡ record { kind = numbers; key = key_of a; own = log'; label = label_of a; note = note_of a } ∷ record { kind = slots; key = key_of b; own = log'; label = label_of b; note = note_of b }
             ∷ record { kind = slots; key = suc s; own = log'; label = 0; note = gnil } ∷ record { kind = heads; key = suc s; own = log'; label = 0; note = gnil } ∷ []
-        all_keys log' = ap (λ (hs : List (HeldKey Entry)). renewed hs log' ++ born (of_slot (suc s)) log') joined
+        all_keys log' = ap (λ (hs : List (HeldKey Entry)). with_list hs log' ++ keys_made (of_slot (suc s)) log') joined
 
         abbrev new : Slot
         new = record { used = true; batch = []; call = None }

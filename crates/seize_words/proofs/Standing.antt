@@ -18,7 +18,7 @@ use Rattle.seize_book.proofs.Facts.{equal, reached_after}
 use Rattle.seize_book.proofs.Loans.{found_named, found_now, reader_later}
 use Rattle.seize_book.proofs.Facts as facts
 use Rattle.seize_words.specs.Activations.{IsLasting}
-use Rattle.seize_words.specs.Chunks.{StandsAt}
+use Rattle.seize_words.specs.Chunks.{IsLiveAt}
 use Rattle.seize_words.specs.LinkWords.{ActsOnLink, IsStepOn, WasFound, held_before, link_number}
 use Rattle.seize_words.specs.Links.{value_with}
 use Rattle.seize_words.specs.declared.activation.Activation.{Activation}
@@ -49,7 +49,7 @@ found_later a v pass pass' name grows found =
     subst (λ (n : Name). Reader (start n) pass'.seen v a.life) (sym name) (reader_later (start pass.name) pass.seen pass'.seen v a.life grows found)
 
 -- It stands where the activation has not ended, as a pass that looks at the list knows.
-pub found_stands : (a : Activation) (v : ℕ) (pass : Pass) → are_distinct (linked_values pass.name.links) ≡ true → IsLegalList (start pass.name) pass.seen → IsLasting a pass → WasFound a v pass → StandsAt v (block_number v) pass
+pub found_stands : (a : Activation) (v : ℕ) (pass : Pass) → are_distinct (linked_values pass.name.links) ≡ true → IsLegalList (start pass.name) pass.seen → IsLasting a pass → WasFound a v pass → IsLiveAt v (block_number v) pass
 found_stands a v pass distinct legal lasts found = (
   found_named (start pass.name) pass.seen found.1 v found.0 (reached_after pass.name [] distinct refl) legal found.2,
   facts.found_stands pass.name pass.seen distinct legal v a.life found lasts,
@@ -72,7 +72,7 @@ one_by_word (Some v) (Some w) same one = ap Some (one v w refl refl (let e : blo
 -- that looks at the list afterwards, and so they are one (`Blocks::same`).
 pub took_current : (link : Link) (a found : Activation) (pass pass' later : Pass) (event : Option ℕ → Event) (v : ℕ) (current : Option ℕ) (t : ActsOnLink link a pass pass' event v) → ((o : Option ℕ) → IsStepOn a.slot (link_number link) (event o))
     → v ≡ link_word current → ((w : ℕ) → current ≡ Some w → WasFound found w pass') → LooksOn pass' later → IsLasting a later → IsLasting found later
-    → ((x y : ℕ) → StandsAt x (v - 1) later → StandsAt y (v - 1) later → x ≡ y) → held_before t ≡ current
+    → ((x y : ℕ) → IsLiveAt x (v - 1) later → IsLiveAt y (v - 1) later → x ≡ y) → held_before t ≡ current
 took_current link a found pass pass' later event v current t on won seen looks lasts still one =
     one_by_word (held_before t) current (sym t.found ∙ won) (λ x y is is' numbers.
     let stands = λ (b : Activation) (z : ℕ) (lasting : IsLasting b later) (f : WasFound b z pass'). found_stands b z later (ap (λ (n : Name). are_distinct (linked_values n.links)) looks.same.0 ∙ looks.distinct) (subst (λ (n : Name). IsLegalList (start n) later.seen) (sym looks.same.0) looks.legal) lasting

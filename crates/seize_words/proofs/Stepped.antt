@@ -6,12 +6,12 @@ use Rattle.seize_words.specs.Atomic.{Events, TakesStep, deed, entries}
 use Rattle.seize_book.specs.Blocks.{block_for, head_word, word_of}
 use Rattle.seize_book.specs.Book.{IsLegalList, after, heads, rules, slots}
 use Rattle.seize_book.specs.Entry.{Entry, Made, Deed, deeds}
-use Rattle.seize_book.specs.Ledger.{HeldKey, AllKept, renewed}
+use Rattle.seize_book.specs.Ledger.{HeldKey, HoldersKnow, with_list}
 use Rattle.seize_book.specs.Laws.{life, life_from, starts}
 use Rattle.seize_words.specs.Activations.{IsActivationFor, HasAllUnits}
 use Rattle.seize_words.specs.Reservations.{IsActivationOf}
 use Rattle.seize_book.specs.Private.{is_one, key_of, own_of}
-use Rattle.seize_book.specs.Slots.{IsAfter, IsKeyOfBook, Moves, NotesAs, slot_number}
+use Rattle.seize_book.specs.Slots.{AddsDeed, IsAfter, IsKeyOfBook, Moves, slot_number}
 use Rattle.seize_words.specs.Stepping.{HasStepped}
 use Rattle.seize_book.specs.Tokens.{Name, start}
 use Rattle.seize_words.specs.Words.{Site}
@@ -27,7 +27,7 @@ pub is_at_head : (word : Site) (n : Name) → word.name ≡ n → word.kind ≡ 
 is_at_head word n e k = ap (λ (t : Name × ℕ). record { name = t.0; kind = t.1; number = word.number }) (λ j. (e j, k j))
 
 -- a slot's key, with all that a step tells it
-abbrev pub key_then : (key : SlotKey) (keys' : Keys) (seen' : List Entry) → keys'.held ≡ renewed key.keys.held seen' → SlotKey
+abbrev pub key_then : (key : SlotKey) (keys' : Keys) (seen' : List Entry) → keys'.held ≡ with_list key.keys.held seen' → SlotKey
 key_then key keys' seen' is = record { keys = keys'; one = ap (is_one slots) is ∙ same_kind slots key.keys.held seen' key.one }
 
 -- a word with no key beside its own
@@ -40,18 +40,18 @@ module _ (r m : ℕ) (key key' : SlotKey) (pass pass' : Pass) (f : ℕ → ℕ) 
   pub moved : step.since.1 ≡ [] → changes_slot (slot_number key) (event v step.log) ≡ true → IsKeyOfBook key pass → IsAfter key pass' key' × Moves key key' step.noted.before (deed pass life event v step.log) step.noted.later step.noted.answer
   moved none its book =
       let noted = step.noted in let e : Deed = deed pass life event v step.log in
-      let kept_then = subst (λ (vs : List (HeldKey Entry)). AllKept (rules (start pass.name)) (vs ++ key.keys.held) step.log) none step.found.before.kept.1 in
+      let kept_then = subst (λ (vs : List (HeldKey Entry)). HoldersKnow (rules (start pass.name)) (vs ++ key.keys.held) step.log) none step.found.before.kept.1 in
       let one = after_one slots key.keys.held pass'.seen key.one in
       let number = ap key_of step.keys ∙ one.0 in let own = ap own_of step.keys ∙ one.1 in
       let legal : IsLegalList (start pass.name) noted.before = subst (IsLegalList (start pass.name)) (sym step.is_log) step.found.before.legal in
-      let kept = one_kept (start pass.name) key.keys.held noted.before key.one (subst (AllKept (rules (start pass.name)) key.keys.held) (sym step.is_log) kept_then) in (
+      let kept = one_kept (start pass.name) key.keys.held noted.before key.one (subst (HoldersKnow (rules (start pass.name)) key.keys.held) (sym step.is_log) kept_then) in (
         (told.1, number, own),
         moves key key' pass.name e noted.before (noted.later, noted.answer) book (told.1 ∙ book) its legal noted.does kept number (own ∙ noted.appended),
       )
 
 -- a head's
 pub noted_by : (m : ℕ) (key key' : SlotKey) (pass pass' : Pass) (f : ℕ → ℕ) (v life : ℕ) (event : Events) (told : TakesStep (at_head pass.name m) key.keys pass key'.keys pass' [] f v (entries pass life event) (λ _. false))
-    → changes_slot (slot_number key) (event v told.2.log) ≡ true → IsKeyOfBook key pass → NotesAs key pass key' pass' (deed pass life event v told.2.log)
+    → changes_slot (slot_number key) (event v told.2.log) ≡ true → IsKeyOfBook key pass → AddsDeed key pass key' pass' (deed pass life event v told.2.log)
 noted_by m key key' pass pass' f v life event told its book =
     let parts = moved heads m key key' pass pass' f v life event told told.2.found.stands its book in (told.0, parts.0, (told.2.noted, parts.1))
 

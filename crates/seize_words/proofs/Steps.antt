@@ -13,15 +13,15 @@ use Rattle.core.specs.Sync.RawAtomic.{word, asks, always}
 use Rattle.core.proofs.raw_atomic.Asked.{borrowed_with, LiesWith, AgainWith}
 use Rattle.seize_machine.specs.Machine.State.{State, link_at}
 use Rattle.seize_machine.proofs.Facts.{eq_true}
-use Rattle.seize_book.specs.Ledger.{fact, HeldKey, WithKinds, renewed, born}
+use Rattle.seize_book.specs.Ledger.{fact, HeldKey, WithKinds, with_list, keys_made}
 use Rattle.seize_book.specs.Entry.{Entry}
 use Rattle.seize_book.specs.Book.{Kind, ThePass, TheNumbers, TheSlot, TheHead, TheLink, TheCount, TheBlock, TheField, TheTotal, Nothing, after, kinds, kind_of, blocks}
-use Rattle.seize_book.specs.Laws.{ended}
+use Rattle.seize_book.specs.Laws.{ended_lives}
 use Rattle.seize_book.specs.Fair.{Before}
 use Rattle.seize_book.specs.Private.{is_one}
 use Rattle.seize_words.specs.Stepping.{in_step, FoundAs, NoneEnded, beside_then, held_then, staying, with_births, IsStepWith, LooksAt, MayStepWith, HasSteppedWith}
 use Rattle.seize_book.specs.Tokens.{Name, start, inside, knows, keys_own, over, pass_holds, pass_owns}
-use Rattle.seize_words.specs.Words.{Site, ShowsWord, ShowsOf, Stands, StandsOf, IsKeyOf, word_knows, word_lies, word_reading}
+use Rattle.seize_words.specs.Words.{Site, ShowsWord, ShowsOfKind, AreOtherKeys, AreOtherKeysOf, IsKeyOf, word_knows, word_lies, word_reading}
 use Rattle.seize_book.proofs.Facts.{blocks_within}
 use Rattle.seize_book.proofs.Lives.{ends_those, living, none_over}
 use Rattle.seize_book.proofs.Looks.{peeks}
@@ -30,7 +30,7 @@ use Rattle.seize_book.proofs.Ways.{keys_joined, keys_parted, first_parted}
 use Rattle.seize_book.proofs.Passes.{IsDistinct, by_pass, keys_after, Made}
 
 -- what a word stands for is one of the kinds
-kind_within : (st : State) (r k v : ℕ) (log : List Entry) → ShowsOf st (kind_of r) k v log → r < kinds
+kind_within : (st : State) (r k v : ℕ) (log : List Entry) → ShowsOfKind st (kind_of r) k v log → r < kinds
 kind_within st zero k v log so = absurd so
 kind_within st (suc zero) k v log so = absurd so
 kind_within st (suc (suc zero)) k v log so = absurd so
@@ -52,7 +52,7 @@ linked_within None vs is = subst (WithKinds kinds) (sym is) tt
 linked_within (Some v) vs is = one_within vs is.0
 
 -- and so are the kinds of the keys beside it
-beside_within : (n : Name) (kind : Kind) (k : ℕ) (log : List Entry) (vs : List (HeldKey Entry)) → StandsOf n kind k log vs → WithKinds kinds vs
+beside_within : (n : Name) (kind : Kind) (k : ℕ) (log : List Entry) (vs : List (HeldKey Entry)) → AreOtherKeysOf n kind k log vs → WithKinds kinds vs
 beside_within n TheLink l log vs so = linked_within (link_at (after (start n) log) l) vs so
 beside_within n ThePass k log vs so = subst (WithKinds kinds) (sym so) tt
 beside_within n TheNumbers k log vs so = subst (WithKinds kinds) (sym so) tt
@@ -68,7 +68,7 @@ both_within : (a b : List (HeldKey Entry)) → WithKinds kinds a → WithKinds k
 both_within [] b h k = k
 both_within (x ∷ a) b h k = (h.0, both_within a b h.1 k)
 
-renewed_append : (a b : List (HeldKey Entry)) (log : List Entry) → renewed (a ++ b) log ≡ renewed a log ++ renewed b log
+renewed_append : (a b : List (HeldKey Entry)) (log : List Entry) → with_list (a ++ b) log ≡ with_list a log ++ with_list b log
 renewed_append [] b log = refl
 renewed_append (x ∷ a) b log = ap (λ (hs : List (HeldKey Entry)). record { kind = x.kind; key = x.key; own = log; label = x.label; note = x.note } ∷ hs) (renewed_append a b log)
 
@@ -105,31 +105,31 @@ module _ {M : Type 1} {𝓤 : Ura M} (𝓛 : Logic 𝓤) (site : Site) where
   At = List Entry × List (HeldKey Entry)
 
   -- the right is to the kind and number, so the list that a key knows is no part of where it goes
-  renewed_take : (m : ℕ) (held : List (HeldKey Entry)) (log : List Entry) → take m (renewed held log) ≡ renewed (take m held) log
+  renewed_take : (m : ℕ) (held : List (HeldKey Entry)) (log : List Entry) → take m (with_list held log) ≡ with_list (take m held) log
   renewed_take zero held log = refl
   renewed_take (suc m) [] log = refl
   renewed_take (suc m) (x ∷ held) log = ap (λ (hs : List (HeldKey Entry)). record { kind = x.kind; key = x.key; own = log; label = x.label; note = x.note } ∷ hs) (renewed_take m held log)
 
-  renewed_past : (m : ℕ) (held : List (HeldKey Entry)) (log : List Entry) → past m (renewed held log) ≡ renewed (past m held) log
+  renewed_past : (m : ℕ) (held : List (HeldKey Entry)) (log : List Entry) → past m (with_list held log) ≡ with_list (past m held) log
   renewed_past zero held log = refl
   renewed_past (suc m) [] log = refl
   renewed_past (suc m) (x ∷ held) log = renewed_past m held log
 
   -- what stands beside the word afterwards, and what the holder has
   trade : (kind : Kind) (trades : Bool) (vs held : List (HeldKey Entry)) (log : List Entry)
-      → ⟦ keys (renewed (vs ++ held) log) ⟧ ⊢ ⟦ keys (renewed (beside_then kind trades vs held) log) ⟧ ∗ ⟦ keys (renewed (held_then kind trades vs held) log) ⟧
-  trade kind false vs held log = qed 𝓛 (‵ (keys (renewed (vs ++ held) log)) ∷ []) ∵ rewrite ! 0 (λ (hs : List (HeldKey Entry)). ‵ (keys hs)) (renewed_append vs held log) refl $ by ! (keys_parted 𝓛 n (renewed vs log) (renewed held log))
-  trade kind true vs held log = let m : ℕ = staying kind in qed 𝓛 (‵ (keys (renewed (vs ++ held) log)) ∷ []) ∵ rewrite ! 0 (λ (hs : List (HeldKey Entry)). ‵ (keys hs)) (renewed_append vs held log) refl $
-      use1 𝓛 (‵ (keys (renewed vs log)) ⊛ ‵ (keys (renewed held log))) (keys_parted 𝓛 n (renewed vs log) (renewed held log)) $ split ! $ move ! (1 ∷ []) $
-      use1 𝓛 (‵ (keys (take m (renewed held log))) ⊛ ‵ (keys (past m (renewed held log)))) (first_parted 𝓛 n m (renewed held log)) $ split ! $
+      → ⟦ keys (with_list (vs ++ held) log) ⟧ ⊢ ⟦ keys (with_list (beside_then kind trades vs held) log) ⟧ ∗ ⟦ keys (with_list (held_then kind trades vs held) log) ⟧
+  trade kind false vs held log = qed 𝓛 (‵ (keys (with_list (vs ++ held) log)) ∷ []) ∵ rewrite ! 0 (λ (hs : List (HeldKey Entry)). ‵ (keys hs)) (renewed_append vs held log) refl $ by ! (keys_parted 𝓛 n (with_list vs log) (with_list held log))
+  trade kind true vs held log = let m : ℕ = staying kind in qed 𝓛 (‵ (keys (with_list (vs ++ held) log)) ∷ []) ∵ rewrite ! 0 (λ (hs : List (HeldKey Entry)). ‵ (keys hs)) (renewed_append vs held log) refl $
+      use1 𝓛 (‵ (keys (with_list vs log)) ⊛ ‵ (keys (with_list held log))) (keys_parted 𝓛 n (with_list vs log) (with_list held log)) $ split ! $ move ! (1 ∷ []) $
+      use1 𝓛 (‵ (keys (take m (with_list held log))) ⊛ ‵ (keys (past m (with_list held log)))) (first_parted 𝓛 n m (with_list held log)) $ split ! $
       -- [those that stay with the holder; the others; those that stood beside the word]
-      move ! (0 ∷ 2 ∷ []) $ use2 𝓛 (‵ (keys (take m (renewed held log) ++ renewed vs log))) (keys_joined 𝓛 n (take m (renewed held log)) (renewed vs log)) $
-      rewrite ! 0 (λ (hs : List (HeldKey Entry)). ‵ (keys hs)) (ap (λ (hs : List (HeldKey Entry)). hs ++ renewed vs log) (renewed_take m held log) ∙ sym (renewed_append (take m held) vs log)) refl $ move ! (1 ∷ []) $
+      move ! (0 ∷ 2 ∷ []) $ use2 𝓛 (‵ (keys (take m (with_list held log) ++ with_list vs log))) (keys_joined 𝓛 n (take m (with_list held log)) (with_list vs log)) $
+      rewrite ! 0 (λ (hs : List (HeldKey Entry)). ‵ (keys hs)) (ap (λ (hs : List (HeldKey Entry)). hs ++ with_list vs log) (renewed_take m held log) ∙ sym (renewed_append (take m held) vs log)) refl $ move ! (1 ∷ []) $
       rewrite ! 0 (λ (hs : List (HeldKey Entry)). ‵ (keys hs)) (renewed_past m held log) refl $ done !
 
-  bears : (held : List (HeldKey Entry)) (births : List (ℕ × ℕ)) (log : List Entry) → ⟦ keys held ⟧ ∗ ⟦ keys (born births log) ⟧ ⊢ ⟦ keys (with_births held births log) ⟧
+  bears : (held : List (HeldKey Entry)) (births : List (ℕ × ℕ)) (log : List Entry) → ⟦ keys held ⟧ ∗ ⟦ keys (keys_made births log) ⟧ ⊢ ⟦ keys (with_births held births log) ⟧
   bears held [] log = qed 𝓛 (‵ (keys held) ∷ ‵ ftrue ∷ []) ∵ keep ! (0 ∷ []) $ done !
-  bears held (b ∷ births) log = keys_joined 𝓛 n held (born (b ∷ births) log)
+  bears held (b ∷ births) log = keys_joined 𝓛 n held (keys_made (b ∷ births) log)
 
   module _ (births : List (ℕ × ℕ)) (p : ℕ) (seen : List Entry) (held : List (HeldKey Entry)) (alive lives : List ℕ) (r : Share) (f : ℕ → ℕ) (entry : ℕ → List Entry → Entry) (trades : ℕ → Bool) where
     abbrev pub log_then : ℕ → List Entry → List Entry
@@ -137,11 +137,11 @@ module _ {M : Type 1} {𝓤 : Ura M} (𝓛 : Logic 𝓤) (site : Site) where
 
     -- the list and the holder's keys after a step that found v
     abbrev pub had_then : ℕ → At → List Entry → At
-    had_then v t log = (log_then v log, with_births (renewed (held_then (kind_of site.kind) (trades v) t.1 held) (log_then v log)) births (log_then v log))
+    had_then v t log = (log_then v log, with_births (with_list (held_then (kind_of site.kind) (trades v) t.1 held) (log_then v log)) births (log_then v log))
 
     -- and the keys that stand beside the word's own
     abbrev pub left_then : ℕ → At → List Entry → List (HeldKey Entry)
-    left_then v t log = renewed (beside_then (kind_of site.kind) (trades v) t.1 held) (log_then v log)
+    left_then v t log = with_list (beside_then (kind_of site.kind) (trades v) t.1 held) (log_then v log)
 
     -- what is had after a step that found v: the list is `t.0`, and the holder's keys are `t.1`
     abbrev pub heard_with : (ℕ → At → Fml) → ℕ → At → Fml
@@ -153,7 +153,7 @@ module _ {M : Type 1} {𝓤 : Ura M} (𝓛 : Logic 𝓤) (site : Site) where
     -- what else is brought is traded in the step, for what may be had of the keys beside the word
     abbrev pub Takes : Pr → (ℕ → At → Fml) → Type 1
     Takes X out =
-        (v : ℕ) (t : At) (log : List Entry) → FoundAs site v p seen held alive t log → HasSteppedWith births site p seen (log_then v log) held (had_then v t log).1 alive v (f v) entry trades → Stands site (log_then v log) (left_then v t log)
+        (v : ℕ) (t : At) (log : List Entry) → FoundAs site v p seen held alive t log → HasSteppedWith births site p seen (log_then v log) held (had_then v t log).1 alive v (f v) entry trades → AreOtherKeys site (log_then v log) (left_then v t log)
         → ⟦ pass_holds n p (log_then v log) ⟧ ∗ ⟦ keys (left_then v t log) ⟧ ∗ ⟦ living 𝓛 alive r ⟧ ∗ X ⊢ upd 𝓤 (⟦ pass_holds n p (log_then v log) ⟧ ∗ ⟦ keys (left_then v t log) ⟧ ∗ ⟦ out v (had_then v t log) ⟧)
 
     abbrev tokens : ℕ → At → Fml
@@ -167,7 +167,7 @@ module _ {M : Type 1} {𝓤 : Ura M} (𝓛 : Logic 𝓤) (site : Site) where
     takes_none v t log found stepped stands = let Z : Pr = ⟦ pass_holds n p (log_then v log) ⟧ ∗ ⟦ keys (left_then v t log) ⟧ ∗ ⟦ living 𝓛 alive r ⟧ in
         qed 𝓛 (‵ (pass_holds n p (log_then v log)) ∷ ‵ (keys (left_then v t log)) ∷ ‵ (living 𝓛 alive r) ∷ ‵ ftrue ∷ []) ∵ suffices ! _ (upd_i 𝓤 Z) $ keep ! (0 ∷ 1 ∷ 2 ∷ []) $ done !
 
-    module _ (X : Pr) (out : ℕ → At → Fml) (takes : Takes X out) (distinct : IsDistinct 𝓛 n) (may : MayStepWith births site p seen held alive lives f entry trades) (v : ℕ) (t : At) (so : ShowsWord site v t.0 × Stands site t.0 t.1) where
+    module _ (X : Pr) (out : ℕ → At → Fml) (takes : Takes X out) (distinct : IsDistinct 𝓛 n) (may : MayStepWith births site p seen held alive lives f entry trades) (v : ℕ) (t : At) (so : ShowsWord site v t.0 × AreOtherKeys site t.0 t.1) where
       abbrev all : List (HeldKey Entry)
       all = in_step site held t
 
@@ -186,13 +186,13 @@ module _ {M : Type 1} {𝓤 : Ura M} (𝓛 : Logic 𝓤) (site : Site) where
       within : WithKinds kinds all
       within = (kind_within st site.kind site.number v t.0 so.0, both_within t.1 held (beside_within site.name (kind_of site.kind) site.number t.0 t.1 so.1) may.0)
 
-      tells : (log : List Entry) → Before n p seen all log → ⟦ over (ended log) ⟧ ∗ (⟦ over lives ⟧ ∗ ⟦ living 𝓛 alive r ⟧) ⊢ guard 𝓤 (told log) (⟦ over (ended log) ⟧ ∗ (⟦ over lives ⟧ ∗ ⟦ living 𝓛 alive r ⟧))
-      tells log before = qed 𝓛 (‵ (over (ended log)) ∷ (‵ (over lives) ⊛ ‵ (living 𝓛 alive r)) ∷ []) ∵ move ! (1 ∷ []) $ split ! $ move ! (2 ∷ 1 ∷ []) $
-          use2 𝓛 (given (told log) (‵ (over (ended log)) ⊛ ‵ (living 𝓛 alive r))) (none_over 𝓛 alive (ended log) r) $ learn ! (λ none. check ! none $ split ! $ move ! (2 ∷ 1 ∷ []) $ join ! $ move ! (1 ∷ 0 ∷ []) $ done !)
+      tells : (log : List Entry) → Before n p seen all log → ⟦ over (ended_lives log) ⟧ ∗ (⟦ over lives ⟧ ∗ ⟦ living 𝓛 alive r ⟧) ⊢ guard 𝓤 (told log) (⟦ over (ended_lives log) ⟧ ∗ (⟦ over lives ⟧ ∗ ⟦ living 𝓛 alive r ⟧))
+      tells log before = qed 𝓛 (‵ (over (ended_lives log)) ∷ (‵ (over lives) ⊛ ‵ (living 𝓛 alive r)) ∷ []) ∵ move ! (1 ∷ []) $ split ! $ move ! (2 ∷ 1 ∷ []) $
+          use2 𝓛 (given (told log) (‵ (over (ended_lives log)) ⊛ ‵ (living 𝓛 alive r))) (none_over 𝓛 alive (ended_lives log) r) $ learn ! (λ none. check ! none $ split ! $ move ! (2 ∷ 1 ∷ []) $ join ! $ move ! (1 ∷ 0 ∷ []) $ done !)
 
-      ends : (log : List Entry) → Before n p seen all log → told log → ⟦ over (ended log) ⟧ ∗ (⟦ over lives ⟧ ∗ ⟦ living 𝓛 alive r ⟧) ⊢ upd 𝓤 (⟦ over (ended (log ++ ev log ∷ [])) ⟧ ∗ ⟦ living 𝓛 alive r ⟧)
-      ends log before none = let Z : Pr = ⟦ over (ended (log ++ ev log ∷ [])) ⟧ ∗ ⟦ living 𝓛 alive r ⟧ in qed 𝓛 (‵ (over (ended log)) ∷ (‵ (over lives) ⊛ ‵ (living 𝓛 alive r)) ∷ []) ∵ move ! (1 ∷ []) $ split ! $ move ! (2 ∷ 0 ∷ []) $
-          use2 𝓛 (‵ (over (ended (log ++ ev log ∷ [])))) (ends_those 𝓛 log (ev log) lives (step log log before none).ends) $ suffices ! _ (upd_i 𝓤 Z) $ done !
+      ends : (log : List Entry) → Before n p seen all log → told log → ⟦ over (ended_lives log) ⟧ ∗ (⟦ over lives ⟧ ∗ ⟦ living 𝓛 alive r ⟧) ⊢ upd 𝓤 (⟦ over (ended_lives (log ++ ev log ∷ [])) ⟧ ∗ ⟦ living 𝓛 alive r ⟧)
+      ends log before none = let Z : Pr = ⟦ over (ended_lives (log ++ ev log ∷ [])) ⟧ ∗ ⟦ living 𝓛 alive r ⟧ in qed 𝓛 (‵ (over (ended_lives log)) ∷ (‵ (over lives) ⊛ ‵ (living 𝓛 alive r)) ∷ []) ∵ move ! (1 ∷ []) $ split ! $ move ! (2 ∷ 0 ∷ []) $
+          use2 𝓛 (‵ (over (ended_lives (log ++ ev log ∷ [])))) (ends_those 𝓛 log (ev log) lives (step log log before none).ends) $ suffices ! _ (upd_i 𝓤 Z) $ done !
 
       abbrev now : List Entry → List Entry
       now log = log_then v log
@@ -213,8 +213,8 @@ module _ {M : Type 1} {𝓤 : Ura M} (𝓛 : Logic 𝓤) (site : Site) where
           pick ! (λ log. learn ! (λ made. let is = step log log made.2 made.3 in let log' : List Entry = now log in let left : List (HeldKey Entry) = left_then v t log in
           split ! $ move ! (1 ∷ []) $ split3 ! $
           -- [the pass; the keys; the tokens; J; the word; what else is brought]
-          move ! (1 ∷ []) $ rewrite ! 0 (λ (bs : List (ℕ × ℕ)). ‵ (keys (renewed all log' ++ born bs log'))) is.bears refl $ use1 𝓛 (‵ (keys (renewed all log')) ⊛ ‵ (keys (born births log'))) (keys_parted 𝓛 n (renewed all log') (born births log')) $ split ! $
-          fsplit ! $ move ! (1 ∷ []) $ let then_ : List (HeldKey Entry) = renewed (held_then (kind_of site.kind) (trades v) t.1 held) log' in
+          move ! (1 ∷ []) $ rewrite ! 0 (λ (bs : List (ℕ × ℕ)). ‵ (keys (with_list all log' ++ keys_made bs log'))) is.bears refl $ use1 𝓛 (‵ (keys (with_list all log')) ⊛ ‵ (keys (keys_made births log'))) (keys_parted 𝓛 n (with_list all log') (keys_made births log')) $ split ! $
+          fsplit ! $ move ! (1 ∷ []) $ let then_ : List (HeldKey Entry) = with_list (held_then (kind_of site.kind) (trades v) t.1 held) log' in
           use1 𝓛 (‵ (keys left) ⊛ ‵ (keys then_)) (trade (kind_of site.kind) (trades v) t.1 held log') $ split ! $
           -- [the keys beside the word; the holder's; the word's own; those that were made; the pass; the tokens; J; the word; what else is brought]
           move ! (4 ∷ 0 ∷ 5 ∷ 8 ∷ []) $ group ! 4 $ use1 𝓛 (raw (upd 𝓤 (⟦ pass_holds n p log' ⟧ ∗ ⟦ keys left ⟧ ∗ ⟦ out v (had log) ⟧))) (takes v t log (found log made.2 made.3) (stepped log made) is.stands) $
@@ -222,7 +222,7 @@ module _ {M : Type 1} {𝓤 : Ura M} (𝓛 : Logic 𝓤) (site : Site) where
           -- [the keys beside the word; the holder's; the word's own; those that were made; the pass; what was taken; J; the word]
           move ! (1 ∷ 3 ∷ []) $ use2 𝓛 (‵ (keys (had log).1)) (bears then_ births log') $ move ! (1 ∷ 0 ∷ []) $
           -- [the keys beside the word; the holder's; the word's own; the pass; what was taken; J; the word]
-          move ! (2 ∷ 0 ∷ []) $ fjoin ! $ nothing ! $ fpack ! (ShowsWord site (f v) log' × Stands site log' left) (λ _. ftrue) (is.shows, is.stands) $ move ! (0 ∷ 1 ∷ []) $ fjoin ! $
+          move ! (2 ∷ 0 ∷ []) $ fjoin ! $ nothing ! $ fpack ! (ShowsWord site (f v) log' × AreOtherKeys site log' left) (λ _. ftrue) (is.shows, is.stands) $ move ! (0 ∷ 1 ∷ []) $ fjoin ! $
           fpack ! At (word_knows site (f v)) (log', left) $ move ! (5 ∷ 0 ∷ []) $ fjoin ! $ fpack ! ℕ (word_lies site b o) (f v) $ frame ! $
           -- [the holder's keys; the pass; what was taken; J]
           move ! (3 ∷ []) $ frame ! $ move ! (0 ∷ 2 ∷ []) $ fjoin ! $ move ! (1 ∷ 0 ∷ []) $ fjoin ! $ nothing ! $ fpack ! (HasSteppedWith births site p seen log' held (had log).1 alive v (f v) entry trades) (λ _. ftrue) (stepped log made) $ move ! (0 ∷ 1 ∷ []) $ fjoin ! $
@@ -259,7 +259,7 @@ module _ {M : Type 1} {𝓤 : Ura M} (𝓛 : Logic 𝓤) (site : Site) where
     abbrev pub after_look : ℕ → Fml
     after_look v = fex (List Entry) (glimpsed v)
 
-    module _ (distinct : IsDistinct 𝓛 n) (v : ℕ) (t : At) (so : ShowsWord site v t.0 × Stands site t.0 t.1) where
+    module _ (distinct : IsDistinct 𝓛 n) (v : ℕ) (t : At) (so : ShowsWord site v t.0 × AreOtherKeys site t.0 t.1) where
       abbrev its : List (HeldKey Entry)
       its = in_step site held t
 
@@ -276,7 +276,7 @@ module _ {M : Type 1} {𝓤 : Ura M} (𝓛 : Logic 𝓤) (site : Site) where
           -- [J; the pass; the keys; the word]
           move ! (2 ∷ []) $ fsplit ! $ move ! (1 ∷ []) $ use1 𝓛 (‵ (keys t.1) ⊛ ‵ (keys held)) (keys_parted 𝓛 n t.1 held) $ split ! $
           -- [the keys beside the word; the holder's; the word's own; J; the pass; the word]
-          move ! (2 ∷ 0 ∷ []) $ fjoin ! $ nothing ! $ fpack ! (ShowsWord site v t.0 × Stands site t.0 t.1) (λ _. ftrue) so $ move ! (0 ∷ 1 ∷ []) $ fjoin ! $
+          move ! (2 ∷ 0 ∷ []) $ fjoin ! $ nothing ! $ fpack ! (ShowsWord site v t.0 × AreOtherKeys site t.0 t.1) (λ _. ftrue) so $ move ! (0 ∷ 1 ∷ []) $ fjoin ! $
           fpack ! At (word_knows site v) t $ move ! (4 ∷ 0 ∷ []) $ fjoin ! $ fpack ! ℕ (word_lies site b o) v $ frame ! $
           -- [the holder's keys; J; the pass]
           move ! (1 ∷ []) $ frame ! $ move ! (1 ∷ 0 ∷ []) $ fjoin ! $ nothing ! $ fpack ! (LooksAt site p seen log held v) (λ _. ftrue) (looks log before) $ move ! (0 ∷ 1 ∷ []) $ fjoin ! $

@@ -5,15 +5,15 @@ use Rattle.seize_machine.specs.Machine.State.{State, Inactive, head_at, slot_at}
 use Rattle.seize_machine.specs.Machine.Event.{Take}
 use Rattle.seize_machine.specs.Machine.Next.{first_free}
 use Rattle.seize_machine.specs.declared.machine.event.Answer.{Answer}
-use Rattle.seize_words.specs.Atomic.{TakesWith, entries, plus}
-use Rattle.seize_book.specs.Book.{Kept, TheSlot, acts, after, by_slot, heads, numbers, of_slot, slots}
+use Rattle.seize_words.specs.Atomic.{TakesStepWith, entries, plus}
+use Rattle.seize_book.specs.Book.{HolderKnows, TheSlot, acts, after, by_slot, heads, numbers, of_slot, slots}
 use Rattle.seize_book.specs.Entry.{Entry, Made}
 use Rattle.seize_book.specs.Ledger.{HeldKey}
 use Rattle.seize_book.specs.Others.{state_of}
 use Rattle.seize_book.specs.Passes.{IsSamePass}
 use Rattle.seize_book.specs.Private.{is_one, key_of, label_of, note_of, own_of}
 use Rattle.seize_words.specs.Stepping.{FoundAs, HasSteppedWith, MayStepWith}
-use Rattle.seize_book.specs.Tokens.{Name, Noted, start}
+use Rattle.seize_book.specs.Tokens.{AddsEntry, Name, start}
 use Rattle.seize_book.specs.Tables.{IsPlaced}
 use Rattle.seize_words.specs.Totals.{MayMake, made_of}
 use Rattle.seize_words.specs.Words.{IsTotal, Site}
@@ -77,7 +77,7 @@ module _ (word : Site) (numbers_ : NumbersKey) (key : SlotKey) (pass : Pass) (bo
   pub record Told (keys' : Keys) (pass' : Pass) : Type 0 where
     pub same : IsSamePass pass pass'
     pub name : keys'.name ≡ n
-    pub noted : Noted n pass.id pass.seen pass'.seen (Made (takes pass.id pass.size s))
+    pub noted : AddsEntry n pass.id pass.seen pass'.seen (Made (takes pass.id pass.size s))
     pub held : keys'.held ≡ record { kind = numbers; key = key_of a; own = pass'.seen; label = label_of a; note = note_of a } ∷ record { kind = slots; key = key_of b; own = pass'.seen; label = label_of b; note = note_of b }
         ∷ record { kind = slots; key = suc s; own = pass'.seen; label = 0; note = gnil } ∷ record { kind = heads; key = suc s; own = pass'.seen; label = 0; note = gnil } ∷ []
     pub acts : by_slot (start n) s pass'.seen ≡ by_slot (start n) s (own_of b) ++ (Made (takes pass.id pass.size s), noted.answer) ∷ []
@@ -87,7 +87,7 @@ module _ (word : Site) (numbers_ : NumbersKey) (key : SlotKey) (pass : Pass) (bo
     pub full : (length noted.later.slots ≡ suc s) × (first_free noted.later.slots ≡ suc s)
 
   module _ (keys' : Keys) (pass' : Pass) (v : ℕ) where
-    pub told : TakesWith (of_slot (suc (length (state_of both).slots))) word both pass keys' pass' [] (plus 1) v (entries pass 0 (λ v log. Take (length (state_of both).slots))) (λ v. false) → Told keys' pass'
+    pub told : TakesStepWith (of_slot (suc (length (state_of both).slots))) word both pass keys' pass' [] (plus 1) v (entries pass 0 (λ v log. Take (length (state_of both).slots))) (λ v. false) → Told keys' pass'
     told took =
         let step : HasSteppedWith (of_slot (suc s)) (at_total n) pass.id pass.seen pass'.seen (a ++ b) keys'.held [] v (plus 1 v) event (λ v. false) =
         subst (λ (t : Site × (List (HeldKey Entry) × ℕ)). HasSteppedWith (of_slot (suc t.1.1)) t.0 pass.id pass.seen pass'.seen t.1.0 keys'.held [] v (plus 1 v) (entries pass 0 (λ v log. Take t.1.1)) (λ v. false))
@@ -104,7 +104,7 @@ module _ (word : Site) (numbers_ : NumbersKey) (key : SlotKey) (pass : Pass) (bo
               ap (λ (log : List Entry). by_slot (start n) s log) noted.appended
               ∙ selected_in (λ x. acts s x.0) (start n) noted.before (Made (takes pass.id pass.size s)) (noted.later, noted.answer) noted.does (equal s s refl)
               ∙ ap (λ (made : List (Entry × Answer)). made ++ (Made (takes pass.id pass.size s), noted.answer) ∷ [])
-              (sym (subst (λ (k : ℕ). Kept (start n) TheSlot k (own_of b) noted.before) may.1
+              (sym (subst (λ (k : ℕ). HolderKnows (start n) TheSlot k (own_of b) noted.before) may.1
               (slot_kept n a b its pass.id pass.size v pass.seen step.since noted.before found)).1.0);
           slot = new_slot n a b its pass.id pass.size v pass.seen step.since noted.before found (noted.later, noted.answer) noted.does;
           head = new_head n a b its pass.id pass.size v pass.seen step.since noted.before found (noted.later, noted.answer) noted.does reached;

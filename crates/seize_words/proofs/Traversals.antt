@@ -20,7 +20,7 @@ use Rattle.seize_book.specs.Blocks.{Plan, block_for, block_number, front_of, no_
 use Rattle.seize_book.specs.Book.{IsLegalList, after, slots}
 use Rattle.seize_book.specs.Private.{is_one}
 use Rattle.seize_book.specs.declared.book.keys.Keys.{Keys}
-use Rattle.seize_book.specs.Chains.{first_field, served}
+use Rattle.seize_book.specs.Chains.{first_field, insertion_value}
 use Rattle.seize_words.specs.Chunks.{IsHeaderOf, header_home}
 use Rattle.seize_words.specs.Counts.{home}
 use Rattle.seize_book.specs.Entry.{Deed, Entry, Made}
@@ -28,7 +28,7 @@ use Rattle.seize_words.specs.Headers.{IsFrontBlock, Passes}
 use Rattle.seize_book.specs.Homes.{IsSound, home_of}
 use Rattle.seize_book.specs.Homesteads.{HasNumber, state_seen}
 use Rattle.seize_book.specs.Passes.{LooksOn}
-use Rattle.seize_book.specs.Slots.{IsKeyOfBook, IsStill, Notes, NotesAs, hands_next, own_list, slot_number, slot_of, start_of}
+use Rattle.seize_book.specs.Slots.{AddsDeed, AddsEvent, IsKeyOfBook, IsStill, hands_next, own_list, slot_number, slot_of, start_of}
 use Rattle.seize_book.specs.Loans.{AllCarryOne}
 use Rattle.seize_book.specs.Tokens.{IsSole, Name, start}
 use Rattle.seize_words.specs.Walks.{IsAtBatch, Knows, word_for}
@@ -48,7 +48,7 @@ same_key key key' still = subst (λ (k : Keys). (one : is_one slots k.held ≡ t
 
 -- what the first field showed to a key that knew the same
 pub front_shown : (key key' : SlotKey) → IsStill key key' → (f front : ℕ) → ((w : Passes first_field f key') → IsFrontBlock key' w.batch front) → (word : ℕ) (at : IsAtBatch key word)
-    → f ≡ first_field (home_of (served (plans (start_of key) (own_list key)) at.batch (slot_number key))) → IsFrontBlock key at.batch front
+    → f ≡ first_field (home_of (insertion_value (plans (start_of key) (own_list key)) at.batch (slot_number key))) → IsFrontBlock key at.batch front
 front_shown key key' still f front shows word at its =
     subst (λ (k : SlotKey). (w : Passes first_field f k) → IsFrontBlock k w.batch front) (same_key key key' still) shows
     (record { batch = at.batch; walk = at.walk; queue = at.queue; walking = at.walking; its = its })
@@ -110,7 +110,7 @@ module _ (key : SlotKey) (pass : Pass) (book : IsKeyOfBook key pass) (knows : Kn
   -- a batch that the slot's call walks
   module _ (b : ℕ) (walks : Walks (after st own) (slot_number key) b) where
     abbrev pub its_value : ℕ
-    its_value = served (plans st own) b (slot_number key)
+    its_value = insertion_value (plans st own) b (slot_number key)
 
     pub value_named : has its_value (state_seen pass).named ≡ true
     value_named = living_named its_value (walked_living key.keys.name own distinct its_own b (slot_number key) walks)
@@ -186,7 +186,7 @@ word_stays key key' pass batch (b ∷ walk) queue book knows name slot grows wal
 -- A walk goes on after events of the slot that leave it as it is: after values were handed that a batch of it gave up.
 
 -- what the key knows after an event, the pass has seen
-pub knows_noted : (key key' : SlotKey) (pass pass' : Pass) (e : Deed) → NotesAs key pass key' pass' e → Knows key' pass'
+pub knows_noted : (key key' : SlotKey) (pass pass' : Pass) (e : Deed) → AddsDeed key pass key' pass' e → Knows key' pass'
 knows_noted key key' pass pass' e notes =
     let noted = notes.2.0 in
     record {
@@ -196,7 +196,7 @@ knows_noted key key' pass pass' e notes =
     }
 
 -- the word of the walk is the same
-pub walk_kept : (key key' : SlotKey) (pass pass' : Pass) (e : Deed) (given walk queue : List ℕ) → IsKeyOfBook key pass → Knows key pass → NotesAs key pass key' pass' e
+pub walk_kept : (key key' : SlotKey) (pass pass' : Pass) (e : Deed) (given walk queue : List ℕ) → IsKeyOfBook key pass → Knows key pass → AddsDeed key pass key' pass' e
     → (slot_of key).call ≡ Some (record { place = Rest given walk; queue = queue }) → word_for key walk ≡ word_for key' walk
 walk_kept key key' pass pass' e given walk queue book knows notes stands =
     let noted = notes.2.0 in
@@ -216,7 +216,7 @@ fresh_of : (size : ℕ) (st : State) (s : ℕ) (puts : List ℕ) (d : State × A
 fresh_of size _ _ _ _ (Step.handed s v puts given walk queue stands fresh) = fresh
 
 -- a value that goes to its reclaimer leaves the walk, and those that its reclaimer puts join the queue
-pub hand_leaves : (key key' : SlotKey) (pass pass' : Pass) (puts kepts given walk queue : List ℕ) (v : ℕ) → NotesAs key pass key' pass' (deed_with_words pass (Hand (slot_number key) puts) kepts)
+pub hand_leaves : (key key' : SlotKey) (pass pass' : Pass) (puts kepts given walk queue : List ℕ) (v : ℕ) → AddsDeed key pass key' pass' (deed_with_words pass (Hand (slot_number key) puts) kepts)
     → (slot_of key).call ≡ Some (record { place = Rest (v ∷ given) walk; queue = queue }) → (slot_of key').call ≡ Some (record { place = Rest given walk; queue = queue ++ puts })
 hand_leaves key key' pass pass' puts kepts given walk queue v notes stands =
     let s = slot_number key in let noted = notes.2.0 in let moves = notes.2.1 in let st : State = after (start_of key) noted.before in
@@ -229,7 +229,7 @@ hand_leaves key key' pass pass' puts kepts given walk queue v notes stands =
     (moves.is ∙ ap (λ (x : State × Answer). slot_at x.0 s) (some_is _ _ (sym moves.legal ∙ is)) ∙ get_or-set_same st.slots s slot no_slot (there st s (Rest (v ∷ given) walk) queue here))
 
 -- so the slot's call comes to the next batch once no value is left to hand
-pub batch_next : (key key' : SlotKey) (pass pass' : Pass) (puts walk queue : List ℕ) (v batch word : ℕ) → IsKeyOfBook key pass → Knows key pass → Notes key pass key' pass' (Hand (slot_number key) puts)
+pub batch_next : (key key' : SlotKey) (pass pass' : Pass) (puts walk queue : List ℕ) (v batch word : ℕ) → IsKeyOfBook key pass → Knows key pass → AddsEvent key pass key' pass' (Hand (slot_number key) puts)
     → (slot_of key).call ≡ Some (record { place = Rest (v ∷ []) (batch ∷ walk); queue = queue }) → word ≡ word_for key (batch ∷ walk) → IsAtBatch key' word
 batch_next key key' pass pass' puts walk queue v batch word book knows notes stands leads =
     record {

@@ -7,15 +7,15 @@ use Rattle.seize_machine.specs.declared.machine.event.Answer.{Answer}
 use Rattle.seize_machine.specs.declared.machine.event.Answer.TheVariants.{Done}
 use Rattle.seize_machine.proofs.Facts.{Stands}
 use Rattle.seize_words.specs.Atomic.{TakesStep}
-use Rattle.seize_book.specs.Blocks.{Plan, plans, serving}
-use Rattle.seize_book.specs.Book.{Does, IsLegalList, Kept, TheSlot, acts, after, by_slot, fields, rules, slots}
-use Rattle.seize_book.specs.Chains.{IsLed, IsWriting, first_field, insertion_fields, next_field, served, told, written_at}
+use Rattle.seize_book.specs.Blocks.{Plan, plan_value, plans}
+use Rattle.seize_book.specs.Book.{Does, HolderKnows, IsLegalList, TheSlot, acts, after, by_slot, fields, rules, slots}
+use Rattle.seize_book.specs.Chains.{IsLed, IsWriting, field_value, first_field, insertion_fields, insertion_value, next_field, written_at}
 use Rattle.seize_book.specs.Entry.{Entry, Used, Deed, Use}
 use Rattle.seize_book.specs.Fair.{Covers, pass_key}
 use Rattle.seize_words.specs.Headers.{IsStoring, Uses, first_of as first_in, next_of as next_in}
 use Rattle.seize_book.specs.Homes.{home_of}
 use Rattle.seize_book.specs.Laws.{life, life_from}
-use Rattle.seize_book.specs.Ledger.{AllKept, HeldKey}
+use Rattle.seize_book.specs.Ledger.{HeldKey, HoldersKnow}
 use Rattle.seize_book.specs.Private.{Tag, is_one, key_of, tag_of, own_of}
 use Rattle.seize_book.specs.Slots.{IsAfter, IsKeyOfBook, own_list, slot_number, start_of, written_of}
 use Rattle.seize_words.specs.Stepping.{FoundAs, HasStepped, IsStep, MayStep, in_step}
@@ -44,7 +44,7 @@ module _ (n : Name) (f : ℕ) where
   key s x own = record { kind = slots; key = s; own = own; label = x.0; note = x.1 } ∷ []
 
   -- what the word holds was last stored there
-  pub shown : (v p : ℕ) (seen : List Entry) (held : List (HeldKey Entry)) (t : At) (log : List Entry) → FoundAs (at_field n f) v p seen held [] t log → v ≡ told log f
+  pub shown : (v p : ℕ) (seen : List Entry) (held : List (HeldKey Entry)) (t : At) (log : List Entry) → FoundAs (at_field n f) v p seen held [] t log → v ≡ field_value log f
   shown v p seen held t log found = found.shows ∙ found.before.kept.0.1
 
   -- One use by a slot, with the slot's key.
@@ -67,7 +67,7 @@ module _ (n : Name) (f : ℕ) where
     other_field : (k m : ℕ) → f < m → m ≤ k → (f == k) ≡ false
     other_field k m less le = grind arith
 
-    made : IsLed (after st log) (plans st log) (told log) (Used u) → w ≡ told (log ++ Used u ∷ []) f → IsStep (at_field n f) p (key s x slots_own) [] w (Used u) false (since, []) own log
+    made : IsLed (after st log) (plans st log) (field_value log) (Used u) → w ≡ field_value (log ++ Used u ∷ []) f → IsStep (at_field n f) p (key s x slots_own) [] w (Used u) false (since, []) own log
     made led shows = record {
       fair = record {
         done = (after st log, Done);
@@ -92,7 +92,7 @@ module _ (n : Name) (f : ℕ) where
   -- it is enough to see it for the slot's key alone, and with no key beside the field's
   MayStepAs : (p s : ℕ) (x : Tag) (seen slots_own : List Entry) (g : ℕ → ℕ) (value : ℕ) → Type 0
   MayStepAs p s x seen slots_own g value =
-      (v : ℕ) (t : At) (own log : List Entry) → FoundAs (at_field n f) v p seen (key s x slots_own) [] t log → Kept st TheSlot s slots_own log → v ≡ told log f
+      (v : ℕ) (t : At) (own log : List Entry) → FoundAs (at_field n f) v p seen (key s x slots_own) [] t log → HolderKnows st TheSlot s slots_own log → v ≡ field_value log f
       → IsStep (at_field n f) p (key s x slots_own) [] (g v) (uses_it p s value) false (t.0, []) own log
 
   may_step : (p : ℕ) (seen : List Entry) (held : List (HeldKey Entry)) (g : ℕ → ℕ) (value : ℕ) → is_one slots held ≡ true → MayStepAs p (key_of held) (tag_of held) seen (own_of held) g value
@@ -102,7 +102,7 @@ module _ (n : Name) (f : ℕ) where
       subst (λ (hs : List (HeldKey Entry)). MayStep (at_field n f) p seen hs [] [] g (λ v log. uses_it p (key_of held) value) (λ v. false)) (sym (only_is slots held one)) (
         (omega arith, tt),
         (λ v t own log found.
-            let kept = subst (λ (vs : List (HeldKey Entry)). AllKept (rules st) (vs ++ key (key_of held) (tag_of held) (own_of held)) log) found.stands found.before.kept.1 in
+            let kept = subst (λ (vs : List (HeldKey Entry)). HoldersKnow (rules st) (vs ++ key (key_of held) (tag_of held) (own_of held)) log) found.stands found.before.kept.1 in
             subst (λ (vs : List (HeldKey Entry)). IsStep (at_field n f) p (key (key_of held) (tag_of held) (own_of held)) [] (g v) (uses_it p (key_of held) value) false (t.0, vs) own log) (sym found.stands)
             (steps v t own log found kept.0 (shown v p seen (key (key_of held) (tag_of held) (own_of held)) t log found))),
       )
@@ -114,15 +114,15 @@ module _ (n : Name) (f : ℕ) where
   its_own : (value : ℕ) (b : Bool) (v : ℕ) → b ≡ true → value ≡ (if b then value else v)
   its_own value b v e = ap (λ (c : Bool). if c then value else v) (sym e)
 
-  module _ (s : ℕ) (own log : List Entry) (distinct : are_distinct (linked_values n.links) ≡ true) (legal : IsLegalList st log) (kept : Kept st TheSlot s own log) where
+  module _ (s : ℕ) (own log : List Entry) (distinct : are_distinct (linked_values n.links) ≡ true) (legal : IsLegalList st log) (kept : HolderKnows st TheSlot s own log) where
     pub own_legal : IsLegalList st own
     own_legal = legal_prefix st own log kept.0 legal
 
     -- what the slot knew of its batch's plan holds still
-    pub served_stays : (b m : ℕ) → b < length (after st own).batches → served (plans st own) b m ≡ served (plans st log) b m
-    served_stays b m there = ap (λ (plan : Plan). serving m plan.slots plan.values) (plan_stays st own log b kept.0 (subst (λ (k : ℕ). b < k) (sym (plans_long n own own_legal)) there))
+    pub served_stays : (b m : ℕ) → b < length (after st own).batches → insertion_value (plans st own) b m ≡ insertion_value (plans st log) b m
+    served_stays b m there = ap (λ (plan : Plan). plan_value m plan.slots plan.values) (plan_stays st own log b kept.0 (subst (λ (k : ℕ). b < k) (sym (plans_long n own own_legal)) there))
 
-    pub writing : (which : ℕ → ℕ) → (w : IsStoring st s own which f) → (f ≡ which (home_of (served (plans st log) w.batch w.at))) × Stands (after st log) s (Try w.batch w.won w.at w.later w.saw) w.queue
+    pub writing : (which : ℕ → ℕ) → (w : IsStoring st s own which f) → (f ≡ which (home_of (insertion_value (plans st log) w.batch w.at))) × Stands (after st log) s (Try w.batch w.won w.at w.later w.saw) w.queue
     writing which w =
         let there = tried_there (after st own) s w.batch w.won w.at w.later w.saw w.queue (reached_after n own distinct own_legal) w.trying in
         (w.its ∙ ap (λ (v : ℕ). which (home_of v)) (served_stays w.batch w.at there), ap (λ slot. slot.call) (sym kept.1.1) ∙ w.trying)
@@ -132,9 +132,9 @@ module _ (n : Name) (f : ℕ) where
   unfolding MayStepAs
   may_store p value seen held one stores =
       may_step p seen held (λ v. value) value one (λ v t own log found kept word.
-      made p (key_of held) (tag_of held) (own_of held) own t.0 log value value (led log found.distinct found.before.legal kept stores) (its_own value (f == f) (told log f) (equal f f refl) ∙ sym (told_push log (uses_it p (key_of held) value) f)))
+      made p (key_of held) (tag_of held) (own_of held) own t.0 log value value (led log found.distinct found.before.legal kept stores) (its_own value (f == f) (field_value log f) (equal f f refl) ∙ sym (told_push log (uses_it p (key_of held) value) f)))
     where
-      led : (log : List Entry) → are_distinct (linked_values n.links) ≡ true → IsLegalList st log → Kept st TheSlot (key_of held) (own_of held) log
+      led : (log : List Entry) → are_distinct (linked_values n.links) ≡ true → IsLegalList st log → HolderKnows st TheSlot (key_of held) (own_of held) log
           → IsStoring st (key_of held) (own_of held) next_field f ⊎ IsStoring st (key_of held) (own_of held) first_field f → IsWriting (after st log) (plans st log) (key_of held) f
       led log distinct legal kept (inl w) =
           let now = writing (key_of held) (own_of held) log distinct legal kept next_field w in
@@ -172,8 +172,8 @@ module _ (f : ℕ) (key key' : SlotKey) (pass pass' : Pass) (g : ℕ → ℕ) (v
   is_seen : pass'.seen ≡ log ++ e ∷ []
   is_seen = step.noted.appended ∙ ap (λ (l : List Entry). l ++ e ∷ []) step.is_log
 
-  kept : Kept (start n) TheSlot s own log
-  kept = one_kept (start n) key.keys.held log key.one (subst (λ (vs : List (HeldKey Entry)). AllKept (rules (start n)) (vs ++ key.keys.held) log) step.found.stands step.found.before.kept.1)
+  kept : HolderKnows (start n) TheSlot s own log
+  kept = one_kept (start n) key.keys.held log key.one (subst (λ (vs : List (HeldKey Entry)). HoldersKnow (rules (start n)) (vs ++ key.keys.held) log) step.found.stands step.found.before.kept.1)
 
   distinct : are_distinct (linked_values n.links) ≡ true
   distinct = step.found.distinct
@@ -215,28 +215,28 @@ module _ (f : ℕ) (key key' : SlotKey) (pass pass' : Pass) (g : ℕ → ℕ) (v
   -- What was stored, and what was not.
 
   abbrev home : ℕ → ℕ → ℕ
-  home b m = home_of (served (plans (start n) log) b m)
+  home b m = home_of (insertion_value (plans (start n) log) b m)
 
   abbrev told' : ℕ → ℕ
-  told' = told (log ++ e ∷ [])
+  told' = field_value (log ++ e ∷ [])
 
   written_now : (b won m : ℕ) (later saw queue : List ℕ) → Stands now s (Try b won m later saw) queue → written_of key' ≡ Some (told' (next_field (home b m)), told' (first_field (home b m)))
   written_now b won m later saw queue stands =
-      ap (λ (t : Name × (List Entry × ℕ)). insertion_fields (after (start t.0) t.1.0) (plans (start t.0) t.1.0) (told t.1.0) t.1.1) (λ i. ((seen_by.0 ∙ book) i, ((seen_by.2 ∙ is_seen) i, seen_by.1 i)))
+      ap (λ (t : Name × (List Entry × ℕ)). insertion_fields (after (start t.0) t.1.0) (plans (start t.0) t.1.0) (field_value t.1.0) t.1.1) (λ i. ((seen_by.0 ∙ book) i, ((seen_by.2 ∙ is_seen) i, seen_by.1 i)))
       ∙ (λ i. insertion_fields (after_used (start n) log (record { pass = pass.id; slot = s; field = f; value = value }) i) (plans_used (start n) log (record { pass = pass.id; slot = s; field = f; value = value }) i) told' s)
       ∙ ap (of_call (written_at (plans (start n) log) told')) stands
 
   -- the two of them before
-  written_before : (b won m : ℕ) (later saw queue : List ℕ) → Stands now s (Try b won m later saw) queue → Some (told log (next_field (home b m)), told log (first_field (home b m))) ≡ written_of key
+  written_before : (b won m : ℕ) (later saw queue : List ℕ) → Stands now s (Try b won m later saw) queue → Some (field_value log (next_field (home b m)), field_value log (first_field (home b m))) ≡ written_of key
   written_before b won m later saw queue stands =
-      sym (ap (of_call (written_at (plans (start n) log) (told log))) stands) ∙ sym kept.1.3
-      ∙ ap (λ (z : Name). insertion_fields (after (start z) own) (plans (start z) own) (told own) s) (sym book)
+      sym (ap (of_call (written_at (plans (start n) log) (field_value log))) stands) ∙ sym kept.1.3
+      ∙ ap (λ (z : Name). insertion_fields (after (start z) own) (plans (start z) own) (field_value own) s) (sym book)
 
-  others : (j : ℕ) → j ≢ f → told' j ≡ told log j
+  others : (j : ℕ) → j ≢ f → told' j ≡ field_value log j
   others j other = told_other log (record { pass = pass.id; slot = s; field = f; value = value }) j other
 
   this : told' f ≡ value
-  this = told_push log e f ∙ ap (λ (c : Bool). if c then value else told log f) (equal f f refl)
+  this = told_push log e f ∙ ap (λ (c : Bool). if c then value else field_value log f) (equal f f refl)
 
   in_pass : (which : ℕ → ℕ) → IsStoring (start_of key) s own which f → IsStoring (start n) s own which f
   in_pass which w = subst (λ (z : Name). IsStoring (start z) s own which f) book w

@@ -11,9 +11,9 @@ use Rattle.seize_machine.specs.declared.machine.event.Answer.TheVariants.{Done}
 use Rattle.seize_machine.proofs.Facts.{Stands, Step, go_on, next_of, out_active, some_is}
 use Rattle.seize_words.specs.Atomic.{TakesStep, entries}
 use Rattle.seize_book.specs.Blocks.{block_for, list_word, word_of}
-use Rattle.seize_book.specs.Book.{Kept, TheSlot, after, heads, rules}
+use Rattle.seize_book.specs.Book.{HolderKnows, TheSlot, after, heads, rules}
 use Rattle.seize_book.specs.Entry.{Entry}
-use Rattle.seize_book.specs.Ledger.{AllKept, HeldKey}
+use Rattle.seize_book.specs.Ledger.{HeldKey, HoldersKnow}
 use Rattle.seize_book.specs.Slots.{IsKeyOfBook, own_list, slot_number, slot_of, start_of}
 use Rattle.seize_book.specs.Tokens.{Name, start}
 use Rattle.seize_book.specs.declared.book.pass.Pass.{Pass}
@@ -41,8 +41,8 @@ module _ (m : ℕ) (key key' : SlotKey) (pass pass' : Pass) (f : ℕ → ℕ) (v
   abbrev s : ℕ
   s = slot_number key
 
-  kept : Kept st TheSlot s (own_list key) log
-  kept = one_kept st key.keys.held log key.one (subst (λ (vs : List (HeldKey Entry)). AllKept (rules st) (vs ++ key.keys.held) log) told.2.found.stands told.2.found.before.kept.1)
+  kept : HolderKnows st TheSlot s (own_list key) log
+  kept = one_kept st key.keys.held log key.one (subst (λ (vs : List (HeldKey Entry)). HoldersKnow (rules st) (vs ++ key.keys.held) log) told.2.found.stands told.2.found.before.kept.1)
 
   reached : IsReached now
   reached = reached_after pass.name log told.2.found.distinct told.2.found.before.legal

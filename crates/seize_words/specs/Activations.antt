@@ -7,7 +7,7 @@
 --     SplitsUnit a a' unit     one unit was split off: a' and the unit are the same activation as a
 --     JoinsUnits a units a'    units came back
 use Rattle.std.specs.Prelude.{◌≡◌, ℕ, ◌+◌, ◌^◌, List, [], ◌∷◌}
-use Rattle.seize_book.specs.Laws.{IsAmong, ended}
+use Rattle.seize_book.specs.Laws.{IsAmong, ended_lives}
 use Rattle.seize_book.specs.Private.{key_of, own_of}
 use Rattle.seize_words.specs.Units.{all_units}
 use Rattle.seize_words.specs.declared.activation.Activation.{Activation}
@@ -25,7 +25,7 @@ BeginsAs a keys a' =
     (a'.name ≡ a.name) × (a'.slot ≡ a.slot) × (a'.life ≡ a.life) × (a'.since ≡ own_of keys.held) × (a'.units ≡ a.units)
 
 abbrev pub IsLasting : Activation → Pass → Type 0
-IsLasting a pass = ¬ (IsAmong (ended pass.seen) a.life)
+IsLasting a pass = ¬ (IsAmong (ended_lives pass.seen) a.life)
 
 abbrev pub Ends : Activation → Activation → List ℕ → ℕ → Type 0
 Ends a a' lives next =

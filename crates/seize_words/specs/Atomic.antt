@@ -1,11 +1,11 @@
 -- The words in which the contracts of atomic steps speak.
---     exchanged seen new v          what a compare and exchange leaves that found v
+--     after_exchange seen new v     what a compare and exchange leaves that found v
 --     plus k v, minus k v           what an addition or a subtraction of k leaves that found v, round 2^64
 --     entries pass life event v log     the entry of an event by a step that found v in the word, where the list was this just before
 --     MayTakeStep word keys pass alive lives f entry trades     the holder of the keys may take the step with the pass: see MayStep
 --     TakesStep word keys pass keys' pass' alive f v entry trades     the step was taken and found v: see HasStepped
---     MayTakeIn, TakesIn            the same where the activation has not ended
---     MayTakeWith, TakesWith        the same where the step makes keys
+--     MayTakeStepIn, TakesStepIn        the same where the activation has not ended
+--     MayTakeStepWith, TakesStepWith    the same where the step makes keys
 --     FindsFor                      where a step on a link doesn't trade, who makes it finds what the link holds then, in this activation
 --     MaySeeIn, SeesIn              it takes a share of what is lent with that, in the same step
 --     MayLookAtWord word keys pass     they are of one book;  LooksAtWord word keys pass keys' pass' v     see LooksAt
@@ -17,21 +17,21 @@ use Rattle.seize_machine.specs.Machine.Event.{Event}
 use Rattle.seize_machine.specs.Machine.State.{link_at}
 use Rattle.seize_book.specs.Entry.{Entry, Made, Deed}
 use Rattle.seize_book.specs.Book.{after, kinds, links}
-use Rattle.seize_words.specs.Glimpses.{shown}
+use Rattle.seize_words.specs.Glimpses.{value_shown}
 use Rattle.seize_book.specs.Laws.{Reader}
 use Rattle.seize_book.specs.Ledger.{HeldKey, WithKinds}
 use Rattle.seize_book.specs.Private.{key_of, own_of}
 use Rattle.seize_book.specs.Passes.{IsSamePass}
 use Rattle.seize_words.specs.Stepping.{At, Births, FoundAs, HasSteppedWith, LooksAt, MayStepWith}
 use Rattle.seize_book.specs.Tokens.{start}
-use Rattle.seize_words.specs.Words.{Site, ShowsWord, Stands, site_keys}
+use Rattle.seize_words.specs.Words.{Site, ShowsWord, AreOtherKeys, site_keys}
 use Rattle.seize_words.specs.declared.activation.Activation.{Activation}
 use Rattle.seize_book.specs.declared.book.keys.Keys.{Keys}
 use Rattle.seize_book.specs.declared.book.pass.Pass.{Pass}
 use Rattle.seize_words.specs.declared.glimpse.Glimpse.{Glimpse}
 
-abbrev pub exchanged : ℕ → ℕ → ℕ → ℕ
-exchanged seen new v = either (eqb v seen) new v
+abbrev pub after_exchange : ℕ → ℕ → ℕ → ℕ
+after_exchange seen new v = either (eqb v seen) new v
 
 abbrev pub plus : ℕ → ℕ → ℕ
 plus k v = (v + k) % 2 ^ 64
@@ -52,29 +52,29 @@ deed pass life event v log = record { pass = pass.id; size = pass.size; event = 
 abbrev pub entries : Pass → ℕ → Events → ℕ → List Entry → Entry
 entries pass life event v log = Made (deed pass life event v log)
 
-abbrev pub MayTakeWith : Births → Site → Keys → Pass → List ℕ → List ℕ → (ℕ → ℕ) → Entries → (ℕ → Bool) → Type 0
-MayTakeWith births word keys pass alive lives f entry trades =
+abbrev pub MayTakeStepWith : Births → Site → Keys → Pass → List ℕ → List ℕ → (ℕ → ℕ) → Entries → (ℕ → Bool) → Type 0
+MayTakeStepWith births word keys pass alive lives f entry trades =
     (word.name ≡ pass.name) × (keys.name ≡ pass.name)
     × MayStepWith births word pass.id pass.seen keys.held alive lives f entry trades
 
-abbrev pub TakesWith : Births → Site → Keys → Pass → Keys → Pass → List ℕ → (ℕ → ℕ) → ℕ → Entries → (ℕ → Bool) → Type 0
-TakesWith births word keys pass keys' pass' alive f v entry trades =
+abbrev pub TakesStepWith : Births → Site → Keys → Pass → Keys → Pass → List ℕ → (ℕ → ℕ) → ℕ → Entries → (ℕ → Bool) → Type 0
+TakesStepWith births word keys pass keys' pass' alive f v entry trades =
     IsSamePass pass pass' × (keys'.name ≡ keys.name)
     × HasSteppedWith births word pass.id pass.seen pass'.seen keys.held keys'.held alive v (f v) entry trades
 
 abbrev pub MayTakeStep : Site → Keys → Pass → List ℕ → List ℕ → (ℕ → ℕ) → Entries → (ℕ → Bool) → Type 0
-MayTakeStep = MayTakeWith []
+MayTakeStep = MayTakeStepWith []
 
 abbrev pub TakesStep : Site → Keys → Pass → Keys → Pass → List ℕ → (ℕ → ℕ) → ℕ → Entries → (ℕ → Bool) → Type 0
-TakesStep = TakesWith []
+TakesStep = TakesStepWith []
 
 -- the same where the activation has not ended
 
-abbrev pub MayTakeIn : Site → Keys → Pass → Activation → (ℕ → ℕ) → Entries → (ℕ → Bool) → Type 0
-MayTakeIn word keys pass activation f entry trades = MayTakeStep word keys pass (activation.life ∷ []) [] f entry trades
+abbrev pub MayTakeStepIn : Site → Keys → Pass → Activation → (ℕ → ℕ) → Entries → (ℕ → Bool) → Type 0
+MayTakeStepIn word keys pass activation f entry trades = MayTakeStep word keys pass (activation.life ∷ []) [] f entry trades
 
-abbrev pub TakesIn : Site → Keys → Pass → Keys → Pass → Activation → (ℕ → ℕ) → ℕ → Entries → (ℕ → Bool) → Type 0
-TakesIn word keys pass keys' pass' activation f v entry trades =
+abbrev pub TakesStepIn : Site → Keys → Pass → Keys → Pass → Activation → (ℕ → ℕ) → ℕ → Entries → (ℕ → Bool) → Type 0
+TakesStepIn word keys pass keys' pass' activation f v entry trades =
     TakesStep word keys pass keys' pass' (activation.life ∷ []) f v entry trades
 
 -- the same on a link, with a share of what is lent with what the link holds
@@ -87,12 +87,12 @@ FindsFor word pass held life entry trades =
 
 abbrev pub MaySeeIn : Site → Keys → Pass → Activation → (ℕ → ℕ) → Entries → (ℕ → Bool) → Type 0
 MaySeeIn word keys pass activation f entry trades =
-    (word.kind ≡ links) × MayTakeIn word keys pass activation f entry trades × FindsFor word pass keys.held activation.life entry trades
+    (word.kind ≡ links) × MayTakeStepIn word keys pass activation f entry trades × FindsFor word pass keys.held activation.life entry trades
 
 abbrev pub SeesIn : Site → Keys → Pass → Keys → Pass → Activation → (ℕ → ℕ) → ℕ × Glimpse → Entries → (ℕ → Bool) → Type 0
 SeesIn word keys pass keys' pass' activation f found entry trades =
-    TakesIn word keys pass keys' pass' activation f found.0 entry trades
-    × (found.1.value ≡ shown (trades found.0) (link_at (after (start word.name) pass'.seen) word.number))
+    TakesStepIn word keys pass keys' pass' activation f found.0 entry trades
+    × (found.1.value ≡ value_shown (trades found.0) (link_at (after (start word.name) pass'.seen) word.number))
 
 -- a look, which adds nothing
 
@@ -116,4 +116,4 @@ site_of keys = record { name = keys.name; kind = first_kind keys.held; number = 
 abbrev pub IsWordOf : Keys → ℕ → Type 0
 IsWordOf keys bits =
     (keys.held ≡ site_keys (site_of keys) (own_of keys.held) (drop 1 keys.held))
-    × ShowsWord (site_of keys) bits (own_of keys.held) × Stands (site_of keys) (own_of keys.held) (drop 1 keys.held)
+    × ShowsWord (site_of keys) bits (own_of keys.held) × AreOtherKeys (site_of keys) (own_of keys.held) (drop 1 keys.held)

@@ -8,14 +8,14 @@ use Rattle.seize_words.specs.Counts.{home}
 use Rattle.seize_words.specs.Headers.{field_number}
 use Rattle.seize_words.specs.declared.batch.Count.{Count}
 use Rattle.seize_book.specs.declared.book.bare_key.BareKey.{BareKey}
-use Rattle.seize_book.specs.declared.book.token.Book.{Book}
+use Rattle.seize_book.specs.declared.book.seen.Seen.{Seen}
 use Rattle.seize_words.specs.declared.header.Field.{Field}
 
-abbrev pub HasCount : Book → Count → Type 0
+abbrev pub HasCount : Seen → Count → Type 0
 HasCount book count = count.word.name ≡ book.name
 
-abbrev pub HasField : (ℕ → ℕ) → Book → Count → Field → Type 0
+abbrev pub HasField : (ℕ → ℕ) → Seen → Count → Field → Type 0
 HasField which book count field = (field.word.name ≡ book.name) × (field_number field ≡ which (home count))
 
-abbrev pub HasKey : Book → BareKey → Type 0
+abbrev pub HasKey : Seen → BareKey → Type 0
 HasKey book key = bare_book key ≡ book.name

@@ -17,7 +17,7 @@
 --     LendsIn blocks key number g       the key is for a value that was never named, by this number, and a value of code g is lent with it
 --     IsFoundAt o number pass           it is a value, which was named, as the pass has seen, by this number, and something is lent with it
 --     IsFoundAs o g                     it is a value, and one of code g is lent with it
---     StandsAt v number pass            v was named and not reclaimed, as the pass has seen, and this is its number
+--     IsLiveAt v number pass            v was named and not reclaimed, as the pass has seen, and this is its number
 --     IsHeaderOf header number pass     it is of the pass's book, and each value with this number that was ever named lies in its block,
 --                                       with its cell
 use Rattle.std.specs.Prelude.{◌≡◌, ℕ, ◌+◌, ◌<◌, ◌^◌, List, Option, Some, false, true}
@@ -125,8 +125,8 @@ pub record IsFoundAt (o : Option ℕ) (number : ℕ) (pass : Pass) : Type 0 wher
   pub numbered : block_number value ≡ number
   pub lent : CarriesOne value
 
-abbrev pub StandsAt : ℕ → ℕ → Pass → Type 0
-StandsAt v number pass = (has v (state_seen pass).named ≡ true) × (has v (state_seen pass).gone ≡ false) × (block_number v ≡ number)
+abbrev pub IsLiveAt : ℕ → ℕ → Pass → Type 0
+IsLiveAt v number pass = (has v (state_seen pass).named ≡ true) × (has v (state_seen pass).gone ≡ false) × (block_number v ≡ number)
 
 abbrev pub IsFoundAs : Option ℕ → Gv → Type 0
 IsFoundAs o g = (v : ℕ) × (o ≡ Some v) × IsLentAs v g

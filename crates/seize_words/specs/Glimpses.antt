@@ -1,6 +1,6 @@
 -- What a reader of a link finds: a sight of what is lent with the value there. Before its step it makes an escrow, which is lent for the
 -- time of its activation; in the step it takes its share of the loan, and the loan has the right to the escrow then.
---     shown trades o         what is seen of what the link holds then: nothing where the step traded, since the holder has the key
+--     value_shown trades o   what is seen of what the link holds then: nothing where the step traded, since the holder has the key
 --     empty γ                the escrow is empty
 --     taken_share γ o        the share that was taken, for the escrow γ, of what is lent with the value o; or the escrow is still empty
 --     glimpse κ o            a sight of it, which lasts as long as κ
@@ -15,9 +15,9 @@ use Rattle.seize_book.specs.Ledger.{fact}
 use Rattle.seize_book.specs.Loans.{Carries, CarriesOne, loan_of}
 pub use Rattle.seize_book.specs.Peeks.{sight_if, sight_of}
 
-abbrev pub shown : Bool → Option ℕ → Option ℕ
-shown true o = None
-shown false o = o
+abbrev pub value_shown : Bool → Option ℕ → Option ℕ
+value_shown true o = None
+value_shown false o = o
 
 -- of which content, under which lifetime, of which code, and which share of that lifetime's token
 pub record Piece : Type 0 where

@@ -7,7 +7,7 @@
 --     MayStore field key, Wrote field key key' value     it is one of them;  the value was stored there, and not in the other
 --     Passes which f key                the slot's call is about to count down the next batch of its walk, and f is that field of the block
 --                                       with which this was inserted
---     told_seen field pass              what was last stored in the field, in the list that the pass has seen
+--     field_seen field pass             what was last stored in the field, in the list that the pass has seen
 --     MayLoad field key, ShowsField field key v     it is one of them;  v leads on through the rest of the walk, or to the batch's first
 --                                       block: then the batch has a front, and this is the number of its block (IsFrontBlock)
 --     HasWritten key next batch         these are stored: this next, and the first block of this batch
@@ -18,13 +18,13 @@ use mathlib.Core.List.{IsPrefix}
 use Rattle.seize_machine.specs.Machine.State.{State, Rest, Try, slot_at}
 use Rattle.seize_book.specs.Blocks.{block_for, block_number, front_of, list_word, plans}
 use Rattle.seize_book.specs.Book.{after}
-use Rattle.seize_book.specs.Chains.{first_field, front_block, next_field, served, told}
+use Rattle.seize_book.specs.Chains.{field_value, first_field, front_block, insertion_value, next_field}
 use Rattle.seize_book.specs.Entry.{Entry, Used}
 use Rattle.seize_book.specs.Homes.{home_of}
 use Rattle.seize_book.specs.Passes.{IsSamePass}
 use Rattle.seize_book.specs.Private.{key_of}
 use Rattle.seize_book.specs.Slots.{IsAfter, active_of, acts_of, life_of, own_list, slot_number, slot_of, start_of, written_of}
-use Rattle.seize_book.specs.Tokens.{Noted}
+use Rattle.seize_book.specs.Tokens.{AddsEntry}
 use Rattle.seize_book.specs.declared.book.field_key.FieldKey.{FieldKey}
 use Rattle.seize_book.specs.declared.book.pass.Pass.{Pass}
 use Rattle.seize_book.specs.declared.book.slot_key.SlotKey.{SlotKey}
@@ -56,7 +56,7 @@ pub record IsStoring (st : State) (s : ℕ) (own : List Entry) (which : ℕ → 
   pub saw : List ℕ
   pub queue : List ℕ
   pub trying : (slot_at (after st own) s).call ≡ Some (record { place = Try batch won at later saw; queue = queue })
-  pub its : f ≡ which (home_of (served (plans st own) batch at))
+  pub its : f ≡ which (home_of (insertion_value (plans st own) batch at))
 
 abbrev pub Stores : (ℕ → ℕ) → ℕ → SlotKey → Type 0
 Stores which f key = IsStoring (start_of key) (slot_number key) (own_list key) which f
@@ -79,7 +79,7 @@ pub record IsPassing (st : State) (s : ℕ) (own : List Entry) (which : ℕ → 
   pub walk : List ℕ
   pub queue : List ℕ
   pub walking : (slot_at (after st own) s).call ≡ Some (record { place = Rest [] (batch ∷ walk); queue = queue })
-  pub its : f ≡ which (home_of (served (plans st own) batch s))
+  pub its : f ≡ which (home_of (insertion_value (plans st own) batch s))
 
 abbrev pub Passes : (ℕ → ℕ) → ℕ → SlotKey → Type 0
 Passes which f key = IsPassing (start_of key) (slot_number key) (own_list key) which f
@@ -87,8 +87,8 @@ Passes which f key = IsPassing (start_of key) (slot_number key) (own_list key) w
 abbrev pub MayLoad : Field → SlotKey → Type 0
 MayLoad field key = Passes next_field (field_number field) key ⊎ Passes first_field (field_number field) key
 
-abbrev pub told_seen : Field → Pass → ℕ
-told_seen field pass = told pass.seen (field_number field)
+abbrev pub field_seen : Field → Pass → ℕ
+field_seen field pass = field_value pass.seen (field_number field)
 
 -- it is the number of the block of the batch's first value
 abbrev pub IsFrontBlock : SlotKey → ℕ → ℕ → Type 0
@@ -108,7 +108,7 @@ using key pass f v = Used (record { pass = pass.id; slot = slot_number key; fiel
 pub record Uses (key : SlotKey) (pass : Pass) (key' : SlotKey) (pass' : Pass) (f v : ℕ) : Type 0 where
   pub same : IsSamePass pass pass'
   pub seen_by : IsAfter key pass' key'
-  pub noted : Noted pass.name pass.id pass.seen pass'.seen (using key pass f v)
+  pub noted : AddsEntry pass.name pass.id pass.seen pass'.seen (using key pass f v)
   pub knew : IsPrefix (own_list key) noted.before
   pub slot : slot_of key' ≡ slot_of key
   pub active : active_of key' ≡ active_of key

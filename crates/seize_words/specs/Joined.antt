@@ -8,14 +8,14 @@
 --     TriesAtSlot key slot seen block     the slot's call is about to insert its batch at this slot: see TriesAt
 --     IsAddingAt key block won, IsCountingAt key block     the slot's call is about to add so many insertions won to the count of a batch,
 --                                    or to count down the next batch of its walk, whose first value lies in the block with this number
---     AddsWithAt key block won values     it is about to add, and the keys are those of the batch's values, closed: see AddsWith
+--     MayCountUpAt key block won values   it is about to add, and the keys are those of the batch's values, closed: see MayCountUpWith
 --     IsNewTo n key new              the key is that of a value that may go into a link of book n, or none, and this is its word: see
 --                                    IsNewFor
 --     IsStoreOf store book           the blocks of the book lie in the store, and are of one family
 --     OnHead n slot P, OnLink n link P     P is so of the head of this slot of book n, and of this link
 use Rattle.std.specs.Prelude.{◌≡◌, ℕ, ◌+◌, ◌<◌, ◌^◌, List, [], ◌∷◌, Some, true}
 use Rattle.seize_machine.specs.Machine.State.{Add, Rest}
-use Rattle.seize_store.specs.Known.{family_in}
+use Rattle.seize_store.specs.RowTokens.{family_in}
 use Rattle.seize_store.specs.Named.{store_name}
 use Rattle.seize_store.specs.declared.store.Store.{Store}
 use Rattle.seize_table.specs.declared.labelled.Labelled.{Ghosts}
@@ -39,7 +39,7 @@ use Rattle.seize_book.specs.declared.book.numbers_key.NumbersKey.{NumbersKey}
 use Rattle.seize_book.specs.declared.book.pass.Pass.{Pass}
 use Rattle.seize_book.specs.declared.book.porter.Porter.{Porter}
 use Rattle.seize_book.specs.declared.book.slot_key.SlotKey.{SlotKey}
-use Rattle.seize_book.specs.declared.book.token.Book.{Book}
+use Rattle.seize_book.specs.declared.book.seen.Seen.{Seen}
 use Rattle.seize_book.specs.declared.book.value_keys.ValueKeys.{ValueKeys}
 use Rattle.seize_words.specs.declared.link.Link.{Link}
 use Rattle.seize_words.specs.declared.link.MaybeKey.{MaybeKey}
@@ -51,7 +51,7 @@ abbrev pub words_book : {T : Type 0} → Words T → Name
 words_book words = words.blocks.book.name
 
 -- the book has just begun, with as many links, and the keys are those of its first slot
-pub record HasJustBegun (book : Book) (numbers : NumbersKey) (next : NextSlot) (many : ℕ) : Type 0 where
+pub record HasJustBegun (book : Seen) (numbers : NumbersKey) (next : NextSlot) (many : ℕ) : Type 0 where
   pub began : BeganWith book.name many book.name.store book.name.table × (book.seen ≡ [])
   pub numbers_are : (numbers.keys.name ≡ book.name) × (made_of numbers ≡ 0)
   pub next_is : HasNextSlot numbers next
@@ -96,11 +96,11 @@ pub record IsCountingAt (key : SlotKey) (block : ℕ) : Type 0 where
   pub walking : (slot_of key).call ≡ Some (record { place = Rest [] (batch ∷ walk); queue = queue })
   pub front : IsFrontBlock key batch block
 
-abbrev pub AddsWithAt : SlotKey → ℕ → ℕ → ValueKeys → Type 0
-AddsWithAt key block won values = (a : IsAddingAt key block won) × (values_of values ≡ values_in key a.batch) × AreClosed values
+abbrev pub MayCountUpAt : SlotKey → ℕ → ℕ → ValueKeys → Type 0
+MayCountUpAt key block won values = (a : IsAddingAt key block won) × (values_of values ≡ values_in key a.batch) × AreClosed values
 
 abbrev pub IsNewTo : Name → MaybeKey → ℕ → Type 0
 IsNewTo n key new = (key.keys.name ≡ n) × IsNewIn n (value_held key) key.keys.held × (new ≡ link_word (value_held key))
 
-abbrev pub IsStoreOf : {H P T : Type 0} {g : Ghosts H} → Store H P T g → Book → Type 0
+abbrev pub IsStoreOf : {H P T : Type 0} {g : Ghosts H} → Store H P T g → Seen → Type 0
 IsStoreOf store book = (book.name.store ≡ store_name store) × (family_in (store_name store) ≡ book.name.family)

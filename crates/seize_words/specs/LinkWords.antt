@@ -23,13 +23,13 @@ use Rattle.seize_book.specs.Begin.{first_links}
 use Rattle.seize_book.specs.Blocks.{link_word}
 use Rattle.seize_book.specs.Book.{after}
 use Rattle.seize_book.specs.Entry.{Entry, Made}
-use Rattle.seize_book.specs.Laws.{IsAmong, Reader, ended, life}
-use Rattle.seize_book.specs.Ledger.{renewed}
-use Rattle.seize_words.specs.Links.{IsNewIn, IsWithin, compared, value_in}
+use Rattle.seize_book.specs.Laws.{IsAmong, Reader, ended_lives, life}
+use Rattle.seize_book.specs.Ledger.{with_list}
+use Rattle.seize_words.specs.Links.{IsNewIn, IsWithin, comparand, value_in}
 use Rattle.seize_book.specs.Others.{state_of}
 use Rattle.seize_book.specs.Passes.{IsSamePass, LooksOn}
 use Rattle.seize_book.specs.Private.{key_of}
-use Rattle.seize_book.specs.Tokens.{Name, Noted, start}
+use Rattle.seize_book.specs.Tokens.{AddsEntry, Name, start}
 use Rattle.seize_words.specs.declared.activation.Activation.{Activation}
 use Rattle.seize_book.specs.declared.book.link_keys.LinkKeys.{LinkKeys}
 use Rattle.seize_book.specs.declared.book.pass.Pass.{Pass}
@@ -64,14 +64,14 @@ IsSomeKey key = is_some (value_held key) ≡ true
 -- the activation's slot was active when the list was this, and in this activation, which had not ended
 abbrev pub IsDuring : Activation → Name → List Entry → Type 0
 IsDuring a n list =
-    (is_active (head_at (after (start n) list) a.slot) ≡ true) × (life a.slot list ≡ a.life) × ¬ (IsAmong (ended list) a.life)
+    (is_active (head_at (after (start n) list) a.slot) ≡ true) × (life a.slot list ≡ a.life) × ¬ (IsAmong (ended_lives list) a.life)
 
 -- The pass added the event, during the activation, where the link held this, and this was its word.
 pub record ActsOnLink (link : Link) (a : Activation) (pass pass' : Pass) (event : Option ℕ → Event) (v : ℕ) : Type 0 where
   pub same : IsSamePass pass pass'
   pub before : List Entry
   pub noted
-      : Noted pass.name pass.id pass.seen pass'.seen
+      : AddsEntry pass.name pass.id pass.seen pass'.seen
       (Made (private pass (event (link_at (after (start pass.name) before) (link_number link)))))
   pub is_before : noted.before ≡ before
   pub during : IsDuring a pass.name before
@@ -104,7 +104,7 @@ pub record Finds (link : Link) (a : Activation) (pass pass' : Pass) (v : ℕ) : 
 
 -- the key knows all that the pass has seen
 abbrev pub KnowsAll : MaybeKey → Pass → Type 0
-KnowsAll key pass = key.keys.held ≡ renewed key.keys.held pass.seen
+KnowsAll key pass = key.keys.held ≡ with_list key.keys.held pass.seen
 
 -- what its key is of was named, and is loose
 abbrev pub IsLoose : MaybeKey → Type 0
@@ -122,7 +122,7 @@ Swaps link activation key pass key' pass' v =
 abbrev pub CompareExchanges : Link → Activation → MaybeKey → Pass → Option ℕ → MaybeKey → Pass → ℕ → Glimpse → Type 0
 CompareExchanges link activation key pass current key' pass' v glimpse =
     (t : ActsOnLink link activation pass pass' (λ old.
-    ExchangeLink activation.slot (link_number link) (Compare (compared current old) (value_held key))) v)
+    ExchangeLink activation.slot (link_number link) (Compare (comparand current old) (value_held key))) v)
     × (key'.keys.name ≡ key.keys.name)
     × (v ≡ link_word current → (value_held key' ≡ held_before t) × IsLoose key' × (glimpse.value ≡ None))
     × (v ≢ link_word current →

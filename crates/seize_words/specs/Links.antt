@@ -5,7 +5,7 @@
 --     IsNewIn n o vs     the keys are of this value, which was never named, as they know, and all that lay in its block before were
 --                        reclaimed; and something is lent with it; or there is neither value nor key
 --     value_in held, is_at_most_one held     the value that a key is labelled with, if there is one;  there is no other key
---     compared current old   what an exchange compares that takes the link to hold `current`, where it holds `old`: their words decide
+--     comparand current old   what an exchange compares that takes the link to hold `current`, where it holds `old`: their words decide
 use Rattle.std.specs.Prelude.{◌≡◌, ℕ, zero, suc, ◌<◌, ◌==◌, Bool, true, false, ◌&&◌, if◌then◌else◌, List, [], ◌∷◌, length, Option, Some, None}
 use Rattle.seize_book.specs.Blocks.{link_word}
 use mathlib.Core.List.{IsPrefix}
@@ -52,8 +52,8 @@ is_at_most_one (h ∷ g ∷ held) = false
 
 -- What is compared where the link is taken to hold `current`, and holds `old`: what it holds if that has the same word. A word can't tell
 -- two values that lay in one block one after the other; `current` is what the link holds wherever it stands still.
-abbrev pub compared : Option ℕ → Option ℕ → Option ℕ
-compared current old = if link_word old == link_word current then old else current
+abbrev pub comparand : Option ℕ → Option ℕ → Option ℕ
+comparand current old = if link_word old == link_word current then old else current
 
 -- a value with this word, or none
 abbrev pub value_with : ℕ → Option ℕ

@@ -3,7 +3,7 @@
 --     IsNoted note key          this is noted of the block of the key's value
 use Rattle.std.specs.Prelude.{◌≡◌}
 use base.Stored.{Gv, gnil, gnum, gcons}
-use Rattle.seize_book.specs.Notes.{noted_in}
+use Rattle.seize_book.specs.Notes.{note_in}
 use Rattle.seize_book.specs.declared.book.value_key.ValueKey.{ValueKey}
 use Rattle.seize_words.specs.declared.note.Note.{Note}
 
@@ -11,4 +11,4 @@ abbrev pub note_code : Note → Gv
 note_code note = gcons (gnum note.next) (gcons (gnum note.slot) (gcons (gnum note.kept) gnil))
 
 abbrev pub IsNoted : Note → ValueKey → Type 0
-IsNoted note key = note_code note ≡ noted_in key
+IsNoted note key = note_code note ≡ note_in key

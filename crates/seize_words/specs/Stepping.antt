@@ -10,13 +10,13 @@
 --     LooksAt site p seen seen' held v     the word was read, which held v, and nothing was added to the list, which is seen' now
 use Rattle.std.specs.Prelude.{◌≡◌, ℕ, take, drop, Bool, true, if◌then◌else◌, List, [], ◌∷◌, ◌++◌}
 use Rattle.seize_machine.specs.Machine.State.{linked_values, are_distinct}
-use Rattle.seize_book.specs.Ledger.{HeldKey, WithKinds, born, renewed}
+use Rattle.seize_book.specs.Ledger.{HeldKey, WithKinds, keys_made, with_list}
 use Rattle.seize_book.specs.Entry.{Entry, maker}
 use Rattle.seize_book.specs.Book.{Kind, TheCount, after, births_by, kind_of, kinds}
-use Rattle.seize_book.specs.Laws.{IsAmong, ended, ended_in, life}
-use Rattle.seize_book.specs.Tokens.{start, Noted}
+use Rattle.seize_book.specs.Laws.{IsAmong, ended_in, ended_lives, life}
+use Rattle.seize_book.specs.Tokens.{start, AddsEntry}
 use Rattle.seize_book.specs.Fair.{Before, Fair, pass_key}
-use Rattle.seize_words.specs.Words.{Site, ShowsWord, Stands, site_keys}
+use Rattle.seize_words.specs.Words.{Site, ShowsWord, AreOtherKeys, site_keys}
 
 abbrev pub Keys : Type 0
 Keys = List (HeldKey Entry)
@@ -31,11 +31,11 @@ in_step site held t = site_keys site t.0 (t.1 ++ held)
 
 -- no activation with one of these lifetimes has ended
 abbrev pub NoneEnded : List ℕ → List Entry → Type 0
-NoneEnded alive log = (a : ℕ) → IsAmong alive a → ¬ (IsAmong (ended log) a)
+NoneEnded alive log = (a : ℕ) → IsAmong alive a → ¬ (IsAmong (ended_lives log) a)
 
 pub record FoundAs (site : Site) (v p : ℕ) (seen : List Entry) (held : Keys) (alive : List ℕ) (t : At) (log : List Entry) : Type 0 where
   pub shows : ShowsWord site v t.0
-  pub stands : Stands site t.0 t.1
+  pub stands : AreOtherKeys site t.0 t.1
   pub before : Before site.name p seen (in_step site held t) log
   pub none_ended : NoneEnded alive log
   pub distinct : are_distinct (linked_values site.name.links) ≡ true
@@ -63,7 +63,7 @@ Births = List (ℕ × ℕ)
 -- the holder's, and those
 abbrev pub with_births : Keys → Births → List Entry → Keys
 with_births held [] log = held
-with_births held (b ∷ births) log = held ++ born (b ∷ births) log
+with_births held (b ∷ births) log = held ++ keys_made (b ∷ births) log
 
 pub record IsStepWith (births : Births) (site : Site) (p : ℕ) (held : Keys) (lives : List ℕ) (w : ℕ) (e : Entry) (trades : Bool) (t : At)
     (own log : List Entry) : Type 0 where
@@ -72,7 +72,7 @@ pub record IsStepWith (births : Births) (site : Site) (p : ℕ) (held : Keys) (l
   pub bears : births_by (after (start site.name) log) e ≡ births
   pub ends : EndsAmong lives log e
   pub shows : ShowsWord site w (log ++ e ∷ [])
-  pub stands : Stands site (log ++ e ∷ []) (renewed (beside_then (kind_of site.kind) trades t.1 held) (log ++ e ∷ []))
+  pub stands : AreOtherKeys site (log ++ e ∷ []) (with_list (beside_then (kind_of site.kind) trades t.1 held) (log ++ e ∷ []))
 
 abbrev pub MayStepWith : Births → Site → ℕ → List Entry → Keys → List ℕ → List ℕ → (ℕ → ℕ) → (ℕ → List Entry → Entry) → (ℕ → Bool) → Type 0
 MayStepWith births site p seen held alive lives f entry trades =
@@ -83,12 +83,12 @@ MayStepWith births site p seen held alive lives f entry trades =
 pub record HasSteppedWith (births : Births) (site : Site) (p : ℕ) (seen seen' : List Entry) (held held' : Keys) (alive : List ℕ) (v w : ℕ)
     (entry : ℕ → List Entry → Entry) (trades : ℕ → Bool) : Type 0 where
   pub log : List Entry
-  pub noted : Noted site.name p seen seen' (entry v log)
+  pub noted : AddsEntry site.name p seen seen' (entry v log)
   pub is_log : noted.before ≡ log
   pub since : At
   pub found : FoundAs site v p seen held alive since log
   pub left : ShowsWord site w seen'
-  pub keys : held' ≡ with_births (renewed (held_then (kind_of site.kind) (trades v) since.1 held) seen') births seen'
+  pub keys : held' ≡ with_births (with_list (held_then (kind_of site.kind) (trades v) since.1 held) seen') births seen'
 
 abbrev pub IsStep : Site → ℕ → Keys → List ℕ → ℕ → Entry → Bool → At → List Entry → List Entry → Type 0
 IsStep = IsStepWith []

@@ -1,6 +1,6 @@
 -- The words in which the contracts of the total speak.
 --     total_known key                  how many slots there are, as the total's key knows;  IsTotalOf total key     it is that of the key
---     IsTotalOfBook total pass, NumbersOf numbers pass     it is of the pass's book
+--     IsTotalOfBook total pass   it is of the pass's book
 --     slots_seen pass                  how many slots there are in the list that the pass has seen
 --     made_of numbers, IsFull numbers  how many slots there are, as the key of the numbers knows;  all of their numbers are in use
 --     MayMake numbers key              and the slot's is the next number
@@ -19,7 +19,7 @@ use Rattle.seize_book.specs.Passes.{IsSamePass}
 use Rattle.seize_book.specs.Private.{key_of, own_of}
 use Rattle.seize_words.specs.Reservations.{head_known}
 use Rattle.seize_book.specs.Slots.{IsAfter, active_of, acts_of, own_list, slot_number, slot_of}
-use Rattle.seize_book.specs.Tokens.{Noted, start}
+use Rattle.seize_book.specs.Tokens.{AddsEntry, start}
 use Rattle.seize_book.specs.declared.book.numbers_key.NumbersKey.{NumbersKey}
 use Rattle.seize_book.specs.declared.book.pass.Pass.{Pass}
 use Rattle.seize_book.specs.declared.book.slot_key.SlotKey.{SlotKey}
@@ -35,9 +35,6 @@ IsTotalOf total key = total.word.name ≡ key.keys.name
 
 abbrev pub IsTotalOfBook : Total → Pass → Type 0
 IsTotalOfBook total pass = total.word.name ≡ pass.name
-
-abbrev pub NumbersOf : NumbersKey → Pass → Type 0
-NumbersOf numbers pass = numbers.keys.name ≡ pass.name
 
 abbrev pub slots_seen : Pass → ℕ
 slots_seen pass = length (after (start pass.name) pass.seen).slots
@@ -56,7 +53,7 @@ MayMake numbers key = IsFull numbers × (slot_number key ≡ made_of numbers)
 pub record MakesSlot (numbers : NumbersKey) (key : SlotKey) (pass : Pass) (numbers' : NumbersKey) (key' : SlotKey) (pass' : Pass)
     : Type 0 where
   pub same : IsSamePass pass pass'
-  pub noted : Noted pass.name pass.id pass.seen pass'.seen (Made (private pass (Take (slot_number key))))
+  pub noted : AddsEntry pass.name pass.id pass.seen pass'.seen (Made (private pass (Take (slot_number key))))
   pub acts : acts_of key' ≡ acts_of key ++ (Made (private pass (Take (slot_number key))), noted.answer) ∷ []
   pub seen_by : IsAfter key pass' key'
   pub follows : Follows numbers.keys pass' numbers'.keys

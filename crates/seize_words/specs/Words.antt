@@ -4,7 +4,7 @@
 --     Site                   which word it is: its book, and the kind and number of what it stands for
 --     IsField site, IsCount site     it is that of a field, of a count;  IsTotal site    it is the one that says how many slots there are
 --     ShowsWord site v log   the value v is what the list says
---     Stands site log vs     these are the other keys that stand beside it: of a link that of the block of the value in it, of a count
+--     AreOtherKeys site log vs   these are the other keys that stand beside it: of a link that of the block of the value in it, of a count
 --                            those of the blocks of the batch's values, which lead on, once its call has added to it; of each the list
 --                            says what is noted to be kept of it
 --     site_keys site since vs     its keys, its own first, which knows the list as it was at the last step on the word
@@ -22,7 +22,7 @@ use Rattle.seize_book.specs.Ledger.{HeldKey, fact}
 use Rattle.seize_book.specs.Entry.{Entry}
 use Rattle.seize_book.specs.Book.{Kind, TheHead, TheLink, TheCount, TheField, TheTotal, kind_of, after, blocks, counts, fields, totals}
 use Rattle.seize_book.specs.Blocks.{count_word, head_word, link_word}
-use Rattle.seize_book.specs.Chains.{told}
+use Rattle.seize_book.specs.Chains.{field_value}
 use Rattle.seize_book.specs.Deposits.{deposit}
 use Rattle.seize_book.specs.Homes.{count_in, home_of}
 use Rattle.seize_book.specs.Kept.{AreToldIn}
@@ -48,36 +48,36 @@ site_coded =
     code_by (Name × (ℕ × ℕ)) (coded× name_coded (coded× coded_ℕ coded_ℕ)) (λ s. (s.name, (s.kind, s.number)))
     (λ t. record { name = t.0; kind = t.1.0; number = t.1.1 }) (λ _. refl)
 
-abbrev pub ShowsOf : State → Kind → ℕ → ℕ → List Entry → Type 0
-ShowsOf st TheHead m v log = v ≡ head_word st log m
-ShowsOf st TheLink l v log = v ≡ link_word (link_at (after st log) l)
-ShowsOf st TheCount k v log = v ≡ count_word (count_in (after st log) k)
-ShowsOf st TheField f v log = v ≡ told log f
-ShowsOf st TheTotal k v log = v ≡ length (after st log).slots
-ShowsOf st _ k v log = ⊥
+abbrev pub ShowsOfKind : State → Kind → ℕ → ℕ → List Entry → Type 0
+ShowsOfKind st TheHead m v log = v ≡ head_word st log m
+ShowsOfKind st TheLink l v log = v ≡ link_word (link_at (after st log) l)
+ShowsOfKind st TheCount k v log = v ≡ count_word (count_in (after st log) k)
+ShowsOfKind st TheField f v log = v ≡ field_value log f
+ShowsOfKind st TheTotal k v log = v ≡ length (after st log).slots
+ShowsOfKind st _ k v log = ⊥
 
 abbrev pub ShowsWord : Site → ℕ → List Entry → Type 0
-ShowsWord site v log = ShowsOf (start site.name) (kind_of site.kind) site.number v log
+ShowsWord site v log = ShowsOfKind (start site.name) (kind_of site.kind) site.number v log
 
 -- the key of the block in which a value lies, with the value's name on it
 abbrev pub IsKeyOf : Option ℕ → List (HeldKey Entry) → Type 0
 IsKeyOf None vs = vs ≡ []
 IsKeyOf (Some v) vs = (is_one blocks vs ≡ true) × (key_of vs ≡ home_of v) × (label_of vs ≡ v)
 
-abbrev pub StandsOf : Name → Kind → ℕ → List Entry → List (HeldKey Entry) → Type 0
-StandsOf n TheLink l log vs = IsKeyOf (link_at (after (start n) log) l) vs
-StandsOf n TheCount k log vs = AreKeysOf (deposit (after (start n) log) k) vs × AreToldIn log vs
-StandsOf n _ k log vs = vs ≡ []
+abbrev pub AreOtherKeysOf : Name → Kind → ℕ → List Entry → List (HeldKey Entry) → Type 0
+AreOtherKeysOf n TheLink l log vs = IsKeyOf (link_at (after (start n) log) l) vs
+AreOtherKeysOf n TheCount k log vs = AreKeysOf (deposit (after (start n) log) k) vs × AreToldIn log vs
+AreOtherKeysOf n _ k log vs = vs ≡ []
 
-abbrev pub Stands : Site → List Entry → List (HeldKey Entry) → Type 0
-Stands site log vs = StandsOf site.name (kind_of site.kind) site.number log vs
+abbrev pub AreOtherKeys : Site → List Entry → List (HeldKey Entry) → Type 0
+AreOtherKeys site log vs = AreOtherKeysOf site.name (kind_of site.kind) site.number log vs
 
 abbrev pub site_keys : Site → List Entry → List (HeldKey Entry) → List (HeldKey Entry)
 site_keys site since vs = record { kind = site.kind; key = site.number; own = since; label = 0; note = gnil } ∷ vs
 
 -- the list was `since` at the last step on the word
 abbrev pub word_knows : Site → ℕ → List Entry × List (HeldKey Entry) → Fml
-word_knows site v t = fsep (fact (ShowsWord site v t.0 × Stands site t.0 t.1)) (keys_own site.name (site_keys site t.0 t.1))
+word_knows site v t = fsep (fact (ShowsWord site v t.0 × AreOtherKeys site t.0 t.1)) (keys_own site.name (site_keys site t.0 t.1))
 
 abbrev pub word_owns : Site → ℕ → Fml
 word_owns site v = fex (List Entry × List (HeldKey Entry)) (word_knows site v)

@@ -18,7 +18,7 @@ pub struct Count {
 }
 
 impl Count {
-    ghost use Rattle.seize_words.specs.Counts.{AddsTo, AddsWith, Counts, GivesUp, IsCountOf, IsCountOfBook, LeavesKeys, MayCountDown, TakesKeys, count_seen};
+    ghost use Rattle.seize_words.specs.Counts.{Counts, GivesUp, IsCountOf, IsCountOfBook, LeavesKeys, MayCountDown, MayCountUp, MayCountUpWith, TakesKeys, count_seen};
     ghost use Rattle.seize_book.specs.Kept.{AreTold};
     ghost use Rattle.seize_book.specs.Passes.{LooksOn};
     ghost use Rattle.seize_book.specs.Values.{AreOfBook, IsEmpty};
@@ -59,10 +59,10 @@ impl Count {
     /// It takes no memory and waits for nobody: one atomic addition.
     pub fn add(&self, won: u64, key: &mut SlotKey, values: &mut ValueKeys, pass: &mut Pass) -> bool
         requires book { IsKeyOfBook key.old pass.old × IsCountOfBook self.now pass.old × AreOfBook values.old pass.old }
-        requires adds { AddsWith key.old self.now won values.old }
+        requires adds { MayCountUpWith key.old self.now won values.old }
         requires told { AreTold values.old pass.old }
         ensures counts { Counts key.old pass.old key.new pass.new (AddCount (slot_number key.old)) result }
-        ensures gives { (adds : AddsTo key.old self.now won) → GivesUp key.old key.new adds.batch [] adds.queue result }
+        ensures gives { (adds : MayCountUp key.old self.now won) → GivesUp key.old key.new adds.batch [] adds.queue result }
         ensures keys { LeavesKeys values.old pass.new values.new result }
     {
         let both = &mut key.keys;

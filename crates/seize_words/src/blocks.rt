@@ -1,12 +1,12 @@
 //! Blocks in a store: from the number that a word shows to the words of its block. It stands on chunks and on the store.
 ghost use Rattle.std.specs.Prelude.{◌≡◌, ◌+◌, ◌<◌, ◌^◌, ◌⊎◌, ◌↔◌, [], ◌∷◌, ◌++◌, ℕ, IfErr, IfOk, Some, true};
-ghost use Rattle.seize_store.specs.Known.{family_in};
+ghost use Rattle.seize_store.specs.RowTokens.{family_in};
 ghost use Rattle.seize_store.specs.Named.{store_name};
 
 use crate::chunk::{Header, Part};
 use crate::glimpse::Glimpse;
 use crate::note::Note;
-use seize_book::book::{Book, Pass, SlotKey, ValueKey, ValueKeys};
+use seize_book::book::{Pass, Seen, SlotKey, ValueKey, ValueKeys};
 use seize_content::TokenCell;
 use seize_store::{Bare, Hollow, Owned, Spots, Store};
 use seize_table::Refusal;
@@ -17,7 +17,7 @@ use std::alloc::{AllocError, Global};
 pub struct Blocks<T> {
     store: Store<Header, Part, T>,
     /// The book.
-    pub book: Book,
+    pub book: Seen,
     ghost stands: { book.name.store ≡ store_name store },
     ghost kin: { family_in (store_name store) ≡ book.name.family },
 }
@@ -26,7 +26,7 @@ impl<T: Drop> Blocks<T> {
     ghost use Rattle.seize_book.specs.Books.{IsNextIn};
     ghost use Rattle.seize_store.specs.Named.{bare_number, bare_title, bare_value, hollow_store, hollow_title, is_empty_list, owned_value, store_of, title_of, titles_of, titles_with};
     ghost use Rattle.seize_table.specs.declared.refusal.Refusal.TheVariants.{NoMemory};
-    ghost use Rattle.seize_words.specs.Chunks.{AreSpotsIn, IsBlockAfter, IsBlockIn, IsFoundAs, IsFoundAt, IsHeaderOf, IsLentAs, IsPartOf, LayIn, LendsIn, LiesIn, StandsAt, blocks_book};
+    ghost use Rattle.seize_words.specs.Chunks.{AreSpotsIn, IsBlockAfter, IsBlockIn, IsFoundAs, IsFoundAt, IsHeaderOf, IsLentAs, IsLiveAt, IsPartOf, LayIn, LendsIn, LiesIn, blocks_book};
     ghost use Rattle.seize_book.specs.Others.{IsLast, IsVacated, IsValueOf, book_of, value_of};
     ghost use Rattle.seize_book.specs.Blocks.{block_number};
     ghost use Rattle.seize_book.specs.Notes.{HasNoted, IsUnchanged, cell_in};
@@ -40,7 +40,7 @@ impl<T: Drop> Blocks<T> {
     ghost use Rattle.seize_words.specs.Walks.{CountsDown, IsAtBatch, Knows};
 
     /// Those of a book whose blocks lie in this store.
-    pub(crate) fn of(store: Store<Header, Part, T>, book: Book) -> Blocks<T>
+    pub(crate) fn of(store: Store<Header, Part, T>, book: Seen) -> Blocks<T>
         requires lies { book.name.store ≡ store_name store }
         requires kin { family_in (store_name store) ≡ book.name.family }
         ensures { result.book ≡ book }
@@ -288,7 +288,7 @@ impl<T: Drop> Blocks<T> {
         requires book { blocks_book self.now ≡ pass.old.name }
         requires named { HasNumber one (state_seen pass.old) }
         ensures looks { LooksOn pass.old pass.new }
-        ensures same { (v w : ℕ) → StandsAt v one pass.new → StandsAt w other pass.new → (result ≡ true) ↔ (v ≡ w) }
+        ensures same { (v w : ℕ) → IsLiveAt v one pass.new → IsLiveAt w other pass.new → (result ≡ true) ↔ (v ≡ w) }
     {
         pass.seek(one);
         one == other

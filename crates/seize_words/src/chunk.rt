@@ -9,7 +9,7 @@ ghost use Rattle.seize_book.specs.Tokens.{chunk_label};
 use crate::batch::Count;
 use crate::header::Field;
 use crate::note::Note;
-use seize_book::book::{BareKey, Book, ChunkKeys};
+use seize_book::book::{BareKey, ChunkKeys, Seen};
 use seize_content::TokenCell;
 use seize_store::{Labelled, Maker};
 
@@ -25,7 +25,7 @@ pub struct Header {
     /// What is noted of the block, by who has the key of its values.
     pub note: TokenCell<Note>,
     /// The book whose words they are.
-    pub book: Book,
+    pub book: Seen,
     ghost counted: { HasCount book count },
     ghost its_next: { HasField next_field book count next },
     ghost its_first: { HasField first_field book count first },
@@ -41,7 +41,7 @@ pub struct Part {
     /// The right to name the values of the block.
     pub key: BareKey,
     /// The book.
-    pub book: Book,
+    pub book: Seen,
     ghost of_book: { HasKey book key },
 }
 
@@ -50,7 +50,7 @@ impl Labelled for Part {
 }
 
 /// Each chunk has a block of its own: the words of its header are new, and no value of the block was ever named.
-impl Maker<Header, Part> for Book {
+impl Maker<Header, Part> for Seen {
     ghost family = { λ book. book.name.family };
 
     fn make(&self, _number: usize) -> (Header, Part) {

@@ -19,14 +19,14 @@ pub struct Field {
 }
 
 impl Field {
-    ghost use Rattle.seize_words.specs.Headers.{IsFieldOf, IsFieldOfBook, MayLoad, MayStore, ShowsField, Uses, Wrote, field_number, told_seen};
-    ghost use Rattle.seize_book.specs.Books.{told_known};
+    ghost use Rattle.seize_words.specs.Headers.{IsFieldOf, IsFieldOfBook, MayLoad, MayStore, ShowsField, Uses, Wrote, field_number, field_seen};
+    ghost use Rattle.seize_book.specs.Books.{field_known};
     ghost use Rattle.seize_book.specs.Passes.{LooksOn};
     ghost use Rattle.seize_book.specs.Slots.{IsKeyOfBook, IsStill};
 
     /// The word of a field in which nothing was stored.
     pub fn new(key: FieldKey) -> Field
-        requires { told_known key ≡ 0 }
+        requires { field_known key ≡ 0 }
         ensures { IsFieldOf result key }
     {
         let mut keys = key.keys;
@@ -56,7 +56,7 @@ impl Field {
         requires book { IsKeyOfBook key.old pass.old × IsFieldOfBook self.now pass.old }
         requires passed { MayLoad self.now key.old }
         ensures looks { LooksOn pass.old pass.new × IsStill key.old key.new }
-        ensures told { result ≡ told_seen self.now pass.new }
+        ensures told { result ≡ field_seen self.now pass.new }
         ensures shows { ShowsField self.now key.old result }
     {
         self.word.look(&mut key.keys, pass)

@@ -22,7 +22,7 @@ pub struct Head {
 
 impl Head {
     ghost use Rattle.seize_words.specs.Reservations.{FoundBefore, IsActivationOf, IsHeadOf, IsHeadOfBook, IsLastOf, IsOfSlot, IsOut, IsOwnHead, MayRead, ShowsHead, TriesAt, WalksFrom, beginning, head_known, slot};
-    ghost use Rattle.seize_book.specs.Slots.{IsKeyOfBook, Notes, NotesAs, active_of, slot_number, slot_of};
+    ghost use Rattle.seize_book.specs.Slots.{AddsDeed, AddsEvent, IsKeyOfBook, active_of, slot_number, slot_of};
 
     /// The word of an inactive slot's head. The slot may be one that is not there yet.
     pub fn new(key: HeadKey) -> Head
@@ -41,7 +41,7 @@ impl Head {
     pub fn read(&self, key: &mut SlotKey, pass: &mut Pass) -> u64
         requires book { IsKeyOfBook key.old pass.old × IsHeadOfBook self.now pass.old }
         requires reads { MayRead key.old self.now pass.old }
-        ensures noted { Notes key.old pass.old key.new pass.new (ReadHead (slot_number key.old) (slot self.now)) }
+        ensures noted { AddsEvent key.old pass.old key.new pass.new (ReadHead (slot_number key.old) (slot self.now)) }
         ensures shows { ShowsHead self.now pass.new.seen result }
     {
         self.word.load::<Brand>(&mut key.keys, pass)
@@ -55,7 +55,7 @@ impl Head {
     pub fn insert(&self, seen: u64, block: u64, key: &mut SlotKey, pass: &mut Pass) -> u64
         requires book { IsKeyOfBook key.old pass.old × IsHeadOfBook self.now pass.old }
         requires tries { TriesAt key.old self.now seen block }
-        ensures noted { Notes key.old pass.old key.new pass.new (Insert (slot_number key.old) (slot self.now) (found_end seen result)) }
+        ensures noted { AddsEvent key.old pass.old key.new pass.new (Insert (slot_number key.old) (slot self.now) (found_end seen result)) }
         ensures found { FoundBefore self.now pass.new result }
     {
         self.word
@@ -69,7 +69,7 @@ impl Head {
         requires book { IsKeyOfBook key.old pass.old × IsHeadOfBook self.now pass.old × IsOwnHead self.now key.old }
         requires outside { (is_idle (slot_of key.old) ≡ true) × (active_of key.old ≡ false) }
         requires slot { IsOfSlot key.old activation.old }
-        ensures noted { NotesAs key.old pass.old key.new pass.new (beginning pass.old activation.new.life (Enter (slot_number key.old))) }
+        ensures noted { AddsDeed key.old pass.old key.new pass.new (beginning pass.old activation.new.life (Enter (slot_number key.old))) }
         ensures activation { IsActivationOf key.new activation.new }
     {
         let mut ended = activation.end();
@@ -85,7 +85,7 @@ impl Head {
         requires book { IsKeyOfBook key.old pass.old × IsHeadOfBook self.now pass.old × IsOwnHead self.now key.old }
         requires leaving { IsOut key.old false }
         requires last { IsLastOf key.old activation.old }
-        ensures noted { Notes key.old pass.old key.new pass.new (SwapOut (slot_number key.old)) }
+        ensures noted { AddsEvent key.old pass.old key.new pass.new (SwapOut (slot_number key.old)) }
         ensures slot { IsOfSlot key.new activation.new }
         ensures found { FoundBefore self.now pass.new result }
         ensures walks { (leaving : IsOut key.old false) → WalksFrom self.now key.new result leaving.0 }
@@ -102,7 +102,8 @@ impl Head {
         requires book { IsKeyOfBook key.old pass.old × IsHeadOfBook self.now pass.old × IsOwnHead self.now key.old }
         requires refreshing { IsOut key.old true }
         requires last { IsLastOf key.old activation.old }
-        ensures noted { NotesAs key.old pass.old key.new pass.new (beginning pass.old activation.new.life (SwapOut (slot_number key.old))) }
+        ensures noted { AddsDeed key.old pass.old key.new pass.new
+            (beginning pass.old activation.new.life (SwapOut (slot_number key.old))) }
         ensures activation { IsActivationOf key.new activation.new }
         ensures found { FoundBefore self.now pass.new result }
         ensures walks { (refreshing : IsOut key.old true) → WalksFrom self.now key.new result refreshing.0 }

@@ -14,7 +14,7 @@ use crate::total::Total;
 use crossbeam_utils::CachePadded;
 pub use heads::Heads;
 pub use next::NextSlot;
-use seize_book::book::{Book, NumbersKey, Pass, SlotKey, TotalKey};
+use seize_book::book::{NumbersKey, Pass, Seen, SlotKey, TotalKey};
 use seize_table::thread_id::Thread;
 use seize_table::tls::{AllFilled, ThreadLocal};
 use seize_table::{Labelled, Refusal};
@@ -24,7 +24,7 @@ use seize_table::{Labelled, Refusal};
 pub struct Reservation {
     head: CachePadded<Head>,
     /// The book whose head it is.
-    pub book: Book,
+    pub book: Seen,
     ghost of_book: { (padded_value head).word.name ≡ book.name },
 }
 
@@ -37,7 +37,7 @@ impl Reservation {
     ghost use Rattle.seize_words.specs.Named.{head_book};
     ghost use Rattle.seize_words.specs.Reserved.{head_in};
 
-    fn new(head: Head, book: Book) -> Reservation
+    fn new(head: Head, book: Seen) -> Reservation
         requires { head_book head ≡ book.name }
         ensures { (head_in result ≡ head) × (result.book ≡ book) }
     {
@@ -62,7 +62,7 @@ pub struct Slots {
     /// How many slots there are.
     pub total: Total,
     /// The book.
-    pub book: Book,
+    pub book: Seen,
     ghost lies: { book.name.table ≡ name_of table },
     ghost counts: { total.word.name ≡ book.name },
 }
@@ -74,10 +74,11 @@ impl Slots {
     ghost use Rattle.seize_words.specs.Named.{total_key_book};
     ghost use Rattle.seize_book.specs.Passes.{LooksOn};
     ghost use Rattle.seize_words.specs.Reserved.{AreAll, HasNextSlot, IsHeadAt, IsSameNext, IsSlotCount, MakesNextSlot, comes_to, heads_book, heads_end, slots_book};
-    ghost use Rattle.seize_words.specs.Totals.{NumbersOf, slots_seen, total_known};
+    ghost use Rattle.seize_words.specs.Totals.{slots_seen, total_known};
+    ghost use Rattle.seize_book.specs.Others.{AreNumbersOf};
 
     /// Those of a book that has no slot yet, and whose heads lie in this table.
-    pub fn of(table: ThreadLocal<Reservation>, total: TotalKey, book: Book) -> Slots
+    pub fn of(table: ThreadLocal<Reservation>, total: TotalKey, book: Seen) -> Slots
         requires lies { book.name.table ≡ name_of table }
         requires total { (total_key_book total ≡ book.name) × (total_known total ≡ 0) }
         ensures { result.book ≡ book }
@@ -102,7 +103,7 @@ impl Slots {
         numbers: &mut NumbersKey,
         pass: &mut Pass,
     ) -> Result<(SlotKey, NextSlot), (Refusal, NextSlot)>
-        requires book { (slots_book self.now ≡ pass.old.name) × NumbersOf numbers.old pass.old }
+        requires book { (slots_book self.now ≡ pass.old.name) × AreNumbersOf numbers.old pass.old }
         requires next { HasNextSlot numbers.old next }
         ensures made { IfOk result (λ made. MakesNextSlot numbers.old next pass.old numbers.new made.0 made.1 pass.new) }
         ensures refused { IfErr result (λ e. (e.0 ≡ NoMemory) × IsSameNext next e.1) }

@@ -18,7 +18,8 @@ impl Total {
     ghost use Rattle.seize_book.specs.Slots.{IsKeyOfBook};
     ghost use Rattle.seize_book.specs.Passes.{LooksOn};
     ghost use Rattle.seize_book.specs.Tables.{IsPlaced};
-    ghost use Rattle.seize_words.specs.Totals.{AreNextKeys, IsTotalOf, IsTotalOfBook, MakesSlot, MayMake, NumbersOf, slots_seen, total_known};
+    ghost use Rattle.seize_words.specs.Totals.{AreNextKeys, IsTotalOf, IsTotalOfBook, MakesSlot, MayMake, slots_seen, total_known};
+    ghost use Rattle.seize_book.specs.Others.{AreNumbersOf};
 
     /// The word of a book that has no slot yet.
     pub fn new(key: TotalKey) -> Total
@@ -49,7 +50,7 @@ impl Total {
     ///
     /// It takes no memory and waits for nobody: one atomic addition.
     pub fn add(&self, key: &mut SlotKey, numbers: &mut NumbersKey, pass: &mut Pass) -> SlotKeys
-        requires book { IsKeyOfBook key.old pass.old × NumbersOf numbers.old pass.old × IsTotalOfBook self.now pass.old }
+        requires book { IsKeyOfBook key.old pass.old × AreNumbersOf numbers.old pass.old × IsTotalOfBook self.now pass.old }
         requires next { MayMake numbers.old key.old }
         requires place { IsPlaced key.old }
         ensures made { MakesSlot numbers.old key.old pass.old numbers.new key.new pass.new }

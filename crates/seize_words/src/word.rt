@@ -52,7 +52,7 @@ impl Finds for Brand {
 }
 
 impl Word {
-    ghost use Rattle.seize_words.specs.Atomic.{IsWordOf, LooksAtWord, MayLookAtWord, MaySeeIn, MayTakeIn, MayTakeStep, MayTakeWith, SeesIn, TakesIn, TakesStep, TakesWith, exchanged, minus, plus, site_of};
+    ghost use Rattle.seize_words.specs.Atomic.{IsWordOf, LooksAtWord, MayLookAtWord, MaySeeIn, MayTakeStep, MayTakeStepIn, MayTakeStepWith, SeesIn, TakesStep, TakesStepIn, TakesStepWith, after_exchange, minus, plus, site_of};
 
     /// A word that holds `bits` and has the keys of what it stands for.
     pub(crate) fn new(bits: u64, keys: &mut Keys) -> Word
@@ -103,8 +103,8 @@ impl Word {
         activation: &Activation,
         pass: &mut Pass,
     ) -> u64
-        requires { MayTakeIn self.now keys.old pass.old activation.now (λ v. new) P.entry P.trades }
-        ensures { TakesIn self.now keys.old pass.old keys.new pass.new activation.now (λ v. new) result P.entry P.trades }
+        requires { MayTakeStepIn self.now keys.old pass.old activation.now (λ v. new) P.entry P.trades }
+        ensures { TakesStepIn self.now keys.old pass.old keys.new pass.new activation.now (λ v. new) result P.entry P.trades }
     {
         unsafe { raw::swap::<Brand>(self as *const Self as *const u64, new, SeqCst) }
     }
@@ -119,8 +119,8 @@ impl Word {
         activation: &'g Activation,
         pass: &mut Pass,
     ) -> (u64, Glimpse<'g>)
-        requires { MaySeeIn self.now keys.old pass.old activation.now (exchanged seen new) P.entry P.trades }
-        ensures { SeesIn self.now keys.old pass.old keys.new pass.new activation.now (exchanged seen new) result P.entry P.trades }
+        requires { MaySeeIn self.now keys.old pass.old activation.now (after_exchange seen new) P.entry P.trades }
+        ensures { SeesIn self.now keys.old pass.old keys.new pass.new activation.now (after_exchange seen new) result P.entry P.trades }
     {
         let bits = unsafe { exchange::<Brand>(self as *const Self as *const u64, seen, new) };
         let glimpse = Glimpse {
@@ -151,8 +151,8 @@ impl Word {
         keys: &mut Keys,
         pass: &mut Pass,
     ) -> u64
-        requires { MayTakeStep self.now keys.old pass.old [] [] (exchanged seen new) P.entry P.trades }
-        ensures { TakesStep self.now keys.old pass.old keys.new pass.new [] (exchanged seen new) result P.entry P.trades }
+        requires { MayTakeStep self.now keys.old pass.old [] [] (after_exchange seen new) P.entry P.trades }
+        ensures { TakesStep self.now keys.old pass.old keys.new pass.new [] (after_exchange seen new) result P.entry P.trades }
     {
         unsafe { exchange::<Brand>(self as *const Self as *const u64, seen, new) }
     }
@@ -167,8 +167,8 @@ impl Word {
 
     /// Adds to the word, round 2^64, and gives what it held. The step may make keys, which go to the holder's.
     pub(crate) fn add<P: Finds>(&self, added: u64, keys: &mut Keys, pass: &mut Pass) -> u64
-        requires { MayTakeWith P.births self.now keys.old pass.old [] [] (plus added) P.entry P.trades }
-        ensures { TakesWith P.births self.now keys.old pass.old keys.new pass.new [] (plus added) result P.entry P.trades }
+        requires { MayTakeStepWith P.births self.now keys.old pass.old [] [] (plus added) P.entry P.trades }
+        ensures { TakesStepWith P.births self.now keys.old pass.old keys.new pass.new [] (plus added) result P.entry P.trades }
     {
         unsafe { raw::fetch_add::<Brand>(self as *const Self as *const u64, added, SeqCst) }
     }

@@ -12,7 +12,7 @@ use crate::glimpse::{Found, Glimpse};
 use crate::link::{Expects, Links, MaybeKey};
 use crate::slots::{NextSlot, Reservation, Slots};
 use seize_book::book::{
-    Book, BookKeys, Keeps, NumbersKey, Pass, Porter, SlotKey, Unopened, ValueKeys,
+    BookKeys, FutureBook, NumbersKey, Pass, Porter, Seen, SlotKey, Storage, ValueKeys,
 };
 use seize_store::Store;
 use seize_table::Refusal;
@@ -47,14 +47,15 @@ impl<T: Drop> Words<T> {
     ghost use Rattle.seize_book.specs.Books.{HasKeys};
     ghost use Rattle.seize_words.specs.Counts.{Counts, GivesUp, LeavesKeys, TakesKeys};
     ghost use Rattle.seize_words.specs.Heads.{found_end};
-    ghost use Rattle.seize_words.specs.Joined.{AddsWithAt, IsAddingAt, IsCountingAt, IsHolder, IsInAt, IsNewTo, IsStoreOf, MayReadAt, OnHead, OnLink, OpensWords, TriesAtSlot, with_size, words_book};
+    ghost use Rattle.seize_words.specs.Joined.{IsAddingAt, IsCountingAt, IsHolder, IsInAt, IsNewTo, IsStoreOf, MayCountUpAt, MayReadAt, OnHead, OnLink, OpensWords, TriesAtSlot, with_size, words_book};
     ghost use Rattle.seize_book.specs.Porters.{Opens, Resizes};
     ghost use Rattle.seize_words.specs.Chunks.{IsFoundAs};
     ghost use Rattle.seize_words.specs.LinkWords.{CompareExchanges, Finds, Sees, Swaps, held_before};
     ghost use Rattle.seize_words.specs.Reservations.{FoundBefore, IsActivationOf, IsLastOf, IsOfSlot, IsOut, ShowsHead, WalksFrom, beginning};
     ghost use Rattle.seize_words.specs.Reserved.{HasNextSlot, IsSameNext, MakesNextSlot};
-    ghost use Rattle.seize_book.specs.Slots.{IsKeyOfBook, Notes, NotesAs, active_of, slot_number, slot_of};
-    ghost use Rattle.seize_words.specs.Totals.{NumbersOf, slots_seen};
+    ghost use Rattle.seize_book.specs.Slots.{AddsDeed, AddsEvent, IsKeyOfBook, active_of, slot_number, slot_of};
+    ghost use Rattle.seize_words.specs.Totals.{slots_seen};
+    ghost use Rattle.seize_book.specs.Others.{AreNumbersOf};
     ghost use Rattle.seize_words.specs.Walks.{Knows};
     ghost use Rattle.seize_book.specs.Kept.{AreTold};
     ghost use Rattle.seize_book.specs.Values.{AreOfBook, IsEmpty};
@@ -78,7 +79,7 @@ impl<T: Drop> Words<T> {
         ensures no_numbers { (result ≡ Err NoNumbers) ↔ (MAX_INDEX < capacity) }
     {
         let table = ThreadLocal::with_capacity(alloc, capacity)?;
-        let (unopened, family) = Unopened::new();
+        let (unopened, family) = FutureBook::new();
         let store = Store::new(alloc, &family);
         let (book, porter, keys) = Words::open::<Brand>(&store, &table, unopened, links, size);
         let (words, numbers, next) = Words::of(alloc, store, table, book, keys, links, size)?;
@@ -86,13 +87,13 @@ impl<T: Drop> Words<T> {
     }
 
     // A book whose blocks lie in this store, and whose heads lie in this table.
-    fn open<K: Keeps>(
+    fn open<K: Storage>(
         _store: &Store<Header, Part, T>,
         _table: &ThreadLocal<Reservation>,
-        unopened: Unopened,
+        unopened: FutureBook,
         links: usize,
         size: usize,
-    ) -> (Book, Porter, BookKeys)
+    ) -> (Seen, Porter, BookKeys)
         requires { (K.store ≡ store_name _store.now) × (K.table ≡ name_of _table.now) }
         ensures book { Opens result.0 result.1 result.2 links size (store_name _store.now) (name_of _table.now) }
         ensures family { result.0.name.family ≡ unopened.family }
@@ -106,7 +107,7 @@ impl<T: Drop> Words<T> {
         alloc: Global,
         store: Store<Header, Part, T>,
         table: ThreadLocal<Reservation>,
-        book: Book,
+        book: Seen,
         keys: BookKeys,
         links: usize,
         size: usize,
@@ -157,7 +158,7 @@ impl<T: Drop> Words<T> {
         numbers: &mut NumbersKey,
         pass: &mut Pass,
     ) -> Result<(SlotKey, NextSlot), (Refusal, NextSlot)>
-        requires book { (words_book self.now ≡ pass.old.name) × NumbersOf numbers.old pass.old }
+        requires book { (words_book self.now ≡ pass.old.name) × AreNumbersOf numbers.old pass.old }
         requires next { HasNextSlot numbers.old next }
         ensures made { IfOk result (λ made. MakesNextSlot numbers.old next pass.old numbers.new made.0 made.1 pass.new) }
         ensures refused { IfErr result (λ e. (e.0 ≡ NoMemory) × IsSameNext next e.1) }
@@ -179,7 +180,7 @@ impl<T: Drop> Words<T> {
         requires book { words_book self.now ≡ pass.old.name }
         requires holder { IsHolder key.old pass.old slot × IsOfSlot key.old activation.old }
         requires outside { (is_idle (slot_of key.old) ≡ true) × (active_of key.old ≡ false) }
-        ensures noted { NotesAs key.old pass.old key.new pass.new (beginning pass.old activation.new.life (Enter slot)) }
+        ensures noted { AddsDeed key.old pass.old key.new pass.new (beginning pass.old activation.new.life (Enter slot)) }
         ensures activation { IsActivationOf key.new activation.new }
     {
         self.slots.head(slot, pass).enter(activation, key, pass);
@@ -191,7 +192,7 @@ impl<T: Drop> Words<T> {
     pub fn read_head(&self, slot: usize, key: &mut SlotKey, pass: &mut Pass) -> u64
         requires book { words_book self.now ≡ pass.old.name }
         requires reads { MayReadAt key.old pass.old slot }
-        ensures noted { Notes key.old pass.old key.new pass.new (ReadHead (slot_number key.old) slot) }
+        ensures noted { AddsEvent key.old pass.old key.new pass.new (ReadHead (slot_number key.old) slot) }
         ensures shows { OnHead (words_book self.now) slot (λ head. ShowsHead head pass.new.seen result) }
     {
         self.slots.head(slot, pass).read(key, pass)
@@ -211,7 +212,7 @@ impl<T: Drop> Words<T> {
     ) -> u64
         requires book { (words_book self.now ≡ pass.old.name) × IsKeyOfBook key.old pass.old × (slot < slots_seen pass.old) }
         requires tries { TriesAtSlot key.old slot seen block }
-        ensures noted { Notes key.old pass.old key.new pass.new (Insert (slot_number key.old) slot (found_end seen result)) }
+        ensures noted { AddsEvent key.old pass.old key.new pass.new (Insert (slot_number key.old) slot (found_end seen result)) }
         ensures found { OnHead (words_book self.now) slot (λ head. FoundBefore head pass.new result) }
     {
         self.slots.head(slot, pass).insert(seen, block, key, pass)
@@ -231,7 +232,7 @@ impl<T: Drop> Words<T> {
         requires book { words_book self.now ≡ pass.old.name }
         requires holder { IsHolder key.old pass.old slot }
         requires leaving { IsOut key.old false × IsLastOf key.old activation.old }
-        ensures noted { Notes key.old pass.old key.new pass.new (SwapOut slot) }
+        ensures noted { AddsEvent key.old pass.old key.new pass.new (SwapOut slot) }
         ensures slot { IsOfSlot key.new activation.new }
         ensures found { OnHead (words_book self.now) slot (λ head. FoundBefore head pass.new result) }
         ensures walks { (out : IsOut key.old false) → OnHead (words_book self.now) slot (λ head. WalksFrom head key.new result out.0) }
@@ -253,7 +254,7 @@ impl<T: Drop> Words<T> {
         requires book { words_book self.now ≡ pass.old.name }
         requires holder { IsHolder key.old pass.old slot }
         requires refreshing { IsOut key.old true × IsLastOf key.old activation.old }
-        ensures noted { NotesAs key.old pass.old key.new pass.new (beginning pass.old activation.new.life (SwapOut slot)) }
+        ensures noted { AddsDeed key.old pass.old key.new pass.new (beginning pass.old activation.new.life (SwapOut slot)) }
         ensures activation { IsActivationOf key.new activation.new }
         ensures found { OnHead (words_book self.now) slot (λ head. FoundBefore head pass.new result) }
         ensures walks { (out : IsOut key.old true) → OnHead (words_book self.now) slot (λ head. WalksFrom head key.new result out.0) }
@@ -275,7 +276,7 @@ impl<T: Drop> Words<T> {
     ) -> bool
         requires book { IsKeyOfBook key.old pass.old × (words_book self.now ≡ pass.old.name) × AreOfBook values.old pass.old }
         requires knows { Knows key.old pass.old }
-        requires adds { AddsWithAt key.old block won values.old }
+        requires adds { MayCountUpAt key.old block won values.old }
         requires told { AreTold values.old pass.old }
         ensures counts { Counts key.old pass.old key.new pass.new (AddCount (slot_number key.old)) result }
         ensures gives { (adds : IsAddingAt key.old block won) → GivesUp key.old key.new adds.batch [] adds.queue result }

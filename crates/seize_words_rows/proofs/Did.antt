@@ -4,7 +4,7 @@ use Rattle.seize_machine.specs.Machine.Event.{Event}
 use Rattle.seize_machine.specs.declared.machine.event.Answer.{Answer}
 use Rattle.seize_book.specs.Entry.{Deed, Entry, Made, Used}
 use Rattle.seize_book.specs.Passes.{events_in}
-use Rattle.seize_book.specs.Slots.{NotesAs, acts_of, slot_number}
+use Rattle.seize_book.specs.Slots.{AddsDeed, acts_of, slot_number}
 use Rattle.seize_book.specs.declared.book.pass.Pass.{Pass}
 use Rattle.seize_book.specs.declared.book.slot_key.SlotKey.{SlotKey}
 use Rattle.seize_words_rows.specs.Leaves.{Did, did}
@@ -15,7 +15,7 @@ one_more [] d answer = refl
 one_more ((Made e, its) ∷ made) d answer = ap (λ (more : List Event). e.event ∷ more) (one_more made d answer)
 one_more ((Used u, its) ∷ made) d answer = one_more made d answer
 
-pub did_one : (key key' : SlotKey) (pass pass' : Pass) (d : Deed) → NotesAs key pass key' pass' d → Did key key' (d.event ∷ [])
+pub did_one : (key key' : SlotKey) (pass pass' : Pass) (d : Deed) → AddsDeed key pass key' pass' d → Did key key' (d.event ∷ [])
 did_one key key' pass pass' d notes =
     ap (λ (made : List (Entry × Answer)). map (λ a. a.0.event) (events_in made)) notes.2.1.acts ∙ one_more (acts_of key) d notes.2.0.answer
 

@@ -10,12 +10,12 @@ use Rattle.seize_machine.specs.declared.machine.event.Answer.TheVariants.{Done}
 use Rattle.seize_book.specs.Adding.{private}
 use Rattle.seize_book.specs.Blocks.{Plan, block_in, block_number, count_word, no_plan}
 use Rattle.seize_book.specs.Book.{IsLegalList, after}
-use Rattle.seize_book.specs.Chains.{served}
+use Rattle.seize_book.specs.Chains.{insertion_value}
 use Rattle.seize_book.specs.Entry.{Entry}
 use Rattle.seize_book.specs.Homes.{count_in, home_of}
 use Rattle.seize_book.specs.Homesteads.{state_seen}
 use Rattle.seize_book.specs.Passes.{LooksOn}
-use Rattle.seize_book.specs.Slots.{IsKeyOfBook, Looks, slot_number, written_of}
+use Rattle.seize_book.specs.Slots.{IsKeyOfBook, LooksWithSlotKey, slot_number, written_of}
 use Rattle.seize_book.specs.Tokens.{Name, start}
 use Rattle.seize_book.specs.declared.book.numbers_key.NumbersKey.{NumbersKey}
 use Rattle.seize_book.specs.declared.book.pass.Pass.{Pass}
@@ -65,7 +65,7 @@ module _ (n : Name) (key : SlotKey) (v : ℕ) (knows : Knows n key 1 (looked v))
     saw = [];
     queue = [];
     trying = ap (λ (r : Slot). r.call) (record_is n key 1 (looked v) knows);
-    its = its ∙ ap which (sym (ap (λ (plans : List Plan). home_of (served plans 0 0)) (planned_is n key 1 (looked v) knows)));
+    its = its ∙ ap which (sym (ap (λ (plans : List Plan). home_of (insertion_value plans 0 0)) (planned_is n key 1 (looked v) knows)));
   }
 
   pub tries : (block : ℕ) → block_number v ≡ block → block + 2 < 2 ^ 64 → written_of key ≡ Some (1, block) → TriesAtSlot key 0 1 block
@@ -85,7 +85,7 @@ module _ (n : Name) (key : SlotKey) (v : ℕ) (knows : Knows n key 1 (looked v))
   )
 
 -- A look leaves all that is known, and then the slot's key knows it too.
-pub looked_at : (n : Name) (key key' : SlotKey) (pass pass' : Pass) (s : ℕ) (now known : Stage) → Looks key pass key' pass' → Sees n pass now → Knows n key s known → Leads n pass' key' s now × walks.Knows key' pass'
+pub looked_at : (n : Name) (key key' : SlotKey) (pass pass' : Pass) (s : ℕ) (now known : Stage) → LooksWithSlotKey key pass key' pass' → Sees n pass now → Knows n key s known → Leads n pass' key' s now × walks.Knows key' pass'
 looked_at n key key' pass pass' s now known looks sees knows =
     let seen = sees_on n pass pass' now looks.on sees in (
       (seen, record { book = looks.seen_by.0 ∙ knows.book; number = looks.seen_by.1 ∙ knows.number; leads = subst (λ (log : List Entry). IsAt n log now) (sym looks.seen_by.2) seen.leads }),

@@ -14,12 +14,12 @@ use Rattle.seize_book.specs.Homes.{IsSound}
 use Rattle.seize_book.specs.Homesteads.{HasNumber, state_seen}
 use Rattle.seize_book.specs.Passes.{IsSamePass, LooksOn}
 use Rattle.seize_book.specs.Loans.{AllCarryOne}
-use Rattle.seize_book.specs.Tokens.{Name, Noted, start}
+use Rattle.seize_book.specs.Tokens.{AddsEntry, Name, start}
 use Rattle.seize_words.specs.Activations.{IsLasting}
-use Rattle.seize_words.specs.Chunks.{StandsAt}
+use Rattle.seize_words.specs.Chunks.{IsLiveAt}
 use Rattle.seize_words.specs.Joined.{IsNewTo, OnLink}
 use Rattle.seize_words.specs.LinkWords.{ActsOnLink, CompareExchanges, IsDuring, Reads, Sees, held_before, link_number, value_held}
-use Rattle.seize_words.specs.Links.{IsNewIn, compared}
+use Rattle.seize_words.specs.Links.{IsNewIn, comparand}
 use Rattle.seize_words.specs.declared.activation.Activation.{Activation}
 use Rattle.seize_book.specs.declared.book.pass.Pass.{Pass}
 use Rattle.seize_words.specs.declared.glimpse.Glimpse.{Glimpse}
@@ -53,7 +53,7 @@ module _ (a : Activation) (pass pass' : Pass) (event : ℕ → Option ℕ → Ev
 
   abbrev Told : Option ℕ → ℕ → Type 0
   Told was l =
-      (before : List Entry) × (noted : Noted pass.name pass.id pass.seen pass'.seen (Made (private pass (event l (held before l))))) × (noted.before ≡ before) × IsDuring a pass.name before
+      (before : List Entry) × (noted : AddsEntry pass.name pass.id pass.seen pass'.seen (Made (private pass (event l (held before l))))) × (noted.before ≡ before) × IsDuring a pass.name before
       × (v ≡ link_word (held before l)) × (held before l ≡ was)
 
   told_at : (link other : Link) → link_number link ≡ link_number other → (t : ActsOnLink link a pass pass' (event (link_number link)) v) → (u : ActsOnLink other a pass pass' (event (link_number other)) v) × (held_before u ≡ held_before t)
@@ -74,10 +74,10 @@ either : (b : Bool) (o : Option ℕ) → (if b then o else o) ≡ o
 either true o = refl
 either false o = refl
 
-compares_same : (current old : Option ℕ) → old ≡ current → compared current old ≡ current
-compares_same current old same = ap (compared current) same ∙ either (link_word current == link_word current) current
+compares_same : (current old : Option ℕ) → old ≡ current → comparand current old ≡ current
+compares_same current old same = ap (comparand current) same ∙ either (link_word current == link_word current) current
 
-compares_other : (current old : Option ℕ) → (link_word old == link_word current) ≡ false → compared current old ≡ current
+compares_other : (current old : Option ℕ) → (link_word old == link_word current) ≡ false → comparand current old ≡ current
 compares_other current old other = ap (λ (b : Bool). if b then old else current) other
 
 -- what a link holds whose word is 0
@@ -86,7 +86,7 @@ none_held None is = refl
 none_held (Some w) is = absurd (let e : block_number w + 1 ≡ 0 = is in omega (arith, e))
 
 -- a pass that looks at once after a step sees nothing more
-looks_at_once : (pass pass' : Pass) (e : Entry) → IsSamePass pass pass' → Noted pass.name pass.id pass.seen pass'.seen e → LooksOn pass' pass'
+looks_at_once : (pass pass' : Pass) (e : Entry) → IsSamePass pass pass' → AddsEntry pass.name pass.id pass.seen pass'.seen e → LooksOn pass' pass'
 looks_at_once pass pass' e same noted = record {
   same = (refl, refl, refl);
   none_made = refl;
@@ -105,10 +105,10 @@ module _ (link : Link) (a : Activation) (pass mid late : Pass) (seen found : ℕ
   current = held_before reads
 
   abbrev event : Option ℕ → Event
-  event old = ExchangeLink a.slot (link_number link) (Compare (compared current old) (value_held key))
+  event old = ExchangeLink a.slot (link_number link) (Compare (comparand current old) (value_held key))
 
   -- where it is won, and found a value, that is what was read: both stand
-  took_read : (pass' : Pass) → found ≡ seen → LooksOn late pass' → IsLasting a pass' → ((v w : ℕ) → StandsAt v (found - 1) pass' → StandsAt w (found - 1) pass' → v ≡ w) → held_before x.0 ≡ current
+  took_read : (pass' : Pass) → found ≡ seen → LooksOn late pass' → IsLasting a pass' → ((v w : ℕ) → IsLiveAt v (found - 1) pass' → IsLiveAt w (found - 1) pass' → v ≡ w) → held_before x.0 ≡ current
   took_read pass' won looks lasts one =
       took_current link a a mid late pass' event found current x.0 (λ _. (refl, refl)) (won ∙ reads.found)
       (λ w is. found_later a w mid late x.0.same.0 (seen_grows mid.name mid.id mid.seen late.seen _ x.0.noted) (was_found link a pass mid (λ _. ReadLink a.slot (link_number link)) seen w reads (λ _. (refl, refl)) is))
@@ -126,10 +126,10 @@ module _ (link : Link) (a : Activation) (pass mid late : Pass) (seen found : ℕ
       go None is = absurd (some (x.0.found ∙ ap link_word is))
       go (Some w) is = (w, held_named link a mid late event found w x.0 is, let shows : found ≡ block_number w + 1 = x.0.found ∙ ap link_word is in omega (arith, shows))
 
-  compares : (found ≡ seen → held_before x.0 ≡ current) → compared current (held_before x.0) ≡ current
+  compares : (found ≡ seen → held_before x.0 ≡ current) → comparand current (held_before x.0) ≡ current
   compares one = go (is_true (link_word (held_before x.0) == link_word current))
     where
-      go : ((link_word (held_before x.0) == link_word current) ≡ true) ⊎ ((link_word (held_before x.0) == link_word current) ≡ false) → compared current (held_before x.0) ≡ current
+      go : ((link_word (held_before x.0) == link_word current) ≡ true) ⊎ ((link_word (held_before x.0) == link_word current) ≡ false) → comparand current (held_before x.0) ≡ current
       go (inl same) = compares_same current (held_before x.0) (one (x.0.found ∙ (eq_true _ _ same ∙ sym reads.found)))
       go (inr other) = compares_other current (held_before x.0) other
 
@@ -178,7 +178,7 @@ module _ (n : Name) (l : ℕ) (a : Activation) (pass mid late : Pass) (seen foun
   pub comes_none : found ≡ 0 → Comes late
   comes_none none = comes late looks_here (λ won. took_none link a pass mid late seen found reads key key' other exchange won none)
 
-  pub comes_out : (pass' : Pass) → LooksOn late pass' → IsLasting a pass' → ((v w : ℕ) → StandsAt v (found - 1) pass' → StandsAt w (found - 1) pass' → v ≡ w) → Comes pass'
+  pub comes_out : (pass' : Pass) → LooksOn late pass' → IsLasting a pass' → ((v w : ℕ) → IsLiveAt v (found - 1) pass' → IsLiveAt w (found - 1) pass' → v ≡ w) → Comes pass'
   comes_out pass' looks lasts one = comes pass' looks (λ won. took_read link a pass mid late seen found reads key key' other exchange pass' won looks lasts one)
 
 -- What a caller goes on with: its pass has seen no less, and where the exchange was lost, the value may be tried again.

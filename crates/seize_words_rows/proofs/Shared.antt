@@ -13,8 +13,8 @@ use Rattle.seize_book.specs.Entry.{Deed, Entry}
 use Rattle.seize_book.specs.Laws.{starts}
 use Rattle.seize_book.specs.Passes.{IsSamePass, Longer, LooksOn}
 use Rattle.seize_book.specs.Private.{IsOver}
-use Rattle.seize_book.specs.Slots.{Notes, NotesAs, active_of, slot_number, slot_of}
-use Rattle.seize_book.specs.Tokens.{Name, Noted, start}
+use Rattle.seize_book.specs.Slots.{AddsDeed, AddsEvent, active_of, slot_number, slot_of}
+use Rattle.seize_book.specs.Tokens.{AddsEntry, Name, start}
 use Rattle.seize_words.specs.Joined.{IsHolder, IsInAt}
 use Rattle.seize_words.specs.Links.{IsWithin}
 use Rattle.seize_words.specs.Reservations.{IsLastOf, IsOut, WalksFrom, slot}
@@ -22,7 +22,7 @@ use Rattle.seize_words.specs.Totals.{slots_seen}
 use Rattle.seize_words.specs.declared.activation.Activation.{Activation}
 use Rattle.seize_book.specs.declared.book.pass.Pass.{Pass}
 use Rattle.seize_book.specs.declared.book.slot_key.SlotKey.{SlotKey}
-use Rattle.seize_book.specs.declared.book.token.Book.{Book}
+use Rattle.seize_book.specs.declared.book.seen.Seen.{Seen}
 use Rattle.seize_words.specs.declared.reservation.Head.{Head}
 use Rattle.seize_book.proofs.Facts.{same_twice}
 use Rattle.seize_words.proofs.Facts.{life_kept, more_seen, more_slots, seen_grows}
@@ -31,7 +31,7 @@ use Rattle.seize_words_rows.specs.Leaves.{IsAtHead, IsInside}
 use Rattle.seize_words_rows.proofs.Leaves.{begun_out, gone_out}
 
 -- after an entry with the pass
-pub goes_noted : (pass pass' : Pass) (e : Entry) → IsSamePass pass pass' → Noted pass.name pass.id pass.seen pass'.seen e → GoesOn pass pass'
+pub goes_noted : (pass pass' : Pass) (e : Entry) → IsSamePass pass pass' → AddsEntry pass.name pass.id pass.seen pass'.seen e → GoesOn pass pass'
 goes_noted pass pass' e same noted =
     let grows = seen_grows pass.name pass.id pass.seen pass'.seen e noted in
     record {
@@ -88,7 +88,7 @@ holder_as key pass pass' s same seen its =
     (its.0 ∙ sym same, its.1, subst (λ (t : Name × List Entry). s < length (after (start t.0) t.1).slots) (λ j. (sym same j, sym seen j)) its.2)
 
 -- an entry that begins no activation leaves the slot's last one
-pub last_still : (key key' : SlotKey) (pass pass' : Pass) (a : Activation) (d : Deed) → NotesAs key pass key' pass' d → starts (slot_number key) d.event ≡ false → IsLastOf key a → IsLastOf key' a
+pub last_still : (key key' : SlotKey) (pass pass' : Pass) (a : Activation) (d : Deed) → AddsDeed key pass key' pass' d → starts (slot_number key) d.event ≡ false → IsLastOf key a → IsLastOf key' a
 last_still key key' pass pass' a d noted none last = ((last.0.0 ∙ sym noted.1.0, last.0.1 ∙ sym noted.1.1, last.0.2), last.1 ∙ sym (life_kept key key' pass pass' d noted none))
 
 -- A walk of a head whose word was 1 is over.
@@ -102,11 +102,11 @@ over_at_one head key v walks one =
     walks.1 ∙ ap (λ (walk : List ℕ). Some (record { place = Rest [] walk; queue = [] })) (ends_at_one _ walks.0 (sym one ∙ walks.2))
 
 -- The slot's call to leave begins, and its head is swapped out.
-module _ (key begun : SlotKey) (pass mid : Pass) (first : Notes key pass begun mid (Begin (slot_number key) Leave)) (inside : IsInside key) where
+module _ (key begun : SlotKey) (pass mid : Pass) (first : AddsEvent key pass begun mid (Begin (slot_number key) Leave)) (inside : IsInside key) where
   abbrev pub is_out : IsOut begun false
   is_out = let n = first.2 in ([], ap (λ slot. slot.call) (begun_out key begun pass n.0.before n.0.later n.0.answer n.1 inside))
 
-  module _ (key' : SlotKey) (pass' : Pass) (last : Notes begun mid key' pass' (SwapOut (slot_number begun))) where
+  module _ (key' : SlotKey) (pass' : Pass) (last : AddsEvent begun mid key' pass' (SwapOut (slot_number begun))) where
     pub went_out : ((slot_of key').used ≡ true) × (active_of key' ≡ false)
     went_out =
         let n = first.2 in let m = last.2 in
@@ -123,7 +123,7 @@ second_in a b c (inl (less, is)) = subst (IsPrefix b) (sym is) ([], append-nil b
 second_in a b c (inr (less, is)) = subst (IsPrefix b) (sym is) less
 
 -- who learns from a book knows of a slot what the book has seen
-pub holder_learned : (key : SlotKey) (book : Book) (pass pass' : Pass) (s : ℕ) → Learns pass book pass' → pass.name ≡ book.name → IsHolder key (seen_by book) s → IsHolder key pass' s
+pub holder_learned : (key : SlotKey) (book : Seen) (pass pass' : Pass) (s : ℕ) → Learns pass book pass' → pass.name ≡ book.name → IsHolder key (seen_by book) s → IsHolder key pass' s
 holder_learned key book pass pass' s learns same its =
     holder_later key (seen_by book) pass' s (learns.0.0 ∙ same) (second_in pass.seen book.seen pass'.seen learns.2)
     (subst (λ (n : Name). IsLegalList (start n) pass'.seen) (sym learns.0.0) learns.4) its

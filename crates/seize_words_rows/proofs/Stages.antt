@@ -15,13 +15,13 @@ use Rattle.seize_book.specs.Book.{after}
 use Rattle.seize_words.specs.Counts.{values_in}
 use Rattle.seize_book.specs.Entry.{Deed, Entry, Made, Use, Used}
 use Rattle.seize_words.specs.Headers.{Uses}
-use Rattle.seize_book.specs.Ledger.{HeldKey, renewed}
+use Rattle.seize_book.specs.Ledger.{HeldKey, with_list}
 use Rattle.seize_book.specs.Others.{Follows, value_of}
 use Rattle.seize_book.specs.Passes.{IsSamePass, LooksOn}
 use Rattle.seize_book.specs.Private.{key_of, label_of, own_of}
 use Rattle.seize_words.specs.Reservations.{FoundBefore, ShowsHead, beginning, slot}
-use Rattle.seize_book.specs.Slots.{IsStill, NotesAs, own_list, slot_number, slot_of, start_of}
-use Rattle.seize_book.specs.Tokens.{IsSole, Name, Noted, start}
+use Rattle.seize_book.specs.Slots.{AddsDeed, IsStill, own_list, slot_number, slot_of, start_of}
+use Rattle.seize_book.specs.Tokens.{AddsEntry, IsSole, Name, start}
 use Rattle.seize_book.specs.declared.book.keys.Keys.{Keys}
 use Rattle.seize_book.specs.declared.book.pass.Pass.{Pass}
 use Rattle.seize_book.specs.declared.book.slot_key.SlotKey.{SlotKey}
@@ -45,7 +45,7 @@ sees_opened n pass book size alone none began = record {
 }
 
 -- the event was legal there
-pub legal_at : (n : Name) (pass pass' : Pass) (e : Deed) (from : Stage) → (noted : Noted pass.name pass.id pass.seen pass'.seen (Made e)) → e.size ≡ pass.size → Sees n pass from → next from.size from.state e.event ≡ Some (noted.later, noted.answer)
+pub legal_at : (n : Name) (pass pass' : Pass) (e : Deed) (from : Stage) → (noted : AddsEntry pass.name pass.id pass.seen pass'.seen (Made e)) → e.size ≡ pass.size → Sees n pass from → next from.size from.state e.event ≡ Some (noted.later, noted.answer)
 legal_at n pass pass' e from noted size sees =
     let at : Sees pass.name pass from = subst (λ (m : Name). Sees m pass from) (sym sees.book) sees in
     ap (λ (k : ℕ). next k from.state e.event) (sym (size ∙ sees.size))
@@ -54,7 +54,7 @@ legal_at n pass pass' e from noted size sees =
     ∙ noted.does
 
 -- said of the pass's own book
-goes_on : (pass pass' : Pass) (e : Deed) (from to : Stage) (answer : Answer) → IsSamePass pass pass' → (noted : Noted pass.name pass.id pass.seen pass'.seen (Made e)) → e.size ≡ pass.size → Sees pass.name pass from → Goes from e.event to answer
+goes_on : (pass pass' : Pass) (e : Deed) (from to : Stage) (answer : Answer) → IsSamePass pass pass' → (noted : AddsEntry pass.name pass.id pass.seen pass'.seen (Made e)) → e.size ≡ pass.size → Sees pass.name pass from → Goes from e.event to answer
     → Sees pass.name pass' to
 goes_on pass pass' e from to answer same noted size sees goes =
     let n = pass.name in let st = start n in
@@ -74,13 +74,13 @@ goes_on pass pass' e from to answer same noted size sees goes =
     }
 
 -- what is known of the pass after an event of a slot
-pub passes : (n : Name) (pass pass' : Pass) (e : Deed) (from to : Stage) (answer : Answer) → IsSamePass pass pass' → (noted : Noted pass.name pass.id pass.seen pass'.seen (Made e)) → e.size ≡ pass.size → Sees n pass from → Goes from e.event to answer
+pub passes : (n : Name) (pass pass' : Pass) (e : Deed) (from to : Stage) (answer : Answer) → IsSamePass pass pass' → (noted : AddsEntry pass.name pass.id pass.seen pass'.seen (Made e)) → e.size ≡ pass.size → Sees n pass from → Goes from e.event to answer
     → Sees n pass' to
 passes n pass pass' e from to answer same noted size sees goes =
     subst (λ (m : Name). Sees m pass' to) sees.book (goes_on pass pass' e from to answer same noted size (subst (λ (m : Name). Sees m pass from) (sym sees.book) sees) goes)
 
 -- and of the slot's key
-steps_by : (n : Name) (key key' : SlotKey) (pass pass' : Pass) (s : ℕ) (e : Deed) (from known to : Stage) (answer : Answer) → NotesAs key pass key' pass' e → e.size ≡ pass.size → Sees n pass from → Knows n key s known → Goes from e.event to answer
+steps_by : (n : Name) (key key' : SlotKey) (pass pass' : Pass) (s : ℕ) (e : Deed) (from known to : Stage) (answer : Answer) → AddsDeed key pass key' pass' e → e.size ≡ pass.size → Sees n pass from → Knows n key s known → Goes from e.event to answer
     → Leads n pass' key' s to
 steps_by n key key' pass pass' s e from known to answer notes size sees knows goes =
     let now = passes n pass pass' e from to answer notes.0 notes.2.0 size sees goes in (
@@ -92,13 +92,13 @@ steps_by n key key' pass pass' s e from known to answer notes size sees knows go
       },
     )
 
-pub steps : (n : Name) (key key' : SlotKey) (pass pass' : Pass) (s life : ℕ) (event : ℕ → Event) (from known to : Stage) (answer : Answer) → NotesAs key pass key' pass' (beginning pass life (event (slot_number key)))
+pub steps : (n : Name) (key key' : SlotKey) (pass pass' : Pass) (s life : ℕ) (event : ℕ → Event) (from known to : Stage) (answer : Answer) → AddsDeed key pass key' pass' (beginning pass life (event (slot_number key)))
     → Sees n pass from → Knows n key s known → Goes from (event s) to answer → Leads n pass' key' s to
 steps n key key' pass pass' s life event from known to answer notes sees knows goes =
     steps_by n key key' pass pass' s (beginning pass life (event (slot_number key))) from known to answer notes refl sees knows (subst (λ (k : ℕ). Goes from (event k) to answer) (sym knows.number) goes)
 
 -- so it is where the event says what is kept of values
-pub tells : (n : Name) (key key' : SlotKey) (pass pass' : Pass) (s : ℕ) (kepts : List ℕ) (event : ℕ → Event) (from known to : Stage) (answer : Answer) → NotesAs key pass key' pass' (deed_with_words pass (event (slot_number key)) kepts)
+pub tells : (n : Name) (key key' : SlotKey) (pass pass' : Pass) (s : ℕ) (kepts : List ℕ) (event : ℕ → Event) (from known to : Stage) (answer : Answer) → AddsDeed key pass key' pass' (deed_with_words pass (event (slot_number key)) kepts)
     → Sees n pass from → Knows n key s known → Goes from (event s) to answer → Leads n pass' key' s to
 tells n key key' pass pass' s kepts event from known to answer notes sees knows goes =
     steps_by n key key' pass pass' s (deed_with_words pass (event (slot_number key)) kepts) from known to answer notes refl sees knows (subst (λ (k : ℕ). Goes from (event k) to answer) (sym knows.number) goes)
@@ -107,7 +107,7 @@ tells n key key' pass pass' s kepts event from known to answer notes sees knows 
 pub uses_field : (n : Name) (key key' : SlotKey) (pass pass' : Pass) (s f v : ℕ) (now known : Stage) → Uses key pass key' pass' f v → Sees n pass now → Knows n key s known → Leads n pass' key' s now
 uses_field n key key' pass pass' s f v now known uses sees knows =
     let u : Use = record { pass = pass.id; slot = slot_number key; field = f; value = v } in
-    let noted = subst (λ (m : Name). Noted m pass.id pass.seen pass'.seen (Used u)) sees.book uses.noted in
+    let noted = subst (λ (m : Name). AddsEntry m pass.id pass.seen pass'.seen (Used u)) sees.book uses.noted in
     let appended : pass'.seen ≡ pass.seen ++ Used u ∷ [] = noted.appended ∙ ap (λ (log : List Entry). log ++ Used u ∷ []) (noted.alone sees.alone) in
     let leads : IsAt n pass'.seen now =
     record {
@@ -182,15 +182,15 @@ same_front (z ∷ xs) (w ∷ ys) x y e =
     let head : z ≡ w = cc in let tail : xs ++ x ∷ [] ≡ ys ++ y ∷ [] = cc in
     ap (λ (k : _). k ∷ xs) head ∙ ap (λ l. w ∷ l) (same_front xs ys x y tail)
 
-pub found : (n : Name) (head : Head) (pass pass' : Pass) (e : Entry) (m v : ℕ) (stage : Stage) → head.word.name ≡ n → slot head ≡ m → Noted pass.name pass.id pass.seen pass'.seen e → Sees n pass stage → FoundBefore head pass' v → v ≡ word_at stage m
+pub found : (n : Name) (head : Head) (pass pass' : Pass) (e : Entry) (m v : ℕ) (stage : Stage) → head.word.name ≡ n → slot head ≡ m → AddsEntry pass.name pass.id pass.seen pass'.seen e → Sees n pass stage → FoundBefore head pass' v → v ≡ word_at stage m
 found n head pass pass' e m v stage book number noted sees was =
-    let noted_in = subst (λ (k : Name). Noted k pass.id pass.seen pass'.seen e) sees.book noted in
+    let noted_in = subst (λ (k : Name). AddsEntry k pass.id pass.seen pass'.seen e) sees.book noted in
     let before : was.0 ≡ pass.seen = same_front was.0 pass.seen was.1 e (sym was.2 ∙ noted_in.appended ∙ ap (λ (log : List Entry). log ++ e ∷ []) (noted_in.alone sees.alone)) in
     shown n head pass m v stage book number sees (subst (λ (log : List Entry). ShowsHead head log v) before was.3)
 
 -- Values keep their names.
 
-same_labels : (held : List (HeldKey Entry)) (log : List Entry) → label_of (renewed held log) ≡ label_of held
+same_labels : (held : List (HeldKey Entry)) (log : List Entry) → label_of (with_list held log) ≡ label_of held
 same_labels [] log = refl
 same_labels (h ∷ held) log = refl
 

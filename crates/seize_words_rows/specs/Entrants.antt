@@ -24,7 +24,7 @@ use Rattle.seize_words.specs.Totals.{made_of, slots_seen}
 use Rattle.seize_words.specs.declared.activation.Activation.{Activation}
 use Rattle.seize_book.specs.declared.book.pass.Pass.{Pass}
 use Rattle.seize_book.specs.declared.book.porter.Porter.{Porter}
-use Rattle.seize_book.specs.declared.book.token.Book.{Book}
+use Rattle.seize_book.specs.declared.book.seen.Seen.{Seen}
 use Rattle.seize_words.specs.declared.words.Words.{Words}
 use Rattle.seize_words_rows.specs.Leaves.{IsOutside}
 use Rattle.seize_words_rows.specs.declared.entrants.Entered.{Entered}
@@ -40,7 +40,7 @@ HasLinks words = length (words_book words).links ≡ 8
 abbrev pub IsPorterOf : Shared → Porter → Type 0
 IsPorterOf words porter = (porter.name ≡ words_book words) × (porter.home ≡ false)
 
-abbrev pub seen_by : Book → Pass
+abbrev pub seen_by : Seen → Pass
 seen_by book = record { marker = record {}; name = book.name; size = 0; id = 0; seen = book.seen }
 
 abbrev pub made_by : Source → ℕ
@@ -74,10 +74,10 @@ MayRead words activation pass =
 abbrev pub MayReadAll : Shared → Entered → Type 0
 MayReadAll words entered = HasLinks words × MayRead words entered.activation entered.pass
 
-abbrev pub HasBegun : Shared → Activation → Book → Type 0
+abbrev pub HasBegun : Shared → Activation → Seen → Type 0
 HasBegun words activation book = MayRead words activation (seen_by book)
 
-abbrev pub MayShare : Shared → Porter → Book → Activation → Type 0
+abbrev pub MayShare : Shared → Porter → Seen → Activation → Type 0
 MayShare words porter book activation = HasLinks words × IsPorterOf words porter × HasBegun words activation book
 
 abbrev pub MayCross : Entered → Entered → Entered → Entered → Type 0

@@ -1,7 +1,7 @@
 -- The stages of the worked run by numbers are those of `Runs`.
 --     value_in retired        the value that is retired
 --     IsOne n retired         it is lent so, and its key is the only one, of book n, and leads on to none
---     StandsAt words retired pass now key s last     so it is, the pass has seen the one stage, and slot s made its last event at the
+--     IsAtStages words retired pass now key s last   so it is, the pass has seen the one stage, and slot s made its last event at the
 --                             other; the list says what is noted to be kept of the value
 --     UsesBoth key pass key' pass' f v g w     the slot stored v in field f, and then w in field g
 use Rattle.std.specs.Prelude.{◌≡◌, ℕ, [], ◌∷◌}
@@ -27,8 +27,8 @@ pub record IsOne (n : Name) (retired : Retired) : Type 0 where
   pub one : values_of retired.values ≡ value_in retired ∷ []
   pub closed : AreClosed retired.values
 
-abbrev pub StandsAt : Shared → Retired → Pass → (ℕ → Stage) → SlotKey → ℕ → (ℕ → Stage) → Type 0
-StandsAt words retired pass now key s last =
+abbrev pub IsAtStages : Shared → Retired → Pass → (ℕ → Stage) → SlotKey → ℕ → (ℕ → Stage) → Type 0
+IsAtStages words retired pass now key s last =
     let n = words_book words in let v = value_in retired in
     IsOne n retired × Sees n pass (now v) × Knows n key s (last v) × AreTold retired.values pass
 

@@ -11,7 +11,7 @@ ghost use Rattle.seize_words_rows.specs.Leaves.{Did, IsAtHead, IsInside, IsOutOr
 
 use crate::lending::lend;
 use seize_words::activation::Activation;
-use seize_words::book::{Book, NumbersKey, Pass, Porter, SlotKey};
+use seize_words::book::{NumbersKey, Pass, Porter, Seen, SlotKey};
 use seize_words::link::MaybeKey;
 use seize_words::reservation::Head;
 use seize_words::slots::NextSlot;
@@ -483,7 +483,7 @@ pub fn read_under(words: &Words<u64>, link: usize, activation: &Activation, pass
 
 impl Entered<'_> {
     /// The activation, and a book that has seen it begin: for those who share both by `&`.
-    pub fn share(self, words: &Words<u64>) -> (Activation, Book)
+    pub fn share(self, words: &Words<u64>) -> (Activation, Seen)
         requires may { MayRead words.now self.activation self.pass }
         ensures begun { HasBegun words.now result.0 result.1 }
     {
@@ -502,7 +502,7 @@ impl Entered<'_> {
 pub fn pass_for<'p>(
     _words: &Words<u64>,
     porter: &'p Porter,
-    book: &Book,
+    book: &Seen,
     _activation: &Activation,
 ) -> Pass<'p>
     requires porter { IsPorterOf _words.now porter.now }
@@ -519,7 +519,7 @@ pub fn pass_for<'p>(
 pub fn share_and_swap(
     words: &Words<u64>,
     porter: &Porter,
-    book: &Book,
+    book: &Seen,
     activation: &Activation,
     link: usize,
     count: u64,
@@ -541,7 +541,7 @@ pub fn share_and_swap(
 pub fn share_and_find(
     words: &Words<u64>,
     porter: &Porter,
-    book: &Book,
+    book: &Seen,
     activation: &Activation,
     link: usize,
     count: u64,

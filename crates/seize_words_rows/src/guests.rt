@@ -6,7 +6,7 @@ ghost use Rattle.seize_words_rows.specs.Entrants.{IsPorterOf, MayEnter};
 ghost use Rattle.seize_words_rows.specs.Guests.{IsGuestOf};
 
 use crate::entrants::{Entrant, enter_and_leave};
-use seize_words::book::{Book, Porter, SlotKey};
+use seize_words::book::{Porter, Seen, SlotKey};
 use seize_words::words::Words;
 use std::mem;
 
@@ -15,7 +15,7 @@ use std::mem;
 pub struct Guest {
     pub slot: usize,
     pub key: SlotKey,
-    pub seen: Book,
+    pub seen: Seen,
 }
 
 impl Entrant<'_> {

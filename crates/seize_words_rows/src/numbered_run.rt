@@ -15,7 +15,7 @@ ghost use Rattle.seize_words.specs.Named.{numbers_book};
 ghost use Rattle.seize_words.specs.Reservations.{IsLastOf, IsOfSlot};
 ghost use Rattle.seize_words.specs.Reserved.{HasNextSlot};
 ghost use Rattle.seize_words.specs.Totals.{made_of};
-ghost use Rattle.seize_words_rows.specs.NumberedRuns.{StandsAt, UsesBoth};
+ghost use Rattle.seize_words_rows.specs.NumberedRuns.{IsAtStages, UsesBoth};
 ghost use Rattle.seize_words_rows.specs.Runs.{entered, inserted, left, looked, marked, one_made, opened, put, reader_over, two_made};
 ghost use Rattle.seize_words_rows.specs.Stages.{Knows, Leads, Sees};
 
@@ -91,7 +91,7 @@ pub fn retire(
 ) -> Option<Retired>
     requires sees { Sees (words_book words.now) pass.old entered × Knows (words_book words.now) retirer.old 1 two_made }
     ensures value { IfSome result (λ retired. retired.lent.value ≡ value) }
-    ensures stands { IfSome result (λ retired. StandsAt words.now retired pass.new put retirer.new 1 put) }
+    ensures stands { IfSome result (λ retired. IsAtStages words.now retired pass.new put retirer.new 1 put) }
 {
     let Ok((mut key, block)) = words.blocks.add(value, pass) else {
         return None;
@@ -117,9 +117,9 @@ pub fn mark(
     retirer: &mut SlotKey,
     pass: &mut Pass,
 ) -> (u64, u64)
-    requires stands { StandsAt words.now retired.now pass.old put retirer.old 1 put }
+    requires stands { IsAtStages words.now retired.now pass.old put retirer.old 1 put }
     ensures found { (result.0 ≡ 1) × (result.1 ≡ 0) }
-    ensures stands { StandsAt words.now retired.now pass.new marked retirer.new 1 marked }
+    ensures stands { IsAtStages words.now retired.now pass.new marked retirer.new 1 marked }
 {
     let reader = words.read_head(0, retirer, pass);
     (reader, words.read_head(1, retirer, pass))
@@ -127,9 +127,9 @@ pub fn mark(
 
 /// It detaches its batch, and looks at the reader's head again.
 pub fn detach(words: &Words<u64>, retired: &Retired, retirer: &mut SlotKey, pass: &mut Pass) -> u64
-    requires stands { StandsAt words.now retired.now pass.old marked retirer.old 1 marked }
+    requires stands { IsAtStages words.now retired.now pass.old marked retirer.old 1 marked }
     ensures found { result ≡ 1 }
-    ensures stands { StandsAt words.now retired.now pass.new looked retirer.new 1 looked }
+    ensures stands { IsAtStages words.now retired.now pass.new looked retirer.new 1 looked }
 {
     retirer.detach(pass);
     words.read_head(0, retirer, pass)
@@ -150,9 +150,9 @@ fn prepare(next: &Field, first: &Field, seen: u64, front: u64, key: &mut SlotKey
 /// It stores in the block's fields the word that it saw, and the block's number, and inserts the batch with the block. It gives the word
 /// that it found, which is the one that it saw.
 pub fn insert(words: &Words<u64>, retired: &Retired, retirer: &mut SlotKey, pass: &mut Pass) -> u64
-    requires stands { StandsAt words.now retired.now pass.old looked retirer.old 1 looked }
+    requires stands { IsAtStages words.now retired.now pass.old looked retirer.old 1 looked }
     ensures found { result ≡ 1 }
-    ensures stands { StandsAt words.now retired.now pass.new inserted retirer.new 1 inserted }
+    ensures stands { IsAtStages words.now retired.now pass.new inserted retirer.new 1 inserted }
 {
     let block = retired.lent.number;
     let header = words.blocks.header(block, pass);
@@ -168,10 +168,10 @@ pub fn leave(
     activation: &mut Activation,
     pass: &mut Pass,
 ) -> u64
-    requires stands { StandsAt words.now retired.now pass.old inserted reader.old 0 (λ v. entered) }
+    requires stands { IsAtStages words.now retired.now pass.old inserted reader.old 0 (λ v. entered) }
     requires last { IsLastOf reader.old activation.old }
     ensures found { result ≡ retired.now.lent.number + 2 }
-    ensures stands { StandsAt words.now retired.now pass.new left reader.new 0 left }
+    ensures stands { IsAtStages words.now retired.now pass.new left reader.new 0 left }
 {
     reader.begin_leave(pass);
     words.swap_out(0, activation, reader, pass)
@@ -184,10 +184,10 @@ pub fn count_down(
     reader: &mut SlotKey,
     pass: &mut Pass,
 ) -> (bool, u64)
-    requires stands { StandsAt words.now retired.now pass.old left reader.old 0 left }
+    requires stands { IsAtStages words.now retired.now pass.old left reader.old 0 left }
     ensures zero { result.0 ≡ false }
     ensures word { result.1 ≡ 2 ^ 64 - 1 }
-    ensures stands { StandsAt words.now retired.now pass.new reader_over reader.new 0 reader_over }
+    ensures stands { IsAtStages words.now retired.now pass.new reader_over reader.new 0 reader_over }
 {
     reader.look(pass);
     let mut values = ValueKeys::new(pass);
@@ -205,7 +205,7 @@ pub fn count_up(
     retirer: &mut SlotKey,
     pass: &mut Pass,
 ) -> bool
-    requires stands { StandsAt words.now retired.old pass.old reader_over retirer.old 1 inserted }
+    requires stands { IsAtStages words.now retired.old pass.old reader_over retirer.old 1 inserted }
     ensures zero { result ≡ true }
 {
     retirer.look(pass);

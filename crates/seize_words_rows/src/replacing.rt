@@ -5,7 +5,7 @@ ghost use Rattle.std.specs.Prelude.{◌≡◌, ℕ, ◌<◌};
 ghost use Rattle.seize_book.specs.Homesteads.{HasNumber, state_seen};
 ghost use Rattle.seize_book.specs.Passes.{LooksOn};
 ghost use Rattle.seize_words.specs.Activations.{IsLasting};
-ghost use Rattle.seize_words.specs.Chunks.{StandsAt};
+ghost use Rattle.seize_words.specs.Chunks.{IsLiveAt};
 ghost use Rattle.seize_words.specs.Joined.{IsInAt, IsNewTo, OnLink, words_book};
 ghost use Rattle.seize_words_rows.specs.Entrants.{GoesOn, MayEnter};
 ghost use Rattle.seize_words_rows.specs.Replacing.{Replaces};
@@ -52,7 +52,7 @@ fn know_one(words: &Words<u64>, number: u64, activation: &Activation, pass: &mut
     requires book { words_book words.now ≡ pass.old.name }
     requires named { HasNumber number (state_seen pass.old) }
     ensures looks { LooksOn pass.old pass.new }
-    ensures one { (v w : ℕ) → StandsAt v number pass.new → StandsAt w number pass.new → v ≡ w }
+    ensures one { (v w : ℕ) → IsLiveAt v number pass.new → IsLiveAt w number pass.new → v ≡ w }
     ensures lasts { IsLasting activation.now pass.new }
 {
     words.blocks.same(number, number, pass);

@@ -13,8 +13,8 @@ use crate::{numbered_run, shared_numbers};
 use seize_words::activation::Activation;
 use seize_words::batch::Count;
 use seize_words::book::{
-    BareKey, Book, BookKeys, ChunkKeys, CountKey, FieldKey, HeadKey, LinkKeys, NumbersKey, Pass,
-    Porter, SlotKey, SlotKeys, TotalKey, Unopened, ValueKey, ValueKeys,
+    BareKey, BookKeys, ChunkKeys, CountKey, FieldKey, FutureBook, HeadKey, LinkKeys, NumbersKey,
+    Pass, Porter, Seen, SlotKey, SlotKeys, TotalKey, ValueKey, ValueKeys,
 };
 use seize_words::chunk::{Header, Part};
 use seize_words::header::Field;
@@ -39,7 +39,7 @@ const SWAPS: u64 = 5_000;
 
 #[test]
 fn tokens_have_no_bytes(rt: HostRuntime) {
-    assert_eq!(rt; size_of::<Book>() + size_of::<Pass>(), 0);
+    assert_eq!(rt; size_of::<Seen>() + size_of::<Pass>(), 0);
     assert_eq!(rt;
         size_of::<SlotKey>()
             + size_of::<ValueKey>()
@@ -47,7 +47,7 @@ fn tokens_have_no_bytes(rt: HostRuntime) {
             + size_of::<BareKey>()
             + size_of::<ChunkKeys>()
             + size_of::<Part>()
-            + size_of::<Unopened>()
+            + size_of::<FutureBook>()
             + size_of::<CountKey>()
             + size_of::<FieldKey>()
             + size_of::<NumbersKey>()

@@ -4,7 +4,7 @@ ghost use Rattle.std.specs.Borrow.{sem};
 ghost use Rattle.seize_store.specs.Named as store;
 ghost use Rattle.seize.specs.Blocks.{content, number_of, owner_of, IsSame};
 
-use seize_store::Known;
+use seize_store::RowToken;
 use std::ops::{Deref, DerefMut};
 
 /// A block in one owner's hands. It reads as its value, and may be dropped, which ends the value and frees the block's place in its
@@ -43,7 +43,7 @@ impl<T: Drop> Owned<T> {
     }
 
     /// The value by value, and what shows of which collector it was. The block's place is free again.
-    pub(crate) fn into_parts(self) -> (T, Known)
+    pub(crate) fn into_parts(self) -> (T, RowToken)
         ensures value { result.0 ≡ content self }
         ensures owner { result.1.store ≡ owner_of self }
     {

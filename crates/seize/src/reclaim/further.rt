@@ -4,7 +4,7 @@ ghost use Rattle.seize.specs.Blocks.{content, Belongs, IsUnmixed, Joined};
 
 use crate::block::Owned;
 use crate::reclaim::Weigh;
-use seize_store::Known;
+use seize_store::RowToken;
 use std::alloc::{AllocError, Global};
 use std::marker::Model;
 
@@ -14,7 +14,7 @@ pub struct Further<T: Weigh + Drop> {
     // none where a growth was refused
     values: Option<Vec<Owned<T>>>,
     // of the collector that all blocks put are of; it takes no bytes
-    known: Known,
+    known: RowToken,
 }
 
 impl<T: Weigh + Drop> Model for Further<T> {
@@ -30,7 +30,7 @@ impl<T: Weigh + Drop> Model for Further<T> {
 
 impl<T: Weigh + Drop> Further<T> {
     /// Of the collector that the token's row is of.
-    pub(crate) fn new(alloc: Global, known: Known) -> Further<T>
+    pub(crate) fn new(alloc: Global, known: RowToken) -> Further<T>
         ensures { result ≡ record { values = Some []; owner = known.store } }
     {
         Further {

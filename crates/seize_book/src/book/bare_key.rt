@@ -1,6 +1,6 @@
 //! The key of a block before a number leads to it: what a chunk of a store keeps. It is `Rights` with one key.
 ghost use Rattle.std.specs.Prelude.{◌≡◌, true};
-ghost use Rattle.seize_store.specs.Known.{content_in, entry_of, label_in};
+ghost use Rattle.seize_store.specs.RowTokens.{content_in, entry_of, label_in};
 ghost use Rattle.seize_store.specs.Named.{IsRowOf};
 ghost use Rattle.seize_book.specs.Book.{after, blocks};
 ghost use Rattle.seize_book.specs.Homes.{IsVacant, home_of};
@@ -10,7 +10,7 @@ ghost use Rattle.seize_book.specs.Tokens.{chunk_label, start};
 
 use crate::book::rights::Rights;
 use crate::book::value_key::ValueKey;
-use seize_store::{Known, Labelled};
+use seize_store::{Labelled, RowToken};
 
 /// The right to name the values of one block, before it is said by which number words hold the block. All values that ever lay in it were
 /// reclaimed.
@@ -35,7 +35,7 @@ impl BareKey {
 
     /// The key for a value of the block, which lies in the chunk with this number in the store of its book, as the token shows: the chunk
     /// has the block's label. Words hold the block by this number. The value's name says the content that the chunk has.
-    pub fn place(self, number: u64, known: &Known) -> ValueKey
+    pub fn place(self, number: u64, known: &RowToken) -> ValueKey
         requires store { (bare_book self).store ≡ known.now.store }
         requires row { IsRowOf known.now number }
         requires home { label_in known.now.chunks (entry_of known.now.row number) ≡ bare_key_label self }

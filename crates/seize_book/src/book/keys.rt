@@ -9,11 +9,11 @@ ghost use Rattle.seize_book.specs.Peeks.{keys_show};
 ghost use Rattle.seize_book.specs.Private.{is_one, label_of};
 ghost use Rattle.seize_book.specs.Tokens.{Name, held_coded, keys_own, name_coded};
 
-use crate::book::opened::Opened;
+use crate::book::key_without_note::KeyWithoutNote;
 use crate::book::pass::Pass;
 use crate::book::rights::Rights;
 use seize_content::{CellToken, Pool, Sight, Ticket};
-use seize_store::Known;
+use seize_store::RowToken;
 use seize_table::tls::FilledAt;
 use std::marker::{Brand, Model, PhantomData};
 
@@ -49,7 +49,7 @@ impl Picks for Brand {
 }
 
 impl Keys {
-    ghost use Rattle.seize_book.specs.Adding.{Adds, Asks, JoinsKeys, LooksWithKeys, MayLook, Parts, PartsLast, deed_with_words};
+    ghost use Rattle.seize_book.specs.Adding.{AddsWithKeys, Asks, JoinsKeys, LooksWithKeys, MayLook, Parts, PartsLast, deed_with_words};
     ghost use Rattle.seize_book.specs.Ledger.{AllApart};
     ghost use Rattle.seize_book.specs.Lending.{IsRowAt, Lends, MayLend, MayRedeem, MayWithdraw, Redeems};
     ghost use Rattle.seize_book.specs.Notes.{MayOpen, OpensNote};
@@ -58,9 +58,9 @@ impl Keys {
     ghost use Rattle.seize_book.specs.Tables.{GetsPlace, LiesAt};
 
     /// Adds the event with the pass.
-    pub(crate) fn note<P: Picks>(&mut self, pass: &mut Pass)
+    pub(crate) fn add<P: Picks>(&mut self, pass: &mut Pass)
         requires { Asks self.old pass.old (deed_with_words pass.old P.event P.kepts) }
-        ensures { Adds self.old pass.old self.new pass.new (deed_with_words pass.old P.event P.kepts) }
+        ensures { AddsWithKeys self.old pass.old self.new pass.new (deed_with_words pass.old P.event P.kepts) }
     {}
 
     /// Looks at the list with the pass, and adds nothing.
@@ -120,11 +120,11 @@ impl Keys {
     }
 
     /// What shows the row in which the block of the first key's value lies.
-    pub(crate) fn row(&self) -> Known
+    pub(crate) fn row(&self) -> RowToken
         requires { is_one blocks self.now.held ≡ true }
         ensures { IsRowAt self.now.name (label_of self.now.held) result }
     {
-        Known {
+        RowToken {
             marker: PhantomData,
         }
     }
@@ -145,11 +145,11 @@ impl Keys {
     {}
 
     /// The token of the cell of the block whose key it is comes out. It says what is noted.
-    pub(crate) fn open(&mut self) -> (Opened, CellToken)
+    pub(crate) fn open(&mut self) -> (KeyWithoutNote, CellToken)
         requires { MayOpen self.old }
         ensures { OpensNote self.old self.new result.0 result.1 }
     {
-        let opened = Opened {
+        let opened = KeyWithoutNote {
             marker: PhantomData,
         };
         let token = CellToken {

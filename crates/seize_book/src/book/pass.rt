@@ -6,8 +6,8 @@ ghost use Rattle.seize_store.specs.Named.{IsRowOf};
 ghost use Rattle.seize_book.specs.Tokens.{Name, lent_pass, name_coded};
 
 use crate::book::porter::Porter;
-use crate::book::token::Book;
-use seize_store::Known;
+use crate::book::seen::Seen;
+use seize_store::RowToken;
 use seize_table::tls::AllFilled;
 use std::marker::{Model, PhantomData};
 
@@ -46,13 +46,13 @@ impl<'p> Pass<'p> {
 
     /// The pass learns what the book has seen: afterwards it has seen the longer of the two beginnings. So a caller who shares a book by
     /// `&` tells others what it has seen, such as that an activation began. No event is made with the pass.
-    pub fn learn(&mut self, book: &Book)
+    pub fn learn(&mut self, book: &Seen)
         requires { book.now.name ≡ self.old.name }
         ensures { Learns self.old book.now self.new }
     {}
 
     /// A book of the pass's family is its book. It does nothing: its contract is the law.
-    pub fn agree(&mut self, book: &Book)
+    pub fn agree(&mut self, book: &Seen)
         requires { book.now.name.family ≡ self.old.name.family }
         ensures { (self.new ≡ self.old) × (book.now.name ≡ self.new.name) }
     {}
@@ -60,7 +60,7 @@ impl<'p> Pass<'p> {
     /// Looks at the list, and adds nothing. It gives what shows the row of this number, which is that of a value that was named: the value
     /// lies in the block with the label that the row has there, and so does each other one that was named and whose number is one of the
     /// row's. With each something is lent (`LooksOn`).
-    pub fn seek(&mut self, number: u64) -> Known
+    pub fn seek(&mut self, number: u64) -> RowToken
         requires named { HasNumber number (state_seen self.old) }
         ensures looks { LooksOn self.old self.new }
         ensures row { (result.store ≡ self.old.name.store) × IsRowOf result number }
@@ -72,11 +72,11 @@ impl<'p> Pass<'p> {
     }
 
     // What shows the row of the number.
-    fn row_of(&mut self, number: u64) -> Known
+    fn row_of(&mut self, number: u64) -> RowToken
         requires { HasNumber number (state_seen self.old) }
         ensures { LooksOn self.old self.new × (result.store ≡ self.old.name.store) × IsRowOf result number }
     {
-        Known {
+        RowToken {
             marker: PhantomData,
         }
     }
@@ -93,7 +93,7 @@ impl<'p> Pass<'p> {
 
     /// Looks at the list, and adds nothing. The row is one of the book's store. Each value that was ever named, and whose
     /// number is one of the row's, lies in the block with the label that the row has there.
-    pub fn find(&mut self, known: &Known)
+    pub fn find(&mut self, known: &RowToken)
         requires { self.old.name.store ≡ known.now.store }
         ensures { LooksOn self.old self.new × AreAt self.new.name known.now (state_seen self.new) }
     {}

@@ -7,7 +7,7 @@ ghost use Rattle.seize_book.specs.Entry.{Entry, entry_coded};
 ghost use Rattle.seize_book.specs.Tokens.{Name, name_coded};
 
 use crate::book::pass::Pass;
-use crate::book::token::Book;
+use crate::book::seen::Seen;
 use std::marker::{Model, PhantomData};
 
 /// Lends the passes of its book, of which it is the one porter. If it is dropped, nobody adds to the list any more: the passes that it
@@ -57,7 +57,7 @@ impl Porter {
     ghost use Rattle.seize_book.specs.Porters.{ComesHome, HadStay, LeavesHome, LendsPass, MayStay, OpensAgain, Resizes, Shuts};
     ghost use Rattle.seize_book.specs.Tokens.{IsSole};
 
-    /// A new pass, which has seen what the porter has, and perhaps more; a kept [`Book`] tells a new pass what an earlier one saw
+    /// A new pass, which has seen what the porter has, and perhaps more; a kept [`Seen`] tells a new pass what an earlier one saw
     /// ([`Pass::learn`]). It lasts for as long as the porter is shared: a caller who has the porter alone again may come home or leave,
     /// whether the pass was dropped or forgotten, here or by another thread.
     ///
@@ -89,9 +89,9 @@ impl Porter {
         ensures { ComesHome self.old self.new }
     {}
 
-    /// At home the porter has the whole list: it has seen what the book has. So what a thread keeps in a [`Book`] of what its pass saw is
+    /// At home the porter has the whole list: it has seen what the book has. So what a thread keeps in a [`Seen`] of what its pass saw is
     /// known here. It does nothing: its contract is the law.
-    pub fn covers(&mut self, book: &Book)
+    pub fn covers(&mut self, book: &Seen)
         requires { (self.old.home ≡ true) × (book.now.name ≡ self.old.name) }
         ensures { (self.new ≡ self.old) × IsPrefix book.now.seen self.new.seen }
     {}

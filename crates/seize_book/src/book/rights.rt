@@ -10,7 +10,7 @@ ghost use Rattle.seize_book.specs.Private.{is_one};
 ghost use Rattle.seize_book.specs.Tokens.{Name, held_coded, name_coded, notes_own, rights_own};
 
 use crate::book::keys::Keys;
-use seize_store::Known;
+use seize_store::RowToken;
 use std::marker::{Model, PhantomData};
 
 /// As `Keys`, but for the ways. What their holder notes goes with them.
@@ -29,7 +29,7 @@ impl Rights {
 
     /// The key of a block's values, where the number leads to the block, as the token shows. Its label is a value with this number then, of
     /// the block and of its content, which was never named.
-    pub(crate) fn place(&mut self, number: u64, known: &Known) -> Keys
+    pub(crate) fn place(&mut self, number: u64, known: &RowToken) -> Keys
         requires { IsWay self.old number known.now }
         ensures { Places self.old number known.now result }
     {

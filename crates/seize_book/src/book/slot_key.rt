@@ -30,36 +30,36 @@ impl SlotKey {
     ghost use Rattle.seize_book.specs.Adding.{deed_with_words};
     ghost use Rattle.seize_book.specs.Batches.{CanDetach, Detaches};
     ghost use Rattle.seize_book.specs.Kept.{kepts_of};
-    ghost use Rattle.seize_book.specs.Values.{AreLast, AreOfBook, AreNew, AreSpent, Keep, values_of};
-    ghost use Rattle.seize_book.specs.Others.{AreNumbersOf, CannotRetire, Follows, FollowsNumbers, FollowsValue, IsLast, IsOfBook, IsValueOf, IsWith, Knew, MayRetire, MayTake, SameKind, use_flags, value_of};
+    ghost use Rattle.seize_book.specs.Values.{AreLast, AreOfBook, AreNew, AreSpent, FollowsValues, values_of};
+    ghost use Rattle.seize_book.specs.Others.{AreNumbersOf, CannotRetire, Follows, FollowsNumbers, FollowsValue, IsLast, IsOfBook, IsValueOf, IsWith, Knew, MayRetire, MayTakeNumber, SameKind, use_flags, value_of};
     ghost use Rattle.seize_book.specs.Private.{IsOpen, IsPrivate};
-    ghost use Rattle.seize_book.specs.Slots.{HandsOnce, HandsSoon, Looks, Notes, NotesAs, IsKeyOfBook, active_of, hands_next, slot_number, slot_of, start_of};
+    ghost use Rattle.seize_book.specs.Slots.{HandsOnce, HandsSoon, LooksWithSlotKey, AddsEvent, AddsDeed, IsKeyOfBook, active_of, hands_next, slot_number, slot_of, start_of};
     ghost use Rattle.seize_book.specs.Tables.{IsLike, IsPlaced};
     ghost use Rattle.seize_book.specs.Tokens.{label_at};
     ghost use Rattle.seize_machine.specs.Machine.Frames.{changes_slot};
 
     // Any event that changes nothing but the slot's own record.
-    fn note<P: Picks>(&mut self, pass: &mut Pass)
+    fn add<P: Picks>(&mut self, pass: &mut Pass)
         requires book { IsKeyOfBook self.old pass.old }
         requires private { IsPrivate (slot_number self.old) P.event }
         requires open { IsOpen (slot_of self.old) (active_of self.old) (slot_number self.old) pass.old.size P.event }
-        ensures noted { NotesAs self.old pass.old self.new pass.new (deed_with_words pass.old P.event P.kepts) }
+        ensures noted { AddsDeed self.old pass.old self.new pass.new (deed_with_words pass.old P.event P.kepts) }
     {
-        self.keys.note::<P>(pass);
+        self.keys.add::<P>(pass);
     }
 
     // An event that changes what other keys know too. The word is there for the caller's proof, which picks the event by it.
-    fn note_with<P: Picks>(&mut self, other: &mut Keys, _kept: u64, pass: &mut Pass)
+    fn add_with<P: Picks>(&mut self, other: &mut Keys, _kept: u64, pass: &mut Pass)
         requires book { IsKeyOfBook self.old pass.old × IsOfBook other.old pass.old }
         requires may { IsWith self.old other.old pass.old (deed_with_words pass.old P.event P.kepts) }
         requires own { changes_slot (slot_number self.old) P.event ≡ true }
-        ensures noted { NotesAs self.old pass.old self.new pass.new (deed_with_words pass.old P.event P.kepts) }
+        ensures noted { AddsDeed self.old pass.old self.new pass.new (deed_with_words pass.old P.event P.kepts) }
         ensures other { Follows other.old pass.new other.new × SameKind other.old other.new }
         ensures knew { Knew self.old other.old pass.old pass.new (deed_with_words pass.old P.event P.kepts) }
     {
         let both = &mut self.keys;
         both.join(other);
-        both.note::<P>(pass);
+        both.add::<P>(pass);
         both.part(other);
     }
 
@@ -67,7 +67,7 @@ impl SlotKey {
     /// knows it.
     pub fn look(&mut self, pass: &mut Pass)
         requires book { IsKeyOfBook self.old pass.old }
-        ensures looked { Looks self.old pass.old self.new pass.new }
+        ensures looked { LooksWithSlotKey self.old pass.old self.new pass.new }
     {
         self.keys.look(pass);
     }
@@ -94,80 +94,80 @@ impl SlotKey {
         requires idle { is_idle (slot_of self.old) ≡ true }
         requires value { MayRetire value.old }
         ensures noted { let begins = Begin (slot_number self.old) (Retire (value_of value.old)) in
-            NotesAs self.old pass.old self.new pass.new (deed_with_words pass.old begins (kept ∷ [])) }
+            AddsDeed self.old pass.old self.new pass.new (deed_with_words pass.old begins (kept ∷ [])) }
         ensures value { FollowsValue value.old pass.new value.new }
         ensures spent { CannotRetire value.new }
         ensures last { IsLast value.new }
     {
-        self.note_with::<Brand>(&mut value.keys, kept, pass);
+        self.add_with::<Brand>(&mut value.keys, kept, pass);
     }
 
     /// The event `Give`: the slot's number goes back.
     pub fn give(&mut self, numbers: &mut NumbersKey, pass: &mut Pass)
         requires book { IsKeyOfBook self.old pass.old × AreNumbersOf numbers.old pass.old }
         requires idle { (is_idle (slot_of self.old) ≡ true) × (active_of self.old ≡ false) }
-        ensures noted { Notes self.old pass.old self.new pass.new (Give (slot_number self.old)) }
+        ensures noted { AddsEvent self.old pass.old self.new pass.new (Give (slot_number self.old)) }
         ensures numbers { FollowsNumbers numbers.old pass.new numbers.new }
         ensures used { use_flags numbers.new ≡ slice_set (use_flags numbers.old) (slot_number self.old) false }
     {
-        self.note_with::<Brand>(&mut numbers.keys, 0, pass);
+        self.add_with::<Brand>(&mut numbers.keys, 0, pass);
     }
 
     /// The event `Take` of a number that was in use before: the slot, which is there, is in use again.
     pub fn take_again(&mut self, numbers: &mut NumbersKey, pass: &mut Pass)
         requires book { IsKeyOfBook self.old pass.old × AreNumbersOf numbers.old pass.old }
-        requires least { MayTake numbers.old self.old }
-        ensures noted { Notes self.old pass.old self.new pass.new (Take (slot_number self.old)) }
+        requires least { MayTakeNumber numbers.old self.old }
+        ensures noted { AddsEvent self.old pass.old self.new pass.new (Take (slot_number self.old)) }
         ensures numbers { FollowsNumbers numbers.old pass.new numbers.new }
         ensures used { use_flags numbers.new ≡ slice_set (use_flags numbers.old) (slot_number self.old) true }
     {
-        self.note_with::<Brand>(&mut numbers.keys, 0, pass);
+        self.add_with::<Brand>(&mut numbers.keys, 0, pass);
     }
 
     /// The event `Begin` of a flush.
     pub fn begin_flush(&mut self, pass: &mut Pass)
         requires book { IsKeyOfBook self.old pass.old }
         requires idle { (is_idle (slot_of self.old) ≡ true) × (active_of self.old ≡ true) }
-        ensures noted { Notes self.old pass.old self.new pass.new (Begin (slot_number self.old) Flush) }
+        ensures noted { AddsEvent self.old pass.old self.new pass.new (Begin (slot_number self.old) Flush) }
     {
-        self.note::<Brand>(pass);
+        self.add::<Brand>(pass);
     }
 
     /// The event `Begin` of a leave.
     pub fn begin_leave(&mut self, pass: &mut Pass)
         requires book { IsKeyOfBook self.old pass.old }
         requires idle { (is_idle (slot_of self.old) ≡ true) × (active_of self.old ≡ true) }
-        ensures noted { Notes self.old pass.old self.new pass.new (Begin (slot_number self.old) Leave) }
+        ensures noted { AddsEvent self.old pass.old self.new pass.new (Begin (slot_number self.old) Leave) }
     {
-        self.note::<Brand>(pass);
+        self.add::<Brand>(pass);
     }
 
     /// The event `Begin` of a refresh.
     pub fn begin_refresh(&mut self, pass: &mut Pass)
         requires book { IsKeyOfBook self.old pass.old }
         requires idle { (is_idle (slot_of self.old) ≡ true) × (active_of self.old ≡ true) }
-        ensures noted { Notes self.old pass.old self.new pass.new (Begin (slot_number self.old) Refresh) }
+        ensures noted { AddsEvent self.old pass.old self.new pass.new (Begin (slot_number self.old) Refresh) }
     {
-        self.note::<Brand>(pass);
+        self.add::<Brand>(pass);
     }
 
     /// The event `Put`: the value that the slot's call is about to retire is appended to its batch.
     pub fn put(&mut self, pass: &mut Pass)
         requires book { IsKeyOfBook self.old pass.old }
         requires next { is_some (puts_next (slot_of self.old)) ≡ true }
-        ensures noted { Notes self.old pass.old self.new pass.new (Put (slot_number self.old)) }
+        ensures noted { AddsEvent self.old pass.old self.new pass.new (Put (slot_number self.old)) }
     {
-        self.note::<Brand>(pass);
+        self.add::<Brand>(pass);
     }
 
     /// The event `Detach`: the slot's batch becomes a retired batch.
     pub fn detach(&mut self, pass: &mut Pass)
         requires book { IsKeyOfBook self.old pass.old }
         requires next { CanDetach self.old }
-        ensures noted { Notes self.old pass.old self.new pass.new (Detach (slot_number self.old)) }
+        ensures noted { AddsEvent self.old pass.old self.new pass.new (Detach (slot_number self.old)) }
         ensures batch { Detaches self.old pass.new }
     {
-        self.note::<Brand>(pass);
+        self.add::<Brand>(pass);
     }
 
     /// The event `Hand`: the value that the slot's call is about to hand to its reclaimer goes there, and its reclaimer puts these values,
@@ -182,13 +182,13 @@ impl SlotKey {
         requires next { is_some (hands_next (slot_of self.old)) ≡ true }
         requires new { AreNew further.old }
         ensures noted { let hands = Hand (slot_number self.old) (values_of further.old) in
-            NotesAs self.old pass.old self.new pass.new (deed_with_words pass.old hands (kepts_of further.old)) }
+            AddsDeed self.old pass.old self.new pass.new (deed_with_words pass.old hands (kepts_of further.old)) }
         ensures once { IfSome (hands_next (slot_of self.old)) (HandsOnce self.old pass.new) }
-        ensures keys { Keep further.old pass.new further.new }
+        ensures keys { FollowsValues further.old pass.new further.new }
         ensures spent { AreSpent further.new pass.new × AreLast further.new pass.new }
     {
         further.apart();
-        self.note_with::<Brand>(&mut further.keys, 0, pass);
+        self.add_with::<Brand>(&mut further.keys, 0, pass);
     }
 
     /// The event `Hand` of a value whose reclaimer puts none: the value that the slot's call is about to hand to its reclaimer goes there.
@@ -198,7 +198,7 @@ impl SlotKey {
     pub fn hand(&mut self, pass: &mut Pass)
         requires book { IsKeyOfBook self.old pass.old }
         requires next { is_some (hands_next (slot_of self.old)) ≡ true }
-        ensures noted { Notes self.old pass.old self.new pass.new (Hand (slot_number self.old) []) }
+        ensures noted { AddsEvent self.old pass.old self.new pass.new (Hand (slot_number self.old) []) }
         ensures once { IfSome (hands_next (slot_of self.old)) (HandsOnce self.old pass.new) }
     {
         let mut none = ValueKeys::new(pass);
@@ -211,7 +211,7 @@ impl SlotKey {
     pub fn about_to_hand(&mut self, pass: &mut Pass)
         requires book { IsKeyOfBook self.old pass.old }
         requires next { is_some (hands_next (slot_of self.old)) ≡ true }
-        ensures looked { Looks self.old pass.old self.new pass.new }
+        ensures looked { LooksWithSlotKey self.old pass.old self.new pass.new }
         ensures soon { IfSome (hands_next (slot_of self.old)) (HandsSoon (start_of self.old) pass.new.seen) }
     {
         self.look(pass);
@@ -221,8 +221,8 @@ impl SlotKey {
     pub fn finish(&mut self, pass: &mut Pass)
         requires book { IsKeyOfBook self.old pass.old }
         requires over { IsOver (slot_of self.old) }
-        ensures noted { Notes self.old pass.old self.new pass.new (Return (slot_number self.old)) }
+        ensures noted { AddsEvent self.old pass.old self.new pass.new (Return (slot_number self.old)) }
     {
-        self.note::<Brand>(pass);
+        self.add::<Brand>(pass);
     }
 }

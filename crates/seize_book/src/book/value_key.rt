@@ -10,7 +10,7 @@ use crate::book::keys::Keys;
 use crate::book::pass::Pass;
 use crate::book::slot_key::SlotKey;
 use seize_content::{Pool, Sight, Ticket, TokenCell};
-use seize_store::Known;
+use seize_store::RowToken;
 
 /// The right to name the values of one block, of which it is this one's turn: to put it into a link, out of one, and to begin to retire it.
 /// It knows which of the block's values were ever named, and which came out of a link and no call began to retire them.
@@ -30,7 +30,7 @@ impl ValueKey {
     ghost use Rattle.seize_content.specs.Loans.{IsLent};
     ghost use Rattle.seize_book.specs.Loans.{place_of};
     ghost use Rattle.seize_book.specs.Lending.{GoesWith, IsFreeKey, IsInBlockOf, IsLentKey, IsOfPlace, IsRowAt};
-    ghost use Rattle.seize_book.specs.Notes.{HasNoted, IsUnchanged, cell_in, noted_in};
+    ghost use Rattle.seize_book.specs.Notes.{HasNoted, IsUnchanged, cell_in, note_in};
     ghost use Rattle.seize_book.specs.Others.{FollowsValue, HasGone, IsLast, IsVacated, IsValueOf, book_of, value_of};
     ghost use Rattle.seize_book.specs.Passes.{LooksOn};
     ghost use Rattle.seize_book.specs.Peeking.{SightWith};
@@ -113,7 +113,7 @@ impl ValueKey {
     }
 
     /// What shows the row of the store in which the block lies, whether one of its values was ever named or not.
-    pub fn row(&self) -> Known
+    pub fn row(&self) -> RowToken
         ensures row { IsRowAt (book_of self.now) (value_of self.now) result }
     {
         self.keys.row()
@@ -132,7 +132,7 @@ impl ValueKey {
     pub fn note<M: Copy>(&mut self, cell: &TokenCell<M>) -> M
         requires cell { cell.now.name ≡ cell_in self.old }
         ensures same { IsUnchanged self.old self.new }
-        ensures note { M.row.coded.code result ≡ noted_in self.old }
+        ensures note { M.row.coded.code result ≡ note_in self.old }
     {
         let (opened, mut token) = self.keys.open();
         let note = cell.get(&mut token);

@@ -1,7 +1,7 @@
 //! The walk of a table: by bucket, then by entry. It stands on the table of `tls`, which begins it.
 ghost use Rattle.std.specs.Prelude.{◌≡◌, ◌+◌, ◌-◌, ◌^◌, ◌<◌, ◌≤◌, IfSome, IfNone};
 ghost use Rattle.std.specs.Iterator.{at_most};
-ghost use Rattle.seize_table.specs.Table.{HasCell, Shows, WalksOn};
+ghost use Rattle.seize_table.specs.Table.{HasCell, ShowsEntry, WalksOn};
 
 use super::cells::{Cell, Item};
 use super::{Loaded, ThreadLocal};
@@ -42,7 +42,8 @@ impl<'a, T: Labelled + Drop> Iter<'a, T> {
         ensures in_table { stands_at self.new ≤ MAX_INDEX + 1 }
         ensures place { IfSome result (λ found. stands_at self.old ≤ found.0.id) }
         ensures past { IfSome result (λ found. stands_at self.new ≡ found.0.id + 1) }
-        ensures shown { IfSome result (λ found. Shows T.label (cells_of (table_of self.old).now) found.0 found.1.filled found.1.value.now) }
+        ensures shown { IfSome result
+            (λ found. ShowsEntry T.label (cells_of (table_of self.old).now) found.0 found.1.filled found.1.value.now) }
         ensures none { IfNone result (stands_at self.new ≡ MAX_INDEX + 1) }
     {
         while self.bucket < BUCKETS {
@@ -63,7 +64,8 @@ impl<'a, T: Labelled + Drop> Iter<'a, T> {
         ensures same_bucket { IfSome result (λ found. found.0.bucket ≡ bucket_of self.old) }
         ensures place { IfSome result (λ found. next_entry self.old ≤ found.0.entry) }
         ensures past { IfSome result (λ found. next_entry self.new ≡ found.0.entry + 1) }
-        ensures shown { IfSome result (λ found. Shows T.label (cells_of (table_of self.old).now) found.0 found.1.filled found.1.value.now) }
+        ensures shown { IfSome result
+            (λ found. ShowsEntry T.label (cells_of (table_of self.old).now) found.0 found.1.filled found.1.value.now) }
         ensures none { IfNone result (next_entry self.new ≡ next_entry self.old) }
     {
         let found = self.table.first_from(self.bucket, self.entry)?;

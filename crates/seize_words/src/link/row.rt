@@ -3,7 +3,7 @@ ghost use Rattle.std.specs.Prelude.{◌≡◌};
 ghost use Rattle.seize_words.specs.LinkRows.{AreInRow};
 
 use crate::link::Link;
-use seize_book::book::{Book, LinkKeys};
+use seize_book::book::{LinkKeys, Seen};
 use seize_table::Refusal;
 use std::alloc::{AllocError, Global};
 
@@ -12,7 +12,7 @@ use std::alloc::{AllocError, Global};
 pub struct Links {
     row: Vec<Link>,
     /// The book whose links they are.
-    pub book: Book,
+    pub book: Seen,
     ghost in_row: { AreInRow book.name row.items },
 }
 
@@ -27,7 +27,7 @@ impl Links {
     /// # Errors
     ///
     /// `NoMemory` where that was refused.
-    pub fn new(alloc: Global, many: usize, left: LinkKeys, book: Book) -> Result<Links, Refusal>
+    pub fn new(alloc: Global, many: usize, left: LinkKeys, book: Seen) -> Result<Links, Refusal>
         requires left { AreAllOf left book.name many }
         ensures made { IfOk result (λ links. (links.book ≡ book) × (link_count links ≡ many)) }
         ensures refused { IfErr result (λ e. e ≡ NoMemory) }

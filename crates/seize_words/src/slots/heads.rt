@@ -5,7 +5,7 @@ ghost use Rattle.seize_book.specs.Tokens.{slot_labels};
 
 use crate::reservation::Head;
 use crate::slots::Reservation;
-use seize_book::book::Book;
+use seize_book::book::Seen;
 use seize_table::tls::First;
 
 /// The heads of the first slots of a book, by number. It takes no memory. For each bucket of the table it looks up the bucket once; then
@@ -13,7 +13,7 @@ use seize_table::tls::First;
 #[derive(Drop)]
 pub struct Heads<'a> {
     pub(super) walk: First<'a, Reservation>,
-    pub(super) book: &'a Book,
+    pub(super) book: &'a Seen,
     ghost labels: { walk_labels walk ≡ slot_labels book.now.name (length (walk_labels walk)) },
     ghost within: { walk_end walk ≤ length (walk_labels walk) },
 }

@@ -6,7 +6,7 @@ ghost use Rattle.seize_book.specs.Slots.{slot_number};
 
 use crate::reservation::Head;
 use crate::slots::Reservation;
-use seize_book::book::{Book, SlotKey, SlotKeys};
+use seize_book::book::{Seen, SlotKey, SlotKeys};
 
 /// The slot that comes next, with its head, which is in no place yet.
 ///
@@ -28,7 +28,7 @@ impl NextSlot {
     ghost use Rattle.seize_words.specs.Reserved.{comes_next, next_key};
 
     /// The slot with these keys, by its number. Its head is made, which is inactive.
-    pub fn new(keys: SlotKeys, number: usize, book: &Book) -> NextSlot
+    pub fn new(keys: SlotKeys, number: usize, book: &Seen) -> NextSlot
         requires book { (slot_book keys.slot ≡ book.now.name) × (next_book keys.head ≡ book.now.name) }
         requires number { (slot_number keys.slot ≡ number) × (next_head keys.head ≡ number) }
         requires inactive { head_known keys.head ≡ Inactive }

@@ -1,7 +1,7 @@
 use Rattle.std.proofs.Common.{◌≡◌, ℕ, ◌+◌, ◌-◌, ◌*◌, ◌%◌, ◌^◌, ◌<◌, ◌≤◌, ap, ◌∙◌, sym, subst, arith, lit<, slice_index_or}
 use Rattle.std.proofs.lemmas.Nat.{pow-add}
 use Rattle.seize_table.specs.Place.{IsPlace}
-use Rattle.seize_store.specs.Known.{entry_of}
+use Rattle.seize_store.specs.RowTokens.{entry_of}
 use Rattle.seize_bench.proofs.lookups.some_found.Goals as goal
 
 -- the 32 numbers from a multiple of 32 on are of one row

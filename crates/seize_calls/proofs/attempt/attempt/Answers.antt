@@ -1,11 +1,11 @@
 use Rattle.std.proofs.Common.{◌≡◌, ℕ, List, lit<, sym, ap, subst, ◌∙◌, true, false}
 use Rattle.seize_machine.specs.Machine.Event.{AddCount, Detach}
 use Rattle.seize_book.specs.Adding.{private}
-use Rattle.seize_book.specs.Ledger.{renewed}
+use Rattle.seize_book.specs.Ledger.{with_list}
 use Rattle.seize_book.specs.Private.{labels_of}
 use Rattle.seize_book.specs.Slots.{slot_number}
 use Rattle.seize_words.proofs.Facts.{knows_noted}
-use Rattle.seize_calls.specs.Batches.{AreRemarked, keys_in, slot_marks_in, unslotted}
+use Rattle.seize_calls.specs.Batches.{AreRemarked, keys_in, slot_marks_in, without_slots}
 use Rattle.seize_calls.specs.Numbered.{ends_at, is_count_of, starts_at}
 use Rattle.seize_calls.proofs.Attempts.{adds, book_one, book_three, has_front, inserts, its_last, its_values, retires, same_last, same_one, stays_so, told_three, values_are}
 use Rattle.seize_calls.proofs.Batches.{remarked_labels, renewed_labels}
@@ -69,14 +69,14 @@ add-requires-clause-told g c =
     let at = c.requires.begins in
     let key = c.mark.new.key in let pass = c.mark.new.pass in let ready = c.in-Ready in let held = c.mark.new.batch.values.keys.held in let front = c.mark.new.batch.first in
     let are = remarked_labels held c.args.batch.now.values.keys.held ready.ensures.batch.1 ∙ c.requires.batch.1 in
-    let remarked : AreRemarked (keys_in c.args.batch.now) c.insert_each-won.new.batch.values = (c.insert_each-won.ensures.batch.0 ∙ ready.ensures.batch.0, ap unslotted c.insert_each-won.ensures.batch.1 ∙ ready.ensures.batch.1) in
+    let remarked : AreRemarked (keys_in c.args.batch.now) c.insert_each-won.new.batch.values = (c.insert_each-won.ensures.batch.0 ∙ ready.ensures.batch.0, ap without_slots c.insert_each-won.ensures.batch.1 ∙ ready.ensures.batch.1) in
     told_three c.args.key.now at c.args.pass.now key pass held front ready.marked (ready.ensures.marks at) ready.ensures.book.0 ready.ensures.knows ready.ensures.book.1 (ready.ensures.book.0 ∙ ready.ensures.book.1.0 ∙ sym c.requires.book.0, ready.ensures.book.2) are c.mark.new.batch.front c.detach.new.self c.detach.new.pass c.detach.ensures.noted c.detach.ensures.batch c.insert_each-won.new.key c.insert_each-won.new.pass c.insert_each-won.result (c.insert_each-won.ensures.all (inserts c.args.key.now at c.args.pass.now key pass held front ready.marked (ready.ensures.marks at) ready.ensures.book.0 ready.ensures.knows ready.ensures.book.1 (ready.ensures.book.0 ∙ ready.ensures.book.1.0 ∙ sym c.requires.book.0, ready.ensures.book.2) are c.mark.new.batch.front c.detach.new.self c.detach.new.pass c.detach.ensures.noted c.detach.ensures.batch)) c.insert_each-won.ensures.knows c.header-header.new.pass c.header-header.result.now c.header-header.ensures.looks c.header-header.ensures.header (keys_in c.args.batch.now) c.insert_each-won.new.batch.values remarked c.requires.batch.2
 
 -- the same values
 pub invariant_of-batch : goal.invariant_of-batch
 invariant_of-batch g c =
     let batch = c.insert_each-won.new.batch in
-    let left : renewed batch.values.keys.held c.add.new.pass.seen ≡ c.add.new.values.keys.held = sym c.if-add.ensures.keys.1 in
+    let left : with_list batch.values.keys.held c.add.new.pass.seen ≡ c.add.new.values.keys.held = sym c.if-add.ensures.keys.1 in
     let same = sym (renewed_labels batch.values.keys.held c.add.new.pass.seen) ∙ ap labels_of left in
     record {
       many = subst (λ (vs : List ℕ). is_count_of batch.len vs ≡ true) same batch.many;
@@ -90,7 +90,7 @@ returns-then-add-clause-book g c =
     let at = c.requires.begins in
     let key = c.mark.new.key in let pass = c.mark.new.pass in let ready = c.in-Ready in let held = c.mark.new.batch.values.keys.held in let front = c.mark.new.batch.first in
     let are = remarked_labels held c.args.batch.now.values.keys.held ready.ensures.batch.1 ∙ c.requires.batch.1 in
-    let remarked : AreRemarked (keys_in c.args.batch.now) c.insert_each-won.new.batch.values = (c.insert_each-won.ensures.batch.0 ∙ ready.ensures.batch.0, ap unslotted c.insert_each-won.ensures.batch.1 ∙ ready.ensures.batch.1) in
+    let remarked : AreRemarked (keys_in c.args.batch.now) c.insert_each-won.new.batch.values = (c.insert_each-won.ensures.batch.0 ∙ ready.ensures.batch.0, ap without_slots c.insert_each-won.ensures.batch.1 ∙ ready.ensures.batch.1) in
     let same = same_last c.args.key.now at c.args.pass.now key pass held front ready.marked (ready.ensures.marks at) ready.ensures.book.0 ready.ensures.knows ready.ensures.book.1 (ready.ensures.book.0 ∙ ready.ensures.book.1.0 ∙ sym c.requires.book.0, ready.ensures.book.2) are c.mark.new.batch.front c.detach.new.self c.detach.new.pass c.detach.ensures.noted c.detach.ensures.batch c.insert_each-won.new.key c.insert_each-won.new.pass c.insert_each-won.result (c.insert_each-won.ensures.all (inserts c.args.key.now at c.args.pass.now key pass held front ready.marked (ready.ensures.marks at) ready.ensures.book.0 ready.ensures.knows ready.ensures.book.1 (ready.ensures.book.0 ∙ ready.ensures.book.1.0 ∙ sym c.requires.book.0, ready.ensures.book.2) are c.mark.new.batch.front c.detach.new.self c.detach.new.pass c.detach.ensures.noted c.detach.ensures.batch)) c.insert_each-won.ensures.knows c.header-header.new.pass c.header-header.result.now c.header-header.ensures.looks c.header-header.ensures.header (keys_in c.args.batch.now) c.insert_each-won.new.batch.values remarked c.add.new.values c.add.new.key c.add.new.pass true c.if-add.ensures.counts (c.if-add.ensures.gives (adds c.args.key.now at c.args.pass.now key pass held front ready.marked (ready.ensures.marks at) ready.ensures.book.0 ready.ensures.knows ready.ensures.book.1 (ready.ensures.book.0 ∙ ready.ensures.book.1.0 ∙ sym c.requires.book.0, ready.ensures.book.2) are c.mark.new.batch.front c.detach.new.self c.detach.new.pass c.detach.ensures.noted c.detach.ensures.batch c.insert_each-won.new.key c.insert_each-won.new.pass c.insert_each-won.result (c.insert_each-won.ensures.all (inserts c.args.key.now at c.args.pass.now key pass held front ready.marked (ready.ensures.marks at) ready.ensures.book.0 ready.ensures.knows ready.ensures.book.1 (ready.ensures.book.0 ∙ ready.ensures.book.1.0 ∙ sym c.requires.book.0, ready.ensures.book.2) are c.mark.new.batch.front c.detach.new.self c.detach.new.pass c.detach.ensures.noted c.detach.ensures.batch)) c.insert_each-won.ensures.knows c.header-header.new.pass c.header-header.result.now c.header-header.ensures.looks c.header-header.ensures.header)) c.if-add.ensures.keys in let its = its_last c.args.key.now at c.args.pass.now key pass held front ready.marked (ready.ensures.marks at) ready.ensures.book.0 ready.ensures.knows ready.ensures.book.1 (ready.ensures.book.0 ∙ ready.ensures.book.1.0 ∙ sym c.requires.book.0, ready.ensures.book.2) are c.mark.new.batch.front c.detach.new.self c.detach.new.pass c.detach.ensures.noted c.detach.ensures.batch c.insert_each-won.new.key c.insert_each-won.new.pass c.insert_each-won.result (c.insert_each-won.ensures.all (inserts c.args.key.now at c.args.pass.now key pass held front ready.marked (ready.ensures.marks at) ready.ensures.book.0 ready.ensures.knows ready.ensures.book.1 (ready.ensures.book.0 ∙ ready.ensures.book.1.0 ∙ sym c.requires.book.0, ready.ensures.book.2) are c.mark.new.batch.front c.detach.new.self c.detach.new.pass c.detach.ensures.noted c.detach.ensures.batch)) c.insert_each-won.ensures.knows c.header-header.new.pass c.header-header.result.now c.header-header.ensures.looks c.header-header.ensures.header (keys_in c.args.batch.now) c.insert_each-won.new.batch.values remarked c.add.new.values c.add.new.key c.add.new.pass true c.if-add.ensures.counts (c.if-add.ensures.gives (adds c.args.key.now at c.args.pass.now key pass held front ready.marked (ready.ensures.marks at) ready.ensures.book.0 ready.ensures.knows ready.ensures.book.1 (ready.ensures.book.0 ∙ ready.ensures.book.1.0 ∙ sym c.requires.book.0, ready.ensures.book.2) are c.mark.new.batch.front c.detach.new.self c.detach.new.pass c.detach.ensures.noted c.detach.ensures.batch c.insert_each-won.new.key c.insert_each-won.new.pass c.insert_each-won.result (c.insert_each-won.ensures.all (inserts c.args.key.now at c.args.pass.now key pass held front ready.marked (ready.ensures.marks at) ready.ensures.book.0 ready.ensures.knows ready.ensures.book.1 (ready.ensures.book.0 ∙ ready.ensures.book.1.0 ∙ sym c.requires.book.0, ready.ensures.book.2) are c.mark.new.batch.front c.detach.new.self c.detach.new.pass c.detach.ensures.noted c.detach.ensures.batch)) c.insert_each-won.ensures.knows c.header-header.new.pass c.header-header.result.now c.header-header.ensures.looks c.header-header.ensures.header)) c.if-add.ensures.keys in
     (its.0 ∙ c.requires.book.0 ∙ sym same.0, same, its.1)
 
@@ -103,7 +103,7 @@ pub returns-then-add-clause-ends : goal.returns-then-add-clause-ends
 returns-then-add-clause-ends g c = λ at.
     let key = c.mark.new.key in let pass = c.mark.new.pass in let ready = c.in-Ready in let held = c.mark.new.batch.values.keys.held in let front = c.mark.new.batch.first in
     let are = remarked_labels held c.args.batch.now.values.keys.held ready.ensures.batch.1 ∙ c.requires.batch.1 in
-    let remarked : AreRemarked (keys_in c.args.batch.now) c.insert_each-won.new.batch.values = (c.insert_each-won.ensures.batch.0 ∙ ready.ensures.batch.0, ap unslotted c.insert_each-won.ensures.batch.1 ∙ ready.ensures.batch.1) in
+    let remarked : AreRemarked (keys_in c.args.batch.now) c.insert_each-won.new.batch.values = (c.insert_each-won.ensures.batch.0 ∙ ready.ensures.batch.0, ap without_slots c.insert_each-won.ensures.batch.1 ∙ ready.ensures.batch.1) in
     retires c.args.key.now at c.args.pass.now key pass held front ready.marked (ready.ensures.marks at) ready.ensures.book.0 ready.ensures.knows ready.ensures.book.1 (ready.ensures.book.0 ∙ ready.ensures.book.1.0 ∙ sym c.requires.book.0, ready.ensures.book.2) are c.mark.new.batch.front c.detach.new.self c.detach.new.pass c.detach.ensures.noted c.detach.ensures.batch c.insert_each-won.new.key c.insert_each-won.new.pass c.insert_each-won.result (c.insert_each-won.ensures.all (inserts c.args.key.now at c.args.pass.now key pass held front ready.marked (ready.ensures.marks at) ready.ensures.book.0 ready.ensures.knows ready.ensures.book.1 (ready.ensures.book.0 ∙ ready.ensures.book.1.0 ∙ sym c.requires.book.0, ready.ensures.book.2) are c.mark.new.batch.front c.detach.new.self c.detach.new.pass c.detach.ensures.noted c.detach.ensures.batch)) c.insert_each-won.ensures.knows c.header-header.new.pass c.header-header.result.now c.header-header.ensures.looks c.header-header.ensures.header (keys_in c.args.batch.now) c.insert_each-won.new.batch.values remarked c.add.new.values c.add.new.key c.add.new.pass true c.if-add.ensures.counts (c.if-add.ensures.gives (adds c.args.key.now at c.args.pass.now key pass held front ready.marked (ready.ensures.marks at) ready.ensures.book.0 ready.ensures.knows ready.ensures.book.1 (ready.ensures.book.0 ∙ ready.ensures.book.1.0 ∙ sym c.requires.book.0, ready.ensures.book.2) are c.mark.new.batch.front c.detach.new.self c.detach.new.pass c.detach.ensures.noted c.detach.ensures.batch c.insert_each-won.new.key c.insert_each-won.new.pass c.insert_each-won.result (c.insert_each-won.ensures.all (inserts c.args.key.now at c.args.pass.now key pass held front ready.marked (ready.ensures.marks at) ready.ensures.book.0 ready.ensures.knows ready.ensures.book.1 (ready.ensures.book.0 ∙ ready.ensures.book.1.0 ∙ sym c.requires.book.0, ready.ensures.book.2) are c.mark.new.batch.front c.detach.new.self c.detach.new.pass c.detach.ensures.noted c.detach.ensures.batch)) c.insert_each-won.ensures.knows c.header-header.new.pass c.header-header.result.now c.header-header.ensures.looks c.header-header.ensures.header)) c.if-add.ensures.keys
 
 pub returns-else-add-clause-book : goal.returns-else-add-clause-book
@@ -111,7 +111,7 @@ returns-else-add-clause-book g c =
     let at = c.requires.begins in
     let key = c.mark.new.key in let pass = c.mark.new.pass in let ready = c.in-Ready in let held = c.mark.new.batch.values.keys.held in let front = c.mark.new.batch.first in
     let are = remarked_labels held c.args.batch.now.values.keys.held ready.ensures.batch.1 ∙ c.requires.batch.1 in
-    let remarked : AreRemarked (keys_in c.args.batch.now) c.insert_each-won.new.batch.values = (c.insert_each-won.ensures.batch.0 ∙ ready.ensures.batch.0, ap unslotted c.insert_each-won.ensures.batch.1 ∙ ready.ensures.batch.1) in
+    let remarked : AreRemarked (keys_in c.args.batch.now) c.insert_each-won.new.batch.values = (c.insert_each-won.ensures.batch.0 ∙ ready.ensures.batch.0, ap without_slots c.insert_each-won.ensures.batch.1 ∙ ready.ensures.batch.1) in
     let same = same_last c.args.key.now at c.args.pass.now key pass held front ready.marked (ready.ensures.marks at) ready.ensures.book.0 ready.ensures.knows ready.ensures.book.1 (ready.ensures.book.0 ∙ ready.ensures.book.1.0 ∙ sym c.requires.book.0, ready.ensures.book.2) are c.mark.new.batch.front c.detach.new.self c.detach.new.pass c.detach.ensures.noted c.detach.ensures.batch c.insert_each-won.new.key c.insert_each-won.new.pass c.insert_each-won.result (c.insert_each-won.ensures.all (inserts c.args.key.now at c.args.pass.now key pass held front ready.marked (ready.ensures.marks at) ready.ensures.book.0 ready.ensures.knows ready.ensures.book.1 (ready.ensures.book.0 ∙ ready.ensures.book.1.0 ∙ sym c.requires.book.0, ready.ensures.book.2) are c.mark.new.batch.front c.detach.new.self c.detach.new.pass c.detach.ensures.noted c.detach.ensures.batch)) c.insert_each-won.ensures.knows c.header-header.new.pass c.header-header.result.now c.header-header.ensures.looks c.header-header.ensures.header (keys_in c.args.batch.now) c.insert_each-won.new.batch.values remarked c.add.new.values c.add.new.key c.add.new.pass false c.if-add.ensures.counts (c.if-add.ensures.gives (adds c.args.key.now at c.args.pass.now key pass held front ready.marked (ready.ensures.marks at) ready.ensures.book.0 ready.ensures.knows ready.ensures.book.1 (ready.ensures.book.0 ∙ ready.ensures.book.1.0 ∙ sym c.requires.book.0, ready.ensures.book.2) are c.mark.new.batch.front c.detach.new.self c.detach.new.pass c.detach.ensures.noted c.detach.ensures.batch c.insert_each-won.new.key c.insert_each-won.new.pass c.insert_each-won.result (c.insert_each-won.ensures.all (inserts c.args.key.now at c.args.pass.now key pass held front ready.marked (ready.ensures.marks at) ready.ensures.book.0 ready.ensures.knows ready.ensures.book.1 (ready.ensures.book.0 ∙ ready.ensures.book.1.0 ∙ sym c.requires.book.0, ready.ensures.book.2) are c.mark.new.batch.front c.detach.new.self c.detach.new.pass c.detach.ensures.noted c.detach.ensures.batch)) c.insert_each-won.ensures.knows c.header-header.new.pass c.header-header.result.now c.header-header.ensures.looks c.header-header.ensures.header)) c.if-add.ensures.keys in let its = its_last c.args.key.now at c.args.pass.now key pass held front ready.marked (ready.ensures.marks at) ready.ensures.book.0 ready.ensures.knows ready.ensures.book.1 (ready.ensures.book.0 ∙ ready.ensures.book.1.0 ∙ sym c.requires.book.0, ready.ensures.book.2) are c.mark.new.batch.front c.detach.new.self c.detach.new.pass c.detach.ensures.noted c.detach.ensures.batch c.insert_each-won.new.key c.insert_each-won.new.pass c.insert_each-won.result (c.insert_each-won.ensures.all (inserts c.args.key.now at c.args.pass.now key pass held front ready.marked (ready.ensures.marks at) ready.ensures.book.0 ready.ensures.knows ready.ensures.book.1 (ready.ensures.book.0 ∙ ready.ensures.book.1.0 ∙ sym c.requires.book.0, ready.ensures.book.2) are c.mark.new.batch.front c.detach.new.self c.detach.new.pass c.detach.ensures.noted c.detach.ensures.batch)) c.insert_each-won.ensures.knows c.header-header.new.pass c.header-header.result.now c.header-header.ensures.looks c.header-header.ensures.header (keys_in c.args.batch.now) c.insert_each-won.new.batch.values remarked c.add.new.values c.add.new.key c.add.new.pass false c.if-add.ensures.counts (c.if-add.ensures.gives (adds c.args.key.now at c.args.pass.now key pass held front ready.marked (ready.ensures.marks at) ready.ensures.book.0 ready.ensures.knows ready.ensures.book.1 (ready.ensures.book.0 ∙ ready.ensures.book.1.0 ∙ sym c.requires.book.0, ready.ensures.book.2) are c.mark.new.batch.front c.detach.new.self c.detach.new.pass c.detach.ensures.noted c.detach.ensures.batch c.insert_each-won.new.key c.insert_each-won.new.pass c.insert_each-won.result (c.insert_each-won.ensures.all (inserts c.args.key.now at c.args.pass.now key pass held front ready.marked (ready.ensures.marks at) ready.ensures.book.0 ready.ensures.knows ready.ensures.book.1 (ready.ensures.book.0 ∙ ready.ensures.book.1.0 ∙ sym c.requires.book.0, ready.ensures.book.2) are c.mark.new.batch.front c.detach.new.self c.detach.new.pass c.detach.ensures.noted c.detach.ensures.batch)) c.insert_each-won.ensures.knows c.header-header.new.pass c.header-header.result.now c.header-header.ensures.looks c.header-header.ensures.header)) c.if-add.ensures.keys in
     (its.0 ∙ c.requires.book.0 ∙ sym same.0, same, its.1)
 
@@ -124,5 +124,5 @@ pub returns-else-add-clause-ends : goal.returns-else-add-clause-ends
 returns-else-add-clause-ends g c = λ at.
     let key = c.mark.new.key in let pass = c.mark.new.pass in let ready = c.in-Ready in let held = c.mark.new.batch.values.keys.held in let front = c.mark.new.batch.first in
     let are = remarked_labels held c.args.batch.now.values.keys.held ready.ensures.batch.1 ∙ c.requires.batch.1 in
-    let remarked : AreRemarked (keys_in c.args.batch.now) c.insert_each-won.new.batch.values = (c.insert_each-won.ensures.batch.0 ∙ ready.ensures.batch.0, ap unslotted c.insert_each-won.ensures.batch.1 ∙ ready.ensures.batch.1) in
+    let remarked : AreRemarked (keys_in c.args.batch.now) c.insert_each-won.new.batch.values = (c.insert_each-won.ensures.batch.0 ∙ ready.ensures.batch.0, ap without_slots c.insert_each-won.ensures.batch.1 ∙ ready.ensures.batch.1) in
     retires c.args.key.now at c.args.pass.now key pass held front ready.marked (ready.ensures.marks at) ready.ensures.book.0 ready.ensures.knows ready.ensures.book.1 (ready.ensures.book.0 ∙ ready.ensures.book.1.0 ∙ sym c.requires.book.0, ready.ensures.book.2) are c.mark.new.batch.front c.detach.new.self c.detach.new.pass c.detach.ensures.noted c.detach.ensures.batch c.insert_each-won.new.key c.insert_each-won.new.pass c.insert_each-won.result (c.insert_each-won.ensures.all (inserts c.args.key.now at c.args.pass.now key pass held front ready.marked (ready.ensures.marks at) ready.ensures.book.0 ready.ensures.knows ready.ensures.book.1 (ready.ensures.book.0 ∙ ready.ensures.book.1.0 ∙ sym c.requires.book.0, ready.ensures.book.2) are c.mark.new.batch.front c.detach.new.self c.detach.new.pass c.detach.ensures.noted c.detach.ensures.batch)) c.insert_each-won.ensures.knows c.header-header.new.pass c.header-header.result.now c.header-header.ensures.looks c.header-header.ensures.header (keys_in c.args.batch.now) c.insert_each-won.new.batch.values remarked c.add.new.values c.add.new.key c.add.new.pass false c.if-add.ensures.counts (c.if-add.ensures.gives (adds c.args.key.now at c.args.pass.now key pass held front ready.marked (ready.ensures.marks at) ready.ensures.book.0 ready.ensures.knows ready.ensures.book.1 (ready.ensures.book.0 ∙ ready.ensures.book.1.0 ∙ sym c.requires.book.0, ready.ensures.book.2) are c.mark.new.batch.front c.detach.new.self c.detach.new.pass c.detach.ensures.noted c.detach.ensures.batch c.insert_each-won.new.key c.insert_each-won.new.pass c.insert_each-won.result (c.insert_each-won.ensures.all (inserts c.args.key.now at c.args.pass.now key pass held front ready.marked (ready.ensures.marks at) ready.ensures.book.0 ready.ensures.knows ready.ensures.book.1 (ready.ensures.book.0 ∙ ready.ensures.book.1.0 ∙ sym c.requires.book.0, ready.ensures.book.2) are c.mark.new.batch.front c.detach.new.self c.detach.new.pass c.detach.ensures.noted c.detach.ensures.batch)) c.insert_each-won.ensures.knows c.header-header.new.pass c.header-header.result.now c.header-header.ensures.looks c.header-header.ensures.header)) c.if-add.ensures.keys

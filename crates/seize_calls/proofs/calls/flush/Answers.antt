@@ -81,7 +81,7 @@ drain-requires g c =
       lit< tt,
       (
         (c.requires.book.1 ∙ same, c.requires.book.2 ∙ same),
-        (c.requires.size ∙ sym on.same.2, (settle.ensures.sits, (settles_rest a b settle.result settle.ensures.settles, (settle.ensures.serves, settle.ensures.spots)))),
+        (c.requires.size ∙ sym on.same.2, (settle.ensures.well_formed, (settles_rest a b settle.result settle.ensures.settles, (settle.ensures.serves, settle.ensures.spots)))),
       ),
     )
 
@@ -89,7 +89,7 @@ pub finish-requires-2-clause-over : goal.finish-requires-2-clause-over
 finish-requires-2-clause-over g c = let over = c.drain.ensures.over in is_over c.drain.new.key (further_in c.drain.new.queue) over.0 over.1
 
 pub finish-requires-2-clause-book : goal.finish-requires-2-clause-book
-finish-requires-2-clause-book g c = c.drain.ensures.sits.its
+finish-requires-2-clause-book g c = c.drain.ensures.well_formed.its
 
 pub returns-clause-knows : goal.returns-clause-knows
 returns-clause-knows g c = let key = c.drain.new.key in let pass = c.drain.new.pass in let last = c.finish-2 in knows_noted key last.new.self pass last.new.pass (private pass (Return (slot_number key))) last.ensures.noted
@@ -113,7 +113,7 @@ returns-clause-flushes g c =
       drained = d;
       drains = drain.ensures.drains;
       returns = returned d last.new.self last.new.pass last.ensures.noted drain.ensures.over.1;
-      rests = whole_rests key pass d last.new.self last.new.pass all.same all.grows all.alone all.its all.used drain.ensures.sits last.ensures.noted;
+      rests = whole_rests key pass d last.new.self last.new.pass all.same all.grows all.alone all.its all.used drain.ensures.well_formed last.ensures.noted;
       active = over.active ∙ all.active;
       life = over.life ∙ all.life;
     }

@@ -97,7 +97,7 @@ pub finish-requires-clause-over : goal.finish-requires-clause-over
 finish-requires-clause-over g c = let over = c.drain.ensures.over in is_over c.drain.new.key (further_in c.drain.new.queue) over.0 over.1
 
 pub finish-requires-clause-book : goal.finish-requires-clause-book
-finish-requires-clause-book g c = c.drain.ensures.sits.its
+finish-requires-clause-book g c = c.drain.ensures.well_formed.its
 
 pub returns-clause-knows : goal.returns-clause-knows
 returns-clause-knows g c = let key = c.drain.new.key in let pass = c.drain.new.pass in knows_noted key c.finish.new.self pass c.finish.new.pass (private pass (Return (slot_number key))) c.finish.ensures.noted
@@ -112,7 +112,7 @@ returns-clause-leaves g c =
     let at = at_walk key one two pass pass1 pass2 Refresh true swap.new.activation.life begins c.requires.inside.1 out noted c.args.head.now swap.result (swap.ensures.walks ([], out)) c.requires.book.2 in
     let walk = c.walk_all in let three = walk.new.key in let pass3 = walk.new.pass in let queue3 = further_in walk.new.queue in let had3 = g.R.Reclaim.had walk.new.reclaimer in let values = c.args.batch.now.values in let all = walk.ensures.walks at in
     let drain = c.drain in let d = call_state drain.new.key drain.new.pass drain.new.batch drain.new.queue (g.R.Reclaim.had drain.new.reclaimer) in let on = drain.ensures.on in let last = c.finish in
-    has_left key one two pass pass1 pass2 Refresh true swap.new.activation.life begins c.requires.inside.1 out noted c.args.head.now swap.result (swap.ensures.walks ([], out)) c.requires.book.2 three pass3 values queue queue3 had had3 made.ensures.0.1 all d drain.ensures.drains on drain.ensures.sits drain.ensures.over.1 last.new.self last.new.pass last.ensures.noted
+    has_left key one two pass pass1 pass2 Refresh true swap.new.activation.life begins c.requires.inside.1 out noted c.args.head.now swap.result (swap.ensures.walks ([], out)) c.requires.book.2 three pass3 values queue queue3 had had3 made.ensures.0.1 all d drain.ensures.drains on drain.ensures.well_formed drain.ensures.over.1 last.new.self last.new.pass last.ensures.noted
 
 pub returns-clause-last : goal.returns-clause-last
 returns-clause-last g c =

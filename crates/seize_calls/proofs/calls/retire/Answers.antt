@@ -50,13 +50,13 @@ drain-requires g c =
     let v = value_of c.args.value in let event = Begin (slot_number key) (Retire v) in let notes = begun_notes key one made.new.pass pass pass1 event (c.args.kept ∷ []) made.ensures.1 c.begin_retire.ensures.noted in let begins = retire_begins key one pass pass1 v c.args.kept notes in
     let none = ap labels_of made.ensures.0.1 in let label : value_of c.begin_retire.new.value ≡ v = ap label_of c.begin_retire.ensures.value.1 ∙ same_label c.args.value.keys.held pass1.seen in
     let a = call_state one pass1 c.args.batch.now made.result had in let sits = begun_sits key pass (Retire v) (c.args.kept ∷ []) a begins c.requires.book.0 (knows_noted key one pass pass1 (deed_with_words pass event (c.args.kept ∷ [])) notes) c.requires.batch made.ensures.0 in
-    let put = c.put-retired in let b = call_state put.new.key put.new.pass put.new.batch put.new.queue (g.R.Reclaim.had put.new.reclaimer) in let round = put.ensures.round in
+    let put = c.put-retired in let b = call_state put.new.key put.new.pass put.new.batch put.new.queue (g.R.Reclaim.had put.new.reclaimer) in let round = put.ensures.drains_one in
     let on = onward_twice key one b.key pass pass1 b.pass (keeps_onward key one pass pass1 begins.keeps) (round_on a (value_of c.begin_retire.new.value) c.args.kept b put.result round) in
     let same = sym on.same.0 in (
       lit< tt,
       (
         (c.requires.book.1 ∙ same, c.requires.book.2 ∙ same),
-        (c.requires.size ∙ sym on.same.2, (put.ensures.sits, (settles_rest round.full b put.result round.settles, (put.ensures.serves, put.ensures.spots)))),
+        (c.requires.size ∙ sym on.same.2, (put.ensures.well_formed, (settles_rest round.full b put.result round.settles, (put.ensures.serves, put.ensures.spots)))),
       ),
     )
 
@@ -64,7 +64,7 @@ pub finish-requires-clause-over : goal.finish-requires-clause-over
 finish-requires-clause-over g c = let over = c.drain.ensures.over in is_over c.drain.new.key (further_in c.drain.new.queue) over.0 over.1
 
 pub finish-requires-clause-book : goal.finish-requires-clause-book
-finish-requires-clause-book g c = c.drain.ensures.sits.its
+finish-requires-clause-book g c = c.drain.ensures.well_formed.its
 
 pub returns-clause-knows : goal.returns-clause-knows
 returns-clause-knows g c = let key = c.drain.new.key in let pass = c.drain.new.pass in knows_noted key c.finish.new.self pass c.finish.new.pass (private pass (Return (slot_number key))) c.finish.ensures.noted
@@ -75,7 +75,7 @@ returns-clause-retires g c =
     let v = value_of c.args.value in let event = Begin (slot_number key) (Retire v) in let notes = begun_notes key one made.new.pass pass pass1 event (c.args.kept ∷ []) made.ensures.1 c.begin_retire.ensures.noted in let begins = retire_begins key one pass pass1 v c.args.kept notes in
     let none = ap labels_of made.ensures.0.1 in let label : value_of c.begin_retire.new.value ≡ v = ap label_of c.begin_retire.ensures.value.1 ∙ same_label c.args.value.keys.held pass1.seen in
     let a = call_state one pass1 c.args.batch.now made.result had in let sits = begun_sits key pass (Retire v) (c.args.kept ∷ []) a begins c.requires.book.0 (knows_noted key one pass pass1 (deed_with_words pass event (c.args.kept ∷ [])) notes) c.requires.batch made.ensures.0 in
-    let put = c.put-retired in let b = call_state put.new.key put.new.pass put.new.batch put.new.queue (g.R.Reclaim.had put.new.reclaimer) in let round = put.ensures.round in
+    let put = c.put-retired in let b = call_state put.new.key put.new.pass put.new.batch put.new.queue (g.R.Reclaim.had put.new.reclaimer) in let round = put.ensures.drains_one in
     let on = onward_twice key one b.key pass pass1 b.pass (keeps_onward key one pass pass1 begins.keeps) (round_on a (value_of c.begin_retire.new.value) c.args.kept b put.result round) in
     let drain = c.drain in let d = call_state drain.new.key drain.new.pass drain.new.batch drain.new.queue (g.R.Reclaim.had drain.new.reclaimer) in
     let all = onward_twice key b.key d.key pass b.pass d.pass on drain.ensures.on in let last = c.finish in
@@ -84,11 +84,11 @@ returns-clause-retires g c =
       begun = a;
       begins = record { begins = begins; batch = refl; none = none; had_none = refl };
       settled = b;
-      round = subst (λ (w : ℕ). DrainsOne a w c.args.kept b put.result) label round;
+      drains_one = subst (λ (w : ℕ). DrainsOne a w c.args.kept b put.result) label round;
       drained = d;
       drains = drain.ensures.drains;
       returns = returned d last.new.self last.new.pass last.ensures.noted drain.ensures.over.1;
-      rests = whole_rests key pass d last.new.self last.new.pass all.same all.grows all.alone all.its all.used drain.ensures.sits last.ensures.noted;
+      rests = whole_rests key pass d last.new.self last.new.pass all.same all.grows all.alone all.its all.used drain.ensures.well_formed last.ensures.noted;
       active = over.active ∙ all.active;
       life = over.life ∙ all.life;
     }

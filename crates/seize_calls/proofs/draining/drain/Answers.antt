@@ -9,7 +9,7 @@ use Rattle.seize_calls.proofs.Onwards.{onward_none, onward_twice, round_on, sett
 use Rattle.seize_calls.proofs.draining.drain.Goals as goal
 
 pub loop-init : goal.loop-init
-loop-init g c = (Drains.over, onward_none c.args.key.now c.args.pass.now, c.requires.rests, c.requires.sits, c.requires.serves, c.requires.spots)
+loop-init g c = (Drains.over, onward_none c.args.key.now c.args.pass.now, c.requires.rests, c.requires.well_formed, c.requires.serves, c.requires.spots)
 
 -- the first of the queue, with the word that the list says is kept of it
 pub put-requires : goal.put-requires
@@ -39,11 +39,11 @@ pub loop-preserved : goal.loop-preserved
 loop-preserved g c =
     let l = c.loop in let put = c.put in let out = c.next-value.ensures in let v = value_of c.next-value.result.0 in let queue = further_in c.next-value.new.self in let had = g.R.Reclaim.had l.reclaimer in
     let from : CallState = record { key = l.key; pass = l.pass; batch = l.batch.values; queue = queue; had = had } in let to = call_state put.new.key put.new.pass put.new.batch put.new.queue (g.R.Reclaim.had put.new.reclaimer) in
-    let round = put.ensures.round in (
-      Drains.round (call_state l.key l.pass l.batch l.queue had) to queue v c.next-value.result.2 put.result l.invariant.0 (out.book.1, out.first, out.its_word) round,
+    let round = put.ensures.drains_one in (
+      Drains.goes_on (call_state l.key l.pass l.batch l.queue had) to queue v c.next-value.result.2 put.result l.invariant.0 (out.book.1, out.first, out.its_word) round,
       onward_twice c.args.key.now l.key put.new.key c.args.pass.now l.pass put.new.pass l.invariant.1 (round_on from v c.next-value.result.2 to put.result round),
       settles_rest round.full to put.result round.settles,
-      put.ensures.sits,
+      put.ensures.well_formed,
       put.ensures.serves,
       put.ensures.spots,
     )

@@ -5,13 +5,13 @@ use Rattle.seize_book.specs.Adding.{deed_with_words}
 use Rattle.seize_book.specs.Blocks.{block_number}
 use Rattle.seize_book.specs.Others.{value_of}
 use Rattle.seize_book.specs.Private.{labels_of}
-use Rattle.seize_book.specs.Slots.{IsKeyOfBook, NotesAs, hands_next, slot_number, slot_of}
+use Rattle.seize_book.specs.Slots.{AddsDeed, IsKeyOfBook, hands_next, slot_number, slot_of}
 use Rattle.seize_book.specs.Passes.{LooksOn}
 use Rattle.seize_book.specs.Values.{values_of}
 use Rattle.seize_book.specs.declared.book.pass.Pass.{Pass}
 use Rattle.seize_book.specs.declared.book.slot_key.SlotKey.{SlotKey}
 use Rattle.seize_store.specs.Named.{bare_value}
-use Rattle.seize_store.specs.declared.known.Title.{Title}
+use Rattle.seize_store.specs.declared.row_token.Title.{Title}
 use Rattle.seize_words.proofs.Facts.{named_seen, settles_hollow, takes_block, all_told_later, handing_named, joined_told, knows_still, looks_twice, none_new, put_told, same_key, seen_grows, settles_after, unchanged_last, unchanged_value}
 use Rattle.seize_words.specs.Chunks.{IsLentAs}
 use Rattle.seize_book.specs.Kept.{kept_in, kepts_of}
@@ -117,8 +117,8 @@ returns-clause-laid g c =
 pub returns-clause-handed : goal.returns-clause-handed
 returns-clause-handed g c =
     let looked = c.header-header in let noted = c.note-note in let redeemed = c.redeem-block in let key = c.args.key.now in let hand = c.hand in let made = c.new-further in let puts = values_of (further_in c.reclaim.new.further) in let words = kepts_of (further_in c.reclaim.new.further) in let joins = c.append.ensures in
-    let notes : NotesAs key made.new.pass hand.new.key hand.new.pass (deed_with_words made.new.pass (Hand (slot_number key) puts) words) =
-    subst (λ (k : SlotKey). NotesAs k made.new.pass hand.new.key hand.new.pass (deed_with_words made.new.pass (Hand (slot_number k) puts) words)) (same_key key redeemed.new.slot redeemed.ensures.slot) hand.ensures.noted in
+    let notes : AddsDeed key made.new.pass hand.new.key hand.new.pass (deed_with_words made.new.pass (Hand (slot_number key) puts) words) =
+    subst (λ (k : SlotKey). AddsDeed k made.new.pass hand.new.key hand.new.pass (deed_with_words made.new.pass (Hand (slot_number k) puts) words)) (same_key key redeemed.new.slot redeemed.ensures.slot) hand.ensures.noted in
     let looks : LooksOn c.args.pass.now made.new.pass = subst (λ (p : Pass). LooksOn c.args.pass.now p) (sym made.ensures.1) (looks_twice c.args.pass.now looked.new.pass redeemed.new.pass looked.ensures.looks redeemed.ensures.looks) in
     let same : value_of noted.new.self ≡ value_of c.args.value = unchanged_value c.args.value noted.new.self noted.ensures.same in
     let lent : IsLentAs (value_of c.args.value) (g.row.T.coded.code c.take-content.result.0) = subst (λ (v : ℕ). IsLentAs v (g.row.T.coded.code c.take-content.result.0)) same

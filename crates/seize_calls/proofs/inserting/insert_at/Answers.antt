@@ -5,8 +5,8 @@ use Rattle.seize_book.specs.Ledger.{HeldKey}
 use Rattle.seize_book.specs.Private.{labels_of}
 use Rattle.seize_words.specs.Reservations.{slot}
 use Rattle.seize_words.proofs.Facts.{named_seen, knows_still, looks_twice, more_seen}
-use Rattle.seize_calls.specs.Batches.{slot_noted}
-use Rattle.seize_calls.specs.Inserts.{Inserted, IsAtSlot}
+use Rattle.seize_calls.specs.Batches.{slot_in}
+use Rattle.seize_calls.specs.Inserts.{InsertsAtSlot, IsAtSlot}
 use Rattle.seize_calls.proofs.Rounds.{number_of_first}
 use Rattle.seize_calls.proofs.Turns.{inserted_before, its_home}
 use Rattle.seize_calls.proofs.inserting.insert_at.Goals as goal
@@ -36,7 +36,7 @@ pub head-head-requires-clause-seen : goal.head-head-requires-clause-seen
 head-head-requires-clause-seen g c =
     let next = c.requires.next in let note = c.next-note in let first : HeldKey Entry = next.first in
     let one = more_seen c.args.pass.now c.seek-known.new.self c.seek-known.ensures.looks in let two = more_seen c.seek-known.new.self c.header-header.new.pass c.header-header.ensures.looks in
-    let same : slot_noted first.note ≡ note.result.slot = ap (λ (hs : List (HeldKey Entry)). slot_noted (get_or hs 0 first).note) (sym next.is_first ∙ note.ensures.was) ∙ ap slot_noted note.ensures.noted in
+    let same : slot_in first.note ≡ note.result.slot = ap (λ (hs : List (HeldKey Entry)). slot_in (get_or hs 0 first).note) (sym next.is_first ∙ note.ensures.was) ∙ ap slot_in note.ensures.noted in
     let seen = next.seen in omega (arith, one, two, same, seen)
 
 pub insert_by-requires-clause-knows : goal.insert_by-requires-clause-knows
@@ -58,16 +58,16 @@ insert_by-requires-clause-seen g c =
     let next = c.requires.next in let note = c.next-note in let first : HeldKey Entry = next.first in
     let one = more_seen c.args.pass.now c.seek-known.new.self c.seek-known.ensures.looks in let two = more_seen c.seek-known.new.self c.header-header.new.pass c.header-header.ensures.looks in
     let three = more_seen c.header-header.new.pass c.head-head.new.pass c.head-head.ensures.looks in
-    let same : slot_noted first.note ≡ note.result.slot = ap (λ (hs : List (HeldKey Entry)). slot_noted (get_or hs 0 first).note) (sym next.is_first ∙ note.ensures.was) ∙ ap slot_noted note.ensures.noted in
+    let same : slot_in first.note ≡ note.result.slot = ap (λ (hs : List (HeldKey Entry)). slot_in (get_or hs 0 first).note) (sym next.is_first ∙ note.ensures.was) ∙ ap slot_in note.ensures.noted in
     let seen = next.seen in omega (arith, one, two, three, same, seen, c.head-head.ensures.head.1)
 
 pub returns-clause-inserted : goal.returns-clause-inserted
 returns-clause-inserted g c = λ next.
     let key = c.args.key.now in let by = c.insert_by in let note = c.next-note in let first : HeldKey Entry = next.first in let round = c.args.round.now in
-    let same : slot_noted first.note ≡ note.result.slot = ap (λ (hs : List (HeldKey Entry)). slot_noted (get_or hs 0 first).note) (sym next.is_first ∙ note.ensures.was) ∙ ap slot_noted note.ensures.noted in
+    let same : slot_in first.note ≡ note.result.slot = ap (λ (hs : List (HeldKey Entry)). slot_in (get_or hs 0 first).note) (sym next.is_first ∙ note.ensures.was) ∙ ap slot_in note.ensures.noted in
     let number = number_of_first round.number round.rest.keys.held first.label (labels_of next.others) (ap labels_of next.is_first) round.next in
-    let its_slot : slot c.head-head.result.now ≡ slot_noted first.note = c.head-head.ensures.head.1 ∙ sym same in
+    let its_slot : slot c.head-head.result.now ≡ slot_in first.note = c.head-head.ensures.head.1 ∙ sym same in
     let its_block : c.number-block.result ≡ block_number first.label = c.number-block.ensures ∙ number in
     inserted_before next.at c.args.pass.now c.head-head.new.pass by.new.key by.new.pass by.result
     (looks_twice c.args.pass.now c.header-header.new.pass c.head-head.new.pass (looks_twice c.args.pass.now c.seek-known.new.self c.header-header.new.pass c.seek-known.ensures.looks c.header-header.ensures.looks) c.head-head.ensures.looks)
-    (subst (λ (t : ℕ × ℕ). (a : IsAtSlot key t.0 t.1 c.args.front) → Inserted a c.head-head.new.pass by.new.key by.new.pass by.result) (λ i. (its_slot i, its_block i)) by.ensures.inserted next.at)
+    (subst (λ (t : ℕ × ℕ). (a : IsAtSlot key t.0 t.1 c.args.front) → InsertsAtSlot a c.head-head.new.pass by.new.key by.new.pass by.result) (λ i. (its_slot i, its_block i)) by.ensures.inserted next.at)

@@ -8,8 +8,8 @@ use Rattle.seize_calls.proofs.inserting.insert_round.Goals as goal
 
 pub loop-init : goal.loop-init
 loop-init g c =
-    let spots = take c.args.marked (slot_marks_of (rest_in c.args.round.now)) in
-    (λ at. none_turned c.args.key.now c.args.pass.now spots c.args.front at, c.requires.book.0, c.requires.knows, c.requires.round.0, c.requires.round.1, refl)
+    let marks = take c.args.marked (slot_marks_of (rest_in c.args.round.now)) in
+    (λ at. none_turned c.args.key.now c.args.pass.now marks c.args.front at, c.requires.book.0, c.requires.knows, c.requires.round.0, c.requires.round.1, refl)
 
 pub insert_at-requires : goal.insert_at-requires
 insert_at-requires g c =

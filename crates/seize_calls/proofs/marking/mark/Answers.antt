@@ -5,7 +5,7 @@ use Rattle.seize_words.specs.Totals.{slots_seen}
 use Rattle.seize_words.specs.Walks.{Knows}
 use Rattle.seize_book.specs.declared.book.pass.Pass.{Pass}
 use Rattle.seize_words.proofs.Facts.{more_seen}
-use Rattle.seize_calls.specs.Batches.{SlotMark, slot_marks_of, unslotted}
+use Rattle.seize_calls.specs.Batches.{SlotMark, slot_marks_of, without_slots}
 use Rattle.seize_calls.specs.Marks.{EndsMarks}
 use Rattle.seize_calls.specs.Numbered.{ends_at, is_count_of, starts_at}
 use Rattle.seize_calls.proofs.Batches.{remarked_labels}
@@ -50,7 +50,7 @@ read_each-marked-requires g c =
 pub invariant_of-batch : goal.invariant_of-batch
 invariant_of-batch g c =
     let batch = c.args.batch.now in let read = c.read_each-marked in
-    let same = remarked_labels batch.values.keys.held c.end.new.values.keys.held (ap unslotted (sym c.new-round.ensures.begins.1.1) ∙ sym read.ensures.round.1 ∙ ap unslotted (sym c.end.ensures.all.1)) in
+    let same = remarked_labels batch.values.keys.held c.end.new.values.keys.held (ap without_slots (sym c.new-round.ensures.begins.1.1) ∙ sym read.ensures.round.1 ∙ ap without_slots (sym c.end.ensures.all.1)) in
     record {
       many = subst (λ (vs : List ℕ). is_count_of batch.len vs ≡ true) same batch.many;
       front = subst (λ (vs : List ℕ). starts_at batch.first vs ≡ true) same batch.front;

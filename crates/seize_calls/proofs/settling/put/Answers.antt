@@ -16,15 +16,15 @@ pub put-requires-clause-next : goal.put-requires-clause-next
 put-requires-clause-next g c = may_put c.args.key.now (value_of c.args.value) (further_in c.args.queue.now) c.requires.next
 
 pub put-requires-clause-book : goal.put-requires-clause-book
-put-requires-clause-book g c = c.requires.sits.its
+put-requires-clause-book g c = c.requires.well_formed.its
 
 pub push-requires : goal.push-requires
-push-requires g c = let words = c.requires.words.1 in (lit< tt, ((c.requires.sits.batch.0 ∙ sym words, c.requires.value.0 ∙ sym words), c.requires.value.1))
+push-requires g c = let words = c.requires.words.1 in (lit< tt, ((c.requires.well_formed.batch.0 ∙ sym words, c.requires.value.0 ∙ sym words), c.requires.value.1))
 
-pub returns-then-batch-size-clause-round : goal.returns-then-batch-size-clause-round
-returns-then-batch-size-clause-round g c =
+pub returns-then-batch-size-clause-drains_one : goal.returns-then-batch-size-clause-drains_one
+returns-then-batch-size-clause-drains_one g c =
     let had = g.R.Reclaim.had c.args.reclaimer.now in let queue = further_in c.args.queue.now in let v = value_of c.args.value in let two = c.put.new.self in let long = counted_is c.push.new.self.len (values_of c.push.new.self.values) c.push.new.self.many in
-    let puts = is_put c.args.key.now two c.args.pass.now c.put.new.pass v queue c.requires.next c.put.ensures.noted in let fits = c.ranges.size.fits in let sits = c.requires.sits in
+    let puts = is_put c.args.key.now two c.args.pass.now c.put.new.pass v queue c.requires.next c.put.ensures.noted in let fits = c.ranges.size.fits in let sits = c.requires.well_formed in
     let many : length (values_of c.push.new.self.values) ≡ length (slot_of two).batch = ap (λ (vs : List ℕ). length vs) (c.push.ensures.1 ∙ (ap (λ (vs : List ℕ). vs ++ v ∷ []) sits.batch.1 ∙ sym puts.batch)) in
     let a = call_state two c.put.new.pass c.push.new.self c.args.queue.now had in
     record {
@@ -35,16 +35,16 @@ returns-then-batch-size-clause-round g c =
       settles = only_stays a (put_rests c.args.key.now two c.args.pass.now c.put.new.pass v queue c.requires.next c.put.ensures.noted (omega (arith, long, many, fits, c.if-batch-size.true, c.requires.size)));
     }
 
-pub returns-then-batch-size-clause-sits : goal.returns-then-batch-size-clause-sits
-returns-then-batch-size-clause-sits g c =
+pub returns-then-batch-size-clause-well_formed : goal.returns-then-batch-size-clause-well_formed
+returns-then-batch-size-clause-well_formed g c =
     let had = g.R.Reclaim.had c.args.reclaimer.now in let key = c.args.key.now in let two = c.put.new.self in let pass = c.args.pass.now in
     put_sits (call_state key pass c.args.batch.now c.args.queue.now had) (call_state two c.put.new.pass c.push.new.self c.args.queue.now had) (value_of c.args.value) c.args.kept
-    (is_put key two pass c.put.new.pass (value_of c.args.value) (further_in c.args.queue.now) c.requires.next c.put.ensures.noted) c.push.ensures refl c.requires.sits
+    (is_put key two pass c.put.new.pass (value_of c.args.value) (further_in c.args.queue.now) c.requires.next c.put.ensures.noted) c.push.ensures refl c.requires.well_formed
     (knows_noted key two pass c.put.new.pass (private pass (Put (slot_number key))) c.put.ensures.noted) c.requires.told
 
 pub settle-requires : goal.settle-requires
 settle-requires g c =
-    let had = g.R.Reclaim.had c.args.reclaimer.now in let key = c.args.key.now in let two = c.put.new.self in let pass = c.args.pass.now in let v = value_of c.args.value in let queue = further_in c.args.queue.now in let sits = c.requires.sits in
+    let had = g.R.Reclaim.had c.args.reclaimer.now in let key = c.args.key.now in let two = c.put.new.self in let pass = c.args.pass.now in let v = value_of c.args.value in let queue = further_in c.args.queue.now in let sits = c.requires.well_formed in
     let puts = is_put key two pass c.put.new.pass v queue c.requires.next c.put.ensures.noted in let long = counted_is c.push.new.self.len (values_of c.push.new.self.values) c.push.new.self.many in
     let pushed : values_of c.push.new.self.values ≡ (slot_of two).batch = c.push.ensures.1 ∙ (ap (λ (vs : List ℕ). vs ++ v ∷ []) sits.batch.1 ∙ sym puts.batch) in
     let many : length (values_of c.push.new.self.values) ≡ length (slot_of two).batch = ap (λ (vs : List ℕ). length vs) pushed in
@@ -63,8 +63,8 @@ settle-requires g c =
       ),
     )
 
-pub returns-clause-round : goal.returns-clause-round
-returns-clause-round g c =
+pub returns-clause-drains_one : goal.returns-clause-drains_one
+returns-clause-drains_one g c =
     let had = g.R.Reclaim.had c.args.reclaimer.now in let queue = further_in c.args.queue.now in let two = c.put.new.self in
     record {
       full = call_state two c.put.new.pass c.push.new.self c.args.queue.now had;

@@ -10,7 +10,7 @@ use Rattle.seize_calls.proofs.settling.settle.Goals as goal
 
 pub hand_all-requires : goal.hand_all-requires
 hand_all-requires g c =
-    let e = c.in-GivenUp.ensures in let a = call_state c.args.key.now c.args.pass.now c.args.batch.now c.args.queue.now (g.R.Reclaim.had c.args.reclaimer.now) in let sits = c.requires.sits in let m = c.requires.marking in
+    let e = c.in-GivenUp.ensures in let a = call_state c.args.key.now c.args.pass.now c.args.batch.now c.args.queue.now (g.R.Reclaim.had c.args.reclaimer.now) in let sits = c.requires.well_formed in let m = c.requires.marking in
     let given = given_now a m c.attempt.new.key c.attempt.new.pass c.attempt.new.batch.values _ e.book.1 (e.book.0 ∙ e.book.1.0 ∙ sym sits.its, e.book.2) (e.ends m.0) refl c.attempt.new.batch.first c.attempt.new.batch.front
     (has_values a m sits.its sits.knows) sits.batch in
     (lit< tt, ((e.book.0, c.requires.words.1 ∙ sym e.book.1.0), (sits.queue.0 ∙ sym e.book.1.0, (all_told_later a.pass.seen c.attempt.new.pass.seen a.queue.keys.held (e.ends m.0).grows sits.queue.1, (e.knows, (given, (c.requires.serves, c.requires.spots)))))))
@@ -18,7 +18,7 @@ hand_all-requires g c =
 -- it has no values any more
 pub invariant_of-batch : goal.invariant_of-batch
 invariant_of-batch g c =
-    let e = c.in-GivenUp.ensures in let a = call_state c.args.key.now c.args.pass.now c.args.batch.now c.args.queue.now (g.R.Reclaim.had c.args.reclaimer.now) in let sits = c.requires.sits in let m = c.requires.marking in
+    let e = c.in-GivenUp.ensures in let a = call_state c.args.key.now c.args.pass.now c.args.batch.now c.args.queue.now (g.R.Reclaim.had c.args.reclaimer.now) in let sits = c.requires.well_formed in let m = c.requires.marking in
     let given = given_now a m c.attempt.new.key c.attempt.new.pass c.attempt.new.batch.values _ e.book.1 (e.book.0 ∙ e.book.1.0 ∙ sym sits.its, e.book.2) (e.ends m.0) refl c.attempt.new.batch.first c.attempt.new.batch.front
     (has_values a m sits.its sits.knows) sits.batch in
     let empty = (c.hand_all.ensures.handed given).0.none.1 in let none : labels_of c.hand_all.new.values.keys.held ≡ [] = ap labels_of empty in
@@ -31,37 +31,37 @@ invariant_of-batch g c =
 
 pub returns-in-Stays-clause-settles : goal.returns-in-Stays-clause-settles
 returns-in-Stays-clause-settles g c =
-    let e = c.in-Stays.ensures in let a = call_state c.args.key.now c.args.pass.now c.args.batch.now c.args.queue.now (g.R.Reclaim.had c.args.reclaimer.now) in let sits = c.requires.sits in let m = c.requires.marking in
+    let e = c.in-Stays.ensures in let a = call_state c.args.key.now c.args.pass.now c.args.batch.now c.args.queue.now (g.R.Reclaim.had c.args.reclaimer.now) in let sits = c.requires.well_formed in let m = c.requires.marking in
     has_stayed a m c.attempt.new.key c.attempt.new.pass e.book.1 (e.book.0 ∙ e.book.1.0 ∙ sym sits.its, e.book.2) (e.ends m.0).0 (keys_in c.attempt.new.batch) (e.ends m.0).1
 
-pub returns-in-Stays-clause-sits : goal.returns-in-Stays-clause-sits
-returns-in-Stays-clause-sits g c =
-    let e = c.in-Stays.ensures in let had = g.R.Reclaim.had c.args.reclaimer.now in let a = call_state c.args.key.now c.args.pass.now c.args.batch.now c.args.queue.now had in let sits = c.requires.sits in let m = c.requires.marking in
+pub returns-in-Stays-clause-well_formed : goal.returns-in-Stays-clause-well_formed
+returns-in-Stays-clause-well_formed g c =
+    let e = c.in-Stays.ensures in let had = g.R.Reclaim.had c.args.reclaimer.now in let a = call_state c.args.key.now c.args.pass.now c.args.batch.now c.args.queue.now had in let sits = c.requires.well_formed in let m = c.requires.marking in
     stays_sits a (call_state c.attempt.new.key c.attempt.new.pass c.attempt.new.batch c.args.queue.now had)
     (has_stayed a m c.attempt.new.key c.attempt.new.pass e.book.1 (e.book.0 ∙ e.book.1.0 ∙ sym sits.its, e.book.2) (e.ends m.0).0 (keys_in c.attempt.new.batch) (e.ends m.0).1) sits e.knows
 
 pub returns-in-Waits-clause-settles : goal.returns-in-Waits-clause-settles
 returns-in-Waits-clause-settles g c =
-    let e = c.in-Waits.ensures in let a = call_state c.args.key.now c.args.pass.now c.args.batch.now c.args.queue.now (g.R.Reclaim.had c.args.reclaimer.now) in let sits = c.requires.sits in let m = c.requires.marking in
+    let e = c.in-Waits.ensures in let a = call_state c.args.key.now c.args.pass.now c.args.batch.now c.args.queue.now (g.R.Reclaim.had c.args.reclaimer.now) in let sits = c.requires.well_formed in let m = c.requires.marking in
     has_waited a m c.attempt.new.key c.attempt.new.pass c.attempt.new.batch.values _ e.book.1 (e.book.0 ∙ e.book.1.0 ∙ sym sits.its, e.book.2) (e.ends m.0) refl
 
-pub returns-in-Waits-clause-sits : goal.returns-in-Waits-clause-sits
-returns-in-Waits-clause-sits g c =
-    let e = c.in-Waits.ensures in let had = g.R.Reclaim.had c.args.reclaimer.now in let a = call_state c.args.key.now c.args.pass.now c.args.batch.now c.args.queue.now had in let sits = c.requires.sits in let m = c.requires.marking in
+pub returns-in-Waits-clause-well_formed : goal.returns-in-Waits-clause-well_formed
+returns-in-Waits-clause-well_formed g c =
+    let e = c.in-Waits.ensures in let had = g.R.Reclaim.had c.args.reclaimer.now in let a = call_state c.args.key.now c.args.pass.now c.args.batch.now c.args.queue.now had in let sits = c.requires.well_formed in let m = c.requires.marking in
     goes_sits a (call_state c.attempt.new.key c.attempt.new.pass c.attempt.new.batch c.args.queue.now had)
     (has_waited a m c.attempt.new.key c.attempt.new.pass c.attempt.new.batch.values _ e.book.1 (e.book.0 ∙ e.book.1.0 ∙ sym sits.its, e.book.2) (e.ends m.0) refl) sits e.knows (all_told_later a.pass.seen c.attempt.new.pass.seen a.queue.keys.held (e.ends m.0).grows sits.queue.1)
 
 pub returns-in-GivenUp-clause-settles : goal.returns-in-GivenUp-clause-settles
 returns-in-GivenUp-clause-settles g c =
-    let e = c.in-GivenUp.ensures in let a = call_state c.args.key.now c.args.pass.now c.args.batch.now c.args.queue.now (g.R.Reclaim.had c.args.reclaimer.now) in let sits = c.requires.sits in let m = c.requires.marking in
+    let e = c.in-GivenUp.ensures in let a = call_state c.args.key.now c.args.pass.now c.args.batch.now c.args.queue.now (g.R.Reclaim.had c.args.reclaimer.now) in let sits = c.requires.well_formed in let m = c.requires.marking in
     let same = e.book.1 in let full = has_values a m sits.its sits.knows in let hand = c.hand_all in
     let given = given_now a m c.attempt.new.key c.attempt.new.pass c.attempt.new.batch.values _ same (e.book.0 ∙ same.0 ∙ sym sits.its, e.book.2) (e.ends m.0) refl c.attempt.new.batch.first c.attempt.new.batch.front full sits.batch in
     has_handed a m c.attempt.new.key c.attempt.new.pass c.attempt.new.batch.values _ same (e.book.0 ∙ same.0 ∙ sym sits.its, e.book.2) (e.ends m.0) refl c.attempt.new.batch.first c.attempt.new.batch.front full sits.batch
     hand.new.key hand.new.pass hand.new.values (further_in hand.new.queue) (g.R.Reclaim.had hand.new.reclaimer) (hand.ensures.handed given).0 (hand.ensures.handed given).1
 
-pub returns-in-GivenUp-clause-sits : goal.returns-in-GivenUp-clause-sits
-returns-in-GivenUp-clause-sits g c =
-    let e = c.in-GivenUp.ensures in let a = call_state c.args.key.now c.args.pass.now c.args.batch.now c.args.queue.now (g.R.Reclaim.had c.args.reclaimer.now) in let sits = c.requires.sits in let m = c.requires.marking in
+pub returns-in-GivenUp-clause-well_formed : goal.returns-in-GivenUp-clause-well_formed
+returns-in-GivenUp-clause-well_formed g c =
+    let e = c.in-GivenUp.ensures in let a = call_state c.args.key.now c.args.pass.now c.args.batch.now c.args.queue.now (g.R.Reclaim.had c.args.reclaimer.now) in let sits = c.requires.well_formed in let m = c.requires.marking in
     let same = e.book.1 in let full = has_values a m sits.its sits.knows in let hand = c.hand_all in
     let given = given_now a m c.attempt.new.key c.attempt.new.pass c.attempt.new.batch.values _ same (e.book.0 ∙ same.0 ∙ sym sits.its, e.book.2) (e.ends m.0) refl c.attempt.new.batch.first c.attempt.new.batch.front full sits.batch in
     goes_sits a (record { key = hand.new.key; pass = hand.new.pass; batch = hand.new.values; queue = further_in hand.new.queue; had = g.R.Reclaim.had hand.new.reclaimer })

@@ -1,5 +1,5 @@
 use Rattle.std.proofs.Common.{ℕ, ◌<◌, sym, subst}
-use Rattle.seize_store.specs.Known.{entry_of}
+use Rattle.seize_store.specs.RowTokens.{entry_of}
 use Rattle.seize_store_rows.proofs.lookups.has_an_entry.Goals as goal
 
 -- by what the call says of the row's length, and by no fact that a token keeps

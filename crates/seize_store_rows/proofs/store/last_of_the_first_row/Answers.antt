@@ -1,6 +1,6 @@
 use Rattle.std.proofs.Common.{ℕ, ◌+◌, ◌^◌, ◌≤◌, arith, lit<, pow_mono}
 use Rattle.seize_table.specs.Place.{IsPlace}
-use Rattle.seize_store.specs.Known.{entry_of}
+use Rattle.seize_store.specs.RowTokens.{entry_of}
 use Rattle.seize_store_rows.proofs.store.last_of_the_first_row.Goals as goal
 
 -- number 31 is in the row of number 0

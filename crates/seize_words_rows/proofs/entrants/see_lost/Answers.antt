@@ -4,7 +4,7 @@ use Rattle.seize_machine.specs.declared.machine.event.Exchange.TheVariants.{Comp
 use Rattle.seize_book.specs.Tokens.{Name}
 use Rattle.seize_book.specs.declared.book.pass.Pass.{Pass}
 use Rattle.seize_words.specs.LinkWords.{link_number, value_held}
-use Rattle.seize_words.specs.Links.{compared}
+use Rattle.seize_words.specs.Links.{comparand}
 use Rattle.seize_words.proofs.Facts.{glimpse_found}
 use Rattle.seize_words_rows.proofs.entrants.see_lost.Goals as goal
 
@@ -15,7 +15,7 @@ see-requires c =
       omega arith,
       (
         book ∙ sym takes.same.0,
-        glimpse_found exchanges.0 a one.new.pass two.new.pass (λ (old : Option ℕ). ExchangeLink a.slot (link_number exchanges.0) (Compare (compared None old) (value_held c.some-new.result)))
+        glimpse_found exchanges.0 a one.new.pass two.new.pass (λ (old : Option ℕ). ExchangeLink a.slot (link_number exchanges.0) (Compare (comparand None old) (value_held c.some-new.result)))
             two.result.0 two.result.1 takes ((exchanges.2.3 lost).2) lost,
       ),
     )

@@ -1,6 +1,6 @@
 use Rattle.std.proofs.Common.{lit<, refl, sym, ap, subst, ◌∙◌}
 use Rattle.seize_machine.specs.Machine.Event.{Enter}
-use Rattle.seize_book.specs.Slots.{NotesAs}
+use Rattle.seize_book.specs.Slots.{AddsDeed}
 use Rattle.seize_book.specs.declared.book.pass.Pass.{Pass}
 use Rattle.seize_words.specs.Reservations.{beginning}
 use Rattle.seize_calls.proofs.Slots.{entered, holder, learned, ready_learned, told_still}
@@ -32,6 +32,6 @@ returns-clause-enters g c =
       same = (refl, seen.0);
       ready = p;
       prepares = learned s pass p c.learn.ensures;
-      does = subst (λ (q : Pass). NotesAs s.key p one.new.key q (beginning p one.new.activation.life (Enter s.number))) (sym seen.2) one.ensures.noted;
+      does = subst (λ (q : Pass). AddsDeed s.key p one.new.key q (beginning p one.new.activation.life (Enter s.number))) (sym seen.2) one.ensures.noted;
       seen = seen.1 ∙ sym (ap (λ (q : Pass). q.seen) seen.2);
     }

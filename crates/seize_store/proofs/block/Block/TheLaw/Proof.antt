@@ -12,9 +12,9 @@ use denote.Struct.Laws.{RawPtr-copy}
 use denote.Struct.Lending.{of_Lends, Lends-lies}
 use Rattle.seize_table.specs.declared.labelled.Labelled.{Ghosts}
 use Rattle.seize_store.specs.contracts.block.Block as C
-use Rattle.seize_store.specs.contracts.known.Title as titles
+use Rattle.seize_store.specs.contracts.row_token.Title as titles
 use Rattle.seize_store.specs.Titled.{title_tag, title_place}
-use Rattle.seize_store.proofs.known.Title.TheLaws as title
+use Rattle.seize_store.proofs.row_token.Title.TheLaws as title
 use Rattle.seize_store.proofs.Showing.{block_laws, block_lends}
 use Rattle.seize_store.proofs.block.Block.TheLaw.Statement.{statement}
 

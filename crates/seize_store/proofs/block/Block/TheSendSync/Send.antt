@@ -7,7 +7,7 @@ use Rattle.std_alloc.proofs.SendSync.{quiet}
 use Rattle.seize_store.specs.Titled.{title_tag, title_place}
 use Rattle.seize_table.specs.declared.labelled.Labelled.{Ghosts}
 use Rattle.seize_store.specs.contracts.block.Block.{the_row, the_type}
-use Rattle.seize_store.specs.contracts.known.Title as title
+use Rattle.seize_store.specs.contracts.row_token.Title as title
 use Rattle.seize_store.proofs.Sends.{block_owned}
 
 pub send : (X U T : RattleType) (g : Ghosts U.Denot) → IsSend U → IsSend T → IsSend (the_row X U T g)

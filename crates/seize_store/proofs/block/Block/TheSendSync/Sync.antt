@@ -4,7 +4,7 @@ use denote.Builtin.{RawPtr}
 use denote.Struct.Owning.{shape, to}
 use Rattle.seize_table.specs.declared.labelled.Labelled.{Ghosts}
 use Rattle.seize_store.specs.contracts.block.Block.{the_row, the_type}
-use Rattle.seize_store.specs.contracts.known.Title as title
+use Rattle.seize_store.specs.contracts.row_token.Title as title
 use Rattle.seize_store.specs.Titled.{title_tag}
 use Rattle.seize_store.proofs.Sends.{block_seen}
 

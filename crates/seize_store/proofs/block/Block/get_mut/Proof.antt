@@ -20,7 +20,7 @@ use Rattle.seize_store.specs.Lends.{block_with}
 use Rattle.seize_store.specs.Titled.{title_tag, title_place}
 use Rattle.seize_table.specs.declared.labelled.Labelled.{Ghosts}
 use Rattle.seize_store.specs.contracts.block.Block as block
-use Rattle.seize_store.specs.contracts.known.Title as title
+use Rattle.seize_store.specs.contracts.row_token.Title as title
 use Rattle.seize_store.proofs.Fields.{both, block_out, block_in}
 use Rattle.seize_store.specs.contracts.block.Block.get_mut.{ended, clauses}
 use Rattle.seize_store.specs.contracts.block.Block.get_mut.Key.{name as #self}

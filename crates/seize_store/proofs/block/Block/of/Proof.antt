@@ -19,8 +19,8 @@ use Rattle.seize_store.specs.Body.{room_at}
 use Rattle.seize_store.specs.Titled.{chunk_of}
 use Rattle.seize_store.specs.contracts.block.Out as room
 use Rattle.seize_store.specs.contracts.block.Block as block
-use Rattle.seize_store.specs.contracts.known.Title as title
-use Rattle.seize_store.proofs.known.Title.TheLaws as title_laws
+use Rattle.seize_store.specs.contracts.row_token.Title as title
+use Rattle.seize_store.proofs.row_token.Title.TheLaws as title_laws
 use Rattle.seize_store.proofs.Fields.{both, room_out, block_in, block_good}
 use Rattle.seize_store.specs.contracts.block.Block.of.{ended, clauses}
 use Rattle.seize_store.specs.contracts.block.Block.of.Key.{name as #self}

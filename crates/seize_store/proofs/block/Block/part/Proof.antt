@@ -17,7 +17,7 @@ use Rattle.seize_store.specs.Body.{owner_at}
 use Rattle.seize_store.specs.Block.{block_shares}
 use Rattle.seize_store.specs.Titled.{title_tag}
 use Rattle.seize_store.specs.contracts.block.Block as block
-use Rattle.seize_store.specs.contracts.known.Title as title
+use Rattle.seize_store.specs.contracts.row_token.Title as title
 use Rattle.seize_store.proofs.Fielded as seen
 use Rattle.seize_store.specs.contracts.block.Block.part.{ended, clauses}
 use Rattle.seize_store.specs.contracts.block.Block.part.Key.{name as #self}

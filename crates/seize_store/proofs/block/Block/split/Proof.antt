@@ -25,7 +25,7 @@ use Rattle.seize_store.specs.Body.{owner_at, owner_room}
 use Rattle.seize_store.specs.Titled.{chunk_of, title_tag}
 use Rattle.seize_store.specs.contracts.block.Hull as hull
 use Rattle.seize_store.specs.contracts.block.Block as block
-use Rattle.seize_store.specs.contracts.known.Title as title
+use Rattle.seize_store.specs.contracts.row_token.Title as title
 use Rattle.seize_store.proofs.Fields.{both, block_out, block_good}
 use Rattle.seize_store.specs.contracts.block.Block.split.{ended, clauses}
 use Rattle.seize_store.specs.contracts.block.Block.split.Key.{name as #self}

@@ -10,7 +10,7 @@ use denote.Struct.Lending.{lent_out}
 use Rattle.seize_store.specs.Block.{block_shares}
 use Rattle.seize_store.specs.Titled.{title_tag}
 use Rattle.seize_store.specs.contracts.block.Block as block
-use Rattle.seize_store.specs.contracts.known.Title as title
+use Rattle.seize_store.specs.contracts.row_token.Title as title
 use Rattle.seize_store.proofs.Fielded as seen
 use Rattle.seize_store.specs.contracts.block.Block.title.{ended, clauses}
 use Rattle.seize_store.specs.contracts.block.Block.title.Key.{name as #self}

@@ -23,8 +23,8 @@ use Rattle.seize_store.specs.Body.{owner_at}
 use Rattle.seize_store.specs.Titled.{chunk_of, title_tag}
 use Rattle.seize_store.specs.contracts.block.Hull as hull
 use Rattle.seize_store.specs.contracts.block.Block as block
-use Rattle.seize_store.specs.contracts.known.Title as title
-use Rattle.seize_store.proofs.known.Title.TheLaws as title_laws
+use Rattle.seize_store.specs.contracts.row_token.Title as title
+use Rattle.seize_store.proofs.row_token.Title.TheLaws as title_laws
 use Rattle.seize_store.proofs.Fields.{both, hull_out, block_in, block_good}
 use Rattle.seize_store.specs.contracts.block.Hull.with.{ended, clauses}
 use Rattle.seize_store.specs.contracts.block.Hull.with.Key.{name as #self}

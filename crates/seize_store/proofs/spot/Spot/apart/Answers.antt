@@ -2,9 +2,9 @@ use Rattle.std.proofs.Common.{◌≡◌, ℕ, List, sym, ap, ◌∙◌, subst}
 use denote.RawPtr.{Ptr}
 use Rattle.seize_table.specs.Place.{IsPlace}
 use Rattle.seize_table.proofs.Places.{one_bucket}
-use Rattle.seize_store.specs.Known.{entry_of, place_in}
+use Rattle.seize_store.specs.RowTokens.{entry_of, place_in}
 use Rattle.seize_store.specs.Titled.{title_place}
-use Rattle.seize_store.specs.declared.known.Title.{Title}
+use Rattle.seize_store.specs.declared.row_token.Title.{Title}
 use Rattle.seize_store.proofs.spot.Spot.apart.Goals as goal
 
 -- one number lies in one row

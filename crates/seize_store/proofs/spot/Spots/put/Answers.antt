@@ -1,6 +1,6 @@
 use Rattle.std.proofs.Common.{rules, ◌≡◌, ℕ, ◌==◌, Bool, true, false, cond, List, [], ◌∷◌, ◌++◌, map, length, take, sym, ap, ◌∙◌, inl, inr, ◌⊎◌}
 use Rattle.std.proofs.lemmas.List.{map-append, take-map, length-map}
-use Rattle.seize_store.specs.declared.known.Title.{Title}
+use Rattle.seize_store.specs.declared.row_token.Title.{Title}
 use Rattle.seize_store.specs.Named.{titles_with}
 use Rattle.seize_store.proofs.spot.Spots.put.Goals.{then-len-eq-SPOTS, else-len-eq-SPOTS}
 use Rattle.seize_store.proofs.spot.Spots.put.Goals as goal

@@ -2,7 +2,7 @@ use Rattle.std.proofs.Common.{◌≡◌, ℕ, ◌+◌, ◌^◌, ◌<◌, List, l
 use denote.RawPtr.{Ptr}
 use Rattle.seize_table.proofs.Places.{one_place}
 use Rattle.seize_table.specs.Pairs.{left_of}
-use Rattle.seize_store.specs.Known.{chunk_in, entry_of}
+use Rattle.seize_store.specs.RowTokens.{chunk_in, entry_of}
 use Rattle.seize_store.proofs.store.Store.at.Goals as goal
 
 -- src/seen/find.rt:57:13

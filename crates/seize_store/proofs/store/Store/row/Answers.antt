@@ -7,7 +7,7 @@ use Rattle.once_cell.specs.declared.race.note.Note.{Note}
 use denote.Bor.{Bor}
 use lib.ListN.{get_or}
 use denote.RawPtr.{Ptr}
-use Rattle.seize_store.specs.Known.{AreKin}
+use Rattle.seize_store.specs.RowTokens.{AreKin}
 use Rattle.seize_store.proofs.Tokened.{token_is}
 use Rattle.seize_store.proofs.store.Store.row.Goals as goal
 

@@ -1,7 +1,7 @@
 use Rattle.std.proofs.Common.{◌≡◌, ℕ, ◌+◌, ◌^◌, ◌<◌, List, length, sym, ap, ◌∙◌, subst, arith, lit<}
 use denote.RawPtr.{Ptr}
 use Rattle.seize_table.proofs.Places.{one_place}
-use Rattle.seize_store.specs.Known.{chunk_in, entry_of}
+use Rattle.seize_store.specs.RowTokens.{chunk_in, entry_of}
 use Rattle.seize_store.proofs.store.Store.row_of.Goals as goal
 
 pub known_row-row-requires : goal.known_row-row-requires

@@ -4,7 +4,7 @@ use base.Before.{before}
 use contract.BorrowLft.{meet_⊑_left}
 use types.Na.{before-Incl, before_lent}
 use Rattle.seize_book.proofs.Borrowed.{opens_pass, closes_pass, two_out, two_in}
-use Rattle.seize_book.specs.Laws.{IsAmong, ended as ended_lives}
+use Rattle.seize_book.specs.Laws.{IsAmong, ended_lives}
 use Rattle.seize_book.specs.Tokens.{pass_owns}
 use Rattle.seize_words.specs.contracts.activation.Activation as Activation
 use Rattle.seize_book.specs.contracts.book.pass.Pass as Pass

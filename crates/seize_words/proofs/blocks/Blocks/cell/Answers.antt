@@ -1,5 +1,5 @@
 use Rattle.std.proofs.Common.{◌≡◌, ℕ, sym, ap, subst, ◌∙◌}
-use Rattle.seize_store.specs.Known.{entry_of, label_in}
+use Rattle.seize_store.specs.RowTokens.{entry_of, label_in}
 use Rattle.seize_store.specs.Named.{IsRowOf}
 use Rattle.seize_book.specs.Homes.{home_of}
 use Rattle.seize_book.specs.Notes.{cell_in}

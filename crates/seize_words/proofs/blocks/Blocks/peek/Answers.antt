@@ -1,5 +1,5 @@
 use Rattle.std.proofs.Common.{ℕ, sym, ap, ◌∙◌, subst, arith}
-use Rattle.seize_store.specs.Known.{content_in, entry_of}
+use Rattle.seize_store.specs.RowTokens.{content_in, entry_of}
 use Rattle.seize_store.specs.Named.{IsRowOf}
 use Rattle.seize_book.specs.Tokens.{Name}
 use Rattle.seize_words.proofs.blocks.Blocks.peek.Goals as goal

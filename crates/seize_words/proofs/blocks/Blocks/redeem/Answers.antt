@@ -1,8 +1,8 @@
 use Rattle.std.proofs.Common.{◌≡◌, ℕ, ◌+◌, ◌<◌, ◌^◌, Some, refl, sym, ap, ◌∙◌, subst, arith}
 use Rattle.seize_machine.proofs.Facts.{some_is}
-use Rattle.seize_store.specs.Known.{content_in, entry_of, label_in}
+use Rattle.seize_store.specs.RowTokens.{content_in, entry_of, label_in}
 use Rattle.seize_store.specs.Named.{bare_known, bare_number}
-use Rattle.seize_store.specs.declared.known.Known.{Known}
+use Rattle.seize_store.specs.declared.row_token.RowToken.{RowToken}
 use Rattle.seize_book.specs.Books.{IsNextAfter}
 use Rattle.seize_book.specs.Homesteads.{HasNumber, state_seen}
 use Rattle.seize_book.specs.Others.{book_of, value_of}
@@ -53,13 +53,13 @@ returns-clause-block g c =
     let its : (bare_known block, bare_number block) ≡ (known, number) = λ j. (title.1 j, title.0 j) in (
       record {
         holds = refl;
-        store = sym (sought.ensures.row.0 ∙ ap (λ (n : Name). n.store) name) ∙ ap (λ (k : Known). k.store) (sym title.1);
+        store = sym (sought.ensures.row.0 ∙ ap (λ (n : Name). n.store) name) ∙ ap (λ (k : RowToken). k.store) (sym title.1);
         book = book;
         next = subst (IsNextAfter key' v) (c.requires.lent.1 ∙ sym title.0) redeemed.ensures.value;
         lies =
             ap (λ (t : Name × (ℕ × ℕ)). chunk_label t.0 t.1.0 t.1.1) (λ j. ((book ∙ sym (looks.same.0 ∙ sym c.requires.book.2)) j, (redeemed.ensures.block.1 j, redeemed.ensures.block.2 j)))
-            ∙ (sym label ∙ ap (λ (t : Known × ℕ). label_in t.0.chunks (entry_of t.0.row t.1)) (sym its));
-        content = redeemed.ensures.place ∙ (sym content ∙ ap (λ (t : Known × ℕ). content_in t.0.chunks (entry_of t.0.row t.1)) (sym its));
+            ∙ (sym label ∙ ap (λ (t : RowToken × ℕ). label_in t.0.chunks (entry_of t.0.row t.1)) (sym its));
+        content = redeemed.ensures.place ∙ (sym content ∙ ap (λ (t : RowToken × ℕ). content_in t.0.chunks (entry_of t.0.row t.1)) (sym its));
         free = redeemed.ensures.free;
         fits = subst (λ (m : ℕ). m + 2 < 2 ^ 64) (sym title.0) (number_fits known number sought.ensures.row.1);
       },

@@ -1,8 +1,8 @@
 use Rattle.std.proofs.Common.{◌≡◌, ℕ, sym, ap, ◌∙◌}
-use Rattle.seize_store.specs.Known.{entry_of, family_in, label_in}
+use Rattle.seize_store.specs.RowTokens.{entry_of, family_in, label_in}
 use Rattle.seize_store.specs.Named.{bare_number}
 use Rattle.seize_store.specs.Titled.{title_label}
-use Rattle.seize_store.specs.declared.known.Title.{Title}
+use Rattle.seize_store.specs.declared.row_token.Title.{Title}
 use Rattle.seize_table.specs.Pairs.{left_of, pair}
 use Rattle.seize_table.proofs.Pairs.{left_pair}
 use Rattle.seize_book.specs.Bare.{bare_cell, bare_home}

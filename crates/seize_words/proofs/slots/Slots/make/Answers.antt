@@ -5,7 +5,7 @@ use Rattle.seize_book.specs.Book.{after, by_slot, numbers}
 use Rattle.seize_book.specs.Entry.{Entry, Made}
 use Rattle.seize_book.specs.Private.{own_of}
 use Rattle.seize_book.specs.Slots.{acts_of}
-use Rattle.seize_book.specs.Tokens.{Name, Noted, start}
+use Rattle.seize_book.specs.Tokens.{AddsEntry, Name, start}
 use Rattle.seize_book.specs.declared.book.slot_key.SlotKey.{SlotKey}
 use Rattle.seize_book.proofs.Facts.{after_one}
 use Rattle.seize_words.proofs.slots.Slots.make.Goals as goal
@@ -15,7 +15,7 @@ pub returns-clause-made : goal.returns-clause-made
 returns-clause-made c =
     let number = c.args.numbers.now in let like = c.place.ensures.0 in let m = c.add-keys.ensures.made in let pass = c.args.pass.now in let pass' = c.add-keys.new.pass in
     let made =
-    subst (λ (x : Name × (ℕ × List Entry)). (noted : Noted pass.name pass.id pass.seen pass'.seen (Made (private pass (Take x.1.0))))
+    subst (λ (x : Name × (ℕ × List Entry)). (noted : AddsEntry pass.name pass.id pass.seen pass'.seen (Made (private pass (Take x.1.0))))
     × (acts_of c.add-keys.new.key ≡ by_slot (start x.0) x.1.0 x.1.1 ++ (Made (private pass (Take x.1.0)), noted.answer) ∷ []))
     (λ j. (like.0 j, (like.1 j, like.2 j))) (m.noted, m.acts) in
     record {

@@ -6,9 +6,9 @@ use Rattle.seize_machine.specs.Machine.Next.{first_free}
 use Rattle.seize_book.specs.Adding.{private}
 use Rattle.seize_book.specs.Book.{by_slot, numbers}
 use Rattle.seize_book.specs.Entry.{Entry, Made}
-use Rattle.seize_book.specs.Ledger.{HeldKey, renewed}
+use Rattle.seize_book.specs.Ledger.{HeldKey, with_list}
 use Rattle.seize_book.specs.Private.{key_of, own_of}
-use Rattle.seize_book.specs.Tokens.{Name, Noted, start}
+use Rattle.seize_book.specs.Tokens.{AddsEntry, Name, start}
 use Rattle.seize_words.specs.Totals.{made_of}
 use Rattle.seize_book.specs.declared.book.keys.Keys.{Keys}
 use Rattle.seize_book.proofs.Facts.{only_is}
@@ -31,7 +31,7 @@ returns-clause-made c =
     let name = c.part-2.ensures.0 ∙ c.part.ensures.1 ∙ t.name in let own = ap own_of its in let is = ap key_of its ∙ c.requires.next.1 in
     let all_now = λ (f : State → ℕ). now_at c.part.new.self n seen t.noted.later (key_of c.part.new.self.held) (c.part.ensures.0 ∙ t.name) (ap own_of first) refl t.noted.leads (λ st s. f st) in
     let made =
-    subst (λ (x : Name × ℕ). (noted : Noted x.0 pass.id pass.seen seen (Made (private pass (Take x.1))))
+    subst (λ (x : Name × ℕ). (noted : AddsEntry x.0 pass.id pass.seen seen (Made (private pass (Take x.1))))
     × (by_slot (start x.0) x.1 seen ≡ by_slot (start x.0) x.1 (own_of key.keys.held) ++ (Made (private pass (Take x.1)), noted.answer) ∷ []))
     (λ j. (book.1 j, sym c.requires.next.1 j)) (t.noted, t.acts) in
     record {
@@ -42,7 +42,7 @@ returns-clause-made c =
           ∙ made.1
           ∙ ap (λ (m : Name). by_slot (start m) (key_of key.keys.held) (own_of key.keys.held) ++ (Made (private pass (Take (key_of key.keys.held))), made.0.answer) ∷ []) (sym book.0);
       seen_by = (c.part-2.ensures.0 ∙ c.part.ensures.1 ∙ t.name ∙ book.1 ∙ sym book.0, ap key_of its, ap own_of its);
-      follows = (c.part.ensures.0 ∙ t.name, first ∙ sym (ap (λ (hs : List (HeldKey _)). renewed hs seen) (only_is numbers number.keys.held number.one)));
+      follows = (c.part.ensures.0 ∙ t.name, first ∙ sym (ap (λ (hs : List (HeldKey _)). with_list hs seen) (only_is numbers number.keys.held number.one)));
       idle = now_at c.part-2.new.self n seen t.noted.later (made_of number) name own is t.noted.leads (λ st s. slot_at st s) ∙ t.slot;
       inactive = now_at c.part-2.new.self n seen t.noted.later (made_of number) name own is t.noted.leads (λ st s. is_active (head_at st s)) ∙ ap is_active t.head;
       next = (

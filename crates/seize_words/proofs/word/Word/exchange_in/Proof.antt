@@ -20,7 +20,7 @@ use denote.Struct.Tuple.{Tuple}
 use Rattle.seize_content.specs.Readers.{escrow, ready}
 use Rattle.seize_content.proofs.Fields.{Marked, marked_made}
 use Rattle.seize_content.proofs.Readers.{readies}
-use Rattle.seize_words.specs.Atomic.{MaySeeIn, exchanged}
+use Rattle.seize_words.specs.Atomic.{MaySeeIn, after_exchange}
 use Rattle.seize_words.specs.Glimpses.{glimpse}
 use Rattle.seize_book.specs.Tokens.{Name, inside, knows, keys_own, pass_owns, pass_holds}
 use Rattle.seize_words.specs.contracts.activation.Activation as Activation
@@ -46,7 +46,7 @@ exchange_in_spec 𝓤 𝓛 𝓜 𝓡 wired P LP g d _ =
     proved 𝓛 En hs c 𝓜 𝓡 (Goes-dropped 𝓛 6 self yes (λ κs x f. refl), (Goes-dropped 𝓛 6 (plain (λ _. u64)) yes (λ κs x f. refl), (Goes-dropped 𝓛 6 (plain (λ _. u64)) yes (λ κs x f. refl), (Goes-ref 𝓛 6 1 tt (plain (λ _. Keys.the_row)), (Goes-dropped 𝓛 6 lent yes (λ κs x f. refl), (Goes-ref 𝓛 6 3 tt (Pa), tt)))))) (#self inst) fn (code.unfolded 𝓤 H 𝓜 𝓡 wired (P, tt) d)
     (λ κs. (shr_vals, (uint_vals w64, (uint_vals w64, (mut_vals, (shr_vals, (mut_vals, tt))))))) (λ κs. (shr_Tells (named 0) κs.0 Word.the_row, (uint_Tells w64, (uint_Tells w64, (mut_Tells (named 1) κs.1.0 Keys.the_row, (shr_Tells (named 2) κs.1.1.0 Activation.the_row, (mut_Tells (named 3) κs.1.1.1.0 (Pass.the_row (named_lft 6 4 tt κs)), tt))))))) (λ κs qs bounds a gh are.
     let site = a.0.now in let old : ℕ = a.1.0 in let new : ℕ = a.1.1.0 in let keys = a.1.1.1.0.now in let activation = a.1.1.1.1.0.now in let pass = a.1.1.1.1.1.0.now in let b : ℕ = a.0.ref_ptr.0 in let o : ℕ = a.0.ref_ptr.1 in let kb : ℕ = a.1.1.1.0.ref_ptr.0 in let ko : ℕ = a.1.1.1.0.ref_ptr.1 in let gb : ℕ = a.1.1.1.1.0.ref_ptr.0 in let go : ℕ = a.1.1.1.1.0.ref_ptr.1 in let pb : ℕ = a.1.1.1.1.1.0.ref_ptr.0 in let po : ℕ = a.1.1.1.1.1.0.ref_ptr.1 in let β : Lft = activation.life ∷ [] in
-    let κ : Lft = κs.1.1.0 in let n : Name = site.name in let f : ℕ → ℕ = exchanged old new in
+    let κ : Lft = κs.1.1.0 in let n : Name = site.name in let f : ℕ → ℕ = after_exchange old new in
     let ℓ : NamedLft = named_lft 6 4 tt κs in let y : (walk_of 𝓛 En hs c).Ghost = ((κs, qs, bounds, a, (vptr b o ∷ [], (vint w64 old ∷ [], (vint w64 new ∷ [], (vptr kb ko ∷ [], (vptr gb go ∷ [], (vptr pb po ∷ [], tt))))))), gh) in let Post : Val → SProp 𝓤 = (walk_of 𝓛 En hs c).post y in
     let toks : Fml = fsep (flft κs.0 qs.0) (fsep (flft κs.1.0 qs.1.0) (fsep (flft κs.1.1.0 qs.1.1.0) (fsep (flft κs.1.1.1.0 qs.1.1.1.0) (fsep (flft κs.1.1.1.1.0 qs.1.1.1.1.0) (fsep (flft κs.1.1.1.1.1.0 qs.1.1.1.1.1.0) ftrue))))) in
     let Asked : Type 0 = MaySeeIn site keys pass activation f g.entry g.trades in

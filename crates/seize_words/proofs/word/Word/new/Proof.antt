@@ -6,7 +6,7 @@ use Rattle.seize_book.specs.Entry.{Entry}
 use Rattle.seize_words.specs.Atomic.{site_of}
 use Rattle.seize_book.specs.Private.{own_of}
 use Rattle.seize_book.specs.Tokens.{keys_own}
-use Rattle.seize_words.specs.Words.{Site, ShowsWord, Stands, word_knows, word_owns}
+use Rattle.seize_words.specs.Words.{Site, ShowsWord, AreOtherKeys, word_knows, word_owns}
 use Rattle.seize_book.specs.contracts.book.keys.Keys as Keys
 use Rattle.seize_words.specs.contracts.word.Word as Word
 use Rattle.seize_words.specs.contracts.word.Word.TheInside as Inside
@@ -41,7 +41,7 @@ new_spec 𝓤 𝓛 𝓜 𝓡 wired =
     enter ! 𝓣.C 𝓣.Λ fn (vint w64 n ∷ vptr kb ko ∷ []) Post $ alloc_all ! (λ l. pass_all ! refl ((tt, record { fits = are.0.1 }), ((tt, tt), tt)) $
     opens ! tt Keys.the_row kb ko (λ vs0. move ! (1 ∷ []) $ fsplit ! $ move ! (1 ∷ []) $ rewrite ! 0 (λ (hs : List (HeldKey Entry)). ‵ (keys_own keys.name hs)) asked.0 refl $
     -- [what the keys own; the keys; their cell, in four entries]
-    nothing ! $ fpack ! (ShowsWord site n since × Stands site since vs) (λ _. ftrue) (asked.1, asked.2) $ move ! (0 ∷ 1 ∷ []) $ fjoin ! $ fpack ! (List Entry × List (HeldKey Entry)) (word_knows site n) (since, vs) $
+    nothing ! $ fpack ! (ShowsWord site n since × AreOtherKeys site since vs) (λ _. ftrue) (asked.1, asked.2) $ move ! (0 ∷ 1 ∷ []) $ fjoin ! $ fpack ! (List Entry × List (HeldKey Entry)) (word_knows site n) (since, vs) $
     use1 𝓛 (‵ (Word.the_row.own_val site (word_val n ∷ []))) (word_made 𝓛 site n are.0.1) $
     -- [the word; the keys; their cell, in four entries]
     let keys' : Keys.the_row.Denot = record keys { held = [] } in

@@ -8,7 +8,7 @@ use types.Na.{before-Incl, before_lent}
 use denote.Param.{bounded}
 use Rattle.seize_book.proofs.Borrowed.{opens_pass, closes_pass, two_out, two_in}
 use Rattle.seize_book.specs.Entry.{Entry}
-use Rattle.seize_words.specs.Atomic.{MayTakeIn}
+use Rattle.seize_words.specs.Atomic.{MayTakeStepIn}
 use Rattle.seize_book.specs.Tokens.{Name, inside, knows, keys_own, pass_owns, pass_holds}
 use Rattle.seize_words.specs.contracts.activation.Activation as Activation
 use Rattle.seize_book.specs.contracts.book.keys.Keys as Keys
@@ -33,7 +33,7 @@ swap_in_spec 𝓤 𝓛 𝓜 𝓡 wired P LP g d _ =
     let n : Name = site.name in
     let ℓ : NamedLft = named_lft 6 4 tt κs in let y : (walk_of 𝓛 En hs c).Ghost = ((κs, qs, bounds, a, (vptr b o ∷ [], (vint w64 new ∷ [], (vptr kb ko ∷ [], (vptr gb go ∷ [], (vptr pb po ∷ [], tt)))))), gh) in let Post : Val → SProp 𝓤 = (walk_of 𝓛 En hs c).post y in
     let toks : Fml = fsep (flft κs.0 qs.0) (fsep (flft κs.1.0 qs.1.0) (fsep (flft κs.1.1.0 qs.1.1.0) (fsep (flft κs.1.1.1.0 qs.1.1.1.0) (fsep (flft κs.1.1.1.1.0 qs.1.1.1.1.0) (fsep (flft κs.1.1.1.1.1.0 qs.1.1.1.1.1.0) ftrue))))) in
-    let Asked : Type 0 = MayTakeIn site keys pass activation f g.entry g.trades in
+    let Asked : Type 0 = MayTakeStepIn site keys pass activation f g.entry g.trades in
     qed 𝓛 ((‵ toks ⊛ ‵ (owns (types_at En.signature.params κs) a y.0.4)) ∷ raw (fact 𝓤 _) ∷ raw (fact 𝓤 Asked) ∷ []) ∵ keep ! (2 ∷ 0 ∷ []) $ heard ! Asked (λ asked. split ! $
     fsplit ! $ move ! (1 ∷ []) $ fsplit ! $ move ! (1 ∷ []) $ fsplit ! $ move ! (1 ∷ []) $ fsplit ! $ two_out ! $ move ! (5 ∷ []) $ fsplit ! $ fsplit ! $ move ! (2 ∷ []) $ fsplit ! $ move ! (1 ∷ []) $ fsplit ! $ fsplit3 ! $ move ! (3 ∷ []) $ fsplit ! $ fsplit ! $ move ! (2 ∷ []) $ fsplit ! $ fsplit3 ! $
     -- [the pass, in two; the keys, in two; the word; the tokens of the three, last first; the other tokens]

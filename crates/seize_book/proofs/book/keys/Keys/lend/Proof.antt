@@ -7,7 +7,7 @@ use Rattle.seize_content.specs.contracts.loan.Pool as Pool
 use Rattle.seize_content.specs.contracts.ticket.Ticket as Ticket
 use Rattle.seize_content.proofs.Tokens.{pool_tells, ticket_tells}
 use Rattle.seize_book.specs.Lending.{MayLend}
-use Rattle.seize_book.specs.Others.{labelled}
+use Rattle.seize_book.specs.Others.{with_label}
 use Rattle.seize_book.specs.Private.{label_of}
 use Rattle.seize_book.specs.Tokens.{keys_own}
 use Rattle.seize_book.specs.contracts.book.keys.Keys as Keys
@@ -35,9 +35,9 @@ lend_spec 𝓤 𝓛 𝓜 𝓡 wired =
     enter ! 𝓣.C 𝓣.Λ fn (vptr pb po ∷ token ∷ token ∷ []) Post $ alloc_all ! (λ l. pass_all ! refl ((tt, tt), ((tt, (tt, tt)), ((tt, (tt, tt)), tt))) $
     opens ! tt Keys.the_row pb po (λ vs. move ! (1 ∷ []) $ fsplit ! $ move ! (1 ∷ []) $
     -- [what the keys own; the keys; their cell, in four entries; the ticket; the pool]
-    let v : ℕ = fresh_lent k.name k.held pool.name pool.value in let is = fresh_lent_is k.name k.held pool.name pool.value in let k' : Keys.the_row.Denot = record k { held = labelled v k.held } in
+    let v : ℕ = fresh_lent k.name k.held pool.name pool.value in let is = fresh_lent_is k.name k.held pool.name pool.value in let k' : Keys.the_row.Denot = record k { held = with_label v k.held } in
     move ! (6 ∷ []) $ rewrite ! 0 (λ (m : ℕ). ‵ (ticket_owns m ticket.says)) asked.2.0 refl $ rewrite ! 0 (λ (u : Stage). ‵ (ticket_owns pool.name u)) asked.2.1 refl $
-    move ! (1 ∷ 0 ∷ 7 ∷ []) $ use3 𝓛 (‵ (keys_own k.name (labelled v k.held))) (lends_key 𝓛 k.name k.held v pool.life pool.name pool.value asked.0 is.0 is.1 (asked.3 ∙ asked.2.0 ∙ sym is.2.0) is.2 is.3) $
+    move ! (1 ∷ 0 ∷ 7 ∷ []) $ use3 𝓛 (‵ (keys_own k.name (with_label v k.held))) (lends_key 𝓛 k.name k.held v pool.life pool.name pool.value asked.0 is.0 is.1 (asked.3 ∙ asked.2.0 ∙ sym is.2.0) is.2 is.3) $
     move ! (1 ∷ 0 ∷ []) $ fjoin ! $ move ! (1 ∷ 0 ∷ 2 ∷ 3 ∷ 4 ∷ []) $ closes ! tt Keys.the_row k' vs pb po $
     -- [the keys, in two; their token]
     sets ! (of_opd ! (unit_lit !)) refl (tt, tt) $ feq_i ! (List Val) (vunit ∷ []) (vunit ∷ []) refl $

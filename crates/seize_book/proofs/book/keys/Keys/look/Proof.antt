@@ -3,7 +3,7 @@ use Rattle.seize_book.proofs.Kit.{join, Lfts, NamedLft, named_lft, ℕ, List, []
 use Rattle.seize_book.proofs.Borrowed.{opens_pass, closes_pass, two_out, two_in}
 use Rattle.seize_book.specs.Entry.{Entry}
 use Rattle.seize_book.specs.Fair.{Before}
-use Rattle.seize_book.specs.Ledger.{renewed}
+use Rattle.seize_book.specs.Ledger.{with_list}
 use Rattle.seize_book.specs.Tokens.{Name, keys_own, pass_owns}
 use Rattle.seize_book.specs.contracts.book.pass.Pass as Pass
 use Rattle.seize_book.specs.contracts.book.keys.Keys as Keys
@@ -33,11 +33,11 @@ look_spec 𝓤 𝓛 𝓜 𝓡 wired =
     -- [the rights; the keys; its cell, in four entries; the pass, in two; its token]
     move ! (6 ∷ 7 ∷ 8 ∷ []) $ opens_pass ! tt ℓ r rb ro (λ vs1.
     -- [what the pass owns; the pass; its cell, in four entries; the rights; the keys; its cell]
-    move ! (0 ∷ 6 ∷ []) $ use2 𝓛 (later (some (λ (log : List Entry). given (Before r.name r.id r.seen p.held log × IsDistinct 𝓛 r.name) (‵ (pass_owns r.name r.id log) ⊛ ‵ (keys_own r.name (renewed p.held log))))))
+    move ! (0 ∷ 6 ∷ []) $ use2 𝓛 (later (some (λ (log : List Entry). given (Before r.name r.id r.seen p.held log × IsDistinct 𝓛 r.name) (‵ (pass_owns r.name r.id log) ⊛ ‵ (keys_own r.name (with_list p.held log))))))
     (looks_now 𝓛 r.name r.id r.seen p.held asked.1) $ await ! tt $ pick ! (λ log. learn ! (λ so. split ! $
     -- [what the pass owns; the rights; the pass; its cell, in four entries; the keys; its cell]
-    let r' : (Pass.the_row ℓ).Denot = record r { seen = log } in let p' : Keys.the_row.Denot = record p { held = renewed p.held log } in
-    move ! (1 ∷ []) $ rewrite ! 0 (λ (z : Name). ‵ (keys_own z (renewed p.held log))) (sym asked.0) refl $ move ! (2 ∷ 1 ∷ []) $ join ! $ move ! (2 ∷ 0 ∷ 3 ∷ 4 ∷ 5 ∷ []) $ closes_pass ! tt ℓ r' refl vs1 rb ro $
+    let r' : (Pass.the_row ℓ).Denot = record r { seen = log } in let p' : Keys.the_row.Denot = record p { held = with_list p.held log } in
+    move ! (1 ∷ []) $ rewrite ! 0 (λ (z : Name). ‵ (keys_own z (with_list p.held log))) (sym asked.0) refl $ move ! (2 ∷ 1 ∷ []) $ join ! $ move ! (2 ∷ 0 ∷ 3 ∷ 4 ∷ 5 ∷ []) $ closes_pass ! tt ℓ r' refl vs1 rb ro $
     -- [the pass, in two; its token; the rights; the keys; its cell]
     move ! (4 ∷ 3 ∷ []) $ fjoin ! $ move ! (4 ∷ 0 ∷ 5 ∷ 6 ∷ 7 ∷ []) $ closes ! tt Keys.the_row p' vs0 pb po $
     -- [the keys, in two; its token; the pass, in two; its token]

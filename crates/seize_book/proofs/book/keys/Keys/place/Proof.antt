@@ -1,7 +1,7 @@
 -- `place` labels the key of a slot, with what the token shows.
 use Rattle.seize_book.proofs.Kit.{ℕ, List, [], ◌∷◌, refl, proved, named, Val, vptr, vunit, SProp, emp, Fml, ftrue, fsep, flft, ‵, raw, ◌⊛◌, ◌$◌, ◌∵◌, !, qed, by, move, keep, drop, split, fsplit, fsplit3, fjoin, fjoin3, use2, feq_i, unit_lit, of_opd, returns, enter, alloc_all, pass_all, free_all, look_at, sets, fact, fact_i, heard, tables, RefOf, yes, unhide, owns, types_at, plain, mut_vals, mut_Tells, shr_vals, shr_Tells, nothing, opens, closes, Stays, stay_ref, stay_dropped, walk_of, Goes-ref, Goes-dropped}
 use Rattle.seize_table.specs.contracts.tls.filled_at.FilledAt as Filled
-use Rattle.seize_book.specs.Others.{labelled}
+use Rattle.seize_book.specs.Others.{with_label}
 use Rattle.seize_book.specs.Tables.{LiesAt}
 use Rattle.seize_book.specs.Tokens.{keys_own}
 use Rattle.seize_book.proofs.Ways.{laid}
@@ -28,8 +28,8 @@ place_spec 𝓤 𝓛 𝓜 𝓡 wired =
     enter ! 𝓣.C 𝓣.Λ fn (vptr pb po ∷ vptr kb ko ∷ []) Post $ alloc_all ! (λ l. pass_all ! refl ((tt, tt), ((tt, tt), tt)) $
     opens ! tt Keys.the_row pb po (λ vs. move ! (1 ∷ []) $ fsplit ! $ move ! (1 ∷ []) $
     -- [what the keys own; the keys; their cell, in four entries; the other's token; what the token says]
-    let k' : Keys.the_row.Denot = record b { held = labelled 1 b.held } in
-    move ! (0 ∷ 7 ∷ []) $ use2 𝓛 (‵ (keys_own b.name (labelled 1 b.held))) (laid 𝓛 b.name k.table k.number k.label b.held asked.one asked.table asked.entry asked.head) $
+    let k' : Keys.the_row.Denot = record b { held = with_label 1 b.held } in
+    move ! (0 ∷ 7 ∷ []) $ use2 𝓛 (‵ (keys_own b.name (with_label 1 b.held))) (laid 𝓛 b.name k.table k.number k.label b.held asked.one asked.table asked.entry asked.head) $
     move ! (1 ∷ 0 ∷ []) $ fjoin ! $ move ! (1 ∷ 0 ∷ 2 ∷ 3 ∷ 4 ∷ []) $ closes ! tt Keys.the_row k' vs pb po $
     -- [the keys, in two; their token; the other's]
     sets ! (of_opd ! (unit_lit !)) refl (tt, tt) $ feq_i ! (List Val) (vunit ∷ []) (vunit ∷ []) refl $

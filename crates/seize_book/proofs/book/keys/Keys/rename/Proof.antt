@@ -2,7 +2,7 @@
 use Rattle.seize_book.proofs.Kit.{◌≡◌, ℕ, List, [], ◌∷◌, refl, proved, named, Val, vptr, vunit, SProp, emp, Fml, ftrue, fsep, flft, ‵, raw, ◌⊛◌, ◌$◌, ◌∵◌, !, qed, by, move, keep, split, fsplit, fsplit3, fjoin, fjoin3, use1, feq_i, unit_lit, of_opd, returns, enter, alloc_all, pass_all, free_all, look_at, sets, fact, fact_i, heard, tables, owns, types_at, plain, mut_vals, mut_Tells, nothing, opens, closes, Stays, stay_ref, walk_of, Goes-ref}
 use Rattle.std.specs.Prelude.{true}
 use Rattle.seize_book.specs.Book.{blocks}
-use Rattle.seize_book.specs.Others.{labelled}
+use Rattle.seize_book.specs.Others.{with_label}
 use Rattle.seize_book.specs.Private.{is_one}
 use Rattle.seize_book.specs.Tokens.{keys_own}
 use Rattle.seize_book.specs.contracts.book.keys.Keys as Keys
@@ -29,8 +29,8 @@ rename_spec 𝓤 𝓛 𝓜 𝓡 wired =
     enter ! 𝓣.C 𝓣.Λ fn (vptr pb po ∷ []) Post $ alloc_all ! (λ l. pass_all ! refl ((tt, tt), tt) $
     opens ! tt Keys.the_row pb po (λ vs. move ! (1 ∷ []) $ fsplit ! $ move ! (1 ∷ []) $
     -- [what the keys own; the keys; their cell, in four entries]
-    let v : ℕ = fresh k.name k.held in let same = fresh_home k.name k.held in let k' : Keys.the_row.Denot = record k { held = labelled v k.held } in
-    use1 𝓛 (‵ (keys_own k.name (labelled v k.held))) (relabels 𝓛 k.name k.held v asked same.0 same.1 same.2 same.3 same.4) $
+    let v : ℕ = fresh k.name k.held in let same = fresh_home k.name k.held in let k' : Keys.the_row.Denot = record k { held = with_label v k.held } in
+    use1 𝓛 (‵ (keys_own k.name (with_label v k.held))) (relabels 𝓛 k.name k.held v asked same.0 same.1 same.2 same.3 same.4) $
     move ! (1 ∷ 0 ∷ []) $ fjoin ! $ move ! (1 ∷ 0 ∷ 2 ∷ 3 ∷ 4 ∷ []) $ closes ! tt Keys.the_row k' vs pb po $
     -- [the keys, in two; their token]
     sets ! (of_opd ! (unit_lit !)) refl (tt, tt) $ feq_i ! (List Val) (vunit ∷ []) (vunit ∷ []) refl $

@@ -7,8 +7,8 @@ use denote.Memory.{hidden_shr}
 use denote.Struct.Lending.{lent_out}
 use Rattle.core.specs.contracts.marker.PhantomData as marker
 use Rattle.seize_content.proofs.Fields.{Marked}
-use Rattle.seize_store.specs.Known.{tells}
-use Rattle.seize_store.specs.contracts.known.Known as Known
+use Rattle.seize_store.specs.RowTokens.{tells}
+use Rattle.seize_store.specs.contracts.row_token.RowToken as RowToken
 use Rattle.seize_book.specs.Blocks.{block_number}
 use Rattle.seize_book.specs.Book.{blocks}
 use Rattle.seize_book.specs.Loans.{loan_of}
@@ -37,7 +37,7 @@ row_spec 𝓤 𝓛 𝓜 𝓡 wired =
     use1 𝓛 (‵ (hidden_shr (Marked unit) κ (record {}, tt) rb ro) ⊛ ‵ (fhide (keys_show d.name d.held κ))) (lent_out 𝓛 Keys.struct (Keys.the_codes (marker.the_row unit).coded) Keys.the_heap Keys.the_lent κ d rb ro) $ split ! $ move ! (1 ∷ []) $ unhide ! $
     use1 𝓛 (‵ (leads d.name v) ⊛ ‵ (sight_if (loan_of v) κ v)) (shows 𝓛 d.name κ d.held asked) $ split ! $ move ! (1 ∷ []) $ drop ! $
     -- [where the number leads; its marker; the token]
-    fpick ! (λ way. let r : Known.the_row.Denot = record { marker = record {}; store = d.name.store; row = way.row; chunks = way.chunks; made = way.made } in
+    fpick ! (λ way. let r : RowToken.the_row.Denot = record { marker = record {}; store = d.name.store; row = way.row; chunks = way.chunks; made = way.made } in
     sets ! (agg ! (no_more !)) refl (tt, tt) $ sets ! (agg ! (and_then ! (get ! refl) (no_more !))) refl (tt, (tt, tt)) $
     use0 𝓛 (‵ (Token.own_val (record {}, tt) (token ∷ []))) (token_made 𝓛) $ fjoin ! $
     -- [the result; its marker; the token]

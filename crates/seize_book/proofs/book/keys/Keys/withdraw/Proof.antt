@@ -11,7 +11,7 @@ use Rattle.seize_content.specs.contracts.ticket.Ticket as Ticket
 use Rattle.seize_book.proofs.Borrowed.{opens_pass, closes_pass, two_out, two_in}
 use Rattle.seize_book.specs.Lending.{MayWithdraw}
 use Rattle.seize_book.specs.Loans.{Carries}
-use Rattle.seize_book.specs.Others.{labelled}
+use Rattle.seize_book.specs.Others.{with_label}
 use Rattle.seize_book.specs.Private.{label_of, own_of}
 use Rattle.seize_book.specs.Book.{after}
 use Rattle.seize_book.specs.Tokens.{Name, keys_own, pass_owns, start}
@@ -43,9 +43,9 @@ withdraw_spec 𝓤 𝓛 𝓜 𝓡 wired =
     opens_pass ! tt ℓ p pb po (λ vs1.
     move ! (6 ∷ 7 ∷ 8 ∷ []) $ opens ! tt Keys.the_row kb ko (λ vs0. move ! (1 ∷ []) $ fsplit ! $ move ! (1 ∷ []) $ rewrite ! 0 (λ (z : Name). ‵ (keys_own z k.held)) asked.0 refl $
     -- [what the keys own; the keys; their cell, in four entries; what the pass owns; the pass; its cell]
-    let v : ℕ = label_of k.held in let w : ℕ = fresh k.name k.held in let same = fresh_home k.name k.held in let k' : Keys.the_row.Denot = record k { name = p.name; held = labelled w k.held } in
+    let v : ℕ = label_of k.held in let w : ℕ = fresh k.name k.held in let same = fresh_home k.name k.held in let k' : Keys.the_row.Denot = record k { name = p.name; held = with_label w k.held } in
     let unnamed = subst (λ (n : Name). has v (after (start n) (own_of k.held)).named ≡ false) asked.0 asked.4 in
-    move ! (6 ∷ 0 ∷ []) $ use2 𝓛 (later (some (λ (t : ℕ × (ℕ × Gv)). given (Carries v t.0 t.1.1) (‵ (pass_owns p.name p.id p.seen) ⊛ ‵ (keys_own p.name (labelled w k.held)) ⊛ ‵ (ticket_owns t.0 (lent t.1.0 t.1.1)) ⊛ ‵ (pool_owns t.0 t.1.0 t.1.1)))))
+    move ! (6 ∷ 0 ∷ []) $ use2 𝓛 (later (some (λ (t : ℕ × (ℕ × Gv)). given (Carries v t.0 t.1.1) (‵ (pass_owns p.name p.id p.seen) ⊛ ‵ (keys_own p.name (with_label w k.held)) ⊛ ‵ (ticket_owns t.0 (lent t.1.0 t.1.1)) ⊛ ‵ (pool_owns t.0 t.1.0 t.1.1)))))
     (withdraws 𝓛 p.name p.id p.seen k.held w asked.1 asked.2 unnamed asked.3 same.0 same.1 same.2 same.3 same.4) $ await ! tt $ pick ! (λ t. learn ! (λ carries. split ! $ move ! (1 ∷ []) $ split3 ! $
     -- [what the keys own; the ticket; the pool; what the pass owns; the keys; their cell, in four entries; the pass; its cell]
     move ! (9 ∷ 3 ∷ []) $ join ! $ move ! (9 ∷ 0 ∷ 10 ∷ 11 ∷ 12 ∷ []) $ closes_pass ! tt ℓ p refl vs1 pb po $

@@ -1,7 +1,7 @@
 -- `find` looks at the list with what the token says.
 use Rattle.seize_book.proofs.Kit.{join, Lfts, NamedLft, named_lft, ℕ, List, [], ◌∷◌, ◌≡◌, refl, proved, named, vunit, Val, vptr, SProp, emp, Fml, ftrue, fsep, flft, ‵, raw, ◌⊛◌, some, given, later, await, ◌$◌, ◌∵◌, !, qed, by, move, keep, drop, split, fsplit, fsplit3, fjoin, fjoin3, pick, learn, use2, feq_i, unit_lit, of_opd, returns, enter, alloc_all, pass_all, free_all, look_at, sets, fact, fact_i, heard, tables, RefOf, yes, unhide, owns, types_at, plain, mut_vals, mut_Tells, shr_vals, shr_Tells, nothing, Stays, stay_ref, stay_dropped, walk_of, Goes-ref, Goes-dropped}
 use Rattle.std.specs.Prelude.{Some}
-use Rattle.seize_store.specs.contracts.known.Known as Known
+use Rattle.seize_store.specs.contracts.row_token.RowToken as RowToken
 use Rattle.seize_book.proofs.Borrowed.{opens_pass, closes_pass, two_out, two_in}
 use Rattle.seize_book.specs.Entry.{Entry}
 use Rattle.seize_book.specs.Fair.{Before}
@@ -18,9 +18,9 @@ use Rattle.seize_book.proofs.book.pass.Pass.find.Code as code
 pub find_spec : {M : Type 1} → statement M
 find_spec 𝓤 𝓛 𝓜 𝓡 wired =
     let H = 𝓛.H in let 𝓣 = tables 𝓤 H 𝓜 𝓡 𝓡.env in let fn = code.function in let c = clauses 𝓛 𝓜.mem 𝓡.returns in
-    let known = RefOf (2 ∷ []) tt (plain (λ _. Known.the_row)) (λ _. tt) in let Pa = plain (λ (κs : Lfts 3). Pass.the_row (named_lft 3 1 tt κs)) in let hs : Stays ended.signature.params ended.kept = (stay_ref (0 ∷ []) tt (Pa), (stay_dropped known yes, tt)) in
+    let known = RefOf (2 ∷ []) tt (plain (λ _. RowToken.the_row)) (λ _. tt) in let Pa = plain (λ (κs : Lfts 3). Pass.the_row (named_lft 3 1 tt κs)) in let hs : Stays ended.signature.params ended.kept = (stay_ref (0 ∷ []) tt (Pa), (stay_dropped known yes, tt)) in
     proved 𝓛 ended hs c 𝓜 𝓡 (Goes-ref 𝓛 3 0 tt (Pa), (Goes-dropped 𝓛 3 known yes (λ κs x f. refl), tt)) #self fn (code.unfolded 𝓤 H 𝓜 𝓡 wired)
-    (λ κs. (mut_vals, (shr_vals, tt))) (λ κs. (mut_Tells (named 0) κs.0 (Pass.the_row (named_lft 3 1 tt κs)), (shr_Tells (named 2) κs.1.1.0 Known.the_row, tt))) (λ κs qs bounds a gh are.
+    (λ κs. (mut_vals, (shr_vals, tt))) (λ κs. (mut_Tells (named 0) κs.0 (Pass.the_row (named_lft 3 1 tt κs)), (shr_Tells (named 2) κs.1.1.0 RowToken.the_row, tt))) (λ κs qs bounds a gh are.
     let b = a.0.now in let pb : ℕ = a.0.ref_ptr.0 in let po : ℕ = a.0.ref_ptr.1 in let k = a.1.0.now in let kb : ℕ = a.1.0.ref_ptr.0 in let ko : ℕ = a.1.0.ref_ptr.1 in
     let ℓ : NamedLft = named_lft 3 1 tt κs in let y : (walk_of 𝓛 ended hs c).Ghost = ((κs, qs, bounds, a, (vptr pb po ∷ [], (vptr kb ko ∷ [], tt))), gh) in let Post : Val → SProp 𝓤 = (walk_of 𝓛 ended hs c).post y in let toks : Fml = fsep (flft κs.0 qs.0) (fsep (flft κs.1.0 qs.1.0) (fsep (flft κs.1.1.0 qs.1.1.0) ftrue)) in
     let Asked : Type 0 = b.name.store ≡ k.store in

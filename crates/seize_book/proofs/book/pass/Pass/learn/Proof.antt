@@ -7,7 +7,7 @@ use Rattle.seize_book.specs.Entry.{Entry}
 use Rattle.seize_book.specs.Passes.{Longer}
 use Rattle.seize_book.specs.Tokens.{IsSole, Name, pass_owns, start}
 use Rattle.seize_book.specs.contracts.book.pass.Pass as Pass
-use Rattle.seize_book.specs.contracts.book.token.Book as Book
+use Rattle.seize_book.specs.contracts.book.seen.Seen as Seen
 use Rattle.seize_book.proofs.Learning.{hears}
 use Rattle.seize_book.proofs.Fields.{ends}
 use Rattle.seize_book.specs.contracts.book.pass.Pass.learn.{ended, clauses}
@@ -18,9 +18,9 @@ use Rattle.seize_book.proofs.book.pass.Pass.learn.Code as code
 pub learn_spec : {M : Type 1} → statement M
 learn_spec 𝓤 𝓛 𝓜 𝓡 wired =
     let H = 𝓛.H in let 𝓣 = tables 𝓤 H 𝓜 𝓡 𝓡.env in let fn = code.function in let c = clauses 𝓛 𝓜.mem 𝓡.returns in
-    let book = RefOf (2 ∷ []) tt (plain (λ _. Book.the_row)) (λ _. tt) in let Pa = plain (λ (κs : Lfts 3). Pass.the_row (named_lft 3 1 tt κs)) in let hs : Stays ended.signature.params ended.kept = (stay_ref (0 ∷ []) tt (Pa), (stay_dropped book yes, tt)) in
+    let book = RefOf (2 ∷ []) tt (plain (λ _. Seen.the_row)) (λ _. tt) in let Pa = plain (λ (κs : Lfts 3). Pass.the_row (named_lft 3 1 tt κs)) in let hs : Stays ended.signature.params ended.kept = (stay_ref (0 ∷ []) tt (Pa), (stay_dropped book yes, tt)) in
     proved 𝓛 ended hs c 𝓜 𝓡 (Goes-ref 𝓛 3 0 tt (Pa), (Goes-dropped 𝓛 3 book yes (λ κs x f. refl), tt)) #self fn (code.unfolded 𝓤 H 𝓜 𝓡 wired)
-    (λ κs. (mut_vals, (shr_vals, tt))) (λ κs. (mut_Tells (named 0) κs.0 (Pass.the_row (named_lft 3 1 tt κs)), (shr_Tells (named 2) κs.1.1.0 Book.the_row, tt))) (λ κs qs bounds a gh are.
+    (λ κs. (mut_vals, (shr_vals, tt))) (λ κs. (mut_Tells (named 0) κs.0 (Pass.the_row (named_lft 3 1 tt κs)), (shr_Tells (named 2) κs.1.1.0 Seen.the_row, tt))) (λ κs qs bounds a gh are.
     let b = a.0.now in let pb : ℕ = a.0.ref_ptr.0 in let po : ℕ = a.0.ref_ptr.1 in let k = a.1.0.now in let kb : ℕ = a.1.0.ref_ptr.0 in let ko : ℕ = a.1.0.ref_ptr.1 in
     let ℓ : NamedLft = named_lft 3 1 tt κs in let y : (walk_of 𝓛 ended hs c).Ghost = ((κs, qs, bounds, a, (vptr pb po ∷ [], (vptr kb ko ∷ [], tt))), gh) in let Post : Val → SProp 𝓤 = (walk_of 𝓛 ended hs c).post y in let toks : Fml = fsep (flft κs.0 qs.0) (fsep (flft κs.1.0 qs.1.0) (fsep (flft κs.1.1.0 qs.1.1.0) ftrue)) in
     let Asked : Type 0 = k.name ≡ b.name in

@@ -6,7 +6,7 @@ use Rattle.seize_book.specs.Begin.{book_owns}
 use Rattle.seize_book.specs.Shared.{porter_has}
 use Rattle.seize_book.specs.Tokens.{Name, porter_owns}
 use Rattle.seize_book.specs.contracts.book.porter.Porter as Porter
-use Rattle.seize_book.specs.contracts.book.token.Book as Book
+use Rattle.seize_book.specs.contracts.book.seen.Seen as Seen
 use Rattle.seize_book.proofs.Learning.{covered}
 use Rattle.seize_book.proofs.Fields.{ends}
 use Rattle.seize_book.specs.contracts.book.porter.Porter.covers.{ended, clauses}
@@ -17,9 +17,9 @@ use Rattle.seize_book.proofs.book.porter.Porter.covers.Code as code
 pub covers_spec : {M : Type 1} → statement M
 covers_spec 𝓤 𝓛 𝓜 𝓡 wired =
     let H = 𝓛.H in let 𝓣 = tables 𝓤 H 𝓜 𝓡 𝓡.env in let fn = code.function in let c = clauses 𝓛 𝓜.mem 𝓡.returns in
-    let book = RefOf (1 ∷ []) tt (plain (λ _. Book.the_row)) (λ _. tt) in let Po = plain (λ _. Porter.the_row) in let hs : Stays ended.signature.params ended.kept = (stay_ref (0 ∷ []) tt Po, (stay_dropped book yes, tt)) in
+    let book = RefOf (1 ∷ []) tt (plain (λ _. Seen.the_row)) (λ _. tt) in let Po = plain (λ _. Porter.the_row) in let hs : Stays ended.signature.params ended.kept = (stay_ref (0 ∷ []) tt Po, (stay_dropped book yes, tt)) in
     proved 𝓛 ended hs c 𝓜 𝓡 (Goes-ref 𝓛 2 0 tt Po, (Goes-dropped 𝓛 2 book yes (λ κs x f. refl), tt)) #self fn (code.unfolded 𝓤 H 𝓜 𝓡 wired)
-    (λ κs. (mut_vals, (shr_vals, tt))) (λ κs. (mut_Tells (named 0) κs.0 Porter.the_row, (shr_Tells (named 1) κs.1.0 Book.the_row, tt))) (λ κs qs bounds a gh are.
+    (λ κs. (mut_vals, (shr_vals, tt))) (λ κs. (mut_Tells (named 0) κs.0 Porter.the_row, (shr_Tells (named 1) κs.1.0 Seen.the_row, tt))) (λ κs qs bounds a gh are.
     let b = a.0.now in let pb : ℕ = a.0.ref_ptr.0 in let po : ℕ = a.0.ref_ptr.1 in let k = a.1.0.now in let kb : ℕ = a.1.0.ref_ptr.0 in let ko : ℕ = a.1.0.ref_ptr.1 in
     let y : (walk_of 𝓛 ended hs c).Ghost = ((κs, qs, bounds, a, (vptr pb po ∷ [], (vptr kb ko ∷ [], tt))), gh) in let Post : Val → SProp 𝓤 = (walk_of 𝓛 ended hs c).post y in let toks : Fml = fsep (flft κs.0 qs.0) (fsep (flft κs.1.0 qs.1.0) ftrue) in
     let Asked : Type 0 = (b.home ≡ true) × (k.name ≡ b.name) in

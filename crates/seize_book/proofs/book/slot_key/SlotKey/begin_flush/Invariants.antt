@@ -4,5 +4,5 @@ use Rattle.seize_machine.specs.declared.machine.event.Job.TheVariants.{Flush}
 use Rattle.seize_book.specs.Slots.{slot_number}
 use Rattle.seize_book.proofs.book.slot_key.SlotKey.begin_flush.Given as goal
 
-abbrev pub ghosts-note : goal.ghosts-note
-ghosts-note a = record { event = Begin (slot_number a.self.now) Flush; kepts = [] }
+abbrev pub ghosts-add : goal.ghosts-add
+ghosts-add a = record { event = Begin (slot_number a.self.now) Flush; kepts = [] }

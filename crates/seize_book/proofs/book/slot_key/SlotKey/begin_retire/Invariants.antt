@@ -5,5 +5,5 @@ use Rattle.seize_book.specs.Private.{label_of}
 use Rattle.seize_book.specs.Slots.{slot_number}
 use Rattle.seize_book.proofs.book.slot_key.SlotKey.begin_retire.Given as goal
 
-abbrev pub ghosts-note_with : goal.ghosts-note_with
-ghosts-note_with a = record { event = Begin (slot_number a.self.now) (Retire (label_of a.other.now.held)); kepts = a._kept ∷ [] }
+abbrev pub ghosts-add_with : goal.ghosts-add_with
+ghosts-add_with a = record { event = Begin (slot_number a.self.now) (Retire (label_of a.other.now.held)); kepts = a._kept ∷ [] }

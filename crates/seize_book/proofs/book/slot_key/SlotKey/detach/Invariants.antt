@@ -3,5 +3,5 @@ use Rattle.seize_machine.specs.Machine.Event.{Detach}
 use Rattle.seize_book.specs.Private.{key_of}
 use Rattle.seize_book.proofs.book.slot_key.SlotKey.detach.Given as goal
 
-abbrev pub ghosts-note : goal.ghosts-note
-ghosts-note a = record { event = Detach (key_of a.self.now.keys.held); kepts = [] }
+abbrev pub ghosts-add : goal.ghosts-add
+ghosts-add a = record { event = Detach (key_of a.self.now.keys.held); kepts = [] }

@@ -7,8 +7,8 @@ use Rattle.seize_book.proofs.Gives.{may_give}
 use Rattle.seize_book.proofs.Numbers.{gives_used}
 use Rattle.seize_book.proofs.book.slot_key.SlotKey.give.Goals as goal
 
-pub note_with-requires-clause-may : goal.note_with-requires-clause-may
-note_with-requires-clause-may c =
+pub add_with-requires-clause-may : goal.add_with-requires-clause-may
+add_with-requires-clause-may c =
     let a = c.args.self.now.keys.held in let b = c.args.numbers.now in let pass = c.args.pass.now in
     let idle = subst (λ (n : Name). is_idle (slot_at (after (start n) (own_of a)) (key_of a)) ≡ true) c.requires.book.0 c.requires.idle.0 in
     let off = subst (λ (n : Name). is_active (head_at (after (start n) (own_of a)) (key_of a)) ≡ false) c.requires.book.0 c.requires.idle.1 in
@@ -16,5 +16,5 @@ note_with-requires-clause-may c =
 
 pub returns-clause-used : goal.returns-clause-used
 returns-clause-used c =
-    let one = c.note_with in
+    let one = c.add_with in
     gives_used c.args.self.now one.new.self c.args.numbers.now one.new.other c.args.pass.now one.new.pass c.requires.book.0 c.requires.book.1 one.ensures.knew one.ensures.noted one.ensures.other.0

@@ -4,5 +4,5 @@ use Rattle.seize_book.specs.Slots.{slot_number}
 use Rattle.seize_book.specs.Private.{labels_of}
 use Rattle.seize_book.proofs.book.slot_key.SlotKey.hand_with.Given as goal
 
-abbrev pub ghosts-note_with : goal.ghosts-note_with
-ghosts-note_with a = record { event = Hand (slot_number a.self.now) (labels_of a.other.now.held); kepts = kepts_in a.other.now.held }
+abbrev pub ghosts-add_with : goal.ghosts-add_with
+ghosts-add_with a = record { event = Hand (slot_number a.self.now) (labels_of a.other.now.held); kepts = kepts_in a.other.now.held }

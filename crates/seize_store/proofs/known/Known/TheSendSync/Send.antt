@@ -1,5 +1,0 @@
-use denote.Param.Send.{IsSend}
-use Rattle.seize_store.specs.contracts.known.Known.{the_row}
-
-pub send : IsSend the_row
-send = record { owned = λ n vs. ((λ vss. (tt, ((λ uss. (tt, tt)), tt))), tt); leaving = λ k d w. tt }

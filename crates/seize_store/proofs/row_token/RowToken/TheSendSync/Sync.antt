@@ -1,0 +1,7 @@
+use denote.Param.Send.{IsSync, sendable}
+use denote.Struct.Struct.{Struct}
+use denote.Struct.Owning.{shape}
+use Rattle.seize_store.specs.contracts.row_token.RowToken.{the_row, the_type}
+
+pub sync : IsSync the_row
+sync = let fields : IsSync (Struct (shape the_type)) = search sendable depth 20 in record { shared = λ d b o ν. (fields.shared (tt, tt) b o ν, tt) }
