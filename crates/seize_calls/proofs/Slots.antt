@@ -5,7 +5,7 @@ use mathlib.Core.List.{IsPrefix}
 use Rattle.seize_machine.proofs.Facts.{Step, and_true, next_of}
 use Rattle.seize_machine.specs.Machine.Event.{Enter}
 use Rattle.seize_machine.specs.Machine.Next.{next, set_head}
-use Rattle.seize_machine.specs.Machine.State.{Slot as Record, State, is_idle}
+use Rattle.seize_machine.specs.Machine.State.{Slot as Record, State, are_distinct, head_at, is_active, is_idle, linked_values}
 use Rattle.seize_machine.specs.Machine.State.{Active as Entered}
 use Rattle.seize_machine.specs.declared.machine.event.Answer.{Answer}
 use Rattle.seize_machine.specs.declared.machine.event.Answer.TheVariants.{Done}
@@ -16,22 +16,24 @@ use Rattle.seize_book.specs.Books.{Learns}
 use Rattle.seize_book.specs.Entry.{Entry}
 use Rattle.seize_book.specs.Kept.{AreTold}
 use Rattle.seize_book.specs.Passes.{Longer, LooksOn}
-use Rattle.seize_book.specs.Slots.{AddsDeed, Moves, active_of, slot_number, slot_of, start_of}
+use Rattle.seize_book.specs.Laws.{life}
+use Rattle.seize_book.specs.Slots.{AddsDeed, Moves, active_of, life_of, own_list, slot_number, slot_of, start_of}
 use Rattle.seize_book.specs.Tokens.{Name, start}
 use Rattle.seize_book.specs.declared.book.pass.Pass.{Pass}
 use Rattle.seize_book.specs.declared.book.slot_key.SlotKey.{SlotKey}
 use Rattle.seize_book.specs.declared.book.seen.Seen.{Seen}
-use Rattle.seize_words.specs.Joined.{IsHolder}
-use Rattle.seize_words.specs.Reservations.{beginning}
+use Rattle.seize_words.specs.Joined.{IsHolder, IsInAt}
+use Rattle.seize_words.specs.Reservations.{IsActivationOf, IsLastOf, beginning}
+use Rattle.seize_words.specs.Walks.{Knows}
 use Rattle.seize_words.specs.declared.activation.Activation.{Activation}
 use Rattle.seize_words.specs.declared.chunk.Header.{Header}
 use Rattle.seize_words.specs.declared.chunk.Part.{Part}
 use Rattle.seize_book.proofs.Facts.{same_twice}
-use Rattle.seize_words.proofs.Facts.{all_told_later, more_slots, moved, seen_grows}
+use Rattle.seize_words.proofs.Facts.{all_told_later, knows_noted, more_slots, moved, seen_grows}
 use Rattle.seize_calls.specs.Batches.{keys_in}
-use Rattle.seize_calls.specs.Calls.{Rests}
+use Rattle.seize_calls.specs.Calls.{HasBegun, Rests}
 use Rattle.seize_calls.specs.Settling.{HasBatch}
-use Rattle.seize_calls.specs.Slots.{Prepares}
+use Rattle.seize_calls.specs.Slots.{HasActivation, InActivation, KeepsActivation, Prepares}
 use Rattle.seize_calls.specs.Together.{BelongTogether, what_saw}
 use Rattle.seize_calls.specs.declared.batch.Batch.{Batch}
 use Rattle.seize_calls.specs.declared.slot.Slot.{Slot}
@@ -51,6 +53,13 @@ slots_of n m seen seen' same grows legal =
 
 idle_of : (z : Record) → z.used ≡ true → z.call ≡ None → is_idle z ≡ true
 idle_of z used none = (λ j. used j && not (is_some (none j)))
+
+knows_as : (key : SlotKey) (pass : Pass) (seen : Seen) → seen.name ≡ pass.name → seen.seen ≡ pass.seen → Knows key pass → Knows key (what_saw seen)
+knows_as key pass seen name saw knows = record {
+  seen = subst (IsPrefix (own_list key)) (sym saw) knows.seen;
+  legal = subst (λ (t : Name × List Entry). IsLegalList (start t.0) t.1) (λ j. (sym name j, sym saw j)) knows.legal;
+  distinct = ap (λ (n : Name). are_distinct (linked_values n.links)) name ∙ knows.distinct;
+}
 
 -- a pass that has seen what the slot had
 pub record Ready (seen : Seen) (p : Pass) : Type 0 where
@@ -72,35 +81,41 @@ ready_looked seen p q ready looks = record {
   legal = subst (λ (n : Name). IsLegalList (start n) q.seen) (sym looks.same.0) looks.legal;
 }
 
-module _ {T : Type 0} (number : ℕ) (key : SlotKey) (batch : Batch) (spots : Spots Header Part T) (seen : Seen) (law : BelongTogether number key batch spots seen) (p : Pass) (ready : Ready seen p) where
-  pub holder : IsHolder key p number
+module _ {T : Type 0} (s : Slot T) (p : Pass) (ready : Ready s.seen p) where
+  pub holder : IsHolder s.key p s.number
   holder =
-      let there = law.there in let more = slots_of seen.name p.name seen.seen p.seen (sym ready.named) ready.grows ready.legal in
-      (law.book ∙ ready.named, law.numbered, omega (arith, there, more))
+      let there = s.together.there in let more = slots_of s.seen.name p.name s.seen.seen p.seen (sym ready.named) ready.grows ready.legal in
+      (s.together.book ∙ ready.named, s.together.numbered, omega (arith, there, more))
 
-  pub batch_at : AreTold (keys_in batch) (what_saw seen) → HasBatch key p (keys_in batch)
-  batch_at told = (law.batch_is.0 ∙ ready.named, law.batch_is.1, all_told_later seen.seen p.seen (keys_in batch).keys.held ready.grows told)
+  pub batch_at : AreTold (keys_in s.batch) (what_saw s.seen) → HasBatch s.key p (keys_in s.batch)
+  batch_at told = (s.together.batch_is.0 ∙ ready.named, s.together.batch_is.1, all_told_later s.seen.seen p.seen (keys_in s.batch).keys.held ready.grows told)
 
   -- after a call, which leaves no call under way
-  module _ (key' : SlotKey) (pass' : Pass) (batch' : Batch) (spots' : Spots Header Part T) (seen' : Seen) (rests : Rests key p key' pass' (keys_in batch'))
-      (legal' : IsLegalList (start pass'.name) pass'.seen) (of_store : AreOfStore spots' seen.name.store) (same : seen'.name ≡ seen.name) (saw : seen'.seen ≡ pass'.seen) where
-    named' : pass'.name ≡ seen'.name
-    named' = rests.same.0 ∙ sym ready.named ∙ sym same
+  module _ (key' : SlotKey) (pass' : Pass) (batch' : Batch) (spots' : Spots Header Part T) (seen' : Seen) (rests : Rests s.key p key' pass' (keys_in batch')) (knows : Knows key' pass')
+      (same : seen'.name ≡ s.seen.name) (saw : seen'.seen ≡ pass'.seen) where
+    named' : seen'.name ≡ pass'.name
+    named' = same ∙ ready.named ∙ sym rests.same.0
 
-    pub together : BelongTogether number key' batch' spots' seen'
-    together =
-        let there = (holder).2 in let more = slots_of p.name pass'.name p.seen pass'.seen rests.same.0 rests.grows legal' in
+    pub together : AreOfStore spots' s.seen.name.store → BelongTogether s.number key' batch' spots' seen'
+    together of_store =
+        let there = holder.2 in let more = slots_of p.name pass'.name p.seen pass'.seen rests.same.0 rests.grows knows.legal in
         record {
-          book = rests.its.0 ∙ law.book ∙ sym same;
-          numbered = rests.its.1 ∙ law.numbered;
-          there = subst (λ (t : Name × List Entry). number < length (after (start t.0) t.1).slots) (λ j. (named' j, sym saw j)) (omega (arith, there, more));
-          idle = idle_of (slot_of key') (rests.used ∙ (and_true _ _ law.idle).0) rests.call;
-          batch_is = (rests.batch.0 ∙ named', rests.batch.1);
+          book = rests.its.0 ∙ s.together.book ∙ sym same;
+          numbered = rests.its.1 ∙ s.together.numbered;
+          there = subst (λ (t : Name × List Entry). s.number < length (after (start t.0) t.1).slots) (λ j. (sym named' j, sym saw j)) (omega (arith, there, more));
+          idle = idle_of (slot_of key') (rests.used ∙ (and_true _ _ s.together.idle).0) rests.call;
+          batch_is = (rests.batch.0 ∙ sym named', rests.batch.1);
           spots_in = subst (λ (n : Name). AreOfStore spots' n.store) (sym same) of_store;
         }
 
     pub told_in : AreTold (keys_in batch') (what_saw seen')
     told_in = subst (λ (log : List Entry). AreTold (keys_in batch') (record (what_saw seen') { seen = log })) (sym saw) rests.batch.2
+
+    pub knows_in : Knows key' (what_saw seen')
+    knows_in = knows_as key' pass' seen' named' saw knows
+
+    pub grows_in : IsPrefix s.seen.seen seen'.seen
+    grows_in = subst (IsPrefix s.seen.seen) (sym saw) (prefix_trans s.seen.seen p.seen pass'.seen ready.grows rests.grows)
 
 -- Entering leaves the slot's record.
 pub entered_so : (key key' : SlotKey) (log : List Entry) (pass : Pass) (its : ℕ) (later : State) (answer : Answer) → Moves key key' log (beginning pass its (Enter (slot_number key))) later answer → is_idle (slot_of key) ≡ true → active_of key ≡ false → slot_of key' ≡ slot_of key
@@ -109,46 +124,104 @@ entered_so key key' log pass its later answer moves idle off =
     let is : next pass.size st (Enter s) ≡ Some d = next_of pass.size st (Enter s) d (Step.entered s (ap is_idle moves.was ∙ idle) (moves.was_active ∙ off)) in
     moved key key' log (beginning pass its (Enter s)) later answer moves d is ∙ moves.was
 
-module _ {T : Type 0} (number : ℕ) (key : SlotKey) (batch : Batch) (spots : Spots Header Part T) (seen : Seen) (law : BelongTogether number key batch spots seen) (p : Pass) (ready : Ready seen p)
-    (key' : SlotKey) (pass' : Pass) (a : Activation) (notes : AddsDeed key p key' pass' (beginning p a.life (Enter number))) (off : active_of key ≡ false) (seen' : Seen) (same : seen'.name ≡ seen.name) (saw : seen'.seen ≡ pass'.seen) where
-  stays : slot_of key' ≡ slot_of key
+module _ {T : Type 0} (s : Slot T) (p : Pass) (ready : Ready s.seen p) (key' : SlotKey) (pass' : Pass) (a : Activation) (notes : AddsDeed s.key p key' pass' (beginning p a.life (Enter s.number)))
+    (off : active_of s.key ≡ false) (seen' : Seen) (same : seen'.name ≡ s.seen.name) (saw : seen'.seen ≡ pass'.seen) where
+  stays : slot_of key' ≡ slot_of s.key
   stays =
       let n = notes.2.0 in
-      entered_so key key' n.before p a.life n.later n.answer (subst (λ (k : ℕ). Moves key key' n.before (beginning p a.life (Enter k)) n.later n.answer) (sym law.numbered) notes.2.1) law.idle off
+      entered_so s.key key' n.before p a.life n.later n.answer (subst (λ (k : ℕ). Moves s.key key' n.before (beginning p a.life (Enter k)) n.later n.answer) (sym s.together.numbered) notes.2.1) s.together.idle off
 
   goes : IsPrefix p.seen pass'.seen
   goes = seen_grows p.name p.id p.seen pass'.seen _ notes.2.0
 
-  pub entered : BelongTogether number key' batch spots seen'
+  pub entered : BelongTogether s.number key' s.batch s.spots seen'
   entered =
-      let there = (holder number key batch spots seen law p ready).2 in let more = slots_of p.name p.name p.seen pass'.seen refl goes notes.2.0.legal in
+      let there = (holder s p ready).2 in let more = slots_of p.name p.name p.seen pass'.seen refl goes notes.2.0.legal in
       record {
-        book = notes.1.0 ∙ law.book ∙ sym same;
-        numbered = notes.1.1 ∙ law.numbered;
-        there = subst (λ (t : Name × List Entry). number < length (after (start t.0) t.1).slots) (λ j. ((sym ready.named ∙ sym same) j, sym saw j)) (omega (arith, there, more));
-        idle = ap is_idle stays ∙ law.idle;
-        batch_is = (law.batch_is.0 ∙ sym same, law.batch_is.1 ∙ sym (ap (λ (z : Record). z.batch) stays));
-        spots_in = subst (λ (n : Name). AreOfStore spots n.store) (sym same) law.spots_in;
+        book = notes.1.0 ∙ s.together.book ∙ sym same;
+        numbered = notes.1.1 ∙ s.together.numbered;
+        there = subst (λ (t : Name × List Entry). s.number < length (after (start t.0) t.1).slots) (λ j. ((sym ready.named ∙ sym same) j, sym saw j)) (omega (arith, there, more));
+        idle = ap is_idle stays ∙ s.together.idle;
+        batch_is = (s.together.batch_is.0 ∙ sym same, s.together.batch_is.1 ∙ sym (ap (λ (z : Record). z.batch) stays));
+        spots_in = subst (λ (n : Name). AreOfStore s.spots n.store) (sym same) s.together.spots_in;
       }
 
-  pub told_still : AreTold (keys_in batch) (what_saw seen) → AreTold (keys_in batch) (what_saw seen')
+  pub knows_still : Knows key' (what_saw seen')
+  knows_still = knows_as key' pass' seen' (same ∙ ready.named ∙ sym notes.0.0) saw (knows_noted s.key key' p pass' _ notes)
+
+  pub told_still : AreTold (keys_in s.batch) (what_saw s.seen) → AreTold (keys_in s.batch) (what_saw seen')
   told_still told =
-      all_told_later seen.seen seen'.seen (keys_in batch).keys.held (subst (IsPrefix seen.seen) (sym saw) (prefix_trans seen.seen p.seen pass'.seen ready.grows goes)) told
+      all_told_later s.seen.seen seen'.seen (keys_in s.batch).keys.held (subst (IsPrefix s.seen.seen) (sym saw) (prefix_trans s.seen.seen p.seen pass'.seen ready.grows goes)) told
 
 -- the pass is ready when it has learned of the slot, and when it has looked at the list then
-module _ {T : Type 0} (slot : Slot T) (pass p : Pass) (learns : Learns pass slot.seen p) where
+module _ {T : Type 0} (slot : Slot T) (pass p : Pass) (book : slot.seen.name ≡ pass.name) (learns : Learns pass slot.seen p) where
   pub learned : Prepares slot pass p
   learned = record {
     same = learns.0;
     none_made = learns.1;
     grows = (longer_left pass.seen slot.seen.seen p.seen learns.2, longer_right pass.seen slot.seen.seen p.seen learns.2);
     alone = learns.3;
+    legal = (ready_learned slot.seen pass p book learns).legal;
   }
 
-  pub looked : (ready : Pass) → LooksOn p ready → Prepares slot pass ready
-  looked ready looks = record {
-    same = same_twice pass p ready learns.0 looks.same;
+  pub looked : (q : Pass) → LooksOn p q → Prepares slot pass q
+  looked q looks = record {
+    same = same_twice pass p q learns.0 looks.same;
     none_made = looks.none_made ∙ learns.1;
-    grows = (prefix_trans pass.seen p.seen ready.seen learned.grows.0 looks.grows, prefix_trans slot.seen.seen p.seen ready.seen learned.grows.1 looks.grows);
+    grows = (prefix_trans pass.seen p.seen q.seen learned.grows.0 looks.grows, prefix_trans slot.seen.seen p.seen q.seen learned.grows.1 looks.grows);
     alone = λ sole. looks.alone (learns.0.1 ∙ sole) ∙ learns.3 sole;
+    legal = (ready_looked slot.seen p q (ready_learned slot.seen pass p book learns) looks).legal;
   }
+
+-- An activation that has begun may step on each link, and has begun for each pass that has seen no less.
+pub begun_at : (a : Activation) (pass : Pass) (l : ℕ) → HasBegun a pass → l < length pass.name.links → IsInAt a pass l
+begun_at a pass l begun is = (
+  begun.book,
+  record {
+    active = subst (λ (n : Name). is_active (head_at (after (start n) a.since) a.slot) ≡ true) begun.book begun.active;
+    its = begun.its;
+    known = begun.known;
+    is_link = is;
+  },
+)
+
+pub begun_later : (a : Activation) (pass pass' : Pass) → pass'.name ≡ pass.name → IsPrefix pass.seen pass'.seen → HasBegun a pass → HasBegun a pass'
+begun_later a pass pass' same grows begun = record {
+  book = begun.book ∙ sym same;
+  active = begun.active;
+  its = begun.its;
+  known = prefix_trans a.since pass.seen pass'.seen begun.known grows;
+}
+
+-- so it has begun for a pass that is ready
+pub begun_for : {T : Type 0} (slot : Slot T) (a : Activation) (pass ready : Pass) → slot.seen.name ≡ pass.name → Prepares slot pass ready → InActivation slot a → HasBegun a ready
+begun_for slot a pass ready book prepares is = begun_later a (what_saw slot.seen) ready (prepares.same.0 ∙ sym book) prepares.grows.1 is.begun
+
+-- the slot's last activation, as calls ask for it
+pub last_of : {T : Type 0} (slot : Slot T) (a : Activation) → HasActivation slot a → IsLastOf slot.key a
+last_of slot a has = ((has.0.its.0, has.0.its.1, has.1), has.0.its.2)
+
+-- a call that keeps the slot active, and its last activation, keeps the slot in it
+pub kept_in : {T : Type 0} (slot slot' : Slot T) → slot'.seen.name ≡ slot.seen.name → slot'.number ≡ slot.number → active_of slot'.key ≡ active_of slot.key → life_of slot'.key ≡ life_of slot.key
+    → IsPrefix slot.seen.seen slot'.seen.seen → KeepsActivation slot slot'
+kept_in slot slot' name number active life_ grows a is = record {
+  active = active ∙ is.active;
+  its = (is.its.0 ∙ slot.together.book ∙ sym name ∙ sym slot'.together.book, is.its.1 ∙ slot.together.numbered ∙ sym number ∙ sym slot'.together.numbered, is.its.2 ∙ sym life_);
+  begun = begun_later a (what_saw slot.seen) (what_saw slot'.seen) name grows is.begun;
+}
+
+-- an activation has begun with what the slot's key knows
+pub begins_in : {T : Type 0} (slot' : Slot T) (a : Activation) → IsActivationOf slot'.key a → own_list slot'.key ≡ slot'.seen.seen → HasActivation slot' a
+begins_in slot' a is own = let of_slot = is.of_slot in (
+  record {
+    active = (λ i. is_active (head_at (after (start (sym of_slot.0 i)) (sym is.since i)) (sym of_slot.1 i))) ∙ is.active;
+    its = (of_slot.0, of_slot.1, sym is.its ∙ (λ i. life (of_slot.1 i) (is.since i)));
+    begun = record {
+      book = of_slot.0 ∙ slot'.together.book;
+      active = is.active;
+      its = is.its;
+      known = subst (λ (log : List Entry). IsPrefix log slot'.seen.seen) (sym (is.since ∙ own)) (prefix_refl slot'.seen.seen);
+    };
+  },
+  of_slot.2,
+)

@@ -1,44 +1,58 @@
 -- The words in which the contracts of a slot as one value speak.
---     IsSlotOf words slot      it is a slot of these words, and of each value in its batch the list says what is kept of it
---     its_number slot, its_book slot, its_key slot     its number, its book, and its key;  IsActive slot     it is active, as its key knows
+--     IsSlotOf words slot      it is a slot of these words. What its key knows was seen, and so was for each value in its batch which word
+--                              is kept of it
+--     its_number slot, its_book slot, its_key slot, its_batch slot, its_seen slot     its number, its book, its key, the keys of its
+--                              batch, and what its passes have seen;  IsActive slot     it is active, as its key knows
+--     KeepsCalls slot slot'    all these are the same
 --     MakesOneSlot numbers next pass numbers' slot next' pass'     the slot was made (MakesNextSlot), and has seen what the pass has
 --     IsPassFor words pass     it is a pass of their book, with their batch size
 --     MayEnterWith slot a      the slot is inactive, and it is an activation of it, with all units
---     HasActivation slot a     the slot is active, and this is its activation, with all units
---     KeepsActivation slot slot'     it is active where it was, in the same activation
+--     InActivation slot a      the slot is active, and this is its activation, which has begun, as was seen
+--     HasActivation slot a     and with all units
+--     KeepsActivation slot slot'     it is in its activation still
 --     IsLooseOf words loose    it is a value of their book, which may be retired;  its_value loose     its name
---     Prepares slot pass ready     the pass has seen what the slot had seen, and nothing was made with it
---     Calls slot pass slot' pass' Does     once the pass was ready, this was done. It is the same slot, and has seen what the pass has
+--     IsLooseIn key loose      it is the value whose key this is, which may be retired
+--     Prepares slot pass ready     the pass has seen what the slot had seen, a legal list, and nothing was made with it
+--     CallsWith slot pass slot' pass' Does     once the pass was ready, this was done. It is the same slot, and has seen what the pass has
 --     SlotEnters, SlotRetires, SlotFlushes, SlotLeaves, SlotRefreshes     so a call of the slot did, with this pass and with what the
 --                              reclaimer had: see `RetiresOne`, `Flushes` and `Leaves`
-use Rattle.std.specs.Prelude.{◌≡◌, ℕ, Bool, true, false}
+use Rattle.std.specs.Prelude.{◌≡◌, ℕ, Bool, true, false, List, Some}
 use mathlib.Core.List.{IsPrefix}
 use Rattle.seize_machine.specs.Machine.Event.{Enter, SwapOut}
 use Rattle.seize_machine.specs.declared.machine.event.Job.TheVariants.{Leave, Refresh}
 use Rattle.seize_book.specs.Adding.{private}
+use Rattle.seize_book.specs.Book.{IsLegalList}
+use Rattle.seize_book.specs.Entry.{Entry}
 use Rattle.seize_book.specs.Kept.{AreTold}
 use Rattle.seize_book.specs.Others.{MayRetire, book_of, value_of}
 use Rattle.seize_book.specs.Passes.{IsSamePass, MadeNone}
 use Rattle.seize_book.specs.Slots.{AddsDeed, active_of, life_of, slot_number}
-use Rattle.seize_book.specs.Tokens.{IsSole, Name}
+use Rattle.seize_book.specs.Tokens.{IsSole, Name, start}
 use Rattle.seize_book.specs.declared.book.numbers_key.NumbersKey.{NumbersKey}
 use Rattle.seize_book.specs.declared.book.pass.Pass.{Pass}
 use Rattle.seize_book.specs.declared.book.slot_key.SlotKey.{SlotKey}
+use Rattle.seize_book.specs.declared.book.value_keys.ValueKeys.{ValueKeys}
+use Rattle.seize_words.specs.Activations.{HasAllUnits}
 use Rattle.seize_words.specs.Joined.{words_book}
-use Rattle.seize_words.specs.Reservations.{IsLastOf, IsOfSlot, beginning}
+use Rattle.seize_words.specs.LinkWords.{value_held}
+use Rattle.seize_words.specs.Reservations.{IsOfSlot, beginning}
 use Rattle.seize_words.specs.Reserved.{MakesNextSlot}
 use Rattle.seize_words.specs.declared.activation.Activation.{Activation}
 use Rattle.seize_words.specs.declared.slots.next.NextSlot.{NextSlot}
+use Rattle.seize_words.specs.Walks.{Knows}
+use Rattle.seize_words.specs.declared.link.MaybeKey.{MaybeKey}
 use Rattle.seize_words.specs.declared.words.Words.{Words}
 use Rattle.seize_calls.specs.Batches.{keys_in}
-use Rattle.seize_calls.specs.Calls.{Flushes, Leaves, RetiresOne}
+use Rattle.seize_calls.specs.Calls.{Flushes, HasBegun, Leaves, RetiresOne}
 use Rattle.seize_calls.specs.Handing.{Had}
 use Rattle.seize_calls.specs.Together.{what_saw}
 use Rattle.seize_calls.specs.declared.slot.Loose.{Loose}
 use Rattle.seize_calls.specs.declared.slot.Slot.{Slot}
 
-abbrev pub IsSlotOf : {T : Type 0} → Words T → Slot T → Type 0
-IsSlotOf words slot = (slot.seen.name ≡ words_book words) × AreTold (keys_in slot.batch) (what_saw slot.seen)
+pub record IsSlotOf {T : Type 0} (words : Words T) (slot : Slot T) : Type 0 where
+  pub book : slot.seen.name ≡ words_book words
+  pub knows : Knows slot.key (what_saw slot.seen)
+  pub told : AreTold (keys_in slot.batch) (what_saw slot.seen)
 
 abbrev pub its_number : {T : Type 0} → Slot T → ℕ
 its_number slot = slot.number
@@ -48,6 +62,16 @@ its_book slot = slot.seen.name
 
 abbrev pub its_key : {T : Type 0} → Slot T → SlotKey
 its_key slot = slot.key
+
+abbrev pub its_batch : {T : Type 0} → Slot T → ValueKeys
+its_batch slot = keys_in slot.batch
+
+abbrev pub its_seen : {T : Type 0} → Slot T → List Entry
+its_seen slot = slot.seen.seen
+
+abbrev pub KeepsCalls : {T : Type 0} → Slot T → Slot T → Type 0
+KeepsCalls slot slot' =
+    (slot'.number ≡ slot.number) × (slot'.key ≡ slot.key) × (slot'.batch ≡ slot.batch) × (slot'.seen ≡ slot.seen)
 
 abbrev pub MakesOneSlot : {T : Type 0} → NumbersKey → NextSlot → Pass → NumbersKey → Slot T → NextSlot → Pass → Type 0
 MakesOneSlot numbers next pass numbers' slot next' pass' =
@@ -62,14 +86,23 @@ IsActive slot = active_of slot.key ≡ true
 abbrev pub MayEnterWith : {T : Type 0} → Slot T → Activation → Type 0
 MayEnterWith slot a = (active_of slot.key ≡ false) × IsOfSlot slot.key a
 
+pub record InActivation {T : Type 0} (slot : Slot T) (a : Activation) : Type 0 where
+  pub active : IsActive slot
+  pub its : (a.name ≡ slot.key.keys.name) × (a.slot ≡ slot_number slot.key) × (a.life ≡ life_of slot.key)
+  pub begun : HasBegun a (what_saw slot.seen)
+
 abbrev pub HasActivation : {T : Type 0} → Slot T → Activation → Type 0
-HasActivation slot a = IsActive slot × IsLastOf slot.key a
+HasActivation slot a = InActivation slot a × HasAllUnits a
 
 abbrev pub KeepsActivation : {T : Type 0} → Slot T → Slot T → Type 0
-KeepsActivation slot slot' = (active_of slot'.key ≡ active_of slot.key) × (life_of slot'.key ≡ life_of slot.key)
+KeepsActivation slot slot' = (a : Activation) → InActivation slot a → InActivation slot' a
 
 abbrev pub its_value : Loose → ℕ
 its_value loose = value_of loose.value
+
+abbrev pub IsLooseIn : MaybeKey → Loose → Type 0
+IsLooseIn key loose =
+    (book_of loose.value ≡ key.keys.name) × (value_held key ≡ Some (its_value loose)) × MayRetire loose.value
 
 abbrev pub IsLooseOf : {T : Type 0} → Words T → Loose → Type 0
 IsLooseOf words loose = (book_of loose.value ≡ words_book words) × MayRetire loose.value
@@ -79,8 +112,9 @@ pub record Prepares {T : Type 0} (slot : Slot T) (pass ready : Pass) : Type 0 wh
   pub none_made : MadeNone pass ready
   pub grows : IsPrefix pass.seen ready.seen × IsPrefix slot.seen.seen ready.seen
   pub alone : IsSole pass.id → ready.seen ≡ pass.seen
+  pub legal : IsLegalList (start ready.name) ready.seen
 
-pub record Calls {T : Type 0} (slot : Slot T) (pass : Pass) (slot' : Slot T) (pass' : Pass) (Does : Pass → Type 0) : Type 0 where
+pub record CallsWith {T : Type 0} (slot : Slot T) (pass : Pass) (slot' : Slot T) (pass' : Pass) (Does : Pass → Type 0) : Type 0 where
   pub same : (slot'.number ≡ slot.number) × (slot'.seen.name ≡ slot.seen.name)
   pub ready : Pass
   pub prepares : Prepares slot pass ready
@@ -89,23 +123,23 @@ pub record Calls {T : Type 0} (slot : Slot T) (pass : Pass) (slot' : Slot T) (pa
 
 abbrev pub SlotEnters : {T : Type 0} → Slot T → Pass → Activation → Slot T → Pass → Type 0
 SlotEnters slot pass a slot' pass' =
-    Calls slot pass slot' pass' (λ p. AddsDeed slot.key p slot'.key pass' (beginning p a.life (Enter (its_number slot))))
+    CallsWith slot pass slot' pass' (λ p. AddsDeed slot.key p slot'.key pass' (beginning p a.life (Enter (its_number slot))))
 
 abbrev pub SlotRetires : {T : Type 0} → Slot T → Pass → Loose → ℕ → Had → Slot T → Pass → Had → Bool → Type 0
 SlotRetires slot pass loose kept had slot' pass' had' retired =
-    Calls slot pass slot' pass' (λ p.
+    CallsWith slot pass slot' pass' (λ p.
     RetiresOne slot.key p (its_value loose) kept (keys_in slot.batch) had slot'.key pass' (keys_in slot'.batch) had' retired)
 
 abbrev pub SlotFlushes : {T : Type 0} → Slot T → Pass → Had → Slot T → Pass → Had → Bool → Type 0
 SlotFlushes slot pass had slot' pass' had' retired =
-    Calls slot pass slot' pass' (λ p. Flushes slot.key p (keys_in slot.batch) had slot'.key pass' (keys_in slot'.batch) had' retired)
+    CallsWith slot pass slot' pass' (λ p. Flushes slot.key p (keys_in slot.batch) had slot'.key pass' (keys_in slot'.batch) had' retired)
 
 abbrev pub SlotLeaves : {T : Type 0} → Slot T → Pass → Had → Slot T → Pass → Had → Type 0
 SlotLeaves slot pass had slot' pass' had' =
-    Calls slot pass slot' pass' (λ p. let swap = private p (SwapOut (slot_number slot.key)) in
+    CallsWith slot pass slot' pass' (λ p. let swap = private p (SwapOut (slot_number slot.key)) in
     Leaves Leave false swap slot.key p (keys_in slot.batch) had slot'.key pass' (keys_in slot'.batch) had')
 
 abbrev pub SlotRefreshes : {T : Type 0} → Slot T → Pass → Activation → Had → Slot T → Pass → Had → Type 0
 SlotRefreshes slot pass a had slot' pass' had' =
-    Calls slot pass slot' pass' (λ p. let swap = beginning p a.life (SwapOut (slot_number slot.key)) in
+    CallsWith slot pass slot' pass' (λ p. let swap = beginning p a.life (SwapOut (slot_number slot.key)) in
     Leaves Refresh true swap slot.key p (keys_in slot.batch) had slot'.key pass' (keys_in slot'.batch) had')

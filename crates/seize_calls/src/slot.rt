@@ -1,6 +1,6 @@
 //! A slot as its holder has it, in one value, and its calls. They are those of `calls`, with all that belongs to the slot; a pass that is
 //! lent anew for each call learns first what the ones before it saw.
-ghost use Rattle.std.specs.Prelude.{◌≡◌, IfErr, IfOk};
+ghost use Rattle.std.specs.Prelude.{◌≡◌, IfErr, IfNone, IfOk, IfSome, false};
 ghost use Rattle.seize_book.specs.Blocks.{block_number};
 ghost use Rattle.seize_book.specs.Others.{AreNumbersOf, value_of};
 ghost use Rattle.seize_words.specs.Joined.{words_book};
@@ -9,11 +9,12 @@ ghost use Rattle.seize_calls.specs.Together.{BelongTogether};
 use crate::batch::Batch;
 use crate::calls;
 use crate::handing::Reclaim;
-use seize_store::Spots;
+use seize_store::{Bare, Spots};
 use seize_table::Refusal;
 use seize_words::activation::Activation;
 use seize_words::book::{NumbersKey, Pass, Seen, SlotKey, ValueKey};
 use seize_words::chunk::{Header, Part};
+use seize_words::link::MaybeKey;
 use seize_words::slots::NextSlot;
 use seize_words::words::Words;
 use std::alloc::Global;
@@ -23,11 +24,31 @@ use std::sync::Wait;
 ///
 /// It has no `Drop`, so it can't be lost by oversight: it is retired, or goes on.
 pub struct Loose {
-    /// The number of its block.
-    pub number: u64,
-    /// The right to retire it.
-    pub value: ValueKey,
+    pub(crate) number: u64,
+    pub(crate) value: ValueKey,
     ghost its: { block_number (value_of value) ≡ number },
+}
+
+impl Loose {
+    ghost use Rattle.seize_book.specs.Blocks.{link_word};
+    ghost use Rattle.seize_words.specs.LinkWords.{IsLoose, value_held};
+    ghost use Rattle.seize_calls.specs.Slots.{IsLooseIn};
+
+    /// What came out of a link, whose word was this; nothing where that was 0.
+    pub fn of(word: u64, key: MaybeKey) -> Option<Loose>
+        requires word { word ≡ link_word (value_held key) }
+        requires loose { IsLoose key }
+        ensures some { IfSome result (λ loose. IsLooseIn key loose) }
+        ensures none { IfNone result (word ≡ 0) }
+    {
+        if word == 0 {
+            return None;
+        }
+        Some(Loose {
+            number: word - 1,
+            value: key.value(),
+        })
+    }
 }
 
 /// What the holder of a slot has: the right to its calls, its batch, and chunks of blocks that are gone, for its next ones. No call of the
@@ -45,12 +66,13 @@ pub struct Slot<T> {
 }
 
 impl<T: Drop> Slot<T> {
+    ghost use Rattle.seize_book.specs.Slots.{active_of};
     ghost use Rattle.seize_table.specs.declared.refusal.Refusal.TheVariants.{NoMemory};
     ghost use Rattle.seize_words.specs.Reservations.{IsOfSlot};
     ghost use Rattle.seize_words.specs.Reserved.{HasNextSlot, IsSameNext};
     ghost use Rattle.seize_words.specs.Totals.{};
-    ghost use Rattle.seize_calls.specs.Calls.{HasBegun};
-    ghost use Rattle.seize_calls.specs.Slots.{MakesOneSlot, Prepares, its_book, its_key};
+    ghost use Rattle.seize_words.specs.Chunks.{IsBlockIn};
+    ghost use Rattle.seize_calls.specs.Slots.{KeepsCalls, MakesOneSlot, Prepares, its_book, its_key, its_seen};
     ghost use Rattle.seize_calls.specs.Slots.{HasActivation, IsActive, IsLooseOf, IsPassFor, IsSlotOf, KeepsActivation, MayEnterWith, its_number};
     ghost use Rattle.seize_calls.specs.Slots.{SlotEnters, SlotFlushes, SlotLeaves, SlotRefreshes, SlotRetires};
 
@@ -59,8 +81,8 @@ impl<T: Drop> Slot<T> {
     ///
     /// # Errors
     ///
-    /// `NoMemory` where either was refused. Then nothing was changed but that a bucket may have been made, and the slot that comes next is
-    /// given back.
+    /// `NoMemory` where either was refused, or the slot's entry of the table was filled already, which no call leads to. Then nothing was
+    /// changed but that a bucket may have been made, and the slot that comes next is given back.
     pub fn make(
         words: &Words<T>,
         alloc: Global,
@@ -72,6 +94,7 @@ impl<T: Drop> Slot<T> {
         requires next { HasNextSlot numbers.old next }
         ensures of { IfOk result (λ made. IsSlotOf words.now made.0) }
         ensures made { IfOk result (λ made. MakesOneSlot numbers.old next pass.old numbers.new made.0 made.1 pass.new) }
+        ensures outside { IfOk result (λ made. active_of (its_key made.0) ≡ false) }
         ensures refused { IfErr result (λ e. (e.0 ≡ NoMemory) × IsSameNext next e.1) }
         ensures unchanged { IfErr result (λ e. (numbers.new ≡ numbers.old) × (pass.new ≡ pass.old)) }
     {
@@ -107,6 +130,33 @@ impl<T: Drop> Slot<T> {
         Activation::new(&self.key)
     }
 
+    /// What its passes have seen, by which another pass learns that its activation began (`Pass::learn`).
+    pub fn seen(&self) -> Seen
+        ensures { (result.name ≡ its_book self.now) × (result.seen ≡ its_seen self.now) }
+    {
+        self.seen.again()
+    }
+
+    /// A block with this value, and the key of it, which was never named. It is made of a block that is gone, where the slot has one; then
+    /// it takes no atomic step and no memory. The slot is as it was, but for that block, and the pass as it was.
+    ///
+    /// # Errors
+    ///
+    /// `NoMemory` where a growth of the store was refused; the value comes back.
+    pub fn add(
+        &mut self,
+        words: &Words<T>,
+        value: T,
+        pass: &mut Pass,
+    ) -> Result<(ValueKey, Bare<Header, Part, T>), (Refusal, T)>
+        requires of { IsSlotOf words.now self.old × IsPassFor words.now pass.old }
+        ensures same { KeepsCalls self.old self.new × (pass.new ≡ pass.old) }
+        ensures made { IfOk result (λ made. IsBlockIn words.now.blocks value made.0 made.1) }
+        ensures refused { IfErr result (λ refused. (refused.0 ≡ NoMemory) × (refused.1 ≡ value)) }
+    {
+        words.blocks.add_from(&mut self.spots, value, pass)
+    }
+
     /// The pass learns what the slot has seen, such as that its activation began. No event is made with it.
     pub fn teach(&self, pass: &mut Pass)
         requires { pass.old.name ≡ its_book self.now }
@@ -122,7 +172,7 @@ impl<T: Drop> Slot<T> {
         requires of { IsSlotOf words.now self.old × IsPassFor words.now pass.old }
         requires outside { MayEnterWith self.old activation.old }
         ensures of { IsSlotOf words.now self.new }
-        ensures activation { HasActivation self.new activation.new × HasBegun activation.new pass.new }
+        ensures activation { HasActivation self.new activation.new }
         ensures enters { SlotEnters self.old pass.old activation.new self.new pass.new }
     {
         pass.learn(&self.seen);
@@ -130,8 +180,8 @@ impl<T: Drop> Slot<T> {
         self.seen.learn(pass);
     }
 
-    /// Retires the value: it comes last in the slot's batch, and the word is kept of it. Where the batch has as many values as the batch
-    /// size says, it is attempted. It says whether the batch was retired.
+    /// Retires the value: it comes last in the slot's batch, and `kept` is kept of it. Where the batch has as many values as the batch size
+    /// says, it is attempted. It says whether the batch was retired.
     ///
     /// It takes no memory, but for what the reclaimer does, and ends where reclaimers come to put no more. An insertion is tried again as
     /// often as others change the head between a look at it and the try.
@@ -258,7 +308,7 @@ impl<T: Drop> Slot<T> {
         requires inside { HasActivation self.old activation.old }
         requires serves { R.serves reclaimer.old (words_book words.now) }
         ensures of { IsSlotOf words.now self.new }
-        ensures inside { HasActivation self.new activation.new × HasBegun activation.new pass.new }
+        ensures inside { HasActivation self.new activation.new }
         ensures serves { R.serves reclaimer.new (words_book words.now) }
         ensures refreshes { let had = R.had reclaimer.old in
             SlotRefreshes self.old pass.old activation.new had self.new pass.new (R.had reclaimer.new) }
