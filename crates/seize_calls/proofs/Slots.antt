@@ -28,12 +28,13 @@ use Rattle.seize_words.specs.Walks.{Knows}
 use Rattle.seize_words.specs.declared.activation.Activation.{Activation}
 use Rattle.seize_words.specs.declared.chunk.Header.{Header}
 use Rattle.seize_words.specs.declared.chunk.Part.{Part}
+use Rattle.seize_words.specs.declared.words.Words.{Words}
 use Rattle.seize_book.proofs.Facts.{same_twice}
 use Rattle.seize_words.proofs.Facts.{all_told_later, knows_noted, more_slots, moved, seen_grows}
 use Rattle.seize_calls.specs.Batches.{keys_in}
 use Rattle.seize_calls.specs.Calls.{HasBegun, Rests}
 use Rattle.seize_calls.specs.Settling.{HasBatch}
-use Rattle.seize_calls.specs.Slots.{HasActivation, InActivation, KeepsActivation, Prepares}
+use Rattle.seize_calls.specs.Slots.{HasActivation, InActivation, IsSlotOf, KeepsActivation, KeepsCalls, Prepares}
 use Rattle.seize_calls.specs.Together.{BelongTogether, what_saw}
 use Rattle.seize_calls.specs.declared.batch.Batch.{Batch}
 use Rattle.seize_calls.specs.declared.slot.Slot.{Slot}
@@ -225,3 +226,18 @@ begins_in slot' a is own = let of_slot = is.of_slot in (
   },
   of_slot.2,
 )
+
+-- A slot of which nothing but its spots has changed.
+pub slot_same : {T : Type 0} (words : Words T) (slot slot' : Slot T) → KeepsCalls slot slot' → IsSlotOf words slot → IsSlotOf words slot'
+slot_same words slot slot' keeps is = record {
+  book = ap (λ (z : Seen). z.name) keeps.3 ∙ is.book;
+  knows = subst (λ (t : SlotKey × Seen). Knows t.0 (what_saw t.1)) (λ j. (sym keeps.1 j, sym keeps.3 j)) is.knows;
+  told = subst (λ (t : Batch × Seen). AreTold (keys_in t.0) (what_saw t.1)) (λ j. (sym keeps.2 j, sym keeps.3 j)) is.told;
+}
+
+pub active_same : {T : Type 0} (slot slot' : Slot T) (a : Activation) → KeepsCalls slot slot' → InActivation slot a → InActivation slot' a
+active_same slot slot' a keeps is = record {
+  active = subst (λ (k : SlotKey). active_of k ≡ true) (sym keeps.1) is.active;
+  its = subst (λ (k : SlotKey). (a.name ≡ k.keys.name) × (a.slot ≡ slot_number k) × (a.life ≡ life_of k)) (sym keeps.1) is.its;
+  begun = subst (λ (z : Seen). HasBegun a (what_saw z)) (sym keeps.3) is.begun;
+}

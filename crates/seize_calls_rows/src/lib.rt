@@ -12,4 +12,5 @@ pub mod seat;
 mod tests;
 pub mod turns;
 pub mod visiting;
+pub mod visitor;
 pub mod worker;

@@ -10,6 +10,7 @@ use crate::counting::Counting;
 use crate::putting::{Putting, make};
 use crate::running::Tally;
 use crate::turns::{reclaim_all, shut_turns};
+use crate::visitor::Visitor;
 use crate::worker::{LINKS, Worker, open};
 use seize_words::words::Words;
 use std::alloc::{AllocError, Global};
@@ -40,6 +41,31 @@ fn told(marks: &[AtomicU64]) -> (u64, u64) {
         more = more.wrapping_add(u64::from(ends > 1));
     }
     (none, more)
+}
+
+// A slot as one value visits, with a pass lent anew for each of its calls. Its third visit fills a batch of two, which waits for the slot
+// itself, so the slot hands both values when it leaves.
+#[test]
+fn a_slot_as_one_value_visits(rt: HostRuntime) {
+    let Ok(marks) = marks(rt.alloc(), 10) else {
+        panic!(rt; "no memory");
+    };
+    let Ok((words, mut porter, numbers, next)) = Words::new(rt.alloc(), 0, 4, 2) else {
+        panic!(rt; "no memory");
+    };
+    porter.leave_home();
+    let Some(mut visitor) = Visitor::new(&words, &porter, rt.alloc(), next, numbers) else {
+        panic!(rt; "no memory");
+    };
+    let mut counting = Counting::new(marks.as_slice());
+    for value in 5..7 {
+        let found = visitor.visit(&words, &porter, 3, value, &mut counting, &rt);
+        assert_eq!(rt; found, Some(value));
+        assert_eq!(rt; counting.count, 0);
+    }
+    let found = visitor.visit(&words, &porter, 3, 7, &mut counting, &rt);
+    assert_eq!(rt; found, Some(7));
+    assert_eq!(rt; (counting.count, counting.sum), (2, 11));
 }
 
 // A batch of two is full while its slot is active: both values wait for the slot, and it hands them when it leaves, in their order. Their

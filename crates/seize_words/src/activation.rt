@@ -15,8 +15,8 @@ use std::marker::{Model, PhantomData};
 /// One activation of a slot after the other: the slot enters, refreshes and leaves with it. While it is borrowed, the slot does neither.
 ///
 /// It consists of 2^64 units, and callers who read beside one another can each have one (`split`): a unit is an `Activation` too, with
-/// which links are read. The slot refreshes and leaves with all units only. Where a unit is dropped or forgotten, its slot can't leave any
-/// more: it stays active for good, and what waits for it is never reclaimed.
+/// which links are read. The slot refreshes and leaves with all units only. Where a unit of an active slot is dropped or forgotten, the
+/// slot can't leave any more: it stays active for good, and what waits for it is never reclaimed.
 #[derive(Drop)]
 pub struct Activation {
     marker: PhantomData<()>,

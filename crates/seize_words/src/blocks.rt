@@ -12,7 +12,7 @@ use seize_store::{Bare, Hollow, Owned, Spots, Store};
 use seize_table::Refusal;
 use std::alloc::{AllocError, Global};
 
-/// A book, with the store where its blocks lie. Threads share it by `&`.
+/// The blocks of a book, in the store where they lie. Threads share them by `&`.
 #[derive(Drop)]
 pub struct Blocks<T> {
     store: Store<Header, Part, T>,

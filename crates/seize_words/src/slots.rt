@@ -53,7 +53,7 @@ impl Reservation {
     }
 }
 
-/// A book with the table where its heads lie, and the word that says how many slots there are. Threads share it by `&`.
+/// The slots of a book: the table where their heads lie, and the word that says how many there are. Threads share them by `&`.
 ///
 /// The head of each slot that there is lies in the table, in the entry with the slot's number.
 #[derive(Drop)]

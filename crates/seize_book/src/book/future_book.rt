@@ -1,4 +1,4 @@
-//! Books that have not begun: what a book is known by before it has a list. `seen` begins one of it.
+//! Books that have not begun: what a book is known by before it has a list, which `open` begins.
 ghost use Rattle.std.specs.Prelude.{◌≡◌, ℕ};
 ghost use Rattle.seize_book.specs.Tokens.{free_family};
 

@@ -44,14 +44,14 @@ impl<'p> Pass<'p> {
         ensures { Meets self.old other.old self.new other.new }
     {}
 
-    /// The pass learns what the book has seen: afterwards it has seen the longer of the two beginnings. So a caller who shares a book by
-    /// `&` tells others what it has seen, such as that an activation began. No event is made with the pass.
+    /// The pass learns what a [`Seen`] has seen: afterwards it has seen the longer of the two beginnings. So a caller who shares a `Seen`
+    /// by `&` tells others what it has seen, such as that an activation began. No event is made with the pass.
     pub fn learn(&mut self, book: &Seen)
         requires { book.now.name ≡ self.old.name }
         ensures { Learns self.old book.now self.new }
     {}
 
-    /// A book of the pass's family is its book. It does nothing: its contract is the law.
+    /// A [`Seen`] of the pass's family is of its book. It does nothing: its contract is the law.
     pub fn agree(&mut self, book: &Seen)
         requires { book.now.name.family ≡ self.old.name.family }
         ensures { (self.new ≡ self.old) × (book.now.name ≡ self.new.name) }

@@ -89,8 +89,8 @@ impl Porter {
         ensures { ComesHome self.old self.new }
     {}
 
-    /// At home the porter has the whole list: it has seen what the book has. So what a thread keeps in a [`Seen`] of what its pass saw is
-    /// known here. It does nothing: its contract is the law.
+    /// At home the porter has the whole list: it has seen what each [`Seen`] of it has. So what a thread keeps in one of what its pass saw
+    /// is known here. It does nothing: its contract is the law.
     pub fn covers(&mut self, book: &Seen)
         requires { (self.old.home ≡ true) × (book.now.name ≡ self.old.name) }
         ensures { (self.new ≡ self.old) × IsPrefix book.now.seen self.new.seen }

@@ -1,4 +1,4 @@
-//! Books: how one begins, and the keys that are made of it later. It uses the passes and keys beside it.
+//! What shows that there is a book, and a beginning of its list that was seen; how a book begins, and keys that are made of it later.
 ghost use Rattle.std.specs.Prelude.{◌≡◌, ℕ, List, []};
 ghost use base.Stored.{coded_list};
 ghost use denote.Sharing.{said};
@@ -82,7 +82,7 @@ impl Seen {
         }
     }
 
-    /// Two books of one family are one. It does nothing: its contract is the law.
+    /// Two of one family are of one book. It does nothing: its contract is the law.
     pub fn agree(&self, other: &Seen)
         requires { self.now.name.family ≡ other.now.name.family }
         ensures { self.now.name ≡ other.now.name }

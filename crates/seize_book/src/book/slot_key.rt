@@ -84,8 +84,7 @@ impl SlotKey {
     }
 
     /// The event `Begin` of the retirement of a value, which came out of a link, or was never named. In the second case something is lent
-    /// with it. Its key knows then that no call may begin to retire it, and that all others that
-    /// lay in its block were reclaimed.
+    /// with it. Its key knows then that no call may begin to retire it, and that all others that lay in its block were reclaimed.
     ///
     /// The list says from then on that this word is kept of it, by which its reclaimer is found. It says so and no more: who adds the
     /// value's key to a count has to have noted the same word of its block before (`Count::add`).
