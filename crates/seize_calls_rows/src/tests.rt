@@ -58,13 +58,11 @@ fn a_slot_as_one_value_visits(rt: HostRuntime) {
         panic!(rt; "no memory");
     };
     let mut counting = Counting::new(marks.as_slice());
-    for value in 5..7 {
-        let found = visitor.visit(&words, &porter, 3, value, &mut counting, &rt);
-        assert_eq!(rt; found, Some(value));
-        assert_eq!(rt; counting.count, 0);
-    }
-    let found = visitor.visit(&words, &porter, 3, 7, &mut counting, &rt);
-    assert_eq!(rt; found, Some(7));
+    let first = visitor.visit(&words, &porter, 3, 5, &mut counting, &rt);
+    let second = visitor.visit(&words, &porter, 3, 6, &mut counting, &rt);
+    assert_eq!(rt; (first, second, counting.count), (Some(5), Some(6), 0));
+    let third = visitor.visit(&words, &porter, 3, 7, &mut counting, &rt);
+    assert_eq!(rt; third, Some(7));
     assert_eq!(rt; (counting.count, counting.sum), (2, 11));
 }
 
