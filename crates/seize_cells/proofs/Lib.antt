@@ -1,0 +1,3 @@
+pub mod OneThread
+pub mod Latches
+pub mod Sends
