@@ -1,7 +1,7 @@
 //! The reclaimer of the works: it ends each value.
+use crate::record::Record;
 use seize_calls::further::Further;
 use seize_calls::handing::Reclaim;
-use seize_calls_rows::counting::Record;
 use seize_words::blocks::Blocks;
 
 /// Ends each value, and puts none.

@@ -7,8 +7,10 @@ mod blocks;
 mod clock;
 mod dropping;
 mod lookups;
+mod record;
 mod slots;
 mod team;
+mod visitor;
 mod words;
 mod work;
 

@@ -1,17 +1,18 @@
 //! Works that threads do by slots of their own, over links that they share: they read, put values of new blocks in, and retire what came
 //! out, or what was never in a link.
 ghost use Rattle.std.specs.Prelude.{◌≡◌, ◌<◌, IfOk, IfSome};
-ghost use Rattle.seize_calls_rows.specs.Workers.{AreSpotsOf, CanMake, IsOut, Lends, MayAct, MayWork, made_by};
+ghost use Rattle.seize_words.specs.Named.{numbers_book};
+ghost use Rattle.seize_words.specs.Reserved.{HasNextSlot};
+ghost use Rattle.seize_words.specs.Totals.{made_of};
 ghost use Rattle.seize_words.specs.Joined.{words_book};
+ghost use Rattle.seize_bench.specs.Visits.{MayVisit};
 
 use crate::clock::{RUNS, Samples, Span};
 use crate::dropping::Dropping;
 use crate::team::Team;
-use seize_calls_rows::worker::{Active, Lender, Out, ROW, Source, Worker, open};
-use seize_store::Spots;
-use seize_words::book::Pass;
-use seize_words::chunk::{Header, Part};
-use seize_words::words::Words;
+use crate::visitor::{Hall, ROW, Visitor};
+use seize_words::book::NumbersKey;
+use seize_words::slots::NextSlot;
 use std::alloc::Global;
 use std::io::ErrorKind;
 use std::rt::Clock;
@@ -75,221 +76,147 @@ impl Job {
     }
 }
 
-// The holders of two slots.
+// Two visitors.
 #[derive(Drop)]
-struct Two<'p> {
-    a: Worker<'p>,
-    b: Worker<'p>,
+struct Two {
+    a: Visitor,
+    b: Visitor,
 }
 
-// The value of a new block, which is lent and was never in a link. Nothing comes where a growth of the store was refused.
-fn new_value(
-    words: &Words<u64>,
-    spots: &mut Spots<Header, Part, u64>,
-    value: u64,
-    pass: &mut Pass,
-) -> Option<Out>
-    requires book { words_book words.now ≡ pass.old.name }
-    requires spots { AreSpotsOf words.now spots.old }
-    ensures pass { pass.new ≡ pass.old }
-    ensures spots { AreSpotsOf words.now spots.new }
-    ensures out { IfSome result (λ out. IsOut words.now out) }
-{
-    let Ok((mut key, block)) = words.blocks.add_from(spots, value, pass) else {
-        return None;
-    };
-    let number = block.number() as u64;
-    words.blocks.lend(&mut key, block);
-    Some(Out { number, value: key })
-}
-
-// Retires the value of a new block.
-fn retire_new<'p>(
-    active: Active<'p>,
-    words: &Words<u64>,
-    value: u64,
-    dropping: &mut Dropping,
-    rt: &impl Wait,
-) -> Option<Active<'p>>
-    requires stands { MayAct words.now active }
-    ensures stands { IfSome result (λ active. MayAct words.now active) }
-{
-    let Active {
-        slot,
-        size,
-        key,
-        batch,
-        mut spots,
-        mut pass,
-        activation,
-    } = active;
-    let out = new_value(words, &mut spots, value, &mut pass)?;
-    let active = Active {
-        slot,
-        size,
-        key,
-        batch,
-        spots,
-        pass,
-        activation,
-    };
-    Some(active.retire(words, out, 0, dropping, rt).0)
-}
-
-// Puts the value of a new block into the link, and retires what was there.
-fn update<'p>(
-    active: Active<'p>,
-    words: &Words<u64>,
-    link: usize,
-    value: u64,
-    dropping: &mut Dropping,
-    rt: &impl Wait,
-) -> Option<Active<'p>>
-    requires stands { MayAct words.now active }
-    requires link { link < 1024 }
-    ensures stands { IfSome result (λ active. MayAct words.now active) }
-{
-    let (active, swapped) = active.swap_in(words, link, value);
-    match swapped? {
-        Some(out) => Some(active.retire(words, out, 0, dropping, rt).0),
-        None => Some(active),
-    }
-}
-
-// Does so, or reads the link. It gives what it read.
-fn update_or_read<'p>(
-    active: Active<'p>,
-    words: &Words<u64>,
-    link: usize,
-    value: u64,
-    updates: bool,
-    dropping: &mut Dropping,
-    rt: &impl Wait,
-) -> Option<(Active<'p>, u64)>
-    requires stands { MayAct words.now active }
-    requires link { link < 1024 }
-    ensures stands { IfSome result (λ done. MayAct words.now done.0) }
-{
-    if updates {
-        let active = update(active, words, link, value, dropping, rt)?;
-        return Some((active, 0));
-    }
-    let (active, found) = active.find(words, link);
-    Some((active, found.unwrap_or(0)))
-}
-
-// Enters, retires so many values of new blocks, and leaves.
-fn retire_many<'p>(
-    worker: Worker<'p>,
-    words: &Words<u64>,
-    many: u64,
-    dropping: &mut Dropping,
-    rt: &impl Wait,
-) -> Option<Worker<'p>>
-    requires may { MayWork words.now worker }
-    ensures may { IfSome result (λ worker. MayWork words.now worker) }
-{
-    let mut active = worker.enter(words);
-    for value in 0..many {
-        active = retire_new(active, words, value, dropping, rt)?;
-    }
-    Some(active.leave(words, dropping, rt))
-}
-
-// Enters, puts a value into each link, and leaves.
-fn fill<'p>(worker: Worker<'p>, words: &Words<u64>, rt: &impl Wait) -> Option<Worker<'p>>
-    requires may { MayWork words.now worker }
-    ensures may { IfSome result (λ worker. MayWork words.now worker) }
-{
-    let mut dropping = Dropping::new();
-    let mut active = worker.enter(words);
-    for link in 0..ROW {
-        active = update(active, words, link, link as u64, &mut dropping, rt)?;
-    }
-    Some(active.leave(words, &mut dropping, rt))
-}
-
-// One turn after the other. It gives the sum of the values read too.
-fn turns<'p>(
-    worker: Worker<'p>,
-    words: &Words<u64>,
-    job: Job,
-    rt: &impl Wait,
-) -> Option<(Worker<'p>, u64)>
-    requires may { MayWork words.now worker }
-    ensures may { IfSome result (λ done. MayWork words.now done.0) }
-{
-    let mut dropping = Dropping::new();
-    let mut at = job.step.wrapping_mul(worker.slot as u64);
-    let mut due: u64 = 0;
-    let mut sum: u64 = 0;
-    let mut worker = worker;
-    for turn in 0..job.turns {
-        if job.retired != 0 {
-            worker = retire_many(worker, words, job.retired, &mut dropping, rt)?;
-            continue;
+impl Visitor {
+    // Enters, puts a value into each link, and leaves.
+    fn fill(&mut self, hall: &Hall, rt: &impl Wait) -> Option<()>
+        requires outside { MayVisit hall.now.words self.old }
+        ensures outside { IfSome result (λ _. MayVisit hall.now.words self.new) }
+    {
+        let mut dropping = Dropping::new();
+        self.enter(hall);
+        for link in 0..ROW {
+            self.update(hall, link, link as u64, &mut dropping, rt)?;
         }
-        at = at.wrapping_add(job.step);
-        due = due.wrapping_add(job.updates);
-        let link = (at % ROW as u64) as usize;
-        let updates = due >= 100;
-        if updates {
-            due = due.wrapping_sub(100);
-        }
-        let active = worker.enter(words);
-        let (active, read) = update_or_read(active, words, link, turn, updates, &mut dropping, rt)?;
-        sum = sum.wrapping_add(read);
-        worker = active.leave(words, &mut dropping, rt);
+        self.leave(hall, &mut dropping, rt);
+        Some(())
     }
-    Some((worker, sum))
+
+    // Enters, retires so many values of new blocks, and leaves.
+    fn retire_many(
+        &mut self,
+        hall: &Hall,
+        many: u64,
+        dropping: &mut Dropping,
+        rt: &impl Wait,
+    ) -> Option<()>
+        requires outside { MayVisit hall.now.words self.old }
+        ensures outside { IfSome result (λ _. MayVisit hall.now.words self.new) }
+    {
+        self.enter(hall);
+        for value in 0..many {
+            self.retire_new(hall, value, dropping, rt)?;
+        }
+        self.leave(hall, dropping, rt);
+        Some(())
+    }
+
+    // Enters, puts the value of a new block into the link and retires what was there, or reads the link, and leaves. It gives what it read.
+    fn turn(
+        &mut self,
+        hall: &Hall,
+        link: usize,
+        value: u64,
+        updates: bool,
+        dropping: &mut Dropping,
+        rt: &impl Wait,
+    ) -> Option<u64>
+        requires outside { MayVisit hall.now.words self.old }
+        requires link { link < 1024 }
+        ensures outside { IfSome result (λ _. MayVisit hall.now.words self.new) }
+    {
+        self.enter(hall);
+        let read = if updates {
+            self.update(hall, link, value, dropping, rt)?;
+            0
+        } else {
+            self.find(hall, link)
+        };
+        self.leave(hall, dropping, rt);
+        Some(read)
+    }
+
+    // One turn after the other. It gives the sum of the values read too. Nothing comes where memory was refused.
+    fn turns(self, hall: &Hall, job: Job, rt: &impl Wait) -> Option<(Visitor, u64)>
+        requires outside { MayVisit hall.now.words self }
+        ensures outside { IfSome result (λ done. MayVisit hall.now.words done.0) }
+    {
+        let mut visitor = self;
+        let mut dropping = Dropping::new();
+        let mut at = job.step.wrapping_mul(visitor.slot.number() as u64);
+        let mut due: u64 = 0;
+        let mut sum: u64 = 0;
+        for turn in 0..job.turns {
+            if job.retired != 0 {
+                visitor.retire_many(hall, job.retired, &mut dropping, rt)?;
+                continue;
+            }
+            at = at.wrapping_add(job.step);
+            due = due.wrapping_add(job.updates);
+            let link = (at % ROW as u64) as usize;
+            let updates = due >= 100;
+            if updates {
+                due = due.wrapping_sub(100);
+            }
+            let read = visitor.turn(hall, link, turn, updates, &mut dropping, rt)?;
+            sum = sum.wrapping_add(read);
+        }
+        Some((visitor, sum))
+    }
 }
 
 // A thread's part of a run, with its slot.
-fn alone<'p, R: Clock + CpuClock + Wait>(
+fn alone<R: Clock + CpuClock + Wait>(
     rt: &R,
     team: &Team,
-    words: &Words<u64>,
-    worker: Worker<'p>,
+    hall: &Hall,
+    visitor: Visitor,
     job: Job,
-) -> io::Result<(Span, Worker<'p>, u64)>
-    requires may { MayWork words.now worker }
-    ensures may { IfOk result (λ done. MayWork words.now done.1) }
+) -> io::Result<(Span, Visitor, u64)>
+    requires outside { MayVisit hall.now.words visitor }
+    ensures outside { IfOk result (λ done. MayVisit hall.now.words done.1) }
 {
     let (span, done) = team.timed(
         rt,
-        move || -> Option<(Worker, u64)>
-            requires { MayWork words.now worker }
-            ensures { IfSome result (λ done. MayWork words.entry.now done.0) }
-        { turns(worker, words, job, rt) },
+        move || -> Option<(Visitor, u64)>
+            requires { MayVisit hall.now.words visitor }
+            ensures { IfSome result (λ done. MayVisit hall.entry.now.words done.0) }
+        { visitor.turns(hall, job, rt) },
     )?;
     match done {
-        Some((worker, sum)) => Ok((span, worker, sum)),
+        Some((visitor, sum)) => Ok((span, visitor, sum)),
         None => Err(ErrorKind::OutOfMemory.into()),
     }
 }
 
 // Two threads' parts.
-fn pair<'p, R: Clock + CpuClock + Threads + Wait + Sync>(
+fn pair<R: Clock + CpuClock + Threads + Wait + Sync>(
     rt: &R,
     team: &Team,
-    words: &Words<u64>,
-    two: Two<'p>,
+    hall: &Hall,
+    two: Two,
     job: Job,
-) -> io::Result<(Span, Two<'p>, u64)>
-    requires may { MayWork words.now two.a × MayWork words.now two.b }
-    ensures may { IfOk result (λ done. MayWork words.now done.1.a × MayWork words.now done.1.b) }
+) -> io::Result<(Span, Two, u64)>
+    requires outside { MayVisit hall.now.words two.a × MayVisit hall.now.words two.b }
+    ensures outside { IfOk result (λ done. MayVisit hall.now.words done.1.a × MayVisit hall.now.words done.1.b) }
 {
     let Two { a, b } = two;
     let (one, two) = thread::join(
         rt,
-        move || -> io::Result<(Span, Worker, u64)>
-            requires { MayWork words.now a }
-            ensures { IfOk result (λ done. MayWork words.entry.now done.1) }
-        { alone(rt, team, words, a, job) },
-        move || -> io::Result<(Span, Worker, u64)>
-            requires { MayWork words.now b }
-            ensures { IfOk result (λ done. MayWork words.entry.now done.1) }
-        { alone(rt, team, words, b, job) },
+        move || -> io::Result<(Span, Visitor, u64)>
+            requires { MayVisit hall.now.words a }
+            ensures { IfOk result (λ done. MayVisit hall.entry.now.words done.1) }
+        { alone(rt, team, hall, a, job) },
+        move || -> io::Result<(Span, Visitor, u64)>
+            requires { MayVisit hall.now.words b }
+            ensures { IfOk result (λ done. MayVisit hall.entry.now.words done.1) }
+        { alone(rt, team, hall, b, job) },
     );
     let (span, a, sum) = one?;
     let (other, b, more) = two?;
@@ -297,37 +224,37 @@ fn pair<'p, R: Clock + CpuClock + Threads + Wait + Sync>(
 }
 
 // Runs of one thread.
-fn one_thread<'p, R: Clock + CpuClock + Wait>(
+fn one_thread<R: Clock + CpuClock + Wait>(
     rt: &R,
-    words: &Words<u64>,
-    worker: Worker<'p>,
+    hall: &Hall,
+    visitor: Visitor,
     job: Job,
     samples: &mut Samples,
 ) -> io::Result<()>
-    requires may { MayWork words.now worker }
+    requires outside { MayVisit hall.now.words visitor }
 {
-    let mut worker = worker;
+    let mut visitor = visitor;
     for _ in 0..RUNS {
-        let (span, next, sum) = alone(rt, &Team::of(1), words, worker, job)?;
-        worker = next;
+        let (span, next, sum) = alone(rt, &Team::of(1), hall, visitor, job)?;
+        visitor = next;
         samples.add(span, 1, job.count(), sum)?;
     }
     Ok(())
 }
 
 // Runs of two threads.
-fn two_threads<'p, R: Clock + CpuClock + Threads + Wait + Sync>(
+fn two_threads<R: Clock + CpuClock + Threads + Wait + Sync>(
     rt: &R,
-    words: &Words<u64>,
-    two: Two<'p>,
+    hall: &Hall,
+    two: Two,
     job: Job,
     samples: &mut Samples,
 ) -> io::Result<()>
-    requires may { MayWork words.now two.a × MayWork words.now two.b }
+    requires outside { MayVisit hall.now.words two.a × MayVisit hall.now.words two.b }
 {
     let mut two = two;
     for _ in 0..RUNS {
-        let (span, next, sum) = pair(rt, &Team::of(2), words, two, job)?;
+        let (span, next, sum) = pair(rt, &Team::of(2), hall, two, job)?;
         two = next;
         samples.add(span, 2, job.count(), sum)?;
     }
@@ -335,29 +262,30 @@ fn two_threads<'p, R: Clock + CpuClock + Threads + Wait + Sync>(
 }
 
 // One run of four threads.
-fn four<'p, R: Clock + CpuClock + Threads + Wait + Sync>(
+fn four<R: Clock + CpuClock + Threads + Wait + Sync>(
     rt: &R,
-    words: &Words<u64>,
-    first: Two<'p>,
-    last: Two<'p>,
+    hall: &Hall,
+    first: Two,
+    last: Two,
     job: Job,
-) -> io::Result<(Span, Two<'p>, Two<'p>, u64)>
-    requires may { MayWork words.now first.a × MayWork words.now first.b × MayWork words.now last.a × MayWork words.now last.b }
-    ensures may { IfOk result (λ done. MayWork words.now done.1.a × MayWork words.now done.1.b
-        × MayWork words.now done.2.a × MayWork words.now done.2.b) }
+) -> io::Result<(Span, Two, Two, u64)>
+    requires first { MayVisit hall.now.words first.a × MayVisit hall.now.words first.b }
+    requires last { MayVisit hall.now.words last.a × MayVisit hall.now.words last.b }
+    ensures outside { IfOk result (λ done. MayVisit hall.now.words done.1.a × MayVisit hall.now.words done.1.b
+        × MayVisit hall.now.words done.2.a × MayVisit hall.now.words done.2.b) }
 {
     let team = Team::of(4);
     let team = &team;
     let (one, two) = thread::join(
         rt,
         move || -> io::Result<(Span, Two, u64)>
-            requires { MayWork words.now first.a × MayWork words.now first.b }
-            ensures { IfOk result (λ done. MayWork words.entry.now done.1.a × MayWork words.entry.now done.1.b) }
-        { pair(rt, team, words, first, job) },
+            requires { MayVisit hall.now.words first.a × MayVisit hall.now.words first.b }
+            ensures { IfOk result (λ done. MayVisit hall.entry.now.words done.1.a × MayVisit hall.entry.now.words done.1.b) }
+        { pair(rt, team, hall, first, job) },
         move || -> io::Result<(Span, Two, u64)>
-            requires { MayWork words.now last.a × MayWork words.now last.b }
-            ensures { IfOk result (λ done. MayWork words.entry.now done.1.a × MayWork words.entry.now done.1.b) }
-        { pair(rt, team, words, last, job) },
+            requires { MayVisit hall.now.words last.a × MayVisit hall.now.words last.b }
+            ensures { IfOk result (λ done. MayVisit hall.entry.now.words done.1.a × MayVisit hall.entry.now.words done.1.b) }
+        { pair(rt, team, hall, last, job) },
     );
     let (span, first, sum) = one?;
     let (other, last, more) = two?;
@@ -365,20 +293,21 @@ fn four<'p, R: Clock + CpuClock + Threads + Wait + Sync>(
 }
 
 // Runs of four threads.
-fn four_threads<'p, R: Clock + CpuClock + Threads + Wait + Sync>(
+fn four_threads<R: Clock + CpuClock + Threads + Wait + Sync>(
     rt: &R,
-    words: &Words<u64>,
-    first: Two<'p>,
-    last: Two<'p>,
+    hall: &Hall,
+    first: Two,
+    last: Two,
     job: Job,
     samples: &mut Samples,
 ) -> io::Result<()>
-    requires may { MayWork words.now first.a × MayWork words.now first.b × MayWork words.now last.a × MayWork words.now last.b }
+    requires first { MayVisit hall.now.words first.a × MayVisit hall.now.words first.b }
+    requires last { MayVisit hall.now.words last.a × MayVisit hall.now.words last.b }
 {
     let mut first = first;
     let mut last = last;
     for _ in 0..RUNS {
-        let (span, one, two, sum) = four(rt, words, first, last, job)?;
+        let (span, one, two, sum) = four(rt, hall, first, last, job)?;
         first = one;
         last = two;
         samples.add(span, 4, job.count(), sum)?;
@@ -394,38 +323,40 @@ pub(crate) fn measure<R: Clock + CpuClock + Threads + Wait + Sync>(
     job: Job,
     samples: &mut Samples,
 ) -> io::Result<()> {
-    let Some((words, lender, source)) = open(alloc, job.size) else {
+    let Some((hall, numbers, next)) = Hall::open(alloc, job.size) else {
         return Err(ErrorKind::OutOfMemory.into());
     };
-    run_all(rt, threads, &words, &lender, source, job, samples).unwrap_or_else(|| Err(
+    run_all(rt, threads, alloc, &hall, numbers, next, job, samples).unwrap_or_else(|| Err(
         ErrorKind::OutOfMemory.into(),
     ))
 }
 
-// The same over these words, with slots that are made for it. Nothing comes where memory was refused.
+// The same over this hall, with slots that are made for it. Nothing comes where memory was refused.
 fn run_all<R: Clock + CpuClock + Threads + Wait + Sync>(
     rt: &R,
     threads: u64,
-    words: &Words<u64>,
-    lender: &Lender,
-    source: Source,
+    alloc: Global,
+    hall: &Hall,
+    numbers: NumbersKey,
+    next: NextSlot,
     job: Job,
     samples: &mut Samples,
 ) -> Option<io::Result<()>>
-    requires can { CanMake source words.now × (made_by source ≡ 0) }
-    requires lender { Lends words.now lender.now }
+    requires next { (numbers_book numbers ≡ words_book hall.now.words) × HasNextSlot numbers next }
+    requires none { made_of numbers ≡ 0 }
 {
-    let (a, source) = source.make(words, lender)?;
-    let a = fill(a, words, rt)?;
+    let mut numbers = numbers;
+    let (mut a, next) = hall.visitor(alloc, next, &mut numbers)?;
+    a.fill(hall, rt)?;
     if threads < 2 {
-        return Some(one_thread(rt, words, a, job, samples));
+        return Some(one_thread(rt, hall, a, job, samples));
     }
-    let (b, source) = source.make(words, lender)?;
+    let (b, next) = hall.visitor(alloc, next, &mut numbers)?;
     if threads < 4 {
-        return Some(two_threads(rt, words, Two { a, b }, job, samples));
+        return Some(two_threads(rt, hall, Two { a, b }, job, samples));
     }
-    let (c, source) = source.make(words, lender)?;
-    let (d, _) = source.make(words, lender)?;
+    let (c, next) = hall.visitor(alloc, next, &mut numbers)?;
+    let (d, _) = hall.visitor(alloc, next, &mut numbers)?;
     let (first, last) = (Two { a, b }, Two { a: c, b: d });
-    Some(four_threads(rt, words, first, last, job, samples))
+    Some(four_threads(rt, hall, first, last, job, samples))
 }

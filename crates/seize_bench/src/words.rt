@@ -1,24 +1,23 @@
 //! Works that step on words: on a slot's own, or on links that all threads share. Of the book nothing is left in the program.
-ghost use Rattle.std.specs.Prelude.{◌≡◌, IfOk, IfSome, length};
-ghost use Rattle.seize_calls_rows.specs.Workers.{CanMake, HasLinks, Lends};
-ghost use Rattle.seize_words.specs.Joined.{words_book};
+ghost use Rattle.std.specs.Prelude.{◌≡◌, IfOk};
 ghost use Rattle.seize_words.specs.LinkWords.{IsLinkFor};
-ghost use Rattle.seize_words_rows.specs.Entrants.{HasBegun, MayRead};
-ghost use Rattle.seize_words_rows.specs.Leaves.{IsAtHead, IsOutside};
+ghost use Rattle.seize_calls.specs.Calls.{HasBegun};
+ghost use Rattle.seize_calls.specs.Slots.{IsPassFor};
+ghost use Rattle.seize_bench.specs.Visits.{MayShare, MayVisit, Visits};
 
 use crate::clock::Samples;
+use crate::dropping::Dropping;
 use crate::team::runs;
-use seize_calls_rows::worker::{Active, Lender, ROW, Source, Worker, open};
+use crate::visitor::{Hall, ROW, Visitor};
 use seize_words::activation::Activation;
-use seize_words::book::{Pass, Seen, SlotKey};
+use seize_words::book::{Pass, Seen};
 use seize_words::link::{Link, MaybeKey};
-use seize_words::reservation::Head;
 use seize_words::words::Words;
-use seize_words_rows::entrants::{Entered, enter_and_leave, leave, pass_for};
 use std::alloc::Global;
 use std::io;
 use std::io::ErrorKind;
 use std::rt::Clock;
+use std::sync::Wait;
 use std::thread::Threads;
 use std::time::CpuClock;
 
@@ -31,57 +30,58 @@ const SWAPPED: u64 = 200_000;
 /// How often the links are read in a run.
 const ROUNDS: u64 = 2_500;
 
-// A new book.
-fn begin(alloc: Global) -> io::Result<(Words<u64>, Lender, Source)>
-    ensures can { IfOk result (λ opened. CanMake opened.2 opened.0) }
-    ensures lender { IfOk result (λ opened. Lends opened.0 opened.1) }
+// A new book, and a visitor.
+fn begin(alloc: Global) -> io::Result<(Hall, Visitor)>
+    ensures { IfOk result (λ opened. MayVisit opened.0.words opened.1) }
 {
-    open(alloc, 32).ok_or(ErrorKind::OutOfMemory.into())
-}
-
-// An error tells that something waited at the head, which is alone in its book.
-fn each_entered(alloc: Global) -> io::Result<u64> {
-    let (words, lender, source) = begin(alloc)?;
-    let Some((worker, _)) = source.make(&words, &lender) else {
+    let Some((hall, mut numbers, next)) = Hall::open(alloc, 32) else {
         return Err(ErrorKind::OutOfMemory.into());
     };
-    let Worker {
-        slot,
-        mut key,
-        mut pass,
-        ..
-    } = worker;
-    let head = words.slots.head(slot, &mut pass);
+    match hall.visitor(alloc, next, &mut numbers) {
+        Some((visitor, _)) => Ok((hall, visitor)),
+        None => Err(ErrorKind::OutOfMemory.into()),
+    }
+}
+
+// A slot that is alone in its book.
+fn each_entered(alloc: Global, rt: &impl Wait) -> io::Result<u64> {
+    let (hall, mut visitor) = begin(alloc)?;
+    let mut dropping = Dropping::new();
     for _ in 0..ENTERED {
-        if !enter_and_leave(head, &mut key, &mut pass) {
-            return Err(ErrorKind::Other.into());
-        }
+        visitor.enter(&hall);
+        visitor.leave(&hall, &mut dropping, rt);
     }
     Ok(ENTERED)
 }
 
-pub(crate) fn enter<R: Clock + CpuClock + Threads + Sync>(
+pub(crate) fn enter<R: Clock + CpuClock + Threads + Wait + Sync>(
     rt: &R,
     threads: u64,
     alloc: Global,
     samples: &mut Samples,
 ) -> io::Result<()> {
-    runs(rt, threads, ENTERED, samples, &|| each_entered(alloc))
+    runs(rt, threads, ENTERED, samples, &|| each_entered(alloc, rt))
 }
 
-// A slot of the book enters, and its activation is to be shared, with a book that has seen it begin.
-fn share(words: &Words<u64>, lender: &Lender, source: Source) -> Option<(Activation, Seen)>
-    requires can { CanMake source words.now }
-    requires lender { Lends words.now lender.now }
-    ensures begun { IfSome result (λ shared. HasBegun words.now shared.0 shared.1) }
+// The visitor enters, and its activation is to be shared, with what has seen it begin.
+fn share(hall: &Hall, visitor: Visitor) -> (Activation, Seen)
+    requires may { MayVisit hall.now.words visitor }
+    ensures shared { MayShare hall.now.words result.1 result.0 }
 {
-    let (worker, _) = source.make(words, lender)?;
-    let Active {
-        activation,
-        pass,
-        ..
-    } = worker.enter(words);
-    Some(Entered { activation, pass }.share(words))
+    let mut visitor = visitor;
+    visitor.enter(hall);
+    let seen = visitor.slot.seen();
+    (visitor.activation, seen)
+}
+
+// A pass of its own for each thread, which has seen the activation begin.
+fn pass_for<'p>(hall: &'p Hall, book: &Seen, _activation: &Activation) -> Pass<'p>
+    requires shared { MayShare hall.now.words book.now _activation.now }
+    ensures may { IsPassFor hall.now.words result × HasBegun _activation.now result }
+{
+    let mut pass = hall.porter.pass();
+    pass.learn(book);
+    pass
 }
 
 // Takes out what the link holds so often, under an activation that it shares. It gives the sum of the words, modulo 2^64.
@@ -97,13 +97,11 @@ fn swap_many(link: &Link, activation: &Activation, pass: &mut Pass) -> u64
 }
 
 // The same of the first link, with a pass of its own.
-fn each_swapped(words: &Words<u64>, lender: &Lender, book: &Seen, activation: &Activation) -> u64
-    requires links { HasLinks words.now }
-    requires lender { Lends words.now lender.now }
-    requires begun { HasBegun words.now activation.now book.now }
+fn each_swapped(hall: &Hall, book: &Seen, activation: &Activation) -> u64
+    requires shared { MayShare hall.now.words book.now activation.now }
 {
-    let mut pass = pass_for(words, &lender.porter, book, activation);
-    swap_many(words.links.get(0), activation, &mut pass)
+    let mut pass = pass_for(hall, book, activation);
+    swap_many(hall.words.links.get(0), activation, &mut pass)
 }
 
 pub(crate) fn exchange<R: Clock + CpuClock + Threads + Sync>(
@@ -112,41 +110,35 @@ pub(crate) fn exchange<R: Clock + CpuClock + Threads + Sync>(
     alloc: Global,
     samples: &mut Samples,
 ) -> io::Result<()> {
-    let (words, lender, source) = begin(alloc)?;
-    let Some((activation, book)) = share(&words, &lender, source) else {
-        return Err(ErrorKind::OutOfMemory.into());
-    };
-    let (words, lender, book, activation) = (&words, &lender, &book, &activation);
+    let (hall, visitor) = begin(alloc)?;
+    let (activation, book) = share(&hall, visitor);
+    let (hall, book, activation) = (&hall, &book, &activation);
     let work = || -> io::Result<u64>
-        requires { HasLinks words.now × Lends words.now lender.now × HasBegun words.now activation.now book.now }
-    { Ok(each_swapped(words, lender, book, activation)) };
+        requires { MayShare hall.now.words book.now activation.now }
+    { Ok(each_swapped(hall, book, activation)) };
     runs(rt, threads, SWAPPED, samples, &work)
 }
 
 // Reads each link once. It gives the sum of the words, modulo 2^64.
-fn sum_links(words: &Words<u64>, activation: &Activation, pass: &mut Pass) -> u64
-    requires links { length pass.old.name.links ≡ 1024 }
-    requires may { MayRead words.now activation.now pass.old }
-    ensures links { length pass.new.name.links ≡ 1024 }
-    ensures may { MayRead words.now activation.now pass.new }
+fn sum_links(hall: &Hall, activation: &Activation, pass: &mut Pass) -> u64
+    requires may { IsPassFor hall.now.words pass.old × HasBegun activation.now pass.old }
+    ensures may { IsPassFor hall.now.words pass.new × HasBegun activation.now pass.new }
 {
     let mut sum: u64 = 0;
     for link in 0..ROW {
-        sum = sum.wrapping_add(words.read_link(link, activation, pass).0);
+        sum = sum.wrapping_add(hall.words.read_link(link, activation, pass).0);
     }
     sum
 }
 
 // Reads each link so many times over, under an activation that it shares, with a pass of its own.
-fn each_protected(words: &Words<u64>, lender: &Lender, book: &Seen, activation: &Activation) -> u64
-    requires links { HasLinks words.now }
-    requires lender { Lends words.now lender.now }
-    requires begun { HasBegun words.now activation.now book.now }
+fn each_protected(hall: &Hall, book: &Seen, activation: &Activation) -> u64
+    requires shared { MayShare hall.now.words book.now activation.now }
 {
-    let mut pass = pass_for(words, &lender.porter, book, activation);
+    let mut pass = pass_for(hall, book, activation);
     let mut sum: u64 = 0;
     for _ in 0..ROUNDS {
-        sum = sum.wrapping_add(sum_links(words, activation, &mut pass));
+        sum = sum.wrapping_add(sum_links(hall, activation, &mut pass));
     }
     sum
 }
@@ -157,62 +149,40 @@ pub(crate) fn protect<R: Clock + CpuClock + Threads + Sync>(
     alloc: Global,
     samples: &mut Samples,
 ) -> io::Result<()> {
-    let (words, lender, source) = begin(alloc)?;
-    let Some((activation, book)) = share(&words, &lender, source) else {
-        return Err(ErrorKind::OutOfMemory.into());
-    };
-    let (words, lender, book, activation) = (&words, &lender, &book, &activation);
+    let (hall, visitor) = begin(alloc)?;
+    let (activation, book) = share(&hall, visitor);
+    let (hall, book, activation) = (&hall, &book, &activation);
     let work = || -> io::Result<u64>
-        requires { HasLinks words.now × Lends words.now lender.now × HasBegun words.now activation.now book.now }
-    { Ok(each_protected(words, lender, book, activation)) };
+        requires { MayShare hall.now.words book.now activation.now }
+    { Ok(each_protected(hall, book, activation)) };
     runs(rt, threads, ROUNDS * ROW as u64, samples, &work)
 }
 
-// Enters by its head, reads each link, and leaves. Nothing comes where something waited.
-fn visit(words: &Words<u64>, head: &Head, key: &mut SlotKey, pass: &mut Pass) -> Option<u64>
-    requires links { (words_book words.now ≡ pass.old.name) × HasLinks words.now }
-    requires at { IsAtHead head.now key.old pass.old × IsOutside key.old }
-    ensures links { words_book words.now ≡ pass.new.name }
-    ensures at { IfSome result (λ sum. IsAtHead head.now key.new pass.new × IsOutside key.new) }
-{
-    let mut activation = Activation::new(key);
-    head.enter(&mut activation, key, pass);
-    let sum = sum_links(words, &activation, pass);
-    if !leave(head, &mut activation, key, pass) {
-        return None;
-    }
-    Some(sum)
-}
-
-// So many times over. Nothing comes where something waited at any time.
-fn visit_many(words: &Words<u64>, head: &Head, key: &mut SlotKey, pass: &mut Pass) -> Option<u64>
-    requires links { (words_book words.now ≡ pass.old.name) × HasLinks words.now }
-    requires at { IsAtHead head.now key.old pass.old × IsOutside key.old }
-{
+// Enters, reads each link, and leaves, so many times over.
+fn each_visited(alloc: Global, rt: &impl Wait) -> io::Result<u64> {
+    let (hall, mut visitor) = begin(alloc)?;
+    let mut dropping = Dropping::new();
     let mut sum: u64 = 0;
     for _ in 0..ROUNDS {
-        sum = sum.wrapping_add(visit(words, head, key, pass)?);
+        visitor.enter(&hall);
+        sum = sum.wrapping_add(visitor.sum(&hall));
+        visitor.leave(&hall, &mut dropping, rt);
     }
-    Some(sum)
+    Ok(sum)
 }
 
-// With links of its own.
-fn each_visited(alloc: Global) -> io::Result<u64> {
-    let (words, lender, source) = begin(alloc)?;
-    let Some((worker, _)) = source.make(&words, &lender) else {
-        return Err(ErrorKind::OutOfMemory.into());
-    };
-    let Worker {
-        slot,
-        mut key,
-        mut pass,
-        ..
-    } = worker;
-    let head = words.slots.head(slot, &mut pass);
-    visit_many(&words, head, &mut key, &mut pass).ok_or(ErrorKind::Other.into())
+impl Visitor {
+    // Reads each link once. It gives the sum of the words, modulo 2^64.
+    fn sum(&self, hall: &Hall) -> u64
+        requires inside { Visits hall.now.words self.now }
+    {
+        let mut pass = hall.porter.pass();
+        self.slot.teach(&mut pass);
+        sum_links(hall, &self.activation, &mut pass)
+    }
 }
 
-pub(crate) fn read<R: Clock + CpuClock + Threads + Sync>(
+pub(crate) fn read<R: Clock + CpuClock + Threads + Wait + Sync>(
     rt: &R,
     threads: u64,
     alloc: Global,
@@ -223,6 +193,6 @@ pub(crate) fn read<R: Clock + CpuClock + Threads + Sync>(
         threads,
         ROUNDS * ROW as u64,
         samples,
-        &|| each_visited(alloc),
+        &|| each_visited(alloc, rt),
     )
 }

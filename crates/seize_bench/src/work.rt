@@ -2,8 +2,8 @@
 //! calls of slots.
 use crate::clock::{Report, Samples};
 use crate::slots::Job;
+use crate::visitor::ROW;
 use crate::{blocks, lookups, slots, words};
-use seize_calls_rows::worker::ROW;
 use std::alloc::Global;
 use std::io;
 use std::rt::Clock;

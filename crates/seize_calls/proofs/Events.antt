@@ -54,7 +54,7 @@ same_done pass pass' same event s s' is = ap (λ (d : Deed). (d, Done) ∷ []) (
 
 -- A call begins.
 
-there : (st : State) (s : ℕ) → is_idle (slot_at st s) ≡ true → s < length st.slots
+pub there : (st : State) (s : ℕ) → is_idle (slot_at st s) ≡ true → s < length st.slots
 there st s idle = go (cases_lt s (length st.slots))
   where
     go : (s < length st.slots) ⊎ (length st.slots ≤ s) → s < length st.slots

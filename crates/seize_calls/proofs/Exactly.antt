@@ -1,5 +1,5 @@
 -- Where its pass is alone, a call's contract says exactly what the list is afterwards, and so the state. This is for callers.
-use Rattle.std.proofs.Common.{◌≡◌, ℕ, suc, Bool, false, List, [], ◌∷◌, ◌++◌, map, refl, sym, ap, ◌∙◌, append_assoc, append-nil}
+use Rattle.std.proofs.Common.{◌≡◌, ℕ, suc, max, Bool, false, List, [], ◌∷◌, ◌++◌, map, refl, sym, ap, ◌∙◌, append_assoc, append-nil}
 use Rattle.seize_machine.specs.Machine.State.{State}
 use Rattle.seize_machine.specs.Machine.Event.{Begin, Put, ReadHead, Return}
 use Rattle.seize_machine.specs.Machine.History.{end_of, history}
@@ -53,7 +53,7 @@ module _ (key : SlotKey) (pass : Pass) (v kept : ℕ) (values : ValueKeys) (had 
   abbrev full : CallState
   full = r.drains_one.full
 
-  abbrev stays : Stays full r.settled
+  abbrev stays : Stays (max 1 begun.pass.size) full r.settled
   stays = r.drains_one.settles
 
   abbrev begin : List (Deed × Answer)

@@ -2,6 +2,7 @@ pub mod Alone
 pub mod Attempts
 pub mod Batches
 pub mod Chains
+pub mod Current
 pub mod Events
 pub mod Exactly
 pub mod Handed
@@ -11,6 +12,7 @@ pub mod Keeps
 pub mod Leaving
 pub mod Marks
 pub mod Named
+pub mod Numbering
 pub mod Onwards
 pub mod Rounds
 pub mod Settled
@@ -18,5 +20,7 @@ pub mod Strolls
 pub mod Tries
 pub mod Turns
 pub mod Walks
+pub mod Weights
 pub mod Whole
 pub mod Slots
+pub mod Sole

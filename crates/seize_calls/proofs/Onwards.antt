@@ -40,26 +40,46 @@ onward_twice key one two pass pass1 pass2 first second = record {
 pub keeps_onward : (key key' : SlotKey) (pass pass' : Pass) → Continues key pass key' pass' → Onward key pass key' pass'
 keeps_onward key key' pass pass' keeps = record { same = keeps.same; its = keeps.its; used = keeps.used; active = keeps.active; life = keeps.life; grows = keeps.grows; alone = keeps.alone }
 
-pub settles_on : (a b : CallState) (retired : Bool) → Settles a b retired → Onward a.key a.pass b.key b.pass
-settles_on a b false stays = stays.on
-settles_on a b true went = went.on
+pub settles_on : (least : ℕ) (a b : CallState) (retired : Bool) → Settles least a b retired → Onward a.key a.pass b.key b.pass
+settles_on least a b false stays = stays.on
+settles_on least a b true went = went.on
 
-pub settles_rest : (a b : CallState) (retired : Bool) → Settles a b retired → HasQueue b.key b.queue
-settles_rest a b false stays = stays.rests
-settles_rest a b true went = went.rests
+pub settles_rest : (least : ℕ) (a b : CallState) (retired : Bool) → Settles least a b retired → HasQueue b.key b.queue
+settles_rest least a b false stays = stays.rests
+settles_rest least a b true went = went.rests
+
+-- what was attempted at any length was so at this one
+pub settles_any : (least : ℕ) (a b : CallState) (retired : Bool) → Settles 0 a b retired → Settles least a b retired
+settles_any least a b false stays =
+    record {
+      on = stays.on;
+      batch = stays.batch;
+      rests = stays.rests;
+      finds = stays.finds;
+      made = stays.made;
+      too_few = read stays.too_few;
+      keys = stays.keys;
+      queued = stays.queued;
+      had_none = stays.had_none;
+    }
+  where
+    read : {A B : Type 0} {many : ℕ} → (A × (many < 0)) ⊎ B → (A × (many < least)) ⊎ B
+    read (inl none) = absurd (omega (arith, none.1))
+    read (inr more) = inr more
+settles_any least a b true went = went
 
 pub round_on : (a : CallState) (v kept : ℕ) (b : CallState) (retired : Bool) → DrainsOne a v kept b retired → Onward a.key a.pass b.key b.pass
-round_on a v kept b retired r = onward_twice a.key r.full.key b.key a.pass r.full.pass b.pass r.puts.on (settles_on r.full b retired r.settles)
+round_on a v kept b retired r = onward_twice a.key r.full.key b.key a.pass r.full.pass b.pass r.puts.on (settles_on _ r.full b retired r.settles)
 
 -- nothing was attempted
-pub only_stays : (a : CallState) → HasQueue a.key a.queue → Stays a a
-only_stays a rests = record {
+pub only_stays : (least : ℕ) (a : CallState) → length (slot_of a.key).batch < least → HasQueue a.key a.queue → Stays least a a
+only_stays least a few rests = record {
   on = onward_none a.key a.pass;
   batch = refl;
   rests = rests;
   finds = [];
   made = sym (append-nil (events_by a.pass));
-  too_few = inl refl;
+  too_few = inl (refl, few);
   keys = (refl, refl);
   queued = queues_none a.queue;
   had_none = refl;
@@ -132,3 +152,6 @@ put_sits a b v kept puts pushed queue sits knows told = record {
     subst (λ (keys : ValueKeys). AreTold keys b.pass) (sym queue) (all_told_later a.pass.seen b.pass.seen a.queue.keys.held puts.on.grows sits.queue.1),
   );
 }
+
+pub below_full : (size many : ℕ) → many < size → many < max 1 size
+below_full size many less = grind arith

@@ -53,7 +53,7 @@ module _ (a : CallState) (m : IsToMark a.key a.queue) where
 
   -- the batch stays
   pub has_stayed : (key1 : SlotKey) (pass1 : Pass) → IsSamePass a.pass pass1 → (key1.keys.name ≡ a.key.keys.name) × (slot_number key1 ≡ s) → EndsMarks at a.pass key1 pass1 [] TooMany → (values1 : ValueKeys) → AreRemarked a.batch values1
-      → Stays a (record { key = key1; pass = pass1; batch = values1; queue = a.queue; had = a.had })
+      → Stays 0 a (record { key = key1; pass = pass1; batch = values1; queue = a.queue; had = a.had })
   has_stayed key1 pass1 same its ends values1 remarked = record {
     on = record { same = same; its = its; used = ends.used; active = ends.active; life = ends.life; grows = ends.grows; alone = ends.alone };
     batch = ends.batch;
@@ -168,7 +168,7 @@ module _ (a : CallState) (m : IsToMark a.key a.queue) where
 
 -- What the call's holder has then is as it was.
 
-pub stays_sits : (a b : CallState) → Stays a b → IsWellFormed a → Knows b.key b.pass → IsWellFormed b
+pub stays_sits : (a b : CallState) → Stays 0 a b → IsWellFormed a → Knows b.key b.pass → IsWellFormed b
 stays_sits a b stays sits knows = record {
   its = stays.on.its.0 ∙ (sits.its ∙ sym stays.on.same.0);
   knows = knows;

@@ -1,24 +1,28 @@
 -- What a pass knows of a slot that learned what the slot had seen, and what the slot's parts have to do with one another after a call.
-use Rattle.std.proofs.Common.{◌≡◌, ℕ, ◌<◌, ◌≤◌, true, false, ◌&&◌, List, [], length, not, is_some, None, Some, inl, inr, refl, sym, ap, subst, ◌∙◌, arith}
+use Rattle.std.proofs.Common.{◌≡◌, ℕ, ◌<◌, ◌≤◌, true, false, ◌&&◌, List, [], ◌∷◌, length, not, is_some, None, Some, inl, inr, refl, sym, ap, subst, ◌∙◌, arith}
 use base.Growing.{prefix_refl, prefix_trans}
 use mathlib.Core.List.{IsPrefix}
-use Rattle.seize_machine.proofs.Facts.{Step, and_true, next_of}
-use Rattle.seize_machine.specs.Machine.Event.{Enter}
+use Rattle.seize_machine.proofs.Facts.{Step, next_of}
+use Rattle.seize_machine.specs.Machine.Event.{Enter, Event}
 use Rattle.seize_machine.specs.Machine.Next.{next, set_head}
-use Rattle.seize_machine.specs.Machine.State.{Slot as Record, State, are_distinct, head_at, is_active, is_idle, linked_values}
+use Rattle.seize_machine.specs.Machine.State.{State, are_distinct, head_at, is_active, is_idle, linked_values}
 use Rattle.seize_machine.specs.Machine.State.{Active as Entered}
 use Rattle.seize_machine.specs.declared.machine.event.Answer.{Answer}
 use Rattle.seize_machine.specs.declared.machine.event.Answer.TheVariants.{Done}
 use Rattle.seize_store.specs.Named.{AreOfStore}
 use Rattle.seize_store.specs.declared.spot.Spots.{Spots}
+use Rattle.seize_table.specs.Place.{all_numbers}
+use Rattle.seize_book.specs.Adding.{private}
 use Rattle.seize_book.specs.Book.{IsLegalList, after}
 use Rattle.seize_book.specs.Books.{Learns}
-use Rattle.seize_book.specs.Entry.{Entry}
+use Rattle.seize_book.specs.Entry.{Deed, Entry, Made}
 use Rattle.seize_book.specs.Kept.{AreTold}
+use Rattle.seize_book.specs.Others.{MayTakeNumber, first_false, use_flags}
 use Rattle.seize_book.specs.Passes.{Longer, LooksOn}
 use Rattle.seize_book.specs.Laws.{life}
-use Rattle.seize_book.specs.Slots.{AddsDeed, Moves, active_of, life_of, own_list, slot_number, slot_of, start_of}
+use Rattle.seize_book.specs.Slots.{AddsDeed, AddsEvent, Moves, active_of, life_of, own_list, slot_number, slot_of, start_of}
 use Rattle.seize_book.specs.Tokens.{Name, start}
+use Rattle.seize_book.specs.declared.book.numbers_key.NumbersKey.{NumbersKey}
 use Rattle.seize_book.specs.declared.book.pass.Pass.{Pass}
 use Rattle.seize_book.specs.declared.book.slot_key.SlotKey.{SlotKey}
 use Rattle.seize_book.specs.declared.book.seen.Seen.{Seen}
@@ -29,12 +33,13 @@ use Rattle.seize_words.specs.declared.activation.Activation.{Activation}
 use Rattle.seize_words.specs.declared.chunk.Header.{Header}
 use Rattle.seize_words.specs.declared.chunk.Part.{Part}
 use Rattle.seize_words.specs.declared.words.Words.{Words}
-use Rattle.seize_book.proofs.Facts.{same_twice}
-use Rattle.seize_words.proofs.Facts.{all_told_later, knows_noted, more_slots, moved, seen_grows}
+use Rattle.seize_book.proofs.Facts.{legal_prefix, same_twice}
+use Rattle.seize_words.proofs.Facts.{all_told_later, knows_noted, may_take_by, more_slots, moved, seen_grows}
+use Rattle.seize_calls.proofs.Keeps.{state_before}
 use Rattle.seize_calls.specs.Batches.{keys_in}
 use Rattle.seize_calls.specs.Calls.{HasBegun, Rests}
 use Rattle.seize_calls.specs.Settling.{HasBatch}
-use Rattle.seize_calls.specs.Slots.{HasActivation, InActivation, IsSlotOf, KeepsActivation, KeepsCalls, Prepares}
+use Rattle.seize_calls.specs.Slots.{HasActivation, InActivation, IsInUse, IsInactive, IsSlotOf, KeepsActivation, KeepsCalls, Prepares}
 use Rattle.seize_calls.specs.Together.{BelongTogether, what_saw}
 use Rattle.seize_calls.specs.declared.batch.Batch.{Batch}
 use Rattle.seize_calls.specs.declared.slot.Slot.{Slot}
@@ -52,8 +57,9 @@ slots_of : (n m : Name) (seen seen' : List Entry) → m ≡ n → IsPrefix seen 
 slots_of n m seen seen' same grows legal =
     subst (λ (z : Name). length (after (start z) seen).slots ≤ length (after (start m) seen').slots) same (more_slots m seen seen' grows legal)
 
-idle_of : (z : Record) → z.used ≡ true → z.call ≡ None → is_idle z ≡ true
-idle_of z used none = (λ j. used j && not (is_some (none j)))
+-- a slot in use has no call under way
+pub idle_in : {T : Type 0} (s : Slot T) → IsInUse s → is_idle (slot_of s.key) ≡ true
+idle_in s used = λ j. used j && not (is_some (s.together.call j))
 
 knows_as : (key : SlotKey) (pass : Pass) (seen : Seen) → seen.name ≡ pass.name → seen.seen ≡ pass.seen → Knows key pass → Knows key (what_saw seen)
 knows_as key pass seen name saw knows = record {
@@ -104,7 +110,7 @@ module _ {T : Type 0} (s : Slot T) (p : Pass) (ready : Ready s.seen p) where
           book = rests.its.0 ∙ s.together.book ∙ sym same;
           numbered = rests.its.1 ∙ s.together.numbered;
           there = subst (λ (t : Name × List Entry). s.number < length (after (start t.0) t.1).slots) (λ j. (sym named' j, sym saw j)) (omega (arith, there, more));
-          idle = idle_of (slot_of key') (rests.used ∙ (and_true _ _ s.together.idle).0) rests.call;
+          call = rests.call;
           batch_is = (rests.batch.0 ∙ sym named', rests.batch.1);
           spots_in = subst (λ (n : Name). AreOfStore spots' n.store) (sym same) of_store;
         }
@@ -125,25 +131,21 @@ entered_so key key' log pass its later answer moves idle off =
     let is : next pass.size st (Enter s) ≡ Some d = next_of pass.size st (Enter s) d (Step.entered s (ap is_idle moves.was ∙ idle) (moves.was_active ∙ off)) in
     moved key key' log (beginning pass its (Enter s)) later answer moves d is ∙ moves.was
 
-module _ {T : Type 0} (s : Slot T) (p : Pass) (ready : Ready s.seen p) (key' : SlotKey) (pass' : Pass) (a : Activation) (notes : AddsDeed s.key p key' pass' (beginning p a.life (Enter s.number)))
-    (off : active_of s.key ≡ false) (seen' : Seen) (same : seen'.name ≡ s.seen.name) (saw : seen'.seen ≡ pass'.seen) where
-  stays : slot_of key' ≡ slot_of s.key
-  stays =
-      let n = notes.2.0 in
-      entered_so s.key key' n.before p a.life n.later n.answer (subst (λ (k : ℕ). Moves s.key key' n.before (beginning p a.life (Enter k)) n.later n.answer) (sym s.together.numbered) notes.2.1) s.together.idle off
-
+-- What an event of the slot leaves that makes no call, and leaves its batch: the slot's parts, and what was seen.
+module _ {T : Type 0} (s : Slot T) (p : Pass) (ready : Ready s.seen p) (key' : SlotKey) (pass' : Pass) (d : Deed) (notes : AddsDeed s.key p key' pass' d) (call : (slot_of key').call ≡ None)
+    (batch : (slot_of key').batch ≡ (slot_of s.key).batch) (seen' : Seen) (same : seen'.name ≡ s.seen.name) (saw : seen'.seen ≡ pass'.seen) where
   goes : IsPrefix p.seen pass'.seen
   goes = seen_grows p.name p.id p.seen pass'.seen _ notes.2.0
 
-  pub entered : BelongTogether s.number key' s.batch s.spots seen'
-  entered =
+  pub together_still : BelongTogether s.number key' s.batch s.spots seen'
+  together_still =
       let there = (holder s p ready).2 in let more = slots_of p.name p.name p.seen pass'.seen refl goes notes.2.0.legal in
       record {
         book = notes.1.0 ∙ s.together.book ∙ sym same;
         numbered = notes.1.1 ∙ s.together.numbered;
         there = subst (λ (t : Name × List Entry). s.number < length (after (start t.0) t.1).slots) (λ j. ((sym ready.named ∙ sym same) j, sym saw j)) (omega (arith, there, more));
-        idle = ap is_idle stays ∙ s.together.idle;
-        batch_is = (s.together.batch_is.0 ∙ sym same, s.together.batch_is.1 ∙ sym (ap (λ (z : Record). z.batch) stays));
+        call = call;
+        batch_is = (s.together.batch_is.0 ∙ sym same, s.together.batch_is.1 ∙ sym batch);
         spots_in = subst (λ (n : Name). AreOfStore s.spots n.store) (sym same) s.together.spots_in;
       }
 
@@ -153,6 +155,22 @@ module _ {T : Type 0} (s : Slot T) (p : Pass) (ready : Ready s.seen p) (key' : S
   pub told_still : AreTold (keys_in s.batch) (what_saw s.seen) → AreTold (keys_in s.batch) (what_saw seen')
   told_still told =
       all_told_later s.seen.seen seen'.seen (keys_in s.batch).keys.held (subst (IsPrefix s.seen.seen) (sym saw) (prefix_trans s.seen.seen p.seen pass'.seen ready.grows goes)) told
+
+module _ {T : Type 0} (s : Slot T) (p : Pass) (key' : SlotKey) (pass' : Pass) where
+  -- entering leaves the slot's record
+  pub stays_entered : (a : Activation) → AddsDeed s.key p key' pass' (beginning p a.life (Enter s.number)) → IsInUse s → IsInactive s → slot_of key' ≡ slot_of s.key
+  stays_entered a notes used off =
+      let n = notes.2.0 in
+      entered_so s.key key' n.before p a.life n.later n.answer (subst (λ (k : ℕ). Moves s.key key' n.before (beginning p a.life (Enter k)) n.later n.answer) (sym s.together.numbered) notes.2.1)
+      (idle_in s used) off
+
+  -- a slot that is there is so before its event
+  pub there_before : Ready s.seen p → (e : Event) → (notes : AddsEvent s.key p key' pass' e) → slot_number s.key < length (state_before s.key key' p pass' e [] notes).slots
+  there_before ready e notes =
+      let n = notes.2.0 in let own = holder s p ready in
+      let legal : IsLegalList (start p.name) n.before = legal_prefix (start p.name) n.before pass'.seen (Made (private p e) ∷ [], sym n.appended) n.legal in
+      let more = slots_of p.name s.key.keys.name p.seen n.before own.0 n.grows (subst (λ (m : Name). IsLegalList (start m) n.before) (sym own.0) legal) in
+      omega (arith, own.1, own.2, more)
 
 -- the pass is ready when it has learned of the slot, and when it has looked at the list then
 module _ {T : Type 0} (slot : Slot T) (pass p : Pass) (book : slot.seen.name ≡ pass.name) (learns : Learns pass slot.seen p) where
@@ -229,11 +247,14 @@ begins_in slot' a is own = let of_slot = is.of_slot in (
 
 -- A slot of which nothing but its spots has changed.
 pub slot_same : {T : Type 0} (words : Words T) (slot slot' : Slot T) → KeepsCalls slot slot' → IsSlotOf words slot → IsSlotOf words slot'
-slot_same words slot slot' keeps is = record {
-  book = ap (λ (z : Seen). z.name) keeps.3 ∙ is.book;
-  knows = subst (λ (t : SlotKey × Seen). Knows t.0 (what_saw t.1)) (λ j. (sym keeps.1 j, sym keeps.3 j)) is.knows;
-  told = subst (λ (t : Batch × Seen). AreTold (keys_in t.0) (what_saw t.1)) (λ j. (sym keeps.2 j, sym keeps.3 j)) is.told;
-}
+slot_same words slot slot' keeps is = (
+  record {
+    book = ap (λ (z : Seen). z.name) keeps.3 ∙ is.0.book;
+    knows = subst (λ (t : SlotKey × Seen). Knows t.0 (what_saw t.1)) (λ j. (sym keeps.1 j, sym keeps.3 j)) is.0.knows;
+    told = subst (λ (t : Batch × Seen). AreTold (keys_in t.0) (what_saw t.1)) (λ j. (sym keeps.2 j, sym keeps.3 j)) is.0.told;
+  },
+  ap (λ (k : SlotKey). (slot_of k).used) keeps.1 ∙ is.1,
+)
 
 pub active_same : {T : Type 0} (slot slot' : Slot T) (a : Activation) → KeepsCalls slot slot' → InActivation slot a → InActivation slot' a
 active_same slot slot' a keeps is = record {
@@ -241,3 +262,13 @@ active_same slot slot' a keeps is = record {
   its = subst (λ (k : SlotKey). (a.name ≡ k.keys.name) × (a.slot ≡ slot_number k) × (a.life ≡ life_of k)) (sym keeps.1) is.its;
   begun = subst (λ (z : Seen). HasBegun a (what_saw z)) (sym keeps.3) is.begun;
 }
+
+-- its key is that of the slot of its number
+pub key_number : {T : Type 0} (slot : Slot T) → slot_number slot.key ≡ slot.number
+key_number slot = slot.together.numbered
+
+-- which numbers a slot may take again, by which are in use
+pub may_take_slot : {T : Type 0} (numbers : NumbersKey) (slot : Slot T) → slot.number ≡ first_false (use_flags numbers) → slot.number < length (use_flags numbers) → slot.number < all_numbers
+    → MayTakeNumber numbers slot.key
+may_take_slot numbers slot least below few =
+    let its = slot.together.numbered in may_take_by numbers slot.key (its ∙ least) (subst (λ (k : ℕ). k < length (use_flags numbers)) (sym its) below) (subst (λ (k : ℕ). k < all_numbers) (sym its) few)

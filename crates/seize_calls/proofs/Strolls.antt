@@ -12,7 +12,7 @@ use Rattle.seize_book.specs.Entry.{Deed}
 use Rattle.seize_book.specs.Passes.{IsSamePass, events_by}
 use Rattle.seize_book.specs.Slots.{IsKeyOfBook, own_list, slot_number, slot_of}
 use Rattle.seize_book.specs.Values.{values_of}
-use Rattle.seize_words.specs.Walks.{Knows}
+use Rattle.seize_words.specs.Walks.{Knows, word_for}
 use Rattle.seize_book.specs.declared.book.pass.Pass.{Pass}
 use Rattle.seize_book.specs.declared.book.slot_key.SlotKey.{SlotKey}
 use Rattle.seize_book.specs.declared.book.value_keys.ValueKeys.{ValueKeys}
@@ -116,6 +116,29 @@ none_strolled key word at pass queue had = record {
   same_queue = sym (append-nil at.queue);
   queued = queues_none queue;
 }
+
+-- to none leads 1
+none_waits : (key : SlotKey) (word : ℕ) (at : IsAtWalk key word) → word ≡ 1 → at.walk ≡ []
+none_waits key word at one = go at.walk at.leads
+  where
+    go : (walk : List ℕ) → word ≡ word_for key walk → walk ≡ []
+    go [] is = refl
+    go (b ∷ walk) is = absurd (omega (arith, is, one))
+
+pub none_waited : (key : SlotKey) (word : ℕ) (at : IsAtWalk key word) (pass : Pass) (queue : ValueKeys) (had : Had) → word ≡ 1 → WalksAll at pass queue had key pass queue had
+none_waited key word at pass queue had one =
+    let none = none_waits key word at one in
+    record {
+      goes_on = (none_strolled key word at pass queue had).goes_on;
+      walked = [];
+      kepts = [];
+      has_had = had_none had;
+      told = tt;
+      each = sym (ap (λ (bs : List ℕ). length bs) none);
+      made = sym (append-nil (events_by pass));
+      over = at.walking ∙ (λ j. Some (record { place = Rest [] (none j); queue = sym (append-nil at.queue) j }));
+      queued = queues_none queue;
+    }
 
 module _ (key0 : SlotKey) (word : ℕ) (at : IsAtWalk key0 word) (pass0 : Pass) (queue0 : ValueKeys) (had0 : Had) (key : SlotKey) (pass : Pass) (leads : ℕ) (queue : ValueKeys) (had : Had) (r : IsStrolling at pass0 queue0 had0 key pass leads queue had) (key1 : SlotKey) (pass1 : Pass) (values : ValueKeys) where
   abbrev s : ℕ

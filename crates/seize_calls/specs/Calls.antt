@@ -7,10 +7,11 @@
 --     Rests key pass key' pass' values'   no call of the slot is under way then, and these are the keys of its batch; whether it is in use
 --                        is as before. The pass has seen what it had seen (`grows`), and what was added where it is alone was made with it
 --                        (`alone`): then the events are all there are since
---     Flushes key pass values had key' pass' values' had' retired     a flush: it began, settled, drained its queue, and returned. Where
---                        the batch was empty no head was read
+--     Flushes key pass values had key' pass' values' had' retired     a flush: it began, settled, drained its queue, and returned. A
+--                        batch that wasn't empty was attempted
 --     RetiresOne key pass v kept values had key' pass' values' had' retired     a retirement: it began, v was put, of which this is
---                        kept, and then it settled with v as the last, drained its queue, and returned
+--                        kept, and then it settled with v as the last, drained its queue, and returned. A full batch was attempted, as
+--                        DrainsOne says
 --     Leaves job stays swap key pass values had key' pass' values' had'     a leave or a refresh: it began, the head was swapped out by
 --                        this entry, batches that came out were counted down, one after the other (each once, as `WalksAll` says), what
 --                        was given up was handed before the next, it drained its queue, and returned. The slot is active afterwards or
@@ -83,7 +84,7 @@ pub record Flushes (key : SlotKey) (pass : Pass) (values : ValueKeys) (had : Had
   pub begun : CallState
   pub begins : BeginsSo key pass Flush [] values had begun
   pub settled : CallState
-  pub settles : Settles begun settled retired
+  pub settles : Settles 1 begun settled retired
   pub drained : CallState
   pub drains : Drains settled drained
   pub returns : Returns drained key' pass' values' had'

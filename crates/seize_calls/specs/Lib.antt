@@ -1,4 +1,5 @@
 pub mod Alone
+pub mod Aparts
 pub mod Attempts
 pub mod Batches
 pub mod Calls
@@ -12,3 +13,4 @@ pub mod Settling
 pub mod Slots
 pub mod Together
 pub mod Walking
+pub mod Weights

@@ -9,17 +9,18 @@
 --     IsToMark key queue     the slot's call is to read the first head, and has these values in its queue
 --     HasQueue key queue     it has nothing else to do but with these
 --     MayPut key v queue     it is to put v, which it retires, or which is the first of its queue; then it has these
---     Stays a b              the batch stays: the heads were read, and one slot more was active than it has values, or none was read. The
---                            keys are as they were, with all that is noted but the slots, and the reclaimer had nothing more
+--     Stays least a b        the batch stays: the heads were read, and one slot more was active than it has values; or none was read, and
+--                            it has fewer values than `least`. The keys are as they were, with all that is noted but the slots, and the
+--                            reclaimer had nothing more
 --     RetiresBatch a b       the batch was retired: an attempt with these events, and each value of the batch handed if the count came
 --                            to 0, which the reclaimer had, each with what was kept of it (HasHad), as the list says; what was put came
 --                            to the queue, last
---     Settles a b retired    one or the other
+--     Settles least a b retired    one or the other: it was attempted, if it has `least` values or more
 --     PutsValue key pass v key' pass'     the call put v to the slot's batch
---     DrainsOne a v kept b retired   it put v, of which this is kept, and then it settled with v as the last. Where the batch wasn't full
---                            no head was read
+--     DrainsOne a v kept b retired   it put v, of which this is kept, and then it settled with v as the last: a full batch was attempted,
+--                            which has as many values as the batch size of the pass, and one at least
 --     Drains a b             rounds with the values of its queue: as often as they came, with the first of them each time
-use Rattle.std.specs.Prelude.{◌≡◌, ◌⊎◌, ℕ, ℤ, suc, Bool, true, false, if◌then◌else◌, List, [], ◌∷◌, ◌++◌, length, Some}
+use Rattle.std.specs.Prelude.{◌≡◌, ◌⊎◌, ℕ, ℤ, suc, ◌<◌, max, Bool, true, false, if◌then◌else◌, List, [], ◌∷◌, ◌++◌, length, Some}
 use mathlib.Core.List.{IsPrefix}
 use Rattle.seize_machine.specs.Machine.Event.{AddCount, Detach, Event, Put}
 use Rattle.seize_machine.specs.Machine.Next.{is_zero}
@@ -90,13 +91,14 @@ MayPut key v queue =
 abbrev pub done_event : Pass → Event → List (Deed × Answer)
 done_event pass event = (private pass event, Done) ∷ []
 
-pub record Stays (a b : CallState) : Type 0 where
+pub record Stays (least : ℕ) (a b : CallState) : Type 0 where
   pub on : Onward a.key a.pass b.key b.pass
   pub batch : (slot_of b.key).batch ≡ (slot_of a.key).batch
   pub rests : HasQueue b.key b.queue
   pub finds : List Bool
   pub made : events_by b.pass ≡ events_by a.pass ++ readings a.pass (slot_number a.key) 0 finds
-  pub too_few : (finds ≡ []) ⊎ (length (actives 0 finds) ≡ suc (length (slot_of a.key).batch))
+  pub too_few : let many = length (slot_of a.key).batch in
+      ((finds ≡ []) × (many < least)) ⊎ (length (actives 0 finds) ≡ suc many)
   pub keys : AreRemarked a.batch b.batch
   pub queued : Queues a.queue [] [] b.queue
   pub had_none : b.had ≡ a.had
@@ -121,9 +123,9 @@ pub record RetiresBatch (a b : CallState) : Type 0 where
   pub told : AllTold b.pass.seen (values_handed handed) (if is_zero count then kepts_of a.batch else [])
 
 -- a batch that is not attempted stays as well, and then no head was read
-abbrev pub Settles : CallState → CallState → Bool → Type 0
-Settles a b false = Stays a b
-Settles a b true = RetiresBatch a b
+abbrev pub Settles : ℕ → CallState → CallState → Bool → Type 0
+Settles least a b false = Stays least a b
+Settles least a b true = RetiresBatch a b
 
 pub record PutsValue (key : SlotKey) (pass : Pass) (v : ℕ) (key' : SlotKey) (pass' : Pass) : Type 0 where
   pub on : Onward key pass key' pass'
@@ -135,7 +137,7 @@ pub record DrainsOne (a : CallState) (v kept : ℕ) (b : CallState) (retired : B
   pub puts : PutsValue a.key a.pass v full.key full.pass
   pub pushed : IsPushed a.batch v kept full.batch
   pub same : (full.queue ≡ a.queue) × (full.had ≡ a.had)
-  pub settles : Settles full b retired
+  pub settles : Settles (max 1 a.pass.size) full b retired
 
 pub data Drains (a : CallState) : CallState → Type 0 where
   over : Drains a a

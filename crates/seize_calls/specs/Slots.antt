@@ -1,36 +1,45 @@
 -- The words in which the contracts of a slot as one value speak.
---     IsSlotOf words slot      it is a slot of these words. What its key knows was seen, and so was for each value in its batch which word
---                              is kept of it
+--     IsOfList n slot          it is a slot of the list with this name, in use or not. What its key knows was seen, and so was for each
+--                              value in its batch which word is kept of it;  IsOfWords words slot     of the list of these words
+--     IsInUse slot, IsInactive slot, IsActive slot     its number is in use;  it is inactive, or active: as its key knows
+--     IsSlotOf words slot      it is a slot of these words, in use;  IsFreeSlotOf words slot     its number went back, and it is inactive.
+--                              Both are of the slot's value alone, so no event of others ends them
 --     its_number slot, its_book slot, its_key slot, its_batch slot, its_seen slot     its number, its book, its key, the keys of its
---                              batch, and what its passes have seen;  IsActive slot     it is active, as its key knows
+--                              batch, and what its passes have seen
 --     KeepsCalls slot slot'    all these are the same
 --     MakesOneSlot numbers next pass numbers' slot next' pass'     the slot was made (MakesNextSlot), and has seen what the pass has
 --     IsPassFor words pass     it is a pass of their book, with their batch size
+--     SetsUse numbers pass' numbers' slot used     the key of the numbers follows, and which are in use is as before, but for this slot's
 --     MayEnterWith slot a      the slot is inactive, and it is an activation of it, with all units
 --     InActivation slot a      the slot is active, and this is its activation, which has begun, as was seen
 --     HasActivation slot a     and with all units
 --     KeepsActivation slot slot'     it is in its activation still
 --     IsLooseOf words loose    it is a value of their book, which may be retired;  its_value loose     its name
---     IsLooseIn key loose      it is the value whose key this is, which may be retired
+--     IsLooseIn key loose      it is the value whose key this is, which may be retired;  IsLooseAs value loose     so it is
+--     loose_book loose         its book;  IsReadable loose     something is lent with it, which can be read
 --     Prepares slot pass ready     the pass has seen what the slot had seen, a legal list, and nothing was made with it
 --     CallsWith slot pass slot' pass' Does     once the pass was ready, this was done. It is the same slot, and has seen what the pass has
 --     SlotEnters, SlotRetires, SlotFlushes, SlotLeaves, SlotRefreshes     so a call of the slot did, with this pass and with what the
 --                              reclaimer had: see `RetiresOne`, `Flushes` and `Leaves`
-use Rattle.std.specs.Prelude.{◌≡◌, ℕ, Bool, true, false, List, Some}
+--     SlotGives, SlotTakes     its number went back by the event `Give`, or was taken again by `Take`; it keeps its batch
+--     SlotLooks slot pass slot' pass'     pass and key looked at the list, where the slot is as its key knew; it keeps its batch
+use Rattle.std.specs.Prelude.{◌≡◌, ℕ, Bool, true, false, List, Some, slice_set}
 use mathlib.Core.List.{IsPrefix}
-use Rattle.seize_machine.specs.Machine.Event.{Enter, SwapOut}
+use Rattle.seize_machine.specs.Machine.Event.{Enter, Give, SwapOut, Take}
 use Rattle.seize_machine.specs.declared.machine.event.Job.TheVariants.{Leave, Refresh}
 use Rattle.seize_book.specs.Adding.{private}
 use Rattle.seize_book.specs.Book.{IsLegalList}
 use Rattle.seize_book.specs.Entry.{Entry}
 use Rattle.seize_book.specs.Kept.{AreTold}
-use Rattle.seize_book.specs.Others.{MayRetire, book_of, value_of}
+use Rattle.seize_book.specs.Lending.{IsLentKey}
+use Rattle.seize_book.specs.Others.{FollowsNumbers, MayRetire, book_of, use_flags, value_of}
 use Rattle.seize_book.specs.Passes.{IsSamePass, MadeNone}
-use Rattle.seize_book.specs.Slots.{AddsDeed, active_of, life_of, slot_number}
+use Rattle.seize_book.specs.Slots.{AddsDeed, AddsEvent, LooksWithSlotKey, active_of, life_of, slot_number, slot_of}
 use Rattle.seize_book.specs.Tokens.{IsSole, Name, start}
 use Rattle.seize_book.specs.declared.book.numbers_key.NumbersKey.{NumbersKey}
 use Rattle.seize_book.specs.declared.book.pass.Pass.{Pass}
 use Rattle.seize_book.specs.declared.book.slot_key.SlotKey.{SlotKey}
+use Rattle.seize_book.specs.declared.book.value_key.ValueKey.{ValueKey}
 use Rattle.seize_book.specs.declared.book.value_keys.ValueKeys.{ValueKeys}
 use Rattle.seize_words.specs.Activations.{HasAllUnits}
 use Rattle.seize_words.specs.Joined.{words_book}
@@ -49,10 +58,28 @@ use Rattle.seize_calls.specs.Together.{what_saw}
 use Rattle.seize_calls.specs.declared.slot.Loose.{Loose}
 use Rattle.seize_calls.specs.declared.slot.Slot.{Slot}
 
-pub record IsSlotOf {T : Type 0} (words : Words T) (slot : Slot T) : Type 0 where
-  pub book : slot.seen.name ≡ words_book words
+pub record IsOfList {T : Type 0} (n : Name) (slot : Slot T) : Type 0 where
+  pub book : slot.seen.name ≡ n
   pub knows : Knows slot.key (what_saw slot.seen)
   pub told : AreTold (keys_in slot.batch) (what_saw slot.seen)
+
+abbrev pub IsOfWords : {T : Type 0} → Words T → Slot T → Type 0
+IsOfWords words slot = IsOfList (words_book words) slot
+
+abbrev pub IsInUse : {T : Type 0} → Slot T → Type 0
+IsInUse slot = (slot_of slot.key).used ≡ true
+
+abbrev pub IsActive : {T : Type 0} → Slot T → Type 0
+IsActive slot = active_of slot.key ≡ true
+
+abbrev pub IsInactive : {T : Type 0} → Slot T → Type 0
+IsInactive slot = active_of slot.key ≡ false
+
+abbrev pub IsSlotOf : {T : Type 0} → Words T → Slot T → Type 0
+IsSlotOf words slot = IsOfWords words slot × IsInUse slot
+
+abbrev pub IsFreeSlotOf : {T : Type 0} → Words T → Slot T → Type 0
+IsFreeSlotOf words slot = IsOfWords words slot × ((slot_of slot.key).used ≡ false) × IsInactive slot
 
 abbrev pub its_number : {T : Type 0} → Slot T → ℕ
 its_number slot = slot.number
@@ -80,11 +107,12 @@ MakesOneSlot numbers next pass numbers' slot next' pass' =
 abbrev pub IsPassFor : {T : Type 0} → Words T → Pass → Type 0
 IsPassFor words pass = (words_book words ≡ pass.name) × (words.size ≡ pass.size)
 
-abbrev pub IsActive : {T : Type 0} → Slot T → Type 0
-IsActive slot = active_of slot.key ≡ true
+abbrev pub SetsUse : {T : Type 0} → NumbersKey → Pass → NumbersKey → Slot T → Bool → Type 0
+SetsUse numbers pass' numbers' slot used =
+    FollowsNumbers numbers pass' numbers' × (use_flags numbers' ≡ slice_set (use_flags numbers) slot.number used)
 
 abbrev pub MayEnterWith : {T : Type 0} → Slot T → Activation → Type 0
-MayEnterWith slot a = (active_of slot.key ≡ false) × IsOfSlot slot.key a
+MayEnterWith slot a = IsInactive slot × IsOfSlot slot.key a
 
 pub record InActivation {T : Type 0} (slot : Slot T) (a : Activation) : Type 0 where
   pub active : IsActive slot
@@ -103,6 +131,15 @@ its_value loose = value_of loose.value
 abbrev pub IsLooseIn : MaybeKey → Loose → Type 0
 IsLooseIn key loose =
     (book_of loose.value ≡ key.keys.name) × (value_held key ≡ Some (its_value loose)) × MayRetire loose.value
+
+abbrev pub IsLooseAs : ValueKey → Loose → Type 0
+IsLooseAs value loose = (book_of loose.value ≡ book_of value) × (its_value loose ≡ value_of value) × MayRetire loose.value
+
+abbrev pub loose_book : Loose → Name
+loose_book loose = book_of loose.value
+
+abbrev pub IsReadable : Loose → Type 0
+IsReadable loose = IsLentKey loose.value
 
 abbrev pub IsLooseOf : {T : Type 0} → Words T → Loose → Type 0
 IsLooseOf words loose = (book_of loose.value ≡ words_book words) × MayRetire loose.value
@@ -143,3 +180,15 @@ abbrev pub SlotRefreshes : {T : Type 0} → Slot T → Pass → Activation → H
 SlotRefreshes slot pass a had slot' pass' had' =
     CallsWith slot pass slot' pass' (λ p. let swap = beginning p a.life (SwapOut (slot_number slot.key)) in
     Leaves Refresh true swap slot.key p (keys_in slot.batch) had slot'.key pass' (keys_in slot'.batch) had')
+
+abbrev pub SlotGives : {T : Type 0} → Slot T → Pass → Slot T → Pass → Type 0
+SlotGives slot pass slot' pass' =
+    CallsWith slot pass slot' pass' (λ p. AddsEvent slot.key p slot'.key pass' (Give (its_number slot))) × (slot'.batch ≡ slot.batch)
+
+abbrev pub SlotTakes : {T : Type 0} → Slot T → Pass → Slot T → Pass → Type 0
+SlotTakes slot pass slot' pass' =
+    CallsWith slot pass slot' pass' (λ p. AddsEvent slot.key p slot'.key pass' (Take (its_number slot))) × (slot'.batch ≡ slot.batch)
+
+abbrev pub SlotLooks : {T : Type 0} → Slot T → Pass → Slot T → Pass → Type 0
+SlotLooks slot pass slot' pass' =
+    CallsWith slot pass slot' pass' (λ p. LooksWithSlotKey slot.key p slot'.key pass') × (slot'.batch ≡ slot.batch)

@@ -2,8 +2,7 @@
 --     what_saw book            what a pass knows that has seen what the book has
 --     BelongTogether number key batch spots seen     the key is that of the slot of this number, which is there, as was seen, and has no
 --                              call under way; these are the keys of its batch; and the spots are of the store where the blocks lie
-use Rattle.std.specs.Prelude.{◌≡◌, ℕ, ◌<◌, true}
-use Rattle.seize_machine.specs.Machine.State.{is_idle}
+use Rattle.std.specs.Prelude.{◌≡◌, ℕ, ◌<◌, None}
 use Rattle.seize_store.specs.Named.{AreOfStore}
 use Rattle.seize_store.specs.declared.spot.Spots.{Spots}
 use Rattle.seize_book.specs.Slots.{slot_number, slot_of}
@@ -25,6 +24,6 @@ pub record BelongTogether {T : Type 0} (number : ℕ) (key : SlotKey) (batch : B
   pub book : key.keys.name ≡ seen.name
   pub numbered : slot_number key ≡ number
   pub there : number < slots_seen (what_saw seen)
-  pub idle : is_idle (slot_of key) ≡ true
+  pub call : (slot_of key).call ≡ None
   pub batch_is : AreOfBook (keys_in batch) (what_saw seen) × (values_of (keys_in batch) ≡ (slot_of key).batch)
   pub spots_in : AreOfStore spots seen.name.store

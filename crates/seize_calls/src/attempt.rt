@@ -14,11 +14,11 @@ ghost use Rattle.seize_words.specs.Walks.{Knows};
 
 use crate::batch::Batch;
 use crate::inserting::insert_each;
+use crate::manner::Manner;
 use crate::marking::{MarkOutcome, mark};
 use seize_words::blocks::Blocks;
 use seize_words::book::{Pass, SlotKey};
 use seize_words::slots::Slots;
-use std::sync::Wait;
 
 /// What an attempt comes to.
 #[derive(Clone, Copy, PartialEq, Eq, Debug)]
@@ -33,15 +33,16 @@ pub enum AttemptOutcome {
 
 /// Attempts to retire the slot's batch, which is this one. Afterwards it has no values, unless it stays, or is given up.
 ///
-/// It takes no memory. An insertion is tried again as often as others change the head between a look at it and the try.
-pub fn attempt<T: Drop>(
+/// It takes no memory, and waits as its manner does.
+pub fn attempt<T: Drop, M: Manner>(
     slots: &Slots,
     blocks: &Blocks<T>,
     batch: &mut Batch,
     key: &mut SlotKey,
     pass: &mut Pass,
-    rt: &impl Wait,
+    manner: &M,
 ) -> AttemptOutcome
+    requires may { M.may manner.now pass.old.id }
     requires book { IsKeyOfBook key.old pass.old × (slots_book slots.now ≡ pass.old.name) × (blocks_book blocks.now ≡ pass.old.name) }
     requires knows { Knows key.old pass.old }
     requires begins { BeginsToMark key.old }
@@ -55,7 +56,7 @@ pub fn attempt<T: Drop>(
         MarkOutcome::Ready(marked) => {
             key.detach(pass);
             let front = batch.first;
-            let won = insert_each(slots, blocks, batch, marked, key, pass, rt);
+            let won = insert_each(slots, blocks, batch, marked, key, pass, manner);
             let header = blocks.header(front, pass);
             if header.count.add(won, key, &mut batch.values, pass) {
                 AttemptOutcome::GivenUp

@@ -18,7 +18,7 @@ ghost use Rattle.seize_book.specs.Slots.{IsKeyOfBook, slot_number, slot_of};
 ghost use Rattle.seize_words.specs.Walks.{Knows};
 
 use crate::batch::Batch;
-use crate::draining::drain;
+use crate::draining::{Drainer, drain};
 use crate::further::Further;
 use crate::handing::Reclaim;
 use crate::settling::{put, settle};
@@ -30,14 +30,13 @@ use seize_words::book::{Pass, SlotKey, ValueKey};
 use seize_words::chunk::{Header, Part};
 use seize_words::reservation::Head;
 use seize_words::slots::Slots;
-use std::sync::Wait;
 
 /// Attempts the slot's batch at any length, which is this one. It says whether the batch was retired with the values that it had.
 ///
 /// What reclaimers put meanwhile is retired then, one after the other: the batch may have some of these values afterwards. `size` is the
-/// batch size of the pass, as with `retire`. It takes no memory, but for what the reclaimer does, and ends where reclaimers come to put no
-/// more. An insertion is tried again as often as others change the head between a look at it and the try.
-pub fn flush<T: Drop, R: Reclaim<T>>(
+/// batch size of the pass, as with `retire`. It takes no memory, but for what the reclaimer does, and waits as
+/// its manner does.
+pub fn flush<T: Drop, R: Reclaim<T>, M: Drainer<T, R>>(
     slots: &Slots,
     blocks: &Blocks<T>,
     spots: &mut Spots<Header, Part, T>,
@@ -46,8 +45,9 @@ pub fn flush<T: Drop, R: Reclaim<T>>(
     key: &mut SlotKey,
     reclaimer: &mut R,
     pass: &mut Pass,
-    rt: &impl Wait,
+    manner: &M,
 ) -> bool
+    requires may { M.may manner.now pass.old.id }
     requires book { IsKeyOfBook key.old pass.old × (slots_book slots.now ≡ pass.old.name) × (blocks_book blocks.now ≡ pass.old.name) }
     requires inside { IsInside key.old }
     requires size { size ≡ pass.old.size }
@@ -67,10 +67,10 @@ pub fn flush<T: Drop, R: Reclaim<T>>(
         return false;
     }
     let retired = settle(
-        slots, blocks, spots, batch, &mut queue, key, reclaimer, pass, rt,
+        slots, blocks, spots, batch, &mut queue, key, reclaimer, pass, manner,
     );
     drain(
-        slots, blocks, spots, batch, size, &mut queue, key, reclaimer, pass, rt,
+        slots, blocks, spots, batch, size, &mut queue, key, reclaimer, pass, manner,
     );
     key.finish(pass);
     retired
@@ -82,10 +82,9 @@ pub fn flush<T: Drop, R: Reclaim<T>>(
 /// batch was retired, with the values that it had then.
 ///
 /// What reclaimers put meanwhile is retired then, one after the other: the batch may have some of these values afterwards. It takes no
-/// memory, but for what the reclaimer does, and ends where reclaimers come to put no more. An insertion is tried again as often as others
-/// change the head between a look at it and the try.
+/// memory, but for what the reclaimer does, and waits as its manner does.
 #[inline]
-pub fn retire<T: Drop, R: Reclaim<T>>(
+pub fn retire<T: Drop, R: Reclaim<T>, M: Drainer<T, R>>(
     slots: &Slots,
     blocks: &Blocks<T>,
     spots: &mut Spots<Header, Part, T>,
@@ -97,8 +96,9 @@ pub fn retire<T: Drop, R: Reclaim<T>>(
     key: &mut SlotKey,
     reclaimer: &mut R,
     pass: &mut Pass,
-    rt: &impl Wait,
+    manner: &M,
 ) -> bool
+    requires may { M.may manner.now pass.old.id }
     requires book { IsKeyOfBook key.old pass.old × (slots_book slots.now ≡ pass.old.name) × (blocks_book blocks.now ≡ pass.old.name) }
     requires idle { is_idle (slot_of key.old) ≡ true }
     requires value { (book_of value ≡ pass.old.name) × MayRetire value × (block_number (value_of value) ≡ number) }
@@ -117,10 +117,10 @@ pub fn retire<T: Drop, R: Reclaim<T>>(
     key.begin_retire(&mut value, kept, pass);
     let retired = put(
         slots, blocks, spots, batch, size, number, kept, value, &mut queue, key, reclaimer, pass,
-        rt,
+        manner,
     );
     drain(
-        slots, blocks, spots, batch, size, &mut queue, key, reclaimer, pass, rt,
+        slots, blocks, spots, batch, size, &mut queue, key, reclaimer, pass, manner,
     );
     key.finish(pass);
     retired
@@ -129,9 +129,8 @@ pub fn retire<T: Drop, R: Reclaim<T>>(
 /// The slot leaves, by its own head, and may enter with the same activation again. It counts down what waited for it, and hands what is
 /// given up. What reclaimers put meanwhile joins the slot's batch then, which is this one, as with `retire`.
 ///
-/// It takes no memory, but for what the reclaimer does, and ends where reclaimers come to put no more. An insertion is tried again as often
-/// as others change the head between a look at it and the try.
-pub fn leave<T: Drop, R: Reclaim<T>>(
+/// It takes no memory, but for what the reclaimer does, and waits as its manner does.
+pub fn leave<T: Drop, R: Reclaim<T>, M: Drainer<T, R>>(
     slots: &Slots,
     head: &Head,
     blocks: &Blocks<T>,
@@ -142,8 +141,9 @@ pub fn leave<T: Drop, R: Reclaim<T>>(
     key: &mut SlotKey,
     reclaimer: &mut R,
     pass: &mut Pass,
-    rt: &impl Wait,
+    manner: &M,
 )
+    requires may { M.may manner.now pass.old.id }
     requires words { (slots_book slots.now ≡ pass.old.name) × (blocks_book blocks.now ≡ pass.old.name) }
     requires book { IsKeyOfBook key.old pass.old × IsHeadOfBook head.now pass.old × IsOwnHead head.now key.old }
     requires inside { IsInside key.old }
@@ -165,7 +165,7 @@ pub fn leave<T: Drop, R: Reclaim<T>>(
     let word = head.leave(activation, key, pass);
     walk_all(blocks, spots, word, key, reclaimer, &mut queue, pass);
     drain(
-        slots, blocks, spots, batch, size, &mut queue, key, reclaimer, pass, rt,
+        slots, blocks, spots, batch, size, &mut queue, key, reclaimer, pass, manner,
     );
     key.finish(pass);
 }
@@ -173,9 +173,8 @@ pub fn leave<T: Drop, R: Reclaim<T>>(
 /// The slot refreshes, by its own head, and stays active. It counts down what waited for it, and hands what is given up. What reclaimers
 /// put meanwhile joins the slot's batch then, which is this one, as with `retire`.
 ///
-/// It takes no memory, but for what the reclaimer does, and ends where reclaimers come to put no more. An insertion is tried again as often
-/// as others change the head between a look at it and the try.
-pub fn refresh<T: Drop, R: Reclaim<T>>(
+/// It takes no memory, but for what the reclaimer does, and waits as its manner does.
+pub fn refresh<T: Drop, R: Reclaim<T>, M: Drainer<T, R>>(
     slots: &Slots,
     head: &Head,
     blocks: &Blocks<T>,
@@ -186,8 +185,9 @@ pub fn refresh<T: Drop, R: Reclaim<T>>(
     key: &mut SlotKey,
     reclaimer: &mut R,
     pass: &mut Pass,
-    rt: &impl Wait,
+    manner: &M,
 )
+    requires may { M.may manner.now pass.old.id }
     requires words { (slots_book slots.now ≡ pass.old.name) × (blocks_book blocks.now ≡ pass.old.name) }
     requires book { IsKeyOfBook key.old pass.old × IsHeadOfBook head.now pass.old × IsOwnHead head.now key.old }
     requires inside { IsInside key.old }
@@ -210,7 +210,7 @@ pub fn refresh<T: Drop, R: Reclaim<T>>(
     let word = head.refresh(activation, key, pass);
     walk_all(blocks, spots, word, key, reclaimer, &mut queue, pass);
     drain(
-        slots, blocks, spots, batch, size, &mut queue, key, reclaimer, pass, rt,
+        slots, blocks, spots, batch, size, &mut queue, key, reclaimer, pass, manner,
     );
     key.finish(pass);
 }

@@ -77,10 +77,14 @@ impl Further {
     /// All the others come after its own, and none are left there.
     ///
     /// It takes no memory, however many they are: a look-up, a plain read and a plain write.
-    pub(crate) fn append<T: Drop>(&mut self, blocks: &Blocks<T>, other: &mut Further)
+    pub fn append<T: Drop>(&mut self, blocks: &Blocks<T>, other: &mut Further)
         requires book { (keys_book (further_in self.old) ≡ blocks_book blocks.now) ×
             (keys_book (further_in other.old) ≡ blocks_book blocks.now) }
-        ensures { JoinsValues (further_in self.old) (further_in other.old) (further_in self.new) }
+        ensures joins { JoinsValues (further_in self.old) (further_in other.old) (further_in self.new) }
+        ensures emptied { (keys_book (further_in other.new) ≡ keys_book (further_in other.old)) ×
+            (values_of (further_in other.new) ≡ []) }
+        ensures new { AreNew (further_in self.old) → AreNew (further_in other.old) →
+            AreNew (further_in self.new) × AreNew (further_in other.new) }
     {
         if other.front == 0 {
             return;
@@ -96,7 +100,7 @@ impl Further {
     /// The first of them, which there is, with the number of its block and what is kept of it.
     ///
     /// It takes no memory: a look-up and a plain read.
-    pub(crate) fn next<T: Drop>(&mut self, blocks: &Blocks<T>) -> (ValueKey, u64, u64)
+    pub fn next<T: Drop>(&mut self, blocks: &Blocks<T>) -> (ValueKey, u64, u64)
         requires book { keys_book (further_in self.old) ≡ blocks_book blocks.now }
         requires some { values_of (further_in self.old) ≢ [] }
         ensures { IsFirstOut (further_in self.old) result.0 result.1 result.2 (further_in self.new) }

@@ -1,6 +1,6 @@
 //! What an attempt does between the detach and the add: it inserts the batch at the slots that the call has marked, in their order. Others
 //! may step on all these words meanwhile, and add any events.
-ghost use Rattle.std.specs.Prelude.{◌≡◌, ◌<◌, ◌≤◌, ◌+◌, ◌^◌, [], length, take};
+ghost use Rattle.std.specs.Prelude.{◌≡◌, ◌<◌, ◌≤◌, ◌+◌, ◌^◌, [], length, take, true};
 ghost use Rattle.seize_calls.specs.Batches.{IsAsBefore, first_in, keys_in, slot_marks_in, slot_marks_of};
 ghost use Rattle.seize_calls.specs.Inserts.{GoesPast, HasHome, InsertsAtEach, InsertsAtSlot, IsAtNext, IsAtSlot, IsAtTry, IsInserting, TriesOnce};
 ghost use Rattle.seize_calls.specs.Rounds.{all_in, book_at, done_in, rest_in};
@@ -8,35 +8,36 @@ ghost use Rattle.seize_book.specs.Private.{labels_of};
 ghost use Rattle.seize_book.specs.Values.{AreOfBook, values_of};
 ghost use Rattle.seize_words.specs.Counts.{values_in};
 ghost use Rattle.seize_words.specs.Chunks.{blocks_book, header_book};
-ghost use Rattle.seize_words.specs.Reservations.{IsHeadOfBook, slot};
+ghost use Rattle.seize_words.specs.Reservations.{IsHeadOfBook, ShowsHead, slot};
 ghost use Rattle.seize_words.specs.Reserved.{slots_book};
 ghost use Rattle.seize_book.specs.Slots.{IsKeyOfBook};
+ghost use Rattle.seize_book.specs.Tokens.{IsSole};
 ghost use Rattle.seize_words.specs.Totals.{slots_seen};
 ghost use Rattle.seize_words.specs.Walks.{Knows};
 
 use crate::batch::Batch;
+use crate::manner::Manner;
 use crate::round::Round;
 use seize_words::blocks::Blocks;
 use seize_words::book::{Pass, SlotKey};
 use seize_words::chunk::Header;
 use seize_words::reservation::Head;
 use seize_words::slots::Slots;
-use std::sync::Wait;
 
 /// Inserts the batch that the slot's call has detached, at the slots that are noted of its first blocks, as many as were marked, in their
 /// order, with the block of each. It gives how many insertions were won.
 ///
-/// It takes no memory: for each slot a look-up and a plain read, beside what the insertion does. That is tried again as often as others
-/// change the head between a look at it and the try.
-pub fn insert_each<T: Drop>(
+/// It takes no memory: for each slot a look-up and a plain read, beside what the insertion does (`Manner::insert`).
+pub fn insert_each<T: Drop, M: Manner>(
     slots: &Slots,
     blocks: &Blocks<T>,
     batch: &mut Batch,
     marked: usize,
     key: &mut SlotKey,
     pass: &mut Pass,
-    rt: &impl Wait,
+    manner: &M,
 ) -> u64
+    requires may { M.may manner.now pass.old.id }
     requires book { IsKeyOfBook key.old pass.old × (slots_book slots.now ≡ pass.old.name) × (blocks_book blocks.now ≡ pass.old.name) }
     requires knows { Knows key.old pass.old }
     requires batch { AreOfBook (keys_in batch.old) pass.old × (marked ≤ length (slot_marks_in batch.old)) }
@@ -51,13 +52,13 @@ pub fn insert_each<T: Drop>(
 {
     let front = batch.first;
     let mut round = Round::new(front, &mut batch.values, pass);
-    let won = insert_round(slots, blocks, &mut round, marked, front, key, pass, rt);
+    let won = insert_round(slots, blocks, &mut round, marked, front, key, pass, manner);
     round.end(&mut batch.values, pass);
     won
 }
 
 // Inserts it with so many blocks of the round.
-fn insert_round<T: Drop>(
+fn insert_round<T: Drop, M: Manner>(
     slots: &Slots,
     blocks: &Blocks<T>,
     round: &mut Round,
@@ -65,8 +66,9 @@ fn insert_round<T: Drop>(
     front: u64,
     key: &mut SlotKey,
     pass: &mut Pass,
-    rt: &impl Wait,
+    manner: &M,
 ) -> u64
+    requires may { M.may manner.now pass.old.id }
     requires book { IsKeyOfBook key.old pass.old × (slots_book slots.now ≡ pass.old.name) × (blocks_book blocks.now ≡ pass.old.name) }
     requires round { (book_at round.old ≡ pass.old.name) × (done_in round.old ≡ []) ×
         (marked ≤ length (slot_marks_of (rest_in round.old))) }
@@ -82,7 +84,7 @@ fn insert_round<T: Drop>(
 {
     let mut won: u64 = 0;
     for _ in 0..marked {
-        if insert_at(slots, blocks, round, front, key, pass, rt) {
+        if insert_at(slots, blocks, round, front, key, pass, manner) {
             won += 1;
         }
     }
@@ -91,15 +93,16 @@ fn insert_round<T: Drop>(
 
 // Inserts the batch with the next block of the round, at the slot that is noted of it. It says whether an insertion was won; where the slot
 // is inactive it is skipped.
-fn insert_at<T: Drop>(
+fn insert_at<T: Drop, M: Manner>(
     slots: &Slots,
     blocks: &Blocks<T>,
     round: &mut Round,
     front: u64,
     key: &mut SlotKey,
     pass: &mut Pass,
-    rt: &impl Wait,
+    manner: &M,
 ) -> bool
+    requires may { M.may manner.now pass.old.id }
     requires book { IsKeyOfBook key.old pass.old × (slots_book slots.now ≡ pass.old.name) × (blocks_book blocks.now ≡ pass.old.name) }
     requires round { book_at round.old ≡ pass.old.name }
     requires knows { Knows key.old pass.old }
@@ -115,43 +118,12 @@ fn insert_at<T: Drop>(
     let header = blocks.header(block, pass);
     let note = round.next(header);
     let head = slots.head(note.slot, pass);
-    insert_by(head, header, block, front, key, pass, rt)
+    manner.insert(head, header, block, front, key, pass)
 }
 
-// The same, with the words in hand.
-fn insert_by(
-    head: &Head,
-    header: &Header,
-    block: u64,
-    front: u64,
-    key: &mut SlotKey,
-    pass: &mut Pass,
-    rt: &impl Wait,
-) -> bool
-    requires book { IsKeyOfBook key.old pass.old × IsHeadOfBook head.now pass.old × (header_book header.now ≡ pass.old.name) }
-    requires fits { block + 2 < 2 ^ 64 }
-    requires knows { Knows key.old pass.old }
-    requires at { IsAtSlot key.old (slot head.now) block front }
-    requires home { (at : IsAtSlot key.old (slot head.now) block front) → HasHome at header.now }
-    requires seen { slot head.now < slots_seen pass.old }
-    ensures book { IsKeyOfBook key.new pass.new }
-    ensures knows { Knows key.new pass.new }
-    ensures inserted { (at : IsAtSlot key.old (slot head.now) block front) → InsertsAtSlot at pass.old key.new pass.new result }
-{
-    for _ in rt.forever() {
-        let seen = head.read(key, pass);
-        if seen == 0 {
-            return false;
-        }
-        if try_once(head, header, seen, block, front, key, pass) {
-            return true;
-        }
-    }
-    unreachable!()
-}
-
-// Stores what leads on from the block, and inserts the batch with it if the head's word is still what was seen. It says whether it was.
-fn try_once(
+// Stores what leads on from the block, and inserts the batch with it if the head's word is still what was seen. It says whether it was:
+// it is so where the pass is alone and has seen the head as it was.
+pub(crate) fn try_once(
     head: &Head,
     header: &Header,
     seen: u64,
@@ -165,6 +137,7 @@ fn try_once(
     ensures book { IsKeyOfBook key.new pass.new }
     ensures knows { Knows key.new pass.new }
     ensures tried { (at : IsAtTry key.old head.now header.now seen block front) → TriesOnce at pass.old key.new pass.new result }
+    ensures alone { IsSole pass.old.id → ShowsHead head.now pass.old.seen seen → result ≡ true }
 {
     header.next.store(seen, key, pass);
     header.first.store(front, key, pass);

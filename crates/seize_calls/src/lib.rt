@@ -2,10 +2,12 @@
 //! code over the calls of `seize_words`, and holds beside whatever others add meanwhile.
 //!
 //! `batch` is what a slot's holder keeps of its batch, and `round` goes through it, from block to block. `marking` and `inserting` are the
-//! two halves of an attempt, which `attempt` joins. `handing` gives values to reclaimers, `further` is what these put, and `settling` and
-//! `draining` are what a call does with its batch and with its queue. `slot` has all that belongs to a slot in one value, with its calls.
+//! two halves of an attempt, which `attempt` joins. `handing` gives values to reclaimers, `further` is what these put, and `apart` keeps
+//! that from the call. `settling` and `draining` are what a call does with its batch and with its queue. `manner` is how a call is made,
+//! beside others or by a pass that is alone. `slot` has all that belongs to a slot in one value, with its calls.
 #![tactic(auto)]
 
+pub mod apart;
 pub mod attempt;
 pub mod batch;
 pub mod calls;
@@ -14,6 +16,7 @@ pub mod draining;
 pub mod further;
 pub mod handing;
 pub mod inserting;
+pub mod manner;
 pub mod marking;
 pub mod round;
 pub mod settling;

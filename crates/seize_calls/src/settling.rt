@@ -13,20 +13,20 @@ use crate::attempt::{AttemptOutcome, attempt};
 use crate::batch::Batch;
 use crate::further::Further;
 use crate::handing::{Reclaim, hand_all};
+use crate::manner::Manner;
 use seize_store::Spots;
 use seize_words::blocks::Blocks;
 use seize_words::book::{Pass, SlotKey, ValueKey};
 use seize_words::chunk::{Header, Part};
 use seize_words::slots::Slots;
-use std::sync::Wait;
 
 /// Attempts the slot's batch, and hands its values if they are given up. It says whether the batch was retired: if it was, it has no values
 /// any more.
 ///
-/// It takes no memory, but for what the reclaimer does. An insertion is tried again as often as others change the head between a look at it
-/// and the try.
+/// It takes no memory, but for what the reclaimer does, and waits as its manner does.
+#[cold]
 #[inline(never)]
-pub fn settle<T: Drop, R: Reclaim<T>>(
+pub fn settle<T: Drop, R: Reclaim<T>, M: Manner>(
     slots: &Slots,
     blocks: &Blocks<T>,
     spots: &mut Spots<Header, Part, T>,
@@ -35,8 +35,9 @@ pub fn settle<T: Drop, R: Reclaim<T>>(
     key: &mut SlotKey,
     reclaimer: &mut R,
     pass: &mut Pass,
-    rt: &impl Wait,
+    manner: &M,
 ) -> bool
+    requires may { M.may manner.now pass.old.id }
     requires words { (slots_book slots.now ≡ pass.old.name) × (blocks_book blocks.now ≡ pass.old.name) }
     requires well_formed { IsWellFormed (call_state key.old pass.old batch.old queue.old (R.had reclaimer.old)) }
     requires marking { IsToMark key.old (further_in queue.old) }
@@ -46,9 +47,9 @@ pub fn settle<T: Drop, R: Reclaim<T>>(
     ensures serves { R.serves reclaimer.new (blocks_book blocks.now) }
     ensures spots { AreSpotsIn blocks.now spots.new }
     ensures settles { let from = call_state key.old pass.old batch.old queue.old (R.had reclaimer.old) in
-        Settles from (call_state key.new pass.new batch.new queue.new (R.had reclaimer.new)) result }
+        Settles 0 from (call_state key.new pass.new batch.new queue.new (R.had reclaimer.new)) result }
 {
-    match attempt(slots, blocks, batch, key, pass, rt) {
+    match attempt(slots, blocks, batch, key, pass, manner) {
         AttemptOutcome::Stays => false,
         AttemptOutcome::Waits => true,
         AttemptOutcome::GivenUp => {
@@ -75,7 +76,7 @@ pub fn settle<T: Drop, R: Reclaim<T>>(
 ///
 /// It takes no memory and waits as `settle` does.
 #[inline]
-pub fn put<T: Drop, R: Reclaim<T>>(
+pub fn put<T: Drop, R: Reclaim<T>, M: Manner>(
     slots: &Slots,
     blocks: &Blocks<T>,
     spots: &mut Spots<Header, Part, T>,
@@ -88,8 +89,9 @@ pub fn put<T: Drop, R: Reclaim<T>>(
     key: &mut SlotKey,
     reclaimer: &mut R,
     pass: &mut Pass,
-    rt: &impl Wait,
+    manner: &M,
 ) -> bool
+    requires may { M.may manner.now pass.old.id }
     requires words { (slots_book slots.now ≡ pass.old.name) × (blocks_book blocks.now ≡ pass.old.name) }
     requires size { size ≡ pass.old.size }
     requires well_formed { IsWellFormed (call_state key.old pass.old batch.old queue.old (R.had reclaimer.old)) }
@@ -109,5 +111,7 @@ pub fn put<T: Drop, R: Reclaim<T>>(
     if batch.len < size {
         return false;
     }
-    settle(slots, blocks, spots, batch, queue, key, reclaimer, pass, rt)
+    settle(
+        slots, blocks, spots, batch, queue, key, reclaimer, pass, manner,
+    )
 }

@@ -1,6 +1,6 @@
 //! A slot as its holder has it, in one value, and its calls. They are those of `calls`, with all that belongs to the slot; a pass that is
 //! lent anew for each call learns first what the ones before it saw.
-ghost use Rattle.std.specs.Prelude.{◌≡◌, IfErr, IfNone, IfOk, IfSome, false};
+ghost use Rattle.std.specs.Prelude.{◌≡◌, IfErr, IfNone, IfOk, IfSome, false, true};
 ghost use Rattle.seize_book.specs.Blocks.{block_number};
 ghost use Rattle.seize_book.specs.Others.{AreNumbersOf, value_of};
 ghost use Rattle.seize_words.specs.Joined.{words_book};
@@ -8,17 +8,18 @@ ghost use Rattle.seize_calls.specs.Together.{BelongTogether};
 
 use crate::batch::Batch;
 use crate::calls;
+use crate::draining::Drainer;
 use crate::handing::Reclaim;
 use seize_store::{Bare, Spots};
 use seize_table::Refusal;
 use seize_words::activation::Activation;
+use seize_words::blocks::Blocks;
 use seize_words::book::{NumbersKey, Pass, Seen, SlotKey, ValueKey};
 use seize_words::chunk::{Header, Part};
 use seize_words::link::MaybeKey;
 use seize_words::slots::NextSlot;
 use seize_words::words::Words;
 use std::alloc::Global;
-use std::sync::Wait;
 
 /// A value that is in no link, and is to be retired, with the number of its block.
 ///
@@ -31,8 +32,21 @@ pub struct Loose {
 
 impl Loose {
     ghost use Rattle.seize_book.specs.Blocks.{link_word};
+    ghost use Rattle.seize_book.specs.Lending.{IsLentKey};
+    ghost use Rattle.seize_book.specs.Others.{MayRetire};
+    ghost use Rattle.seize_words.specs.Chunks.{IsLentAs, blocks_book};
     ghost use Rattle.seize_words.specs.LinkWords.{IsLoose, value_held};
-    ghost use Rattle.seize_calls.specs.Slots.{IsLooseIn};
+    ghost use Rattle.seize_calls.specs.Slots.{IsLooseAs, IsLooseIn, IsReadable, its_value, loose_book};
+
+    /// A value that is in no link, and the number of its block. It came out of a link, or was never named and something is lent with it.
+    pub fn new(number: u64, value: ValueKey) -> Loose
+        requires number { block_number (value_of value) ≡ number }
+        requires may { MayRetire value }
+        ensures loose { IsLooseAs value result }
+        ensures readable { IsLentKey value → IsReadable result }
+    {
+        Loose { number, value }
+    }
 
     /// What came out of a link, whose word was this; nothing where that was 0.
     pub fn of(word: u64, key: MaybeKey) -> Option<Loose>
@@ -48,6 +62,18 @@ impl Loose {
             number: word - 1,
             value: key.value(),
         })
+    }
+
+    /// What is lent with the value, for as long as this and the blocks are borrowed: a value of the code that the value's name says. Others
+    /// may see it meanwhile by their activations. No event is made.
+    ///
+    /// It takes no memory: three loads, each of which waits for the one before, with that of what is read in the value.
+    pub fn peek<'g, T: Drop>(&'g self, blocks: &'g Blocks<T>) -> &'g T
+        requires book { loose_book self.now ≡ blocks_book blocks.now }
+        requires readable { IsReadable self.now }
+        ensures code { IsLentAs (its_value self.now) (T.row.coded.code result.now) }
+    {
+        blocks.peek(self.number, &self.value)
     }
 }
 
@@ -66,15 +92,19 @@ pub struct Slot<T> {
 }
 
 impl<T: Drop> Slot<T> {
-    ghost use Rattle.seize_book.specs.Slots.{active_of};
+    ghost use Rattle.std.specs.Prelude.{length, min, ◌-◌, ◌^◌};
+    ghost use Rattle.seize_book.specs.Others.{MayTakeNumber};
+    ghost use Rattle.seize_book.specs.Slots.{slot_of};
     ghost use Rattle.seize_table.specs.declared.refusal.Refusal.TheVariants.{NoMemory};
     ghost use Rattle.seize_words.specs.Reservations.{IsOfSlot};
     ghost use Rattle.seize_words.specs.Reserved.{HasNextSlot, IsSameNext};
     ghost use Rattle.seize_words.specs.Totals.{};
     ghost use Rattle.seize_words.specs.Chunks.{IsBlockIn};
-    ghost use Rattle.seize_calls.specs.Slots.{KeepsCalls, MakesOneSlot, Prepares, its_book, its_key, its_seen};
-    ghost use Rattle.seize_calls.specs.Slots.{HasActivation, IsActive, IsLooseOf, IsPassFor, IsSlotOf, KeepsActivation, MayEnterWith, its_number};
-    ghost use Rattle.seize_calls.specs.Slots.{SlotEnters, SlotFlushes, SlotLeaves, SlotRefreshes, SlotRetires};
+    ghost use Rattle.seize_calls.specs.Slots.{KeepsCalls, MakesOneSlot, Prepares, SetsUse, its_book, its_key, its_number, its_seen};
+    ghost use Rattle.seize_calls.specs.Calls.{HasBegun};
+    ghost use Rattle.seize_calls.specs.Slots.{HasActivation, InActivation, IsLooseOf, IsPassFor, KeepsActivation, MayEnterWith};
+    ghost use Rattle.seize_calls.specs.Slots.{IsActive, IsFreeSlotOf, IsInactive, IsSlotOf};
+    ghost use Rattle.seize_calls.specs.Slots.{SlotEnters, SlotFlushes, SlotGives, SlotLeaves, SlotLooks, SlotRefreshes, SlotRetires, SlotTakes};
 
     /// Makes the slot that comes next, which is inactive and has no batch. It takes memory for its list of spots first, and for a bucket of
     /// the table of heads where that has none for it.
@@ -94,7 +124,7 @@ impl<T: Drop> Slot<T> {
         requires next { HasNextSlot numbers.old next }
         ensures of { IfOk result (λ made. IsSlotOf words.now made.0) }
         ensures made { IfOk result (λ made. MakesOneSlot numbers.old next pass.old numbers.new made.0 made.1 pass.new) }
-        ensures outside { IfOk result (λ made. active_of (its_key made.0) ≡ false) }
+        ensures outside { IfOk result (λ made. IsInactive made.0) }
         ensures refused { IfErr result (λ e. (e.0 ≡ NoMemory) × IsSameNext next e.1) }
         ensures unchanged { IfErr result (λ e. (numbers.new ≡ numbers.old) × (pass.new ≡ pass.old)) }
     {
@@ -157,12 +187,84 @@ impl<T: Drop> Slot<T> {
         words.blocks.add_from(&mut self.spots, value, pass)
     }
 
+    /// How many values its batch has, or `usize::MAX` where they are more.
+    pub fn len(&self) -> usize
+        ensures { result ≡ min (length (slot_of (its_key self.now)).batch) (2 ^ 64 - 1) }
+    {
+        self.batch.len()
+    }
+
+    /// How many chunks it keeps for its next blocks.
+    pub fn spare(&self) -> usize {
+        self.spots.len()
+    }
+
+    /// Looks at the list with no event: the pass knows of the slot then what its own key says. It does nothing else.
+    pub fn look(&mut self, _words: &Words<T>, pass: &mut Pass)
+        requires of { IsSlotOf _words.now self.old × IsPassFor _words.now pass.old }
+        ensures of { IsSlotOf _words.now self.new × KeepsActivation self.old self.new }
+        ensures looks { SlotLooks self.old pass.old self.new pass.new }
+    {
+        pass.learn(&self.seen);
+        self.key.look(pass);
+        self.seen.learn(pass);
+    }
+
     /// The pass learns what the slot has seen, such as that its activation began. No event is made with it.
     pub fn teach(&self, pass: &mut Pass)
         requires { pass.old.name ≡ its_book self.now }
         ensures { Prepares self.now pass.old pass.new }
     {
         pass.learn(&self.seen);
+    }
+
+    /// The slot is in this activation, of which the caller has a part: it has begun, as the pass has seen, and lasts. So a slot that is
+    /// inactive, as its key knows, has none. The pass learns what the slot has seen and looks at the list, and so does the slot; no event
+    /// is made with it.
+    ///
+    /// It does nothing when the program runs: its contract is the law.
+    pub fn current(&mut self, _words: &Words<T>, unit: &Activation, pass: &mut Pass)
+        requires of { IsSlotOf _words.now self.old × IsPassFor _words.now pass.old }
+        requires unit { (unit.now.slot ≡ its_number self.old) × HasBegun unit.now pass.old }
+        ensures of { IsSlotOf _words.now self.new × KeepsActivation self.old self.new }
+        ensures within { IsActive self.old × InActivation self.new unit.now }
+        ensures looks { SlotLooks self.old pass.old self.new pass.new }
+    {
+        self.look(_words, pass);
+        unit.lasts(pass);
+    }
+
+    /// The slot's number goes back. The slot is inactive and keeps its batch; it can do no more until the number is taken again.
+    ///
+    /// It takes no memory, makes no atomic step and waits for nobody.
+    pub fn give(&mut self, _words: &Words<T>, numbers: &mut NumbersKey, pass: &mut Pass)
+        requires of { IsSlotOf _words.now self.old × IsPassFor _words.now pass.old }
+        requires numbers { AreNumbersOf numbers.old pass.old }
+        requires outside { IsInactive self.old }
+        ensures of { IsFreeSlotOf _words.now self.new }
+        ensures gives { SlotGives self.old pass.old self.new pass.new }
+        ensures numbers { SetsUse numbers.old pass.new numbers.new self.old false }
+    {
+        pass.learn(&self.seen);
+        self.key.give(numbers, pass);
+        self.seen.learn(pass);
+    }
+
+    /// The slot's number, which went back, is taken again: it is the least that is not in use. Then the slot may enter, as a new one may,
+    /// and it has the batch that it kept.
+    ///
+    /// It takes no memory, makes no atomic step and waits for nobody.
+    pub fn take_again(&mut self, _words: &Words<T>, numbers: &mut NumbersKey, pass: &mut Pass)
+        requires of { IsFreeSlotOf _words.now self.old × IsPassFor _words.now pass.old }
+        requires numbers { AreNumbersOf numbers.old pass.old × MayTakeNumber numbers.old (its_key self.old) }
+        ensures of { IsSlotOf _words.now self.new }
+        ensures outside { IsInactive self.new }
+        ensures takes { SlotTakes self.old pass.old self.new pass.new }
+        ensures numbers { SetsUse numbers.old pass.new numbers.new self.old true }
+    {
+        pass.learn(&self.seen);
+        self.key.take_again(numbers, pass);
+        self.seen.learn(pass);
     }
 
     /// The slot enters, which begins the activation.
@@ -183,18 +285,17 @@ impl<T: Drop> Slot<T> {
     /// Retires the value: it comes last in the slot's batch, and `kept` is kept of it. Where the batch has as many values as the batch size
     /// says, it is attempted. It says whether the batch was retired.
     ///
-    /// It takes no memory, but for what the reclaimer does, and ends where reclaimers come to put no more. An insertion is tried again as
-    /// often as others change the head between a look at it and the try.
-    pub fn retire<R: Reclaim<T>>(
+    /// It takes no memory, but for what the reclaimer does, and waits as its manner does.
+    pub fn retire<R: Reclaim<T>, M: Drainer<T, R>>(
         &mut self,
         words: &Words<T>,
         value: Loose,
         kept: u64,
         reclaimer: &mut R,
         pass: &mut Pass,
-        rt: &impl Wait,
+        manner: &M,
     ) -> bool
-        requires of { IsSlotOf words.now self.old × IsPassFor words.now pass.old }
+        requires of { IsSlotOf words.now self.old × IsPassFor words.now pass.old × M.may manner.now pass.old.id }
         requires value { IsLooseOf words.now value }
         requires serves { R.serves reclaimer.old (words_book words.now) }
         ensures of { IsSlotOf words.now self.new × KeepsActivation self.old self.new }
@@ -216,7 +317,7 @@ impl<T: Drop> Slot<T> {
             &mut self.key,
             reclaimer,
             pass,
-            rt,
+            manner,
         );
         self.seen.learn(pass);
         retired
@@ -225,14 +326,14 @@ impl<T: Drop> Slot<T> {
     /// Attempts the batch of the slot, which is active, at any length. It says whether the batch was retired with the values that it had.
     ///
     /// It takes no memory and waits as `retire` does.
-    pub fn flush<R: Reclaim<T>>(
+    pub fn flush<R: Reclaim<T>, M: Drainer<T, R>>(
         &mut self,
         words: &Words<T>,
         reclaimer: &mut R,
         pass: &mut Pass,
-        rt: &impl Wait,
+        manner: &M,
     ) -> bool
-        requires of { IsSlotOf words.now self.old × IsPassFor words.now pass.old }
+        requires of { IsSlotOf words.now self.old × IsPassFor words.now pass.old × M.may manner.now pass.old.id }
         requires inside { IsActive self.old }
         requires serves { R.serves reclaimer.old (words_book words.now) }
         ensures of { IsSlotOf words.now self.new × KeepsActivation self.old self.new }
@@ -249,7 +350,7 @@ impl<T: Drop> Slot<T> {
             &mut self.key,
             reclaimer,
             pass,
-            rt,
+            manner,
         );
         self.seen.learn(pass);
         retired
@@ -259,15 +360,15 @@ impl<T: Drop> Slot<T> {
     /// reclaimers put meanwhile joins the slot's batch, as with `retire`.
     ///
     /// It takes no memory and waits as `retire` does.
-    pub fn leave<R: Reclaim<T>>(
+    pub fn leave<R: Reclaim<T>, M: Drainer<T, R>>(
         &mut self,
         words: &Words<T>,
         activation: &mut Activation,
         reclaimer: &mut R,
         pass: &mut Pass,
-        rt: &impl Wait,
+        manner: &M,
     )
-        requires of { IsSlotOf words.now self.old × IsPassFor words.now pass.old }
+        requires of { IsSlotOf words.now self.old × IsPassFor words.now pass.old × M.may manner.now pass.old.id }
         requires inside { HasActivation self.old activation.old }
         requires serves { R.serves reclaimer.old (words_book words.now) }
         ensures of { IsSlotOf words.now self.new × MayEnterWith self.new activation.new }
@@ -287,7 +388,7 @@ impl<T: Drop> Slot<T> {
             &mut self.key,
             reclaimer,
             pass,
-            rt,
+            manner,
         );
         self.seen.learn(pass);
     }
@@ -296,15 +397,15 @@ impl<T: Drop> Slot<T> {
     /// is given up. What reclaimers put meanwhile joins the slot's batch, as with `retire`.
     ///
     /// It takes no memory and waits as `retire` does.
-    pub fn refresh<R: Reclaim<T>>(
+    pub fn refresh<R: Reclaim<T>, M: Drainer<T, R>>(
         &mut self,
         words: &Words<T>,
         activation: &mut Activation,
         reclaimer: &mut R,
         pass: &mut Pass,
-        rt: &impl Wait,
+        manner: &M,
     )
-        requires of { IsSlotOf words.now self.old × IsPassFor words.now pass.old }
+        requires of { IsSlotOf words.now self.old × IsPassFor words.now pass.old × M.may manner.now pass.old.id }
         requires inside { HasActivation self.old activation.old }
         requires serves { R.serves reclaimer.old (words_book words.now) }
         ensures of { IsSlotOf words.now self.new }
@@ -326,7 +427,7 @@ impl<T: Drop> Slot<T> {
             &mut self.key,
             reclaimer,
             pass,
-            rt,
+            manner,
         );
         self.seen.learn(pass);
     }

@@ -57,9 +57,42 @@ pub fn walk<T: Drop>(
 /// Counts down all the batches to which this word leads. What one of them gives up is handed before the walk goes on, and what the
 /// reclaimer puts joins the call's queue.
 ///
-/// It takes no memory and waits for nobody, but for what the reclaimer does.
-#[inline(never)]
+/// It takes no memory and waits for nobody, but for what the reclaimer does. Where no batch waits it compares one word.
+#[inline]
 pub fn walk_all<T: Drop, R: Reclaim<T>>(
+    blocks: &Blocks<T>,
+    spots: &mut Spots<Header, Part, T>,
+    word: u64,
+    key: &mut SlotKey,
+    reclaimer: &mut R,
+    queue: &mut Further,
+    pass: &mut Pass,
+)
+    requires book { IsKeyOfBook key.old pass.old × (blocks_book blocks.now ≡ pass.old.name) }
+    requires queue { AreOfBook (further_in queue.old) pass.old }
+    requires told { AreTold (further_in queue.old) pass.old }
+    requires knows { Knows key.old pass.old }
+    requires at { IsAtWalk key.old word }
+    requires serves { R.serves reclaimer.old (blocks_book blocks.now) }
+    requires spots { AreSpotsIn blocks.now spots.old }
+    ensures book { IsKeyOfBook key.new pass.new }
+    ensures knows { Knows key.new pass.new }
+    ensures walks { (at : IsAtWalk key.old word) → let had = R.had reclaimer.old in let had' = R.had reclaimer.new in
+        WalksAll at pass.old (further_in queue.old) had key.new pass.new (further_in queue.new) had' }
+    ensures told { AreTold (further_in queue.new) pass.new }
+    ensures serves { R.serves reclaimer.new (blocks_book blocks.now) }
+    ensures spots { AreSpotsIn blocks.now spots.new }
+{
+    if word == 1 {
+        return;
+    }
+    walk_waiting(blocks, spots, word, key, reclaimer, queue, pass);
+}
+
+// The same where some may wait. It is kept out of the calls, so that those for which none waits are short.
+#[cold]
+#[inline(never)]
+fn walk_waiting<T: Drop, R: Reclaim<T>>(
     blocks: &Blocks<T>,
     spots: &mut Spots<Header, Part, T>,
     word: u64,

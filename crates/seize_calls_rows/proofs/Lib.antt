@@ -1,6 +1,5 @@
-pub mod Readied
-pub mod Workers
-pub mod Links
-pub mod Loose
-pub mod Shut
+pub mod Back
+pub mod Events
+pub mod Ready
 pub mod Seats
+pub mod Sole

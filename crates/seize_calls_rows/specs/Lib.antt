@@ -1,5 +1,5 @@
+pub mod Visitors
+pub mod Guests
 pub mod Putting
-pub mod Workers
 pub mod Turns
 pub mod Seats
-pub mod Visitors

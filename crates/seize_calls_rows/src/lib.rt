@@ -1,16 +1,16 @@
-//! Callers of a slot's whole calls: a worker with a slot of its own enters, swaps the values of new blocks into links, retires what comes
+//! Callers of a slot's whole calls: a visitor with a slot of its own enters, swaps the values of new blocks into links, retires what comes
 //! out, flushes, refreshes and leaves, beside others. They show that the contracts of the calls, with the exported lemmas, suffice for a
 //! caller.
 #![tactic(auto)]
 
+pub mod beside;
 pub mod counting;
-pub mod holding;
+pub mod guest;
+pub mod hall;
 pub mod putting;
 pub mod running;
 pub mod seat;
 #[cfg(test)]
 mod tests;
 pub mod turns;
-pub mod visiting;
 pub mod visitor;
-pub mod worker;

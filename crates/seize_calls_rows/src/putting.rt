@@ -1,32 +1,52 @@
 //! A reclaimer that puts further values: with each value that it had it puts one or two of those that were made ready before, the one made
 //! last first. It takes no memory when it has a value.
-ghost use Rattle.seize_calls_rows.specs.Putting.{AreReady, IsReady, ready_in};
-ghost use Rattle.seize_calls_rows.specs.Workers.{IsOut, Lends};
+ghost use Rattle.std.specs.Prelude.{◌≡◌, IfOk};
 ghost use Rattle.seize_words.specs.Joined.{words_book};
-ghost use Rattle.std.specs.Prelude.{◌≡◌, IfSome};
+ghost use Rattle.seize_calls.specs.Slots.{IsLooseOf};
+ghost use Rattle.seize_calls_rows.specs.Putting.{AreReady, IsReady, ready_in};
 
 use crate::counting::Counting;
-use crate::worker::{Lender, Out};
+use crate::hall::Hall;
 use seize_calls::further::Further;
 use seize_calls::handing::Reclaim;
+use seize_calls::slot::Loose;
+use seize_table::Refusal;
 use seize_words::blocks::Blocks;
-use seize_words::words::Words;
+use seize_words::book::ValueKey;
 use std::alloc::{AllocError, Global};
 use std::sync::atomic::AtomicU64;
 
-/// A value of a new block, which is lent there, and was never named. Nothing comes where a growth of the store was refused.
-pub fn make(words: &Words<u64>, lender: &Lender, value: u64) -> Option<Out>
-    requires { Lends words.now lender.now }
-    ensures ready { IfSome result (λ out. IsReady (words_book words.now) out) }
-    ensures out { IfSome result (λ out. IsOut words.now out) }
-{
-    let mut pass = lender.porter.pass();
-    let Ok((mut key, block)) = words.blocks.add(value, &mut pass) else {
-        return None;
-    };
-    let number = block.number() as u64;
-    words.blocks.lend(&mut key, block);
-    Some(Out { number, value: key })
+/// A value that was never named, of a new block where it is lent, and the number of the block.
+#[derive(Drop)]
+pub struct Fresh {
+    pub number: u64,
+    pub value: ValueKey,
+}
+
+impl Fresh {
+    /// One of this value.
+    ///
+    /// # Errors
+    ///
+    /// `NoMemory` where a growth of the store was refused.
+    pub fn new(hall: &Hall, value: u64) -> Result<Fresh, Refusal>
+        ensures { IfOk result (λ fresh. IsReady (words_book hall.now.words) fresh) }
+    {
+        let made = hall.words.blocks.add(value, &mut hall.porter.pass());
+        let (mut value, block) = made.map_err(|(refusal, _)| refusal)?;
+        let number = block.number() as u64;
+        hall.words.blocks.lend(&mut value, block);
+        Ok(Fresh { number, value })
+    }
+
+    /// The value, to retire it.
+    pub fn loose(self, hall: &Hall) -> Loose
+        requires { IsReady (words_book hall.now.words) self }
+        ensures { IsLooseOf hall.now.words result }
+    {
+        let Fresh { number, value } = self;
+        Loose::new(number, value)
+    }
 }
 
 /// Puts what was made ready.
@@ -35,7 +55,7 @@ pub struct Putting<'a> {
     /// What it had.
     pub counting: Counting<'a>,
     /// What it has to put, the next one last.
-    pub ready: Vec<Out>,
+    pub ready: Vec<Fresh>,
     /// Whether it puts two with each value, as long as there are some, or one.
     pub twice: bool,
 }
@@ -46,51 +66,38 @@ impl<'a> Putting<'a> {
     ghost use Rattle.seize_calls.specs.Handing.{IsServed};
     ghost use Rattle.seize_words.specs.Chunks.{blocks_book};
 
-    /// It had none, and has nothing of these words' book ready.
-    pub fn new(
-        alloc: Global,
-        _words: &Words<u64>,
-        marks: &'a [AtomicU64],
-        twice: bool,
-    ) -> Putting<'a>
-        ensures { AreReady (words_book _words.now) (ready_in result) }
-    {
-        Putting {
-            counting: Counting::new(marks),
-            ready: Vec::new(alloc),
-            twice,
-        }
-    }
-
-    /// It has to put this before all that it had to put.
+    /// It had none, and has so many values ready, of new blocks: 0, 1 and so on, of which it puts 0 last.
     ///
     /// # Errors
     ///
-    /// Where memory was refused.
-    pub fn push(&mut self, words: &Words<u64>, out: Out) -> Result<(), AllocError>
-        requires ready { AreReady (words_book words.now) (ready_in self.old) × IsReady (words_book words.now) out }
-        ensures ready { AreReady (words_book words.now) (ready_in self.new) }
+    /// `NoMemory` where memory was refused.
+    pub fn new(
+        alloc: Global,
+        hall: &Hall,
+        marks: &'a [AtomicU64],
+        twice: bool,
+        count: u64,
+    ) -> Result<Putting<'a>, Refusal>
+        ensures { IfOk result (λ putting. AreReady (words_book hall.now.words) (ready_in putting)) }
     {
-        self.ready.push(out)?;
-        Ok(())
+        let mut putting = Putting {
+            counting: Counting::new(marks),
+            ready: Vec::new(alloc),
+            twice,
+        };
+        for value in 0..count {
+            putting.push(hall, Fresh::new(hall, value)?)?;
+        }
+        Ok(putting)
     }
 
-    /// Makes so many values more, 0, 1 and so on, of new blocks, each of which it has to put before all that it had to put. It says whether
-    /// all were made.
-    pub fn fill(&mut self, words: &Words<u64>, lender: &Lender, count: u64) -> bool
-        requires lender { Lends words.now lender.now }
-        requires ready { AreReady (words_book words.now) (ready_in self.old) }
-        ensures ready { AreReady (words_book words.now) (ready_in self.new) }
+    // It has to put this before all that it had to put.
+    fn push(&mut self, hall: &Hall, fresh: Fresh) -> Result<(), AllocError>
+        requires ready { AreReady (words_book hall.now.words) (ready_in self.old) × IsReady (words_book hall.now.words) fresh }
+        ensures ready { AreReady (words_book hall.now.words) (ready_in self.new) }
     {
-        for value in 0..count {
-            let Some(out) = make(words, lender, value) else {
-                return false;
-            };
-            if self.push(words, out).is_err() {
-                return false;
-            }
-        }
-        true
+        self.ready.push(fresh)?;
+        Ok(())
     }
 
     // Puts the next one, if there is one, with this word.
@@ -101,8 +108,8 @@ impl<'a> Putting<'a> {
         ensures further { IsServed (further_in further.new) (blocks_book blocks.now) }
         ensures had { self.new.counting ≡ self.old.counting }
     {
-        if let Some(out) = self.ready.pop() {
-            let Out { number, value } = out;
+        if let Some(fresh) = self.ready.pop() {
+            let Fresh { number, value } = fresh;
             further.put(blocks, number, kept, value);
         }
     }

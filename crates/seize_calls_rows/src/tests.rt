@@ -1,18 +1,20 @@
 //! Whole calls of slots: by one thread, and by threads that each have a slot.
-ghost use Rattle.std.specs.Prelude.{IfSome};
-ghost use Rattle.seize_calls_rows.specs.Workers.{MayWork};
+ghost use Rattle.std.specs.Prelude.{◌≡◌, IfOk, false};
+ghost use Rattle.seize_calls_rows.specs.Visitors.{IsVisitorOf};
 
+mod beside;
 mod forgetting;
-mod holding;
-mod visiting;
+mod guest;
 
 use crate::counting::Counting;
-use crate::putting::{Putting, make};
-use crate::running::Tally;
-use crate::turns::{reclaim_all, shut_turns};
+use crate::hall::{Hall, open, open_one, open_two};
+use crate::putting::{Fresh, Putting};
+use crate::running::{LINKS, Tally};
+use crate::seat::Seat;
+use crate::turns::reclaim_all;
 use crate::visitor::Visitor;
-use crate::worker::{LINKS, Worker, open};
-use seize_words::words::Words;
+use seize_calls::manner::Beside;
+use seize_table::Refusal;
 use std::alloc::{AllocError, Global};
 use std::sync::Wait;
 use std::sync::atomic::{AtomicU64, Ordering};
@@ -43,150 +45,113 @@ fn told(marks: &[AtomicU64]) -> (u64, u64) {
     (none, more)
 }
 
+// Enters, swaps the value into link 3, reads the link, and leaves. It gives what it read.
+fn swap_and_read(
+    visitor: &mut Visitor,
+    hall: &Hall,
+    value: u64,
+    counting: &mut Counting<'_>,
+    rt: &impl Wait,
+) -> Result<Option<u64>, Refusal>
+    requires { IsVisitorOf hall.now.words visitor.old }
+    ensures { IfOk result (λ _. IsVisitorOf hall.now.words visitor.new) }
+{
+    visitor.enter(hall);
+    visitor.replace(hall, 3, value, counting, rt)?;
+    let found = visitor.find(hall, 3);
+    visitor.leave(hall, counting, rt);
+    Ok(found)
+}
+
 // A slot as one value visits, with a pass lent anew for each of its calls. Its third visit fills a batch of two, which waits for the slot
 // itself, so the slot hands both values when it leaves.
 #[test]
-fn a_slot_as_one_value_visits(rt: HostRuntime) {
-    let Ok(marks) = marks(rt.alloc(), 10) else {
-        panic!(rt; "no memory");
-    };
-    let Ok((words, mut porter, numbers, next)) = Words::new(rt.alloc(), 0, 4, 2) else {
-        panic!(rt; "no memory");
-    };
-    porter.leave_home();
-    let Some(mut visitor) = Visitor::new(&words, &porter, rt.alloc(), next, numbers) else {
-        panic!(rt; "no memory");
-    };
+fn a_slot_as_one_value_visits(rt: HostRuntime) -> Result<(), Fail> {
+    let marks = marks(rt.alloc(), 10)?;
+    let (hall, mut visitor) = open_one(rt.alloc(), 2)?;
     let mut counting = Counting::new(marks.as_slice());
-    let first = visitor.visit(&words, &porter, 3, 5, &mut counting, &rt);
-    let second = visitor.visit(&words, &porter, 3, 6, &mut counting, &rt);
+    let first = swap_and_read(&mut visitor, &hall, 5, &mut counting, &rt)?;
+    let second = swap_and_read(&mut visitor, &hall, 6, &mut counting, &rt)?;
     assert_eq!(rt; (first, second, counting.count), (Some(5), Some(6), 0));
-    let third = visitor.visit(&words, &porter, 3, 7, &mut counting, &rt);
-    assert_eq!(rt; third, Some(7));
-    assert_eq!(rt; (counting.count, counting.sum), (2, 11));
+    let third = swap_and_read(&mut visitor, &hall, 7, &mut counting, &rt)?;
+    assert_eq!(rt; (third, counting.count, counting.sum), (Some(7), 2, 11));
+    Ok(())
 }
 
 // A batch of two is full while its slot is active: both values wait for the slot, and it hands them when it leaves, in their order. Their
 // blocks are in its list then, of which its next one is made.
 #[test]
-fn a_full_batch_waits_for_its_own_slot(rt: HostRuntime) {
-    let Ok(marks) = marks(rt.alloc(), 10) else {
-        panic!(rt; "no memory");
-    };
-    let Some((words, lender, source)) = open(rt.alloc(), 2) else {
-        panic!(rt; "no memory");
-    };
-    let Some((worker, _)) = source.make(&words, &lender) else {
-        panic!(rt; "no memory");
-    };
+fn a_full_batch_waits_for_its_own_slot(rt: HostRuntime) -> Result<(), Fail> {
+    let marks = marks(rt.alloc(), 10)?;
+    let (hall, mut visitor) = open_one(rt.alloc(), 2)?;
     let mut counting = Counting::new(marks.as_slice());
-    let active = worker.enter(&words);
-    let (active, put) = active.swap_in(&words, 0, 5);
-    assert!(rt; put.is_some_and(|out| out.is_none()));
-    let (active, swapped) = active.swap_in(&words, 0, 6);
-    let Some(Some(first)) = swapped else {
-        panic!(rt; "no memory");
-    };
-    let (active, found) = active.find(&words, 0);
-    assert_eq!(rt; found, Some(6));
-    let (active, retired) = active.retire(&words, first, 70, &mut counting, &rt);
-    assert!(rt; !retired);
-    assert_eq!(rt; active.batch.len(), 1);
-    let (active, swapped) = active.swap_in(&words, 0, 7);
-    let Some(Some(second)) = swapped else {
-        panic!(rt; "no memory");
-    };
-    let (active, retired) = active.retire(&words, second, 7, &mut counting, &rt);
-    assert!(rt; retired);
-    assert_eq!(rt; (active.batch.len(), counting.count), (0, 0));
-    let worker = active.leave(&words, &mut counting, &rt);
+    visitor.enter(&hall);
+    visitor.replace(&hall, 0, 5, &mut counting, &rt)?;
+    assert_eq!(rt; visitor.slot.len(), 0);
+    let first = visitor.swap_in(&hall, 0, 6)?.ok_or("empty")?;
+    assert_eq!(rt; visitor.find(&hall, 0), Some(6));
+    let retired = visitor.retire(&hall, first, 70, &mut counting, &rt);
+    assert_eq!(rt; (retired, visitor.slot.len()), (false, 1));
+    let second = visitor.swap_in(&hall, 0, 7)?.ok_or("empty")?;
+    let retired = visitor.retire(&hall, second, 7, &mut counting, &rt);
+    assert_eq!(rt; (retired, visitor.slot.len(), counting.count), (true, 0, 0));
+    visitor.leave(&hall, &mut counting, &rt);
     assert_eq!(rt;
         (counting.count, counting.sum, counting.last, counting.kept),
         (2, 11, 6, 77)
     );
     assert_eq!(rt; counting.weighed, 5 * 70 + 6 * 7);
     assert_eq!(rt; told(marks.as_slice()), (8, 0));
-    assert_eq!(rt; worker.spots.len(), 2);
-    let (active, put) = worker.enter(&words).swap_in(&words, 1, 8);
-    assert!(rt; put.is_some_and(|out| out.is_none()));
-    assert_eq!(rt; active.spots.len(), 1);
-    drop(active);
+    assert_eq!(rt; visitor.slot.spare(), 2);
+    visitor.enter(&hall);
+    visitor.replace(&hall, 1, 8, &mut counting, &rt)?;
+    assert_eq!(rt; (visitor.slot.len(), visitor.slot.spare()), (0, 1));
+    Ok(())
 }
 
 // The batch size is set while no pass is out. The slot is active still, and its value waits for more; at the new size the next one fills
 // the batch.
 #[test]
-fn a_batch_is_full_at_a_size_that_was_set_later(rt: HostRuntime) {
-    let Ok(marks) = marks(rt.alloc(), 10) else {
-        panic!(rt; "no memory");
-    };
-    let Some((words, mut lender, source)) = open(rt.alloc(), 32) else {
-        panic!(rt; "no memory");
-    };
-    let Some((worker, _)) = source.make(&words, &lender) else {
-        panic!(rt; "no memory");
-    };
+fn a_batch_is_full_at_a_size_that_was_set_later(rt: HostRuntime) -> Result<(), Fail> {
+    let marks = marks(rt.alloc(), 10)?;
+    let (mut hall, mut visitor) = open_one(rt.alloc(), 32)?;
     let mut counting = Counting::new(marks.as_slice());
-    let (active, put) = worker.enter(&words).swap_in(&words, 0, 5);
-    assert!(rt; put.is_some_and(|out| out.is_none()));
-    let (active, swapped) = active.swap_in(&words, 0, 6);
-    let Some(Some(first)) = swapped else {
-        panic!(rt; "no memory");
-    };
-    let (active, retired) = active.retire(&words, first, 0, &mut counting, &rt);
-    assert!(rt; !retired);
-    let seat = active.sit(&words);
-    lender.set_size(&words, 1);
-    let (active, swapped) = seat.enter(&words, &lender).swap_in(&words, 0, 7);
-    let Some(Some(second)) = swapped else {
-        panic!(rt; "no memory");
-    };
-    let (active, retired) = active.retire(&words, second, 0, &mut counting, &rt);
-    assert!(rt; retired);
-    let worker = active.leave(&words, &mut counting, &rt);
-    assert_eq!(rt; (worker.batch.len(), counting.count), (0, 2));
+    visitor.enter(&hall);
+    visitor.replace(&hall, 0, 5, &mut counting, &rt)?;
+    visitor.replace(&hall, 0, 6, &mut counting, &rt)?;
+    assert_eq!(rt; (visitor.slot.len(), counting.count), (1, 0));
+    hall.set_size(1);
+    let second = visitor.swap_in(&hall, 0, 7)?.ok_or("empty")?;
+    assert!(rt; visitor.retire(&hall, second, 0, &mut counting, &rt));
+    visitor.leave(&hall, &mut counting, &rt);
+    assert_eq!(rt; (visitor.slot.len(), counting.count), (0, 2));
     assert_eq!(rt; told(marks.as_slice()), (8, 0));
+    Ok(())
 }
 
 // A batch of one value stays where two slots are active, also with a flush; where one is, a flush retires it. The slot hands it when it
 // refreshes, and nothing more when it leaves.
 #[test]
-fn a_short_batch_stays_while_more_slots_are_active(rt: HostRuntime) {
-    let Ok(marks) = marks(rt.alloc(), 10) else {
-        panic!(rt; "no memory");
-    };
-    let Some((words, lender, source)) = open(rt.alloc(), 4) else {
-        panic!(rt; "no memory");
-    };
-    let Some((worker, source)) = source.make(&words, &lender) else {
-        panic!(rt; "no memory");
-    };
-    let Some((other, _)) = source.make(&words, &lender) else {
-        panic!(rt; "no memory");
-    };
+fn a_short_batch_stays_while_more_slots_are_active(rt: HostRuntime) -> Result<(), Fail> {
+    let marks = marks(rt.alloc(), 10)?;
+    let (hall, mut visitor, mut other) = open_two(rt.alloc(), 4)?;
     let mut counting = Counting::new(marks.as_slice());
-    let other = other.enter(&words);
-    let active = worker.enter(&words);
-    let (active, _) = active.swap_in(&words, 3, 5);
-    let (active, swapped) = active.swap_in(&words, 3, 6);
-    let Some(Some(out)) = swapped else {
-        panic!(rt; "no memory");
-    };
-    let (active, retired) = active.retire(&words, out, 70, &mut counting, &rt);
-    assert!(rt; !retired);
-    let (active, flushed) = active.flush(&words, &mut counting, &rt);
-    assert!(rt; !flushed);
-    assert_eq!(rt; (active.batch.len(), counting.count), (1, 0));
-    let other = other.leave(&words, &mut counting, &rt);
-    let (active, flushed) = active.flush(&words, &mut counting, &rt);
-    assert!(rt; flushed);
-    assert_eq!(rt; (active.batch.len(), counting.count), (0, 0));
-    let (active, found) = active.find(&words, 3);
-    assert_eq!(rt; found, Some(6));
-    let (worker, count) = active.refresh_and_leave(&words, &mut counting, &rt);
-    assert_eq!(rt; (count, counting.count), (1, 1));
-    assert_eq!(rt; (counting.last, counting.kept), (5, 70));
-    drop((worker, other));
+    other.enter(&hall);
+    visitor.enter(&hall);
+    visitor.replace(&hall, 3, 5, &mut counting, &rt)?;
+    let out = visitor.swap_in(&hall, 3, 6)?.ok_or("empty")?;
+    assert!(rt; !visitor.retire(&hall, out, 70, &mut counting, &rt));
+    assert!(rt; !visitor.flush(&hall, &mut counting, &rt));
+    assert_eq!(rt; (visitor.slot.len(), counting.count), (1, 0));
+    other.leave(&hall, &mut counting, &rt);
+    assert!(rt; visitor.flush(&hall, &mut counting, &rt));
+    assert_eq!(rt; (visitor.slot.len(), counting.count), (0, 0));
+    assert_eq!(rt; visitor.find(&hall, 3), Some(6));
+    visitor.refresh(&hall, &mut counting, &rt);
+    assert_eq!(rt; counting.count, 1);
+    visitor.leave(&hall, &mut counting, &rt);
+    assert_eq!(rt; (counting.count, counting.last, counting.kept), (1, 5, 70));
+    Ok(())
 }
 
 // How many values stand in a chain.
@@ -195,226 +160,185 @@ const CHAIN: u64 = 10_000;
 // Each value of a chain is put by the reclaimer of the one before. A batch has one value, and no slot is active: all go in one call. Their
 // blocks go to the slot's list, of which 64 go back into the store whenever it has 128.
 #[test]
-fn a_chain_of_values_ends_in_one_call(rt: HostRuntime) {
-    let Ok(marks) = marks(rt.alloc(), CHAIN) else {
-        panic!(rt; "no memory");
-    };
-    let Some((words, lender, source)) = open(rt.alloc(), 1) else {
-        panic!(rt; "no memory");
-    };
-    let Some((worker, _)) = source.make(&words, &lender) else {
-        panic!(rt; "no memory");
-    };
-    let mut putting = Putting::new(rt.alloc(), &words, marks.as_slice(), false);
-    assert!(rt; putting.fill(&words, &lender, CHAIN - 1));
-    let Some(first) = make(&words, &lender, CHAIN - 1) else {
-        panic!(rt; "no memory");
-    };
-    let (worker, retired) = worker.retire(&words, first, 7, &mut putting, &rt);
-    assert!(rt; retired);
-    assert_eq!(rt; (worker.batch.len(), putting.ready.len()), (0, 0));
-    assert_eq!(rt; worker.spots.len(), 80);
+fn a_chain_of_values_ends_in_one_call(rt: HostRuntime) -> Result<(), Fail> {
+    let marks = marks(rt.alloc(), CHAIN)?;
+    let (hall, visitor) = open_one(rt.alloc(), 1)?;
+    let (mut slot, mut pass) = (visitor.slot, hall.porter.pass());
+    let beside = Beside { rt: &rt };
+    let mut putting = Putting::new(rt.alloc(), &hall, marks.as_slice(), false, CHAIN - 1)?;
+    let first = Fresh::new(&hall, CHAIN - 1)?.loose(&hall);
+    assert!(rt; slot.retire(&hall.words, first, 7, &mut putting, &mut pass, &beside));
+    assert_eq!(rt; (slot.len(), slot.spare(), putting.ready.len()), (0, 80, 0));
     let counting = &putting.counting;
     assert_eq!(rt;
         (counting.count, counting.last, counting.kept),
         (CHAIN, 0, 7 * CHAIN)
     );
     assert_eq!(rt; told(marks.as_slice()), (0, 0));
+    Ok(())
 }
 
 // Each reclaimer puts two values, as long as there are some, and a batch has three: all go in the call that fills the first batch, since no
 // slot is active.
 #[test]
-fn two_values_are_put_at_once(rt: HostRuntime) {
-    let Ok(marks) = marks(rt.alloc(), 21) else {
-        panic!(rt; "no memory");
-    };
-    let Some((words, lender, source)) = open(rt.alloc(), 3) else {
-        panic!(rt; "no memory");
-    };
-    let Some((worker, _)) = source.make(&words, &lender) else {
-        panic!(rt; "no memory");
-    };
-    let mut putting = Putting::new(rt.alloc(), &words, marks.as_slice(), true);
-    assert!(rt; putting.fill(&words, &lender, 18));
-    let (Some(a), Some(b), Some(c)) = (
-        make(&words, &lender, 18),
-        make(&words, &lender, 19),
-        make(&words, &lender, 20),
-    ) else {
-        panic!(rt; "no memory");
-    };
-    let (worker, _) = worker.retire(&words, a, 5, &mut putting, &rt);
-    let (worker, retired) = worker.retire(&words, b, 5, &mut putting, &rt);
-    assert!(rt; !retired);
-    assert_eq!(rt; (worker.batch.len(), putting.counting.count), (2, 0));
-    let (worker, retired) = worker.retire(&words, c, 5, &mut putting, &rt);
-    assert!(rt; retired);
-    assert_eq!(rt; (worker.batch.len(), putting.ready.len()), (0, 0));
+fn two_values_are_put_at_once(rt: HostRuntime) -> Result<(), Fail> {
+    let marks = marks(rt.alloc(), 21)?;
+    let (hall, visitor) = open_one(rt.alloc(), 3)?;
+    let (mut slot, mut pass) = (visitor.slot, hall.porter.pass());
+    let beside = Beside { rt: &rt };
+    let mut putting = Putting::new(rt.alloc(), &hall, marks.as_slice(), true, 18)?;
+    let first = Fresh::new(&hall, 18)?.loose(&hall);
+    slot.retire(&hall.words, first, 5, &mut putting, &mut pass, &beside);
+    let second = Fresh::new(&hall, 19)?.loose(&hall);
+    assert!(rt; !slot.retire(&hall.words, second, 5, &mut putting, &mut pass, &beside));
+    assert_eq!(rt; (slot.len(), putting.counting.count), (2, 0));
+    let last = Fresh::new(&hall, 20)?.loose(&hall);
+    assert!(rt; slot.retire(&hall.words, last, 5, &mut putting, &mut pass, &beside));
+    assert_eq!(rt; (slot.len(), putting.ready.len()), (0, 0));
+    let counting = &putting.counting;
     assert_eq!(rt;
-        (
-            putting.counting.count,
-            putting.counting.kept,
-            putting.counting.last
-        ),
+        (counting.count, counting.kept, counting.last),
         (21, 105, 0)
     );
     assert_eq!(rt; told(marks.as_slice()), (0, 0));
+    Ok(())
 }
 
 // What waits for an active slot is handed when it leaves, and what the reclaimers put then joins the slot's batch: a value that fills it
 // goes at once, since the slot has left.
 #[test]
-fn what_is_put_in_a_leave_goes_in_it(rt: HostRuntime) {
-    let Ok(marks) = marks(rt.alloc(), 10) else {
-        panic!(rt; "no memory");
-    };
-    let Some((words, lender, source)) = open(rt.alloc(), 1) else {
-        panic!(rt; "no memory");
-    };
-    let Some((worker, _)) = source.make(&words, &lender) else {
-        panic!(rt; "no memory");
-    };
-    let mut putting = Putting::new(rt.alloc(), &words, marks.as_slice(), true);
-    assert!(rt; putting.fill(&words, &lender, 9));
-    let Some(first) = make(&words, &lender, 9) else {
-        panic!(rt; "no memory");
-    };
-    let (active, retired) = worker
-        .enter(&words)
-        .retire(&words, first, 1, &mut putting, &rt);
-    assert!(rt; retired);
+fn what_is_put_in_a_leave_goes_in_it(rt: HostRuntime) -> Result<(), Fail> {
+    let marks = marks(rt.alloc(), 10)?;
+    let (hall, mut visitor) = open_one(rt.alloc(), 1)?;
+    let mut putting = Putting::new(rt.alloc(), &hall, marks.as_slice(), true, 9)?;
+    let first = Fresh::new(&hall, 9)?.loose(&hall);
+    visitor.enter(&hall);
+    assert!(rt; visitor.retire(&hall, first, 1, &mut putting, &rt));
     assert_eq!(rt; putting.counting.count, 0);
-    let worker = active.leave(&words, &mut putting, &rt);
-    assert_eq!(rt; (worker.batch.len(), putting.ready.len()), (0, 0));
+    visitor.leave(&hall, &mut putting, &rt);
+    assert_eq!(rt; (visitor.slot.len(), putting.ready.len()), (0, 0));
     assert_eq!(rt; (putting.counting.count, putting.counting.sum), (10, 45));
     assert_eq!(rt; told(marks.as_slice()), (0, 0));
+    Ok(())
 }
 
-// Two threads make turns, and give their workers back.
-fn both<'p, 'q, R: Threads + Wait + Sync>(
+// Two threads make turns, and give their visitors back.
+fn both<R: Threads + Wait + Sync>(
     rt: &R,
-    words: &Words<u64>,
+    hall: &Hall,
     marks: &[AtomicU64],
     first: u64,
-    a: Worker<'p>,
-    b: Worker<'q>,
-) -> Option<((Worker<'p>, Tally), (Worker<'q>, Tally))>
-    requires { MayWork words.now a × MayWork words.now b }
-    ensures { IfSome result (λ worked. MayWork words.now worked.0.0 × MayWork words.now worked.1.0) }
+    a: Visitor,
+    b: Visitor,
+) -> Result<((Visitor, Tally), (Visitor, Tally)), Refusal>
+    requires { IsVisitorOf hall.now.words a × IsVisitorOf hall.now.words b }
+    ensures { IfOk result (λ worked. IsVisitorOf hall.now.words worked.0.0 × IsVisitorOf hall.now.words worked.1.0) }
 {
     let second = first.wrapping_add(TURNS);
     let (one, two) = thread::join(
         rt,
-        move || -> Option<(Worker, Tally)>
-            requires { MayWork words.now a }
-            ensures { IfSome result (λ worked. MayWork words.entry.now worked.0) }
-        { a.work(words, first, TURNS, marks, rt) },
-        move || -> Option<(Worker, Tally)>
-            requires { MayWork words.now b }
-            ensures { IfSome result (λ worked. MayWork words.entry.now worked.0) }
-        { b.work(words, second, TURNS, marks, rt) },
+        move || -> Result<(Visitor, Tally), Refusal>
+            requires { IsVisitorOf hall.now.words a }
+            ensures { IfOk result (λ worked. IsVisitorOf hall.entry.now.words worked.0) }
+        { a.work(hall, first, TURNS, marks, rt) },
+        move || -> Result<(Visitor, Tally), Refusal>
+            requires { IsVisitorOf hall.now.words b }
+            ensures { IfOk result (λ worked. IsVisitorOf hall.entry.now.words worked.0) }
+        { b.work(hall, second, TURNS, marks, rt) },
     );
-    Some((one?, two?))
-}
-
-// What is left of both.
-fn tallies(worked: Option<((Worker<'_>, Tally), (Worker<'_>, Tally))>) -> Option<(Tally, Tally)> {
-    let ((_, one), (_, two)) = worked?;
-    Some((one, two))
+    Ok((one?, two?))
 }
 
 // Four threads make turns.
 fn all<R: Threads + Wait + Sync>(
     rt: &R,
-    words: &Words<u64>,
+    hall: &Hall,
     marks: &[AtomicU64],
-    first: (Worker<'_>, Worker<'_>),
-    last: (Worker<'_>, Worker<'_>),
-) -> Option<(Tally, Tally, Tally, Tally)>
-    requires { MayWork words.now first.0 × MayWork words.now first.1 × MayWork words.now last.0 × MayWork words.now last.1 }
+    first: (Visitor, Visitor),
+    last: (Visitor, Visitor),
+) -> Result<[Tally; 4], Refusal>
+    requires first { IsVisitorOf hall.now.words first.0 × IsVisitorOf hall.now.words first.1 }
+    requires last { IsVisitorOf hall.now.words last.0 × IsVisitorOf hall.now.words last.1 }
 {
     let (a, b) = first;
     let (c, d) = last;
     let (one, two) = thread::join(
         rt,
-        move || -> Option<(Tally, Tally)>
-            requires { MayWork words.now a × MayWork words.now b }
-        { tallies(both(rt, words, marks, 0, a, b)) },
-        move || -> Option<(Tally, Tally)>
-            requires { MayWork words.now c × MayWork words.now d }
-        { tallies(both(rt, words, marks, 2 * TURNS, c, d)) },
+        move || -> Result<(Tally, Tally), Refusal>
+            requires { IsVisitorOf hall.now.words a × IsVisitorOf hall.now.words b }
+        {
+            let ((_, a), (_, b)) = both(rt, hall, marks, 0, a, b)?;
+            Ok((a, b))
+        },
+        move || -> Result<(Tally, Tally), Refusal>
+            requires { IsVisitorOf hall.now.words c × IsVisitorOf hall.now.words d }
+        {
+            let ((_, c), (_, d)) = both(rt, hall, marks, 2 * TURNS, c, d)?;
+            Ok((c, d))
+        },
     );
     let ((a, b), (c, d)) = (one?, two?);
-    Some((a, b, c, d))
+    Ok([a, b, c, d])
+}
+
+// Where the visitor sits that has left.
+fn seat(visitor: Visitor) -> Seat
+    ensures { (result.visitor ≡ visitor) × (result.active ≡ false) }
+{
+    Seat {
+        visitor,
+        active: false,
+    }
 }
 
 #[test]
-fn four_threads_end_each_value_at_most_once(rt: HostRuntime) {
-    let Ok(marks) = marks(rt.alloc(), 4 * TURNS) else {
-        panic!(rt; "no memory");
-    };
-    let Some((words, lender, source)) = open(rt.alloc(), 32) else {
-        panic!(rt; "no memory");
-    };
-    let Some((a, source)) = source.make(&words, &lender) else {
-        panic!(rt; "no memory");
-    };
-    let Some((b, source)) = source.make(&words, &lender) else {
-        panic!(rt; "no memory");
-    };
-    let Some((c, source)) = source.make(&words, &lender) else {
-        panic!(rt; "no memory");
-    };
-    let Some((d, _)) = source.make(&words, &lender) else {
-        panic!(rt; "no memory");
-    };
-    let Some((a, b, c, d)) = all(&rt, &words, marks.as_slice(), (a, b), (c, d)) else {
-        panic!(rt; "no memory");
-    };
-    assert!(rt; a.left < 32 && b.left < 32 && c.left < 32 && d.left < 32);
-    assert_eq!(rt; (a.early, b.early, c.early, d.early), (0, 0, 0, 0));
-    let left = a
-        .left
-        .wrapping_add(b.left)
-        .wrapping_add(c.left)
-        .wrapping_add(d.left);
+fn four_threads_end_each_value_at_most_once(rt: HostRuntime) -> Result<(), Fail> {
+    let marks = marks(rt.alloc(), 4 * TURNS)?;
+    let (hall, source) = open(rt.alloc(), 32)?;
+    let (a, source) = source.make(&hall)?;
+    let (b, source) = source.make(&hall)?;
+    let (c, source) = source.make(&hall)?;
+    let (d, _) = source.make(&hall)?;
+    let mut left: u64 = 0;
+    for tally in all(&rt, &hall, marks.as_slice(), (a, b), (c, d))? {
+        assert!(rt; tally.left < 32);
+        assert_eq!(rt; tally.early, 0);
+        left = left.wrapping_add(tally.left);
+    }
     assert_eq!(rt; told(marks.as_slice()), (left.wrapping_add(LINKS), 0));
+    Ok(())
 }
 
 // Of what two threads retired at most as much is left in each batch as its bound allows. Nothing that was found had ended before its reader
 // left, and each value ended at most once: all but those in the links and in the batches ended. Then the gate is shut to one caller, who
 // has these back: each value ended, and once.
 #[test]
-fn all_values_come_back_at_a_shut_gate(rt: HostRuntime) {
-    let Ok(marks) = marks(rt.alloc(), 2 * TURNS) else {
-        panic!(rt; "no memory");
-    };
-    let Some((words, lender, source)) = open(rt.alloc(), 32) else {
-        panic!(rt; "no memory");
-    };
-    let Some((a, source)) = source.make(&words, &lender) else {
-        panic!(rt; "no memory");
-    };
-    let Some((b, _)) = source.make(&words, &lender) else {
-        panic!(rt; "no memory");
-    };
-    let Some(((a, one), (b, two))) = both(&rt, &words, marks.as_slice(), 0, a, b) else {
-        panic!(rt; "no memory");
-    };
-    let left = one.left.wrapping_add(two.left);
+fn all_values_come_back_at_a_shut_gate(rt: HostRuntime) -> Result<(), Fail> {
+    let marks = marks(rt.alloc(), 2 * TURNS)?;
+    let (hall, a, b) = open_two(rt.alloc(), 32)?;
+    let ((a, one), (b, two)) = both(&rt, &hall, marks.as_slice(), 0, a, b)?;
+    let left = one.left.wrapping_add(two.left).wrapping_add(LINKS);
     assert!(rt; one.left < 32 && two.left < 32);
     assert_eq!(rt; (one.early, two.early), (0, 0));
     assert_eq!(rt;
         one.count.wrapping_add(two.count),
-        (2 * TURNS).wrapping_sub(LINKS).wrapping_sub(left)
+        (2 * TURNS).wrapping_sub(left)
     );
-    assert_eq!(rt; told(marks.as_slice()), (left.wrapping_add(LINKS), 0));
-    let mut counting = Counting::new(marks.as_slice());
-    let (a, b) = (a.sit(&words), b.sit(&words));
-    let (mut pass, a, b) = shut_turns(&words, lender, a, b);
-    let (_, _, all) = reclaim_all(&words, a, b, &mut counting, &mut pass, &rt);
-    assert!(rt; all);
-    assert_eq!(rt; counting.count, left.wrapping_add(LINKS));
+    assert_eq!(rt; told(marks.as_slice()), (left, 0));
+    let Hall { words, porter } = hall;
+    let (mut first, mut second) = (seat(a), seat(b));
+    let (mut counting, mut pass) = (Counting::new(marks.as_slice()), porter.shut());
+    assert!(rt;
+        reclaim_all(
+            &words,
+            &mut first,
+            &mut second,
+            &mut counting,
+            &mut pass,
+            &rt
+        )
+    );
+    assert_eq!(rt; counting.count, left);
     assert_eq!(rt; told(marks.as_slice()), (0, 0));
+    Ok(())
 }

@@ -1,25 +1,20 @@
-//! A book whose gate is open to several holders of slots, in turns, and then shut to one caller, who has what links and batches hold
-//! come back. Each holder makes its calls with passes that are lent. When nobody shares the porter any more the gate is shut: the
-//! list that the first pass has seen is the whole list from then on, and each slot leaves nothing behind.
-ghost use Rattle.std.specs.Prelude.{◌≡◌, ◌<◌, ◌↔◌, None, true};
-ghost use Rattle.seize_book.specs.Passes.{LooksOn};
-ghost use Rattle.seize_book.specs.Tokens.{IsSole};
-ghost use Rattle.seize_calls_rows.specs.Turns.{AllBack, AreAll, IsShutBy, Regains};
-ghost use Rattle.seize_calls_rows.specs.Seats.{IsLeft, SitsAt, post_at};
-ghost use Rattle.seize_calls_rows.specs.Turns.{EmptyBelow, Gave, HasNone, HasSameLinks, Holds, IsShut, LeavesNothing, MayActAs, NoneLost, TakesOut};
-ghost use Rattle.seize_calls_rows.specs.Workers.{GoesOn, IsLenderOf};
+//! The gate of a book is shut to one caller, who has what links and batches hold come back. The first pass is alone then: what it has seen
+//! is the whole list, and each slot leaves nothing behind.
+ghost use Rattle.std.specs.Prelude.{◌≡◌, ◌<◌, ◌↔◌, length, true};
+ghost use mathlib.Core.List.{IsPrefix};
 ghost use Rattle.seize_words.specs.Joined.{words_book};
+ghost use Rattle.seize_calls.specs.Slots.{its_number};
+ghost use Rattle.seize_calls_rows.specs.Seats.{IsPorterOf, SitsAt, seat_at};
+ghost use Rattle.seize_calls_rows.specs.Turns.{AllBack, AreAll, IsBare, IsTurn, Reclaims, Regains, TakesOut};
+ghost use Rattle.seize_calls_rows.specs.Visitors.{IsIn, IsSameSlot, IsVisitorOf};
 
 use crate::counting::Counting;
-use crate::seat::{Holder, Post, Seat};
-use crate::worker::{Lender, ROW};
-use seize_calls::batch::Batch;
-use seize_calls::calls;
+use crate::seat::Seat;
+use crate::visitor::Visitor;
+use seize_calls::manner::Beside;
+use seize_calls::slot::{Loose, Slot};
 use seize_content::SteadyCell;
-use seize_store::Spots;
-use seize_words::activation::Activation;
-use seize_words::book::{Pass, SlotKey};
-use seize_words::chunk::{Header, Part};
+use seize_words::book::{Pass, Porter};
 use seize_words::link::MaybeKey;
 use seize_words::words::Words;
 use std::sync::Wait;
@@ -27,338 +22,136 @@ use std::sync::Wait;
 // Takes out what the link holds, and retires it.
 fn take_out(
     words: &Words<u64>,
-    spots: &mut Spots<Header, Part, u64>,
+    visitor: &mut Visitor,
     link: usize,
-    slot: usize,
-    size: usize,
-    activation: &Activation,
-    batch: &mut Batch,
-    key: &mut SlotKey,
     counting: &mut Counting<'_>,
     pass: &mut Pass,
     rt: &impl Wait,
 )
-    requires stands { MayActAs words.now spots.old slot size batch.old key.old activation.now pass.old }
-    requires turn { IsSole pass.old.id }
-    requires link { link < 1024 }
-    ensures stands { MayActAs words.now spots.new slot size batch.new key.new activation.now pass.new }
-    ensures goes_on { GoesOn pass.old pass.new }
-    ensures out { TakesOut link pass.old pass.new }
-    ensures gave { Gave pass.old pass.new counting.old.told.had counting.new.told.had }
-    ensures lost { NoneLost pass.old pass.new }
+    requires inside { IsIn words.now visitor.old × IsTurn words.now pass.old }
+    requires link { link < length (words_book words.now).links }
+    ensures inside { IsIn words.now visitor.new × IsSameSlot visitor.old visitor.new }
+    ensures out { Reclaims pass.old pass.new counting.old.told.had counting.new.told.had × TakesOut link pass.old pass.new }
 {
-    let mut value = MaybeKey::none(pass);
-    let old = words.swap_link(link, 0, &mut value, activation, pass);
-    if old == 0 {
-        return;
+    visitor.slot.teach(pass);
+    let mut key = MaybeKey::none(pass);
+    let old = words.swap_link(link, 0, &mut key, &visitor.activation, pass);
+    match Loose::of(old, key) {
+        Some(out) => {
+            visitor
+                .slot
+                .retire(words, out, 0, counting, pass, &Beside { rt });
+        }
+        None => {}
     }
-    let value = value.value();
-    let (slots, blocks) = (&words.slots, &words.blocks);
-    calls::retire(
-        slots,
-        blocks,
-        spots,
-        batch,
-        size,
-        old - 1,
-        0,
-        value,
-        key,
-        counting,
-        pass,
-        rt,
-    );
-}
-
-// Flushes, and leaves.
-fn flush_and_leave(
-    words: &Words<u64>,
-    spots: Spots<Header, Part, u64>,
-    slot: usize,
-    size: usize,
-    activation: Activation,
-    batch: Batch,
-    key: SlotKey,
-    counting: &mut Counting<'_>,
-    pass: &mut Pass,
-    rt: &impl Wait,
-) -> Holder
-    requires stands { MayActAs words.now spots slot size batch key activation pass.old }
-    requires turn { IsSole pass.old.id }
-    ensures holds { Holds words.now result pass.new × (result.slot ≡ slot) }
-    ensures goes_on { GoesOn pass.old pass.new }
-    ensures keeps { HasSameLinks pass.old pass.new }
-    ensures gave { Gave pass.old pass.new counting.old.told.had counting.new.told.had }
-    ensures lost { NoneLost pass.old pass.new }
-{
-    let (mut spots, mut batch, mut key) = (spots, batch, key);
-    let mut activation = activation;
-    let (slots, blocks) = (&words.slots, &words.blocks);
-    calls::flush(
-        slots, blocks, &mut spots, &mut batch, size, &mut key, counting, pass, rt,
-    );
-    let head = words.slots.head(slot, pass);
-    calls::leave(
-        slots,
-        head,
-        blocks,
-        &mut spots,
-        &mut batch,
-        size,
-        &mut activation,
-        &mut key,
-        counting,
-        pass,
-        rt,
-    );
-    Holder {
-        slot,
-        size,
-        key,
-        batch,
-        spots,
-    }
-}
-
-// The slot flushes and leaves, if it is active.
-fn stand_up(
-    words: &Words<u64>,
-    left: Seat,
-    counting: &mut Counting<'_>,
-    pass: &mut Pass,
-    rt: &impl Wait,
-) -> Holder
-    requires left { IsLeft words.now left pass.old }
-    requires turn { IsSole pass.old.id }
-    ensures holds { Holds words.now result pass.new × (result.slot ≡ left.holder.slot) }
-    ensures goes_on { GoesOn pass.old pass.new }
-    ensures gave { Gave pass.old pass.new counting.old.told.had counting.new.told.had }
-    ensures lost { NoneLost pass.old pass.new }
-{
-    let Seat {
-        holder,
-        activation,
-        ..
-    } = left;
-    let Some(activation) = activation else {
-        return holder;
-    };
-    let Holder {
-        slot,
-        size,
-        key,
-        batch,
-        spots,
-    } = holder;
-    flush_and_leave(
-        words, spots, slot, size, activation, batch, key, counting, pass, rt,
-    )
-}
-
-// The slot enters, flushes and leaves.
-fn clear(
-    words: &Words<u64>,
-    holder: Holder,
-    counting: &mut Counting<'_>,
-    pass: &mut Pass,
-    rt: &impl Wait,
-) -> Holder
-    requires holds { Holds words.now holder pass.old }
-    requires turn { IsSole pass.old.id }
-    ensures holds { Holds words.now result pass.new × (result.slot ≡ holder.slot) }
-    ensures goes_on { GoesOn pass.old pass.new }
-    ensures keeps { HasSameLinks pass.old pass.new }
-    ensures gave { Gave pass.old pass.new counting.old.told.had counting.new.told.had }
-    ensures lost { NoneLost pass.old pass.new }
-{
-    let Holder {
-        slot,
-        size,
-        mut key,
-        batch,
-        spots,
-    } = holder;
-    let mut activation = Activation::new(&key);
-    words.enter_head(slot, &mut activation, &mut key, pass);
-    flush_and_leave(
-        words, spots, slot, size, activation, batch, key, counting, pass, rt,
-    )
 }
 
 // The slot enters, takes out what each link holds, and retires it, flushes and leaves.
-fn empty(
+fn sweep(
     words: &Words<u64>,
-    holder: Holder,
+    visitor: &mut Visitor,
     counting: &mut Counting<'_>,
     pass: &mut Pass,
     rt: &impl Wait,
-) -> Holder
-    requires holds { Holds words.now holder pass.old }
-    requires turn { IsSole pass.old.id }
-    ensures holds { Holds words.now result pass.new × (result.slot ≡ holder.slot) }
-    ensures goes_on { GoesOn pass.old pass.new }
-    ensures links { EmptyBelow 1024 pass.new }
-    ensures gave { Gave pass.old pass.new counting.old.told.had counting.new.told.had }
-    ensures lost { NoneLost pass.old pass.new }
+)
+    requires visitor { IsVisitorOf words.now visitor.old × IsTurn words.now pass.old }
+    ensures visitor { IsVisitorOf words.now visitor.new × IsSameSlot visitor.old visitor.new }
+    ensures regains { Regains pass.old pass.new counting.old.told.had counting.new.told.had }
 {
-    let Holder {
-        slot,
-        size,
-        mut key,
-        mut batch,
-        mut spots,
-    } = holder;
-    let mut activation = Activation::new(&key);
-    words.enter_head(slot, &mut activation, &mut key, pass);
-    for link in 0..ROW {
-        take_out(
+    visitor.slot.enter(words, &mut visitor.activation, pass);
+    for link in 0..words.links.len() {
+        take_out(words, visitor, link, counting, pass, rt);
+    }
+    visitor.slot.flush(words, counting, pass, &Beside { rt });
+    visitor.slot.leave(
+        words,
+        &mut visitor.activation,
+        counting,
+        pass,
+        &Beside { rt },
+    );
+}
+
+// The slot leaves, if it is active: its holder was forgotten.
+fn stand_up(
+    words: &Words<u64>,
+    seat: &mut Seat,
+    counting: &mut Counting<'_>,
+    pass: &mut Pass,
+    rt: &impl Wait,
+)
+    requires sits { SitsAt words.now seat.old × IsTurn words.now pass.old }
+    ensures visitor { IsVisitorOf words.now seat.new.visitor × IsSameSlot seat.old.visitor seat.new.visitor }
+    ensures reclaims { Reclaims pass.old pass.new counting.old.told.had counting.new.told.had }
+{
+    if seat.active {
+        let visitor = &mut seat.visitor;
+        visitor.slot.leave(
             words,
-            &mut spots,
-            link,
-            slot,
-            size,
-            &activation,
-            &mut batch,
-            &mut key,
+            &mut visitor.activation,
             counting,
             pass,
-            rt,
+            &Beside { rt },
         );
-    }
-    flush_and_leave(
-        words, spots, slot, size, activation, batch, key, counting, pass, rt,
-    )
-}
-
-// The slots enter, flush and leave, one after the other, until neither has a batch.
-fn clear_all(
-    words: &Words<u64>,
-    first: Holder,
-    second: Holder,
-    counting: &mut Counting<'_>,
-    pass: &mut Pass,
-    rt: &impl Wait,
-) -> (Holder, Holder)
-    requires holds { Holds words.now first pass.old × Holds words.now second pass.old }
-    requires turn { IsSole pass.old.id }
-    ensures holds { Holds words.now result.0 pass.new × Holds words.now result.1 pass.new }
-    ensures slots { (result.0.slot ≡ first.slot) × (result.1.slot ≡ second.slot) }
-    ensures bare { HasNone result.0 × HasNone result.1 }
-    ensures goes_on { GoesOn pass.old pass.new }
-    ensures keeps { HasSameLinks pass.old pass.new }
-    ensures gave { Gave pass.old pass.new counting.old.told.had counting.new.told.had }
-    ensures lost { NoneLost pass.old pass.new }
-{
-    let (mut first, mut second) = (first, second);
-    for _ in rt.forever() {
-        if first.batch.len() == 0 && second.batch.len() == 0 {
-            return (first, second);
-        }
-        second = clear(words, second, counting, pass, rt);
-        first = clear(words, first, counting, pass, rt);
-    }
-    unreachable!()
-}
-
-// A look at the list, in which the slot leaves nothing behind.
-fn look(words: &Words<u64>, holder: Holder, pass: &mut Pass) -> Holder
-    requires holds { Holds words.now holder pass.old × HasNone holder }
-    requires turn { IsSole pass.old.id }
-    ensures holds { Holds words.now result pass.new × HasNone result × (result.slot ≡ holder.slot) }
-    ensures nothing { LeavesNothing pass.new holder.slot }
-    ensures looks { LooksOn pass.old pass.new }
-{
-    let Holder {
-        slot,
-        size,
-        mut key,
-        batch,
-        spots,
-    } = holder;
-    key.look(pass);
-    Holder {
-        slot,
-        size,
-        key,
-        batch,
-        spots,
+        seat.active = false;
     }
 }
 
-/// Shuts the gate. The first pass has seen what the passes of both seats had, and both have the lender's size of a batch.
-pub fn shut_turns(
-    words: &Words<u64>,
-    lender: Lender,
-    first: Seat,
-    second: Seat,
-) -> (Pass<'static>, Seat, Seat)
-    requires seats { SitsAt words.now first × SitsAt words.now second }
-    requires lender { IsLenderOf words.now lender }
-    ensures shut { IsShutBy lender.porter first second result.0 }
-    ensures left { IsLeft words.now result.1 result.0 × IsLeft words.now result.2 result.0 }
-    ensures slots { (result.1.holder.slot ≡ first.holder.slot) × (result.2.holder.slot ≡ second.holder.slot) }
-{
-    let (mut first, mut second) = (first, second);
-    let mut pass = lender.porter.shut();
-    pass.learn(&first.seen);
-    pass.learn(&second.seen);
-    first.holder.size = lender.size;
-    second.holder.size = lender.size;
-    (pass, first, second)
-}
-
-/// The same with the posts where the seats of slots 0 and 1 were lent, whatever became of their holders.
-pub fn shut_lent(
-    words: &Words<u64>,
-    lender: Lender,
-    first: SteadyCell<Post>,
-    second: SteadyCell<Post>,
-) -> (Pass<'static>, Seat, Seat)
-    requires posts { (first.label ≡ post_at words.now 0) × (second.label ≡ post_at words.now 1) }
-    requires lender { IsLenderOf words.now lender }
-    ensures shut { IsShut lender.porter result.0 }
-    ensures left { IsLeft words.now result.1 result.0 × IsLeft words.now result.2 result.0 }
-    ensures slots { (result.1.holder.slot ≡ 0) × (result.2.holder.slot ≡ 1) }
-{
-    let first = first.into_value().into_seat().known(words);
-    let second = second.into_value().into_seat().known(words);
-    shut_turns(words, lender, first, second)
-}
-
-// The slots with these two numbers are all of so many.
-fn are_all(first: usize, second: usize, many: usize) -> bool
-    ensures { result ≡ true ↔ ((first ≡ 0) × (second ≡ 1) × (many ≡ 2)) }
-{
-    first == 0 && second == 1 && many == 2
-}
-
-/// Has what links and batches hold come back, with the pass of the shut gate. A slot that is active flushes and leaves first: its holder
-/// was forgotten. Then the first one takes out what the links hold, and retires it, and both are cleared, until neither has a batch. No
-/// clause says that this has an end. It gives the holders back, and says whether these are slots 0 and 1, in this order, and there are
-/// no others.
+/// Has what links and batches hold come back, with the pass of the shut gate. A slot that is active leaves first: its holder was forgotten.
+/// Then each takes out what the links hold, retires it, flushes and leaves. It says whether the slots are 0 and 1, in this order, there are
+/// no others, and neither has a batch.
 pub fn reclaim_all(
     words: &Words<u64>,
-    first: Seat,
-    second: Seat,
+    first: &mut Seat,
+    second: &mut Seat,
     counting: &mut Counting<'_>,
     pass: &mut Pass,
     rt: &impl Wait,
-) -> (Holder, Holder, bool)
-    requires left { IsLeft words.now first pass.old × IsLeft words.now second pass.old }
-    requires turn { IsSole pass.old.id }
+) -> bool
+    requires sit { SitsAt words.now first.old × SitsAt words.now second.old × IsTurn words.now pass.old }
     ensures regains { Regains pass.old pass.new counting.old.told.had counting.new.told.had }
-    ensures first { Holds words.now result.0 pass.new × HasNone result.0 × (result.0.slot ≡ first.holder.slot) }
-    ensures second { Holds words.now result.1 pass.new × HasNone result.1 × (result.1.slot ≡ second.holder.slot) }
-    ensures all { result.2 ≡ true ↔ AreAll first.holder second.holder pass.new }
-    ensures back { result.2 ≡ true → AllBack pass.new }
+    ensures first { IsVisitorOf words.now first.new.visitor × IsSameSlot first.old.visitor first.new.visitor }
+    ensures second { IsVisitorOf words.now second.new.visitor × IsSameSlot second.old.visitor second.new.visitor }
+    ensures all { result ≡ true ↔ AreAll first.new.visitor second.new.visitor pass.new }
+    ensures back { result ≡ true → AllBack pass.new }
 {
-    let first = stand_up(words, first, counting, pass, rt);
-    let second = stand_up(words, second, counting, pass, rt);
-    let first = empty(words, first, counting, pass, rt);
-    let (first, second) = clear_all(words, first, second, counting, pass, rt);
-    let first = look(words, first, pass);
-    let second = look(words, second, pass);
+    stand_up(words, first, counting, pass, rt);
+    stand_up(words, second, counting, pass, rt);
+    sweep(words, &mut first.visitor, counting, pass, rt);
+    sweep(words, &mut second.visitor, counting, pass, rt);
+    let first = &mut first.visitor.slot;
+    let second = &mut second.visitor.slot;
+    first.look(words, pass);
+    second.look(words, pass);
     let (many, _) = words.slots.load(pass);
-    let all = are_all(first.slot, second.slot, many);
-    (first, second, all)
+    are_all(first, second, many)
+}
+
+// The slots are 0 and 1, of so many, and have no batch.
+fn are_all(first: &Slot<u64>, second: &Slot<u64>, many: usize) -> bool
+    ensures { result ≡ true ↔
+        ((its_number first.now ≡ 0) × IsBare first.now × (its_number second.now ≡ 1) × IsBare second.now × (many ≡ 2)) }
+{
+    let numbers = first.number() == 0 && second.number() == 1 && many == 2;
+    numbers && first.len() == 0 && second.len() == 0
+}
+
+/// Shuts the gate, with the seats of slots 0 and 1, whatever became of their holders. It gives the first pass, and what was lent.
+pub fn shut_lent(
+    words: &Words<u64>,
+    porter: Porter,
+    first: SteadyCell<Seat>,
+    second: SteadyCell<Seat>,
+) -> (Pass<'static>, Seat, Seat)
+    requires seats { (first.label ≡ seat_at words.now 0) × (second.label ≡ seat_at words.now 1) }
+    requires porter { IsPorterOf words.now porter }
+    ensures shut { IsTurn words.now result.0 × IsPrefix porter.seen result.0.seen }
+    ensures left { SitsAt words.now result.1 × SitsAt words.now result.2 }
+    ensures slots { (its_number result.1.visitor.slot ≡ 0) × (its_number result.2.visitor.slot ≡ 1) }
+{
+    let first = first.into_value();
+    first.known(words);
+    let second = second.into_value();
+    second.known(words);
+    (porter.shut(), first, second)
 }

@@ -1,19 +1,19 @@
-//! A visitor has a slot as one value, and its activation beside it. Each of its calls has a pass of its own, which is lent for that call.
-ghost use Rattle.std.specs.Prelude.{◌≡◌, IfSome};
+//! A visitor has a slot as one value, and its activation beside it. Each of its calls has a pass of its own, which the porter lends for it.
+//! Others may add any events meanwhile.
+ghost use Rattle.std.specs.Prelude.{◌≡◌, ◌<◌, IfOk, IfSome, length};
 ghost use Rattle.seize_words.specs.Joined.{words_book};
-ghost use Rattle.seize_words.specs.Reserved.{HasNextSlot};
-ghost use Rattle.seize_words.specs.Named.{numbers_book};
-ghost use Rattle.seize_calls_rows.specs.Visitors.{HasLink, IsIn, IsVisitorOf, LendsFor, MayStepWith};
 ghost use Rattle.seize_calls.specs.Slots.{IsLooseOf};
+ghost use Rattle.seize_calls_rows.specs.Visitors.{IsIn, IsSameSlot, IsVisitorOf, MayStepWith};
 
-use crate::counting::Counting;
+use crate::hall::Hall;
+use seize_calls::handing::Reclaim;
+use seize_calls::manner::Beside;
 use seize_calls::slot::{Loose, Slot};
+use seize_table::Refusal;
 use seize_words::activation::Activation;
-use seize_words::book::{NumbersKey, Pass, Porter};
+use seize_words::book::Pass;
 use seize_words::link::MaybeKey;
-use seize_words::slots::NextSlot;
 use seize_words::words::Words;
-use std::alloc::Global;
 use std::sync::Wait;
 
 /// A slot, and the activation with which it enters.
@@ -24,128 +24,155 @@ pub struct Visitor {
 }
 
 impl Visitor {
-    /// One with the slot that comes next. Nothing comes where memory was refused.
-    pub fn new(
-        words: &Words<u64>,
-        porter: &Porter,
-        alloc: Global,
-        next: NextSlot,
-        numbers: NumbersKey,
-    ) -> Option<Visitor>
-        requires lends { LendsFor words.now porter.now }
-        requires next { (numbers_book numbers ≡ words_book words.now) × HasNextSlot numbers next }
-        ensures visitor { IfSome result (λ visitor. IsVisitorOf words.now visitor) }
+    /// The slot enters.
+    pub fn enter(&mut self, hall: &Hall)
+        requires outside { IsVisitorOf hall.now.words self.old }
+        ensures inside { IsIn hall.now.words self.new × IsSameSlot self.old self.new }
     {
-        let mut numbers = numbers;
-        let mut pass = porter.pass();
-        let Ok((slot, _)) = Slot::make(words, alloc, next, &mut numbers, &mut pass) else {
-            return None;
-        };
-        let activation = slot.activation();
-        Some(Visitor { slot, activation })
+        let mut pass = hall.porter.pass();
+        self.slot
+            .enter(&hall.words, &mut self.activation, &mut pass);
     }
 
-    /// Enters, swaps the value of a new block into the link, reads the link, retires what came out, and leaves. It gives what it read.
-    /// Nothing comes where memory was refused.
-    pub fn visit(
-        &mut self,
-        words: &Words<u64>,
-        porter: &Porter,
-        link: usize,
-        value: u64,
-        counting: &mut Counting<'_>,
-        rt: &impl Wait,
-    ) -> Option<u64>
-        requires visitor { IsVisitorOf words.now self.old }
-        requires lends { LendsFor words.now porter.now }
-        requires link { HasLink words.now link }
-        ensures visitor { IsVisitorOf words.now self.new }
+    /// What the link holds, if it holds something.
+    pub fn find(&self, hall: &Hall, link: usize) -> Option<u64>
+        requires inside { IsIn hall.now.words self.now }
+        requires link { link < 1024 }
     {
-        self.slot
-            .enter(words, &mut self.activation, &mut porter.pass());
-        let found = self.swap(words, porter, link, value, counting, rt);
-        let mut pass = porter.pass();
-        self.slot
-            .leave(words, &mut self.activation, counting, &mut pass, rt);
-        found
-    }
-
-    // Swaps the value of a new block into the link, reads the link, and retires what came out.
-    fn swap(
-        &mut self,
-        words: &Words<u64>,
-        porter: &Porter,
-        link: usize,
-        value: u64,
-        counting: &mut Counting<'_>,
-        rt: &impl Wait,
-    ) -> Option<u64>
-        requires inside { IsIn words.now self.old }
-        requires lends { LendsFor words.now porter.now }
-        requires link { HasLink words.now link }
-        ensures inside { IsIn words.now self.new }
-    {
-        let mut pass = porter.pass();
+        let mut pass = hall.porter.pass();
         self.slot.teach(&mut pass);
-        let out = self.swap_in(words, link, value, &mut pass)?;
-        let found = read(words, link, &self.activation, &mut pass);
-        self.retire(words, out, counting, &mut pass, rt);
-        found
+        match hall.words.find(link, &self.activation, &mut pass).1 {
+            Some(found) => Some(*found.value),
+            None => None,
+        }
     }
 
-    // Swaps the value of a new block into the link. It gives what came out.
-    fn swap_in(
+    /// Swaps the value of a new block, which is lent, into the link. It gives what came out, if there was something.
+    ///
+    /// # Errors
+    ///
+    /// `NoMemory` where a growth of the store was refused, and then nothing was put in.
+    pub fn swap_in(
+        &mut self,
+        hall: &Hall,
+        link: usize,
+        value: u64,
+    ) -> Result<Option<Loose>, Refusal>
+        requires inside { IsIn hall.now.words self.old }
+        requires link { link < 1024 }
+        ensures inside { IsIn hall.now.words self.new × IsSameSlot self.old self.new }
+        ensures out { IfOk result (λ out. IfSome out (λ loose. IsLooseOf hall.now.words loose)) }
+    {
+        let mut pass = hall.porter.pass();
+        self.slot.teach(&mut pass);
+        self.put(&hall.words, link, value, &mut pass)
+    }
+
+    // The same with a pass that has learned of the slot.
+    fn put(
         &mut self,
         words: &Words<u64>,
         link: usize,
         value: u64,
         pass: &mut Pass,
-    ) -> Option<Option<Loose>>
+    ) -> Result<Option<Loose>, Refusal>
         requires inside { IsIn words.now self.old × MayStepWith words.now self.old.activation pass.old }
-        requires link { HasLink words.now link }
-        ensures inside { IsIn words.now self.new × MayStepWith words.now self.new.activation pass.new }
-        ensures out { IfSome result (λ out. IfSome out (λ loose. IsLooseOf words.now loose)) }
+        requires link { link < length (words_book words.now).links }
+        ensures inside { IsIn words.now self.new × IsSameSlot self.old self.new }
+        ensures out { IfOk result (λ out. IfSome out (λ loose. IsLooseOf words.now loose)) }
     {
-        let Ok((mut key, block)) = self.slot.add(words, value, pass) else {
-            return None;
-        };
+        let made = self.slot.add(words, value, pass);
+        let (mut key, block) = made.map_err(|(refusal, _)| refusal)?;
         let number = block.number() as u64;
         words.blocks.lend(&mut key, block);
         let mut new = MaybeKey::some(key);
         let old = words.swap_link(link, number + 1, &mut new, &self.activation, pass);
-        Some(Loose::of(old, new))
+        Ok(Loose::of(old, new))
     }
 
-    // Retires what came out, if something did.
-    fn retire(
+    /// Retires what came out, of which this is kept. It says whether the batch was retired with it.
+    pub fn retire<R: Reclaim<u64>>(
         &mut self,
-        words: &Words<u64>,
-        out: Option<Loose>,
-        counting: &mut Counting<'_>,
-        pass: &mut Pass,
+        hall: &Hall,
+        out: Loose,
+        kept: u64,
+        reclaimer: &mut R,
         rt: &impl Wait,
-    )
-        requires inside { IsIn words.now self.old × MayStepWith words.now self.old.activation pass.old }
-        requires out { IfSome out (λ loose. IsLooseOf words.now loose) }
-        ensures inside { IsIn words.now self.new }
+    ) -> bool
+        requires inside { IsIn hall.now.words self.old }
+        requires out { IsLooseOf hall.now.words out }
+        requires serves { R.serves reclaimer.old (words_book hall.now.words) }
+        ensures inside { IsIn hall.now.words self.new × IsSameSlot self.old self.new }
+        ensures serves { R.serves reclaimer.new (words_book hall.now.words) }
     {
-        match out {
-            Some(out) => {
-                self.slot.retire(words, out, 1, counting, pass, rt);
-            }
-            None => {}
-        }
+        let mut pass = hall.porter.pass();
+        self.slot.retire(&hall.words, out, kept, reclaimer, &mut pass, &Beside { rt })
     }
-}
 
-// Reads the link.
-fn read(words: &Words<u64>, link: usize, activation: &Activation, pass: &mut Pass) -> Option<u64>
-    requires may { MayStepWith words.now activation.now pass.old }
-    requires link { HasLink words.now link }
-    ensures may { MayStepWith words.now activation.now pass.new }
-{
-    match words.find(link, activation, pass).1 {
-        Some(found) => Some(*found.value),
-        None => None,
+    /// Swaps the value of a new block into the link, and retires what came out. See `swap_in`.
+    pub fn replace<R: Reclaim<u64>>(
+        &mut self,
+        hall: &Hall,
+        link: usize,
+        value: u64,
+        reclaimer: &mut R,
+        rt: &impl Wait,
+    ) -> Result<(), Refusal>
+        requires inside { IsIn hall.now.words self.old }
+        requires link { link < 1024 }
+        requires serves { R.serves reclaimer.old (words_book hall.now.words) }
+        ensures inside { IsIn hall.now.words self.new × IsSameSlot self.old self.new }
+        ensures serves { R.serves reclaimer.new (words_book hall.now.words) }
+    {
+        if let Some(out) = self.swap_in(hall, link, value)? {
+            self.retire(hall, out, 1, reclaimer, rt);
+        }
+        Ok(())
+    }
+
+    /// Flushes. It says whether the batch was retired.
+    pub fn flush<R: Reclaim<u64>>(&mut self, hall: &Hall, reclaimer: &mut R, rt: &impl Wait) -> bool
+        requires inside { IsIn hall.now.words self.old }
+        requires serves { R.serves reclaimer.old (words_book hall.now.words) }
+        ensures inside { IsIn hall.now.words self.new }
+        ensures serves { R.serves reclaimer.new (words_book hall.now.words) }
+    {
+        let mut pass = hall.porter.pass();
+        self.slot
+            .flush(&hall.words, reclaimer, &mut pass, &Beside { rt })
+    }
+
+    /// Refreshes.
+    pub fn refresh<R: Reclaim<u64>>(&mut self, hall: &Hall, reclaimer: &mut R, rt: &impl Wait)
+        requires inside { IsIn hall.now.words self.old }
+        requires serves { R.serves reclaimer.old (words_book hall.now.words) }
+        ensures inside { IsIn hall.now.words self.new }
+        ensures serves { R.serves reclaimer.new (words_book hall.now.words) }
+    {
+        let mut pass = hall.porter.pass();
+        self.slot.refresh(
+            &hall.words,
+            &mut self.activation,
+            reclaimer,
+            &mut pass,
+            &Beside { rt },
+        );
+    }
+
+    /// Leaves.
+    pub fn leave<R: Reclaim<u64>>(&mut self, hall: &Hall, reclaimer: &mut R, rt: &impl Wait)
+        requires inside { IsIn hall.now.words self.old }
+        requires serves { R.serves reclaimer.old (words_book hall.now.words) }
+        ensures outside { IsVisitorOf hall.now.words self.new }
+        ensures serves { R.serves reclaimer.new (words_book hall.now.words) }
+    {
+        let mut pass = hall.porter.pass();
+        self.slot.leave(
+            &hall.words,
+            &mut self.activation,
+            reclaimer,
+            &mut pass,
+            &Beside { rt },
+        );
     }
 }

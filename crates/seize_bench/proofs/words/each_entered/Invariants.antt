@@ -1,5 +1,5 @@
-use Rattle.seize_words_rows.specs.Leaves.{IsAtHead, IsOutside}
+use Rattle.seize_bench.specs.Visits.{MayVisit}
 use Rattle.seize_bench.proofs.words.each_entered.Given as goal
 
 abbrev pub invariant-loop : goal.invariant-loop
-invariant-loop l = IsAtHead l.head l.key l.pass × IsOutside l.key
+invariant-loop g l = MayVisit l.hall.words l.visitor

@@ -1,6 +1,6 @@
-use Rattle.std.proofs.Common.{◌≡◌, length}
-use Rattle.seize_words_rows.specs.Entrants.{MayRead}
+use Rattle.seize_calls.specs.Calls.{HasBegun}
+use Rattle.seize_calls.specs.Slots.{IsPassFor}
 use Rattle.seize_bench.proofs.words.each_protected.Given as goal
 
 abbrev pub invariant-loop : goal.invariant-loop
-invariant-loop l = MayRead l.words l.activation l.pass × (length l.pass.name.links ≡ 1024)
+invariant-loop l = IsPassFor l.hall.words l.pass × HasBegun l.activation l.pass

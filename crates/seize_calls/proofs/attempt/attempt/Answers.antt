@@ -4,9 +4,11 @@ use Rattle.seize_book.specs.Adding.{private}
 use Rattle.seize_book.specs.Ledger.{with_list}
 use Rattle.seize_book.specs.Private.{labels_of}
 use Rattle.seize_book.specs.Slots.{slot_number}
+use Rattle.seize_book.proofs.Facts.{same_twice}
 use Rattle.seize_words.proofs.Facts.{knows_noted}
 use Rattle.seize_calls.specs.Batches.{AreRemarked, keys_in, slot_marks_in, without_slots}
 use Rattle.seize_calls.specs.Numbered.{ends_at, is_count_of, starts_at}
+use Rattle.seize_calls.proofs.Sole.{may_same}
 use Rattle.seize_calls.proofs.Attempts.{adds, book_one, book_three, has_front, inserts, its_last, its_values, retires, same_last, same_one, stays_so, told_three, values_are}
 use Rattle.seize_calls.proofs.Batches.{remarked_labels, renewed_labels}
 use Rattle.seize_calls.proofs.attempt.attempt.Goals as goal
@@ -25,12 +27,15 @@ insert_each-won-requires g c =
     let same = (same_one c.args.key.now at c.args.pass.now key pass held front ready.marked (ready.ensures.marks at) ready.ensures.book.0 ready.ensures.knows ready.ensures.book.1 (ready.ensures.book.0 ∙ ready.ensures.book.1.0 ∙ sym c.requires.book.0, ready.ensures.book.2) are c.mark.new.batch.front c.detach.new.self c.detach.new.pass c.detach.ensures.noted c.detach.ensures.batch).0 in (
       lit< tt,
       (
-        (book_one c.args.key.now at c.args.pass.now key pass held front ready.marked (ready.ensures.marks at) ready.ensures.book.0 ready.ensures.knows ready.ensures.book.1 (ready.ensures.book.0 ∙ ready.ensures.book.1.0 ∙ sym c.requires.book.0, ready.ensures.book.2) are c.mark.new.batch.front c.detach.new.self c.detach.new.pass c.detach.ensures.noted c.detach.ensures.batch, c.requires.book.1 ∙ sym same, c.requires.book.2 ∙ sym same),
+        may_same (g.M.Manner.may c.args.manner.now) c.args.pass.now c.detach.new.pass (same_twice c.args.pass.now pass c.detach.new.pass ready.ensures.book.1 c.detach.ensures.noted.0) c.requires.may,
         (
-          knows_noted key c.detach.new.self pass c.detach.new.pass (private pass (Detach (slot_number key))) c.detach.ensures.noted,
+          (book_one c.args.key.now at c.args.pass.now key pass held front ready.marked (ready.ensures.marks at) ready.ensures.book.0 ready.ensures.knows ready.ensures.book.1 (ready.ensures.book.0 ∙ ready.ensures.book.1.0 ∙ sym c.requires.book.0, ready.ensures.book.2) are c.mark.new.batch.front c.detach.new.self c.detach.new.pass c.detach.ensures.noted c.detach.ensures.batch, c.requires.book.1 ∙ sym same, c.requires.book.2 ∙ sym same),
           (
-            (ready.ensures.batch.0 ∙ c.requires.batch.0 ∙ sym same, (ready.ensures.marks at).stands.2),
-            (inserts c.args.key.now at c.args.pass.now key pass held front ready.marked (ready.ensures.marks at) ready.ensures.book.0 ready.ensures.knows ready.ensures.book.1 (ready.ensures.book.0 ∙ ready.ensures.book.1.0 ∙ sym c.requires.book.0, ready.ensures.book.2) are c.mark.new.batch.front c.detach.new.self c.detach.new.pass c.detach.ensures.noted c.detach.ensures.batch, its_values c.args.key.now at c.args.pass.now key pass held front ready.marked (ready.ensures.marks at) ready.ensures.book.0 ready.ensures.knows ready.ensures.book.1 (ready.ensures.book.0 ∙ ready.ensures.book.1.0 ∙ sym c.requires.book.0, ready.ensures.book.2) are c.mark.new.batch.front c.detach.new.self c.detach.new.pass c.detach.ensures.noted c.detach.ensures.batch),
+            knows_noted key c.detach.new.self pass c.detach.new.pass (private pass (Detach (slot_number key))) c.detach.ensures.noted,
+            (
+              (ready.ensures.batch.0 ∙ c.requires.batch.0 ∙ sym same, (ready.ensures.marks at).stands.2),
+              (inserts c.args.key.now at c.args.pass.now key pass held front ready.marked (ready.ensures.marks at) ready.ensures.book.0 ready.ensures.knows ready.ensures.book.1 (ready.ensures.book.0 ∙ ready.ensures.book.1.0 ∙ sym c.requires.book.0, ready.ensures.book.2) are c.mark.new.batch.front c.detach.new.self c.detach.new.pass c.detach.ensures.noted c.detach.ensures.batch, its_values c.args.key.now at c.args.pass.now key pass held front ready.marked (ready.ensures.marks at) ready.ensures.book.0 ready.ensures.knows ready.ensures.book.1 (ready.ensures.book.0 ∙ ready.ensures.book.1.0 ∙ sym c.requires.book.0, ready.ensures.book.2) are c.mark.new.batch.front c.detach.new.self c.detach.new.pass c.detach.ensures.noted c.detach.ensures.batch),
+            ),
           ),
         ),
       ),

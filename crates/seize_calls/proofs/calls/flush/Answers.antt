@@ -1,4 +1,4 @@
-use Rattle.std.proofs.Common.{[], ℕ, ◌<◌, List, length, lit<, refl, sym, ap, subst, ◌∙◌}
+use Rattle.std.proofs.Common.{◌≡◌, [], ℕ, ◌<◌, List, length, lit<, refl, sym, ap, subst, ◌∙◌}
 use Rattle.seize_machine.specs.Machine.Event.{Begin, Return}
 use Rattle.seize_machine.specs.declared.machine.event.Job.TheVariants.{Flush}
 use Rattle.seize_book.specs.Adding.{private}
@@ -10,9 +10,10 @@ use Rattle.seize_book.specs.declared.book.pass.Pass.{Pass}
 use Rattle.seize_calls.specs.Batches.{keys_in}
 use Rattle.seize_calls.specs.Furthers.{further_in}
 use Rattle.seize_calls.specs.Settling.{Drains, call_state}
+use Rattle.seize_calls.proofs.Sole.{may_same}
 use Rattle.seize_calls.proofs.Batches.{none_counted, some_counted}
 use Rattle.seize_calls.proofs.Events.{keeps_returned}
-use Rattle.seize_calls.proofs.Onwards.{keeps_onward, onward_twice, only_stays, settles_on, settles_rest}
+use Rattle.seize_calls.proofs.Onwards.{keeps_onward, onward_twice, only_stays, settles_any, settles_on, settles_rest}
 use Rattle.seize_calls.proofs.Whole.{begun_notes, begun_sits, flush_begins, flush_marks, flush_over, is_over, returned, whole_rests}
 use Rattle.seize_calls.proofs.calls.flush.Goals as goal
 
@@ -46,11 +47,13 @@ returns-then-batch-eq0-clause-flushes g c =
     let a = call_state one pass1 c.args.batch.now made.result had in
     let sits = begun_sits key pass Flush [] a begins c.requires.book.0 (knows_noted key one pass pass1 (private pass (Begin (slot_number key) Flush)) notes) c.requires.batch made.ensures.0 in
     let keeps = begins.keeps in let last = c.finish in let over = keeps_returned one last.new.self pass1 last.new.pass last.ensures.noted in
+    let empty : (slot_of key).batch ≡ [] = sym c.requires.batch.1 ∙ none_counted c.args.batch.now.len (values_of (keys_in c.args.batch.now)) c.args.batch.now.many c.if-batch-eq0.true in
+    let few : length (slot_of one).batch < 1 = subst (λ (vs : List ℕ). length vs < 1) (sym (keeps.batch ∙ empty)) (lit< tt) in
     record {
       begun = a;
       begins = record { begins = begins; batch = refl; none = none; had_none = refl };
       settled = a;
-      settles = only_stays a (flush_over key one pass pass1 notes queue none (sym c.requires.batch.1 ∙ none_counted c.args.batch.now.len (values_of (keys_in c.args.batch.now)) c.args.batch.now.many c.if-batch-eq0.true));
+      settles = only_stays 1 a few (flush_over key one pass pass1 notes queue none empty);
       drained = a;
       drains = Drains.over;
       returns = returned a last.new.self last.new.pass last.ensures.noted none;
@@ -67,7 +70,7 @@ settle-retired-requires g c =
     let sits = begun_sits key pass Flush [] a begins c.requires.book.0 (knows_noted key one pass pass1 (private pass (Begin (slot_number key) Flush)) notes) c.requires.batch made.ensures.0 in
     let some : 0 < length (slot_of key).batch = subst (λ (vs : List ℕ). 0 < length vs) c.requires.batch.1 (some_counted c.args.batch.now.len (values_of (keys_in c.args.batch.now)) c.args.batch.now.many c.if-batch-eq0.false) in
     let same = sym begins.keeps.same.0 in
-    (lit< tt, ((c.requires.book.1 ∙ same, c.requires.book.2 ∙ same), (sits, (flush_marks key one pass pass1 notes queue none some, (c.requires.serves, c.requires.spots)))))
+    (lit< tt, (may_same (g.M.Manner.may c.args.manner.now) c.args.pass.now pass1 begins.keeps.same c.requires.may, ((c.requires.book.1 ∙ same, c.requires.book.2 ∙ same), (sits, (flush_marks key one pass pass1 notes queue none some, (c.requires.serves, c.requires.spots))))))
 
 pub drain-requires : goal.drain-requires
 drain-requires g c =
@@ -76,12 +79,15 @@ drain-requires g c =
     let a = call_state one pass1 c.args.batch.now made.result had in
     let sits = begun_sits key pass Flush [] a begins c.requires.book.0 (knows_noted key one pass pass1 (private pass (Begin (slot_number key) Flush)) notes) c.requires.batch made.ensures.0 in
     let settle = c.settle-retired in let b = call_state settle.new.key settle.new.pass settle.new.batch settle.new.queue (g.R.Reclaim.had settle.new.reclaimer) in
-    let on = onward_twice key one b.key pass pass1 b.pass (keeps_onward key one pass pass1 begins.keeps) (settles_on a b settle.result settle.ensures.settles) in
+    let on = onward_twice key one b.key pass pass1 b.pass (keeps_onward key one pass pass1 begins.keeps) (settles_on 0 a b settle.result settle.ensures.settles) in
     let same = sym on.same.0 in (
       lit< tt,
       (
-        (c.requires.book.1 ∙ same, c.requires.book.2 ∙ same),
-        (c.requires.size ∙ sym on.same.2, (settle.ensures.well_formed, (settles_rest a b settle.result settle.ensures.settles, (settle.ensures.serves, settle.ensures.spots)))),
+        may_same (g.M.Manner.may c.args.manner.now) c.args.pass.now b.pass on.same c.requires.may,
+        (
+          (c.requires.book.1 ∙ same, c.requires.book.2 ∙ same),
+          (c.requires.size ∙ sym on.same.2, (settle.ensures.well_formed, (settles_rest 0 a b settle.result settle.ensures.settles, (settle.ensures.serves, settle.ensures.spots)))),
+        ),
       ),
     )
 
@@ -101,7 +107,7 @@ returns-clause-flushes g c =
     let a = call_state one pass1 c.args.batch.now made.result had in
     let sits = begun_sits key pass Flush [] a begins c.requires.book.0 (knows_noted key one pass pass1 (private pass (Begin (slot_number key) Flush)) notes) c.requires.batch made.ensures.0 in
     let settle = c.settle-retired in let b = call_state settle.new.key settle.new.pass settle.new.batch settle.new.queue (g.R.Reclaim.had settle.new.reclaimer) in
-    let on = onward_twice key one b.key pass pass1 b.pass (keeps_onward key one pass pass1 begins.keeps) (settles_on a b settle.result settle.ensures.settles) in
+    let on = onward_twice key one b.key pass pass1 b.pass (keeps_onward key one pass pass1 begins.keeps) (settles_on 0 a b settle.result settle.ensures.settles) in
     let drain = c.drain in let d = call_state drain.new.key drain.new.pass drain.new.batch drain.new.queue (g.R.Reclaim.had drain.new.reclaimer) in
     let all = onward_twice key b.key d.key pass b.pass d.pass on drain.ensures.on in let last = c.finish-2 in
     let over = keeps_returned d.key last.new.self d.pass last.new.pass last.ensures.noted in
@@ -109,7 +115,7 @@ returns-clause-flushes g c =
       begun = a;
       begins = record { begins = begins; batch = refl; none = none; had_none = refl };
       settled = b;
-      settles = settle.ensures.settles;
+      settles = settles_any 1 a b settle.result settle.ensures.settles;
       drained = d;
       drains = drain.ensures.drains;
       returns = returned d last.new.self last.new.pass last.ensures.noted drain.ensures.over.1;

@@ -13,6 +13,7 @@ use Rattle.seize_calls.specs.Furthers.{further_in}
 use Rattle.seize_calls.specs.Settling.{call_state}
 use Rattle.seize_book.specs.Entry.{Entry}
 use Rattle.seize_book.specs.Laws.{life}
+use Rattle.seize_calls.proofs.Sole.{may_same}
 use Rattle.seize_calls.proofs.Events.{begins_so, call_begun, keeps_returned, refresh_so}
 use Rattle.seize_calls.proofs.Whole.{none_queued}
 use Rattle.seize_calls.proofs.Leaving.{at_walk, has_left, walked_over, walked_sits}
@@ -82,12 +83,15 @@ drain-requires g c =
     let same = sym (all.goes_on.0.same.0 ∙ named) in (
       lit< tt,
       (
-        (c.requires.words.0 ∙ same, c.requires.words.1 ∙ same),
+        may_same (g.M.Manner.may c.args.manner.now) c.args.pass.now pass3 (all.goes_on.0.same.0 ∙ named, all.goes_on.0.same.1 ∙ (noted.0.1 ∙ begins.keeps.same.1), all.goes_on.0.same.2 ∙ (noted.0.2 ∙ begins.keeps.same.2)) c.requires.may,
         (
-          c.requires.size ∙ sym (all.goes_on.0.same.2 ∙ (noted.0.2 ∙ begins.keeps.same.2)),
+          (c.requires.words.0 ∙ same, c.requires.words.1 ∙ same),
           (
-            walked_sits key one two pass pass1 pass2 Refresh true swap.new.activation.life begins c.requires.inside.1 out noted c.args.head.now swap.result (swap.ensures.walks ([], out)) c.requires.book.2 three pass3 values queue queue3 had had3 made.ensures.0.1 all c.requires.book.0 walk.ensures.knows c.requires.batch made.ensures.0 walk.ensures.told,
-            (walked_over key one two pass pass1 pass2 Refresh true swap.new.activation.life begins c.requires.inside.1 out noted c.args.head.now swap.result (swap.ensures.walks ([], out)) c.requires.book.2 three pass3 values queue queue3 had had3 made.ensures.0.1 all, (walk.ensures.serves, walk.ensures.spots)),
+            c.requires.size ∙ sym (all.goes_on.0.same.2 ∙ (noted.0.2 ∙ begins.keeps.same.2)),
+            (
+              walked_sits key one two pass pass1 pass2 Refresh true swap.new.activation.life begins c.requires.inside.1 out noted c.args.head.now swap.result (swap.ensures.walks ([], out)) c.requires.book.2 three pass3 values queue queue3 had had3 made.ensures.0.1 all c.requires.book.0 walk.ensures.knows c.requires.batch made.ensures.0 walk.ensures.told,
+              (walked_over key one two pass pass1 pass2 Refresh true swap.new.activation.life begins c.requires.inside.1 out noted c.args.head.now swap.result (swap.ensures.walks ([], out)) c.requires.book.2 three pass3 values queue queue3 had had3 made.ensures.0.1 all, (walk.ensures.serves, walk.ensures.spots)),
+            ),
           ),
         ),
       ),

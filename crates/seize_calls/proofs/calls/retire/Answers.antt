@@ -11,6 +11,7 @@ use Rattle.seize_words.proofs.Facts.{knows_noted, retired_told}
 use Rattle.seize_book.specs.declared.book.pass.Pass.{Pass}
 use Rattle.seize_calls.specs.Furthers.{further_in}
 use Rattle.seize_calls.specs.Settling.{DrainsOne, MayPut, call_state}
+use Rattle.seize_calls.proofs.Sole.{may_same}
 use Rattle.seize_calls.proofs.Events.{keeps_returned}
 use Rattle.seize_calls.proofs.Onwards.{keeps_onward, onward_twice, round_on, settles_rest}
 use Rattle.seize_calls.proofs.Whole.{begun_notes, begun_sits, is_over, retire_begins, retire_puts, returned, same_label, whole_rests}
@@ -30,14 +31,17 @@ put-retired-requires g c =
     let same = sym begins.keeps.same.0 in (
       lit< tt,
       (
-        (c.requires.book.1 ∙ same, c.requires.book.2 ∙ same),
+        may_same (g.M.Manner.may c.args.manner.now) c.args.pass.now pass1 begins.keeps.same c.requires.may,
         (
-          c.requires.size ∙ sym begins.keeps.same.2,
+          (c.requires.book.1 ∙ same, c.requires.book.2 ∙ same),
           (
-            sits,
+            c.requires.size ∙ sym begins.keeps.same.2,
             (
-              subst (λ (w : ℕ). MayPut one w queue) (sym label) (retire_puts key one pass pass1 v c.args.kept queue notes none),
-              ((c.begin_retire.ensures.value.0 ∙ (c.requires.value.0 ∙ same), ap block_number label ∙ c.requires.value.2), (subst (λ (w : ℕ). IsTold pass1.seen w c.args.kept) (sym label) (retired_told key one pass pass1 v c.args.kept notes), (c.requires.serves, c.requires.spots))),
+              sits,
+              (
+                subst (λ (w : ℕ). MayPut one w queue) (sym label) (retire_puts key one pass pass1 v c.args.kept queue notes none),
+                ((c.begin_retire.ensures.value.0 ∙ (c.requires.value.0 ∙ same), ap block_number label ∙ c.requires.value.2), (subst (λ (w : ℕ). IsTold pass1.seen w c.args.kept) (sym label) (retired_told key one pass pass1 v c.args.kept notes), (c.requires.serves, c.requires.spots))),
+              ),
             ),
           ),
         ),
@@ -55,8 +59,11 @@ drain-requires g c =
     let same = sym on.same.0 in (
       lit< tt,
       (
-        (c.requires.book.1 ∙ same, c.requires.book.2 ∙ same),
-        (c.requires.size ∙ sym on.same.2, (put.ensures.well_formed, (settles_rest round.full b put.result round.settles, (put.ensures.serves, put.ensures.spots)))),
+        may_same (g.M.Manner.may c.args.manner.now) c.args.pass.now b.pass on.same c.requires.may,
+        (
+          (c.requires.book.1 ∙ same, c.requires.book.2 ∙ same),
+          (c.requires.size ∙ sym on.same.2, (put.ensures.well_formed, (settles_rest _ round.full b put.result round.settles, (put.ensures.serves, put.ensures.spots)))),
+        ),
       ),
     )
 

@@ -96,7 +96,7 @@ returns-clause-told g c =
     let on = prefix_trans c.args.pass.now.seen hand.new.pass.seen pass'.seen grows c.settle.ensures.looks.grows in
     let its = put_told redeemed.new.slot hand.new.key made.new.pass hand.new.pass (further_in c.reclaim.new.further) put hand.ensures.noted hand.ensures.keys in
     let same = hand.ensures.keys.0 ∙ (c.reclaim.ensures.further.0 ∙ (c.requires.book.2 ∙ sym c.requires.queue)) in
-    (joined_told pass'.seen queue.keys.held put.keys.held all.keys.held c.append.ensures.all c.append.ensures.kept
+    (joined_told pass'.seen queue.keys.held put.keys.held all.keys.held c.append.ensures.joins.all c.append.ensures.joins.kept
     (all_told_later c.args.pass.now.seen pass'.seen queue.keys.held on c.requires.told)
     ((all_told_later hand.new.pass.seen pass'.seen put.keys.held c.settle.ensures.looks.grows its)))
 
@@ -116,7 +116,7 @@ returns-clause-laid g c =
 
 pub returns-clause-handed : goal.returns-clause-handed
 returns-clause-handed g c =
-    let looked = c.header-header in let noted = c.note-note in let redeemed = c.redeem-block in let key = c.args.key.now in let hand = c.hand in let made = c.new-further in let puts = values_of (further_in c.reclaim.new.further) in let words = kepts_of (further_in c.reclaim.new.further) in let joins = c.append.ensures in
+    let looked = c.header-header in let noted = c.note-note in let redeemed = c.redeem-block in let key = c.args.key.now in let hand = c.hand in let made = c.new-further in let puts = values_of (further_in c.reclaim.new.further) in let words = kepts_of (further_in c.reclaim.new.further) in let joins = c.append.ensures.joins in
     let notes : AddsDeed key made.new.pass hand.new.key hand.new.pass (deed_with_words made.new.pass (Hand (slot_number key) puts) words) =
     subst (λ (k : SlotKey). AddsDeed k made.new.pass hand.new.key hand.new.pass (deed_with_words made.new.pass (Hand (slot_number k) puts) words)) (same_key key redeemed.new.slot redeemed.ensures.slot) hand.ensures.noted in
     let looks : LooksOn c.args.pass.now made.new.pass = subst (λ (p : Pass). LooksOn c.args.pass.now p) (sym made.ensures.1) (looks_twice c.args.pass.now looked.new.pass redeemed.new.pass looked.ensures.looks redeemed.ensures.looks) in

@@ -39,22 +39,22 @@ head-head-requires-clause-seen g c =
     let same : slot_in first.note ≡ note.result.slot = ap (λ (hs : List (HeldKey Entry)). slot_in (get_or hs 0 first).note) (sym next.is_first ∙ note.ensures.was) ∙ ap slot_in note.ensures.noted in
     let seen = next.seen in omega (arith, one, two, same, seen)
 
-pub insert_by-requires-clause-knows : goal.insert_by-requires-clause-knows
-insert_by-requires-clause-knows g c =
+pub insert-requires-clause-knows : goal.insert-requires-clause-knows
+insert-requires-clause-knows g c =
     let key = c.args.key.now in
     knows_still key c.header-header.new.pass c.head-head.new.pass
     (knows_still key c.seek-known.new.self c.header-header.new.pass (knows_still key c.args.pass.now c.seek-known.new.self c.requires.knows c.seek-known.ensures.looks) c.header-header.ensures.looks)
     c.head-head.ensures.looks
 
-pub insert_by-requires-clause-home : goal.insert_by-requires-clause-home
-insert_by-requires-clause-home g c = λ at.
+pub insert-requires-clause-home : goal.insert-requires-clause-home
+insert-requires-clause-home g c = λ at.
     let key = c.args.key.now in let one = c.seek-known in let two = c.header-header in
     its_home key two.new.pass (slot c.head-head.result.now) c.number-block.result c.args.front two.result.now at
     (c.requires.book.0 ∙ sym one.ensures.looks.same.0 ∙ sym two.ensures.looks.same.0)
     (knows_still key one.new.self two.new.pass (knows_still key c.args.pass.now one.new.self c.requires.knows one.ensures.looks) two.ensures.looks) two.ensures.header
 
-pub insert_by-requires-clause-seen : goal.insert_by-requires-clause-seen
-insert_by-requires-clause-seen g c =
+pub insert-requires-clause-seen : goal.insert-requires-clause-seen
+insert-requires-clause-seen g c =
     let next = c.requires.next in let note = c.next-note in let first : HeldKey Entry = next.first in
     let one = more_seen c.args.pass.now c.seek-known.new.self c.seek-known.ensures.looks in let two = more_seen c.seek-known.new.self c.header-header.new.pass c.header-header.ensures.looks in
     let three = more_seen c.header-header.new.pass c.head-head.new.pass c.head-head.ensures.looks in
@@ -63,7 +63,7 @@ insert_by-requires-clause-seen g c =
 
 pub returns-clause-inserted : goal.returns-clause-inserted
 returns-clause-inserted g c = λ next.
-    let key = c.args.key.now in let by = c.insert_by in let note = c.next-note in let first : HeldKey Entry = next.first in let round = c.args.round.now in
+    let key = c.args.key.now in let by = c.insert in let note = c.next-note in let first : HeldKey Entry = next.first in let round = c.args.round.now in
     let same : slot_in first.note ≡ note.result.slot = ap (λ (hs : List (HeldKey Entry)). slot_in (get_or hs 0 first).note) (sym next.is_first ∙ note.ensures.was) ∙ ap slot_in note.ensures.noted in
     let number = number_of_first round.number round.rest.keys.held first.label (labels_of next.others) (ap labels_of next.is_first) round.next in
     let its_slot : slot c.head-head.result.now ≡ slot_in first.note = c.head-head.ensures.head.1 ∙ sym same in

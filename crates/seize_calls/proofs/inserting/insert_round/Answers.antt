@@ -2,6 +2,7 @@ use Rattle.std.proofs.Common.{rules, ◌≡◌, ℕ, ◌+◌, ◌<◌, Bool, if�
 use Rattle.std.proofs.lemmas.List.{length-take-le}
 use Rattle.seize_calls.specs.Batches.{slot_marks_of}
 use Rattle.seize_calls.specs.Rounds.{rest_in}
+use Rattle.seize_calls.proofs.Sole.{may_same}
 use Rattle.seize_calls.proofs.Inserts.{HasTurned, all_turned, none_turned, round_done, round_next, round_turned}
 use Rattle.seize_calls.proofs.inserting.insert_round.Goals.{then-insert_at, else-insert_at}
 use Rattle.seize_calls.proofs.inserting.insert_round.Goals as goal
@@ -16,13 +17,16 @@ insert_at-requires g c =
     let l = c.loop in let at = c.requires.at in let r = l.invariant.0 at in (
       lit< tt,
       (
-        (l.invariant.1, c.requires.book.1 ∙ sym r.keeps.same.0, c.requires.book.2 ∙ sym r.keeps.same.0),
+        may_same (g.M.Manner.may c.args.manner.now) c.args.pass.now l.pass r.keeps.same c.requires.may,
         (
-          l.invariant.3,
+          (l.invariant.1, c.requires.book.1 ∙ sym r.keeps.same.0, c.requires.book.2 ∙ sym r.keeps.same.0),
           (
-            l.invariant.2,
-            round_next c.args.key.now c.args.pass.now (rest_in c.args.round.now) c.args.marked c.args.front at (c.requires.values at) c.requires.round.2 l.counter l.won l.key l.pass r c.loop-test.true l.invariant.1 l.invariant.2 l.round
-                l.invariant.5,
+            l.invariant.3,
+            (
+              l.invariant.2,
+              round_next c.args.key.now c.args.pass.now (rest_in c.args.round.now) c.args.marked c.args.front at (c.requires.values at) c.requires.round.2 l.counter l.won l.key l.pass r c.loop-test.true l.invariant.1 l.invariant.2 l.round
+                  l.invariant.5,
+            ),
           ),
         ),
       ),

@@ -7,6 +7,7 @@ use Rattle.seize_words.specs.Heads.{found_end}
 use Rattle.seize_words.specs.Reservations.{slot}
 use Rattle.seize_book.specs.Slots.{slot_number}
 use Rattle.seize_words.proofs.Facts.{knows_noted, still_stores}
+use Rattle.seize_calls.proofs.Sole.{equal_same, found_same}
 use Rattle.seize_calls.proofs.Tries.{stores_first, stores_next, tried, tries_at}
 use Rattle.seize_calls.proofs.inserting.try_once.Goals as goal
 
@@ -34,3 +35,9 @@ returns-clause-tried c = λ at.
     let one = c.store in let two = c.store-2 in
     tried c.args.key.now c.args.pass.now c.args.head.now c.args.header.now c.args.seen c.args.block c.args.front at c.requires.book.0 one.new.key two.new.key one.new.pass two.new.pass _ _ one.ensures.uses two.ensures.uses
     c.insert.new.key c.insert.new.pass (c.insert.result == c.args.seen) c.insert.ensures.noted
+
+pub returns-clause-alone : goal.returns-clause-alone
+returns-clause-alone c = λ sole shows.
+    let one = c.store in let two = c.store-2 in
+    equal_same (found_same c.args.head.now c.args.seen c.insert.result c.args.key.now one.new.key two.new.key c.args.pass.now one.new.pass two.new.pass c.insert.new.pass _ _ _ one.ensures.uses two.ensures.uses
+    _ c.insert.ensures.noted.2.0 c.insert.ensures.found sole shows)

@@ -1,10 +1,9 @@
 use Rattle.std.proofs.Common.{refl}
-use base.Growing.{prefix_refl}
-use Rattle.seize_calls_rows.proofs.Shut.{gave_none}
+use Rattle.seize_calls_rows.proofs.Sole.{leaves, none_added}
 use Rattle.seize_calls_rows.proofs.turns.stand_up.Goals as goal
 
-pub returns-in_default-clause-gave : goal.returns-in_default-clause-gave
-returns-in_default-clause-gave g c = let pass = c.args.pass.now in gave_none pass pass _ (prefix_refl pass.seen) refl
+pub returns-then-seat-clause-reclaims : goal.returns-then-seat-clause-reclaims
+returns-then-seat-clause-reclaims g c = (leaves c.args.seat.now.visitor.slot c.args.pass.now c.leave.new.self c.leave.new.pass c.requires.sits.1.1 _ _ c.leave.ensures.leaves).1
 
-pub returns-in_default-clause-lost : goal.returns-in_default-clause-lost
-returns-in_default-clause-lost g c = λ v h. h
+pub returns-else-seat-clause-reclaims : goal.returns-else-seat-clause-reclaims
+returns-else-seat-clause-reclaims g c = (none_added c.args.pass.now c.args.pass.now _ (refl, refl, refl) refl).1

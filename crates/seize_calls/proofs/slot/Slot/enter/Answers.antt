@@ -1,30 +1,36 @@
 use Rattle.std.proofs.Common.{lit<, refl, sym, ap, subst, ◌∙◌}
 use Rattle.seize_machine.specs.Machine.Event.{Enter}
+use Rattle.seize_machine.specs.Machine.State.{Slot}
 use Rattle.seize_book.specs.Slots.{AddsDeed}
 use Rattle.seize_book.specs.declared.book.pass.Pass.{Pass}
 use Rattle.seize_words.specs.Reservations.{beginning}
-use Rattle.seize_calls.proofs.Slots.{begins_in, entered, holder, knows_still, learned, ready_learned, told_still}
+use Rattle.seize_calls.proofs.Slots.{begins_in, holder, idle_in, knows_still, learned, ready_learned, stays_entered, together_still, told_still}
 use Rattle.seize_calls.proofs.slot.Slot.enter.Goals as goal
 
 pub enter_head-requires : goal.enter_head-requires
 enter_head-requires g c =
     let s = c.args.self.now in let pass = c.args.pass.now in let p = c.learn.new.self in let learns = c.learn.ensures in let of = c.requires.of in
-    (lit< tt, (of.1.0 ∙ sym learns.0.0, ((holder s p (ready_learned s.seen pass p (of.0.book ∙ of.1.0) learns), c.requires.outside.1), (s.together.idle, c.requires.outside.0))))
+    (lit< tt, (of.1.0 ∙ sym learns.0.0, ((holder s p (ready_learned s.seen pass p (of.0.0.book ∙ of.1.0) learns), c.requires.outside.1), (idle_in s of.0.1, c.requires.outside.0))))
 
 pub invariant_of-self : goal.invariant_of-self
 invariant_of-self g c =
     let s = c.args.self.now in let pass = c.args.pass.now in let p = c.learn.new.self in let of = c.requires.of in let one = c.enter_head in let seen = c.learn-2.ensures in
-    record { together = entered s p (ready_learned s.seen pass p (of.0.book ∙ of.1.0) c.learn.ensures) one.new.key one.new.pass one.new.activation one.ensures.noted c.requires.outside.0 c.learn-2.new.self seen.0 seen.1 }
+    let ready = ready_learned s.seen pass p (of.0.0.book ∙ of.1.0) c.learn.ensures in let stays = stays_entered s p one.new.key one.new.pass one.new.activation one.ensures.noted of.0.1 c.requires.outside.0 in
+    let call = ap (λ (z : Slot). z.call) stays ∙ s.together.call in let batch = ap (λ (z : Slot). z.batch) stays in
+    record { together = together_still s p ready one.new.key one.new.pass _ one.ensures.noted call batch c.learn-2.new.self seen.0 seen.1 }
 
 pub returns-clause-of : goal.returns-clause-of
 returns-clause-of g c =
     let s = c.args.self.now in let pass = c.args.pass.now in let p = c.learn.new.self in let of = c.requires.of in let one = c.enter_head in let seen = c.learn-2.ensures in
-    let ready = ready_learned s.seen pass p (of.0.book ∙ of.1.0) c.learn.ensures in
-    record {
-      book = seen.0 ∙ of.0.book;
-      knows = knows_still s p ready one.new.key one.new.pass one.new.activation one.ensures.noted c.requires.outside.0 c.learn-2.new.self seen.0 seen.1;
-      told = told_still s p ready one.new.key one.new.pass one.new.activation one.ensures.noted c.requires.outside.0 c.learn-2.new.self seen.0 seen.1 of.0.told;
-    }
+    let ready = ready_learned s.seen pass p (of.0.0.book ∙ of.1.0) c.learn.ensures in let stays = stays_entered s p one.new.key one.new.pass one.new.activation one.ensures.noted of.0.1 c.requires.outside.0 in
+    let call = ap (λ (z : Slot). z.call) stays ∙ s.together.call in let batch = ap (λ (z : Slot). z.batch) stays in (
+      record {
+        book = seen.0 ∙ of.0.0.book;
+        knows = knows_still s p ready one.new.key one.new.pass _ one.ensures.noted call batch c.learn-2.new.self seen.0 seen.1;
+        told = told_still s p ready one.new.key one.new.pass _ one.ensures.noted call batch c.learn-2.new.self seen.0 seen.1 of.0.0.told;
+      },
+      ap (λ (z : Slot). z.used) stays ∙ of.0.1,
+    )
 
 pub returns-clause-activation : goal.returns-clause-activation
 returns-clause-activation g c =
@@ -36,7 +42,7 @@ returns-clause-enters g c =
     record {
       same = (refl, seen.0);
       ready = p;
-      prepares = learned s pass p (c.requires.of.0.book ∙ c.requires.of.1.0) c.learn.ensures;
+      prepares = learned s pass p (c.requires.of.0.0.book ∙ c.requires.of.1.0) c.learn.ensures;
       does = subst (λ (q : Pass). AddsDeed s.key p one.new.key q (beginning p one.new.activation.life (Enter s.number))) (sym seen.2) one.ensures.noted;
       seen = seen.1 ∙ sym (ap (λ (q : Pass). q.seen) seen.2);
     }

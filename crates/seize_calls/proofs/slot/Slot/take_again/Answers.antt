@@ -1,0 +1,63 @@
+use Rattle.std.proofs.Common.{ℕ, refl, sym, ap, subst, ◌∙◌, true}
+use Rattle.std.specs.Prelude.{slice_set}
+use Rattle.seize_machine.specs.Machine.Event.{Take}
+use Rattle.seize_machine.specs.Machine.State.{Slot}
+use Rattle.seize_book.specs.Others.{FollowsNumbers, use_flags}
+use Rattle.seize_book.specs.Slots.{AddsEvent, slot_number}
+use Rattle.seize_book.specs.declared.book.pass.Pass.{Pass}
+use Rattle.seize_calls.proofs.Numbering.{takes}
+use Rattle.seize_calls.proofs.Slots.{knows_still, learned, ready_learned, together_still, told_still, there_before}
+use Rattle.seize_calls.proofs.slot.Slot.take_again.Goals as goal
+
+pub take_again-requires-clause-book : goal.take_again-requires-clause-book
+take_again-requires-clause-book g c =
+    let s = c.args.self.now in let learns = c.learn.ensures in let of = c.requires.of in (s.together.book ∙ of.0.0.book ∙ of.1.0 ∙ sym learns.0.0, c.requires.numbers.0 ∙ sym learns.0.0)
+
+pub take_again-requires-clause-least : goal.take_again-requires-clause-least
+take_again-requires-clause-least g c = c.requires.numbers.1
+
+pub invariant_of-self : goal.invariant_of-self
+invariant_of-self g c =
+    let s = c.args.self.now in let pass = c.args.pass.now in let p = c.learn.new.self in let of = c.requires.of in let one = c.take_again in let seen = c.learn-2.ensures in
+    let ready = ready_learned s.seen pass p (of.0.0.book ∙ of.1.0) c.learn.ensures in let so = takes s.key one.new.self p one.new.pass one.ensures.noted (there_before s p one.new.self one.new.pass ready (Take (slot_number s.key)) one.ensures.noted) in
+    let call = ap (λ (z : Slot). z.call) so.0 ∙ s.together.call in let batch = ap (λ (z : Slot). z.batch) so.0 in
+    record { together = together_still s p ready one.new.self one.new.pass _ one.ensures.noted call batch c.learn-2.new.self seen.0 seen.1 }
+
+pub returns-clause-of : goal.returns-clause-of
+returns-clause-of g c =
+    let s = c.args.self.now in let pass = c.args.pass.now in let p = c.learn.new.self in let of = c.requires.of in let one = c.take_again in let seen = c.learn-2.ensures in
+    let ready = ready_learned s.seen pass p (of.0.0.book ∙ of.1.0) c.learn.ensures in let so = takes s.key one.new.self p one.new.pass one.ensures.noted (there_before s p one.new.self one.new.pass ready (Take (slot_number s.key)) one.ensures.noted) in
+    let call = ap (λ (z : Slot). z.call) so.0 ∙ s.together.call in let batch = ap (λ (z : Slot). z.batch) so.0 in (
+      record {
+        book = seen.0 ∙ of.0.0.book;
+        knows = knows_still s p ready one.new.self one.new.pass _ one.ensures.noted call batch c.learn-2.new.self seen.0 seen.1;
+        told = told_still s p ready one.new.self one.new.pass _ one.ensures.noted call batch c.learn-2.new.self seen.0 seen.1 of.0.0.told;
+      },
+      ap (λ (z : Slot). z.used) so.0,
+    )
+
+pub returns-clause-takes : goal.returns-clause-takes
+returns-clause-takes g c =
+    let s = c.args.self.now in let pass = c.args.pass.now in let p = c.learn.new.self in let of = c.requires.of in let one = c.take_again in let seen = c.learn-2.ensures in (
+      record {
+        same = (refl, seen.0);
+        ready = p;
+        prepares = learned s pass p (of.0.0.book ∙ of.1.0) c.learn.ensures;
+        does = subst (λ (t : ℕ × Pass). AddsEvent s.key p one.new.self t.1 (Take t.0)) (λ j. (s.together.numbered j, sym seen.2 j)) one.ensures.noted;
+        seen = seen.1 ∙ sym (ap (λ (q : Pass). q.seen) seen.2);
+      },
+      refl,
+    )
+
+pub returns-clause-numbers : goal.returns-clause-numbers
+returns-clause-numbers g c =
+    let s = c.args.self.now in let one = c.take_again in let seen = c.learn-2.ensures in (
+      subst (λ (q : Pass). FollowsNumbers c.args.numbers.now q one.new.numbers) (sym seen.2) one.ensures.numbers,
+      one.ensures.used ∙ ap (λ (k : ℕ). slice_set (use_flags c.args.numbers.now) k true) s.together.numbered,
+    )
+
+pub returns-clause-outside : goal.returns-clause-outside
+returns-clause-outside g c =
+    let s = c.args.self.now in let pass = c.args.pass.now in let p = c.learn.new.self in let of = c.requires.of in let one = c.take_again in
+    let ready = ready_learned s.seen pass p (of.0.0.book ∙ of.1.0) c.learn.ensures in
+    (takes s.key one.new.self p one.new.pass one.ensures.noted (there_before s p one.new.self one.new.pass ready (Take (slot_number s.key)) one.ensures.noted)).1 ∙ of.0.2
