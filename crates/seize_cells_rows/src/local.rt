@@ -39,8 +39,8 @@ pub fn count(cell: &LocalCell<Counter>, number: u64) -> bool
     fits
 }
 
-/// Takes the counter out, and counts while it is out. That call finds the full one. Then the counter goes back, and what lay there meanwhile
-/// is the answer.
+/// Takes the counter out, and counts while it is out. That call finds the full one. Then the counter goes back, and what lay there
+/// meanwhile is the answer.
 pub fn count_within(cell: &LocalCell<Counter>, number: u64) -> (bool, Counter)
     requires { number ≡ cell.now }
     ensures { (result.1.number ≡ number) × (result.1.count ≤ result.1.limit) }

@@ -3,6 +3,7 @@
 use crate::alone::{Number, read_and_retire};
 use crate::list::{Node, PutNext, in_front};
 use crate::machine::with_active_slot;
+use crate::shared::{read, replace};
 use crate::table::loaded_twice;
 use crate::watched::{Newest, retire_under_guard};
 use seize::thread_id::{Numbers, Thread};
@@ -80,5 +81,26 @@ fn an_entry_keeps_its_first_value(rt: HostRuntime) -> Result<(), Fail> {
 #[test]
 fn a_slot_enters(rt: HostRuntime) -> Result<(), Fail> {
     assert!(rt; with_active_slot(rt.alloc())?.active(0));
+    Ok(())
+}
+
+#[test]
+fn a_shared_number_is_replaced_and_read(rt: HostRuntime) -> Result<(), Fail> {
+    let mut ids = seize_guard::IdSource::new();
+    let collector: seize_guard::Collector<u64> = seize_guard::Collector::new(
+        rt.alloc(),
+        &mut ids,
+        1,
+        1,
+    )?;
+    let mut pass = collector.pass();
+    let registration = collector.register(&rt, &mut pass)?;
+    let before = read(&registration, &rt, &mut pass);
+    let first = replace(&registration, 7, &rt, &mut pass);
+    let second = replace(&registration, 8, &rt, &mut pass);
+    let after = read(&registration, &rt, &mut pass);
+    assert!(rt; registration.end(&rt, &mut pass));
+    assert!(rt; first.is_ok() && second.is_ok());
+    assert_eq!(rt; (before?, after?), (None, Some(8)));
     Ok(())
 }

@@ -1,0 +1,15 @@
+pub mod Compared
+pub mod Guarded
+pub mod AtDesk
+pub mod Made
+pub mod LinkSteps
+pub mod Steps
+pub mod Wholly
+pub mod Current
+pub mod Readable
+mod Numbered
+mod Ended
+mod Chunks
+pub mod Facts
+mod Endings
+mod StayAt

@@ -1,0 +1,20 @@
+use Rattle.seize_words.specs.LinkWords.{held_before}
+use Rattle.seize_guard.proofs.Guarded.{guard_finds, shows_found, shows_none}
+use Rattle.seize_guard.proofs.StayAt.{for_guard}
+use Rattle.seize_guard.proofs.owned.OwnedGuard.protect.Goals as goal
+
+pub returns-in_err-found : goal.returns-in_err-found
+returns-in_err-found g c =
+    let guard = c.args.self.now in let finds = c.find-word.ensures.finds in let t = finds.2.0 in (
+      held_before t.reads,
+      guard_finds (for_guard guard) guard.unit guard.seen (guard.its, guard.known) c.args.link finds.0 finds.1.1 c.args.pass.now c.learn.new.self c.learn.ensures c.find-word.new.pass c.find-word.result.0 t,
+      shows_none g.row.T.coded.code (held_before t.reads) c.find-word.result.1 c.from_residual.result finds.2.1 c.in_err-found.was c.from_residual.ensures,
+    )
+
+pub returns : goal.returns
+returns g c =
+    let guard = c.args.self.now in let finds = c.find-word.ensures.finds in let t = finds.2.0 in (
+      held_before t.reads,
+      guard_finds (for_guard guard) guard.unit guard.seen (guard.its, guard.known) c.args.link finds.0 finds.1.1 c.args.pass.now c.learn.new.self c.learn.ensures c.find-word.new.pass c.find-word.result.0 t,
+      shows_found g.row.T.coded.code (held_before t.reads) c.find-word.result.1 c.in_ok-found.found c.of.result finds.2.2 c.in_ok-found.was c.of.ensures,
+    )

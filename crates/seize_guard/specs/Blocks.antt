@@ -1,0 +1,51 @@
+-- What contracts see of blocks. `code` is the code of the collector's element type, by which a name says a value.
+--     content owned             the value of a block in hand;  store_name owned     the store where it lies
+--     HasContent code v value   what the list calls v is a block with this content
+--     shared_name shared        what the list calls the value that was found;  shared_value shared     the value
+--     unlinked_name u           what the list calls the value that is in no link;  unlinked_collector u     its collector
+--     IsNamed code owned o      o is what the list calls the value of this block, or there is neither
+--     Shows code held shared    what was found is what the link held, a block with that value; or there is neither
+--     ComesOut held u           what came out is what the link held, or there is neither
+use Rattle.std.specs.Prelude.{◌≡◌, ℕ, Option, None, Some, List}
+use base.Stored.{Gv}
+use Rattle.seize_store.specs.Named as store
+use Rattle.seize_words.specs.Chunks.{IsFoundAs, IsLentAs}
+use Rattle.seize_calls.specs.Slots.{its_value}
+use Rattle.seize_guard.specs.declared.block.owned.Owned.{Owned}
+use Rattle.seize_guard.specs.declared.block.shared.Shared.{Shared}
+use Rattle.seize_guard.specs.declared.block.unlinked.Unlinked.{Unlinked}
+use Rattle.seize_guard.specs.declared.collector.Collector.{Collector}
+
+abbrev pub content : {T : Type 0} → Owned T → T
+content owned = store.owned_value owned.block
+
+abbrev pub store_name : {T : Type 0} → Owned T → List ℕ
+store_name owned = store.store_of owned.block
+
+abbrev pub HasContent : {T : Type 0} → (T → Gv) → ℕ → T → Type 0
+HasContent code v value = IsLentAs v (code value)
+
+abbrev pub shared_name : {T : Type 0} → Shared T → Option ℕ
+shared_name shared = shared.glimpse.value
+
+abbrev pub shared_value : {T : Type 0} → Shared T → T
+shared_value shared = shared.value.now
+
+abbrev pub unlinked_name : {T : Type 0} → Unlinked T → ℕ
+unlinked_name unlinked = its_value unlinked.loose
+
+abbrev pub unlinked_collector : {T : Type 0} → Unlinked T → Collector T
+unlinked_collector unlinked = unlinked.collector.now
+
+abbrev pub IsNamed : {T : Type 0} → (T → Gv) → Option (Owned T) → Option ℕ → Type 0
+IsNamed code (Some owned) (Some v) = HasContent code v (content owned)
+IsNamed code None None = Unit {0}
+IsNamed code _ _ = ⊥
+
+abbrev pub Shows : {T : Type 0} → (T → Gv) → Option ℕ → Option (Shared T) → Type 0
+Shows code held (Some shared) = (shared_name shared ≡ held) × IsFoundAs held (code (shared_value shared))
+Shows code held None = held ≡ None
+
+abbrev pub ComesOut : {T : Type 0} → Option ℕ → Option (Unlinked T) → Type 0
+ComesOut held (Some unlinked) = held ≡ Some (unlinked_name unlinked)
+ComesOut held None = held ≡ None

@@ -1,0 +1,65 @@
+-- What contracts see of a collector.
+--     its_book c        the list of events of the collector, by its name
+--     its_store c       the store where its blocks lie;  its_words c   its words
+--     its_size c, its_links c, its_id c     its batch size, how many links it has, and its id
+--     IsPassOf c pass   it is a pass of the collector, of its batch size
+--     BeginsEmpty c links   its list begins with no slot, and with so many links, which are empty
+--     IsNewPassOf c pass    and nothing was made with it. It has seen a legal list of the collector's, of which all laws hold (GoesOnTo)
+--     IsBlockOf c owned     it is a block of the collector
+--     IsSlotFor c slot      it is a slot of the collector, in use
+--     IsRefusalFor processors id refusal     a new collector for so many processors, by a source of which this id is the next, may be
+--                       refused so
+use Rattle.std.specs.Prelude.{◌≡◌, ◌⊎◌, ℕ, ◌≤◌, ◌<◌, ◌^◌, List, [], None, length, replicate}
+use Rattle.seize_table.specs.declared.refusal.Refusal.{Refusal}
+use Rattle.seize_table.specs.declared.refusal.Refusal.TheVariants.{NoMemory, NoNumbers, TooManyProcessors}
+use Rattle.seize_book.specs.Tokens.{Name}
+use Rattle.seize_book.specs.Porters.{GoesOnTo}
+use Rattle.seize_book.specs.declared.book.pass.Pass.{Pass}
+use Rattle.seize_words.specs.Joined.{words_book}
+use Rattle.seize_words.specs.declared.words.Words.{Words}
+use Rattle.seize_calls.specs.Slots.{IsSlotOf}
+use Rattle.seize_calls.specs.declared.slot.Slot.{Slot}
+use Rattle.seize_guard.specs.Blocks.{store_name}
+use Rattle.seize_guard.specs.Makes.{made_with}
+use Rattle.seize_guard.specs.declared.block.owned.Owned.{Owned}
+use Rattle.seize_guard.specs.declared.collector.Collector.{Collector}
+
+abbrev pub its_words : {T : Type 0} → Collector T → Words T
+its_words collector = collector.words
+
+abbrev pub its_book : {T : Type 0} → Collector T → Name
+its_book collector = words_book collector.words
+
+abbrev pub its_store : {T : Type 0} → Collector T → List ℕ
+its_store collector = (its_book collector).store
+
+abbrev pub its_size : {T : Type 0} → Collector T → ℕ
+its_size collector = collector.words.size
+
+abbrev pub its_links : {T : Type 0} → Collector T → ℕ
+its_links collector = length (its_book collector).links
+
+abbrev pub its_id : {T : Type 0} → Collector T → ℕ
+its_id collector = collector.id
+
+abbrev pub IsPassOf : {T : Type 0} → Collector T → Pass → Type 0
+IsPassOf collector pass = (pass.name ≡ its_book collector) × (pass.size ≡ its_size collector)
+
+abbrev pub IsBlockOf : {T : Type 0} → Collector T → Owned T → Type 0
+IsBlockOf collector owned = store_name owned ≡ its_store collector
+
+abbrev pub BeginsEmpty : {T : Type 0} → Collector T → ℕ → Type 0
+BeginsEmpty collector links = ((its_book collector).slots ≡ 0) × ((its_book collector).links ≡ replicate links None)
+
+abbrev pub IsNewPassOf : {T : Type 0} → Collector T → Pass → Type 0
+IsNewPassOf collector pass = IsPassOf collector pass × (made_with pass ≡ []) × GoesOnTo pass.name [] pass.seen
+
+abbrev pub IsSlotFor : {T : Type 0} → Collector T → Slot T → Type 0
+IsSlotFor collector slot = IsSlotOf collector.words slot
+
+-- in this order
+abbrev pub IsRefusalFor : ℕ → ℕ → Refusal → Type 0
+IsRefusalFor processors id refusal =
+    ((2 ^ 63 < processors) × (refusal ≡ TooManyProcessors))
+    ⊎ ((processors ≤ 2 ^ 63) × (2 ^ 64 ≤ id) × (refusal ≡ NoNumbers))
+    ⊎ ((processors ≤ 2 ^ 63) × (id < 2 ^ 64) × (refusal ≡ NoMemory))

@@ -1,0 +1,14 @@
+pub mod Blocks
+pub mod Collectors
+pub mod Desks
+pub mod Emptying
+pub mod Ends
+pub mod Exchanges
+pub mod Guards
+pub mod Lends
+pub mod Loose
+pub mod Makes
+pub mod Numbers
+pub mod OwnedGuards
+pub mod Registrations
+pub mod Stays

@@ -1,0 +1,78 @@
+-- What was made with a pass, as users see it: the events with their answers, and no more.
+--     made_with pass          the events that were made with it, with their answers, in order
+--     Makes pass pass' events     the pass has seen a legal list that goes on from what it had seen, and just these events were made with
+--                             it since: each stands in that list once, in order, after all that it had seen before
+--     IsActiveIn pass s       slot s is active in the list that the pass has seen
+--     MakesOne pass pass' event answer     this one event was made
+--     MakesNone pass pass'    none was
+--     IsStepOf s step         it is a step of a call of slot s between its begin and its return, in which a reclaimer put nothing;
+--                             AreStepsOf s steps     so is each of these
+--     MakesCall s job pass pass'     a whole call of slot s: from its begin with this job to its return, and between them its steps
+--     LeavesAndGives s pass pass'    a whole call of slot s to leave, and then its number went back
+--     EndsUse s pass pass' gave     the use of slot s ended: its number went back; or it is active still, as the pass has seen then, and
+--                             no event was made
+--     Enters s pass pass'     slot s entered; or it was active already, as the pass has seen then, and no event was made
+use Rattle.std.specs.Prelude.{◌≡◌, ◌⊎◌, ℕ, Bool, true, false, map, List, [], ◌∷◌, ◌++◌}
+use mathlib.Core.List.{IsPrefix}
+use Rattle.seize_machine.specs.Machine.Event.{AddCount, Begin, Detach, Enter, Event, Give, Hand, Insert, Put, ReadHead, Return}
+use Rattle.seize_machine.specs.Machine.Event.{SubCount, SwapOut}
+use Rattle.seize_machine.specs.Machine.State.{head_at, is_active}
+use Rattle.seize_machine.specs.declared.machine.event.Answer.{Answer}
+use Rattle.seize_machine.specs.declared.machine.event.Answer.TheVariants.{Done}
+use Rattle.seize_machine.specs.declared.machine.event.Job.{Job}
+use Rattle.seize_machine.specs.declared.machine.event.Job.TheVariants.{Leave}
+use Rattle.seize_book.specs.Book.{IsLegalList, after}
+use Rattle.seize_book.specs.Entry.{Deed}
+use Rattle.seize_book.specs.Passes.{IsSamePass, events_by}
+use Rattle.seize_book.specs.Tokens.{start}
+use Rattle.seize_book.specs.declared.book.pass.Pass.{Pass}
+
+abbrev pub made_with : Pass → List (Event × Answer)
+made_with pass = map (λ (made : Deed × Answer). (made.0.event, made.1)) (events_by pass)
+
+pub record Makes (pass pass' : Pass) (events : List (Event × Answer)) : Type 0 where
+  pub same : IsSamePass pass pass'
+  pub grows : IsPrefix pass.seen pass'.seen
+  pub legal : IsLegalList (start pass'.name) pass'.seen
+  pub made : made_with pass' ≡ made_with pass ++ events
+
+abbrev pub MakesOne : Pass → Pass → Event → Answer → Type 0
+MakesOne pass pass' event answer = Makes pass pass' ((event, answer) ∷ [])
+
+abbrev pub MakesNone : Pass → Pass → Type 0
+MakesNone pass pass' = Makes pass pass' []
+
+abbrev pub IsActiveIn : Pass → ℕ → Type 0
+IsActiveIn pass s = is_active (head_at (after (start pass.name) pass.seen) s) ≡ true
+
+abbrev pub Enters : ℕ → Pass → Pass → Type 0
+Enters s pass pass' = MakesOne pass pass' (Enter s) Done ⊎ (MakesNone pass pass' × IsActiveIn pass' s)
+
+abbrev pub IsStepOf : ℕ → Event × Answer → Type 0
+IsStepOf s (Put t, answer) = t ≡ s
+IsStepOf s (ReadHead t n, answer) = t ≡ s
+IsStepOf s (Detach t, answer) = t ≡ s
+IsStepOf s (Insert t n end, answer) = t ≡ s
+IsStepOf s (AddCount t, answer) = t ≡ s
+IsStepOf s (SwapOut t, answer) = t ≡ s
+IsStepOf s (SubCount t, answer) = t ≡ s
+IsStepOf s (Hand t puts, answer) = (t ≡ s) × (puts ≡ [])
+IsStepOf s _ = ⊥
+
+abbrev pub AreStepsOf : ℕ → List (Event × Answer) → Type 0
+AreStepsOf s [] = Unit {0}
+AreStepsOf s (step ∷ steps) = IsStepOf s step × AreStepsOf s steps
+
+pub record MakesCall (s : ℕ) (job : Job) (pass pass' : Pass) : Type 0 where
+  pub steps : List (Event × Answer)
+  pub its : AreStepsOf s steps
+  pub made : Makes pass pass' ((Begin s job, Done) ∷ steps ++ (Return s, Done) ∷ [])
+
+pub record LeavesAndGives (s : ℕ) (pass pass' : Pass) : Type 0 where
+  pub steps : List (Event × Answer)
+  pub its : AreStepsOf s steps
+  pub made : Makes pass pass' ((Begin s Leave, Done) ∷ steps ++ (Return s, Done) ∷ (Give s, Done) ∷ [])
+
+abbrev pub EndsUse : ℕ → Pass → Pass → Bool → Type 0
+EndsUse s pass pass' true = MakesOne pass pass' (Give s) Done
+EndsUse s pass pass' false = MakesNone pass pass' × IsActiveIn pass' s

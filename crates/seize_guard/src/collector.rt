@@ -1,0 +1,269 @@
+//! The collector: who makes one, what it is asked, and how a thread gets a slot and a pass of it.
+ghost use Rattle.std.specs.Prelude.{◌≡◌, false};
+ghost use Rattle.seize_words.specs.Joined.{words_book};
+
+mod ids;
+
+use crate::block::Owned;
+use crate::ending::end_all;
+use crate::numbers::{Numbers, Registering};
+use crate::owned::OwnedGuard;
+use crate::registration::Registration;
+pub use ids::IdSource;
+use seize_cells::Lock;
+use seize_table::Refusal;
+use seize_words::book::{Pass, Porter};
+use seize_words::words::Words;
+use std::alloc::Global;
+use std::cmp::max;
+use std::fmt;
+use std::sync::Wait;
+
+// For how many processors a collector may be made: 2^63.
+const MOST_PROCESSORS: usize = 0x8000_0000_0000_0000;
+
+/// Keeps retired values until no slot that was active at their retirement can read them any more. Threads share it by `&`.
+///
+/// It has numbered links, which hold a block each or nothing, and slots, which threads have by their registrations. It follows the Hyaline
+/// scheme with one list of waiting batches for each slot.
+///
+/// Where it is dropped, each value ends that a link holds, and each that waits in the batch of a slot whose number went back: its
+/// registration ended with the answer true, or its owned guard left. That takes no memory and waits for nobody, but for what the values do
+/// as they end. Where something was forgotten, values leak, with the memory of their rows of the store:
+///
+/// - where a registration was forgotten, those in its slot's batch, and where no number went back, those in the links too;
+/// - where a guard was forgotten, all of them: its slot is active for good, and what is retired waits for it.
+pub struct Collector<T: Drop> {
+    pub(crate) words: Words<T>,
+    porter: Porter,
+    pub(crate) numbers: Lock<Numbers<T>>,
+    id: u64,
+    alloc: Global,
+    ghost lends: { (porter.name ≡ words_book words) × (porter.size ≡ words.size) × (porter.home ≡ false) },
+    ghost numbered: { numbers ≡ (words_book words).family },
+}
+
+impl<T: Drop> Collector<T> {
+    ghost use Rattle.std.specs.Prelude.{◌⊎◌, ◌+◌, ◌≤◌, ◌<◌, ◌^◌, None, Some, max as greater, IfOk, IfErr};
+    ghost use Rattle.std.specs.Int.{IsNextPowerOfTwo};
+    ghost use Rattle.seize_machine.specs.Machine.Event.{Take};
+    ghost use Rattle.seize_machine.specs.declared.machine.event.Answer.TheVariants.{Done};
+    ghost use Rattle.seize_table.specs.declared.refusal.Refusal.TheVariants.{NoMemory as no_memory, NoNumbers as no_numbers};
+    ghost use Rattle.seize_guard.specs.Blocks.{content};
+    ghost use Rattle.seize_guard.specs.Collectors.{BeginsEmpty, IsBlockOf, IsNewPassOf, IsPassOf, IsRefusalFor, its_book, its_id, its_links, its_size};
+    ghost use Rattle.seize_guard.specs.Registrations.{collector_of, slot_of};
+    ghost use Rattle.seize_guard.specs.Makes.{MakesNone, MakesOne};
+
+    /// A collector with no slot and this many empty links. Its batch size is `max(32, processors)`, rounded up to a power of two. It asks
+    /// for the memory of its links, and of the entries of its table of slots for so many processors.
+    ///
+    /// # Errors
+    ///
+    /// In this order: `TooManyProcessors` for more than 2^63 processors, `NoNumbers` where the source has no id left, `NoMemory` where the
+    /// allocator refuses. The source gives its next id only where there is no error.
+    pub fn new(
+        alloc: Global,
+        ids: &mut IdSource,
+        processors: usize,
+        links: usize,
+    ) -> Result<Collector<T>, Refusal>
+        ensures made { IfOk result (λ made. IsNextPowerOfTwo (greater 32 processors) (its_size made) × BeginsEmpty made links
+            × (its_id made ≡ ids.old) × (ids.new ≡ ids.old + 1)) }
+        ensures refused { IfErr result (λ refusal. (ids.new ≡ ids.old) × IsRefusalFor processors ids.old refusal) }
+    {
+        if processors > MOST_PROCESSORS {
+            return Err(Refusal::TooManyProcessors);
+        }
+        let size = max(32, processors).next_power_of_two();
+        let Some(id) = ids.next() else {
+            return Err(Refusal::NoNumbers);
+        };
+        let collector = Collector::with(alloc, id, size, processors, links)?;
+        ids.give();
+        Ok(collector)
+    }
+
+    // One with this id and batch size.
+    fn with(
+        alloc: Global,
+        id: u64,
+        size: usize,
+        processors: usize,
+        links: usize,
+    ) -> Result<Collector<T>, Refusal>
+        requires { processors ≤ 2 ^ 63 }
+        ensures made { IfOk result (λ made. (its_size made ≡ size) × BeginsEmpty made links × (its_id made ≡ id)) }
+        ensures refused { IfErr result (λ refusal. refusal ≡ no_memory) }
+    {
+        let (words, mut porter, key, next) = Words::new(alloc, processors, links, size)?;
+        porter.leave_home();
+        let numbers = Numbers::new(alloc, key, next, &words.blocks.book);
+        Ok(Collector {
+            words,
+            porter,
+            numbers: Lock::new(numbers),
+            id,
+            alloc,
+        })
+    }
+
+    /// With batches of this many values, not rounded. 0 serves as 1.
+    pub fn batch_size(self, n: usize) -> Collector<T>
+        ensures { (its_size result ≡ n) × (its_book result ≡ its_book self) × (its_id result ≡ its_id self) }
+    {
+        let Collector {
+            mut words,
+            mut porter,
+            numbers,
+            id,
+            alloc,
+        } = self;
+        words.set_size(&mut porter, n);
+        Collector {
+            words,
+            porter,
+            numbers,
+            id,
+            alloc,
+        }
+    }
+
+    /// How many links it has.
+    pub fn links(&self) -> usize
+        ensures { result ≡ its_links self.now }
+    {
+        self.words.links.len()
+    }
+
+    /// The id that its source gave it.
+    pub fn id(&self) -> u64
+        ensures { result ≡ its_id self.now }
+    {
+        self.id
+    }
+
+    /// A new pass, with which nothing was made. It lasts for as long as the collector is shared, and may go to another thread.
+    ///
+    /// It takes no memory, and does nothing when the program runs.
+    pub fn pass(&self) -> Pass<'_>
+        ensures { IsNewPassOf self.now result }
+    {
+        self.porter.pass()
+    }
+
+    /// A block of this value, from any thread, whether it has a slot or not. It asks for memory only where the store has no free place.
+    ///
+    /// # Errors
+    ///
+    /// `NoMemory` where that growth was refused; the value comes back.
+    pub fn owned(&self, value: T) -> Result<Owned<T>, (Refusal, T)>
+        ensures made { IfOk result (λ owned. IsBlockOf self.now owned × (content owned ≡ value)) }
+        ensures refused { IfErr result (λ refused. (refused.0 ≡ no_memory) × (refused.1 ≡ value)) }
+    {
+        let blocks = &self.words.blocks;
+        let (key, block) = blocks.add(value, &mut self.porter.pass())?;
+        Ok(Owned::of(key, block, &blocks.book))
+    }
+
+    /// A slot for the calling thread: that of the least number that is not in use. The event `Take`.
+    ///
+    /// It waits for other threads that register or end, and looks through the slots that were made. It asks for memory only where no slot
+    /// of a registration that ended is left.
+    ///
+    /// # Errors
+    ///
+    /// `NoMemory` where the allocator refuses. No event was made then. It is never `NoNumbers`: the list of slots has room for fewer than
+    /// 2^63, so memory is refused before the 2^64 - 32 numbers are all in use.
+    pub fn register<W: Wait>(&self, rt: &W, pass: &mut Pass) -> Result<Registration<'_, T>, Refusal>
+        requires pass { IsPassOf self.now pass.old }
+        ensures made { IfOk result (λ made. (collector_of made ≡ self.now) × MakesOne pass.old pass.new (Take (slot_of made)) Done) }
+        ensures refused { IfErr result (λ refusal. MakesNone pass.old pass.new × (refusal ≡ no_memory)) }
+    {
+        let registering = Registering {
+            words: &self.words,
+            alloc: self.alloc,
+        };
+        let slot = self.numbers.with(rt, registering, pass)?;
+        Ok(Registration::of(self, slot))
+    }
+}
+
+impl<T: Drop> Collector<T> {
+    ghost use Rattle.std.specs.Prelude.{IfErr, IfOk, [], ◌∷◌};
+    ghost use Rattle.seize_machine.specs.Machine.Event.{Enter, Take};
+    ghost use Rattle.seize_machine.specs.declared.machine.event.Answer.TheVariants.{Done};
+    ghost use Rattle.seize_table.specs.declared.refusal.Refusal.TheVariants.{NoMemory as no_memory};
+    ghost use Rattle.seize_guard.specs.Collectors.{IsPassOf};
+    ghost use Rattle.seize_guard.specs.Makes.{Makes, MakesNone};
+    ghost use Rattle.seize_guard.specs.OwnedGuards.{owned_collector, owned_slot};
+
+    /// A guard that threads share, with a slot of its own: that of the least number that is not in use, which enters. The events `Take` and
+    /// `Enter`.
+    ///
+    /// It waits as `register` does, and asks for memory where that does; then it makes one atomic swap.
+    ///
+    /// # Errors
+    ///
+    /// `NoMemory` where the allocator refuses, as with `register`. No event was made then.
+    pub fn enter_owned<W: Wait>(
+        &self,
+        rt: &W,
+        pass: &mut Pass,
+    ) -> Result<OwnedGuard<'_, T>, Refusal>
+        requires pass { IsPassOf self.now pass.old }
+        ensures made { IfOk result (λ guard. (owned_collector guard ≡ self.now)
+            × Makes pass.old pass.new ((Take (owned_slot guard), Done) ∷ (Enter (owned_slot guard), Done) ∷ [])) }
+        ensures refused { IfErr result (λ refusal. MakesNone pass.old pass.new × (refusal ≡ no_memory)) }
+    {
+        let registering = Registering {
+            words: &self.words,
+            alloc: self.alloc,
+        };
+        let slot = self.numbers.with(rt, registering, pass)?;
+        Ok(OwnedGuard::enter(self, slot, pass))
+    }
+}
+
+/// Two collectors of one id source are equal where they are one.
+impl<T: Drop> PartialEq for Collector<T> {
+    ghost use Rattle.std.specs.Prelude.{◌==◌};
+    ghost use Rattle.std.proofs.Common.{rules};
+    ghost use Rattle.std.specs.Cmp.Rules.{comparing};
+    ghost use Rattle.seize_guard.specs.Collectors.{its_id};
+
+    ghost eq = { λ a b. its_id a == its_id b };
+
+    ghost laws = { Prim.search (comparing, rules) };
+
+    fn eq(&self, other: &Collector<T>) -> bool {
+        self.id == other.id
+    }
+}
+
+impl<T: Drop> Eq for Collector<T> {
+    ghost use Rattle.std.proofs.Common.{rules};
+    ghost use Rattle.std.specs.Cmp.Rules.{comparing};
+
+    ghost laws = { Prim.search (comparing, rules) };
+}
+
+impl<T: Drop> fmt::Debug for Collector<T> {
+    fn fmt<W: fmt::Write>(&self, f: &mut fmt::Formatter<W>) -> fmt::Result {
+        f.debug_struct("Collector")
+            .field("batch_size", &self.words.size)
+            .finish()
+    }
+}
+
+impl<T: Drop> Drop for Collector<T> {
+    fn drop(self) {
+        let Collector {
+            words,
+            porter,
+            numbers,
+            id: _,
+            alloc: _,
+        } = self;
+        end_all(&words, numbers.into_value(), porter.shut());
+    }
+}

@@ -1,0 +1,293 @@
+//! Guards: with one, a thread reads links, exchanges what they hold, and retires what came out. While a guard stands, its slot is active.
+ghost use Rattle.std.specs.Prelude.{◌≡◌};
+ghost use base.Growing.{prefix_prop};
+ghost use base.Stored.{Coded-set, coded_list};
+ghost use mathlib.Core.List.{IsPrefix};
+ghost use Rattle.seize_book.specs.Entry.{entry_coded};
+ghost use Rattle.seize_guard.specs.Registrations.{IsUnitAt};
+
+mod any;
+mod callers;
+pub(crate) mod exchanging;
+mod local;
+mod owned;
+
+use crate::block::{Failed, Owned, Shared, Unlinked, name};
+use crate::collector::Collector;
+use crate::desk::{Idle, Kept, Visited};
+use crate::ends::Ends;
+use crate::registration::Registration;
+pub use any::Guard;
+use exchanging::{came_back, current_word, exchange, shown};
+use seize_calls::manner::Beside;
+use seize_words::activation::Activation;
+use seize_words::book::{Pass, Seen};
+use std::marker::Brand;
+use std::sync::Wait;
+use std::{fmt, mem};
+
+/// A guard of a registration, for the registration's thread alone.
+///
+/// It has no `Drop`: it is spent by `leave`, or by `forget`, after which the slot stays active.
+pub struct LocalGuard<'r, 'c, T: Drop> {
+    registration: &'r Registration<'c, T>,
+    // its unit of the activation, with which it reads
+    unit: Activation,
+    // what was seen when the activation had begun
+    seen: Seen,
+    ghost its: { IsUnitAt registration.now unit seen },
+    ghost known: { IsPrefix unit.since seen.seen } by { prefix_prop (Coded-set (coded_list entry_coded)) unit.since seen.seen },
+}
+
+impl<'r, 'c, T: Drop> LocalGuard<'r, 'c, T> {
+    ghost use Rattle.std.specs.Prelude.{◌⊎◌, ◌<◌, ℕ, Option, IfSome};
+    ghost use Rattle.seize_machine.specs.Machine.Event.{ExchangeLink, ReadLink};
+    ghost use Rattle.seize_machine.specs.declared.machine.event.Answer.TheVariants.{Link};
+    ghost use Rattle.seize_machine.specs.declared.machine.event.Exchange.TheVariants.{Compare, Swap};
+    ghost use Rattle.seize_machine.specs.declared.machine.event.Job.TheVariants.{Flush, Leave, Refresh, Retire};
+    ghost use Rattle.seize_guard.specs.Blocks.{ComesOut, IsNamed, Shows, unlinked_collector, unlinked_name};
+    ghost use Rattle.seize_guard.specs.Collectors.{IsBlockOf, IsPassOf, its_links};
+    ghost use Rattle.seize_words.specs.Links.{comparand};
+    ghost use Rattle.seize_guard.specs.Exchanges.{IsOutcome, current_name};
+    ghost use Rattle.seize_guard.specs.Guards.{IsGuardOf, guard_collector, guard_slot};
+    ghost use Rattle.seize_guard.specs.Makes.{MakesCall, MakesNone, MakesOne};
+    ghost use Rattle.seize_guard.specs.Registrations.{IsUnitOf};
+
+    // One with this unit of the activation of the registration's slot.
+    pub(crate) fn of(
+        registration: &'r Registration<'c, T>,
+        unit: Activation,
+        seen: Seen,
+    ) -> LocalGuard<'r, 'c, T>
+        requires { IsUnitOf registration.now unit seen }
+        ensures { IsGuardOf registration.now result }
+    {
+        LocalGuard {
+            registration,
+            unit,
+            seen,
+        }
+    }
+
+    /// The collector.
+    pub fn collector(&self) -> &'c Collector<T>
+        ensures { result.now ≡ guard_collector self.now }
+    {
+        self.registration.collector
+    }
+
+    /// The number of its slot.
+    pub fn thread_id(&self) -> usize
+        ensures { result ≡ guard_slot self.now }
+    {
+        self.registration.number
+    }
+
+    /// Reads a link: the event `ReadLink`. What the link holds can be read for as long as the guard is borrowed: other threads may take it
+    /// out of the link meanwhile, and retire it.
+    ///
+    /// It takes no memory and waits for nobody: one load of the link, and where that holds a block three more to find it.
+    pub fn protect(&self, link: usize, pass: &mut Pass) -> Option<Shared<'_, T>>
+        requires of { IsPassOf (guard_collector self.now) pass.old × (link < its_links (guard_collector self.now)) }
+        ensures { (held : Option ℕ) × MakesOne pass.old pass.new (ReadLink (guard_slot self.now) link) (Link held)
+            × Shows T.row.coded.code held result }
+    {
+        let words = &self.registration.collector.words;
+        pass.learn(&self.seen);
+        let (word, found) = words.find(link, &self.unit, pass);
+        let found = found?;
+        Some(Shared::of(found.value, word, found.glimpse))
+    }
+
+    /// Exchanges what a link holds for this block, or for none: the event `ExchangeLink`. It gives what the link held, which may outlive
+    /// the guard, and is to be retired.
+    ///
+    /// It takes no memory and waits for nobody: one load to find the link, one atomic swap, and the look-up of the new block.
+    pub fn swap(
+        &self,
+        link: usize,
+        value: Option<Owned<T>>,
+        pass: &mut Pass,
+    ) -> Option<Unlinked<'c, T>>
+        requires of { IsPassOf (guard_collector self.now) pass.old × (link < its_links (guard_collector self.now)) }
+        requires value { IfSome value (λ owned. IsBlockOf (guard_collector self.now) owned) }
+        ensures of { IfSome result (λ unlinked. unlinked_collector unlinked ≡ guard_collector self.now) }
+        ensures made { (new : Option ℕ) × (held : Option ℕ) × IsNamed T.row.coded.code value new × ComesOut held result
+            × MakesOne pass.old pass.new (ExchangeLink (guard_slot self.now) link (Swap new)) (Link held) }
+    {
+        let collector = self.registration.collector;
+        pass.learn(&self.seen);
+        let (new, mut key) = name(value, collector, pass);
+        let old = collector
+            .words
+            .swap_link(link, new, &mut key, &self.unit, pass);
+        Unlinked::found(collector, old, key)
+    }
+
+    /// Exchanges what a link holds for this block, or for none, if the link holds what was found, or nothing where that is `None`: the
+    /// event `ExchangeLink`. It gives what the link held, which may outlive the guard, and is to be retired.
+    ///
+    /// Whether it holds that is decided by the number of its block. Where the exchange is won, the event compares with what the link held.
+    ///
+    /// It takes no memory and waits for nobody: one atomic compare and exchange, and look-ups of the blocks.
+    ///
+    /// # Errors
+    ///
+    /// What the link held, where that was something else, and the block that was to go in.
+    pub fn compare_exchange(
+        &self,
+        link: usize,
+        current: Option<&Shared<'_, T>>,
+        new: Option<Owned<T>>,
+        pass: &mut Pass,
+    ) -> Result<Option<Unlinked<'c, T>>, Failed<'_, T>>
+        requires of { IsPassOf (guard_collector self.now) pass.old × (link < its_links (guard_collector self.now)) }
+        requires value { IfSome new (λ owned. IsBlockOf (guard_collector self.now) owned) }
+        ensures { (v : Option ℕ) × (held : Option ℕ) × IsNamed T.row.coded.code new v
+            × (let compare = comparand (current_name current.entry) held in
+            MakesOne pass.old pass.new (ExchangeLink (guard_slot self.now) link (Compare compare v)) (Link held)
+            × IsOutcome T.row.coded.code (guard_collector self.now) new compare held result) }
+    {
+        let collector = self.registration.collector;
+        pass.learn(&self.seen);
+        let seen = current_word(current);
+        let (word, mut key) = name(new, collector, pass);
+        let (old, glimpse) = exchange::<T, Brand>(
+            &collector.words,
+            link,
+            seen,
+            word,
+            &mut key,
+            current,
+            &self.unit,
+            pass,
+        );
+        if old == seen {
+            return Ok(Unlinked::found(collector, old, key));
+        }
+        let found = shown(&collector.words.blocks, old, glimpse, pass);
+        let new = came_back(collector, word, key, pass);
+        Err(Failed { found, new })
+    }
+
+    /// The same.
+    pub fn compare_exchange_weak(
+        &self,
+        link: usize,
+        current: Option<&Shared<'_, T>>,
+        new: Option<Owned<T>>,
+        pass: &mut Pass,
+    ) -> Result<Option<Unlinked<'c, T>>, Failed<'_, T>>
+        requires of { IsPassOf (guard_collector self.now) pass.old × (link < its_links (guard_collector self.now)) }
+        requires value { IfSome new (λ owned. IsBlockOf (guard_collector self.now) owned) }
+        ensures { (v : Option ℕ) × (held : Option ℕ) × IsNamed T.row.coded.code new v
+            × (let compare = comparand (current_name current.entry) held in
+            MakesOne pass.old pass.new (ExchangeLink (guard_slot self.now) link (Compare compare v)) (Link held)
+            × IsOutcome T.row.coded.code (guard_collector self.now) new compare held result) }
+    {
+        self.compare_exchange(link, current, new, pass)
+    }
+
+    /// Retires what came out of a link: it joins the slot's batch, which is attempted where it has the batch size or more. The slot is
+    /// active, so no value ends in the call.
+    ///
+    /// It takes no memory. An insertion is tried again as often as other threads change the head between a look at it and the try. Within
+    /// another call of the same registration it waits for ever.
+    pub fn defer_retire<W: Wait>(&self, rt: &W, pass: &mut Pass, value: Unlinked<'_, T>)
+        requires of { IsPassOf (guard_collector self.now) pass.old × (unlinked_collector value ≡ guard_collector self.now) }
+        ensures { MakesCall (guard_slot self.now) (Retire (unlinked_name value.entry)) pass.old pass.new }
+    {
+        self.registration.retire(rt, pass, value);
+    }
+
+    /// Attempts the slot's batch at any length.
+    ///
+    /// It takes no memory and waits as `defer_retire` does.
+    pub fn flush<W: Wait>(&self, rt: &W, pass: &mut Pass)
+        requires of { IsPassOf (guard_collector self.now) pass.old }
+        ensures { MakesCall (guard_slot self.now) Flush pass.old pass.new }
+    {
+        let registration = self.registration;
+        let Visited {
+            mut slot,
+            rest,
+            guards,
+        } = registration.visited(rt, &self.unit, &self.seen, pass);
+        let words = &registration.collector.words;
+        slot.flush(words, &mut Ends::new(), pass, &Beside { rt });
+        registration.lay(Kept::Visited(Visited { slot, rest, guards }));
+    }
+
+    /// Ends the slot's activation and begins another, where this is its only guard; beside others it does nothing. What waited for the slot
+    /// is counted down, and what is reclaimed in the call ends there.
+    ///
+    /// It takes no memory and waits as `defer_retire` does.
+    pub fn refresh<W: Wait>(&mut self, rt: &W, pass: &mut Pass)
+        requires of { IsPassOf (guard_collector self.old) pass.old }
+        ensures same { self.new.registration ≡ self.old.registration }
+        ensures refreshes { MakesCall (guard_slot self.old) Refresh pass.old pass.new ⊎ MakesNone pass.old pass.new }
+    {
+        let visited = self.registration.visited(rt, &self.unit, &self.seen, pass);
+        if visited.guards != 1 {
+            self.registration.lay(Kept::Visited(visited));
+            return;
+        }
+        let Visited {
+            mut slot,
+            mut rest,
+            guards,
+        } = visited;
+        let unit = mem::replace(&mut self.unit, slot.activation());
+        rest.join(unit);
+        let words = &self.registration.collector.words;
+        slot.refresh(words, &mut rest, &mut Ends::new(), pass, &Beside { rt });
+        self.unit = rest.split();
+        self.seen = slot.seen();
+        self.registration
+            .lay(Kept::Visited(Visited { slot, rest, guards }));
+    }
+
+    /// Leaves. The last guard of the slot leaves for it: what waited for the slot is counted down, and what is reclaimed in the call ends
+    /// there. Beside others it makes no event.
+    ///
+    /// It takes no memory and waits as `defer_retire` does.
+    pub fn leave<W: Wait>(self, rt: &W, pass: &mut Pass)
+        requires of { IsPassOf (guard_collector self) pass.old }
+        ensures { MakesCall (guard_slot self.entry) Leave pass.old pass.new ⊎ MakesNone pass.old pass.new }
+    {
+        let LocalGuard {
+            registration,
+            unit,
+            seen,
+        } = self;
+        let Visited {
+            mut slot,
+            mut rest,
+            guards,
+        } = registration.visited(rt, &unit, &seen, pass);
+        rest.join(unit);
+        if guards > 1 {
+            let guards = guards - 1;
+            registration.lay(Kept::Visited(Visited { slot, rest, guards }));
+            return;
+        }
+        let words = &registration.collector.words;
+        slot.leave(words, &mut rest, &mut Ends::new(), pass, &Beside { rt });
+        registration.lay(Kept::Idle(Idle { slot }));
+    }
+
+    /// Spends the guard without leaving. Its slot stays active for good, so what is retired from then on may never be reclaimed.
+    pub fn forget(self) {
+        let LocalGuard {
+            registration: _,
+            unit: _,
+            seen: _,
+        } = self;
+    }
+}
+
+impl<T: Drop> fmt::Debug for LocalGuard<'_, '_, T> {
+    fn fmt<W: fmt::Write>(&self, f: &mut fmt::Formatter<W>) -> fmt::Result {
+        f.write_str("LocalGuard")
+    }
+}

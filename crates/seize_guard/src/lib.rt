@@ -1,0 +1,27 @@
+//! A collector that threads share: registrations, guards, and blocks that come into links and out of them. It stands on the calls of a slot
+//! (`seize_calls`), and nothing above it knows of words, keys or numbers of blocks.
+//!
+//! A `Collector` has links, and slots that it hands out as `Registration`s, one for each thread. A registration enters, and gives a
+//! `LocalGuard`; with that its thread reads links, exchanges what they hold, and retires what came out. `block` has the types that say who
+//! may read a value, and who may end it. An `OwnedGuard` needs no registration, and threads share it.
+#![tactic(auto)]
+
+pub mod block;
+pub mod collector;
+mod desk;
+mod ending;
+mod ends;
+pub mod guard;
+mod numbers;
+pub mod owned;
+pub mod registration;
+mod stay;
+mod threads;
+
+pub use block::{Failed, Owned, Shared, Unlinked};
+pub use collector::{Collector, IdSource};
+pub use guard::{Guard, LocalGuard};
+pub use owned::OwnedGuard;
+pub use registration::Registration;
+pub use seize_table::Refusal;
+pub use seize_words::book::Pass;

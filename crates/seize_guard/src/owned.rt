@@ -1,0 +1,300 @@
+//! Owned guards: each has a slot of its own, so it needs no registration, and threads share it. They read links by the guard's own unit of
+//! the slot's activation, each with a pass of its own; what changes the slot is done under the guard's lock.
+ghost use Rattle.std.specs.Prelude.{◌≡◌};
+ghost use base.Growing.{prefix_prop};
+ghost use base.Stored.{Coded-set, coded_list};
+ghost use mathlib.Core.List.{IsPrefix};
+ghost use Rattle.seize_book.specs.Entry.{entry_coded};
+ghost use Rattle.seize_guard.specs.Collectors.{its_book};
+ghost use Rattle.seize_guard.specs.Desks.{desk_label};
+ghost use Rattle.seize_guard.specs.Registrations.{IsUnitIn};
+
+use crate::block::{Failed, Owned, Shared, Unlinked, name};
+use crate::collector::Collector;
+use crate::ends::Ends;
+use crate::guard::exchanging::{came_back, current_word, exchange, shown};
+use crate::numbers::Ending;
+use crate::stay::{Flushing, Refreshing, Retiring, Sparing, Stay};
+use seize_calls::manner::Beside;
+use seize_calls::slot::Slot;
+use seize_cells::Lock;
+use seize_words::activation::Activation;
+use seize_words::book::{Pass, Seen};
+use std::marker::Brand;
+use std::sync::Wait;
+use std::{fmt, mem};
+
+/// A guard with a slot of its own, which threads share by `&`, and which may go to another thread. While it stands, its slot is active.
+///
+/// It has no `Drop`: it is spent by `leave`, or by `forget`, after which the slot stays active.
+///
+/// `defer_retire` and `flush` are done under the guard's lock: each waits while another thread is within one of them. No value ends there,
+/// since the guard's slot is active.
+pub struct OwnedGuard<'c, T: Drop> {
+    collector: &'c Collector<T>,
+    number: usize,
+    // its unit of the activation, with which it reads
+    unit: Activation,
+    // what was seen when the activation had begun
+    seen: Seen,
+    stay: Lock<Stay<T>>,
+    ghost its: { IsUnitIn (its_book collector.now) number unit seen },
+    ghost known: { IsPrefix unit.since seen.seen } by { prefix_prop (Coded-set (coded_list entry_coded)) unit.since seen.seen },
+    ghost at: { stay ≡ desk_label (its_book collector.now) number },
+}
+
+impl<'c, T: Drop> OwnedGuard<'c, T> {
+    ghost use Rattle.std.specs.Prelude.{◌⊎◌, ◌<◌, ℕ, Option, IfSome};
+    ghost use Rattle.seize_machine.specs.Machine.Event.{Enter, ExchangeLink, ReadLink};
+    ghost use Rattle.seize_machine.specs.declared.machine.event.Answer.TheVariants.{Done, Link};
+    ghost use Rattle.seize_machine.specs.declared.machine.event.Exchange.TheVariants.{Compare, Swap};
+    ghost use Rattle.seize_machine.specs.declared.machine.event.Job.TheVariants.{Flush, Refresh, Retire};
+    ghost use Rattle.seize_words.specs.Links.{comparand};
+    ghost use Rattle.seize_calls.specs.Slots.{IsInactive, its_number};
+    ghost use Rattle.seize_guard.specs.Blocks.{ComesOut, IsNamed, Shows, unlinked_collector, unlinked_name};
+    ghost use Rattle.seize_guard.specs.Collectors.{IsBlockOf, IsPassOf, IsSlotFor, its_links};
+    ghost use Rattle.seize_guard.specs.Exchanges.{IsOutcome, current_name};
+    ghost use Rattle.seize_guard.specs.Makes.{LeavesAndGives, MakesCall, MakesOne};
+    ghost use Rattle.seize_guard.specs.OwnedGuards.{owned_collector, owned_slot};
+
+    // One with this slot, which enters.
+    pub(crate) fn enter(
+        collector: &'c Collector<T>,
+        slot: Slot<T>,
+        pass: &mut Pass,
+    ) -> OwnedGuard<'c, T>
+        requires slot { IsSlotFor collector.now slot × IsInactive slot }
+        requires pass { IsPassOf collector.now pass.old }
+        ensures of { (owned_collector result ≡ collector.now) × (owned_slot result ≡ its_number slot) }
+        ensures enters { MakesOne pass.old pass.new (Enter (its_number slot)) Done }
+    {
+        let mut slot = slot;
+        let number = slot.number();
+        let mut rest = slot.activation();
+        slot.enter(&collector.words, &mut rest, pass);
+        let unit = rest.split();
+        let seen = slot.seen();
+        OwnedGuard {
+            collector,
+            number,
+            unit,
+            seen,
+            stay: Lock::new(Stay { slot, rest }),
+        }
+    }
+
+    /// The collector.
+    pub fn collector(&self) -> &'c Collector<T>
+        ensures { result.now ≡ owned_collector self.now }
+    {
+        self.collector
+    }
+
+    /// The number of its slot, for all threads that share it.
+    pub fn thread_id(&self) -> usize
+        ensures { result ≡ owned_slot self.now }
+    {
+        self.number
+    }
+
+    /// Reads a link: the event `ReadLink`. What the link holds can be read for as long as the guard is borrowed: other threads may take it
+    /// out of the link meanwhile, and retire it.
+    ///
+    /// It takes no memory and no lock, and waits for nobody: one load of the link, and where that holds a block three more to find it.
+    pub fn protect(&self, link: usize, pass: &mut Pass) -> Option<Shared<'_, T>>
+        requires of { IsPassOf (owned_collector self.now) pass.old × (link < its_links (owned_collector self.now)) }
+        ensures { (held : Option ℕ) × MakesOne pass.old pass.new (ReadLink (owned_slot self.now) link) (Link held)
+            × Shows T.row.coded.code held result }
+    {
+        pass.learn(&self.seen);
+        let (word, found) = self.collector.words.find(link, &self.unit, pass);
+        let found = found?;
+        Some(Shared::of(found.value, word, found.glimpse))
+    }
+
+    /// Exchanges what a link holds for this block, or for none: the event `ExchangeLink`. It gives what the link held, which may outlive
+    /// the guard, and is to be retired.
+    ///
+    /// It takes no memory and no lock, and waits for nobody: one atomic swap, and look-ups of the two blocks.
+    pub fn swap(
+        &self,
+        link: usize,
+        value: Option<Owned<T>>,
+        pass: &mut Pass,
+    ) -> Option<Unlinked<'c, T>>
+        requires of { IsPassOf (owned_collector self.now) pass.old × (link < its_links (owned_collector self.now)) }
+        requires value { IfSome value (λ owned. IsBlockOf (owned_collector self.now) owned) }
+        ensures of { IfSome result (λ unlinked. unlinked_collector unlinked ≡ owned_collector self.now) }
+        ensures made { (new : Option ℕ) × (held : Option ℕ) × IsNamed T.row.coded.code value new × ComesOut held result
+            × MakesOne pass.old pass.new (ExchangeLink (owned_slot self.now) link (Swap new)) (Link held) }
+    {
+        let collector = self.collector;
+        pass.learn(&self.seen);
+        let (new, mut key) = name(value, collector, pass);
+        let old = collector
+            .words
+            .swap_link(link, new, &mut key, &self.unit, pass);
+        Unlinked::found(collector, old, key)
+    }
+
+    /// Exchanges what a link holds for this block, or for none, if the link holds what was found, or nothing where that is `None`: the
+    /// event `ExchangeLink`. It gives what the link held, which may outlive the guard, and is to be retired.
+    ///
+    /// It takes no memory and no lock, and waits for nobody: one atomic compare and exchange, and look-ups of the blocks.
+    ///
+    /// # Errors
+    ///
+    /// What the link held, where that was something else, and the block that was to go in.
+    pub fn compare_exchange(
+        &self,
+        link: usize,
+        current: Option<&Shared<'_, T>>,
+        new: Option<Owned<T>>,
+        pass: &mut Pass,
+    ) -> Result<Option<Unlinked<'c, T>>, Failed<'_, T>>
+        requires of { IsPassOf (owned_collector self.now) pass.old × (link < its_links (owned_collector self.now)) }
+        requires value { IfSome new (λ owned. IsBlockOf (owned_collector self.now) owned) }
+        ensures { (v : Option ℕ) × (held : Option ℕ) × IsNamed T.row.coded.code new v
+            × (let compare = comparand (current_name current.entry) held in
+            MakesOne pass.old pass.new (ExchangeLink (owned_slot self.now) link (Compare compare v)) (Link held)
+            × IsOutcome T.row.coded.code (owned_collector self.now) new compare held result) }
+    {
+        let collector = self.collector;
+        pass.learn(&self.seen);
+        let seen = current_word(current);
+        let (word, mut key) = name(new, collector, pass);
+        let (old, glimpse) = exchange::<T, Brand>(
+            &collector.words,
+            link,
+            seen,
+            word,
+            &mut key,
+            current,
+            &self.unit,
+            pass,
+        );
+        if old == seen {
+            return Ok(Unlinked::found(collector, old, key));
+        }
+        let found = shown(&collector.words.blocks, old, glimpse, pass);
+        let new = came_back(collector, word, key, pass);
+        Err(Failed { found, new })
+    }
+
+    /// The same.
+    pub fn compare_exchange_weak(
+        &self,
+        link: usize,
+        current: Option<&Shared<'_, T>>,
+        new: Option<Owned<T>>,
+        pass: &mut Pass,
+    ) -> Result<Option<Unlinked<'c, T>>, Failed<'_, T>>
+        requires of { IsPassOf (owned_collector self.now) pass.old × (link < its_links (owned_collector self.now)) }
+        requires value { IfSome new (λ owned. IsBlockOf (owned_collector self.now) owned) }
+        ensures { (v : Option ℕ) × (held : Option ℕ) × IsNamed T.row.coded.code new v
+            × (let compare = comparand (current_name current.entry) held in
+            MakesOne pass.old pass.new (ExchangeLink (owned_slot self.now) link (Compare compare v)) (Link held)
+            × IsOutcome T.row.coded.code (owned_collector self.now) new compare held result) }
+    {
+        self.compare_exchange(link, current, new, pass)
+    }
+
+    /// Retires what came out of a link: it joins the slot's batch, which is attempted where it has the batch size or more. This is done
+    /// under the guard's lock. The slot is active, so no value ends in the call.
+    ///
+    /// It takes no memory. It waits while another thread has the lock. An insertion is tried again as often as other threads change the
+    /// head between a look at it and the try.
+    pub fn defer_retire<W: Wait>(&self, rt: &W, pass: &mut Pass, value: Unlinked<'_, T>)
+        requires of { IsPassOf (owned_collector self.now) pass.old × (unlinked_collector value ≡ owned_collector self.now) }
+        ensures { MakesCall (owned_slot self.now) (Retire (unlinked_name value.entry)) pass.old pass.new }
+    {
+        let loose = value.into_loose();
+        let retiring = Retiring {
+            words: &self.collector.words,
+            loose,
+            rt,
+        };
+        self.stay.with(rt, retiring, pass);
+    }
+
+    /// Attempts the slot's batch at any length.
+    ///
+    /// It takes no memory and waits as `defer_retire` does.
+    pub fn flush<W: Wait>(&self, rt: &W, pass: &mut Pass)
+        requires of { IsPassOf (owned_collector self.now) pass.old }
+        ensures { MakesCall (owned_slot self.now) Flush pass.old pass.new }
+    {
+        let flushing = Flushing {
+            words: &self.collector.words,
+            rt,
+        };
+        self.stay.with(rt, flushing, pass);
+    }
+
+    /// Ends the slot's activation and begins another. No other thread has the guard meanwhile. What waited for the slot is counted down,
+    /// and what is reclaimed in the call ends there.
+    ///
+    /// It takes no memory. An insertion is tried again as in `defer_retire`; the lock is free.
+    pub fn refresh<W: Wait>(&mut self, rt: &W, pass: &mut Pass)
+        requires of { IsPassOf (owned_collector self.old) pass.old }
+        ensures same { (owned_collector self.new ≡ owned_collector self.old) × (owned_slot self.new ≡ owned_slot self.old) }
+        ensures refreshes { MakesCall (owned_slot self.old) Refresh pass.old pass.new }
+    {
+        let spare = self.stay.with(rt, Sparing {}, pass);
+        let unit = mem::replace(&mut self.unit, spare);
+        let refreshing = Refreshing {
+            words: &self.collector.words,
+            unit,
+            seen: &self.seen,
+            rt,
+        };
+        let (unit, seen) = self.stay.with(rt, refreshing, pass);
+        self.unit = unit;
+        self.seen = seen;
+    }
+
+    /// Leaves, and gives the slot's number back: what waited for the slot is counted down, and what is reclaimed in the call ends there.
+    /// Then comes the event `Give`.
+    ///
+    /// It takes no memory, and no lock of the guard. An insertion is tried again as in `defer_retire`. At last it waits for other threads
+    /// that register or end. The slot's batch stays for the next one who has the number.
+    pub fn leave<W: Wait>(self, rt: &W, pass: &mut Pass)
+        requires of { IsPassOf (owned_collector self) pass.old }
+        ensures { LeavesAndGives (owned_slot self.entry) pass.old pass.new }
+    {
+        let OwnedGuard {
+            collector,
+            number: _,
+            unit,
+            seen,
+            stay,
+        } = self;
+        let words = &collector.words;
+        let Stay { mut slot, mut rest } = stay.into_value();
+        slot.seen().agree(&words.blocks.book);
+        pass.learn(&seen);
+        slot.current(words, &unit, pass);
+        rest.join(unit);
+        slot.leave(words, &mut rest, &mut Ends::new(), pass, &Beside { rt });
+        collector.numbers.with(rt, Ending { words, slot }, pass);
+    }
+
+    /// Spends the guard without leaving. Its slot stays active for good, and its number in use, so what is retired from then on may never
+    /// be reclaimed.
+    pub fn forget(self) {
+        let OwnedGuard {
+            collector: _,
+            number: _,
+            unit: _,
+            seen: _,
+            stay,
+        } = self;
+        drop(stay);
+    }
+}
+
+impl<T: Drop> fmt::Debug for OwnedGuard<'_, T> {
+    fn fmt<W: fmt::Write>(&self, f: &mut fmt::Formatter<W>) -> fmt::Result {
+        f.write_str("OwnedGuard")
+    }
+}

@@ -1,0 +1,46 @@
+//! A number that threads share: each reads and replaces it, by a registration of its own.
+ghost use Rattle.std.specs.Prelude.{◌<◌};
+ghost use Rattle.seize_guard.specs.Collectors.{IsPassOf, its_links};
+ghost use Rattle.seize_guard.specs.Registrations.{collector_of};
+
+use seize_guard::{Pass, Refusal, Registration};
+use std::sync::Wait;
+
+/// The number in link 0, if there is one.
+pub fn read<W: Wait>(
+    registration: &Registration<'_, u64>,
+    rt: &W,
+    pass: &mut Pass,
+) -> Result<Option<u64>, Refusal>
+    requires pass { IsPassOf (collector_of registration.now) pass.old }
+    requires link { 0 < its_links (collector_of registration.now) }
+    ensures pass { IsPassOf (collector_of registration.now) pass.new }
+{
+    let guard = registration.enter(pass)?;
+    let found = guard.protect(0, pass).map(|shared| *shared);
+    guard.leave(rt, pass);
+    Ok(found)
+}
+
+/// Puts a number into link 0, and retires the block that was there.
+pub fn replace<W: Wait>(
+    registration: &Registration<'_, u64>,
+    value: u64,
+    rt: &W,
+    pass: &mut Pass,
+) -> Result<(), Refusal>
+    requires pass { IsPassOf (collector_of registration.now) pass.old }
+    requires link { 0 < its_links (collector_of registration.now) }
+    ensures pass { IsPassOf (collector_of registration.now) pass.new }
+{
+    let block = registration
+        .collector()
+        .owned(value)
+        .map_err(|(refusal, _)| refusal)?;
+    let guard = registration.enter(pass)?;
+    if let Some(old) = guard.swap(0, Some(block), pass) {
+        guard.defer_retire(rt, pass, old);
+    }
+    guard.leave(rt, pass);
+    Ok(())
+}
