@@ -1,5 +1,5 @@
-//! Owned guards, which threads share and which go from one thread to another.
-ghost use Rattle.std.specs.Prelude.{◌≡◌, IfOk};
+//! Owned guards, which threads share.
+ghost use Rattle.std.specs.Prelude.{◌≡◌};
 ghost use Rattle.seize_guard.specs.OwnedGuards.{owned_collector};
 
 use crate::values::{Counted, ended};
@@ -17,27 +17,6 @@ type Counting<'a> = Collector<Counted<'a>>;
 fn collector<'a>(alloc: Global, size: usize) -> Result<Counting<'a>, Refusal> {
     let made: Counting<'a> = Collector::new(alloc, &mut IdSource::new(), 1, 0)?;
     Ok(made.batch_size(size))
-}
-
-// A guard on its way to another thread: a closure holds only what has a `Drop`.
-struct Handed<'c, 'a>(OwnedGuard<'c, Counted<'a>>);
-
-impl Drop for Handed<'_, '_> {
-    fn drop(self) {
-        let Handed(guard) = self;
-        guard.forget();
-    }
-}
-
-impl<'c, 'a> Handed<'c, 'a> {
-    // The guard leaves.
-    fn leave(self, rt: &impl Wait, collector: &'c Counting<'a>)
-        requires { owned_collector self.0 ≡ collector.now }
-    {
-        let Handed(guard) = self;
-        let mut pass = collector.pass();
-        guard.leave(rt, &mut pass);
-    }
 }
 
 // Retires a value that was in no link, and flushes. It says whether memory was there for it.
@@ -115,40 +94,5 @@ fn four_threads_share_a_guard(rt: HostRuntime) -> Result<(), Fail> {
     let registration = collector.register(&rt, &mut pass).expect(&rt, "memory");
     assert_eq!(rt; registration.thread_id(), 0);
     assert!(rt; registration.end(&rt, &mut pass));
-    Ok(())
-}
-
-// The guard leaves on another thread.
-fn leave_elsewhere<'c, 'a, R: Threads + Wait + Sync>(
-    rt: &R,
-    collector: &'c Counting<'a>,
-    handed: Handed<'c, 'a>,
-)
-    requires { owned_collector handed.0 ≡ collector.now }
-{
-    thread::join(
-        rt,
-        move || -> ()
-            requires { owned_collector handed.0 ≡ collector.now }
-        { handed.leave(rt, collector) },
-        || {},
-    );
-}
-
-// A guard goes to another thread, and leaves there: what was retired meanwhile, two values in each batch, ends with that.
-#[test]
-fn a_guard_leaves_on_another_thread(rt: HostRuntime) -> Result<(), Fail> {
-    let ends = AtomicU64::new(0);
-    let collector = collector(rt.alloc(), 5)?;
-    let mut pass = collector.pass();
-    let reader = collector.enter_owned(&rt, &mut pass).expect(&rt, "memory");
-    let writer = collector.enter_owned(&rt, &mut pass).expect(&rt, "memory");
-    for _ in 0..4u64 {
-        assert!(rt; retire(&rt, &collector, &writer, &ends));
-    }
-    writer.leave(&rt, &mut pass);
-    assert_eq!(rt; ended(&ends), 0);
-    leave_elsewhere(&rt, &collector, Handed(reader));
-    assert_eq!(rt; ended(&ends), 4);
     Ok(())
 }
