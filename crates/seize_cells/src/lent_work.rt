@@ -4,8 +4,8 @@ ghost use Rattle.seize_cells.specs.Locks.{HadLock, MayLock};
 
 use seize_content::{CellToken, Steady, SteadyCell};
 
-/// A piece of work for [`Lock::with`](crate::Lock::with). It leaves the value's label as it was, and the value sound. The caller knows how
-/// the work left what was lent beside the value.
+/// A piece of work for [`Lock::with`](crate::Lock::with) and for [`LocalLock::with`](crate::LocalLock::with). It leaves the value's label
+/// as it was, and the value sound. The caller knows how the work left what was lent beside the value.
 pub trait LockWork<M: Steady, A, R> {
     /// On which sound values the work may be done, and with what beside them.
     ghost may: { Self → M → A → Type 0 };

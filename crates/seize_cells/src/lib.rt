@@ -1,19 +1,20 @@
 //! Two places for a value that is known to keep its label and to stay sound, also behind a `&`. A label is a number that proofs alone see,
 //! by which a caller tells one value from all others.
 //!
-//! `local_cell` is a place of one thread, out of which a value is replaced, and `tag` a label that such a cell tells. `lock` is a place
-//! that threads share: one at a time has work done on the value. It is made of a steady cell, whose token lies beside a word in `latch`;
-//! `token_lock` waits for the token, and `lent_work` has the work done.
+//! Only a work has the value: `lent_work` has it done, where the value lies. `lock` is shared by threads, one of which at a time has work
+//! done. It is made of a steady cell, whose token lies beside a word in `latch`; `token_lock` waits for the token. `local_lock` is of one
+//! thread: its token lies in a `token_place`, which is a `local_cell` whose value a `tag` names.
 #![tactic(auto)]
 
 mod latch;
 mod lent_work;
 mod local_cell;
+mod local_lock;
 mod lock;
 mod tag;
 mod token_lock;
+mod token_place;
 
 pub use lent_work::LockWork;
-pub use local_cell::LocalCell;
+pub use local_lock::LocalLock;
 pub use lock::Lock;
-pub use tag::Tag;

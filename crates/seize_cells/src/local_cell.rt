@@ -11,7 +11,7 @@ use std::marker::{Move, Owns, PhantomData};
 /// A value in its place, which one thread uses by `&`. In a clause a cell is the label of its value.
 ///
 /// It can go to another thread where the value can, and is never shared by threads. No call waits or takes memory.
-pub struct LocalCell<M: Steady> {
+pub(crate) struct LocalCell<M: Steady> {
     value: M,
 }
 
@@ -29,7 +29,7 @@ impl<M: Steady> Move for LocalCell<M> {
 
 impl<M: Steady> LocalCell<M> {
     /// A cell with this value.
-    pub fn new(value: M) -> LocalCell<M>
+    pub(crate) fn new(value: M) -> LocalCell<M>
         requires { M.sound value }
         ensures { result ≡ M.label value }
     {
@@ -37,7 +37,7 @@ impl<M: Steady> LocalCell<M> {
     }
 
     /// The label, as a value of its own. It does nothing when the program runs.
-    pub fn tag(&self) -> Tag
+    pub(crate) fn tag(&self) -> Tag
         ensures { result.name ≡ self.now }
     {
         Tag {
@@ -47,7 +47,7 @@ impl<M: Steady> LocalCell<M> {
 
     /// Lays another sound value of the label there, and gives what lay there. Until the caller lays that back, the other value is what
     /// every call finds.
-    pub fn replace(&self, value: M) -> M
+    pub(crate) fn replace(&self, value: M) -> M
         requires { keeps M.label M.sound self.now value }
         ensures { keeps M.label M.sound self.now result }
     {
@@ -60,7 +60,7 @@ impl<M: Steady> LocalCell<M> {
     }
 
     /// The value.
-    pub fn into_value(self) -> M
+    pub(crate) fn into_value(self) -> M
         ensures { keeps M.label M.sound self result }
     {
         let Self { value } = self;

@@ -31,7 +31,7 @@ impl<M: Steady> Model for Lock<M> {
 }
 
 impl<M: Steady> Lock<M> {
-    /// A lock over this value. It takes no memory of its own.
+    /// A lock over this value. It asks for no memory.
     pub fn new(value: M) -> Lock<M>
         requires { M.sound value }
         ensures { result ≡ M.label value }

@@ -6,10 +6,10 @@ use std::marker::{Model, PhantomData};
 
 /// A number that proofs alone see. It gives no right, and has no bytes.
 #[derive(Drop)]
-pub struct Tag {
+pub(crate) struct Tag {
     pub(crate) marker: PhantomData<()>,
     /// The number.
-    pub ghost name: { ℕ },
+    pub(crate) ghost name: { ℕ },
 }
 
 impl Model for Tag {

@@ -1,5 +1,4 @@
-//! Callers of locks and of cells of one thread: counters that threads count under one lock, a thread that waits asleep, and a counter that
-//! is replaced while it is out of its cell.
+//! Callers of locks: counters that threads count under one lock, a thread that waits asleep, and a counter under a lock of one thread.
 #![tactic(auto)]
 
 pub mod counters;

@@ -1,64 +1,61 @@
-//! Counters in a cell of one thread. Whoever counts takes the counter out, and a full one of the same number lies there meanwhile.
-ghost use Rattle.std.specs.Prelude.{◌≡◌, ◌≤◌};
+//! Counters under a lock of one thread.
+ghost use Rattle.std.specs.Prelude.{◌≡◌, ◌≤◌, ◌<◌, ◌+◌, ◌^◌, IfOk};
 
-use crate::counters::Counter;
-use seize_cells::LocalCell;
+use crate::counters::{Counter, Counting, Notes};
+use seize_cells::{LocalLock, LockWork};
+use std::sync::Wait;
 
-/// A new counter in a cell.
-pub fn new_cell(number: u64, limit: u64) -> LocalCell<Counter>
+/// A new counter under a lock of one thread.
+pub fn new_local(number: u64, limit: u64) -> LocalLock<Counter>
     ensures { result ≡ number }
 {
-    LocalCell::new(Counter {
+    LocalLock::new(Counter {
         number,
         limit,
         count: 0,
     })
 }
 
-/// What lies in the cell while the counter is out.
-fn full(number: u64) -> Counter
-    ensures { (result.number ≡ number) × (result.count ≤ result.limit) }
-{
-    Counter {
-        number,
-        limit: 0,
-        count: 0,
-    }
-}
-
 /// Counts 1 where it fits, and says whether it did.
-pub fn count(cell: &LocalCell<Counter>, number: u64) -> bool
-    requires { number ≡ cell.now }
-{
-    let mut counter = cell.replace(full(number));
-    let fits = counter.count < counter.limit;
-    if fits {
-        counter.count += 1;
+pub fn count_one(rt: &impl Wait, lock: &LocalLock<Counter>) -> bool {
+    let mut notes = Notes {
+        owner: "one",
+        works: 0,
+        counted: 0,
+    };
+    lock.with(rt, Counting, &mut notes);
+    notes.counted == 1
+}
+
+/// Tries to count by the same lock, and then counts itself. It notes whether the attempt was refused.
+#[derive(Drop)]
+pub struct Within<'a> {
+    lock: &'a LocalLock<Counter>,
+}
+
+impl<'a> LockWork<Counter, bool, ()> for Within<'a> {
+    ghost may = { λ _ _ _. Unit };
+
+    ghost gives = { λ _ before after _ _ _. after.limit ≡ before.limit };
+
+    fn work(self, counter: &mut Counter, refused: &mut bool) {
+        let mut notes = Notes {
+            owner: "within",
+            works: 0,
+            counted: 0,
+        };
+        *refused = self.lock.try_with(Counting, &mut notes).is_err();
+        if counter.count < counter.limit {
+            counter.count += 1;
+        }
     }
-    cell.replace(counter);
-    fits
 }
 
-/// Takes the counter out, and counts while it is out. That call finds the full one. Then the counter goes back, and what lay there
-/// meanwhile is the answer.
-pub fn count_within(cell: &LocalCell<Counter>, number: u64) -> (bool, Counter)
-    requires { number ≡ cell.now }
-    ensures { (result.1.number ≡ number) × (result.1.count ≤ result.1.limit) }
-{
-    let counter = cell.replace(full(number));
-    let fits = count(cell, number);
-    (fits, cell.replace(counter))
-}
-
-/// The number that stands on the counter, from a tag of the cell.
-pub fn is_of(cell: &LocalCell<Counter>, number: u64) -> u64
-    requires { number ≡ cell.now }
-    ensures { result ≡ number }
-{
-    let tag = cell.tag();
-    let counter = cell.replace(full(number));
-    let found = counter.number;
-    cell.replace(counter);
-    drop(tag);
-    found
+/// Counts, and tries to count by the same lock meanwhile. It says whether that was refused.
+pub fn refused_within(lock: &LocalLock<Counter>) -> bool {
+    let mut refused = false;
+    match lock.try_with(Within { lock }, &mut refused) {
+        Ok(()) => refused,
+        Err(_) => false,
+    }
 }

@@ -1,11 +1,11 @@
-//! Locks and cells of one thread, on one thread and on two. What is printed is the same whatever thread goes first.
+//! Locks, on one thread and on two. What is printed is the same whatever thread goes first.
 ghost use Rattle.std.specs.Prelude.{◌≡◌, ◌≤◌};
 
 use crate::counters::{Counter, count_and_pass_on, counted, new_counter};
-use crate::local::{count, count_within, is_of, new_cell};
+use crate::local::{count_one, new_local, refused_within};
 use crate::values::Ending;
 use crate::waiting::{Flags, ask, hold};
-use seize_cells::{LocalCell, Lock, Tag};
+use seize_cells::{LocalLock, Lock};
 use seize_content::Steady;
 use std::mem::size_of;
 use std::sync::Wait;
@@ -92,65 +92,59 @@ fn a_lock_goes_to_a_thread_and_comes_back(rt: HostRuntime) {
 }
 
 #[test]
-fn a_counter_is_out_of_its_cell_meanwhile(rt: HostRuntime) {
-    let cell = new_cell(8, 3);
-    assert_eq!(rt; count(&cell, 8), true);
-    let (fits, left) = count_within(&cell, 8);
-    assert_eq!(rt; (fits, left.number, left.limit), (false, 8, 0));
-    assert_eq!(rt; (count(&cell, 8), is_of(&cell, 8)), (true, 8));
-    let counter = cell.into_value();
-    assert_eq!(rt; (counter.number, counter.limit, counter.count), (8, 3, 2));
+fn no_work_is_begun_within_a_work_of_one_thread(rt: HostRuntime) {
+    let lock = new_local(8, 3);
+    assert_eq!(rt; count_one(&rt, &lock), true);
+    assert_eq!(rt; refused_within(&lock), true);
+    assert_eq!(rt;
+        (count_one(&rt, &lock), count_one(&rt, &lock)),
+        (true, false)
+    );
+    let counter = lock.into_value();
+    assert_eq!(rt; (counter.number, counter.limit, counter.count), (8, 3, 3));
 }
 
-// A cell goes to another thread, which counts there, and comes back.
-fn cell_sent_and_back<R: Threads + Sync>(rt: &R, number: u64) -> Counter
+// A lock of one thread goes to another one, which counts there, and comes back.
+fn local_sent_and_back<R: Threads + Wait + Sync>(rt: &R, number: u64) -> Counter
     ensures { result.number ≡ number }
 {
-    let cell = new_cell(number, 2);
-    count(&cell, number);
-    let (cell, _) = thread::join(
+    let lock = new_local(number, 2);
+    count_one(rt, &lock);
+    let (lock, _) = thread::join(
         rt,
-        move || -> LocalCell<Counter>
-            requires { number ≡ cell }
-            ensures { result ≡ cell }
+        move || -> LocalLock<Counter>
+            ensures { result ≡ lock }
         {
-            count(&cell, number);
-            count(&cell, number);
-            cell
+            count_one(rt, &lock);
+            count_one(rt, &lock);
+            lock
         },
         || (),
     );
-    cell.into_value()
+    lock.into_value()
 }
 
 #[test]
-fn a_cell_goes_to_a_thread_and_comes_back(rt: HostRuntime) {
-    let counter = cell_sent_and_back(&rt, 9);
+fn a_local_lock_goes_to_a_thread_and_comes_back(rt: HostRuntime) {
+    let counter = local_sent_and_back(&rt, 9);
     assert_eq!(rt; (counter.number, counter.count), (9, 2));
 }
 
 #[test]
 fn each_value_ends_once(rt: HostRuntime) {
     let ends = AtomicU64::new(0);
-    let cell = LocalCell::new(Ending {
+    let local = LocalLock::new(Ending {
         ends: &ends,
         name: 5,
     });
-    let old = cell.replace(Ending {
-        ends: &ends,
-        name: 5,
-    });
-    let before = ends.load(Ordering::SeqCst);
-    drop(old);
-    let between = ends.load(Ordering::SeqCst);
-    drop(cell);
-    assert_eq!(rt; (before, between, ends.load(Ordering::SeqCst)), (0, 1, 2));
+    drop(local);
+    assert_eq!(rt; ends.load(Ordering::SeqCst), 1);
     let lock = Lock::new(Ending {
         ends: &ends,
         name: 6,
     });
     drop(lock);
-    assert_eq!(rt; ends.load(Ordering::SeqCst), 3);
+    assert_eq!(rt; ends.load(Ordering::SeqCst), 2);
 }
 
 // What goes to other threads.
@@ -167,19 +161,13 @@ fn lock_sends<M: Steady + Send>(lock: Lock<M>) -> Lock<M> {
     is_sent(lock)
 }
 
-fn cell_sends<M: Steady + Send>(cell: LocalCell<M>) -> LocalCell<M> {
-    is_sent(cell)
+fn local_sends<M: Steady + Send>(lock: LocalLock<M>) -> LocalLock<M> {
+    is_sent(lock)
 }
 
-fn tag_sends(tag: Tag) -> Tag {
-    is_shared(&tag);
-    is_sent(tag)
-}
-
-// A cell of one thread has its value's bytes, and a lock three words more. A tag has none.
+// A lock of one thread has a byte beside its value, and a lock three words. The value's size is rounded up to whole words.
 #[test]
-fn a_cell_has_the_bytes_of_its_value(rt: HostRuntime) {
-    assert_eq!(rt; size_of::<LocalCell<Counter>>(), size_of::<Counter>());
+fn a_lock_has_little_beside_its_value(rt: HostRuntime) {
+    assert_eq!(rt; size_of::<LocalLock<Counter>>(), size_of::<Counter>() + 8);
     assert_eq!(rt; size_of::<Lock<Counter>>(), size_of::<Counter>() + 24);
-    assert_eq!(rt; size_of::<Tag>(), 0);
 }

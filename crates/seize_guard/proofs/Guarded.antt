@@ -19,9 +19,9 @@ use Rattle.seize_words.specs.declared.link.Link.{Link}
 use Rattle.seize_words.specs.declared.link.MaybeKey.{MaybeKey}
 use Rattle.seize_guard.specs.Blocks.{Shows, shared_name, shared_value}
 use Rattle.seize_guard.specs.Makes.{MakesCall, MakesNone, MakesOne}
-use Rattle.seize_guard.specs.Registrations.{IsUnitOf, slot_of}
+use Rattle.seize_guard.specs.Reservations.{IsUnit}
 use Rattle.seize_guard.specs.declared.block.shared.Shared.{Shared}
-use Rattle.seize_guard.specs.declared.registration.Registration.{Registration}
+use Rattle.seize_book.specs.Tokens.{Name}
 use Rattle.seize_guard.proofs.LinkSteps.{link_compares, link_finds, link_swaps}
 use Rattle.seize_guard.proofs.Made.{none_learned, none_then}
 
@@ -30,23 +30,23 @@ pub call_after : (s t : ℕ) (job : Job) (pass ready pass' : Pass) → s ≡ t �
 call_after s t job pass ready pass' same none call =
     subst (λ (k : ℕ). MakesCall k job pass pass') same (record { steps = call.steps; its = call.its; made = none_then none call.made })
 
-module _ {T : Type 0} (r : Registration T) (unit : Activation) (seen : Seen) (its : IsUnitOf r unit seen) (number : ℕ) (link : Link) (at : link_number link ≡ number) (pass learned : Pass) (learns : Learns pass seen learned) where
+module _ (n : Name) (s : ℕ) (unit : Activation) (seen : Seen) (its : IsUnit n s unit seen) (number : ℕ) (link : Link) (at : link_number link ≡ number) (pass learned : Pass) (learns : Learns pass seen learned) where
   -- a read of a link, once the pass has learned that the activation began
-  pub guard_finds : (pass' : Pass) (v : ℕ) (t : Finds link unit learned pass' v) → MakesOne pass pass' (ReadLink (slot_of r) number) (Held (held_before t.reads))
+  pub guard_finds : (pass' : Pass) (v : ℕ) (t : Finds link unit learned pass' v) → MakesOne pass pass' (ReadLink (s) number) (Held (held_before t.reads))
   guard_finds pass' v t =
       subst (λ (k : ℕ × ℕ). MakesOne pass pass' (ReadLink k.0 k.1) (Held (held_before t.reads))) (λ j. (its.0.slot j, at j))
       (none_then (none_learned pass seen learned learns) (link_finds link unit learned pass' v t))
 
   -- an exchange
   pub guard_swaps : (key : MaybeKey) (ready : Pass) (key' : MaybeKey) (pass' : Pass) (v : ℕ) → ready ≡ learned → (t : Swaps link unit key ready key' pass' v)
-      → MakesOne pass pass' (ExchangeLink (slot_of r) number (Swap (value_held key))) (Held (held_before t.0))
+      → MakesOne pass pass' (ExchangeLink (s) number (Swap (value_held key))) (Held (held_before t.0))
   guard_swaps key ready key' pass' v same t =
       subst (λ (k : ℕ × ℕ). MakesOne pass pass' (ExchangeLink k.0 k.1 (Swap (value_held key))) (Held (held_before t.0))) (λ j. (its.0.slot j, at j))
       (none_then (subst (MakesNone pass) (sym same) (none_learned pass seen learned learns)) (link_swaps link unit key ready key' pass' v t))
 
   -- and one that compares
   pub guard_compares : (key : MaybeKey) (ready : Pass) (current : Option ℕ) (key' : MaybeKey) (pass' : Pass) (v : ℕ) (glimpse : Glimpse) → ready ≡ learned → (t : CompareExchanges link unit key ready current key' pass' v glimpse)
-      → MakesOne pass pass' (ExchangeLink (slot_of r) number (Compare (comparand current (held_before t.0)) (value_held key))) (Held (held_before t.0))
+      → MakesOne pass pass' (ExchangeLink (s) number (Compare (comparand current (held_before t.0)) (value_held key))) (Held (held_before t.0))
   guard_compares key ready current key' pass' v glimpse same t =
       subst (λ (k : ℕ × ℕ). MakesOne pass pass' (ExchangeLink k.0 k.1 (Compare (comparand current (held_before t.0)) (value_held key))) (Held (held_before t.0))) (λ j. (its.0.slot j, at j))
       (none_then (subst (MakesNone pass) (sym same) (none_learned pass seen learned learns)) (link_compares link unit key ready current key' pass' v glimpse t))

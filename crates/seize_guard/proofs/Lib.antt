@@ -1,6 +1,7 @@
 pub mod Compared
 pub mod Guarded
-pub mod AtDesk
+pub mod Placed
+pub mod Places
 pub mod Made
 pub mod LinkSteps
 pub mod Steps
@@ -12,4 +13,3 @@ mod Ended
 mod Chunks
 pub mod Facts
 mod Endings
-mod StayAt

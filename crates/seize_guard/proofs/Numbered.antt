@@ -24,7 +24,7 @@ use Rattle.seize_words.specs.declared.words.Words.{Words}
 use Rattle.seize_calls.specs.Slots.{IsFreeSlotOf, IsOfList, SetsUse, SlotGives, its_key, its_number}
 use Rattle.seize_calls.specs.declared.slot.Slot.{Slot}
 use Rattle.seize_calls.proofs.Slots.{may_take_slot}
-use Rattle.seize_guard.specs.Numbers.{AreEnded, AreNumbers, IsEndedAt, IsNextOf, flags_of}
+use Rattle.seize_guard.specs.Numbers.{AreEnded, AreNumbers, IsEndedAt, IsNextSlotOf, flags_of}
 use Rattle.seize_guard.specs.declared.numbers.Numbers.{Numbers}
 
 -- Places of a list where something may be.
@@ -169,8 +169,8 @@ module _ {T : Type 0} (numbers : Numbers T) (are : AreNumbers numbers) where
     }
 
   -- The slot that comes next is the one that is there.
-  pub next_is : (left : NextSlot) → numbers.next ≡ Some left → IsNextOf numbers.key left
-  next_is left there = subst (IsNextOf numbers.key) (some_same are.next left (sym are.is_there ∙ there)) are.comes
+  pub next_is : (left : NextSlot) → numbers.next ≡ Some left → IsNextSlotOf numbers.key left
+  next_is left there = subst (IsNextSlotOf numbers.key) (some_same are.next left (sym are.is_there ∙ there)) are.comes
 
   -- Nothing is changed but where things lie.
   pub numbers_kept : (numbers' : Numbers T) (left next' : NextSlot) → numbers.next ≡ Some left → IsSameNext left next' → numbers'.key ≡ numbers.key → numbers'.slots.items ≡ items → numbers'.next ≡ Some next' → numbers'.book ≡ numbers.book → AreNumbers numbers'
@@ -207,7 +207,7 @@ module _ {T : Type 0} (numbers : Numbers T) (are : AreNumbers numbers) where
     }
 
 -- A new list has no slot.
-pub numbers_new : {T : Type 0} (numbers : Numbers T) (next : NextSlot) → numbers_book numbers.key ≡ numbers.book.name → made_of numbers.key ≡ 0 → numbers.slots.items ≡ [] → numbers.next ≡ Some next → IsNextOf numbers.key next → AreNumbers numbers
+pub numbers_new : {T : Type 0} (numbers : Numbers T) (next : NextSlot) → numbers_book numbers.key ≡ numbers.book.name → made_of numbers.key ≡ 0 → numbers.slots.items ≡ [] → numbers.next ≡ Some next → IsNextSlotOf numbers.key next → AreNumbers numbers
 numbers_new numbers next book none slots is comes = record {
   book = book;
   flags = no_flags (use_flags numbers.key) (sym (made_flags numbers.key) ∙ none) ∙ ap flags_of (sym slots);

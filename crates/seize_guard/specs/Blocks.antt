@@ -2,6 +2,7 @@
 --     content owned             the value of a block in hand;  store_name owned     the store where it lies
 --     HasContent code v value   what the list calls v is a block with this content
 --     shared_name shared        what the list calls the value that was found;  shared_value shared     the value
+--     shared_word shared        the word that a link shows for it: its block's number and one more
 --     unlinked_name u           what the list calls the value that is in no link;  unlinked_collector u     its collector
 --     IsNamed code owned o      o is what the list calls the value of this block, or there is neither
 --     Shows code held shared    what was found is what the link held, a block with that value; or there is neither
@@ -9,6 +10,7 @@
 use Rattle.std.specs.Prelude.{◌≡◌, ℕ, Option, None, Some, List}
 use base.Stored.{Gv}
 use Rattle.seize_store.specs.Named as store
+use Rattle.seize_book.specs.Blocks.{link_word}
 use Rattle.seize_words.specs.Chunks.{IsFoundAs, IsLentAs}
 use Rattle.seize_calls.specs.Slots.{its_value}
 use Rattle.seize_guard.specs.declared.block.owned.Owned.{Owned}
@@ -30,6 +32,9 @@ shared_name shared = shared.glimpse.value
 
 abbrev pub shared_value : {T : Type 0} → Shared T → T
 shared_value shared = shared.value.now
+
+abbrev pub shared_word : {T : Type 0} → Shared T → ℕ
+shared_word shared = link_word (shared_name shared)
 
 abbrev pub unlinked_name : {T : Type 0} → Unlinked T → ℕ
 unlinked_name unlinked = its_value unlinked.loose

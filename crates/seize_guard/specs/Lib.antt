@@ -1,7 +1,5 @@
 pub mod Blocks
 pub mod Collectors
-pub mod Desks
-pub mod Emptying
 pub mod Ends
 pub mod Exchanges
 pub mod Guards
@@ -11,4 +9,4 @@ pub mod Makes
 pub mod Numbers
 pub mod OwnedGuards
 pub mod Registrations
-pub mod Stays
+pub mod Reservations

@@ -2,7 +2,7 @@
 --     flags_of slots           which numbers are in use: those in whose place there is no slot
 --     IsEndedAt n i slot       it is number i of the list n, not in use, and inactive
 --     AreEnded n slots         so is each of these, in its place
---     IsNextOf numbers next    the slot that comes next is of the list of the numbers' key, and comes after all that were made
+--     IsNextSlotOf numbers next    the slot that comes next is of the list of the numbers' key, and comes after all that were made
 --     AreNumbers numbers       the key knows that just these numbers are in use, the slots that lie there are those of the others, and the
 --                              next one is there
 --     HasTaken words pass pass' slot     the slot's number was taken with the pass, by the event `Take`. The slot is in use, and inactive
@@ -38,8 +38,8 @@ pub record IsEndedAt {T : Type 0} (n : Name) (i : ℕ) (slot : Slot T) : Type 0 
 abbrev pub AreEnded : {T : Type 0} → Name → List (Option (Slot T)) → Type 0
 AreEnded {T} n slots = (i : ℕ) (slot : Slot T) → get_or slots i None ≡ Some slot → IsEndedAt n i slot
 
-abbrev pub IsNextOf : NumbersKey → NextSlot → Type 0
-IsNextOf numbers next = (comes_next next ≡ made_of numbers) × (slot_book (next_key next) ≡ numbers_book numbers)
+abbrev pub IsNextSlotOf : NumbersKey → NextSlot → Type 0
+IsNextSlotOf numbers next = (comes_next next ≡ made_of numbers) × (slot_book (next_key next) ≡ numbers_book numbers)
 
 pub record AreNumbers {T : Type 0} (numbers : Numbers T) : Type 0 where
   pub book : numbers_book numbers.key ≡ numbers.book.name
@@ -47,7 +47,7 @@ pub record AreNumbers {T : Type 0} (numbers : Numbers T) : Type 0 where
   pub slots : AreEnded numbers.book.name numbers.slots.items
   pub next : NextSlot
   pub is_there : numbers.next ≡ Some next
-  pub comes : IsNextOf numbers.key next
+  pub comes : IsNextSlotOf numbers.key next
 
 pub record HasTaken {T : Type 0} (words : Words T) (pass pass' : Pass) (slot : Slot T) : Type 0 where
   pub its : IsSlotOf words slot

@@ -1,11 +1,11 @@
--- What contracts see of owned guards.
---     owned_collector g, owned_slot g     the collector of an owned guard, and its slot's number
+-- What contracts see of a guard that threads share.
+--     owned_collector g, owned_slot g     its collector, and its slot's number
 use Rattle.std.specs.Prelude.{ℕ}
 use Rattle.seize_guard.specs.declared.collector.Collector.{Collector}
 use Rattle.seize_guard.specs.declared.owned.OwnedGuard.{OwnedGuard}
 
 abbrev pub owned_collector : {T : Type 0} → OwnedGuard T → Collector T
-owned_collector guard = guard.collector.now
+owned_collector guard = guard.reader.collector.now
 
 abbrev pub owned_slot : {T : Type 0} → OwnedGuard T → ℕ
-owned_slot guard = guard.number
+owned_slot guard = guard.reader.number

@@ -51,7 +51,7 @@ impl<T: Drop> Collector<T> {
     ghost use Rattle.seize_table.specs.declared.refusal.Refusal.TheVariants.{NoMemory as no_memory, NoNumbers as no_numbers};
     ghost use Rattle.seize_guard.specs.Blocks.{content};
     ghost use Rattle.seize_guard.specs.Collectors.{BeginsEmpty, IsBlockOf, IsNewPassOf, IsPassOf, IsRefusalFor, its_book, its_id, its_links, its_size};
-    ghost use Rattle.seize_guard.specs.Registrations.{collector_of, slot_of};
+    ghost use Rattle.seize_guard.specs.Registrations.{registered_in, registered_slot};
     ghost use Rattle.seize_guard.specs.Makes.{MakesNone, MakesOne};
 
     /// A collector with no slot and this many empty links. Its batch size is `max(32, processors)`, rounded up to a power of two. It asks
@@ -176,7 +176,8 @@ impl<T: Drop> Collector<T> {
     /// 2^63, so memory is refused before the 2^64 - 32 numbers are all in use.
     pub fn register<W: Wait>(&self, rt: &W, pass: &mut Pass) -> Result<Registration<'_, T>, Refusal>
         requires pass { IsPassOf self.now pass.old }
-        ensures made { IfOk result (λ made. (collector_of made ≡ self.now) × MakesOne pass.old pass.new (Take (slot_of made)) Done) }
+        ensures made { IfOk result (λ made. (registered_in made ≡ self.now)
+            × MakesOne pass.old pass.new (Take (registered_slot made)) Done) }
         ensures refused { IfErr result (λ refusal. MakesNone pass.old pass.new × (refusal ≡ no_memory)) }
     {
         let registering = Registering {

@@ -1,28 +1,19 @@
 //! Guards: with one, a thread reads links, exchanges what they hold, and retires what came out. While a guard stands, its slot is active.
 ghost use Rattle.std.specs.Prelude.{◌≡◌};
-ghost use base.Growing.{prefix_prop};
-ghost use base.Stored.{Coded-set, coded_list};
-ghost use mathlib.Core.List.{IsPrefix};
-ghost use Rattle.seize_book.specs.Entry.{entry_coded};
-ghost use Rattle.seize_guard.specs.Registrations.{IsUnitAt};
 
 mod any;
-mod callers;
 pub(crate) mod exchanging;
 mod local;
 mod owned;
 
-use crate::block::{Failed, Owned, Shared, Unlinked, name};
+use crate::block::{Failed, Owned, Shared, Unlinked};
 use crate::collector::Collector;
-use crate::desk::{Idle, Kept, Visited};
-use crate::ends::Ends;
+use crate::reader::Reader;
 use crate::registration::Registration;
+use crate::works::{Flushing, Leaving, Refreshing, Sparing};
 pub use any::Guard;
-use exchanging::{came_back, current_word, exchange, shown};
-use seize_calls::manner::Beside;
-use seize_words::activation::Activation;
-use seize_words::book::{Pass, Seen};
-use std::marker::Brand;
+use seize_table::Refusal;
+use seize_words::book::Pass;
 use std::sync::Wait;
 use std::{fmt, mem};
 
@@ -31,41 +22,35 @@ use std::{fmt, mem};
 /// It has no `Drop`: it is spent by `leave`, or by `forget`, after which the slot stays active.
 pub struct LocalGuard<'r, 'c, T: Drop> {
     registration: &'r Registration<'c, T>,
-    // its unit of the activation, with which it reads
-    unit: Activation,
-    // what was seen when the activation had begun
-    seen: Seen,
-    ghost its: { IsUnitAt registration.now unit seen },
-    ghost known: { IsPrefix unit.since seen.seen } by { prefix_prop (Coded-set (coded_list entry_coded)) unit.since seen.seen },
+    reader: Reader<'c, T>,
+    ghost its: { (reader.collector ≡ registration.now.collector) × (reader.number ≡ registration.now.number) },
 }
 
 impl<'r, 'c, T: Drop> LocalGuard<'r, 'c, T> {
-    ghost use Rattle.std.specs.Prelude.{◌⊎◌, ◌<◌, ℕ, Option, IfSome};
+    ghost use Rattle.std.specs.Prelude.{◌⊎◌, ◌<◌, ℕ, Option, IfErr, IfOk, IfSome};
     ghost use Rattle.seize_machine.specs.Machine.Event.{ExchangeLink, ReadLink};
     ghost use Rattle.seize_machine.specs.declared.machine.event.Answer.TheVariants.{Link};
     ghost use Rattle.seize_machine.specs.declared.machine.event.Exchange.TheVariants.{Compare, Swap};
     ghost use Rattle.seize_machine.specs.declared.machine.event.Job.TheVariants.{Flush, Leave, Refresh, Retire};
-    ghost use Rattle.seize_guard.specs.Blocks.{ComesOut, IsNamed, Shows, unlinked_collector, unlinked_name};
+    ghost use Rattle.seize_guard.specs.Blocks.{ComesOut, IsNamed, Shows, content, unlinked_collector, unlinked_name};
     ghost use Rattle.seize_guard.specs.Collectors.{IsBlockOf, IsPassOf, its_links};
     ghost use Rattle.seize_words.specs.Links.{comparand};
+    ghost use Rattle.seize_table.specs.declared.refusal.Refusal.TheVariants.{NoMemory as no_memory};
     ghost use Rattle.seize_guard.specs.Exchanges.{IsOutcome, current_name};
     ghost use Rattle.seize_guard.specs.Guards.{IsGuardOf, guard_collector, guard_slot};
     ghost use Rattle.seize_guard.specs.Makes.{MakesCall, MakesNone, MakesOne};
-    ghost use Rattle.seize_guard.specs.Registrations.{IsUnitOf};
 
-    // One with this unit of the activation of the registration's slot.
+    // One of this registration, which reads so.
     pub(crate) fn of(
         registration: &'r Registration<'c, T>,
-        unit: Activation,
-        seen: Seen,
+        reader: Reader<'c, T>,
     ) -> LocalGuard<'r, 'c, T>
-        requires { IsUnitOf registration.now unit seen }
+        requires { (reader.collector ≡ registration.now.collector) × (reader.number ≡ registration.now.number) }
         ensures { IsGuardOf registration.now result }
     {
         LocalGuard {
             registration,
-            unit,
-            seen,
+            reader,
         }
     }
 
@@ -73,14 +58,26 @@ impl<'r, 'c, T: Drop> LocalGuard<'r, 'c, T> {
     pub fn collector(&self) -> &'c Collector<T>
         ensures { result.now ≡ guard_collector self.now }
     {
-        self.registration.collector
+        self.reader.collector
     }
 
     /// The number of its slot.
     pub fn thread_id(&self) -> usize
         ensures { result ≡ guard_slot self.now }
     {
-        self.registration.number
+        self.reader.number
+    }
+
+    /// A block of this value, as `Registration::owned` makes it.
+    ///
+    /// # Errors
+    ///
+    /// `NoMemory` where the store could not grow; the value comes back.
+    pub fn owned(&self, value: T) -> Result<Owned<T>, (Refusal, T)>
+        ensures made { IfOk result (λ owned. IsBlockOf (guard_collector self.now) owned × (content owned ≡ value)) }
+        ensures refused { IfErr result (λ refused. (refused.0 ≡ no_memory) × (refused.1 ≡ value)) }
+    {
+        self.registration.owned(value)
     }
 
     /// Reads a link: the event `ReadLink`. What the link holds can be read for as long as the guard is borrowed: other threads may take it
@@ -92,11 +89,7 @@ impl<'r, 'c, T: Drop> LocalGuard<'r, 'c, T> {
         ensures { (held : Option ℕ) × MakesOne pass.old pass.new (ReadLink (guard_slot self.now) link) (Link held)
             × Shows T.row.coded.code held result }
     {
-        let words = &self.registration.collector.words;
-        pass.learn(&self.seen);
-        let (word, found) = words.find(link, &self.unit, pass);
-        let found = found?;
-        Some(Shared::of(found.value, word, found.glimpse))
+        self.reader.protect(link, pass)
     }
 
     /// Exchanges what a link holds for this block, or for none: the event `ExchangeLink`. It gives what the link held, which may outlive
@@ -115,13 +108,7 @@ impl<'r, 'c, T: Drop> LocalGuard<'r, 'c, T> {
         ensures made { (new : Option ℕ) × (held : Option ℕ) × IsNamed T.row.coded.code value new × ComesOut held result
             × MakesOne pass.old pass.new (ExchangeLink (guard_slot self.now) link (Swap new)) (Link held) }
     {
-        let collector = self.registration.collector;
-        pass.learn(&self.seen);
-        let (new, mut key) = name(value, collector, pass);
-        let old = collector
-            .words
-            .swap_link(link, new, &mut key, &self.unit, pass);
-        Unlinked::found(collector, old, key)
+        self.reader.swap(link, value, pass)
     }
 
     /// Exchanges what a link holds for this block, or for none, if the link holds what was found, or nothing where that is `None`: the
@@ -148,26 +135,7 @@ impl<'r, 'c, T: Drop> LocalGuard<'r, 'c, T> {
             MakesOne pass.old pass.new (ExchangeLink (guard_slot self.now) link (Compare compare v)) (Link held)
             × IsOutcome T.row.coded.code (guard_collector self.now) new compare held result) }
     {
-        let collector = self.registration.collector;
-        pass.learn(&self.seen);
-        let seen = current_word(current);
-        let (word, mut key) = name(new, collector, pass);
-        let (old, glimpse) = exchange::<T, Brand>(
-            &collector.words,
-            link,
-            seen,
-            word,
-            &mut key,
-            current,
-            &self.unit,
-            pass,
-        );
-        if old == seen {
-            return Ok(Unlinked::found(collector, old, key));
-        }
-        let found = shown(&collector.words.blocks, old, glimpse, pass);
-        let new = came_back(collector, word, key, pass);
-        Err(Failed { found, new })
+        self.reader.compare_exchange(link, current, new, pass)
     }
 
     /// The same.
@@ -207,82 +175,73 @@ impl<'r, 'c, T: Drop> LocalGuard<'r, 'c, T> {
         requires of { IsPassOf (guard_collector self.now) pass.old }
         ensures { MakesCall (guard_slot self.now) Flush pass.old pass.new }
     {
-        let registration = self.registration;
-        let Visited {
-            mut slot,
-            rest,
-            guards,
-        } = registration.visited(rt, &self.unit, &self.seen, pass);
-        let words = &registration.collector.words;
-        slot.flush(words, &mut Ends::new(), pass, &Beside { rt });
-        registration.lay(Kept::Visited(Visited { slot, rest, guards }));
+        let flushing = Flushing {
+            words: &self.reader.collector.words,
+            unit: &self.reader.unit,
+            seen: &self.reader.seen,
+            rt,
+        };
+        self.registration.reservation.with(rt, flushing, pass);
     }
 
     /// Ends the slot's activation and begins another, where this is its only guard; beside others it does nothing. What waited for the slot
     /// is counted down, and what is reclaimed in the call ends there.
     ///
-    /// It takes no memory and waits as `defer_retire` does.
+    /// It takes no memory. Within another call of the same registration it waits for ever, and else for nobody.
     pub fn refresh<W: Wait>(&mut self, rt: &W, pass: &mut Pass)
         requires of { IsPassOf (guard_collector self.old) pass.old }
-        ensures same { self.new.registration ≡ self.old.registration }
+        ensures same { (guard_collector self.new ≡ guard_collector self.old) × (guard_slot self.new ≡ guard_slot self.old) }
         ensures refreshes { MakesCall (guard_slot self.old) Refresh pass.old pass.new ⊎ MakesNone pass.old pass.new }
     {
-        let visited = self.registration.visited(rt, &self.unit, &self.seen, pass);
-        if visited.guards != 1 {
-            self.registration.lay(Kept::Visited(visited));
-            return;
-        }
-        let Visited {
-            mut slot,
-            mut rest,
-            guards,
-        } = visited;
-        let unit = mem::replace(&mut self.unit, slot.activation());
-        rest.join(unit);
-        let words = &self.registration.collector.words;
-        slot.refresh(words, &mut rest, &mut Ends::new(), pass, &Beside { rt });
-        self.unit = rest.split();
-        self.seen = slot.seen();
-        self.registration
-            .lay(Kept::Visited(Visited { slot, rest, guards }));
+        let reservation = &self.registration.reservation;
+        let reader = &mut self.reader;
+        let spare = reservation.with(rt, Sparing {}, pass);
+        let unit = mem::replace(&mut reader.unit, spare);
+        let refreshing = Refreshing {
+            words: &reader.collector.words,
+            unit,
+            seen: &reader.seen,
+            rt,
+        };
+        let (unit, seen) = reservation.with(rt, refreshing, pass);
+        reader.unit = unit;
+        reader.seen = seen;
     }
 
     /// Leaves. The last guard of the slot leaves for it: what waited for the slot is counted down, and what is reclaimed in the call ends
     /// there. Beside others it makes no event.
     ///
-    /// It takes no memory and waits as `defer_retire` does.
+    /// It takes no memory. Within another call of the same registration it waits for ever, and else for nobody.
     pub fn leave<W: Wait>(self, rt: &W, pass: &mut Pass)
         requires of { IsPassOf (guard_collector self) pass.old }
         ensures { MakesCall (guard_slot self.entry) Leave pass.old pass.new ⊎ MakesNone pass.old pass.new }
     {
         let LocalGuard {
             registration,
+            reader,
+        } = self;
+        let Reader {
+            collector,
+            number: _,
             unit,
             seen,
-        } = self;
-        let Visited {
-            mut slot,
-            mut rest,
-            guards,
-        } = registration.visited(rt, &unit, &seen, pass);
-        rest.join(unit);
-        if guards > 1 {
-            let guards = guards - 1;
-            registration.lay(Kept::Visited(Visited { slot, rest, guards }));
-            return;
-        }
-        let words = &registration.collector.words;
-        slot.leave(words, &mut rest, &mut Ends::new(), pass, &Beside { rt });
-        registration.lay(Kept::Idle(Idle { slot }));
+        } = reader;
+        let leaving = Leaving {
+            words: &collector.words,
+            unit,
+            seen,
+            rt,
+        };
+        registration.reservation.with(rt, leaving, pass);
     }
 
     /// Spends the guard without leaving. Its slot stays active for good, so what is retired from then on may never be reclaimed.
     pub fn forget(self) {
         let LocalGuard {
             registration: _,
-            unit: _,
-            seen: _,
+            reader,
         } = self;
+        drop(reader);
     }
 }
 

@@ -8,15 +8,15 @@
 
 pub mod block;
 pub mod collector;
-mod desk;
 mod ending;
 mod ends;
 pub mod guard;
 mod numbers;
 pub mod owned;
+mod reader;
 pub mod registration;
-mod stay;
-mod threads;
+mod reservation;
+mod works;
 
 pub use block::{Failed, Owned, Shared, Unlinked};
 pub use collector::{Collector, IdSource};

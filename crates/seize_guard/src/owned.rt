@@ -1,26 +1,19 @@
 //! Owned guards: each has a slot of its own, so it needs no registration, and threads share it. They read links by the guard's own unit of
 //! the slot's activation, each with a pass of its own; what changes the slot is done under the guard's lock.
 ghost use Rattle.std.specs.Prelude.{◌≡◌};
-ghost use base.Growing.{prefix_prop};
-ghost use base.Stored.{Coded-set, coded_list};
-ghost use mathlib.Core.List.{IsPrefix};
-ghost use Rattle.seize_book.specs.Entry.{entry_coded};
 ghost use Rattle.seize_guard.specs.Collectors.{its_book};
-ghost use Rattle.seize_guard.specs.Desks.{desk_label};
-ghost use Rattle.seize_guard.specs.Registrations.{IsUnitIn};
+ghost use Rattle.seize_guard.specs.Reservations.{place_label};
 
-use crate::block::{Failed, Owned, Shared, Unlinked, name};
+use crate::block::{Failed, Owned, Shared, Unlinked};
 use crate::collector::Collector;
-use crate::ends::Ends;
-use crate::guard::exchanging::{came_back, current_word, exchange, shown};
 use crate::numbers::Ending;
-use crate::stay::{Flushing, Refreshing, Retiring, Sparing, Stay};
-use seize_calls::manner::Beside;
+use crate::reader::Reader;
+use crate::reservation::Reservation;
+use crate::works::{Flushing, Leaving, Refreshing, Retiring, Sparing};
 use seize_calls::slot::Slot;
-use seize_cells::Lock;
-use seize_words::activation::Activation;
-use seize_words::book::{Pass, Seen};
-use std::marker::Brand;
+use seize_cells::{Lock, LockWork};
+use seize_table::Refusal;
+use seize_words::book::Pass;
 use std::sync::Wait;
 use std::{fmt, mem};
 
@@ -31,27 +24,21 @@ use std::{fmt, mem};
 /// `defer_retire` and `flush` are done under the guard's lock: each waits while another thread is within one of them. No value ends there,
 /// since the guard's slot is active.
 pub struct OwnedGuard<'c, T: Drop> {
-    collector: &'c Collector<T>,
-    number: usize,
-    // its unit of the activation, with which it reads
-    unit: Activation,
-    // what was seen when the activation had begun
-    seen: Seen,
-    stay: Lock<Stay<T>>,
-    ghost its: { IsUnitIn (its_book collector.now) number unit seen },
-    ghost known: { IsPrefix unit.since seen.seen } by { prefix_prop (Coded-set (coded_list entry_coded)) unit.since seen.seen },
-    ghost at: { stay ≡ desk_label (its_book collector.now) number },
+    reader: Reader<'c, T>,
+    reservation: Lock<Reservation<T>>,
+    ghost at: { reservation ≡ place_label (its_book reader.collector.now) reader.number 1 },
 }
 
 impl<'c, T: Drop> OwnedGuard<'c, T> {
-    ghost use Rattle.std.specs.Prelude.{◌⊎◌, ◌<◌, ℕ, Option, IfSome};
+    ghost use Rattle.std.specs.Prelude.{◌⊎◌, ◌<◌, ℕ, Option, IfErr, IfOk, IfSome};
     ghost use Rattle.seize_machine.specs.Machine.Event.{Enter, ExchangeLink, ReadLink};
     ghost use Rattle.seize_machine.specs.declared.machine.event.Answer.TheVariants.{Done, Link};
     ghost use Rattle.seize_machine.specs.declared.machine.event.Exchange.TheVariants.{Compare, Swap};
     ghost use Rattle.seize_machine.specs.declared.machine.event.Job.TheVariants.{Flush, Refresh, Retire};
     ghost use Rattle.seize_words.specs.Links.{comparand};
+    ghost use Rattle.seize_table.specs.declared.refusal.Refusal.TheVariants.{NoMemory as no_memory};
     ghost use Rattle.seize_calls.specs.Slots.{IsInactive, its_number};
-    ghost use Rattle.seize_guard.specs.Blocks.{ComesOut, IsNamed, Shows, unlinked_collector, unlinked_name};
+    ghost use Rattle.seize_guard.specs.Blocks.{ComesOut, IsNamed, Shows, content, unlinked_collector, unlinked_name};
     ghost use Rattle.seize_guard.specs.Collectors.{IsBlockOf, IsPassOf, IsSlotFor, its_links};
     ghost use Rattle.seize_guard.specs.Exchanges.{IsOutcome, current_name};
     ghost use Rattle.seize_guard.specs.Makes.{LeavesAndGives, MakesCall, MakesOne};
@@ -68,18 +55,18 @@ impl<'c, T: Drop> OwnedGuard<'c, T> {
         ensures of { (owned_collector result ≡ collector.now) × (owned_slot result ≡ its_number slot) }
         ensures enters { MakesOne pass.old pass.new (Enter (its_number slot)) Done }
     {
-        let mut slot = slot;
         let number = slot.number();
-        let mut rest = slot.activation();
-        slot.enter(&collector.words, &mut rest, pass);
-        let unit = rest.split();
-        let seen = slot.seen();
+        let words = &collector.words;
+        let mut reservation = Reservation::new(words, slot, 1);
+        let (unit, seen) = reservation.enter(words, pass);
         OwnedGuard {
-            collector,
-            number,
-            unit,
-            seen,
-            stay: Lock::new(Stay { slot, rest }),
+            reader: Reader {
+                collector,
+                number,
+                unit,
+                seen,
+            },
+            reservation: Lock::new(reservation),
         }
     }
 
@@ -87,14 +74,26 @@ impl<'c, T: Drop> OwnedGuard<'c, T> {
     pub fn collector(&self) -> &'c Collector<T>
         ensures { result.now ≡ owned_collector self.now }
     {
-        self.collector
+        self.reader.collector
     }
 
     /// The number of its slot, for all threads that share it.
     pub fn thread_id(&self) -> usize
         ensures { result ≡ owned_slot self.now }
     {
-        self.number
+        self.reader.number
+    }
+
+    /// A block of this value, as `Collector::owned` makes it.
+    ///
+    /// # Errors
+    ///
+    /// `NoMemory` where the store could not grow; the value comes back.
+    pub fn owned(&self, value: T) -> Result<Owned<T>, (Refusal, T)>
+        ensures made { IfOk result (λ owned. IsBlockOf (owned_collector self.now) owned × (content owned ≡ value)) }
+        ensures refused { IfErr result (λ refused. (refused.0 ≡ no_memory) × (refused.1 ≡ value)) }
+    {
+        self.reader.collector.owned(value)
     }
 
     /// Reads a link: the event `ReadLink`. What the link holds can be read for as long as the guard is borrowed: other threads may take it
@@ -106,16 +105,13 @@ impl<'c, T: Drop> OwnedGuard<'c, T> {
         ensures { (held : Option ℕ) × MakesOne pass.old pass.new (ReadLink (owned_slot self.now) link) (Link held)
             × Shows T.row.coded.code held result }
     {
-        pass.learn(&self.seen);
-        let (word, found) = self.collector.words.find(link, &self.unit, pass);
-        let found = found?;
-        Some(Shared::of(found.value, word, found.glimpse))
+        self.reader.protect(link, pass)
     }
 
     /// Exchanges what a link holds for this block, or for none: the event `ExchangeLink`. It gives what the link held, which may outlive
     /// the guard, and is to be retired.
     ///
-    /// It takes no memory and no lock, and waits for nobody: one atomic swap, and look-ups of the two blocks.
+    /// It takes no memory and no lock, and waits for nobody: one load to find the link, one atomic swap, and the look-up of the new block.
     pub fn swap(
         &self,
         link: usize,
@@ -128,17 +124,13 @@ impl<'c, T: Drop> OwnedGuard<'c, T> {
         ensures made { (new : Option ℕ) × (held : Option ℕ) × IsNamed T.row.coded.code value new × ComesOut held result
             × MakesOne pass.old pass.new (ExchangeLink (owned_slot self.now) link (Swap new)) (Link held) }
     {
-        let collector = self.collector;
-        pass.learn(&self.seen);
-        let (new, mut key) = name(value, collector, pass);
-        let old = collector
-            .words
-            .swap_link(link, new, &mut key, &self.unit, pass);
-        Unlinked::found(collector, old, key)
+        self.reader.swap(link, value, pass)
     }
 
     /// Exchanges what a link holds for this block, or for none, if the link holds what was found, or nothing where that is `None`: the
     /// event `ExchangeLink`. It gives what the link held, which may outlive the guard, and is to be retired.
+    ///
+    /// Whether it holds that is decided by the number of its block. Where the exchange is won, the event compares with what the link held.
     ///
     /// It takes no memory and no lock, and waits for nobody: one atomic compare and exchange, and look-ups of the blocks.
     ///
@@ -159,26 +151,7 @@ impl<'c, T: Drop> OwnedGuard<'c, T> {
             MakesOne pass.old pass.new (ExchangeLink (owned_slot self.now) link (Compare compare v)) (Link held)
             × IsOutcome T.row.coded.code (owned_collector self.now) new compare held result) }
     {
-        let collector = self.collector;
-        pass.learn(&self.seen);
-        let seen = current_word(current);
-        let (word, mut key) = name(new, collector, pass);
-        let (old, glimpse) = exchange::<T, Brand>(
-            &collector.words,
-            link,
-            seen,
-            word,
-            &mut key,
-            current,
-            &self.unit,
-            pass,
-        );
-        if old == seen {
-            return Ok(Unlinked::found(collector, old, key));
-        }
-        let found = shown(&collector.words.blocks, old, glimpse, pass);
-        let new = came_back(collector, word, key, pass);
-        Err(Failed { found, new })
+        self.reader.compare_exchange(link, current, new, pass)
     }
 
     /// The same.
@@ -210,11 +183,11 @@ impl<'c, T: Drop> OwnedGuard<'c, T> {
     {
         let loose = value.into_loose();
         let retiring = Retiring {
-            words: &self.collector.words,
+            words: &self.reader.collector.words,
             loose,
             rt,
         };
-        self.stay.with(rt, retiring, pass);
+        self.reservation.with(rt, retiring, pass);
     }
 
     /// Attempts the slot's batch at any length.
@@ -225,57 +198,67 @@ impl<'c, T: Drop> OwnedGuard<'c, T> {
         ensures { MakesCall (owned_slot self.now) Flush pass.old pass.new }
     {
         let flushing = Flushing {
-            words: &self.collector.words,
+            words: &self.reader.collector.words,
+            unit: &self.reader.unit,
+            seen: &self.reader.seen,
             rt,
         };
-        self.stay.with(rt, flushing, pass);
+        self.reservation.with(rt, flushing, pass);
     }
 
     /// Ends the slot's activation and begins another. No other thread has the guard meanwhile. What waited for the slot is counted down,
     /// and what is reclaimed in the call ends there.
     ///
-    /// It takes no memory. An insertion is tried again as in `defer_retire`; the lock is free.
+    /// It takes no memory and waits for nobody: the lock is free.
     pub fn refresh<W: Wait>(&mut self, rt: &W, pass: &mut Pass)
         requires of { IsPassOf (owned_collector self.old) pass.old }
         ensures same { (owned_collector self.new ≡ owned_collector self.old) × (owned_slot self.new ≡ owned_slot self.old) }
         ensures refreshes { MakesCall (owned_slot self.old) Refresh pass.old pass.new }
     {
-        let spare = self.stay.with(rt, Sparing {}, pass);
-        let unit = mem::replace(&mut self.unit, spare);
+        let reader = &mut self.reader;
+        let spare = self.reservation.with(rt, Sparing {}, pass);
+        let unit = mem::replace(&mut reader.unit, spare);
         let refreshing = Refreshing {
-            words: &self.collector.words,
+            words: &reader.collector.words,
             unit,
-            seen: &self.seen,
+            seen: &reader.seen,
             rt,
         };
-        let (unit, seen) = self.stay.with(rt, refreshing, pass);
-        self.unit = unit;
-        self.seen = seen;
+        let (unit, seen) = self.reservation.with(rt, refreshing, pass);
+        reader.unit = unit;
+        reader.seen = seen;
     }
 
     /// Leaves, and gives the slot's number back: what waited for the slot is counted down, and what is reclaimed in the call ends there.
     /// Then comes the event `Give`.
     ///
-    /// It takes no memory, and no lock of the guard. An insertion is tried again as in `defer_retire`. At last it waits for other threads
-    /// that register or end. The slot's batch stays for the next one who has the number.
+    /// It takes no memory, and no lock of the guard. At last it waits for other threads that register or end. The slot's batch stays for
+    /// the next one who has the number.
     pub fn leave<W: Wait>(self, rt: &W, pass: &mut Pass)
         requires of { IsPassOf (owned_collector self) pass.old }
         ensures { LeavesAndGives (owned_slot self.entry) pass.old pass.new }
     {
         let OwnedGuard {
+            reader,
+            reservation,
+        } = self;
+        let Reader {
             collector,
             number: _,
             unit,
             seen,
-            stay,
-        } = self;
+        } = reader;
         let words = &collector.words;
-        let Stay { mut slot, mut rest } = stay.into_value();
+        let mut reservation = reservation.into_value();
+        let leaving = Leaving {
+            words,
+            unit,
+            seen,
+            rt,
+        };
+        leaving.work(&mut reservation, pass);
+        let slot = reservation.slot;
         slot.seen().agree(&words.blocks.book);
-        pass.learn(&seen);
-        slot.current(words, &unit, pass);
-        rest.join(unit);
-        slot.leave(words, &mut rest, &mut Ends::new(), pass, &Beside { rt });
         collector.numbers.with(rt, Ending { words, slot }, pass);
     }
 
@@ -283,13 +266,11 @@ impl<'c, T: Drop> OwnedGuard<'c, T> {
     /// be reclaimed.
     pub fn forget(self) {
         let OwnedGuard {
-            collector: _,
-            number: _,
-            unit: _,
-            seen: _,
-            stay,
+            reader,
+            reservation,
         } = self;
-        drop(stay);
+        drop(reader);
+        drop(reservation);
     }
 }
 

@@ -1,7 +1,7 @@
 //! What ends with its collector: each value that links or batches hold, once; and what does not, where something was forgotten.
 ghost use Rattle.std.specs.Prelude.{◌≡◌, ◌<◌, IfOk, IfSome};
 ghost use Rattle.seize_guard.specs.Collectors.{IsBlockOf, IsPassOf, its_links};
-ghost use Rattle.seize_guard.specs.Registrations.{collector_of};
+ghost use Rattle.seize_guard.specs.Registrations.{registered_in};
 
 use crate::values::{Counted, ended};
 use seize_guard::{Collector, IdSource, Owned, Registration, Unlinked};
@@ -17,10 +17,10 @@ use std::thread::Threads;
 // How often each thread puts a value into each link, twice.
 const TIMES: u64 = 500;
 
-type Counting<'a> = Collector<Counted<'a>>;
+pub(crate) type Counting<'a> = Collector<Counted<'a>>;
 
 // A collector with three links and batches of 32 values.
-fn collector<'a>(alloc: Global) -> Result<Counting<'a>, Refusal>
+pub(crate) fn collector<'a>(alloc: Global) -> Result<Counting<'a>, Refusal>
     ensures { IfOk result (λ made. its_links made ≡ 3) }
 {
     Collector::new(alloc, &mut IdSource::new(), 1, 3)
@@ -47,9 +47,9 @@ fn put<'a>(
     ends: &'a AtomicU64,
     pass: &mut Pass,
 ) -> Result<(), Refusal>
-    requires pass { IsPassOf (collector_of registration.now) pass.old }
-    requires link { link < its_links (collector_of registration.now) }
-    ensures { IsPassOf (collector_of registration.now) pass.new }
+    requires pass { IsPassOf (registered_in registration.now) pass.old }
+    requires link { link < its_links (registered_in registration.now) }
+    ensures { IsPassOf (registered_in registration.now) pass.new }
 {
     let guard = registration.enter(pass)?;
     let new = block(guard.collector(), ends);
@@ -61,7 +61,7 @@ fn put<'a>(
 }
 
 // Retires so many values that were in no link.
-fn retire<'c, 'a>(
+pub(crate) fn retire<'c, 'a>(
     rt: &impl Wait,
     collector: &'c Counting<'a>,
     registration: &Registration<'c, Counted<'a>>,
@@ -69,7 +69,7 @@ fn retire<'c, 'a>(
     ends: &'a AtomicU64,
     pass: &mut Pass,
 )
-    requires its { collector_of registration.now ≡ collector.now }
+    requires its { registered_in registration.now ≡ collector.now }
     requires pass { IsPassOf collector.now pass.old }
     ensures { IsPassOf collector.now pass.new }
 {
@@ -81,7 +81,7 @@ fn retire<'c, 'a>(
 }
 
 // A slot puts a value into each link, twice.
-fn put_in_all<'a>(
+pub(crate) fn put_in_all<'a>(
     rt: &impl Wait,
     collector: &Counting<'a>,
     ends: &'a AtomicU64,
@@ -199,7 +199,7 @@ fn a_forgotten_registration_keeps_its_batch_alone(rt: HostRuntime) -> Result<(),
 }
 
 // A guard is forgotten, and then its registration ends.
-fn forget_guard<'a>(rt: &impl Wait, collector: &Counting<'a>) -> Result<bool, Refusal> {
+pub(crate) fn forget_guard<'a>(rt: &impl Wait, collector: &Counting<'a>) -> Result<bool, Refusal> {
     let mut pass = collector.pass();
     let registration = collector.register(rt, &mut pass)?;
     if let Ok(guard) = registration.enter(&mut pass) {

@@ -3,14 +3,31 @@
 #![tactic(auto)]
 
 #[cfg(test)]
+mod any;
+#[cfg(test)]
+mod contending;
+#[cfg(test)]
 mod ending;
+#[cfg(test)]
+mod forgotten;
 #[cfg(test)]
 mod guards;
 pub mod marked;
 #[cfg(test)]
+mod meeting;
+#[cfg(test)]
+mod nested;
+#[cfg(test)]
+mod numbers;
+#[cfg(test)]
 mod owned;
 #[cfg(test)]
+mod owners;
+#[cfg(test)]
 mod sharing;
+#[cfg(test)]
+mod staying;
+mod threads;
 pub mod turns;
 #[cfg(test)]
 mod values;

@@ -1,5 +1,6 @@
 //! Numbers that mark their ends, so that a test sees of each how often it ended.
 
+use std::alloc::{AllocError, Global};
 use std::sync::atomic::{AtomicU64, Ordering};
 
 /// A number that counts its end among the marks.
@@ -17,6 +18,15 @@ impl Drop for Marked<'_> {
             mark.fetch_add(1, Ordering::SeqCst);
         }
     }
+}
+
+/// So many marks, none of which was set.
+pub fn marks(alloc: Global, many: u64) -> Result<Vec<AtomicU64>, AllocError> {
+    let mut marks = Vec::new(alloc);
+    for _ in 0..many {
+        marks.push(AtomicU64::new(0))?;
+    }
+    Ok(marks)
 }
 
 /// How often this number ended. Of one without a mark it says 0.

@@ -2,10 +2,10 @@
 ghost use Rattle.std.specs.Prelude.{◌≡◌, ◌<◌, IfOk};
 ghost use Rattle.seize_guard.specs.Collectors.{its_links};
 
-use crate::marked::{Marked, ended};
+use crate::marked::{Marked, ended, marks};
 use crate::turns::{Seen, work};
 use seize_guard::{Collector, IdSource, Refusal};
-use std::alloc::{AllocError, Global};
+use std::alloc::Global;
 use std::sync::Wait;
 use std::sync::atomic::AtomicU64;
 use std::test::*;
@@ -14,15 +14,6 @@ use std::thread::Threads;
 
 // How many turns each thread makes.
 const TURNS: u64 = 20_000;
-
-// So many marks, none of which was set.
-fn marks(alloc: Global, many: u64) -> Result<Vec<AtomicU64>, AllocError> {
-    let mut marks = Vec::new(alloc);
-    for _ in 0..many {
-        marks.push(AtomicU64::new(0))?;
-    }
-    Ok(marks)
-}
 
 // A collector with one link.
 fn collector<'a>(alloc: Global) -> Result<Collector<Marked<'a>>, Refusal>

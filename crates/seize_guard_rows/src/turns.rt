@@ -2,7 +2,7 @@
 ghost use Rattle.std.specs.Prelude.{◌≡◌, ◌<◌, IfOk};
 ghost use Rattle.seize_guard.specs.Collectors.{IsPassOf, its_links};
 ghost use Rattle.seize_guard.specs.Guards.{guard_collector};
-ghost use Rattle.seize_guard.specs.Registrations.{collector_of};
+ghost use Rattle.seize_guard.specs.Registrations.{registered_in};
 
 use crate::marked::{Marked, ends_of};
 use seize_guard::{Collector, LocalGuard, Pass, Refusal, Registration};
@@ -64,16 +64,17 @@ pub fn turn<'c, 'a, W: Wait>(
     rt: &W,
     pass: &mut Pass,
 ) -> Result<Seen, Refusal>
-    requires of { IsPassOf (collector_of registration.now) pass.old × (link < its_links (collector_of registration.now)) }
-    ensures pass { IsPassOf (collector_of registration.now) pass.new }
+    requires of { IsPassOf (registered_in registration.now) pass.old × (link < its_links (registered_in registration.now)) }
+    ensures pass { IsPassOf (registered_in registration.now) pass.new }
 {
     let marks = value.marks;
     let guard = registration.enter(pass)?;
-    let (found, early) = match guard.protect(link, pass) {
+    let shared = guard.protect(link, pass);
+    let replaced = replace(&guard, link, value, rt, pass);
+    let (found, early) = match &shared {
         Some(shared) => (1, ends_of(marks, shared.value)),
         None => (0, 0),
     };
-    let replaced = replace(&guard, link, value, rt, pass);
     guard.leave(rt, pass);
     let retired = replaced?;
     Ok(Seen {
@@ -109,8 +110,8 @@ fn work_by<'c, 'a, W: Wait>(
     rt: &W,
     pass: &mut Pass,
 ) -> Result<Seen, Refusal>
-    requires of { IsPassOf (collector_of registration.now) pass.old × (0 < its_links (collector_of registration.now)) }
-    ensures pass { IsPassOf (collector_of registration.now) pass.new }
+    requires of { IsPassOf (registered_in registration.now) pass.old × (0 < its_links (registered_in registration.now)) }
+    ensures pass { IsPassOf (registered_in registration.now) pass.new }
 {
     let mut all = Seen {
         found: 0,

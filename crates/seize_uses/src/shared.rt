@@ -1,7 +1,7 @@
 //! A number that threads share: each reads and replaces it, by a registration of its own.
 ghost use Rattle.std.specs.Prelude.{◌<◌};
 ghost use Rattle.seize_guard.specs.Collectors.{IsPassOf, its_links};
-ghost use Rattle.seize_guard.specs.Registrations.{collector_of};
+ghost use Rattle.seize_guard.specs.Registrations.{registered_in};
 
 use seize_guard::{Pass, Refusal, Registration};
 use std::sync::Wait;
@@ -12,9 +12,9 @@ pub fn read<W: Wait>(
     rt: &W,
     pass: &mut Pass,
 ) -> Result<Option<u64>, Refusal>
-    requires pass { IsPassOf (collector_of registration.now) pass.old }
-    requires link { 0 < its_links (collector_of registration.now) }
-    ensures pass { IsPassOf (collector_of registration.now) pass.new }
+    requires pass { IsPassOf (registered_in registration.now) pass.old }
+    requires link { 0 < its_links (registered_in registration.now) }
+    ensures pass { IsPassOf (registered_in registration.now) pass.new }
 {
     let guard = registration.enter(pass)?;
     let found = guard.protect(0, pass).map(|shared| *shared);
@@ -29,9 +29,9 @@ pub fn replace<W: Wait>(
     rt: &W,
     pass: &mut Pass,
 ) -> Result<(), Refusal>
-    requires pass { IsPassOf (collector_of registration.now) pass.old }
-    requires link { 0 < its_links (collector_of registration.now) }
-    ensures pass { IsPassOf (collector_of registration.now) pass.new }
+    requires pass { IsPassOf (registered_in registration.now) pass.old }
+    requires link { 0 < its_links (registered_in registration.now) }
+    ensures pass { IsPassOf (registered_in registration.now) pass.new }
 {
     let block = registration
         .collector()

@@ -16,7 +16,8 @@ pub struct Shared<'g, T> {
 }
 
 impl<'g, T> Shared<'g, T> {
-    ghost use Rattle.seize_guard.specs.Blocks.{shared_name, shared_value};
+    ghost use Rattle.std.specs.Prelude.{◌==◌};
+    ghost use Rattle.seize_guard.specs.Blocks.{shared_name, shared_value, shared_word};
 
     // The value that was found where the link showed this word.
     pub(crate) fn of(value: &'g T, word: u64, glimpse: Glimpse<'g>) -> Shared<'g, T>
@@ -28,6 +29,13 @@ impl<'g, T> Shared<'g, T> {
             word,
             glimpse,
         }
+    }
+
+    /// Whether both are of one block, where they are of one collector. Else it compares the numbers of two blocks alone.
+    pub fn same(&self, other: &Shared<'_, T>) -> bool
+        ensures { result ≡ (shared_word self.now == shared_word other.now) }
+    {
+        self.word == other.word
     }
 }
 

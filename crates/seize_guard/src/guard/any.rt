@@ -16,8 +16,8 @@ use crate::collector::Collector;
 use seize_words::book::Pass;
 use std::sync::Wait;
 
-/// A guard of a collector, of whichever kind. `LocalGuard` says of each call what it takes and where it waits. What comes out of a link
-/// counts as borrowed from the guard here, so generic code retires it before it refreshes.
+/// A guard of a collector, of whichever kind. `LocalGuard` and `OwnedGuard` say of each call what it takes and where it waits. What comes
+/// out of a link counts as borrowed from the guard here, so generic code retires it before it refreshes.
 pub trait Guard<T: Drop> {
     /// The collector.
     ghost guarded: { Self → Collector T };

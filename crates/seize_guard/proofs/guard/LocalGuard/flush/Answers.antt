@@ -1,17 +1,20 @@
-use Rattle.std.proofs.Common.{refl}
+use Rattle.std.proofs.Common.{ℕ, ◌-◌, ◌^◌, refl, sym, subst, ◌∙◌}
 use Rattle.seize_machine.specs.declared.machine.event.Job.TheVariants.{Flush}
 use Rattle.seize_calls.specs.Slots.{its_number}
-use Rattle.seize_guard.specs.Ends.{had_of}
-use Rattle.seize_guard.specs.Registrations.{slot_of}
-use Rattle.seize_guard.proofs.AtDesk.{desk_number, pass_for}
-use Rattle.seize_guard.proofs.Guarded.{call_after}
-use Rattle.seize_guard.proofs.Wholly.{slot_flushes}
+use Rattle.seize_guard.specs.Collectors.{its_book}
+use Rattle.seize_guard.specs.Guards.{guard_collector, guard_slot}
+use Rattle.seize_guard.specs.Makes.{MakesCall}
+use Rattle.seize_guard.proofs.Placed.{unit_as}
+use Rattle.seize_guard.proofs.Places.{guard_place, in_place}
 use Rattle.seize_guard.proofs.guard.LocalGuard.flush.Goals as goal
+
+pub with-requires : goal.with-requires
+with-requires g c =
+    let guard = c.args.self.now in let n = its_book (guard_collector guard) in let s = guard_slot guard in let reader = guard.reader in
+    λ r keeps. let at = in_place n s (2 ^ 64 - 1) r (keeps.0 ∙ guard_place guard) in
+    (at.0, (sym c.requires.of.0, sym c.requires.of.1), unit_as n n s (its_number r.slot) reader.unit reader.unit reader.seen refl at.1 refl (reader.its, reader.known))
 
 pub returns : goal.returns
 returns g c =
-    let r = c.args.self.now.registration.now in let slot = c.visited-slot.result.slot in let visited = c.visited-slot.ensures in let ready = c.visited-slot.new.pass in
-    let pass' = c.flush.new.pass in let ended = c.flush.new.reclaimer.ended in
-    call_after (its_number slot) (slot_of r) Flush c.args.pass.now ready pass' (desk_number r slot visited.visited.0.its) visited.none
-    (slot_flushes r.collector.now.words slot ready c.flush.new.self pass' c.flush.ensures.of.0.0 (pass_for r.collector.now c.args.pass.now ready c.requires.of visited.none.same) (had_of c.new.result.ended) (had_of ended) ended refl
-    c.flush.result c.flush.ensures.flushes)
+    let guard = c.args.self.now in let at = in_place (its_book (guard_collector guard)) (guard_slot guard) (2 ^ 64 - 1) c.with.ensures.before (c.with.ensures.was.0 ∙ guard_place guard) in
+    subst (λ (s : ℕ). MakesCall s Flush c.args.pass.now c.with.new.with) at.1 c.with.ensures.gives

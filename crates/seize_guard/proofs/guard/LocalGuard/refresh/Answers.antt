@@ -1,39 +1,29 @@
-use Rattle.std.proofs.Common.{arith, inl, refl, subst, ◌∙◌}
+use Rattle.std.proofs.Common.{ℕ, ◌⊎◌, ◌-◌, ◌^◌, refl, subst, ◌∙◌}
 use Rattle.seize_machine.specs.declared.machine.event.Job.TheVariants.{Refresh}
-use Rattle.seize_words.specs.Activations.{JoinsUnits}
-use Rattle.seize_words.specs.declared.activation.Activation.{Activation}
+use Rattle.seize_book.specs.declared.book.pass.Pass.{Pass}
 use Rattle.seize_calls.specs.Slots.{its_number}
-use Rattle.seize_guard.specs.Ends.{had_of}
-use Rattle.seize_guard.specs.Registrations.{slot_of}
-use Rattle.seize_guard.proofs.AtDesk.{desk_number, pass_for, unit_of, units_joined, units_within}
-use Rattle.seize_guard.proofs.Guarded.{call_after}
-use Rattle.seize_guard.proofs.Wholly.{slot_refreshes}
+use Rattle.seize_guard.specs.Collectors.{its_book}
+use Rattle.seize_guard.specs.Guards.{guard_collector, guard_slot}
+use Rattle.seize_guard.specs.Makes.{MakesCall, MakesNone}
+use Rattle.seize_guard.specs.Reservations.{IsUnit}
+use Rattle.seize_guard.proofs.Placed.{pass_as, unit_as}
+use Rattle.seize_guard.proofs.Places.{guard_place, in_place, one_of_two}
 use Rattle.seize_guard.proofs.guard.LocalGuard.refresh.Goals as goal
 
-pub refresh-requires : goal.refresh-requires
-refresh-requires g c =
-    let guard = c.args.self.now in let r = guard.registration.now in let slot = c.visited-visited.result.slot in let rest = c.visited-visited.result.rest in let visited = c.visited-visited.ensures in
-    let is = visited.visited.0 in
-    let joins = subst (λ (a : Activation). JoinsUnits rest a c.join.new.self) c.replace-unit.ensures.value c.join.ensures in
-    let units = units_joined rest guard.unit c.join.new.self c.visited-visited.result.guards joins guard.its.one is.units is.some in (
-      omega arith,
-      (
-        (visited.visited.1, pass_for r.collector.now c.args.pass.now c.visited-visited.new.pass c.requires.of visited.none.same, tt),
-        ((units_within slot rest c.join.new.self _ joins is.within, omega (arith, units, c.if-visited-ne1.false, is.some)), tt),
-      ),
-    )
+pub with-unit-requires : goal.with-unit-requires
+with-unit-requires g c =
+    let guard = c.args.self.now in let collector = guard_collector guard in let n = its_book collector in let s = guard_slot guard in let reader = guard.reader in
+    λ r keeps. let at = in_place n s (2 ^ 64 - 1) r (keeps.0 ∙ guard_place guard) in
+    (at.0, pass_as collector c.args.pass.now c.with-spare.new.with c.with-spare.ensures.gives c.requires.of, unit_as n n s (its_number r.slot) reader.unit c.replace-unit.result reader.seen refl at.1 c.replace-unit.ensures.value (reader.its, reader.known))
 
-pub invariant_of-self-2 : goal.invariant_of-self-2
-invariant_of-self-2 g c =
-    let r = c.args.self.now.registration.now in let slot = c.visited-visited.result.slot in let refreshes = c.refresh.ensures in
-    let unit = unit_of r c.refresh.new.self c.refresh.new.activation c.split-self.result c.seen.result refreshes.of (refreshes.refreshes.same.0 ∙ desk_number r slot c.visited-visited.ensures.visited.0.its) refreshes.inside.0
-    c.split-self.ensures.0 c.seen.ensures.0 c.seen.ensures.1 in
-    record { its = unit.0; known = unit.1 }
+pub invariant_of-reader : goal.invariant_of-reader
+invariant_of-reader g c =
+    let guard = c.args.self.now in let n = its_book (guard_collector guard) in
+    let at = in_place n (guard_slot guard) (2 ^ 64 - 1) c.with-unit.ensures.before (c.with-unit.ensures.was.0 ∙ guard_place guard) in
+    let unit = subst (λ (s : ℕ). IsUnit n s c.with-unit.result.0 c.with-unit.result.1) at.1 c.with-unit.ensures.gives.1 in record { its = unit.0; known = unit.1 }
 
 pub returns-clause-refreshes : goal.returns-clause-refreshes
 returns-clause-refreshes g c =
-    let r = c.args.self.now.registration.now in let slot = c.visited-visited.result.slot in let visited = c.visited-visited.ensures in let ready = c.visited-visited.new.pass in
-    let pass' = c.refresh.new.pass in let ended = c.refresh.new.reclaimer.ended in
-    inl (call_after (its_number slot) (slot_of r) Refresh c.args.pass.now ready pass' (desk_number r slot visited.visited.0.its) visited.none
-    (slot_refreshes r.collector.now.words slot ready c.refresh.new.self pass' c.refresh.ensures.of.0 (pass_for r.collector.now c.args.pass.now ready c.requires.of visited.none.same) (had_of c.new.result.ended) (had_of ended) ended refl
-    c.refresh.new.activation c.refresh.ensures.refreshes))
+    let guard = c.args.self.now in let gives = c.with-unit.ensures.gives in let pass = c.args.pass.now in let pass' = c.with-unit.new.with in
+    let at = in_place (its_book (guard_collector guard)) (guard_slot guard) (2 ^ 64 - 1) c.with-unit.ensures.before (c.with-unit.ensures.was.0 ∙ guard_place guard) in
+    subst (λ (t : ℕ × Pass). MakesCall t.0 Refresh t.1 pass' ⊎ MakesNone t.1 pass') (λ j. (at.1 j, c.with-spare.ensures.gives j)) (one_of_two gives.0)

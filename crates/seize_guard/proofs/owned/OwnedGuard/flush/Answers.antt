@@ -1,17 +1,19 @@
-use Rattle.std.proofs.Common.{ℕ, sym, subst, ◌∙◌}
+use Rattle.std.proofs.Common.{ℕ, refl, sym, subst, ◌∙◌}
 use Rattle.seize_machine.specs.declared.machine.event.Job.TheVariants.{Flush}
 use Rattle.seize_calls.specs.Slots.{its_number}
 use Rattle.seize_guard.specs.Collectors.{its_book}
 use Rattle.seize_guard.specs.Makes.{MakesCall}
-use Rattle.seize_guard.proofs.StayAt.{label_family, label_number}
+use Rattle.seize_guard.proofs.Placed.{unit_as}
+use Rattle.seize_guard.proofs.Places.{in_place}
 use Rattle.seize_guard.proofs.owned.OwnedGuard.flush.Goals as goal
 
 pub with-requires : goal.with-requires
 with-requires g c =
-    let guard = c.args.self.now in
-    λ stay keeps. (label_family stay.slot.seen.name (its_book guard.collector.now) (its_number stay.slot) guard.number (keeps.0 ∙ guard.at), (sym c.requires.of.0, sym c.requires.of.1))
+    let self = c.args.self.now in let reader = self.reader in let n = its_book reader.collector.now in
+    λ r keeps. let at = in_place n reader.number 1 r (keeps.0 ∙ self.at) in
+    (at.0, (sym c.requires.of.0, sym c.requires.of.1), unit_as n n reader.number (its_number r.slot) reader.unit reader.unit reader.seen refl at.1 refl (reader.its, reader.known))
 
 pub returns : goal.returns
 returns g c =
-    let guard = c.args.self.now in let stay = c.with.ensures.before in
-    subst (λ (s : ℕ). MakesCall s Flush c.args.pass.now c.with.new.with) (label_number stay.slot.seen.name (its_book guard.collector.now) (its_number stay.slot) guard.number (c.with.ensures.was.0 ∙ guard.at)) c.with.ensures.gives
+    let self = c.args.self.now in let at = in_place (its_book self.reader.collector.now) self.reader.number 1 c.with.ensures.before (c.with.ensures.was.0 ∙ self.at) in
+    subst (λ (s : ℕ). MakesCall s Flush c.args.pass.now c.with.new.with) at.1 c.with.ensures.gives

@@ -5,51 +5,37 @@ use Rattle.seize_machine.specs.declared.machine.event.Job.TheVariants.{Leave}
 use Rattle.seize_book.specs.Tokens.{Name}
 use Rattle.seize_calls.specs.Slots.{its_number}
 use Rattle.seize_guard.specs.Collectors.{its_book}
-use Rattle.seize_guard.specs.Ends.{had_of}
-use Rattle.seize_guard.specs.Makes.{MakesOne}
-use Rattle.seize_guard.proofs.AtDesk.{begun_learned, pass_for, units_within}
-use Rattle.seize_guard.proofs.Current.{slot_looks}
-use Rattle.seize_guard.proofs.Guarded.{call_after}
-use Rattle.seize_guard.proofs.Made.{none_learned, none_then}
-use Rattle.seize_guard.proofs.StayAt.{all_joined, for_guard, label_family, label_number, leaves_gives, stay_slot}
-use Rattle.seize_guard.proofs.Wholly.{slot_leaves}
+use Rattle.seize_guard.specs.Makes.{MakesCall, MakesOne}
+use Rattle.seize_guard.proofs.Placed.{at_none, placed_slot, still_for, unit_as}
+use Rattle.seize_guard.proofs.Places.{first_of_two, in_place, leaves_gives}
 use Rattle.seize_guard.proofs.owned.OwnedGuard.leave.Goals as goal
+
+pub work-requires : goal.work-requires
+work-requires g c =
+    let self = c.args.self in let reader = self.reader in let n = its_book reader.collector.now in let r = c.into_value-reservation.result in let kept = c.into_value-reservation.ensures in
+    let at = in_place n reader.number 1 r (kept.0 ∙ self.at) in
+    (kept.1, (at.0, (sym c.requires.of.0, sym c.requires.of.1), unit_as n n reader.number (its_number r.slot) reader.unit reader.unit reader.seen refl at.1 refl (reader.its, reader.known)))
 
 pub agree-requires : goal.agree-requires
 agree-requires g c =
-    let guard = c.args.self in let slot = c.into_value-slot.result.slot in
-    ap (λ (n : Name). n.family) c.seen.ensures.0 ∙ label_family slot.seen.name (its_book guard.collector.now) (its_number slot) guard.number (c.into_value-slot.ensures.0 ∙ guard.at)
+    let self = c.args.self in let reader = self.reader in let kept = c.into_value-reservation.ensures in
+    ap (λ (n : Name). n.family) c.seen.ensures.0 ∙ (in_place (its_book reader.collector.now) reader.number 1 c.work.new.r (c.work.ensures.0.0 ∙ kept.0 ∙ self.at)).0
 
-pub current-requires : goal.current-requires
-current-requires g c =
-    let guard = c.args.self in let collector = guard.collector.now in let stay = c.into_value-slot.result in let kept = c.into_value-slot.ensures in let pass = c.args.pass.now in let learned = c.learn.new.self in
-    let number = label_number stay.slot.seen.name (its_book collector) (its_number stay.slot) guard.number (kept.0 ∙ guard.at) in (
-      omega arith,
-      (
-        (stay_slot collector.words stay kept.1 (sym c.seen.ensures.0 ∙ c.agree.ensures), pass_for collector pass learned c.requires.of c.learn.ensures.0),
-        (guard.its.slot ∙ sym number, begun_learned (for_guard guard) guard.unit guard.seen pass learned (guard.its, guard.known) c.learn.ensures (guard.its.book ∙ sym c.requires.of.0)),
-      ),
-    )
-
-pub leave-requires : goal.leave-requires
-leave-requires g c =
-    let guard = c.args.self in let collector = guard.collector.now in let stay = c.into_value-slot.result in let is = c.into_value-slot.ensures.1 in let pass = c.args.pass.now in
-    let slot' = c.current.new.self in let ready = c.current.new.pass in let current = c.current.ensures in
-    let none = none_then (none_learned pass guard.seen c.learn.new.self c.learn.ensures) (slot_looks stay.slot c.learn.new.self slot' ready current.looks) in (
-      omega arith,
-      (
-        (current.of.0, pass_for collector pass ready c.requires.of none.same, tt),
-        ((units_within slot' stay.rest c.join.new.self _ c.join.ensures (current.of.1 stay.rest is.within), all_joined stay.rest guard.unit c.join.new.self c.join.ensures guard.its.one is.units), tt),
-      ),
+pub with-requires : goal.with-requires
+with-requires g c =
+    let self = c.args.self in let collector = self.reader.collector.now in let r = c.into_value-reservation.result in let is = c.into_value-reservation.ensures.1 in let r' = c.work.new.r in let is' = c.work.ensures.0.1 in
+    let at = in_place (its_book collector) self.reader.number 1 r (c.into_value-reservation.ensures.0 ∙ self.at) in
+    let call = first_of_two r.guards r.most is.fits at.2 c.work.ensures.1.0 in
+    λ numbers keeps. (
+      keeps.0 ∙ collector.numbered,
+      still_for collector.words c.args.pass.now c.work.new.pass (sym c.requires.of.0, sym c.requires.of.1) call.made.same,
+      (placed_slot collector.words r' is' (sym c.seen.ensures.0 ∙ c.agree.ensures), (at_none r'.slot r'.rest r'.guards (omega (arith, c.work.ensures.1.1, is.fits, at.2)) is'.at).0),
     )
 
 pub returns : goal.returns
 returns g c =
-    let guard = c.args.self in let collector = guard.collector.now in let stay = c.into_value-slot.result in let kept = c.into_value-slot.ensures in let pass = c.args.pass.now in
-    let slot' = c.current.new.self in let ready = c.current.new.pass in let current = c.current.ensures in let slot'' = c.leave.new.self in let left = c.leave.new.pass in let leave = c.leave.ensures in
-    let none = none_then (none_learned pass guard.seen c.learn.new.self c.learn.ensures) (slot_looks stay.slot c.learn.new.self slot' ready current.looks) in let ended = c.leave.new.reclaimer.ended in
-    let number = current.looks.0.same.0 ∙ label_number stay.slot.seen.name (its_book collector) (its_number stay.slot) guard.number (kept.0 ∙ guard.at) in
-    leaves_gives guard.number pass left c.with.new.with
-    (call_after (its_number slot') guard.number Leave pass ready left number none
-    (slot_leaves collector.words slot' ready slot'' left leave.of.0.0 (pass_for collector pass ready c.requires.of none.same) (had_of c.new.result.ended) (had_of ended) ended refl leave.leaves))
-    (subst (λ (s : ℕ). MakesOne left c.with.new.with (Give s) Done) (leave.leaves.same.0 ∙ number) c.with.ensures.gives)
+    let self = c.args.self in let n = its_book self.reader.collector.now in let r = c.into_value-reservation.result in let kept = c.into_value-reservation.ensures in let pass = c.args.pass.now in let left = c.work.new.pass in
+    let at = in_place n self.reader.number 1 r (kept.0 ∙ self.at) in let at' = in_place n self.reader.number 1 c.work.new.r (c.work.ensures.0.0 ∙ kept.0 ∙ self.at) in
+    leaves_gives self.reader.number pass left c.with.new.with
+    (subst (λ (s : ℕ). MakesCall s Leave pass left) at.1 (first_of_two r.guards r.most kept.1.fits at.2 c.work.ensures.1.0))
+    (subst (λ (s : ℕ). MakesOne left c.with.new.with (Give s) Done) at'.1 c.with.ensures.gives)

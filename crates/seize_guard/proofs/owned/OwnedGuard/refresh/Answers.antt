@@ -1,23 +1,27 @@
-use Rattle.std.proofs.Common.{ℕ, subst, ◌∙◌}
+use Rattle.std.proofs.Common.{ℕ, refl, subst, ◌∙◌}
+use Rattle.seize_machine.specs.declared.machine.event.Job.TheVariants.{Refresh}
+use Rattle.seize_book.specs.declared.book.pass.Pass.{Pass}
 use Rattle.seize_calls.specs.Slots.{its_number}
 use Rattle.seize_guard.specs.Collectors.{its_book}
-use Rattle.seize_guard.specs.Registrations.{IsUnitIn}
-use Rattle.seize_guard.proofs.AtDesk.{unit_as}
-use Rattle.seize_guard.proofs.StayAt.{label_family, label_number, pass_as}
+use Rattle.seize_guard.specs.Makes.{MakesCall}
+use Rattle.seize_guard.specs.Reservations.{IsUnit}
+use Rattle.seize_guard.proofs.Placed.{pass_as, unit_as}
+use Rattle.seize_guard.proofs.Places.{first_of_two, in_place}
 use Rattle.seize_guard.proofs.owned.OwnedGuard.refresh.Goals as goal
 
 pub with-unit-requires : goal.with-unit-requires
 with-unit-requires g c =
-    let guard = c.args.self.now in let n = its_book guard.collector.now in λ stay keeps. let at = keeps.0 ∙ guard.at in
-    let unit = unit_as n guard.number (its_number stay.slot) guard.unit c.replace-unit.result guard.seen (label_number stay.slot.seen.name n (its_number stay.slot) guard.number at) c.replace-unit.ensures.value guard.its guard.known in (
-      label_family stay.slot.seen.name n (its_number stay.slot) guard.number at,
-      pass_as guard.collector.now c.args.pass.now c.with-spare.new.with c.with-spare.ensures.gives c.requires.of,
-      unit.0,
-      unit.1,
-    )
+    let self = c.args.self.now in let reader = self.reader in let collector = reader.collector.now in let n = its_book collector in
+    λ r keeps. let at = in_place n reader.number 1 r (keeps.0 ∙ self.at) in
+    (at.0, pass_as collector c.args.pass.now c.with-spare.new.with c.with-spare.ensures.gives c.requires.of, unit_as n n reader.number (its_number r.slot) reader.unit c.replace-unit.result reader.seen refl at.1 c.replace-unit.ensures.value (reader.its, reader.known))
 
-pub invariant_of-self : goal.invariant_of-self
-invariant_of-self g c =
-    let guard = c.args.self.now in let n = its_book guard.collector.now in let stay = c.with-unit.ensures.before in let gives = c.with-unit.ensures.gives in
-    let number = label_number stay.slot.seen.name n (its_number stay.slot) guard.number (c.with-unit.ensures.was.0 ∙ guard.at) in
-    record { its = subst (λ (s : ℕ). IsUnitIn n s c.with-unit.result.0 c.with-unit.result.1) number gives.1; known = gives.2; at = guard.at }
+pub invariant_of-reader : goal.invariant_of-reader
+invariant_of-reader g c =
+    let self = c.args.self.now in let n = its_book self.reader.collector.now in let at = in_place n self.reader.number 1 c.with-unit.ensures.before (c.with-unit.ensures.was.0 ∙ self.at) in
+    let unit = subst (λ (s : ℕ). IsUnit n s c.with-unit.result.0 c.with-unit.result.1) at.1 c.with-unit.ensures.gives.1 in record { its = unit.0; known = unit.1 }
+
+pub returns-clause-refreshes : goal.returns-clause-refreshes
+returns-clause-refreshes g c =
+    let self = c.args.self.now in let with = c.with-unit.ensures in let pass' = c.with-unit.new.with in
+    let at = in_place (its_book self.reader.collector.now) self.reader.number 1 with.before (with.was.0 ∙ self.at) in
+    subst (λ (t : ℕ × Pass). MakesCall t.0 Refresh t.1 pass') (λ j. (at.1 j, c.with-spare.ensures.gives j)) (first_of_two with.before.guards with.before.most with.was.1.fits at.2 with.gives.0)

@@ -1,28 +1,39 @@
-use Rattle.std.proofs.Common.{ℕ, ap, sym, subst, ◌∙◌}
+use Rattle.std.proofs.Common.{ℕ, ◌-◌, ◌^◌, ap, arith, sym, subst, ◌∙◌}
 use Rattle.seize_machine.specs.Machine.Event.{Give}
 use Rattle.seize_machine.specs.declared.machine.event.Answer.TheVariants.{Done}
 use Rattle.seize_book.specs.Tokens.{Name}
-use Rattle.seize_guard.specs.Makes.{MakesOne}
-use Rattle.seize_guard.proofs.AtDesk.{desk_family, desk_number, desk_slot, still_active}
+use Rattle.seize_guard.specs.Collectors.{its_book}
+use Rattle.seize_guard.specs.Makes.{IsActiveIn, MakesOne}
+use Rattle.seize_guard.proofs.Placed.{at_none, placed_slot}
+use Rattle.seize_guard.proofs.Places.{in_place}
 use Rattle.seize_guard.proofs.registration.Registration.end.Goals as goal
 
 pub agree-requires : goal.agree-requires
-agree-requires g c = ap (λ (n : Name). n.family) c.seen.ensures.0 ∙ desk_family c.args.self c.in-Idle.idle.slot c.in-Idle.ensures.0.0
+agree-requires g c =
+    let self = c.args.self in let r = c.into_value-reservation.result in
+    ap (λ (n : Name). n.family) c.seen.ensures.0 ∙ (in_place (its_book self.collector.now) self.number (2 ^ 64 - 1) r (c.into_value-reservation.ensures.0 ∙ self.at)).0
 
 pub with-requires : goal.with-requires
 with-requires g c =
-    let r = c.args.self in let slot = c.in-Idle.idle.slot in let at = c.in-Idle.ensures.0.0 in
-    λ numbers keeps. (keeps.0 ∙ r.collector.now.numbered, (sym c.requires.pass.0, sym c.requires.pass.1), (desk_slot r slot at (sym c.seen.ensures.0 ∙ c.agree.ensures), c.in-Idle.ensures.0.1))
+    let self = c.args.self in let collector = self.collector.now in let r = c.into_value-reservation.result in let is = c.into_value-reservation.ensures.1 in
+    λ numbers keeps. (
+      keeps.0 ∙ collector.numbered,
+      (sym c.requires.pass.0, sym c.requires.pass.1),
+      (placed_slot collector.words r is (sym c.seen.ensures.0 ∙ c.agree.ensures), (at_none r.slot r.rest r.guards (omega (arith, c.if-reservation-gt0.false)) is.at).0),
+    )
 
-pub agree-requires-in-Visited : goal.agree-requires-in-Visited
-agree-requires-in-Visited g c = ap (λ (n : Name). n.family) c.seen-in-Visited.ensures.0 ∙ desk_family c.args.self c.in-Visited.visited.slot c.in-Visited.ensures.0.its
+pub look-requires : goal.look-requires
+look-requires g c =
+    let self = c.args.self in let r = c.into_value-reservation.result in let kept = c.into_value-reservation.ensures in
+    let at = in_place (its_book self.collector.now) self.number (2 ^ 64 - 1) r (kept.0 ∙ self.at) in
+    (omega arith, ((kept.1, at.0, (sym c.requires.pass.0, sym c.requires.pass.1)), omega (arith, c.if-reservation-gt0.true)))
 
-pub returns-in-Idle : goal.returns-in-Idle
-returns-in-Idle g c =
-    subst (λ (s : ℕ). MakesOne c.args.pass.now c.with.new.with (Give s) Done) (desk_number c.args.self c.in-Idle.idle.slot c.in-Idle.ensures.0.0) c.with.ensures.gives
+pub returns-then-reservation-gt0 : goal.returns-then-reservation-gt0
+returns-then-reservation-gt0 g c =
+    let self = c.args.self in let at = in_place (its_book self.collector.now) self.number (2 ^ 64 - 1) c.into_value-reservation.result (c.into_value-reservation.ensures.0 ∙ self.at) in
+    (c.look.ensures.active.0, subst (IsActiveIn c.look.new.pass) at.1 c.look.ensures.active.1)
 
-pub returns-in-Visited : goal.returns-in-Visited
-returns-in-Visited g c =
-    let current = c.current.ensures in
-    still_active c.args.self c.in-Visited.visited.slot c.args.pass.now c.teach.new.pass c.current.new.self c.current.new.pass c.in-Visited.ensures.0.its
-    (sym c.seen-in-Visited.ensures.0 ∙ c.agree-in-Visited.ensures) c.requires.pass c.teach.ensures current.looks current.within.0
+pub returns : goal.returns
+returns g c =
+    let self = c.args.self in let at = in_place (its_book self.collector.now) self.number (2 ^ 64 - 1) c.into_value-reservation.result (c.into_value-reservation.ensures.0 ∙ self.at) in
+    subst (λ (s : ℕ). MakesOne c.args.pass.now c.with.new.with (Give s) Done) at.1 c.with.ensures.gives
