@@ -170,22 +170,6 @@ fn piped<R: Clock + CpuClock + Threads + Sync, T: Drop + Send, F: Fn(u64) -> io:
     Ok(())
 }
 
-pub(crate) fn pipe<R: Clock + CpuClock + Threads + Sync>(
-    rt: &R,
-    alloc: Global,
-    samples: &mut Samples,
-) -> io::Result<()> {
-    let store = Store::new(alloc, &Family::new(0));
-    piped(
-        rt,
-        alloc,
-        samples,
-        &|value| -> io::Result<Owned<u64, (), u64>>
-            requires { family_in (store_name store) ≡ 0 }
-        { block(&store, value) },
-    )
-}
-
 pub(crate) fn pipe_box<R: Clock + CpuClock + Threads + Sync>(
     rt: &R,
     alloc: Global,

@@ -5,13 +5,10 @@
 
 mod blocks;
 mod clock;
-mod dropping;
+mod guards;
 mod lookups;
-mod record;
-mod slots;
+mod swaps;
 mod team;
-mod visitor;
-mod words;
 mod work;
 
 use clock::Report;

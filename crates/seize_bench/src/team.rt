@@ -61,59 +61,39 @@ fn both(one: (Span, u64), two: (Span, u64)) -> (Span, u64) {
     (one.0.joined(two.0), one.1.wrapping_add(two.1))
 }
 
-fn alone<R: Clock + CpuClock, F: Fn() -> io::Result<u64>>(
+fn pair<R: Threads + Sync, F: Fn() -> io::Result<(Span, u64)> + Sync>(
     rt: &R,
-    team: &Team,
     work: &F,
 ) -> io::Result<(Span, u64)>
     requires { F.IsAlwaysCallable work.now }
 {
-    let (span, sum) = team.timed(rt, work)?;
-    Ok((span, sum?))
-}
-
-fn pair<R: Clock + CpuClock + Threads + Sync, F: Fn() -> io::Result<u64> + Sync>(
-    rt: &R,
-    team: &Team,
-    work: &F,
-) -> io::Result<(Span, u64)>
-    requires { F.IsAlwaysCallable work.now }
-{
-    let (one, two) = thread::join(
-        rt,
-        || -> io::Result<(Span, u64)>
-            requires { F.IsAlwaysCallable work.now }
-        { alone(rt, team, work) },
-        || -> io::Result<(Span, u64)>
-            requires { F.IsAlwaysCallable work.now }
-        { alone(rt, team, work) },
-    );
+    let (one, two) = thread::join(rt, work, work);
     Ok(both(one?, two?))
 }
 
-fn one_run<R: Clock + CpuClock + Threads + Sync, F: Fn() -> io::Result<u64> + Sync>(
+/// A run in which 1, 2 or 4 threads each do the work, which is timed by a team of so many.
+pub(crate) fn one_run<R: Threads + Sync, F: Fn() -> io::Result<(Span, u64)> + Sync>(
     rt: &R,
     threads: u64,
     work: &F,
 ) -> io::Result<(Span, u64)>
     requires { F.IsAlwaysCallable work.now }
 {
-    let team = Team::of(threads);
     match threads {
         4 => {
             let (one, two) = thread::join(
                 rt,
                 || -> io::Result<(Span, u64)>
                     requires { F.IsAlwaysCallable work.now }
-                { pair(rt, &team, work) },
+                { pair(rt, work) },
                 || -> io::Result<(Span, u64)>
                     requires { F.IsAlwaysCallable work.now }
-                { pair(rt, &team, work) },
+                { pair(rt, work) },
             );
             Ok(both(one?, two?))
         }
-        2 => pair(rt, &team, work),
-        _ => alone(rt, &team, work),
+        2 => pair(rt, work),
+        _ => work(),
     }
 }
 
@@ -128,7 +108,17 @@ pub(crate) fn runs<R: Clock + CpuClock + Threads + Sync, F: Fn() -> io::Result<u
     requires { F.IsAlwaysCallable work.now }
 {
     for _ in 0..RUNS {
-        let (span, sum) = one_run(rt, threads, work)?;
+        let team = Team::of(threads);
+        let (span, sum) = one_run(
+            rt,
+            threads,
+            &|| -> io::Result<(Span, u64)>
+                requires { F.IsAlwaysCallable work.now }
+            {
+                let (span, sum) = team.timed(rt, work)?;
+                Ok((span, sum?))
+            },
+        )?;
         samples.add(span, threads, count, sum)?;
     }
     Ok(())

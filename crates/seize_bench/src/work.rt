@@ -1,9 +1,8 @@
-//! The works by their names. `blocks` makes and ends blocks, `lookups` finds them, `words` steps on words, and `slots` makes whole
-//! calls of slots.
+//! The works by their names. `blocks` makes and ends blocks, `lookups` finds them, `swaps` swaps a word, and `guards` makes the calls of
+//! registrations and guards.
 use crate::clock::{Report, Samples};
-use crate::slots::Job;
-use crate::visitor::ROW;
-use crate::{blocks, lookups, slots, words};
+use crate::guards::{Job, ROW, Turns};
+use crate::{blocks, guards, lookups, swaps};
 use std::alloc::Global;
 use std::io;
 use std::rt::Clock;
@@ -11,7 +10,7 @@ use std::sync::Wait;
 use std::thread::Threads;
 use std::time::CpuClock;
 
-/// How many links a slot goes on from one turn to the next where it has 1,024.
+/// How many links a thread goes on from one turn to the next where it has 1,024.
 const STEP: u64 = 389;
 
 /// What is timed.
@@ -23,9 +22,7 @@ pub(crate) enum Work {
     MakeBare,
     /// A box made and ended.
     MakeBox,
-    /// One thread makes blocks, and another ends them.
-    Pipe,
-    /// The same with boxes.
+    /// One thread makes boxes, and another ends them.
     PipeBox,
     /// 1,024 numbers looked up, and their headers read.
     Look,
@@ -35,55 +32,74 @@ pub(crate) enum Work {
     LookPlain,
     /// The same where what the references lead to lies as far apart as chunks do.
     LookWide,
-    /// A head entered and swapped out, by a slot of each thread.
+    /// A word of the thread's own swapped.
+    Swap,
+    /// A registration enters, and its guard leaves.
     Enter,
-    /// One link swapped by all threads, each time for nothing.
-    Exchange1,
-    /// 1,024 links read by a slot of each thread, which enters before and leaves after.
-    Read1k,
-    /// 1,024 links read by all threads, which share one activation.
-    Protect1k,
-    /// One link read by a slot of each thread, which enters before and leaves after.
+    /// The same beside a guard that stands.
+    Nested,
+    /// A registration enters, reads the one link of all threads, and leaves.
     Read1,
-    /// A new value put into one link and what was there retired, by a slot that enters before and leaves after. 32 fill a batch.
+    /// The same with 1,024 links, one after the other.
+    Read1k,
+    /// 1,024 links read, with the values there, by a registration that enters before and leaves after.
+    See1k,
+    /// A registration enters, puts a new block into the one link of all threads, retires what was there, and leaves. 32 fill a batch.
     Update1,
     /// The same with 1,024 links, one after the other.
     Update1k,
     /// The same where each value fills a batch.
     Update1kB1,
-    /// A new value retired that was never in a link. 32 fill a batch; the slot enters before them and leaves after.
-    Retire,
+    /// `Update1k`, but that nine turns of ten read.
+    Mix10,
     /// `Update1k`, but that every other turn reads.
     Mix50,
     /// `Update1k`, but that every tenth turn reads.
     Mix90,
+    /// A new block retired that was in no link. 32 fill a batch; the registration enters before them and leaves after.
+    Retire,
+    /// One thread puts new blocks into links, and another takes them out and retires them.
+    Pipe,
+    /// The one link of all threads swapped for nothing, with a guard for each swap.
+    Exchange1,
+    /// 1,024 links read, with the values there, by all threads under one guard.
+    SharedRead,
+    /// New blocks put into 1,024 links, and what was there retired, by all threads under one guard.
+    SharedUpdate,
 }
+
+/// All of them.
+const ALL: [Work; 25] = [
+    Work::Make,
+    Work::MakeBare,
+    Work::MakeBox,
+    Work::PipeBox,
+    Work::Look,
+    Work::Token,
+    Work::LookPlain,
+    Work::LookWide,
+    Work::Swap,
+    Work::Enter,
+    Work::Nested,
+    Work::Read1,
+    Work::Read1k,
+    Work::See1k,
+    Work::Update1,
+    Work::Update1k,
+    Work::Update1kB1,
+    Work::Mix10,
+    Work::Mix50,
+    Work::Mix90,
+    Work::Retire,
+    Work::Pipe,
+    Work::Exchange1,
+    Work::SharedRead,
+    Work::SharedUpdate,
+];
 
 impl Work {
     pub(crate) fn named(word: &str) -> Option<Work> {
-        match word {
-            "Make" => Some(Work::Make),
-            "MakeBare" => Some(Work::MakeBare),
-            "MakeBox" => Some(Work::MakeBox),
-            "Pipe" => Some(Work::Pipe),
-            "PipeBox" => Some(Work::PipeBox),
-            "Look" => Some(Work::Look),
-            "Token" => Some(Work::Token),
-            "LookPlain" => Some(Work::LookPlain),
-            "LookWide" => Some(Work::LookWide),
-            "Enter" => Some(Work::Enter),
-            "Exchange1" => Some(Work::Exchange1),
-            "Read1k" => Some(Work::Read1k),
-            "Protect1k" => Some(Work::Protect1k),
-            "Read1" => Some(Work::Read1),
-            "Update1" => Some(Work::Update1),
-            "Update1k" => Some(Work::Update1k),
-            "Update1kB1" => Some(Work::Update1kB1),
-            "Retire" => Some(Work::Retire),
-            "Mix50" => Some(Work::Mix50),
-            "Mix90" => Some(Work::Mix90),
-            _ => None,
-        }
+        ALL.iter().copied().find(|work| work.name() == word)
     }
 
     pub(crate) fn name(self) -> &'static str {
@@ -91,23 +107,28 @@ impl Work {
             Work::Make => "Make",
             Work::MakeBare => "MakeBare",
             Work::MakeBox => "MakeBox",
-            Work::Pipe => "Pipe",
             Work::PipeBox => "PipeBox",
             Work::Look => "Look",
             Work::Token => "Token",
             Work::LookPlain => "LookPlain",
             Work::LookWide => "LookWide",
+            Work::Swap => "Swap",
             Work::Enter => "Enter",
-            Work::Exchange1 => "Exchange1",
-            Work::Read1k => "Read1k",
-            Work::Protect1k => "Protect1k",
+            Work::Nested => "Nested",
             Work::Read1 => "Read1",
+            Work::Read1k => "Read1k",
+            Work::See1k => "See1k",
             Work::Update1 => "Update1",
             Work::Update1k => "Update1k",
             Work::Update1kB1 => "Update1kB1",
-            Work::Retire => "Retire",
+            Work::Mix10 => "Mix10",
             Work::Mix50 => "Mix50",
             Work::Mix90 => "Mix90",
+            Work::Retire => "Retire",
+            Work::Pipe => "Pipe",
+            Work::Exchange1 => "Exchange1",
+            Work::SharedRead => "SharedRead",
+            Work::SharedUpdate => "SharedUpdate",
         }
     }
 
@@ -131,16 +152,22 @@ impl Work {
         }
     }
 
-    // What a slot does in it.
-    fn job(self) -> Job {
+    // What a thread does in it.
+    fn turns(self) -> Turns {
         match self {
-            Work::Update1 => Job::update(0, 32, 100),
-            Work::Update1k => Job::update(STEP, 32, 100),
-            Work::Update1kB1 => Job::update(STEP, 1, 100),
-            Work::Mix50 => Job::update(STEP, 32, 50),
-            Work::Mix90 => Job::update(STEP, 32, 90),
-            Work::Retire => Job::retire(),
-            _ => Job::read(),
+            Work::Enter => Turns::of(Job::Enter, 50_000, 1),
+            Work::Nested => Turns::of(Job::Nested, 100_000, 1),
+            Work::Read1k => Turns::visits(STEP, 32, 0),
+            Work::See1k | Work::SharedRead => Turns::see(),
+            Work::Update1 => Turns::visits(0, 32, 100),
+            Work::Update1k | Work::SharedUpdate => Turns::visits(STEP, 32, 100),
+            Work::Update1kB1 => Turns::visits(STEP, 1, 100),
+            Work::Mix10 => Turns::visits(STEP, 32, 10),
+            Work::Mix50 => Turns::visits(STEP, 32, 50),
+            Work::Mix90 => Turns::visits(STEP, 32, 90),
+            Work::Retire => Turns::retire(),
+            Work::Exchange1 => Turns::of(Job::Exchange, 50_000, 1),
+            _ => Turns::visits(0, 32, 0),
         }
     }
 
@@ -148,9 +175,9 @@ impl Work {
     pub(crate) fn peak(self, threads: u64) -> u64 {
         match self {
             Work::Make | Work::MakeBare | Work::MakeBox => threads,
-            Work::Pipe | Work::PipeBox => 2 * blocks::PIPED,
+            Work::PipeBox => 2 * blocks::PIPED,
             Work::Look | Work::Token | Work::LookPlain | Work::LookWide => lookups::STAND,
-            Work::Read1 => ROW as u64,
+            Work::Read1 | Work::Read1k | Work::See1k | Work::SharedRead => ROW as u64,
             _ => 0,
         }
     }
@@ -166,17 +193,17 @@ impl Work {
             Work::Make => blocks::make(rt, threads, alloc, &mut samples)?,
             Work::MakeBare => blocks::make_bare(rt, threads, alloc, &mut samples)?,
             Work::MakeBox => blocks::make_box(rt, threads, alloc, &mut samples)?,
-            Work::Pipe => blocks::pipe(rt, alloc, &mut samples)?,
             Work::PipeBox => blocks::pipe_box(rt, alloc, &mut samples)?,
             Work::Look => lookups::look(rt, threads, alloc, &mut samples)?,
             Work::Token => lookups::token(rt, threads, alloc, &mut samples)?,
             Work::LookPlain => lookups::look_plain(rt, threads, alloc, &mut samples)?,
             Work::LookWide => lookups::look_wide(rt, threads, alloc, &mut samples)?,
-            Work::Enter => words::enter(rt, threads, alloc, &mut samples)?,
-            Work::Exchange1 => words::exchange(rt, threads, alloc, &mut samples)?,
-            Work::Read1k => words::read(rt, threads, alloc, &mut samples)?,
-            Work::Protect1k => words::protect(rt, threads, alloc, &mut samples)?,
-            _ => slots::measure(rt, threads, alloc, self.job(), &mut samples)?,
+            Work::Swap => swaps::swap(rt, threads, &mut samples)?,
+            Work::Pipe => guards::pipe(rt, alloc, &mut samples)?,
+            Work::SharedRead | Work::SharedUpdate => {
+                guards::measure_shared(rt, threads, alloc, self.turns(), &mut samples)?
+            }
+            _ => guards::measure(rt, threads, alloc, self.turns(), &mut samples)?,
         }
         Ok(samples.report())
     }

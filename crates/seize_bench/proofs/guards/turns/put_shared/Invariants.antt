@@ -1,0 +1,6 @@
+use Rattle.seize_guard.specs.Collectors.{IsPassOf}
+use Rattle.seize_guard.specs.OwnedGuards.{owned_collector}
+use Rattle.seize_bench.proofs.guards.turns.put_shared.Given as goal
+
+abbrev pub invariant-loop-turn : goal.invariant-loop-turn
+invariant-loop-turn g l = IsPassOf (owned_collector l.guard) l.pass
