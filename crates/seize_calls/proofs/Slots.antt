@@ -158,11 +158,10 @@ module _ {T : Type 0} (s : Slot T) (p : Pass) (ready : Ready s.seen p) (key' : S
 
 module _ {T : Type 0} (s : Slot T) (p : Pass) (key' : SlotKey) (pass' : Pass) where
   -- entering leaves the slot's record
-  pub stays_entered : (a : Activation) → AddsDeed s.key p key' pass' (beginning p a.life (Enter s.number)) → IsInUse s → IsInactive s → slot_of key' ≡ slot_of s.key
+  pub stays_entered : (a : Activation) → AddsDeed s.key p key' pass' (beginning p a.life (Enter (slot_number s.key))) → IsInUse s → IsInactive s → slot_of key' ≡ slot_of s.key
   stays_entered a notes used off =
       let n = notes.2.0 in
-      entered_so s.key key' n.before p a.life n.later n.answer (subst (λ (k : ℕ). Moves s.key key' n.before (beginning p a.life (Enter k)) n.later n.answer) (sym s.together.numbered) notes.2.1)
-      (idle_in s used) off
+      entered_so s.key key' n.before p a.life n.later n.answer notes.2.1 (idle_in s used) off
 
   -- a slot that is there is so before its event
   pub there_before : Ready s.seen p → (e : Event) → (notes : AddsEvent s.key p key' pass' e) → slot_number s.key < length (state_before s.key key' p pass' e [] notes).slots

@@ -6,6 +6,7 @@
 --                              Both are of the slot's value alone, so no event of others ends them
 --     its_number slot, its_book slot, its_key slot, its_batch slot, its_seen slot     its number, its book, its key, the keys of its
 --                              batch, and what its passes have seen
+--     IsItsHead slot head      it is the slot's own head
 --     KeepsCalls slot slot'    all these are the same
 --     MakesOneSlot numbers next pass numbers' slot next' pass'     the slot was made (MakesNextSlot), and has seen what the pass has
 --     IsPassFor words pass     it is a pass of their book, with their batch size
@@ -44,12 +45,14 @@ use Rattle.seize_book.specs.declared.book.value_keys.ValueKeys.{ValueKeys}
 use Rattle.seize_words.specs.Activations.{HasAllUnits}
 use Rattle.seize_words.specs.Joined.{words_book}
 use Rattle.seize_words.specs.LinkWords.{value_held}
-use Rattle.seize_words.specs.Reservations.{IsOfSlot, beginning}
+use Rattle.seize_words.specs.Named.{head_book}
+use Rattle.seize_words.specs.Reservations.{IsOfSlot, beginning, slot as head_slot}
 use Rattle.seize_words.specs.Reserved.{MakesNextSlot}
 use Rattle.seize_words.specs.declared.activation.Activation.{Activation}
 use Rattle.seize_words.specs.declared.slots.next.NextSlot.{NextSlot}
 use Rattle.seize_words.specs.Walks.{Knows}
 use Rattle.seize_words.specs.declared.link.MaybeKey.{MaybeKey}
+use Rattle.seize_words.specs.declared.reservation.Head.{Head}
 use Rattle.seize_words.specs.declared.words.Words.{Words}
 use Rattle.seize_calls.specs.Batches.{keys_in}
 use Rattle.seize_calls.specs.Calls.{Flushes, HasBegun, Leaves, RetiresOne}
@@ -95,6 +98,9 @@ its_batch slot = keys_in slot.batch
 
 abbrev pub its_seen : {T : Type 0} → Slot T → List Entry
 its_seen slot = slot.seen.seen
+
+abbrev pub IsItsHead : {T : Type 0} → Slot T → Head → Type 0
+IsItsHead slot head = (head_book head ≡ slot.seen.name) × (head_slot head ≡ slot.number)
 
 abbrev pub KeepsCalls : {T : Type 0} → Slot T → Slot T → Type 0
 KeepsCalls slot slot' =

@@ -125,7 +125,7 @@ impl<T: Drop, R: Lightens<T>> Drainer<T, R> for Alone {
 /// attempted where it has `size` values or more: the batch size of the pass.
 ///
 /// It takes no memory, but for what the reclaimer does, and waits as its manner does. Where the queue is empty it compares one word.
-#[inline]
+#[inline(always)]
 pub fn drain<T: Drop, R: Reclaim<T>, M: Drainer<T, R>>(
     slots: &Slots,
     blocks: &Blocks<T>,

@@ -17,6 +17,7 @@ use seize_words::blocks::Blocks;
 use seize_words::book::{NumbersKey, Pass, Seen, SlotKey, ValueKey};
 use seize_words::chunk::{Header, Part};
 use seize_words::link::MaybeKey;
+use seize_words::reservation::Head;
 use seize_words::slots::NextSlot;
 use seize_words::words::Words;
 use std::alloc::Global;
@@ -103,7 +104,7 @@ impl<T: Drop> Slot<T> {
     ghost use Rattle.seize_calls.specs.Slots.{KeepsCalls, MakesOneSlot, Prepares, SetsUse, its_book, its_key, its_number, its_seen};
     ghost use Rattle.seize_calls.specs.Calls.{HasBegun};
     ghost use Rattle.seize_calls.specs.Slots.{HasActivation, InActivation, IsLooseOf, IsPassFor, KeepsActivation, MayEnterWith};
-    ghost use Rattle.seize_calls.specs.Slots.{IsActive, IsFreeSlotOf, IsInactive, IsSlotOf};
+    ghost use Rattle.seize_calls.specs.Slots.{IsActive, IsFreeSlotOf, IsInactive, IsItsHead, IsOfWords, IsSlotOf};
     ghost use Rattle.seize_calls.specs.Slots.{SlotEnters, SlotFlushes, SlotGives, SlotLeaves, SlotLooks, SlotRefreshes, SlotRetires, SlotTakes};
 
     /// Makes the slot that comes next, which is inactive and has no batch. It takes memory for its list of spots first, and for a bucket of
@@ -267,18 +268,38 @@ impl<T: Drop> Slot<T> {
         self.seen.learn(pass);
     }
 
-    /// The slot enters, which begins the activation.
+    /// Its head, which stays where it is for as long as the words. The pass learns what the slot has seen and looks at the list; no event
+    /// is made with it.
     ///
-    /// It takes no memory and waits for nobody: the look-up of the slot's head, and one atomic swap.
-    pub fn enter(&mut self, words: &Words<T>, activation: &mut Activation, pass: &mut Pass)
-        requires of { IsSlotOf words.now self.old × IsPassFor words.now pass.old }
+    /// It takes no memory: the look-up of the head, as `Slots::head`.
+    pub fn head<'w>(&self, words: &'w Words<T>, pass: &mut Pass) -> &'w Head
+        requires of { IsOfWords words.now self.now × IsPassFor words.now pass.old }
+        ensures head { IsItsHead self.now result.now }
+        ensures pass { Prepares self.now pass.old pass.new }
+    {
+        pass.learn(&self.seen);
+        words.slots.head(self.number, pass)
+    }
+
+    /// The slot enters by its head, which begins the activation.
+    ///
+    /// It takes no memory and waits for nobody: one atomic swap.
+    pub fn enter(
+        &mut self,
+        _words: &Words<T>,
+        head: &Head,
+        activation: &mut Activation,
+        pass: &mut Pass,
+    )
+        requires of { IsSlotOf _words.now self.old × IsPassFor _words.now pass.old }
+        requires head { IsItsHead self.old head.now }
         requires outside { MayEnterWith self.old activation.old }
-        ensures of { IsSlotOf words.now self.new }
+        ensures of { IsSlotOf _words.now self.new }
         ensures activation { HasActivation self.new activation.new }
         ensures enters { SlotEnters self.old pass.old activation.new self.new pass.new }
     {
         pass.learn(&self.seen);
-        words.enter_head(self.number, activation, &mut self.key, pass);
+        head.enter(activation, &mut self.key, pass);
         self.seen.learn(pass);
     }
 
@@ -356,19 +377,21 @@ impl<T: Drop> Slot<T> {
         retired
     }
 
-    /// The slot leaves, and may enter with the same activation again. It counts down what waited for it, and hands what is given up. What
-    /// reclaimers put meanwhile joins the slot's batch, as with `retire`.
+    /// The slot leaves by its head, and may enter with the same activation again. It counts down what waited for it, and hands what is
+    /// given up. What reclaimers put meanwhile joins the slot's batch, as with `retire`.
     ///
     /// It takes no memory and waits as `retire` does.
     pub fn leave<R: Reclaim<T>, M: Drainer<T, R>>(
         &mut self,
         words: &Words<T>,
+        head: &Head,
         activation: &mut Activation,
         reclaimer: &mut R,
         pass: &mut Pass,
         manner: &M,
     )
         requires of { IsSlotOf words.now self.old × IsPassFor words.now pass.old × M.may manner.now pass.old.id }
+        requires head { IsItsHead self.old head.now }
         requires inside { HasActivation self.old activation.old }
         requires serves { R.serves reclaimer.old (words_book words.now) }
         ensures of { IsSlotOf words.now self.new × MayEnterWith self.new activation.new }
@@ -376,7 +399,6 @@ impl<T: Drop> Slot<T> {
         ensures leaves { SlotLeaves self.old pass.old (R.had reclaimer.old) self.new pass.new (R.had reclaimer.new) }
     {
         pass.learn(&self.seen);
-        let head = words.slots.head(self.number, pass);
         calls::leave(
             &words.slots,
             head,
@@ -393,19 +415,21 @@ impl<T: Drop> Slot<T> {
         self.seen.learn(pass);
     }
 
-    /// The slot refreshes: it ends its activation and begins another, and stays active. It counts down what waited for it, and hands what
-    /// is given up. What reclaimers put meanwhile joins the slot's batch, as with `retire`.
+    /// The slot refreshes by its head: it ends its activation and begins another, and stays active. It counts down what waited for it, and
+    /// hands what is given up. What reclaimers put meanwhile joins the slot's batch, as with `retire`.
     ///
     /// It takes no memory and waits as `retire` does.
     pub fn refresh<R: Reclaim<T>, M: Drainer<T, R>>(
         &mut self,
         words: &Words<T>,
+        head: &Head,
         activation: &mut Activation,
         reclaimer: &mut R,
         pass: &mut Pass,
         manner: &M,
     )
         requires of { IsSlotOf words.now self.old × IsPassFor words.now pass.old × M.may manner.now pass.old.id }
+        requires head { IsItsHead self.old head.now }
         requires inside { HasActivation self.old activation.old }
         requires serves { R.serves reclaimer.old (words_book words.now) }
         ensures of { IsSlotOf words.now self.new }
@@ -415,7 +439,6 @@ impl<T: Drop> Slot<T> {
             SlotRefreshes self.old pass.old activation.new had self.new pass.new (R.had reclaimer.new) }
     {
         pass.learn(&self.seen);
-        let head = words.slots.head(self.number, pass);
         calls::refresh(
             &words.slots,
             head,

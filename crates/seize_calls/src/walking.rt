@@ -58,7 +58,7 @@ pub fn walk<T: Drop>(
 /// reclaimer puts joins the call's queue.
 ///
 /// It takes no memory and waits for nobody, but for what the reclaimer does. Where no batch waits it compares one word.
-#[inline]
+#[inline(always)]
 pub fn walk_all<T: Drop, R: Reclaim<T>>(
     blocks: &Blocks<T>,
     spots: &mut Spots<Header, Part, T>,

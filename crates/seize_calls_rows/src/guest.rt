@@ -9,6 +9,7 @@ ghost use Rattle.seize_words.specs.Totals.{made_of};
 ghost use Rattle.seize_calls.specs.Slots.{IsPassFor};
 ghost use Rattle.seize_calls_rows.specs.Guests.{IsAway, IsHere};
 
+use crate::by_look_up;
 use seize_calls::draining::Lightens;
 use seize_calls::handing::Reclaim;
 use seize_calls::manner::{Alone, Beside};
@@ -76,9 +77,15 @@ impl Guest {
         ensures serves { R.serves reclaimer.new (words_book words.now) }
     {
         let mut activation = self.slot.activation();
-        self.slot.enter(words, &mut activation, pass);
-        self.slot
-            .leave(words, &mut activation, reclaimer, pass, &Beside { rt });
+        by_look_up::enter(&mut self.slot, words, &mut activation, pass);
+        by_look_up::leave(
+            &mut self.slot,
+            words,
+            &mut activation,
+            reclaimer,
+            pass,
+            &Beside { rt },
+        );
     }
 
     /// The same by a pass that is alone: it waits for nobody.
@@ -95,8 +102,14 @@ impl Guest {
         ensures serves { R.serves reclaimer.new (words_book words.now) }
     {
         let mut activation = self.slot.activation();
-        self.slot.enter(words, &mut activation, pass);
-        self.slot
-            .leave(words, &mut activation, reclaimer, pass, &Alone {});
+        by_look_up::enter(&mut self.slot, words, &mut activation, pass);
+        by_look_up::leave(
+            &mut self.slot,
+            words,
+            &mut activation,
+            reclaimer,
+            pass,
+            &Alone {},
+        );
     }
 }

@@ -4,6 +4,7 @@
 #![tactic(auto)]
 
 pub mod beside;
+pub mod by_look_up;
 pub mod counting;
 pub mod guest;
 pub mod hall;

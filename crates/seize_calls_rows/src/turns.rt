@@ -8,6 +8,7 @@ ghost use Rattle.seize_calls_rows.specs.Seats.{IsPorterOf, SitsAt, seat_at};
 ghost use Rattle.seize_calls_rows.specs.Turns.{AllBack, AreAll, IsBare, IsTurn, Reclaims, Regains, TakesOut};
 ghost use Rattle.seize_calls_rows.specs.Visitors.{IsIn, IsSameSlot, IsVisitorOf};
 
+use crate::by_look_up;
 use crate::counting::Counting;
 use crate::seat::Seat;
 use crate::visitor::Visitor;
@@ -58,12 +59,13 @@ fn sweep(
     ensures visitor { IsVisitorOf words.now visitor.new × IsSameSlot visitor.old visitor.new }
     ensures regains { Regains pass.old pass.new counting.old.told.had counting.new.told.had }
 {
-    visitor.slot.enter(words, &mut visitor.activation, pass);
+    by_look_up::enter(&mut visitor.slot, words, &mut visitor.activation, pass);
     for link in 0..words.links.len() {
         take_out(words, visitor, link, counting, pass, rt);
     }
     visitor.slot.flush(words, counting, pass, &Beside { rt });
-    visitor.slot.leave(
+    by_look_up::leave(
+        &mut visitor.slot,
         words,
         &mut visitor.activation,
         counting,
@@ -86,7 +88,8 @@ fn stand_up(
 {
     if seat.active {
         let visitor = &mut seat.visitor;
-        visitor.slot.leave(
+        by_look_up::leave(
+            &mut visitor.slot,
             words,
             &mut visitor.activation,
             counting,

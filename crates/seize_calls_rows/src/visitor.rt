@@ -5,6 +5,7 @@ ghost use Rattle.seize_words.specs.Joined.{words_book};
 ghost use Rattle.seize_calls.specs.Slots.{IsLooseOf};
 ghost use Rattle.seize_calls_rows.specs.Visitors.{IsIn, IsSameSlot, IsVisitorOf, MayStepWith};
 
+use crate::by_look_up;
 use crate::hall::Hall;
 use seize_calls::handing::Reclaim;
 use seize_calls::manner::Beside;
@@ -30,8 +31,7 @@ impl Visitor {
         ensures inside { IsIn hall.now.words self.new × IsSameSlot self.old self.new }
     {
         let mut pass = hall.porter.pass();
-        self.slot
-            .enter(&hall.words, &mut self.activation, &mut pass);
+        by_look_up::enter(&mut self.slot, &hall.words, &mut self.activation, &mut pass);
     }
 
     /// What the link holds, if it holds something.
@@ -150,7 +150,8 @@ impl Visitor {
         ensures serves { R.serves reclaimer.new (words_book hall.now.words) }
     {
         let mut pass = hall.porter.pass();
-        self.slot.refresh(
+        by_look_up::refresh(
+            &mut self.slot,
             &hall.words,
             &mut self.activation,
             reclaimer,
@@ -167,7 +168,8 @@ impl Visitor {
         ensures serves { R.serves reclaimer.new (words_book hall.now.words) }
     {
         let mut pass = hall.porter.pass();
-        self.slot.leave(
+        by_look_up::leave(
+            &mut self.slot,
             &hall.words,
             &mut self.activation,
             reclaimer,

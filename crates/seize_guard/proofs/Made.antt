@@ -1,7 +1,7 @@
 -- What was made with a pass, as users see it, from what the calls below say.
 use Rattle.std.proofs.Common.{◌≡◌, ℕ, map, List, [], ◌∷◌, ◌++◌, refl, sym, ap, subst, ◌∙◌, append_assoc, append-nil}
 use Rattle.std.proofs.lemmas.List.{map-append}
-use base.Growing.{prefix_refl, prefix_trans}
+use base.Growing.{prefix_trans}
 use Rattle.seize_machine.specs.Machine.State.{State}
 use Rattle.seize_machine.specs.Machine.Event.{Enter, Event, Give, Take}
 use Rattle.seize_machine.specs.declared.machine.event.Answer.{Answer}
@@ -44,11 +44,7 @@ made_same pass pass' none = ap (λ made. map as_made (events_in made)) none ∙ 
 pub legal_same : (pass pass' : Pass) → IsSamePass pass pass' → IsLegalList (start pass.name) pass'.seen → IsLegalList (start pass'.name) pass'.seen
 legal_same pass pass' same legal = subst (λ (n : Name). IsLegalList (start n) pass'.seen) (sym same.0) legal
 
--- Nothing, and one after the other.
-
--- a pass makes nothing while nothing happens
-pub makes_nothing : (pass : Pass) → IsLegalList (start pass.name) pass.seen → MakesNone pass pass
-makes_nothing pass legal = record { same = (refl, refl, refl); grows = prefix_refl pass.seen; legal = legal; made = sym (append-nil (made_with pass)) }
+-- One after the other.
 
 -- some events, and then some more
 pub makes_then : {p q r : Pass} {es fs : List (Event × Answer)} → Makes p q es → Makes q r fs → Makes p r (es ++ fs)

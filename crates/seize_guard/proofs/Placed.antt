@@ -137,8 +137,8 @@ unit_in n s slot rest unit seen book number within is name saw = subst (λ (u : 
 )
 
 -- and it may be named in another way
-pub unit_as : (n m : Name) (s t : ℕ) (a b : Activation) (seen : Seen) → m ≡ n → t ≡ s → b ≡ a → IsUnit n s a seen → IsUnit m t b seen
-unit_as n m s t a b seen book number same unit = subst (λ (k : Name × ℕ × Activation). IsUnit k.0 k.1 k.2 seen) (λ j. (sym book j, sym number j, sym same j)) unit
+pub unit_as : (n : Name) (s t : ℕ) (a b : Activation) (seen : Seen) → t ≡ s → b ≡ a → IsUnit n s a seen → IsUnit n t b seen
+unit_as n s t a b seen number same unit = subst (λ (k : ℕ × Activation). IsUnit n k.0 k.1 seen) (λ j. (sym number j, sym same j)) unit
 
 -- what was seen says that it has begun, and so does a pass that learned it
 pub begun_learned : (n : Name) (s : ℕ) (unit : Activation) (seen : Seen) (pass pass' : Pass) → IsUnit n s unit seen → Learns pass seen pass' → seen.name ≡ pass.name → HasBegun unit pass'

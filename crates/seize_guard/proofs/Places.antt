@@ -11,7 +11,10 @@ use Rattle.seize_calls.specs.Slots.{its_book as slot_list, its_number}
 use Rattle.seize_guard.specs.Collectors.{its_book}
 use Rattle.seize_guard.specs.Guards.{guard_collector, guard_slot}
 use Rattle.seize_guard.specs.Makes.{LeavesAndGives, Makes, MakesCall, MakesOne}
-use Rattle.seize_guard.specs.Reservations.{its_label, place_label}
+use Rattle.seize_words.specs.declared.reservation.Head.{Head}
+use Rattle.seize_calls.specs.Slots.{IsItsHead}
+use Rattle.seize_calls.specs.declared.slot.Slot.{Slot}
+use Rattle.seize_guard.specs.Reservations.{IsHeadFor, its_label, place_label}
 use Rattle.seize_guard.specs.declared.collector.Collector.{Collector}
 use Rattle.seize_guard.specs.declared.guard.LocalGuard.{LocalGuard}
 use Rattle.seize_guard.specs.declared.reservation.Reservation.{Reservation}
@@ -26,6 +29,18 @@ in_place n s m r at =
 -- that of a local guard lies with its registration
 pub guard_place : {T : Type 0} (guard : LocalGuard T) → guard.registration.now.reservation ≡ place_label (its_book (guard_collector guard)) (guard_slot guard) (2 ^ 64 - 1)
 guard_place {T} guard = guard.registration.now.at ∙ ap (λ (t : Bor (Collector T) × ℕ). place_label (its_book t.0.now) t.1 (2 ^ 64 - 1)) (λ j. (sym guard.its.0 j, sym guard.its.1 j))
+
+-- as does the head;
+pub guard_head : {T : Type 0} (guard : LocalGuard T) → IsHeadFor (its_book (guard_collector guard)) (guard_slot guard) guard.registration.now.head.now
+guard_head {T} guard =
+    subst (λ (t : Bor (Collector T) × ℕ). IsHeadFor (its_book t.0.now) t.1 guard.registration.now.head.now) (λ j. (sym guard.its.0 j, sym guard.its.1 j)) guard.registration.now.headed
+
+-- which is that of the slot that lies in the place.
+pub head_for : (n : Name) (s t : ℕ) (head : Head) → IsHeadFor n s head → t ≡ s → IsHeadFor n t head
+head_for n s t head is same = (is.0, is.1 ∙ sym same)
+
+pub own_head : {T : Type 0} (slot : Slot T) (n : Name) (s : ℕ) (head : Head) → IsHeadFor n s head → slot.seen.name ≡ n → its_number slot ≡ s → IsItsHead slot head
+own_head slot n s head is book number = (is.0 ∙ sym book, is.1 ∙ sym number)
 
 -- Of two outcomes one is told, whichever guard it was;
 pub one_of_two : {A B X Y : Type 0} → (A × X) ⊎ (B × Y) → X ⊎ Y

@@ -1,6 +1,6 @@
 -- Values that are in no link can be read: those that came out of one, with which something is lent since they were named, and those that
 -- were never named and were lent.
-use Rattle.std.proofs.Common.{◌≡◌, ℕ, Option, sym, subst, ◌∙◌}
+use Rattle.std.proofs.Common.{◌≡◌, ℕ, Option, sym, ◌∙◌}
 use base.Stored.{Gv}
 use Rattle.seize_machine.specs.Machine.Event.{ExchangeLink}
 use Rattle.seize_machine.specs.declared.machine.event.Exchange.TheVariants.{Compare, Swap}
@@ -9,7 +9,7 @@ use Rattle.seize_book.specs.Lending.{IsLentKey}
 use Rattle.seize_book.specs.Others.{value_of}
 use Rattle.seize_book.specs.declared.book.pass.Pass.{Pass}
 use Rattle.seize_book.specs.declared.book.value_key.ValueKey.{ValueKey}
-use Rattle.seize_words.specs.Chunks.{IsLentAs, LendsIn}
+use Rattle.seize_words.specs.Chunks.{LendsIn}
 use Rattle.seize_words.specs.Links.{comparand}
 use Rattle.seize_words.specs.LinkWords.{CompareExchanges, Swaps, link_number, value_held}
 use Rattle.seize_words.specs.declared.activation.Activation.{Activation}
@@ -18,7 +18,7 @@ use Rattle.seize_words.specs.declared.link.Link.{Link}
 use Rattle.seize_words.specs.declared.link.MaybeKey.{MaybeKey}
 use Rattle.seize_words.specs.declared.words.Words.{Words}
 use Rattle.seize_words.proofs.Facts.{held_lent, is_lent}
-use Rattle.seize_calls.specs.Slots.{IsLooseAs, IsLooseIn, IsLooseOf, IsReadable, its_value}
+use Rattle.seize_calls.specs.Slots.{IsLooseIn, IsReadable, its_value}
 use Rattle.seize_calls.specs.declared.slot.Loose.{Loose}
 
 -- what an exchange took out
@@ -35,7 +35,3 @@ compared_readable link a key pass current key' pass' v glimpse loose t won is =
 -- with a value that was lent something is lent, as `Loose::new` asks
 pub lends_key : {T : Type 0} (words : Words T) (key : ValueKey) (number : ℕ) (g : Gv) → LendsIn words.blocks key number g → IsLentKey key
 lends_key words key number g lends = is_lent (value_of key) g lends.code
-
--- it is of these words, and may be retired, and what was lent is what is read
-pub lends_loose : {T : Type 0} (words : Words T) (key : ValueKey) (number : ℕ) (g : Gv) (loose : Loose) → LendsIn words.blocks key number g → IsLooseAs key loose → IsLooseOf words loose × IsLentAs (its_value loose) g
-lends_loose words key number g loose lends is = ((is.0 ∙ lends.book, is.2), subst (λ (v : ℕ). IsLentAs v g) (sym is.1) lends.code)

@@ -3,6 +3,7 @@ pub mod Collectors
 pub mod Ends
 pub mod Exchanges
 pub mod Guards
+pub mod Laws
 pub mod Lends
 pub mod Loose
 pub mod Makes
@@ -10,3 +11,4 @@ pub mod Numbers
 pub mod OwnedGuards
 pub mod Registrations
 pub mod Reservations
+pub use Rattle.seize_machine.specs.Machine

@@ -5,13 +5,13 @@
 --     IsActiveIn pass s       slot s is active in the list that the pass has seen
 --     MakesOne pass pass' event answer     this one event was made
 --     MakesNone pass pass'    none was
+--     StaysActive s pass pass'    none was, and slot s is active, as the pass has seen then
 --     IsStepOf s step         it is a step of a call of slot s between its begin and its return, in which a reclaimer put nothing;
 --                             AreStepsOf s steps     so is each of these
 --     MakesCall s job pass pass'     a whole call of slot s: from its begin with this job to its return, and between them its steps
 --     LeavesAndGives s pass pass'    a whole call of slot s to leave, and then its number went back
---     EndsUse s pass pass' gave     the use of slot s ended: its number went back; or it is active still, as the pass has seen then, and
---                             no event was made
---     Enters s pass pass'     slot s entered; or it was active already, as the pass has seen then, and no event was made
+--     EndsUse s pass pass' gave     the use of slot s ended: its number went back; or it stays active
+--     Enters s pass pass'     slot s entered; or it was active already
 use Rattle.std.specs.Prelude.{◌≡◌, ◌⊎◌, ℕ, Bool, true, false, map, List, [], ◌∷◌, ◌++◌}
 use mathlib.Core.List.{IsPrefix}
 use Rattle.seize_machine.specs.Machine.Event.{AddCount, Begin, Detach, Enter, Event, Give, Hand, Insert, Put, ReadHead, Return}
@@ -45,8 +45,11 @@ MakesNone pass pass' = Makes pass pass' []
 abbrev pub IsActiveIn : Pass → ℕ → Type 0
 IsActiveIn pass s = is_active (head_at (after (start pass.name) pass.seen) s) ≡ true
 
+abbrev pub StaysActive : ℕ → Pass → Pass → Type 0
+StaysActive s pass pass' = MakesNone pass pass' × IsActiveIn pass' s
+
 abbrev pub Enters : ℕ → Pass → Pass → Type 0
-Enters s pass pass' = MakesOne pass pass' (Enter s) Done ⊎ (MakesNone pass pass' × IsActiveIn pass' s)
+Enters s pass pass' = MakesOne pass pass' (Enter s) Done ⊎ StaysActive s pass pass'
 
 abbrev pub IsStepOf : ℕ → Event × Answer → Type 0
 IsStepOf s (Put t, answer) = t ≡ s
@@ -75,4 +78,4 @@ pub record LeavesAndGives (s : ℕ) (pass pass' : Pass) : Type 0 where
 
 abbrev pub EndsUse : ℕ → Pass → Pass → Bool → Type 0
 EndsUse s pass pass' true = MakesOne pass pass' (Give s) Done
-EndsUse s pass pass' false = MakesNone pass pass' × IsActiveIn pass' s
+EndsUse s pass pass' false = StaysActive s pass pass'

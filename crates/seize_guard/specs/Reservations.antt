@@ -6,6 +6,7 @@
 --     IsReservation r        its slot is one of its list, in use, and so; the activation's units are with the guards and with the rest
 --     IsReservationOf words r     its slot is of the list of these words, by the list's family
 --     KeepsPlace r r'           it is a reservation under the same label
+--     IsHeadFor n s head     it is the head of slot s of the list n
 --     IsUnitIn n s unit seen     it is one unit of an activation of slot s of the list n, which was active with what it began with
 --     IsUnit n s unit seen   and that was seen
 use Rattle.std.specs.Prelude.{◌≡◌, ℕ, suc, zero, ◌+◌, ◌≤◌, true}
@@ -17,8 +18,11 @@ use Rattle.seize_book.specs.Laws.{life}
 use Rattle.seize_book.specs.Tokens.{Name, start}
 use Rattle.seize_book.specs.declared.book.seen.Seen.{Seen}
 use Rattle.seize_words.specs.Joined.{words_book}
+use Rattle.seize_words.specs.Named.{head_book}
+use Rattle.seize_words.specs.Reservations.{slot as head_slot}
 use Rattle.seize_words.specs.Units.{all_units}
 use Rattle.seize_words.specs.declared.activation.Activation.{Activation}
+use Rattle.seize_words.specs.declared.reservation.Head.{Head}
 use Rattle.seize_words.specs.declared.words.Words.{Words}
 use Rattle.seize_calls.specs.Slots.{InActivation, IsInUse, IsOfList, MayEnterWith, its_book, its_number}
 use Rattle.seize_calls.specs.declared.slot.Slot.{Slot}
@@ -46,6 +50,9 @@ IsReservationOf words r = (its_book r.slot).family ≡ (words_book words).family
 
 abbrev pub KeepsPlace : {T : Type 0} → Reservation T → Reservation T → Type 0
 KeepsPlace r r' = (its_label r' ≡ its_label r) × IsReservation r'
+
+abbrev pub IsHeadFor : Name → ℕ → Head → Type 0
+IsHeadFor n s head = (head_book head ≡ n) × (head_slot head ≡ s)
 
 pub record IsUnitIn (n : Name) (s : ℕ) (unit : Activation) (seen : Seen) : Type 0 where
   pub book : seen.name ≡ n

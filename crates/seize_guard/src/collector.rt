@@ -11,6 +11,7 @@ use crate::owned::OwnedGuard;
 use crate::registration::Registration;
 pub use ids::IdSource;
 use seize_cells::Lock;
+use seize_machine::machine;
 use seize_table::Refusal;
 use seize_words::book::{Pass, Porter};
 use seize_words::words::Words;
@@ -195,6 +196,7 @@ impl<T: Drop> Collector<T> {
     ghost use Rattle.seize_machine.specs.declared.machine.event.Answer.TheVariants.{Done};
     ghost use Rattle.seize_table.specs.declared.refusal.Refusal.TheVariants.{NoMemory as no_memory};
     ghost use Rattle.seize_guard.specs.Collectors.{IsPassOf};
+    ghost use Rattle.seize_guard.specs.Laws.{LawsHold};
     ghost use Rattle.seize_guard.specs.Makes.{Makes, MakesNone};
     ghost use Rattle.seize_guard.specs.OwnedGuards.{owned_collector, owned_slot};
 
@@ -222,6 +224,19 @@ impl<T: Drop> Collector<T> {
         };
         let slot = self.numbers.with(rt, registering, pass)?;
         Ok(OwnedGuard::enter(self, slot, pass))
+    }
+
+    /// The pass looks at the list of all events so far. Every law of the machine holds of what it has seen then. So each value, whoever
+    /// retired it, is reclaimed at most once, and only after each slot that was active at its retirement has left or refreshed.
+    ///
+    /// It makes no event, and does nothing when the program runs: its contract is the laws.
+    pub fn laws(&self, pass: &mut Pass)
+        requires pass { IsPassOf self.now pass.old }
+        ensures none { MakesNone pass.old pass.new }
+        ensures laws { LawsHold pass.new }
+    {
+        machine::laws();
+        pass.slots();
     }
 }
 

@@ -53,12 +53,21 @@ fn end_slot<T: Drop>(words: &Words<T>, slot: Slot<T>, links: usize, pass: &mut P
 {
     let mut slot = slot;
     let mut activation = slot.activation();
-    slot.enter(words, &mut activation, pass);
+    let head = slot.head(words, pass);
+    slot.enter(words, head, &mut activation, pass);
     for link in 0..links {
         empty(words, link, &mut slot, &activation, pass);
     }
     slot.flush(words, &mut Ends::new(), pass, &Alone {});
-    slot.leave(words, &mut activation, &mut Ends::new(), pass, &Alone {});
+    let head = slot.head(words, pass);
+    slot.leave(
+        words,
+        head,
+        &mut activation,
+        &mut Ends::new(),
+        pass,
+        &Alone {},
+    );
 }
 
 // Takes out what the link holds, and retires it.

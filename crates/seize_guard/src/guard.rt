@@ -38,7 +38,7 @@ impl<'r, 'c, T: Drop> LocalGuard<'r, 'c, T> {
     ghost use Rattle.seize_table.specs.declared.refusal.Refusal.TheVariants.{NoMemory as no_memory};
     ghost use Rattle.seize_guard.specs.Exchanges.{IsOutcome, current_name};
     ghost use Rattle.seize_guard.specs.Guards.{IsGuardOf, guard_collector, guard_slot};
-    ghost use Rattle.seize_guard.specs.Makes.{MakesCall, MakesNone, MakesOne};
+    ghost use Rattle.seize_guard.specs.Makes.{MakesCall, MakesOne, StaysActive};
 
     // One of this registration, which reads so.
     pub(crate) fn of(
@@ -191,14 +191,16 @@ impl<'r, 'c, T: Drop> LocalGuard<'r, 'c, T> {
     pub fn refresh<W: Wait>(&mut self, rt: &W, pass: &mut Pass)
         requires of { IsPassOf (guard_collector self.old) pass.old }
         ensures same { (guard_collector self.new ≡ guard_collector self.old) × (guard_slot self.new ≡ guard_slot self.old) }
-        ensures refreshes { MakesCall (guard_slot self.old) Refresh pass.old pass.new ⊎ MakesNone pass.old pass.new }
+        ensures refreshes { let s = guard_slot self.old in MakesCall s Refresh pass.old pass.new ⊎ StaysActive s pass.old pass.new }
     {
-        let reservation = &self.registration.reservation;
+        let registration = self.registration;
+        let reservation = &registration.reservation;
         let reader = &mut self.reader;
         let spare = reservation.with(rt, Sparing {}, pass);
         let unit = mem::replace(&mut reader.unit, spare);
         let refreshing = Refreshing {
             words: &reader.collector.words,
+            head: registration.head,
             unit,
             seen: &reader.seen,
             rt,
@@ -214,7 +216,7 @@ impl<'r, 'c, T: Drop> LocalGuard<'r, 'c, T> {
     /// It takes no memory. Within another call of the same registration it waits for ever, and else for nobody.
     pub fn leave<W: Wait>(self, rt: &W, pass: &mut Pass)
         requires of { IsPassOf (guard_collector self) pass.old }
-        ensures { MakesCall (guard_slot self.entry) Leave pass.old pass.new ⊎ MakesNone pass.old pass.new }
+        ensures { MakesCall (guard_slot self.entry) Leave pass.old pass.new ⊎ StaysActive (guard_slot self.entry) pass.old pass.new }
     {
         let LocalGuard {
             registration,
@@ -228,6 +230,7 @@ impl<'r, 'c, T: Drop> LocalGuard<'r, 'c, T> {
         } = reader;
         let leaving = Leaving {
             words: &collector.words,
+            head: registration.head,
             unit,
             seen,
             rt,

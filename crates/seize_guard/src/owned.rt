@@ -2,7 +2,7 @@
 //! the slot's activation, each with a pass of its own; what changes the slot is done under the guard's lock.
 ghost use Rattle.std.specs.Prelude.{◌≡◌};
 ghost use Rattle.seize_guard.specs.Collectors.{its_book};
-ghost use Rattle.seize_guard.specs.Reservations.{place_label};
+ghost use Rattle.seize_guard.specs.Reservations.{IsHeadFor, place_label};
 
 use crate::block::{Failed, Owned, Shared, Unlinked};
 use crate::collector::Collector;
@@ -14,6 +14,7 @@ use seize_calls::slot::Slot;
 use seize_cells::{Lock, LockWork};
 use seize_table::Refusal;
 use seize_words::book::Pass;
+use seize_words::reservation::Head;
 use std::sync::Wait;
 use std::{fmt, mem};
 
@@ -25,8 +26,11 @@ use std::{fmt, mem};
 /// since the guard's slot is active.
 pub struct OwnedGuard<'c, T: Drop> {
     reader: Reader<'c, T>,
+    // The slot's head.
+    head: &'c Head,
     reservation: Lock<Reservation<T>>,
     ghost at: { reservation ≡ place_label (its_book reader.collector.now) reader.number 1 },
+    ghost headed: { IsHeadFor (its_book reader.collector.now) reader.number head.now },
 }
 
 impl<'c, T: Drop> OwnedGuard<'c, T> {
@@ -57,8 +61,9 @@ impl<'c, T: Drop> OwnedGuard<'c, T> {
     {
         let number = slot.number();
         let words = &collector.words;
+        let head = slot.head(words, &mut collector.pass());
         let mut reservation = Reservation::new(words, slot, 1);
-        let (unit, seen) = reservation.enter(words, pass);
+        let (unit, seen) = reservation.enter(words, head, pass);
         OwnedGuard {
             reader: Reader {
                 collector,
@@ -66,6 +71,7 @@ impl<'c, T: Drop> OwnedGuard<'c, T> {
                 unit,
                 seen,
             },
+            head,
             reservation: Lock::new(reservation),
         }
     }
@@ -220,6 +226,7 @@ impl<'c, T: Drop> OwnedGuard<'c, T> {
         let unit = mem::replace(&mut reader.unit, spare);
         let refreshing = Refreshing {
             words: &reader.collector.words,
+            head: self.head,
             unit,
             seen: &reader.seen,
             rt,
@@ -240,6 +247,7 @@ impl<'c, T: Drop> OwnedGuard<'c, T> {
     {
         let OwnedGuard {
             reader,
+            head,
             reservation,
         } = self;
         let Reader {
@@ -252,6 +260,7 @@ impl<'c, T: Drop> OwnedGuard<'c, T> {
         let mut reservation = reservation.into_value();
         let leaving = Leaving {
             words,
+            head,
             unit,
             seen,
             rt,
@@ -267,6 +276,7 @@ impl<'c, T: Drop> OwnedGuard<'c, T> {
     pub fn forget(self) {
         let OwnedGuard {
             reader,
+            head: _,
             reservation,
         } = self;
         drop(reader);

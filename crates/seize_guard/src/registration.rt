@@ -1,7 +1,7 @@
 //! A thread's slot, for as long as the thread keeps it.
 ghost use Rattle.std.specs.Prelude.{◌≡◌, ◌-◌, ◌^◌};
 ghost use Rattle.seize_guard.specs.Collectors.{its_book};
-ghost use Rattle.seize_guard.specs.Reservations.{place_label};
+ghost use Rattle.seize_guard.specs.Reservations.{IsHeadFor, place_label};
 
 use crate::block::{Owned, Unlinked};
 use crate::collector::Collector;
@@ -14,6 +14,7 @@ use seize_calls::slot::Slot;
 use seize_cells::LocalLock;
 use seize_table::Refusal;
 use seize_words::book::Pass;
+use seize_words::reservation::Head;
 use std::sync::Wait;
 
 /// A slot of a collector, in the hands of one thread. It may go to another thread, and isn't shared by two.
@@ -22,8 +23,11 @@ use std::sync::Wait;
 pub struct Registration<'c, T: Drop> {
     pub(crate) collector: &'c Collector<T>,
     pub(crate) number: usize,
+    // The slot's head.
+    pub(crate) head: &'c Head,
     pub(crate) reservation: LocalLock<Reservation<T>>,
     ghost at: { reservation ≡ place_label (its_book collector.now) number (2 ^ 64 - 1) },
+    ghost headed: { IsHeadFor (its_book collector.now) number head.now },
 }
 
 impl<'c, T: Drop> Registration<'c, T> {
@@ -42,11 +46,14 @@ impl<'c, T: Drop> Registration<'c, T> {
         requires slot { IsSlotFor collector.now slot × IsInactive slot }
         ensures { (registered_in result ≡ collector.now) × (registered_slot result ≡ its_number slot) }
     {
+        let words = &collector.words;
+        let head = slot.head(words, &mut collector.pass());
         let number = slot.number();
-        let reservation = Reservation::new(&collector.words, slot, u64::MAX);
+        let reservation = Reservation::new(words, slot, u64::MAX);
         Registration {
             collector,
             number,
+            head,
             reservation: LocalLock::new(reservation),
         }
     }
@@ -81,6 +88,7 @@ impl<'c, T: Drop> Registration<'c, T> {
         let collector = self.collector;
         let entering = Entering {
             words: &collector.words,
+            head: self.head,
         };
         match self.reservation.try_with(entering, pass) {
             Ok(Ok((unit, seen))) => {
@@ -151,6 +159,7 @@ impl<'c, T: Drop> Registration<'c, T> {
         let Registration {
             collector,
             number: _,
+            head: _,
             reservation,
         } = self;
         let words = &collector.words;
@@ -170,6 +179,7 @@ impl<'c, T: Drop> Registration<'c, T> {
         let Registration {
             collector: _,
             number: _,
+            head: _,
             reservation,
         } = self;
         drop(reservation);

@@ -7,6 +7,7 @@ use seize_calls::slot::Slot;
 use seize_content::Steady;
 use seize_words::activation::Activation;
 use seize_words::book::{Pass, Seen};
+use seize_words::reservation::Head;
 use seize_words::words::Words;
 
 /// A slot in use, and what its guards share.
@@ -34,8 +35,8 @@ impl<T: Drop> Reservation<T> {
     ghost use Rattle.seize_machine.specs.declared.machine.event.Answer.TheVariants.{Done};
     ghost use Rattle.seize_words.specs.Joined.{words_book};
     ghost use Rattle.seize_calls.specs.Slots.{InActivation, IsInactive, IsPassFor, IsSlotOf, its_book, its_number};
-    ghost use Rattle.seize_guard.specs.Makes.{IsActiveIn, MakesNone, MakesOne};
-    ghost use Rattle.seize_guard.specs.Reservations.{KeepsPlace, IsReservationOf, IsUnit, place_label};
+    ghost use Rattle.seize_guard.specs.Makes.{MakesOne, StaysActive};
+    ghost use Rattle.seize_guard.specs.Reservations.{IsHeadFor, IsReservationOf, IsUnit, KeepsPlace, place_label};
 
     /// That of a slot with no guard, which may have so many.
     pub(crate) fn new(_words: &Words<T>, slot: Slot<T>, most: u64) -> Reservation<T>
@@ -53,15 +54,21 @@ impl<T: Drop> Reservation<T> {
     }
 
     /// The slot enters with its first guard. It gives the guard's unit, and what was seen then.
-    pub(crate) fn enter(&mut self, words: &Words<T>, pass: &mut Pass) -> (Activation, Seen)
+    pub(crate) fn enter(
+        &mut self,
+        words: &Words<T>,
+        head: &Head,
+        pass: &mut Pass,
+    ) -> (Activation, Seen)
         requires of { IsReservation self.old × IsReservationOf words.now self.old × IsPassFor words.now pass.old }
+        requires head { IsHeadFor (words_book words.now) (its_number self.old.slot) head.now }
         requires first { (self.old.guards ≡ 0) × (0 < self.old.most) }
         ensures follows { KeepsPlace self.old self.new }
         ensures unit { IsUnit (words_book words.now) (its_number self.old.slot) result.0 result.1 }
         ensures enters { MakesOne pass.old pass.new (Enter (its_number self.old.slot)) Done }
     {
         self.slot.seen().agree(&words.blocks.book);
-        self.slot.enter(words, &mut self.rest, pass);
+        self.slot.enter(words, head, &mut self.rest, pass);
         self.guards = 1;
         let unit = self.rest.split();
         (unit, self.slot.seen())
@@ -73,7 +80,7 @@ impl<T: Drop> Reservation<T> {
         requires beside { (0 < self.old.guards) × (self.old.guards < self.old.most) }
         ensures follows { KeepsPlace self.old self.new }
         ensures unit { IsUnit (words_book words.now) (its_number self.old.slot) result.0 result.1 }
-        ensures active { MakesNone pass.old pass.new × IsActiveIn pass.new (its_number self.old.slot) }
+        ensures active { StaysActive (its_number self.old.slot) pass.old pass.new }
     {
         self.look(words, pass);
         self.guards += 1;
@@ -88,7 +95,7 @@ impl<T: Drop> Reservation<T> {
         ensures follows { KeepsPlace self.old self.new × (self.new.guards ≡ self.old.guards) × (self.new.most ≡ self.old.most) }
         ensures slot { IsSlotOf words.now self.new.slot × InActivation self.new.slot self.new.rest }
         ensures same { its_number self.new.slot ≡ its_number self.old.slot }
-        ensures active { MakesNone pass.old pass.new × IsActiveIn pass.new (its_number self.old.slot) }
+        ensures active { StaysActive (its_number self.old.slot) pass.old pass.new }
     {
         self.slot.seen().agree(&words.blocks.book);
         self.slot.teach(pass);
@@ -108,7 +115,7 @@ impl<T: Drop> Reservation<T> {
         ensures follows { KeepsPlace self.old self.new × (self.new.guards ≡ self.old.guards) × (self.new.rest ≡ self.old.rest) }
         ensures active { (0 < self.old.guards) × IsSlotOf words.now self.new.slot × InActivation self.new.slot unit.now }
         ensures same { its_number self.new.slot ≡ its_number self.old.slot }
-        ensures none { MakesNone pass.old pass.new }
+        ensures active_still { StaysActive (its_number self.old.slot) pass.old pass.new }
     {
         self.slot.seen().agree(&words.blocks.book);
         pass.learn(seen);

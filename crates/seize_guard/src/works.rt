@@ -5,8 +5,8 @@ ghost use Rattle.seize_words.specs.Chunks.{IsBlockIn};
 ghost use Rattle.seize_words.specs.Joined.{words_book};
 ghost use Rattle.seize_machine.specs.declared.machine.event.Job.TheVariants.{Flush, Leave, Refresh, Retire};
 ghost use Rattle.seize_table.specs.declared.refusal.Refusal.TheVariants.{NoMemory as no_memory, TooManyGuards as too_many_guards};
-ghost use Rattle.seize_guard.specs.Makes.{Enters, MakesCall, MakesNone};
-ghost use Rattle.seize_guard.specs.Reservations.{IsReservationOf, IsUnit};
+ghost use Rattle.seize_guard.specs.Makes.{Enters, MakesCall, StaysActive};
+ghost use Rattle.seize_guard.specs.Reservations.{IsHeadFor, IsReservationOf, IsUnit};
 
 use crate::ends::Ends;
 use crate::reservation::Reservation;
@@ -18,6 +18,7 @@ use seize_table::Refusal;
 use seize_words::activation::Activation;
 use seize_words::book::{Pass, Seen, ValueKey};
 use seize_words::chunk::{Header, Part};
+use seize_words::reservation::Head;
 use seize_words::words::Words;
 use std::sync::Wait;
 
@@ -26,11 +27,14 @@ use std::sync::Wait;
 pub(crate) struct Entering<'a, T> {
     /// The words of the collector.
     pub(crate) words: &'a Words<T>,
+    /// The slot's head.
+    pub(crate) head: &'a Head,
 }
 
 impl<'a, 'p, T: Drop> LockWork<Reservation<T>, Pass<'p>, Result<(Activation, Seen), Refusal>>
     for Entering<'a, T> {
-    ghost may = { λ work r pass. IsReservationOf work.words.now r × IsPassFor work.words.now pass };
+    ghost may = { λ work r pass. IsReservationOf work.words.now r × IsPassFor work.words.now pass
+        × IsHeadFor (words_book work.words.now) (its_number r.slot) work.head.now };
 
     ghost gives = { λ work r r' pass pass' result. let s = its_number r.slot in
         IfOk result (λ made. Enters s pass pass' × IsUnit (words_book work.words.now) s made.0 made.1)
@@ -45,7 +49,7 @@ impl<'a, 'p, T: Drop> LockWork<Reservation<T>, Pass<'p>, Result<(Activation, See
             return Err(Refusal::TooManyGuards);
         }
         if r.guards == 0 {
-            return Ok(r.enter(self.words, pass));
+            return Ok(r.enter(self.words, self.head, pass));
         }
         Ok(r.enter_beside(self.words, pass))
     }
@@ -156,6 +160,8 @@ impl<'p, T: Drop> LockWork<Reservation<T>, Pass<'p>, Activation> for Sparing {
 pub(crate) struct Refreshing<'a, T, W> {
     /// The words of the collector.
     pub(crate) words: &'a Words<T>,
+    /// The slot's head.
+    pub(crate) head: &'a Head,
     /// The guard's unit.
     pub(crate) unit: Activation,
     /// What was seen when its activation had begun.
@@ -167,15 +173,17 @@ pub(crate) struct Refreshing<'a, T, W> {
 impl<'a, 'p, T: Drop, W: Wait> LockWork<Reservation<T>, Pass<'p>, (Activation, Seen)>
     for Refreshing<'a, T, W> {
     ghost may = { λ work r pass. IsReservationOf work.words.now r × IsPassFor work.words.now pass
-        × IsUnit (words_book work.words.now) (its_number r.slot) work.unit work.seen.now };
+        × IsUnit (words_book work.words.now) (its_number r.slot) work.unit work.seen.now
+        × IsHeadFor (words_book work.words.now) (its_number r.slot) work.head.now };
 
     ghost gives = { λ work r r' pass pass' result. let s = its_number r.slot in
-        (((r.guards ≡ 1) × MakesCall s Refresh pass pass') ⊎ ((1 < r.guards) × MakesNone pass pass'))
+        (((r.guards ≡ 1) × MakesCall s Refresh pass pass') ⊎ ((1 < r.guards) × StaysActive s pass pass'))
         × IsUnit (words_book work.words.now) s result.0 result.1 };
 
     fn work(self, r: &mut Reservation<T>, pass: &mut Pass<'p>) -> (Activation, Seen) {
         let Refreshing {
             words,
+            head,
             unit,
             seen,
             rt,
@@ -185,8 +193,14 @@ impl<'a, 'p, T: Drop, W: Wait> LockWork<Reservation<T>, Pass<'p>, (Activation, S
             return (unit, seen.again());
         }
         r.rest.join(unit);
-        r.slot
-            .refresh(words, &mut r.rest, &mut Ends::new(), pass, &Beside { rt });
+        r.slot.refresh(
+            words,
+            head,
+            &mut r.rest,
+            &mut Ends::new(),
+            pass,
+            &Beside { rt },
+        );
         let unit = r.rest.split();
         (unit, r.slot.seen())
     }
@@ -197,6 +211,8 @@ impl<'a, 'p, T: Drop, W: Wait> LockWork<Reservation<T>, Pass<'p>, (Activation, S
 pub(crate) struct Leaving<'a, T, W> {
     /// The words of the collector.
     pub(crate) words: &'a Words<T>,
+    /// The slot's head.
+    pub(crate) head: &'a Head,
     /// The guard's unit.
     pub(crate) unit: Activation,
     /// What was seen when its activation had begun.
@@ -207,15 +223,17 @@ pub(crate) struct Leaving<'a, T, W> {
 
 impl<'a, 'p, T: Drop, W: Wait> LockWork<Reservation<T>, Pass<'p>, ()> for Leaving<'a, T, W> {
     ghost may = { λ work r pass. IsReservationOf work.words.now r × IsPassFor work.words.now pass
-        × IsUnit (words_book work.words.now) (its_number r.slot) work.unit work.seen };
+        × IsUnit (words_book work.words.now) (its_number r.slot) work.unit work.seen
+        × IsHeadFor (words_book work.words.now) (its_number r.slot) work.head.now };
 
     ghost gives = { λ work r r' pass pass' _. let s = its_number r.slot in
-        (((r.guards ≡ 1) × MakesCall s Leave pass pass') ⊎ ((1 < r.guards) × MakesNone pass pass'))
+        (((r.guards ≡ 1) × MakesCall s Leave pass pass') ⊎ ((1 < r.guards) × StaysActive s pass pass'))
         × (r'.guards + 1 ≡ r.guards) };
 
     fn work(self, r: &mut Reservation<T>, pass: &mut Pass<'p>) {
         let Leaving {
             words,
+            head,
             unit,
             seen,
             rt,
@@ -226,7 +244,13 @@ impl<'a, 'p, T: Drop, W: Wait> LockWork<Reservation<T>, Pass<'p>, ()> for Leavin
         if r.guards > 0 {
             return;
         }
-        r.slot
-            .leave(words, &mut r.rest, &mut Ends::new(), pass, &Beside { rt });
+        r.slot.leave(
+            words,
+            head,
+            &mut r.rest,
+            &mut Ends::new(),
+            pass,
+            &Beside { rt },
+        );
     }
 }

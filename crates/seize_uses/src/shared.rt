@@ -1,7 +1,9 @@
 //! A number that threads share: each reads and replaces it, by a registration of its own.
 ghost use Rattle.std.specs.Prelude.{◌<◌};
 ghost use Rattle.seize_guard.specs.Collectors.{IsPassOf, its_links};
+ghost use Rattle.seize_guard.specs.Laws.{moments_seen, opening_of};
 ghost use Rattle.seize_guard.specs.Registrations.{registered_in};
+ghost use Rattle.seize_guard.specs.Machine.Laws.{After};
 
 use seize_guard::{Pass, Refusal, Registration};
 use std::sync::Wait;
@@ -43,4 +45,14 @@ pub fn replace<W: Wait>(
     }
     guard.leave(rt, pass);
     Ok(())
+}
+
+/// What threads did with the collector so far, as the pass sees it then: each value that was reclaimed was retired before, once, and each
+/// slot that was active then has left or refreshed since.
+pub fn audit(registration: &Registration<'_, u64>, pass: &mut Pass)
+    requires pass { IsPassOf (registered_in registration.now) pass.old }
+    ensures pass { IsPassOf (registered_in registration.now) pass.new }
+    ensures after { After (opening_of pass.new) (moments_seen pass.new) }
+{
+    registration.collector().laws(pass);
 }

@@ -1,18 +1,20 @@
 //! What code can do with any guard of a collector, by a bound.
-ghost use Rattle.std.specs.Prelude.{◌≡◌, ◌⊎◌, ◌<◌, ℕ, Option, IfSome};
+ghost use Rattle.std.specs.Prelude.{◌≡◌, ◌⊎◌, ◌<◌, ℕ, Option, IfErr, IfOk, IfSome};
 ghost use Rattle.seize_machine.specs.Machine.Event.{ExchangeLink, ReadLink};
 ghost use Rattle.seize_machine.specs.declared.machine.event.Answer.TheVariants.{Link};
 ghost use Rattle.seize_machine.specs.declared.machine.event.Exchange.TheVariants.{Compare, Swap};
 ghost use Rattle.seize_machine.specs.declared.machine.event.Job.TheVariants.{Flush, Refresh, Retire};
 ghost use Rattle.seize_words.specs.Links.{comparand};
-ghost use Rattle.seize_guard.specs.Blocks.{ComesOut, IsNamed, Shows, unlinked_collector, unlinked_name};
+ghost use Rattle.seize_table.specs.declared.refusal.Refusal.TheVariants.{NoMemory as no_memory};
+ghost use Rattle.seize_guard.specs.Blocks.{ComesOut, IsNamed, Shows, content, unlinked_collector, unlinked_name};
 ghost use Rattle.seize_guard.specs.Collectors.{IsBlockOf, IsPassOf, its_links};
 ghost use Rattle.seize_guard.specs.Exchanges.{IsOutcome, current_name};
-ghost use Rattle.seize_guard.specs.Makes.{MakesCall, MakesNone, MakesOne};
+ghost use Rattle.seize_guard.specs.Makes.{MakesCall, MakesOne, StaysActive};
 ghost use Rattle.seize_guard.specs.declared.collector.Collector.{Collector};
 
 use crate::block::{Failed, Owned, Shared, Unlinked};
 use crate::collector::Collector;
+use seize_table::Refusal;
 use seize_words::book::Pass;
 use std::sync::Wait;
 
@@ -32,6 +34,15 @@ pub trait Guard<T: Drop> {
     /// The number of its slot.
     fn thread_id(&self) -> usize
         ensures { result ≡ number self.now };
+
+    /// A block of this value, as `owned` of either guard makes it.
+    ///
+    /// # Errors
+    ///
+    /// `NoMemory` where the store could not grow; the value comes back.
+    fn owned(&self, value: T) -> Result<Owned<T>, (Refusal, T)>
+        ensures made { IfOk result (λ owned. IsBlockOf (guarded self.now) owned × (content owned ≡ value)) }
+        ensures refused { IfErr result (λ refused. (refused.0 ≡ no_memory) × (refused.1 ≡ value)) };
 
     /// Reads a link: the event `ReadLink`. What the link holds can be read for as long as the guard is borrowed.
     fn protect(&self, link: usize, pass: &mut Pass) -> Option<Shared<'_, T>>
@@ -95,5 +106,5 @@ pub trait Guard<T: Drop> {
     fn refresh<W: Wait>(&mut self, rt: &W, pass: &mut Pass)
         requires of { IsPassOf (guarded self.old) pass.old }
         ensures same { (guarded self.new ≡ guarded self.old) × (number self.new ≡ number self.old) }
-        ensures refreshes { MakesCall (number self.old) Refresh pass.old pass.new ⊎ MakesNone pass.old pass.new };
+        ensures refreshes { MakesCall (number self.old) Refresh pass.old pass.new ⊎ StaysActive (number self.old) pass.old pass.new };
 }

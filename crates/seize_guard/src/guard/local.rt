@@ -14,6 +14,7 @@ ghost use Rattle.seize_guard.specs.Makes.{MakesCall, MakesOne};
 use crate::block::{Failed, Owned, Shared, Unlinked};
 use crate::collector::Collector;
 use crate::guard::{Guard, LocalGuard};
+use seize_table::Refusal;
 use seize_words::book::Pass;
 use std::sync::Wait;
 
@@ -28,6 +29,10 @@ impl<T: Drop> Guard<T> for LocalGuard<'_, '_, T> {
 
     fn thread_id(&self) -> usize {
         LocalGuard::thread_id(self)
+    }
+
+    fn owned(&self, value: T) -> Result<Owned<T>, (Refusal, T)> {
+        LocalGuard::owned(self, value)
     }
 
     fn protect(&self, link: usize, pass: &mut Pass) -> Option<Shared<'_, T>> {

@@ -15,6 +15,7 @@ use crate::block::{Failed, Owned, Shared, Unlinked};
 use crate::collector::Collector;
 use crate::guard::Guard;
 use crate::owned::OwnedGuard;
+use seize_table::Refusal;
 use seize_words::book::Pass;
 use std::sync::Wait;
 
@@ -29,6 +30,10 @@ impl<T: Drop> Guard<T> for OwnedGuard<'_, T> {
 
     fn thread_id(&self) -> usize {
         OwnedGuard::thread_id(self)
+    }
+
+    fn owned(&self, value: T) -> Result<Owned<T>, (Refusal, T)> {
+        OwnedGuard::owned(self, value)
     }
 
     fn protect(&self, link: usize, pass: &mut Pass) -> Option<Shared<'_, T>> {

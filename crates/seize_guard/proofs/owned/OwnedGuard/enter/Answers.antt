@@ -11,7 +11,8 @@ use Rattle.seize_guard.proofs.owned.OwnedGuard.enter.Goals as goal
 pub enter-unit-requires : goal.enter-unit-requires
 enter-unit-requires g c =
     let made = c.new-reservation.ensures in let at = in_place (words_book c.args.collector.now.words) (its_number c.args.slot) 1 c.new-reservation.result made.1 in
-    (omega arith, ((made.0, at.0, (sym c.requires.pass.0, sym c.requires.pass.1)), (made.2, omega (arith, at.2))))
+    let head = c.head-head.ensures.head in
+    (omega arith, ((made.0, at.0, (sym c.requires.pass.0, sym c.requires.pass.1)), ((head.0 ∙ c.requires.slot.0.0.book, head.1 ∙ sym at.1), (made.2, omega (arith, at.2)))))
 
 pub invariant_of-result : goal.invariant_of-result
 invariant_of-result g c =

@@ -7,14 +7,14 @@ use Rattle.seize_calls.specs.Slots.{its_number}
 use Rattle.seize_guard.specs.Collectors.{its_book}
 use Rattle.seize_guard.specs.Makes.{MakesCall, MakesOne}
 use Rattle.seize_guard.proofs.Placed.{at_none, placed_slot, still_for, unit_as}
-use Rattle.seize_guard.proofs.Places.{first_of_two, in_place, leaves_gives}
+use Rattle.seize_guard.proofs.Places.{first_of_two, head_for, in_place, leaves_gives}
 use Rattle.seize_guard.proofs.owned.OwnedGuard.leave.Goals as goal
 
 pub work-requires : goal.work-requires
 work-requires g c =
     let self = c.args.self in let reader = self.reader in let n = its_book reader.collector.now in let r = c.into_value-reservation.result in let kept = c.into_value-reservation.ensures in
     let at = in_place n reader.number 1 r (kept.0 ∙ self.at) in
-    (kept.1, (at.0, (sym c.requires.of.0, sym c.requires.of.1), unit_as n n reader.number (its_number r.slot) reader.unit reader.unit reader.seen refl at.1 refl (reader.its, reader.known)))
+    (kept.1, (at.0, (sym c.requires.of.0, sym c.requires.of.1), unit_as n reader.number (its_number r.slot) reader.unit reader.unit reader.seen at.1 refl (reader.its, reader.known), head_for n reader.number (its_number r.slot) self.head.now self.headed at.1))
 
 pub agree-requires : goal.agree-requires
 agree-requires g c =

@@ -1,4 +1,4 @@
-use Rattle.std.proofs.Common.{ℕ, refl, subst, ◌∙◌}
+use Rattle.std.proofs.Common.{ℕ, subst, ◌∙◌}
 use Rattle.seize_machine.specs.declared.machine.event.Job.TheVariants.{Refresh}
 use Rattle.seize_book.specs.declared.book.pass.Pass.{Pass}
 use Rattle.seize_calls.specs.Slots.{its_number}
@@ -6,14 +6,14 @@ use Rattle.seize_guard.specs.Collectors.{its_book}
 use Rattle.seize_guard.specs.Makes.{MakesCall}
 use Rattle.seize_guard.specs.Reservations.{IsUnit}
 use Rattle.seize_guard.proofs.Placed.{pass_as, unit_as}
-use Rattle.seize_guard.proofs.Places.{first_of_two, in_place}
+use Rattle.seize_guard.proofs.Places.{first_of_two, head_for, in_place}
 use Rattle.seize_guard.proofs.owned.OwnedGuard.refresh.Goals as goal
 
 pub with-unit-requires : goal.with-unit-requires
 with-unit-requires g c =
     let self = c.args.self.now in let reader = self.reader in let collector = reader.collector.now in let n = its_book collector in
     λ r keeps. let at = in_place n reader.number 1 r (keeps.0 ∙ self.at) in
-    (at.0, pass_as collector c.args.pass.now c.with-spare.new.with c.with-spare.ensures.gives c.requires.of, unit_as n n reader.number (its_number r.slot) reader.unit c.replace-unit.result reader.seen refl at.1 c.replace-unit.ensures.value (reader.its, reader.known))
+    (at.0, pass_as collector c.args.pass.now c.with-spare.new.with c.with-spare.ensures.gives c.requires.of, unit_as n reader.number (its_number r.slot) reader.unit c.replace-unit.result reader.seen at.1 c.replace-unit.ensures.value (reader.its, reader.known), head_for n reader.number (its_number r.slot) self.head.now self.headed at.1)
 
 pub invariant_of-reader : goal.invariant_of-reader
 invariant_of-reader g c =

@@ -8,13 +8,14 @@ use Rattle.seize_calls.specs.Slots.{its_number}
 use Rattle.seize_guard.specs.Collectors.{its_book}
 use Rattle.seize_guard.specs.Makes.{Enters}
 use Rattle.seize_guard.specs.Reservations.{IsUnit}
-use Rattle.seize_guard.proofs.Places.{in_place}
+use Rattle.seize_guard.proofs.Places.{head_for, in_place}
 use Rattle.seize_guard.proofs.registration.Registration.enter.Goals as goal
 
 pub try_with-requires : goal.try_with-requires
 try_with-requires g c =
     let self = c.args.self.now in
-    λ r keeps. ((in_place (its_book self.collector.now) self.number (2 ^ 64 - 1) r (keeps.0 ∙ self.at)).0, (sym c.requires.pass.0, sym c.requires.pass.1))
+    let n = its_book self.collector.now in
+    λ r keeps. let at = in_place n self.number (2 ^ 64 - 1) r (keeps.0 ∙ self.at) in (at.0, (sym c.requires.pass.0, sym c.requires.pass.1), head_for n self.number (its_number r.slot) self.head.now self.headed at.1)
 
 pub invariant_of-reader : goal.invariant_of-reader
 invariant_of-reader g c =

@@ -2,7 +2,7 @@ use Rattle.std.proofs.Common.{ap, arith, refl, sym, ◌∙◌}
 use Rattle.seize_book.specs.Tokens.{Name}
 use Rattle.seize_calls.specs.Slots.{its_number}
 use Rattle.seize_words.specs.Joined.{words_book}
-use Rattle.seize_guard.proofs.Current.{slot_looks}
+use Rattle.seize_guard.proofs.Current.{looks_active, slot_looks}
 use Rattle.seize_guard.proofs.Made.{none_learned, none_then}
 use Rattle.seize_guard.proofs.Placed.{active_some, at_some, begun_learned, label_same, placed, placed_slot, some_at, still_for}
 use Rattle.seize_guard.proofs.reservation.Reservation.current.Goals as goal
@@ -40,7 +40,10 @@ returns-clause-active g c =
 pub returns-clause-same : goal.returns-clause-same
 returns-clause-same g c = c.current.ensures.looks.0.same.0
 
-pub returns-clause-none : goal.returns-clause-none
-returns-clause-none g c =
-    none_then (none_learned c.args.pass.now c.args.seen.now c.learn.new.self c.learn.ensures)
-    (slot_looks c.args.self.now.slot c.learn.new.self c.current.new.self c.current.new.pass c.current.ensures.looks)
+pub returns-clause-active_still : goal.returns-clause-active_still
+returns-clause-active_still g c =
+    let words = c.args.words.now in let r = c.args.self.now in let pass = c.args.pass.now in let learned = c.learn.new.self in let current = c.current.ensures in
+    let of = placed_slot words r c.requires.of.0 (sym c.seen.ensures.0 ∙ c.agree.ensures) in (
+      none_then (none_learned pass c.args.seen.now learned c.learn.ensures) (slot_looks r.slot learned c.current.new.self c.current.new.pass current.looks),
+      looks_active r.slot learned c.current.new.self c.current.new.pass words of.0 (still_for words pass learned c.requires.of.2 c.learn.ensures.0) current.looks current.within.0,
+    )

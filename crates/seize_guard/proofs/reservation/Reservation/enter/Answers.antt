@@ -1,9 +1,10 @@
-use Rattle.std.proofs.Common.{ap, arith, sym, ◌∙◌}
+use Rattle.std.proofs.Common.{ap, arith, refl, sym, ◌∙◌}
 use Rattle.seize_book.specs.Tokens.{Name}
 use Rattle.seize_calls.specs.Slots.{its_number}
 use Rattle.seize_words.specs.Joined.{words_book}
 use Rattle.seize_guard.proofs.Made.{slot_enters}
 use Rattle.seize_guard.proofs.Placed.{at_none, label_same, placed, placed_slot, some_at, unit_in, units_within}
+use Rattle.seize_guard.proofs.Places.{own_head}
 use Rattle.seize_guard.proofs.reservation.Reservation.enter.Goals as goal
 
 pub agree-requires : goal.agree-requires
@@ -12,7 +13,8 @@ agree-requires g c = ap (λ (n : Name). n.family) c.seen.ensures.0 ∙ c.require
 pub enter-requires : goal.enter-requires
 enter-requires g c =
     let words = c.args.words.now in let r = c.args.self.now in let is = c.requires.of.0 in
-    (omega arith, ((placed_slot words r is (sym c.seen.ensures.0 ∙ c.agree.ensures), c.requires.of.2), at_none r.slot r.rest r.guards c.requires.first.0 is.at))
+    let book = sym c.seen.ensures.0 ∙ c.agree.ensures in
+    (omega arith, ((placed_slot words r is book, c.requires.of.2), (own_head r.slot (words_book words) (its_number r.slot) c.args.head.now c.requires.head book refl, at_none r.slot r.rest r.guards c.requires.first.0 is.at)))
 
 pub returns-clause-follows : goal.returns-clause-follows
 returns-clause-follows g c =

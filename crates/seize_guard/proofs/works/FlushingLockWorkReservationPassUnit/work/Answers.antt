@@ -10,7 +10,7 @@ use Rattle.seize_guard.proofs.works.FlushingLockWorkReservationPassUnit.work.Goa
 pub flush-requires : goal.flush-requires
 flush-requires g c =
     let words = c.args.self.words.now in let current = c.current.ensures in
-    (omega arith, ((current.active.1, still_for words c.args.pass.now c.current.new.pass c.requires.1.1 current.none.same, tt), (current.active.2.active, tt)))
+    (omega arith, ((current.active.1, still_for words c.args.pass.now c.current.new.pass c.requires.1.1 current.active_still.0.same, tt), (current.active.2.active, tt)))
 
 pub returns : goal.returns
 returns g c =
@@ -20,6 +20,6 @@ returns g c =
         label_same at.slot slot' at.most flush.flushes.same ∙ current.follows.0.0,
         placed words slot' at.rest at.guards at.most flush.of.0 (some_at slot' at.rest at.guards some (flush.of.1 at.rest (at_some at.slot at.rest at.guards some is.at))) is.units is.fits,
       ),
-      call_after (its_number at.slot) (its_number r.slot) Flush c.args.pass.now ready pass' current.same current.none
-          (slot_flushes words at.slot ready slot' pass' flush.of.0.0 (still_for words c.args.pass.now ready c.requires.1.1 current.none.same) (had_of c.new.result.ended) (had_of ended) ended refl c.flush.result flush.flushes),
+      call_after (its_number at.slot) (its_number r.slot) Flush c.args.pass.now ready pass' current.same current.active_still.0
+          (slot_flushes words at.slot ready slot' pass' flush.of.0.0 (still_for words c.args.pass.now ready c.requires.1.1 current.active_still.0.same) (had_of c.new.result.ended) (had_of ended) ended refl c.flush.result flush.flushes),
     )

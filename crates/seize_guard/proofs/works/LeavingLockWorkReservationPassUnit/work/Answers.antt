@@ -1,9 +1,11 @@
 use Rattle.std.proofs.Common.{ℕ, ◌<◌, ◌-◌, ◌≡◌, arith, inl, inr, refl, sym, ◌∙◌}
 use Rattle.seize_calls.specs.Slots.{its_number}
 use Rattle.seize_machine.specs.declared.machine.event.Job.TheVariants.{Leave}
+use Rattle.seize_words.specs.Joined.{words_book}
 use Rattle.seize_guard.specs.Ends.{had_of}
 use Rattle.seize_guard.proofs.Guarded.{call_after}
 use Rattle.seize_guard.proofs.Placed.{at_some, label_same, none_at, placed, some_at, still_for, units_joined, units_within}
+use Rattle.seize_guard.proofs.Places.{own_head}
 use Rattle.seize_guard.proofs.Wholly.{slot_leaves}
 use Rattle.seize_guard.proofs.works.LeavingLockWorkReservationPassUnit.work.Goals as goal
 
@@ -13,8 +15,11 @@ leave-requires g c =
     let some : 0 < at.guards = omega (arith, current.active.0, current.follows.1) in let units = units_joined at.rest work.unit c.join.new.self at.guards c.join.ensures c.requires.1.2.0.one is.units some in (
       omega arith,
       (
-        (current.active.1, still_for words c.args.pass.now c.current.new.pass c.requires.1.1 current.none.same, tt),
-        ((units_within at.slot at.rest c.join.new.self _ c.join.ensures (at_some at.slot at.rest at.guards some is.at), omega (arith, units, c.if-r-gt0.false, some)), tt),
+        (current.active.1, still_for words c.args.pass.now c.current.new.pass c.requires.1.1 current.active_still.0.same, tt),
+        (
+          own_head at.slot (words_book words) (its_number c.args.r.now.slot) work.head.now c.requires.1.3 current.active.1.0.book current.same,
+          ((units_within at.slot at.rest c.join.new.self _ c.join.ensures (at_some at.slot at.rest at.guards some is.at), omega (arith, units, c.if-r-gt0.false, some)), tt),
+        ),
       ),
     )
 
@@ -27,7 +32,7 @@ returns-then-r-gt0 g c =
         current.follows.0.0,
         placed words at.slot c.join.new.self left at.most current.active.1 (some_at at.slot c.join.new.self left (omega (arith, c.if-r-gt0.true)) (units_within at.slot at.rest c.join.new.self _ c.join.ensures (at_some at.slot at.rest at.guards some is.at))) units (omega (arith, is.fits)),
       ),
-      (inr (omega (arith, c.if-r-gt0.true, current.follows.1), current.none), omega (arith, some, current.follows.1)),
+      (inr (omega (arith, c.if-r-gt0.true, current.follows.1), current.active_still), omega (arith, some, current.follows.1)),
     )
 
 pub returns : goal.returns
@@ -43,8 +48,8 @@ returns g c =
       (
         inl (
           sym current.follows.1 ∙ one,
-          call_after (its_number at.slot) (its_number r.slot) Leave c.args.pass.now ready pass' current.same current.none
-              (slot_leaves words at.slot ready slot' pass' leave.of.0.0 (still_for words c.args.pass.now ready c.requires.1.1 current.none.same) (had_of c.new.result.ended) (had_of ended) ended refl leave.leaves),
+          call_after (its_number at.slot) (its_number r.slot) Leave c.args.pass.now ready pass' current.same current.active_still.0
+              (slot_leaves words at.slot ready slot' pass' leave.of.0.0 (still_for words c.args.pass.now ready c.requires.1.1 current.active_still.0.same) (had_of c.new.result.ended) (had_of ended) ended refl leave.leaves),
         ),
         omega (arith, some, current.follows.1),
       ),

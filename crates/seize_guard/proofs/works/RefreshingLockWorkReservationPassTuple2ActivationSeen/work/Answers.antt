@@ -5,6 +5,7 @@ use Rattle.seize_words.specs.Joined.{words_book}
 use Rattle.seize_guard.specs.Ends.{had_of}
 use Rattle.seize_guard.proofs.Guarded.{call_after}
 use Rattle.seize_guard.proofs.Placed.{at_some, label_same, placed, some_at, still_for, unit_in, units_joined, units_within}
+use Rattle.seize_guard.proofs.Places.{own_head}
 use Rattle.seize_guard.proofs.Wholly.{slot_refreshes}
 use Rattle.seize_guard.proofs.works.RefreshingLockWorkReservationPassTuple2ActivationSeen.work.Goals as goal
 
@@ -14,8 +15,11 @@ refresh-requires g c =
     let some : 0 < at.guards = omega (arith, current.active.0, current.follows.1) in let units = units_joined at.rest work.unit c.join.new.self at.guards c.join.ensures c.requires.1.2.0.one is.units some in (
       omega arith,
       (
-        (current.active.1, still_for words c.args.pass.now c.current.new.pass c.requires.1.1 current.none.same, tt),
-        ((units_within at.slot at.rest c.join.new.self _ c.join.ensures (at_some at.slot at.rest at.guards some is.at), omega (arith, units, c.if-r-gt1.false, some)), tt),
+        (current.active.1, still_for words c.args.pass.now c.current.new.pass c.requires.1.1 current.active_still.0.same, tt),
+        (
+          own_head at.slot (words_book words) (its_number c.args.r.now.slot) work.head.now c.requires.1.3 current.active.1.0.book current.same,
+          ((units_within at.slot at.rest c.join.new.self _ c.join.ensures (at_some at.slot at.rest at.guards some is.at), omega (arith, units, c.if-r-gt1.false, some)), tt),
+        ),
       ),
     )
 
@@ -32,8 +36,8 @@ returns g c =
       (
         inl (
           sym current.follows.1 ∙ one,
-          call_after (its_number at.slot) (its_number r.slot) Refresh c.args.pass.now ready pass' current.same current.none
-              (slot_refreshes words at.slot ready slot' pass' refresh.of.0 (still_for words c.args.pass.now ready c.requires.1.1 current.none.same) (had_of c.new.result.ended) (had_of ended) ended refl rest refresh.refreshes),
+          call_after (its_number at.slot) (its_number r.slot) Refresh c.args.pass.now ready pass' current.same current.active_still.0
+              (slot_refreshes words at.slot ready slot' pass' refresh.of.0 (still_for words c.args.pass.now ready c.requires.1.1 current.active_still.0.same) (had_of c.new.result.ended) (had_of ended) ended refl rest refresh.refreshes),
         ),
         unit_in (words_book words) (its_number r.slot) slot' rest c.split-unit.result c.seen.result refresh.of.0.book (refresh.refreshes.same.0 ∙ current.same) refresh.inside.0 split.0 c.seen.ensures.0 c.seen.ensures.1,
       ),
