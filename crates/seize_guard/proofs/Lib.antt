@@ -1,4 +1,5 @@
 pub mod Compared
+pub mod Found
 pub mod Guarded
 pub mod Placed
 pub mod Places

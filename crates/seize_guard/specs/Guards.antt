@@ -1,7 +1,8 @@
 -- What contracts see of a guard of a registration.
---     guard_collector g, guard_slot g     its collector, and its slot's number
+--     guard_collector g, guard_slot g     its collector, and its slot's number;  guard_activation g     the slot's activation
 --     IsGuardOf r g            it is a guard of this registration
 use Rattle.std.specs.Prelude.{◌≡◌, ℕ}
+use Rattle.seize_words.specs.declared.activation.Activation.{Activation}
 use Rattle.seize_guard.specs.Registrations.{registered_in, registered_slot}
 use Rattle.seize_guard.specs.declared.collector.Collector.{Collector}
 use Rattle.seize_guard.specs.declared.guard.LocalGuard.{LocalGuard}
@@ -12,6 +13,9 @@ guard_collector guard = guard.reader.collector.now
 
 abbrev pub guard_slot : {T : Type 0} → LocalGuard T → ℕ
 guard_slot guard = guard.reader.number
+
+abbrev pub guard_activation : {T : Type 0} → LocalGuard T → Activation
+guard_activation guard = guard.reader.unit
 
 abbrev pub IsGuardOf : {T : Type 0} → Registration T → LocalGuard T → Type 0
 IsGuardOf registration guard =

@@ -1,6 +1,7 @@
 -- What contracts see of a guard that threads share.
---     owned_collector g, owned_slot g     its collector, and its slot's number
+--     owned_collector g, owned_slot g     its collector, and its slot's number;  owned_activation g     the slot's activation
 use Rattle.std.specs.Prelude.{ℕ}
+use Rattle.seize_words.specs.declared.activation.Activation.{Activation}
 use Rattle.seize_guard.specs.declared.collector.Collector.{Collector}
 use Rattle.seize_guard.specs.declared.owned.OwnedGuard.{OwnedGuard}
 
@@ -9,3 +10,6 @@ owned_collector guard = guard.reader.collector.now
 
 abbrev pub owned_slot : {T : Type 0} → OwnedGuard T → ℕ
 owned_slot guard = guard.reader.number
+
+abbrev pub owned_activation : {T : Type 0} → OwnedGuard T → Activation
+owned_activation guard = guard.reader.unit

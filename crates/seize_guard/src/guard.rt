@@ -36,8 +36,8 @@ impl<'r, 'c, T: Drop> LocalGuard<'r, 'c, T> {
     ghost use Rattle.seize_guard.specs.Collectors.{IsBlockOf, IsPassOf, its_links};
     ghost use Rattle.seize_words.specs.Links.{comparand};
     ghost use Rattle.seize_table.specs.declared.refusal.Refusal.TheVariants.{NoMemory as no_memory};
-    ghost use Rattle.seize_guard.specs.Exchanges.{IsOutcome, current_name};
-    ghost use Rattle.seize_guard.specs.Guards.{IsGuardOf, guard_collector, guard_slot};
+    ghost use Rattle.seize_guard.specs.Exchanges.{FoundIn, IsOutcome, TookFound, current_name};
+    ghost use Rattle.seize_guard.specs.Guards.{IsGuardOf, guard_activation, guard_collector, guard_slot};
     ghost use Rattle.seize_guard.specs.Makes.{MakesCall, MakesOne, StaysActive};
 
     // One of this registration, which reads so.
@@ -87,7 +87,7 @@ impl<'r, 'c, T: Drop> LocalGuard<'r, 'c, T> {
     pub fn protect(&self, link: usize, pass: &mut Pass) -> Option<Shared<'_, T>>
         requires of { IsPassOf (guard_collector self.now) pass.old × (link < its_links (guard_collector self.now)) }
         ensures { (held : Option ℕ) × MakesOne pass.old pass.new (ReadLink (guard_slot self.now) link) (Link held)
-            × Shows T.row.coded.code held result }
+            × Shows T.row.coded.code held result × FoundIn (guard_activation self.now) held pass.new }
     {
         self.reader.protect(link, pass)
     }
@@ -115,6 +115,8 @@ impl<'r, 'c, T: Drop> LocalGuard<'r, 'c, T> {
     /// event `ExchangeLink`. It gives what the link held, which may outlive the guard, and is to be retired.
     ///
     /// Whether it holds that is decided by the number of its block. Where the exchange is won, the event compares with what the link held.
+    /// What this guard found since it entered or refreshed is not reclaimed while it stands. So where that is `current`, a won exchange
+    /// took out just that value, and no other one of the same block.
     ///
     /// It takes no memory and waits for nobody: one atomic compare and exchange, and look-ups of the blocks.
     ///
@@ -133,7 +135,9 @@ impl<'r, 'c, T: Drop> LocalGuard<'r, 'c, T> {
         ensures { (v : Option ℕ) × (held : Option ℕ) × IsNamed T.row.coded.code new v
             × (let compare = comparand (current_name current.entry) held in
             MakesOne pass.old pass.new (ExchangeLink (guard_slot self.now) link (Compare compare v)) (Link held)
-            × IsOutcome T.row.coded.code (guard_collector self.now) new compare held result) }
+            × IsOutcome T.row.coded.code (guard_collector self.now) new compare held result
+            × FoundIn (guard_activation self.now) held pass.new
+            × TookFound (guard_activation self.now) (current_name current.entry) pass.old held result) }
     {
         self.reader.compare_exchange(link, current, new, pass)
     }
@@ -151,7 +155,9 @@ impl<'r, 'c, T: Drop> LocalGuard<'r, 'c, T> {
         ensures { (v : Option ℕ) × (held : Option ℕ) × IsNamed T.row.coded.code new v
             × (let compare = comparand (current_name current.entry) held in
             MakesOne pass.old pass.new (ExchangeLink (guard_slot self.now) link (Compare compare v)) (Link held)
-            × IsOutcome T.row.coded.code (guard_collector self.now) new compare held result) }
+            × IsOutcome T.row.coded.code (guard_collector self.now) new compare held result
+            × FoundIn (guard_activation self.now) held pass.new
+            × TookFound (guard_activation self.now) (current_name current.entry) pass.old held result) }
     {
         self.compare_exchange(link, current, new, pass)
     }

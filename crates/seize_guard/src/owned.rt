@@ -44,9 +44,9 @@ impl<'c, T: Drop> OwnedGuard<'c, T> {
     ghost use Rattle.seize_calls.specs.Slots.{IsInactive, its_number};
     ghost use Rattle.seize_guard.specs.Blocks.{ComesOut, IsNamed, Shows, content, unlinked_collector, unlinked_name};
     ghost use Rattle.seize_guard.specs.Collectors.{IsBlockOf, IsPassOf, IsSlotFor, its_links};
-    ghost use Rattle.seize_guard.specs.Exchanges.{IsOutcome, current_name};
+    ghost use Rattle.seize_guard.specs.Exchanges.{FoundIn, IsOutcome, TookFound, current_name};
     ghost use Rattle.seize_guard.specs.Makes.{LeavesAndGives, MakesCall, MakesOne};
-    ghost use Rattle.seize_guard.specs.OwnedGuards.{owned_collector, owned_slot};
+    ghost use Rattle.seize_guard.specs.OwnedGuards.{owned_activation, owned_collector, owned_slot};
 
     // One with this slot, which enters.
     pub(crate) fn enter(
@@ -109,7 +109,7 @@ impl<'c, T: Drop> OwnedGuard<'c, T> {
     pub fn protect(&self, link: usize, pass: &mut Pass) -> Option<Shared<'_, T>>
         requires of { IsPassOf (owned_collector self.now) pass.old × (link < its_links (owned_collector self.now)) }
         ensures { (held : Option ℕ) × MakesOne pass.old pass.new (ReadLink (owned_slot self.now) link) (Link held)
-            × Shows T.row.coded.code held result }
+            × Shows T.row.coded.code held result × FoundIn (owned_activation self.now) held pass.new }
     {
         self.reader.protect(link, pass)
     }
@@ -137,6 +137,8 @@ impl<'c, T: Drop> OwnedGuard<'c, T> {
     /// event `ExchangeLink`. It gives what the link held, which may outlive the guard, and is to be retired.
     ///
     /// Whether it holds that is decided by the number of its block. Where the exchange is won, the event compares with what the link held.
+    /// What this guard found since it entered or refreshed is not reclaimed while it stands. So where that is `current`, a won exchange
+    /// took out just that value, and no other one of the same block.
     ///
     /// It takes no memory and no lock, and waits for nobody: one atomic compare and exchange, and look-ups of the blocks.
     ///
@@ -155,7 +157,9 @@ impl<'c, T: Drop> OwnedGuard<'c, T> {
         ensures { (v : Option ℕ) × (held : Option ℕ) × IsNamed T.row.coded.code new v
             × (let compare = comparand (current_name current.entry) held in
             MakesOne pass.old pass.new (ExchangeLink (owned_slot self.now) link (Compare compare v)) (Link held)
-            × IsOutcome T.row.coded.code (owned_collector self.now) new compare held result) }
+            × IsOutcome T.row.coded.code (owned_collector self.now) new compare held result
+            × FoundIn (owned_activation self.now) held pass.new
+            × TookFound (owned_activation self.now) (current_name current.entry) pass.old held result) }
     {
         self.reader.compare_exchange(link, current, new, pass)
     }
@@ -173,7 +177,9 @@ impl<'c, T: Drop> OwnedGuard<'c, T> {
         ensures { (v : Option ℕ) × (held : Option ℕ) × IsNamed T.row.coded.code new v
             × (let compare = comparand (current_name current.entry) held in
             MakesOne pass.old pass.new (ExchangeLink (owned_slot self.now) link (Compare compare v)) (Link held)
-            × IsOutcome T.row.coded.code (owned_collector self.now) new compare held result) }
+            × IsOutcome T.row.coded.code (owned_collector self.now) new compare held result
+            × FoundIn (owned_activation self.now) held pass.new
+            × TookFound (owned_activation self.now) (current_name current.entry) pass.old held result) }
     {
         self.compare_exchange(link, current, new, pass)
     }

@@ -10,7 +10,7 @@ ghost use Rattle.seize_guard.specs.Reservations.{IsUnitIn};
 
 use crate::block::{Failed, Owned, Shared, Unlinked, name};
 use crate::collector::Collector;
-use crate::guard::exchanging::{came_back, current_word, exchange, shown};
+use crate::guard::exchanging::{came_back, current_word, exchange, look_back, shown};
 use seize_words::activation::Activation;
 use seize_words::book::{Pass, Seen};
 use std::marker::Brand;
@@ -38,14 +38,14 @@ impl<'c, T: Drop> Reader<'c, T> {
     ghost use Rattle.seize_words.specs.Links.{comparand};
     ghost use Rattle.seize_guard.specs.Blocks.{ComesOut, IsNamed, Shows, unlinked_collector};
     ghost use Rattle.seize_guard.specs.Collectors.{IsBlockOf, IsPassOf, its_links};
-    ghost use Rattle.seize_guard.specs.Exchanges.{IsOutcome, current_name};
+    ghost use Rattle.seize_guard.specs.Exchanges.{FoundIn, IsOutcome, TookFound, current_name};
     ghost use Rattle.seize_guard.specs.Makes.{MakesOne};
 
     /// Reads a link.
     pub(crate) fn protect(&self, link: usize, pass: &mut Pass) -> Option<Shared<'_, T>>
         requires of { IsPassOf self.now.collector.now pass.old × (link < its_links self.now.collector.now) }
         ensures { (held : Option ℕ) × MakesOne pass.old pass.new (ReadLink self.now.number link) (Link held)
-            × Shows T.row.coded.code held result }
+            × Shows T.row.coded.code held result × FoundIn self.now.unit held pass.new }
     {
         pass.learn(&self.seen);
         let (word, found) = self.collector.words.find(link, &self.unit, pass);
@@ -88,7 +88,9 @@ impl<'c, T: Drop> Reader<'c, T> {
         ensures { (v : Option ℕ) × (held : Option ℕ) × IsNamed T.row.coded.code new v
             × (let compare = comparand (current_name current.entry) held in
             MakesOne pass.old pass.new (ExchangeLink self.now.number link (Compare compare v)) (Link held)
-            × IsOutcome T.row.coded.code self.now.collector.now new compare held result) }
+            × IsOutcome T.row.coded.code self.now.collector.now new compare held result
+            × FoundIn self.now.unit held pass.new
+            × TookFound self.now.unit (current_name current.entry) pass.old held result) }
     {
         let collector = self.collector;
         pass.learn(&self.seen);
@@ -105,6 +107,7 @@ impl<'c, T: Drop> Reader<'c, T> {
             pass,
         );
         if old == seen {
+            look_back(&collector.words.blocks, old, &self.unit, pass);
             return Ok(Unlinked::found(collector, old, key));
         }
         let found = shown(&collector.words.blocks, old, glimpse, pass);

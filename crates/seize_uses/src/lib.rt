@@ -4,6 +4,7 @@
 pub mod alone;
 pub mod list;
 pub mod machine;
+pub mod replacing;
 pub mod shared;
 pub mod table;
 #[cfg(test)]

@@ -3,7 +3,8 @@
 use crate::alone::{Number, read_and_retire};
 use crate::list::{Node, PutNext, in_front};
 use crate::machine::with_active_slot;
-use crate::shared::{read, replace};
+use crate::replacing::exchange;
+use crate::shared::{audit, read, replace};
 use crate::table::loaded_twice;
 use crate::watched::{Newest, retire_under_guard};
 use seize::thread_id::{Numbers, Thread};
@@ -98,9 +99,12 @@ fn a_shared_number_is_replaced_and_read(rt: HostRuntime) -> Result<(), Fail> {
     let before = read(&registration, &rt, &mut pass);
     let first = replace(&registration, 7, &rt, &mut pass);
     let second = replace(&registration, 8, &rt, &mut pass);
+    let third = exchange(&registration, 9, &rt, &mut pass);
     let after = read(&registration, &rt, &mut pass);
+    audit(&registration, &mut pass);
     assert!(rt; registration.end(&rt, &mut pass));
     assert!(rt; first.is_ok() && second.is_ok());
-    assert_eq!(rt; (before?, after?), (None, Some(8)));
+    assert!(rt; third?);
+    assert_eq!(rt; (before?, after?), (None, Some(9)));
     Ok(())
 }

@@ -8,8 +8,9 @@ ghost use Rattle.seize_words.specs.Links.{comparand};
 ghost use Rattle.seize_table.specs.declared.refusal.Refusal.TheVariants.{NoMemory as no_memory};
 ghost use Rattle.seize_guard.specs.Blocks.{ComesOut, IsNamed, Shows, content, unlinked_collector, unlinked_name};
 ghost use Rattle.seize_guard.specs.Collectors.{IsBlockOf, IsPassOf, its_links};
-ghost use Rattle.seize_guard.specs.Exchanges.{IsOutcome, current_name};
+ghost use Rattle.seize_guard.specs.Exchanges.{FoundIn, IsOutcome, TookFound, current_name};
 ghost use Rattle.seize_guard.specs.Makes.{MakesCall, MakesOne, StaysActive};
+ghost use Rattle.seize_words.specs.declared.activation.Activation.{Activation};
 ghost use Rattle.seize_guard.specs.declared.collector.Collector.{Collector};
 
 use crate::block::{Failed, Owned, Shared, Unlinked};
@@ -26,6 +27,9 @@ pub trait Guard<T: Drop> {
 
     /// The number of the slot that is active while the guard stands.
     ghost number: { Self → ℕ };
+
+    /// The slot's activation.
+    ghost activation: { Self → Activation };
 
     /// The collector.
     fn collector(&self) -> &Collector<T>
@@ -48,7 +52,7 @@ pub trait Guard<T: Drop> {
     fn protect(&self, link: usize, pass: &mut Pass) -> Option<Shared<'_, T>>
         requires of { IsPassOf (guarded self.now) pass.old × (link < its_links (guarded self.now)) }
         ensures { (held : Option ℕ) × MakesOne pass.old pass.new (ReadLink (number self.now) link) (Link held)
-            × Shows T.row.coded.code held result };
+            × Shows T.row.coded.code held result × FoundIn (activation self.now) held pass.new };
 
     /// Exchanges what a link holds for this block, or for none: the event `ExchangeLink`. It gives what the link held.
     fn swap(&self, link: usize, value: Option<Owned<T>>, pass: &mut Pass) -> Option<Unlinked<'_, T>>
@@ -75,7 +79,9 @@ pub trait Guard<T: Drop> {
         ensures { (v : Option ℕ) × (held : Option ℕ) × IsNamed T.row.coded.code new v
             × (let compare = comparand (current_name current.entry) held in
             MakesOne pass.old pass.new (ExchangeLink (number self.now) link (Compare compare v)) (Link held)
-            × IsOutcome T.row.coded.code (guarded self.now) new compare held result) };
+            × IsOutcome T.row.coded.code (guarded self.now) new compare held result
+            × FoundIn (activation self.now) held pass.new
+            × TookFound (activation self.now) (current_name current.entry) pass.old held result) };
 
     /// The same.
     fn compare_exchange_weak(
@@ -90,7 +96,9 @@ pub trait Guard<T: Drop> {
         ensures { (v : Option ℕ) × (held : Option ℕ) × IsNamed T.row.coded.code new v
             × (let compare = comparand (current_name current.entry) held in
             MakesOne pass.old pass.new (ExchangeLink (number self.now) link (Compare compare v)) (Link held)
-            × IsOutcome T.row.coded.code (guarded self.now) new compare held result) };
+            × IsOutcome T.row.coded.code (guarded self.now) new compare held result
+            × FoundIn (activation self.now) held pass.new
+            × TookFound (activation self.now) (current_name current.entry) pass.old held result) };
 
     /// Retires what came out of a link: a whole call of the slot.
     fn defer_retire<W: Wait>(&self, rt: &W, pass: &mut Pass, value: Unlinked<'_, T>)

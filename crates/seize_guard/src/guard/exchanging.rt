@@ -8,7 +8,8 @@ ghost use Rattle.seize_words.specs.Joined.{IsInAt, IsNewTo, OnLink, words_book};
 ghost use Rattle.seize_words.specs.LinkWords.{CompareExchanges, value_held};
 ghost use Rattle.seize_guard.specs.Blocks.{IsNamed, Shows};
 ghost use Rattle.seize_guard.specs.Collectors.{IsBlockOf, its_book};
-ghost use Rattle.seize_guard.specs.Exchanges.{current_name};
+ghost use Rattle.seize_book.specs.Homesteads.{HasNumber, state_seen};
+ghost use Rattle.seize_guard.specs.Exchanges.{StandsAlone, current_name};
 
 use crate::block::{Owned, Shared};
 use crate::collector::Collector;
@@ -48,6 +49,22 @@ pub(crate) fn exchange<'g, T: Drop, E: Expects>(
         CompareExchanges link activation.now key.old pass.old E.current key.new pass.new result.0 result.1) }
 {
     words.exchange_link::<E>(link, seen, new, key, activation, pass)
+}
+
+// What a link held, whose word was this, came out. The pass looks at the list: the activation has not ended there, and of the values in the
+// block one stands, which then came out. It does nothing when the program runs.
+pub(crate) fn look_back<T: Drop>(blocks: &Blocks<T>, word: u64, unit: &Activation, pass: &mut Pass)
+    requires book { blocks_book blocks.now ≡ pass.old.name }
+    requires named { word ≢ 0 → HasNumber (word - 1) (state_seen pass.old) }
+    ensures looks { (pass.new ≡ pass.old) ⊎ LooksOn pass.old pass.new }
+    ensures stands { StandsAlone unit.now word pass.old pass.new }
+{
+    if word == 0 {
+        return;
+    }
+    let number = word - 1;
+    blocks.same(number, number, pass);
+    unit.lasts(pass);
 }
 
 // What the link held, whose word was this.

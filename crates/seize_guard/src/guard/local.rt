@@ -7,8 +7,8 @@ ghost use Rattle.seize_machine.specs.declared.machine.event.Job.TheVariants.{Ret
 ghost use Rattle.seize_words.specs.Links.{comparand};
 ghost use Rattle.seize_guard.specs.Blocks.{ComesOut, IsNamed, unlinked_collector, unlinked_name};
 ghost use Rattle.seize_guard.specs.Collectors.{IsBlockOf, IsPassOf, its_links};
-ghost use Rattle.seize_guard.specs.Exchanges.{IsOutcome, current_name};
-ghost use Rattle.seize_guard.specs.Guards.{guard_collector, guard_slot};
+ghost use Rattle.seize_guard.specs.Exchanges.{FoundIn, IsOutcome, TookFound, current_name};
+ghost use Rattle.seize_guard.specs.Guards.{guard_activation, guard_collector, guard_slot};
 ghost use Rattle.seize_guard.specs.Makes.{MakesCall, MakesOne};
 
 use crate::block::{Failed, Owned, Shared, Unlinked};
@@ -22,6 +22,8 @@ impl<T: Drop> Guard<T> for LocalGuard<'_, '_, T> {
     ghost guarded = { λ guard. guard_collector guard };
 
     ghost number = { λ guard. guard_slot guard };
+
+    ghost activation = { λ guard. guard_activation guard };
 
     fn collector(&self) -> &Collector<T> {
         LocalGuard::collector(self)
@@ -61,7 +63,9 @@ impl<T: Drop> Guard<T> for LocalGuard<'_, '_, T> {
         ensures { (v : Option ℕ) × (held : Option ℕ) × IsNamed T.row.coded.code new v
             × (let compare = comparand (current_name current.entry) held in
             MakesOne pass.old pass.new (ExchangeLink (guard_slot self.now) link (Compare compare v)) (Link held)
-            × IsOutcome T.row.coded.code (guard_collector self.now) new compare held result) }
+            × IsOutcome T.row.coded.code (guard_collector self.now) new compare held result
+            × FoundIn (guard_activation self.now) held pass.new
+            × TookFound (guard_activation self.now) (current_name current.entry) pass.old held result) }
     {
         LocalGuard::compare_exchange(self, link, current, new, pass)
     }
@@ -78,7 +82,9 @@ impl<T: Drop> Guard<T> for LocalGuard<'_, '_, T> {
         ensures { (v : Option ℕ) × (held : Option ℕ) × IsNamed T.row.coded.code new v
             × (let compare = comparand (current_name current.entry) held in
             MakesOne pass.old pass.new (ExchangeLink (guard_slot self.now) link (Compare compare v)) (Link held)
-            × IsOutcome T.row.coded.code (guard_collector self.now) new compare held result) }
+            × IsOutcome T.row.coded.code (guard_collector self.now) new compare held result
+            × FoundIn (guard_activation self.now) held pass.new
+            × TookFound (guard_activation self.now) (current_name current.entry) pass.old held result) }
     {
         LocalGuard::compare_exchange_weak(self, link, current, new, pass)
     }

@@ -7,9 +7,9 @@ ghost use Rattle.seize_machine.specs.declared.machine.event.Job.TheVariants.{Ret
 ghost use Rattle.seize_words.specs.Links.{comparand};
 ghost use Rattle.seize_guard.specs.Blocks.{ComesOut, IsNamed, unlinked_collector, unlinked_name};
 ghost use Rattle.seize_guard.specs.Collectors.{IsBlockOf, IsPassOf, its_links};
-ghost use Rattle.seize_guard.specs.Exchanges.{IsOutcome, current_name};
+ghost use Rattle.seize_guard.specs.Exchanges.{FoundIn, IsOutcome, TookFound, current_name};
 ghost use Rattle.seize_guard.specs.Makes.{MakesCall, MakesOne};
-ghost use Rattle.seize_guard.specs.OwnedGuards.{owned_collector, owned_slot};
+ghost use Rattle.seize_guard.specs.OwnedGuards.{owned_activation, owned_collector, owned_slot};
 
 use crate::block::{Failed, Owned, Shared, Unlinked};
 use crate::collector::Collector;
@@ -23,6 +23,8 @@ impl<T: Drop> Guard<T> for OwnedGuard<'_, T> {
     ghost guarded = { λ guard. owned_collector guard };
 
     ghost number = { λ guard. owned_slot guard };
+
+    ghost activation = { λ guard. owned_activation guard };
 
     fn collector(&self) -> &Collector<T> {
         OwnedGuard::collector(self)
@@ -62,7 +64,9 @@ impl<T: Drop> Guard<T> for OwnedGuard<'_, T> {
         ensures { (v : Option ℕ) × (held : Option ℕ) × IsNamed T.row.coded.code new v
             × (let compare = comparand (current_name current.entry) held in
             MakesOne pass.old pass.new (ExchangeLink (owned_slot self.now) link (Compare compare v)) (Link held)
-            × IsOutcome T.row.coded.code (owned_collector self.now) new compare held result) }
+            × IsOutcome T.row.coded.code (owned_collector self.now) new compare held result
+            × FoundIn (owned_activation self.now) held pass.new
+            × TookFound (owned_activation self.now) (current_name current.entry) pass.old held result) }
     {
         OwnedGuard::compare_exchange(self, link, current, new, pass)
     }
@@ -79,7 +83,9 @@ impl<T: Drop> Guard<T> for OwnedGuard<'_, T> {
         ensures { (v : Option ℕ) × (held : Option ℕ) × IsNamed T.row.coded.code new v
             × (let compare = comparand (current_name current.entry) held in
             MakesOne pass.old pass.new (ExchangeLink (owned_slot self.now) link (Compare compare v)) (Link held)
-            × IsOutcome T.row.coded.code (owned_collector self.now) new compare held result) }
+            × IsOutcome T.row.coded.code (owned_collector self.now) new compare held result
+            × FoundIn (owned_activation self.now) held pass.new
+            × TookFound (owned_activation self.now) (current_name current.entry) pass.old held result) }
     {
         OwnedGuard::compare_exchange_weak(self, link, current, new, pass)
     }

@@ -8,9 +8,10 @@ use Rattle.seize_words.specs.LinkWords.{held_before, link_number, value_held}
 use Rattle.seize_words.specs.Links.{comparand}
 use Rattle.seize_words.proofs.Facts.{glimpse_found}
 use Rattle.seize_guard.specs.Blocks.{ComesOut, IsNamed, Shows}
-use Rattle.seize_guard.specs.Exchanges.{current_name}
+use Rattle.seize_guard.specs.Exchanges.{FoundIn, current_name}
 use Rattle.seize_guard.specs.Makes.{Makes}
 use Rattle.seize_guard.proofs.Compared.{comes_back, lost_compare, made_looked, won_compare}
+use Rattle.seize_guard.proofs.Found.{exchange_found, exchange_number, found_learned, found_looked, took_found}
 use Rattle.seize_guard.proofs.Guarded.{guard_compares}
 use Rattle.seize_guard.proofs.Readable.{compared_readable}
 use Rattle.seize_guard.specs.Collectors.{its_book}
@@ -30,6 +31,16 @@ found-requires g c =
       ),
     )
 
+pub look_back-requires : goal.look_back-requires
+look_back-requires g c =
+    let reader = c.args.self.now in let exchanges = c.exchange-old.ensures.exchanges in let t = exchanges.2 in let key = c.name-word.result.1 in (
+      omega arith,
+      (
+        sym (t.0.same.0 ∙ ap (λ (p : Pass). p.name) c.name-word.ensures.pass ∙ c.learn.ensures.0.0 ∙ c.requires.of.0.0),
+        exchange_number exchanges.0 reader.unit key c.name-word.new.pass (current_name c.args.current) c.exchange-old.new.key c.exchange-old.new.pass c.exchange-old.result.0 c.exchange-old.result.1 t,
+      ),
+    )
+
 pub returns-then-old-seen : goal.returns-then-old-seen
 returns-then-old-seen g c =
     let reader = c.args.self.now in let exchanges = c.exchange-old.ensures.exchanges in let t = exchanges.2 in let key = c.name-word.result.1 in let key' = c.exchange-old.new.key in
@@ -38,9 +49,13 @@ returns-then-old-seen g c =
       held_before t.0,
       c.name-word.ensures.named,
       (
-        guard_compares (its_book reader.collector.now) reader.number reader.unit reader.seen (reader.its, reader.known) c.args.link exchanges.0 exchanges.1.1 c.args.pass.now c.learn.new.self c.learn.ensures key c.name-word.new.pass current key'
-            c.exchange-old.new.pass c.exchange-old.result.0 c.exchange-old.result.1 c.name-word.ensures.pass t,
+        made_looked (guard_compares (its_book reader.collector.now) reader.number reader.unit reader.seen (reader.its, reader.known) c.args.link exchanges.0 exchanges.1.1 c.args.pass.now c.learn.new.self c.learn.ensures key c.name-word.new.pass current key'
+            c.exchange-old.new.pass c.exchange-old.result.0 c.exchange-old.result.1 c.name-word.ensures.pass t) c.look_back.ensures.looks,
         (won_compare current (held_before t.0) (sym t.0.found ∙ won), subst (λ (o : Option ℕ). ComesOut o c.found.result) (t.2 won).0 c.found.ensures.out, c.found.ensures.of),
+        found_looked reader.unit (held_before t.0) c.exchange-old.new.pass c.look_back.new.pass c.look_back.ensures.looks
+            (exchange_found exchanges.0 reader.unit key c.name-word.new.pass current key' c.exchange-old.new.pass c.exchange-old.result.0 c.exchange-old.result.1 t),
+        λ found. took_found exchanges.0 reader.unit key c.name-word.new.pass current key' c.exchange-old.new.pass c.exchange-old.result.0 c.exchange-old.result.1 t c.look_back.new.pass won c.look_back.ensures.stands
+            (found_learned reader.unit current c.args.pass.now reader.seen c.learn.new.self c.name-word.new.pass c.learn.ensures c.name-word.ensures.pass found),
       ),
     )
 
@@ -77,5 +92,9 @@ returns g c =
           comes_back g.row.T.coded reader.collector.now (value_held key) c.args.new c.came_back-new.result c.name-word.ensures.named
               (subst (λ (o : Option ℕ). IsNamed g.row.T.coded.code c.came_back-new.result o) left.0 back.named) c.requires.value back.of,
         ),
+        subst (FoundIn reader.unit (held_before t.0)) (sym back.pass)
+            (found_looked reader.unit (held_before t.0) c.exchange-old.new.pass c.shown-found.new.pass c.shown-found.ensures.looks
+            (exchange_found exchanges.0 reader.unit key c.name-word.new.pass current key' c.exchange-old.new.pass c.exchange-old.result.0 c.exchange-old.result.1 t)),
+        tt,
       ),
     )

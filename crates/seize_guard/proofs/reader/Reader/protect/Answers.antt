@@ -1,4 +1,5 @@
 use Rattle.seize_words.specs.LinkWords.{held_before}
+use Rattle.seize_guard.proofs.Found.{finds_found}
 use Rattle.seize_guard.proofs.Guarded.{guard_finds, shows_found, shows_none}
 use Rattle.seize_guard.specs.Collectors.{its_book}
 use Rattle.seize_guard.proofs.reader.Reader.protect.Goals as goal
@@ -9,6 +10,7 @@ returns-in_err-found g c =
       held_before t.reads,
       guard_finds (its_book reader.collector.now) reader.number reader.unit reader.seen (reader.its, reader.known) c.args.link finds.0 finds.1.1 c.args.pass.now c.learn.new.self c.learn.ensures c.find-word.new.pass c.find-word.result.0 t,
       shows_none g.row.T.coded.code (held_before t.reads) c.find-word.result.1 c.from_residual.result finds.2.1 c.in_err-found.was c.from_residual.ensures,
+      finds_found finds.0 reader.unit c.learn.new.self c.find-word.new.pass c.find-word.result.0 t,
     )
 
 pub returns : goal.returns
@@ -17,4 +19,5 @@ returns g c =
       held_before t.reads,
       guard_finds (its_book reader.collector.now) reader.number reader.unit reader.seen (reader.its, reader.known) c.args.link finds.0 finds.1.1 c.args.pass.now c.learn.new.self c.learn.ensures c.find-word.new.pass c.find-word.result.0 t,
       shows_found g.row.T.coded.code (held_before t.reads) c.find-word.result.1 c.in_ok-found.found c.of.result finds.2.2 c.in_ok-found.was c.of.ensures,
+      finds_found finds.0 reader.unit c.learn.new.self c.find-word.new.pass c.find-word.result.0 t,
     )

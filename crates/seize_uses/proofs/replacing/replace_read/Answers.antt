@@ -1,0 +1,21 @@
+use Rattle.std.proofs.Common.{ℕ, Option, Some, [], ◌∷◌, subst}
+use base.Stored.{gnum}
+use Rattle.seize_guard.specs.Guards.{guard_activation, guard_collector, guard_slot}
+use Rattle.seize_guard.specs.Machine.Event.{ExchangeLink, ReadLink}
+use Rattle.seize_guard.specs.Makes.{Makes}
+use Rattle.seize_guard.proofs.Found.{read_replaced}
+use Rattle.seize_guard.proofs.Made.{makes_then}
+use Rattle.seize_machine.specs.declared.machine.event.Answer.TheVariants.{Link}
+use Rattle.seize_machine.specs.declared.machine.event.Exchange.TheVariants.{Compare}
+use Rattle.seize_uses.proofs.replacing.replace_read.Goals as goal
+
+-- the link held what was read, since the guard has stood since then
+pub returns-in-Ok-clause-took : goal.returns-in-Ok-clause-took
+returns-in-Ok-clause-took c =
+    let guard = c.args.guard.now in let s = guard_slot guard in let finds = c.protect.ensures in let took = c.compare_exchange.ensures in
+    let same = read_replaced gnum (guard_activation guard) (guard_collector guard) (Some c.args.new) c.protect.new.pass finds.2 c.in-Some.is finds.3 took.3.1 took.3.3 c.in-Ok.is in (
+      finds.0,
+      took.0,
+      subst (λ (t : Option ℕ × Option ℕ). Makes c.args.pass.now c.compare_exchange.new.pass ((ReadLink s 0, Link finds.0) ∷ (ExchangeLink s 0 (Compare t.0 took.0), Link t.1) ∷ [])) (λ j. (same.0 j, same.1 j))
+          (makes_then {es = (ReadLink s 0, Link finds.0) ∷ []} finds.1 took.3.0),
+    )

@@ -1,0 +1,66 @@
+//! A block in the place of the one that was read: how a structure without locks changes a link.
+ghost use Rattle.std.specs.Prelude.{◌≡◌, ◌<◌, ℕ, Option, [], ◌∷◌, IfOk, IfSome};
+ghost use Rattle.seize_guard.specs.Blocks.{unlinked_collector};
+ghost use Rattle.seize_guard.specs.Collectors.{IsBlockOf, IsPassOf, its_links};
+ghost use Rattle.seize_guard.specs.Guards.{guard_collector, guard_slot};
+ghost use Rattle.seize_guard.specs.Machine.Event.{ExchangeLink, ReadLink};
+ghost use Rattle.seize_guard.specs.Makes.{Makes};
+ghost use Rattle.seize_guard.specs.Registrations.{registered_in};
+ghost use Rattle.seize_machine.specs.declared.machine.event.Answer.TheVariants.{Link};
+ghost use Rattle.seize_machine.specs.declared.machine.event.Exchange.TheVariants.{Compare};
+
+use seize_guard::{LocalGuard, Owned, Pass, Refusal, Registration, Unlinked};
+use std::sync::Wait;
+
+/// Puts the block into link 0 in the place of the one that is there, unless another thread was faster; then the block comes back. What
+/// comes out is just what was read: neither another block, nor another value in the same block, since that is not used again while the
+/// guard stands.
+pub fn replace_read<'c>(
+    guard: &LocalGuard<'_, 'c, u64>,
+    new: Owned<u64>,
+    pass: &mut Pass,
+) -> Result<Option<Unlinked<'c, u64>>, Option<Owned<u64>>>
+    requires of { IsPassOf (guard_collector guard.now) pass.old × (0 < its_links (guard_collector guard.now)) }
+    requires value { IsBlockOf (guard_collector guard.now) new }
+    ensures pass { IsPassOf (guard_collector guard.now) pass.new }
+    ensures of { IfOk result (λ out. IfSome out (λ old. unlinked_collector old ≡ guard_collector guard.now)) }
+    ensures took { IfOk result (λ _. (held : Option ℕ) × (v : Option ℕ) × Makes pass.old pass.new
+        ((ReadLink (guard_slot guard.now) 0, Link held) ∷ (ExchangeLink (guard_slot guard.now) 0 (Compare held v), Link held) ∷ [])) }
+{
+    let Some(found) = guard.protect(0, pass) else {
+        return Err(Some(new));
+    };
+    match guard.compare_exchange(0, Some(&found), Some(new), pass) {
+        Ok(old) => Ok(old),
+        Err(failed) => Err(failed.new),
+    }
+}
+
+/// Puts a number into link 0 in the place of the one that is there, and retires the block that was there. It says whether it did: not
+/// where the link is empty, and not where another thread was faster.
+pub fn exchange<W: Wait>(
+    registration: &Registration<'_, u64>,
+    value: u64,
+    rt: &W,
+    pass: &mut Pass,
+) -> Result<bool, Refusal>
+    requires pass { IsPassOf (registered_in registration.now) pass.old }
+    requires link { 0 < its_links (registered_in registration.now) }
+    ensures pass { IsPassOf (registered_in registration.now) pass.new }
+{
+    let block = registration.owned(value).map_err(|(refusal, _)| refusal)?;
+    let guard = registration.enter(pass)?;
+    let done = match replace_read(&guard, block, pass) {
+        Ok(Some(old)) => {
+            guard.defer_retire(rt, pass, old);
+            true
+        }
+        Ok(None) => true,
+        Err(back) => {
+            drop(back);
+            false
+        }
+    };
+    guard.leave(rt, pass);
+    Ok(done)
+}
