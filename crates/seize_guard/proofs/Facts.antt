@@ -7,6 +7,9 @@ use Rattle.seize_words.specs.Chunks.{IsLentAs}
 use Rattle.seize_words.proofs.Facts.{same_content}
 use Rattle.seize_guard.specs.Blocks.{HasContent, Shows, shared_value}
 use Rattle.seize_guard.specs.declared.block.shared.Shared.{Shared}
+-- what was found stays found, and a won exchange of it took out that; and what one call makes and then another
+pub use Rattle.seize_guard.proofs.Found.{found_still, read_replaced}
+pub use Rattle.seize_guard.proofs.Made.{makes_then}
 
 -- A name says one content: `coded` is `T.row.coded`.
 pub content_once : {T : Type 0} (coded : Coded T) (v : ℕ) (x y : T) → HasContent coded.code v x → HasContent coded.code v y → x ≡ y

@@ -2,9 +2,10 @@
 --     current_name current     what the list calls the value that the caller takes a link to hold, or none
 --     ComesBack new back       the block comes back with its content, of the same store, or there is neither
 --     FoundIn a o pass         where o is a value, it was found in a link in this activation, as the pass has seen
---     TookFound a current pass held result     if the exchange was won, and `current` was found in this activation, the link held just that
+--     TookFound a current pass held result     if the exchange was won, and `current` was found in this activation, as the pass had seen
+--                              before, the link held just that
 --     StandsAlone a word pass later     where the word is that of a block, the pass has looked at the list since; the activation has not
---                              ended there, and one value of that block stands
+--                              ended there, and at most one value of that block was named and not reclaimed
 --     IsOutcome code collector new compare held result     where the link held what the exchange compared, that came out, of this
 --                              collector; else what the link held was found, and the block that was to go in comes back
 use Rattle.std.specs.Prelude.{◌≡◌, ◌≢◌, ◌-◌, ℕ, Option, None, Some, IfSome}

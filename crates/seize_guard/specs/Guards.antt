@@ -1,5 +1,6 @@
 -- What contracts see of a guard of a registration.
---     guard_collector g, guard_slot g     its collector, and its slot's number;  guard_activation g     the slot's activation
+--     guard_collector g, guard_slot g     its collector, and its slot's number;  guard_activation g     its part of the
+--                              slot's activation, of another one after a refresh
 --     IsGuardOf r g            it is a guard of this registration
 use Rattle.std.specs.Prelude.{◌≡◌, ℕ}
 use Rattle.seize_words.specs.declared.activation.Activation.{Activation}

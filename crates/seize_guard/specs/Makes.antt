@@ -10,8 +10,8 @@
 --                             AreStepsOf s steps     so is each of these
 --     MakesCall s job pass pass'     a whole call of slot s: from its begin with this job to its return, and between them its steps
 --     LeavesAndGives s pass pass'    a whole call of slot s to leave, and then its number went back
---     EndsUse s pass pass' gave     the use of slot s ended: its number went back; or it stays active
---     Enters s pass pass'     slot s entered; or it was active already
+--     EndsUse s pass pass' gave     the use of slot s ended: its number went back; or no event was made, and it is active (`StaysActive`)
+--     Enters s pass pass'     slot s entered; or no event was made, and it is active
 use Rattle.std.specs.Prelude.{◌≡◌, ◌⊎◌, ℕ, Bool, true, false, map, List, [], ◌∷◌, ◌++◌}
 use mathlib.Core.List.{IsPrefix}
 use Rattle.seize_machine.specs.Machine.Event.{AddCount, Begin, Detach, Enter, Event, Give, Hand, Insert, Put, ReadHead, Return}

@@ -1,5 +1,6 @@
 -- What contracts see of a guard that threads share.
---     owned_collector g, owned_slot g     its collector, and its slot's number;  owned_activation g     the slot's activation
+--     owned_collector g, owned_slot g     its collector, and its slot's number;  owned_activation g     its part of
+--                              the slot's activation, of another one after a refresh
 use Rattle.std.specs.Prelude.{ℕ}
 use Rattle.seize_words.specs.declared.activation.Activation.{Activation}
 use Rattle.seize_guard.specs.declared.collector.Collector.{Collector}

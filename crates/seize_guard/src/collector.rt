@@ -226,8 +226,9 @@ impl<T: Drop> Collector<T> {
         Ok(OwnedGuard::enter(self, slot, pass))
     }
 
-    /// The pass looks at the list of all events so far. Every law of the machine holds of what it has seen then. So each value, whoever
-    /// retired it, is reclaimed at most once, and only after each slot that was active at its retirement has left or refreshed.
+    /// The pass looks at the list of events. Every law of the machine holds of what it has seen then, which goes on from what it had seen.
+    /// So each value, whoever retired it, is reclaimed there at most once, and only after each slot that was active at its retirement has
+    /// left or refreshed.
     ///
     /// It makes no event, and does nothing when the program runs: its contract is the laws.
     pub fn laws(&self, pass: &mut Pass)

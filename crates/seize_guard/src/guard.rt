@@ -115,8 +115,8 @@ impl<'r, 'c, T: Drop> LocalGuard<'r, 'c, T> {
     /// event `ExchangeLink`. It gives what the link held, which may outlive the guard, and is to be retired.
     ///
     /// Whether it holds that is decided by the number of its block. Where the exchange is won, the event compares with what the link held.
-    /// What this guard found since it entered or refreshed is not reclaimed while it stands. So where that is `current`, a won exchange
-    /// took out just that value, and no other one of the same block.
+    /// A value that this guard found since it entered or refreshed is not reclaimed while it stands. So where `current` is such a one, as
+    /// the pass has seen, a won exchange took out that very value, and no other one of the same block.
     ///
     /// It takes no memory and waits for nobody: one atomic compare and exchange, and look-ups of the blocks.
     ///
@@ -217,7 +217,7 @@ impl<'r, 'c, T: Drop> LocalGuard<'r, 'c, T> {
     }
 
     /// Leaves. The last guard of the slot leaves for it: what waited for the slot is counted down, and what is reclaimed in the call ends
-    /// there. Beside others it makes no event.
+    /// there. Beside others it makes no event, and the pass learns that the slot is active.
     ///
     /// It takes no memory. Within another call of the same registration it waits for ever, and else for nobody.
     pub fn leave<W: Wait>(self, rt: &W, pass: &mut Pass)

@@ -137,8 +137,8 @@ impl<'c, T: Drop> OwnedGuard<'c, T> {
     /// event `ExchangeLink`. It gives what the link held, which may outlive the guard, and is to be retired.
     ///
     /// Whether it holds that is decided by the number of its block. Where the exchange is won, the event compares with what the link held.
-    /// What this guard found since it entered or refreshed is not reclaimed while it stands. So where that is `current`, a won exchange
-    /// took out just that value, and no other one of the same block.
+    /// A value that this guard found since it entered or refreshed is not reclaimed while it stands. So where `current` is such a one, as
+    /// the pass has seen, a won exchange took out that very value, and no other one of the same block.
     ///
     /// It takes no memory and no lock, and waits for nobody: one atomic compare and exchange, and look-ups of the blocks.
     ///

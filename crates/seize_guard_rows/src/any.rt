@@ -62,7 +62,7 @@ fn exchange<'a, G: Guard<Marked<'a>>, W: Wait>(
     requires of { IsPassOf (G.guarded guard.now) pass.old × (0 < its_links (G.guarded guard.now)) }
     ensures { IsPassOf (G.guarded guard.now) pass.new }
 {
-    let new = guard.collector().owned(value).ok()?;
+    let new = guard.owned(value).ok()?;
     match guard.compare_exchange(0, None, Some(new), pass) {
         Ok(Some(old)) => {
             guard.defer_retire(rt, pass, old);

@@ -12,8 +12,8 @@ ghost use Rattle.seize_machine.specs.declared.machine.event.Exchange.TheVariants
 use seize_guard::{LocalGuard, Owned, Pass, Refusal, Registration, Unlinked};
 use std::sync::Wait;
 
-/// Puts the block into link 0 in the place of the one that is there, unless another thread was faster; then the block comes back. What
-/// comes out is just what was read: neither another block, nor another value in the same block, since that is not used again while the
+/// Puts the block into link 0 in the place of the one that is there. Where the link is empty, or another thread is faster, the block comes
+/// back. The value that comes out is the one that was read, and no other value of the same block, since that is not used again while the
 /// guard stands.
 pub fn replace_read<'c>(
     guard: &LocalGuard<'_, 'c, u64>,

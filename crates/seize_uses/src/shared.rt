@@ -2,6 +2,7 @@
 ghost use Rattle.std.specs.Prelude.{◌<◌};
 ghost use Rattle.seize_guard.specs.Collectors.{IsPassOf, its_links};
 ghost use Rattle.seize_guard.specs.Laws.{moments_seen, opening_of};
+ghost use Rattle.seize_guard.specs.Makes.{MakesNone};
 ghost use Rattle.seize_guard.specs.Registrations.{registered_in};
 ghost use Rattle.seize_guard.specs.Machine.Laws.{After};
 
@@ -47,11 +48,12 @@ pub fn replace<W: Wait>(
     Ok(())
 }
 
-/// What threads did with the collector so far, as the pass sees it then: each value that was reclaimed was retired before, once, and each
-/// slot that was active then has left or refreshed since.
+/// In the list that the pass sees then, each value that was reclaimed was retired before, once, and each slot that was active at that
+/// moment has left or refreshed since.
 pub fn audit(registration: &Registration<'_, u64>, pass: &mut Pass)
     requires pass { IsPassOf (registered_in registration.now) pass.old }
     ensures pass { IsPassOf (registered_in registration.now) pass.new }
+    ensures none { MakesNone pass.old pass.new }
     ensures after { After (opening_of pass.new) (moments_seen pass.new) }
 {
     registration.collector().laws(pass);

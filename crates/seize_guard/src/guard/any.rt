@@ -28,7 +28,7 @@ pub trait Guard<T: Drop> {
     /// The number of the slot that is active while the guard stands.
     ghost number: { Self → ℕ };
 
-    /// The slot's activation.
+    /// Its part of the slot's activation, with which it reads. After a refresh it is of another one.
     ghost activation: { Self → Activation };
 
     /// The collector.
@@ -62,7 +62,8 @@ pub trait Guard<T: Drop> {
         ensures made { (new : Option ℕ) × (held : Option ℕ) × IsNamed T.row.coded.code value new × ComesOut held result
             × MakesOne pass.old pass.new (ExchangeLink (number self.now) link (Swap new)) (Link held) };
 
-    /// Exchanges what a link holds for this block, or for none, if the link holds what was found, or nothing where that is `None`.
+    /// Exchanges what a link holds for this block, or for none, if the link holds what was found, or nothing where that is `None`. That is
+    /// decided by the number of its block. Where this guard found `current`, as the pass has seen, a won exchange took out that very value.
     ///
     /// # Errors
     ///

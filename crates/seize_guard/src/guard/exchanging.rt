@@ -51,8 +51,8 @@ pub(crate) fn exchange<'g, T: Drop, E: Expects>(
     words.exchange_link::<E>(link, seen, new, key, activation, pass)
 }
 
-// What a link held, whose word was this, came out. The pass looks at the list: the activation has not ended there, and of the values in the
-// block one stands, which then came out. It does nothing when the program runs.
+// A value came out of a link, whose word was this. The pass looks at the list: the activation has not ended there, and of the values in the
+// block at most one is not reclaimed. It does nothing when the program runs.
 pub(crate) fn look_back<T: Drop>(blocks: &Blocks<T>, word: u64, unit: &Activation, pass: &mut Pass)
     requires book { blocks_book blocks.now ≡ pass.old.name }
     requires named { word ≢ 0 → HasNumber (word - 1) (state_seen pass.old) }

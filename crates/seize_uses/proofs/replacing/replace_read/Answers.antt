@@ -3,8 +3,7 @@ use base.Stored.{gnum}
 use Rattle.seize_guard.specs.Guards.{guard_activation, guard_collector, guard_slot}
 use Rattle.seize_guard.specs.Machine.Event.{ExchangeLink, ReadLink}
 use Rattle.seize_guard.specs.Makes.{Makes}
-use Rattle.seize_guard.proofs.Found.{read_replaced}
-use Rattle.seize_guard.proofs.Made.{makes_then}
+use Rattle.seize_guard.proofs.Facts.{makes_then, read_replaced}
 use Rattle.seize_machine.specs.declared.machine.event.Answer.TheVariants.{Link}
 use Rattle.seize_machine.specs.declared.machine.event.Exchange.TheVariants.{Compare}
 use Rattle.seize_uses.proofs.replacing.replace_read.Goals as goal
