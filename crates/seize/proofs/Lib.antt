@@ -1,9 +1,16 @@
-pub mod Contents
-pub mod EmptiedBatches
-pub mod FurtherLoops
-pub mod JoinedPuts
-pub mod Numbering
-pub mod QueuedPuts
-pub mod Quieting
-pub mod ReachedStates
-pub mod Running
+pub mod Compared
+pub mod Found
+pub mod Guarded
+pub mod Placed
+pub mod Places
+pub mod Made
+pub mod LinkSteps
+pub mod Steps
+pub mod Wholly
+pub mod Current
+pub mod Readable
+mod Numbered
+mod Ended
+mod Chunks
+pub mod Facts
+mod Endings

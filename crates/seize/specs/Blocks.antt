@@ -1,70 +1,56 @@
--- What contracts see of blocks. The blocks inside a value are those whose collectors its type names (`Weigh::owners`).
---     content o, number_of o          the value of the block o, and its number
---     owner_of o                      the collector that it is of, by its name
---     block_of u, collector_of u      the block of an unlinked one, and its collector's id
---     IsSame o p                      the blocks o and p have the same value, number and collector
---     owners_in owners os             the collectors of the blocks os and of the blocks inside these
---     HoldsOnly owners n v            each block inside the value v is of the collector n
---     IsUnmixed owners o              each block inside the block o is of the collector that o is of
---     Belongs owners n o              the block o, with each block inside it, is of the collector n
---     shared_content, shared_number, shared_owner     the same of a block that was found in a link
---     number_at ns l                  the number of the block that link l holds, by the list of these numbers
---     Gathered                        the values that a reclaimer put, none where a growth was refused, and the collector of their blocks
---     Joined vs old new               the values vs were put behind those put before, or a growth was refused and nothing is left
-use Rattle.std.specs.Prelude.{◌≡◌, ℕ, List, ◌∷◌, ◌++◌, All, Option, None, option_map, slice_index_or, ◌⊎◌}
-use Rattle.std.specs.List.{flat_map}
+-- What contracts see of blocks. `code` is the code of the collector's element type, by which a name says a value.
+--     content owned             the value of a block in hand;  store_name owned     the store where it lies
+--     HasContent code v value   what the list calls v is a block with this content
+--     shared_name shared        what the list calls the value that was found;  shared_value shared     the value
+--     shared_word shared        the word that a link shows for it: its block's number and one more
+--     unlinked_name u           what the list calls the value that is in no link;  unlinked_collector u     its collector
+--     IsNamed code owned o      o is what the list calls the value of this block, or there is neither
+--     Shows code held shared    what was found is what the link held, a block with that value; or there is neither
+--     ComesOut held u           what came out is what the link held, or there is neither
+use Rattle.std.specs.Prelude.{◌≡◌, ℕ, Option, None, Some, List}
+use base.Stored.{Gv}
 use Rattle.seize_store.specs.Named as store
-use Rattle.seize.specs.Names.{CollectorName}
+use Rattle.seize_book.specs.Blocks.{link_word}
+use Rattle.seize_words.specs.Chunks.{IsFoundAs, IsLentAs}
+use Rattle.seize_calls.specs.Slots.{its_value}
 use Rattle.seize.specs.declared.block.owned.Owned.{Owned}
 use Rattle.seize.specs.declared.block.shared.Shared.{Shared}
 use Rattle.seize.specs.declared.block.unlinked.Unlinked.{Unlinked}
+use Rattle.seize.specs.declared.collector.Collector.{Collector}
 
 abbrev pub content : {T : Type 0} → Owned T → T
 content owned = store.owned_value owned.block
 
-abbrev pub number_of : {T : Type 0} → Owned T → ℕ
-number_of owned = store.owned_number owned.block
+abbrev pub store_name : {T : Type 0} → Owned T → List ℕ
+store_name owned = store.store_of owned.block
 
-abbrev pub owner_of : {T : Type 0} → Owned T → CollectorName
-owner_of owned = store.store_of owned.block
+abbrev pub HasContent : {T : Type 0} → (T → Gv) → ℕ → T → Type 0
+HasContent code v value = IsLentAs v (code value)
 
-abbrev pub IsSame : {T : Type 0} → Owned T → Owned T → Type 0
-IsSame one other = (content one ≡ content other) × (number_of one ≡ number_of other) × (owner_of one ≡ owner_of other)
+abbrev pub shared_name : {T : Type 0} → Shared T → Option ℕ
+shared_name shared = shared.glimpse.value
 
-abbrev pub owners_in : {T : Type 0} → (T → List CollectorName) → List (Owned T) → List CollectorName
-owners_in owners blocks = flat_map (λ owned. owner_of owned ∷ owners (content owned)) blocks
+abbrev pub shared_value : {T : Type 0} → Shared T → T
+shared_value shared = shared.value.now
 
-abbrev pub HoldsOnly : {T : Type 0} → (T → List CollectorName) → CollectorName → T → Type 0
-HoldsOnly owners name value = All (λ owner. owner ≡ name) (owners value)
+abbrev pub shared_word : {T : Type 0} → Shared T → ℕ
+shared_word shared = link_word (shared_name shared)
 
-abbrev pub IsUnmixed : {T : Type 0} → (T → List CollectorName) → Owned T → Type 0
-IsUnmixed owners owned = HoldsOnly owners (owner_of owned) (content owned)
+abbrev pub unlinked_name : {T : Type 0} → Unlinked T → ℕ
+unlinked_name unlinked = its_value unlinked.loose
 
-abbrev pub Belongs : {T : Type 0} → (T → List CollectorName) → CollectorName → Owned T → Type 0
-Belongs owners name owned = (owner_of owned ≡ name) × IsUnmixed owners owned
+abbrev pub unlinked_collector : {T : Type 0} → Unlinked T → Collector T
+unlinked_collector unlinked = unlinked.collector.now
 
-abbrev pub block_of : {T : Type 0} → Unlinked T → Owned T
-block_of unlinked = unlinked.owned
+abbrev pub IsNamed : {T : Type 0} → (T → Gv) → Option (Owned T) → Option ℕ → Type 0
+IsNamed code (Some owned) (Some v) = HasContent code v (content owned)
+IsNamed code None None = Unit {0}
+IsNamed code _ _ = ⊥
 
-abbrev pub collector_of : {T : Type 0} → Unlinked T → ℕ
-collector_of unlinked = unlinked.collector_id
+abbrev pub Shows : {T : Type 0} → (T → Gv) → Option ℕ → Option (Shared T) → Type 0
+Shows code held (Some shared) = (shared_name shared ≡ held) × IsFoundAs held (code (shared_value shared))
+Shows code held None = held ≡ None
 
-abbrev pub shared_content : {T : Type 0} → Shared T → T
-shared_content shared = content shared.block.now
-
-abbrev pub shared_number : {T : Type 0} → Shared T → ℕ
-shared_number shared = number_of shared.block.now
-
-abbrev pub shared_owner : {T : Type 0} → Shared T → CollectorName
-shared_owner shared = owner_of shared.block.now
-
-abbrev pub number_at : List (Option ℕ) → ℕ → Option ℕ
-number_at numbers link = slice_index_or numbers link None
-
-pub record Gathered (T : Type 0) : Type 0 where
-  pub values : Option (List T)
-  pub owner : CollectorName
-
-abbrev pub Joined : {T : Type 0} → List T → Gathered T → Gathered T → Type 0
-Joined more old new =
-    (new.owner ≡ old.owner) × ((new.values ≡ None) ⊎ (new.values ≡ option_map (λ values. values ++ more) old.values))
+abbrev pub ComesOut : {T : Type 0} → Option ℕ → Option (Unlinked T) → Type 0
+ComesOut held (Some unlinked) = held ≡ Some (unlinked_name unlinked)
+ComesOut held None = held ≡ None

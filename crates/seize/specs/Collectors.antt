@@ -1,67 +1,65 @@
--- What contracts see of a collector, and of one in a caller's hands.
---     about c       what no call changes: its id, its name, its size and how many links it has
---     kept_by c     its state, for what stands in this crate
---     short_of c    whether a growth was refused in a call that answers no refusal for it
---     whose a       the same of the collector that the calls of a are made on
---     lent a        besides, where that collector was borrowed: what no call of a changes
---     numbers_of a  the number of the block that each link holds
---     fixed a       both: what no call but an exchange of a link changes
---     state_of a, is_short_of a      its state, which is one of waiting sets, and whether a growth was refused
---     steady a      what a call that may answer `NoMemory`, or takes no memory, leaves as it was beside the state
---     at a seen     all that a call changes, where the watch has seen this
-use Rattle.std.specs.Prelude.{◌≡◌, ℕ, Bool, true, List, length, Option, ◌⊎◌}
-use Rattle.seize.specs.About.{About}
-use Rattle.seize.specs.Snapshots.{Snapshot}
-use Rattle.seize.specs.Effects.{told_of}
-use Rattle.seize_model.specs.Waiting.State.{State}
-use Rattle.seize_model.specs.Waiting.Calls.{reclaim_all}
-use Rattle.seize_model.specs.Waiting.Reached.{Reached}
-use Rattle.seize_model.specs.Agreement.Origins.{IsLedTo}
-use Rattle.seize.specs.declared.reclaim.Weigh as weigh
-use Rattle.seize.specs.declared.reclaim.Reclaim as reclaim
+-- What contracts see of a collector.
+--     its_book c        the list of events of the collector, by its name
+--     its_store c       the store where its blocks lie;  its_words c   its words
+--     its_size c, its_links c, its_id c     its batch size, how many links it has, and its id
+--     IsPassOf c pass   it is a pass of the collector, of its batch size
+--     BeginsEmpty c links   its list begins with no slot, and with so many links, which are empty
+--     IsNewPassOf c pass    and nothing was made with it. It has seen a legal list of the collector's, of which all laws hold (GoesOnTo)
+--     IsBlockOf c owned     it is a block of the collector
+--     IsSlotFor c slot      it is a slot of the collector, in use
+--     IsRefusalFor processors id refusal     a new collector for so many processors, by a source of which this id is the next, may be
+--                       refused so
+use Rattle.std.specs.Prelude.{◌≡◌, ◌⊎◌, ℕ, ◌≤◌, ◌<◌, ◌^◌, List, [], None, length, replicate}
+use Rattle.seize_table.specs.declared.refusal.Refusal.{Refusal}
+use Rattle.seize_table.specs.declared.refusal.Refusal.TheVariants.{NoMemory, NoNumbers, TooManyProcessors}
+use Rattle.seize_book.specs.Tokens.{Name}
+use Rattle.seize_book.specs.Porters.{GoesOnTo}
+use Rattle.seize_book.specs.declared.book.pass.Pass.{Pass}
+use Rattle.seize_words.specs.Joined.{words_book}
+use Rattle.seize_words.specs.declared.words.Words.{Words}
+use Rattle.seize_calls.specs.Slots.{IsSlotOf}
+use Rattle.seize_calls.specs.declared.slot.Slot.{Slot}
+use Rattle.seize.specs.Blocks.{store_name}
+use Rattle.seize.specs.Makes.{made_with}
+use Rattle.seize.specs.declared.block.owned.Owned.{Owned}
 use Rattle.seize.specs.declared.collector.Collector.{Collector}
-use Rattle.seize.specs.declared.collector.alone.Alone.{Alone}
 
-module _ {T R : Type 0} {W : weigh.Ghosts T} {P : reclaim.Ghosts R T} where
-  abbrev pub about : Collector T R W P → About
-  about c = record { id = c.id; name = c.state.name; size = c.state.state.size; links = length c.state.state.links }
+abbrev pub its_words : {T : Type 0} → Collector T → Words T
+its_words collector = collector.words
 
-  abbrev pub kept_by : Collector T R W P → State T R
-  kept_by c = c.state.state
+abbrev pub its_book : {T : Type 0} → Collector T → Name
+its_book collector = words_book collector.words
 
-  abbrev pub short_of : Collector T R W P → Bool
-  short_of c = c.is_short
+abbrev pub its_store : {T : Type 0} → Collector T → List ℕ
+its_store collector = (its_book collector).store
 
-  abbrev pub whose : Alone T R W P → About
-  whose a = about a.collector.now
+abbrev pub its_size : {T : Type 0} → Collector T → ℕ
+its_size collector = collector.words.size
 
-  abbrev pub lent : Alone T R W P → About × ℕ
-  lent a = (whose a, a.collector.ghost_name)
+abbrev pub its_links : {T : Type 0} → Collector T → ℕ
+its_links collector = length (its_book collector).links
 
-  abbrev pub numbers_of : Alone T R W P → List (Option ℕ)
-  numbers_of a = a.collector.now.state.numbers
+abbrev pub its_id : {T : Type 0} → Collector T → ℕ
+its_id collector = collector.id
 
-  abbrev pub fixed : Alone T R W P → (About × ℕ) × List (Option ℕ)
-  fixed a = (lent a, numbers_of a)
+abbrev pub IsPassOf : {T : Type 0} → Collector T → Pass → Type 0
+IsPassOf collector pass = (pass.name ≡ its_book collector) × (pass.size ≡ its_size collector)
 
-  abbrev pub state_of : Alone T R W P → State T R
-  state_of a = a.collector.now.state.state
+abbrev pub IsBlockOf : {T : Type 0} → Collector T → Owned T → Type 0
+IsBlockOf collector owned = store_name owned ≡ its_store collector
 
-  abbrev pub is_short_of : Alone T R W P → Bool
-  is_short_of a = short_of a.collector.now
+abbrev pub BeginsEmpty : {T : Type 0} → Collector T → ℕ → Type 0
+BeginsEmpty collector links = ((its_book collector).slots ≡ 0) × ((its_book collector).links ≡ replicate links None)
 
-  abbrev pub steady : Alone T R W P → ((About × ℕ) × List (Option ℕ)) × Bool
-  steady a = (fixed a, is_short_of a)
+abbrev pub IsNewPassOf : {T : Type 0} → Collector T → Pass → Type 0
+IsNewPassOf collector pass = IsPassOf collector pass × (made_with pass ≡ []) × GoesOnTo pass.name [] pass.seen
 
-  abbrev pub at : {Seen : Type 0} → Alone T R W P → Seen → Snapshot T R Seen
-  at a seen = record { state = state_of a; short = is_short_of a; seen = seen }
+abbrev pub IsSlotFor : {T : Type 0} → Collector T → Slot T → Type 0
+IsSlotFor collector slot = IsSlotOf collector.words slot
 
-  -- A collector in new hands reclaimed all: the watch was told of the values that go from some state of its size and with its links that
-  -- calls or events lead to, in order, or a growth was refused before or in the call.
-  abbrev pub ReclaimedAll : {Seen : Type 0} → (R → T → List T) → (T → ℕ) → (Seen → T → Seen)
-      → Collector T R W P → Collector T R W P → Seen → Seen → Type 0
-  ReclaimedAll puts weight told old new seen_old seen_new =
-      ∥ (short_of old ≡ true)
-      ⊎ (short_of new ≡ true)
-      ⊎ ((st : State T R) × (Reached puts weight st ⊎ IsLedTo st) × (st.size ≡ (about old).size) × (length st.links ≡ (about old).links)
-      × (seen_new ≡ told_of told seen_old (reclaim_all puts weight st).1)) ∥₁
+-- in this order
+abbrev pub IsRefusalFor : ℕ → ℕ → Refusal → Type 0
+IsRefusalFor processors id refusal =
+    ((2 ^ 63 < processors) × (refusal ≡ TooManyProcessors))
+    ⊎ ((processors ≤ 2 ^ 63) × (2 ^ 64 ≤ id) × (refusal ≡ NoNumbers))
+    ⊎ ((processors ≤ 2 ^ 63) × (id < 2 ^ 64) × (refusal ≡ NoMemory))

@@ -3,7 +3,6 @@
 --     lends_content o r     o ends with the last value behind the reference r
 use Rattle.std.specs.Borrow.{Fml, RattleType, MutBor, Lends}
 use Rattle.seize_store.specs.Lends.{owned_with}
-use Rattle.seize_store.specs.contracts.owned.Owned as store_row
 use Rattle.seize.specs.declared.block.owned.Owned.{Owned}
 use Rattle.seize.specs.contracts.block.owned.Owned as owned_row
 

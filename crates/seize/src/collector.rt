@@ -1,229 +1,286 @@
-//! The collector: who makes one, what it is asked, and who is told of the values gone. It stands on the plain collector's lists and
-//! sets. `alone` has the calls that are made one after another.
-ghost use Rattle.std.specs.Prelude.{◌≡◌, ◌≢◌, ◌⊎◌, ℕ, ◌+◌, ◌==◌, false, max as greater, length, true, IfOk, IfErr};
-ghost use Rattle.std.specs.Int.{IsNextPowerOfTwo};
-ghost use Rattle.seize.specs.NewCollectors.{refusal_for};
-ghost use Rattle.seize_model.specs.Waiting.Calls as calls;
-ghost use Rattle.seize_model.specs.Waiting.Reached.{IsReachedByCalls};
-ghost use Rattle.seize_model.specs.Agreement.Origins.{IsFound};
-ghost use Rattle.seize.specs.Blocks.{content, owner_of, block_of, collector_of};
-ghost use Rattle.seize_table.specs.declared.refusal.Refusal.TheVariants.{NoMemory as no_memory};
+//! The collector: who makes one, what it is asked, and how a thread gets a slot and a pass of it.
+ghost use Rattle.std.specs.Prelude.{◌≡◌, false};
+ghost use Rattle.seize_words.specs.Joined.{words_book};
 
-mod alone;
-mod calls;
 mod ids;
 
-use crate::block::{Owned, Unlinked};
-use crate::plain::Plain;
-use crate::reclaim::{Boxed, Reclaim, Watch, Weigh};
-pub use alone::Alone;
-pub use calls::{Call, Reply};
+use crate::block::Owned;
+use crate::ending::end_all;
+use crate::numbers::{Numbers, Registering};
+use crate::owned::OwnedGuard;
+use crate::registration::Registration;
 pub use ids::IdSource;
+use seize_cells::Lock;
+use seize_machine::machine;
 use seize_table::Refusal;
+use seize_words::book::{Pass, Porter};
+use seize_words::words::Words;
 use std::alloc::Global;
 use std::cmp::max;
 use std::fmt;
+use std::sync::Wait;
 
 // For how many processors a collector may be made: 2^63.
 const MOST_PROCESSORS: usize = 0x8000_0000_0000_0000;
 
-/// Keeps retired values until no slot that was active at their retirement can read them any more.
+/// Keeps retired values until no slot that was active at their retirement can read them any more. Threads share it by `&`.
 ///
-/// It has numbered slots, and numbered links from 0 on, which hold a block each or nothing. When it is dropped, all retired values go
-/// to their reclaimers, as by `reclaim_all`, and then the linked values end.
-pub struct Collector<T: Weigh + Drop, R: Reclaim<T> = Boxed> {
-    state: Plain<T, R>,
-    // a growth was refused in a call that answers no refusal
-    is_short: bool,
+/// It has numbered links, which hold a block each or nothing, and slots, which threads have by their registrations. It follows the Hyaline
+/// scheme with one list of waiting batches for each slot.
+///
+/// Where it is dropped, each value ends that a link holds, and each that waits in the batch of a slot whose number went back: its
+/// registration ended with the answer true, or its owned guard left. That takes no memory and waits for nobody, but for what the values do
+/// as they end. Where something was forgotten, values leak, with the memory of their rows of the store:
+///
+/// - where a registration was forgotten, those in its slot's batch, and where no number went back, those in the links too;
+/// - where a guard was forgotten, all of them: its slot is active for good, and what is retired waits for it.
+pub struct Collector<T: Drop> {
+    pub(crate) words: Words<T>,
+    porter: Porter,
+    pub(crate) numbers: Lock<Numbers<T>>,
     id: u64,
-    ghost reached: { IsReachedByCalls R.puts T.weight is_short state.state },
+    alloc: Global,
+    ghost lends: { (porter.name ≡ words_book words) × (porter.size ≡ words.size) × (porter.home ≡ false) },
+    ghost numbered: { numbers ≡ (words_book words).family },
 }
 
-impl<T: Weigh + Drop, R: Reclaim<T>> Collector<T, R> {
-    ghost use Rattle.seize.specs.Collectors.{about, short_of, lent, state_of, is_short_of, ReclaimedAll};
+impl<T: Drop> Collector<T> {
+    ghost use Rattle.std.specs.Prelude.{◌⊎◌, ◌+◌, ◌≤◌, ◌<◌, ◌^◌, None, Some, max as greater, IfOk, IfErr};
+    ghost use Rattle.std.specs.Int.{IsNextPowerOfTwo};
+    ghost use Rattle.seize_machine.specs.Machine.Event.{Take};
+    ghost use Rattle.seize_machine.specs.declared.machine.event.Answer.TheVariants.{Done};
+    ghost use Rattle.seize_table.specs.declared.refusal.Refusal.TheVariants.{NoMemory as no_memory, NoNumbers as no_numbers};
+    ghost use Rattle.seize.specs.Blocks.{content};
+    ghost use Rattle.seize.specs.Collectors.{BeginsEmpty, IsBlockOf, IsNewPassOf, IsPassOf, IsRefusalFor, its_book, its_id, its_links, its_size};
+    ghost use Rattle.seize.specs.Registrations.{registered_in, registered_slot};
+    ghost use Rattle.seize.specs.Makes.{MakesNone, MakesOne};
 
-    /// A collector with no slot and this many empty links. Its batch size is `max(32, processors)`, rounded up to a power of two.
+    /// A collector with no slot and this many empty links. Its batch size is `max(32, processors)`, rounded up to a power of two. It asks
+    /// for the memory of its links, and of the entries of its table of slots for so many processors.
     ///
     /// # Errors
     ///
-    /// In this order: `TooManyProcessors` for more than 2^63 processors, `NoNumbers` where the source has no id left, `NoMemory` where
-    /// the allocator refuses. The source gives its next id only where there is no error.
+    /// In this order: `TooManyProcessors` for more than 2^63 processors, `NoNumbers` where the source has no id left, `NoMemory` where the
+    /// allocator refuses. The source gives its next id only where there is no error.
     pub fn new(
         alloc: Global,
         ids: &mut IdSource,
         processors: usize,
         links: usize,
-    ) -> Result<Collector<T, R>, Refusal>
-        ensures made { IfOk result (λ collector. (refusal_for processors ids.old ≡ None)
-            × IsNextPowerOfTwo (greater 32 processors) (about collector).size
-            × ((about collector).links ≡ links) × (short_of collector ≡ false)
-            × ((about collector).id ≡ ids.old) × (ids.new ≡ ids.old + 1)) }
-        ensures refused { IfErr result (λ refusal. (ids.new ≡ ids.old)
-            × ((refusal_for processors ids.old ≡ Some refusal)
-            ⊎ ((refusal_for processors ids.old ≡ None) × (refusal ≡ no_memory)))) }
+    ) -> Result<Collector<T>, Refusal>
+        ensures made { IfOk result (λ made. IsNextPowerOfTwo (greater 32 processors) (its_size made) × BeginsEmpty made links
+            × (its_id made ≡ ids.old) × (ids.new ≡ ids.old + 1)) }
+        ensures refused { IfErr result (λ refusal. (ids.new ≡ ids.old) × IsRefusalFor processors ids.old refusal) }
     {
         if processors > MOST_PROCESSORS {
             return Err(Refusal::TooManyProcessors);
         }
         let size = max(32, processors).next_power_of_two();
-        let Ok(id) = u64::try_from(ids.given) else {
+        let Some(id) = ids.next() else {
             return Err(Refusal::NoNumbers);
         };
-        let Ok(state) = Plain::new(alloc, size, links) else {
-            return Err(Refusal::NoMemory);
-        };
-        ids.given += 1;
+        let collector = Collector::with(alloc, id, size, processors, links)?;
+        ids.give();
+        Ok(collector)
+    }
+
+    // One with this id and batch size.
+    fn with(
+        alloc: Global,
+        id: u64,
+        size: usize,
+        processors: usize,
+        links: usize,
+    ) -> Result<Collector<T>, Refusal>
+        requires { processors ≤ 2 ^ 63 }
+        ensures made { IfOk result (λ made. (its_size made ≡ size) × BeginsEmpty made links × (its_id made ≡ id)) }
+        ensures refused { IfErr result (λ refusal. refusal ≡ no_memory) }
+    {
+        let (words, mut porter, key, next) = Words::new(alloc, processors, links, size)?;
+        porter.leave_home();
+        let numbers = Numbers::new(alloc, key, next, &words.blocks.book);
         Ok(Collector {
-            state,
-            is_short: false,
+            words,
+            porter,
+            numbers: Lock::new(numbers),
             id,
+            alloc,
         })
     }
 
     /// With batches of this many values, not rounded. 0 serves as 1.
-    pub fn batch_size(mut self, n: usize) -> Collector<T, R>
-        ensures size { about result ≡ record (about self) { size = n } }
-        ensures short { short_of result ≡ short_of self }
+    pub fn batch_size(self, n: usize) -> Collector<T>
+        ensures { (its_size result ≡ n) × (its_book result ≡ its_book self) × (its_id result ≡ its_id self) }
     {
-        self.state.set_size(n);
-        self
+        let Collector {
+            mut words,
+            mut porter,
+            numbers,
+            id,
+            alloc,
+        } = self;
+        words.set_size(&mut porter, n);
+        Collector {
+            words,
+            porter,
+            numbers,
+            id,
+            alloc,
+        }
     }
 
     /// How many links it has.
     pub fn links(&self) -> usize
-        ensures { result ≡ (about self.now).links }
+        ensures { result ≡ its_links self.now }
     {
-        self.state.links()
+        self.words.links.len()
     }
 
     /// The id that its source gave it.
     pub fn id(&self) -> u64
-        ensures { result ≡ (about self.now).id }
+        ensures { result ≡ its_id self.now }
     {
         self.id
     }
 
-    /// Whether a growth was refused in a call that answers no refusal for it. From then on no contract says more of its state than what
-    /// no call changes, and that a refused call changes nothing. It costs nothing to ask.
+    /// A new pass, with which nothing was made. It lasts for as long as the collector is shared, and may go to another thread.
     ///
-    /// Only a collector that stands on plain lists has such calls.
-    pub fn is_short(&self) -> bool
-        ensures { result ≡ short_of self.now }
+    /// It takes no memory, and does nothing when the program runs.
+    pub fn pass(&self) -> Pass<'_>
+        ensures { IsNewPassOf self.now result }
     {
-        self.is_short
+        self.porter.pass()
     }
 
-    /// Two collectors that stand at once have different names, whatever their ids are, so that a block is of one of them at most. It
-    /// does nothing: its contract is the law.
-    pub fn apart<U: Weigh + Drop, S: Reclaim<U>>(&mut self, other: &mut Collector<U, S>)
-        ensures names { (about self.old).name ≢ (about other.old).name }
-        ensures same { (about self.new ≡ about self.old) × (about other.new ≡ about other.old) }
-        ensures short { (short_of self.new ≡ short_of self.old) × (short_of other.new ≡ short_of other.old) }
-    {
-        self.state.apart(&mut other.state);
-    }
-
-    /// The calls that one caller makes one after another. Slots are named by number, and stay as they are when the [`Alone`] ends.
-    pub fn alone(&mut self) -> Alone<'_, T, R>
-        ensures same { lent result ≡ (about self.old, self.entry.ghost_name) }
-        ensures short { is_short_of result ≡ short_of self.old }
-        ensures state { IsFound R.puts T.weight (short_of self.old) (state_of result) }
-        ensures size { (state_of result).size ≡ (about self.old).size }
-        ensures links { length (state_of result).links ≡ (about self.old).links }
-    {
-        Alone::of(self)
-    }
-
-    /// Every slot leaves, every retired value goes to its reclaimer, and all that the reclaimers put too. Then every number is free.
-    /// The links stay as they are. The watch is told each value, in order.
-    pub fn reclaim_all<W: Watch<T>>(&mut self, watch: &mut W)
-        ensures short { short_of self.old ≡ true → short_of self.new ≡ true }
-        ensures told { ReclaimedAll R.puts T.weight W.told self.old self.new (W.seen watch.old) (W.seen watch.new) }
-        ensures same { about self.new ≡ about self.old }
-    {
-        self.alone().reclaim_all(watch);
-    }
-}
-
-impl<T: Weigh + Drop> Owned<T> {
-    ghost use Rattle.seize.specs.Collectors.{about};
-
-    /// A new block with this value, for links and batches of this collector.
-    ///
-    /// It lies in the collector's store, and asks for memory only where the store has to grow. Threads that make many blocks at once search
-    /// for their places at one point (`docs/BENCH.md`).
+    /// A block of this value, from any thread, whether it has a slot or not. It asks for memory only where the store has no free place.
     ///
     /// # Errors
     ///
-    /// `NoMemory` where the allocator refuses. The value comes back.
-    pub fn new<R: Reclaim<T>>(
-        collector: &Collector<T, R>,
-        value: T,
-    ) -> Result<Owned<T>, (Refusal, T)>
-        ensures made { IfOk result (λ owned. (content owned ≡ value) × (owner_of owned ≡ (about collector.now).name)) }
-        ensures refused { IfErr result (λ e. e ≡ (no_memory, value)) }
+    /// `NoMemory` where that growth was refused; the value comes back.
+    pub fn owned(&self, value: T) -> Result<Owned<T>, (Refusal, T)>
+        ensures made { IfOk result (λ owned. IsBlockOf self.now owned × (content owned ≡ value)) }
+        ensures refused { IfErr result (λ refused. (refused.0 ≡ no_memory) × (refused.1 ≡ value)) }
     {
-        collector.state.add(value)
+        let blocks = &self.words.blocks;
+        let (key, block) = blocks.add(value, &mut self.porter.pass())?;
+        Ok(Owned::of(key, block, &blocks.book))
     }
-}
 
-impl<'c, T: Weigh + Drop> Unlinked<'c, T> {
-    ghost use Rattle.seize.specs.Collectors.{about};
-
-    /// A block that was never linked, to be retired. It is of this collector.
+    /// A slot for the calling thread: that of the least number that is not in use. The event `Take`.
     ///
-    /// An [`Alone`] borrows the collector for itself, and makes one by [`Alone::unlinked`].
-    pub fn from_owned<R: Reclaim<T>>(
-        owned: Owned<T>,
-        collector: &'c Collector<T, R>,
-    ) -> Unlinked<'c, T>
-        requires own { owner_of owned ≡ (about collector.now).name }
-        ensures block { block_of result ≡ owned }
-        ensures collector { collector_of result ≡ (about collector.now).id }
+    /// It waits for other threads that register or end, and looks through the slots that were made. It asks for memory only where no slot
+    /// of a registration that ended is left.
+    ///
+    /// # Errors
+    ///
+    /// `NoMemory` where the allocator refuses. No event was made then. It is never `NoNumbers`: the list of slots has room for fewer than
+    /// 2^63, so memory is refused before the 2^64 - 32 numbers are all in use.
+    pub fn register<W: Wait>(&self, rt: &W, pass: &mut Pass) -> Result<Registration<'_, T>, Refusal>
+        requires pass { IsPassOf self.now pass.old }
+        ensures made { IfOk result (λ made. (registered_in made ≡ self.now)
+            × MakesOne pass.old pass.new (Take (registered_slot made)) Done) }
+        ensures refused { IfErr result (λ refusal. MakesNone pass.old pass.new × (refusal ≡ no_memory)) }
     {
-        Unlinked::of(owned, collector.id())
+        let registering = Registering {
+            words: &self.words,
+            alloc: self.alloc,
+        };
+        let slot = self.numbers.with(rt, registering, pass)?;
+        Ok(Registration::of(self, slot))
     }
 }
 
-impl<T: Weigh + Drop, R: Reclaim<T>> Drop for Collector<T, R> {
-    fn drop(mut self) {
-        self.reclaim_all(&mut ());
-        let Collector {
-            state,
-            is_short: _,
-            id: _,
-        } = self;
-        drop(state);
+impl<T: Drop> Collector<T> {
+    ghost use Rattle.std.specs.Prelude.{IfErr, IfOk, [], ◌∷◌};
+    ghost use Rattle.seize_machine.specs.Machine.Event.{Enter, Take};
+    ghost use Rattle.seize_machine.specs.declared.machine.event.Answer.TheVariants.{Done};
+    ghost use Rattle.seize_table.specs.declared.refusal.Refusal.TheVariants.{NoMemory as no_memory};
+    ghost use Rattle.seize.specs.Collectors.{IsPassOf};
+    ghost use Rattle.seize.specs.Laws.{LawsHold};
+    ghost use Rattle.seize.specs.Makes.{Makes, MakesNone};
+    ghost use Rattle.seize.specs.OwnedGuards.{owned_collector, owned_slot};
+
+    /// A guard that threads share, with a slot of its own: that of the least number that is not in use, which enters. The events `Take` and
+    /// `Enter`.
+    ///
+    /// It waits as `register` does, and asks for memory where that does; then it makes one atomic swap.
+    ///
+    /// # Errors
+    ///
+    /// `NoMemory` where the allocator refuses, as with `register`. No event was made then.
+    pub fn enter_owned<W: Wait>(
+        &self,
+        rt: &W,
+        pass: &mut Pass,
+    ) -> Result<OwnedGuard<'_, T>, Refusal>
+        requires pass { IsPassOf self.now pass.old }
+        ensures made { IfOk result (λ guard. (owned_collector guard ≡ self.now)
+            × Makes pass.old pass.new ((Take (owned_slot guard), Done) ∷ (Enter (owned_slot guard), Done) ∷ [])) }
+        ensures refused { IfErr result (λ refusal. MakesNone pass.old pass.new × (refusal ≡ no_memory)) }
+    {
+        let registering = Registering {
+            words: &self.words,
+            alloc: self.alloc,
+        };
+        let slot = self.numbers.with(rt, registering, pass)?;
+        Ok(OwnedGuard::enter(self, slot, pass))
+    }
+
+    /// The pass looks at the list of events. Every law of the machine holds of what it has seen then, which goes on from what it had seen.
+    /// So each value, whoever retired it, is reclaimed there at most once, and only after each slot that was active at its retirement has
+    /// left or refreshed.
+    ///
+    /// It makes no event, and does nothing when the program runs: its contract is the laws.
+    pub fn laws(&self, pass: &mut Pass)
+        requires pass { IsPassOf self.now pass.old }
+        ensures none { MakesNone pass.old pass.new }
+        ensures laws { LawsHold pass.new }
+    {
+        machine::laws();
+        pass.slots();
     }
 }
 
 /// Two collectors of one id source are equal where they are one.
-impl<T: Weigh + Drop, R: Reclaim<T>> PartialEq for Collector<T, R> {
+impl<T: Drop> PartialEq for Collector<T> {
     ghost use Rattle.std.specs.Prelude.{◌==◌};
     ghost use Rattle.std.proofs.Common.{rules};
     ghost use Rattle.std.specs.Cmp.Rules.{comparing};
-    ghost use Rattle.seize.specs.Collectors.{about};
+    ghost use Rattle.seize.specs.Collectors.{its_id};
 
-    ghost eq = { λ a b. (about a).id == (about b).id };
+    ghost eq = { λ a b. its_id a == its_id b };
 
     ghost laws = { Prim.search (comparing, rules) };
 
-    fn eq(&self, other: &Collector<T, R>) -> bool {
+    fn eq(&self, other: &Collector<T>) -> bool {
         self.id == other.id
     }
 }
 
-impl<T: Weigh + Drop, R: Reclaim<T>> Eq for Collector<T, R> {
+impl<T: Drop> Eq for Collector<T> {
     ghost use Rattle.std.proofs.Common.{rules};
     ghost use Rattle.std.specs.Cmp.Rules.{comparing};
 
     ghost laws = { Prim.search (comparing, rules) };
 }
 
-impl<T: Weigh + Drop, R: Reclaim<T>> fmt::Debug for Collector<T, R> {
+impl<T: Drop> fmt::Debug for Collector<T> {
     fn fmt<W: fmt::Write>(&self, f: &mut fmt::Formatter<W>) -> fmt::Result {
         f.debug_struct("Collector")
-            .field("batch_size", &self.state.size())
+            .field("batch_size", &self.words.size)
             .finish()
+    }
+}
+
+impl<T: Drop> Drop for Collector<T> {
+    fn drop(self) {
+        let Collector {
+            words,
+            porter,
+            numbers,
+            id: _,
+            alloc: _,
+        } = self;
+        end_all(&words, numbers.into_value(), porter.shut());
     }
 }

@@ -1,14 +1,29 @@
-//! Memory reclamation for concurrent data structures by the Hyaline-1 scheme.
+//! Memory reclamation for concurrent data structures by the Hyaline-1 scheme: a collector that threads share, with registrations, guards,
+//! and blocks that come into links and out of them. It stands on the calls of a slot (`seize_calls`), and nothing above it knows of words,
+//! keys or numbers of blocks. Numbers of slots (`thread_id`), the table (`tls`) and the machine of atomic steps are passed on.
+//!
+//! A `Collector` has links, and slots that it hands out as `Registration`s, one for each thread. A registration enters, and gives a
+//! `LocalGuard`; with that its thread reads links, exchanges what they hold, and retires what came out. `block` has the types that say who
+//! may read a value, and who may end it. An `OwnedGuard` needs no registration, and threads share it.
 #![tactic(auto)]
 
 pub mod block;
 pub mod collector;
-mod plain;
-pub mod reclaim;
+mod ending;
+mod ends;
+pub mod guard;
+mod numbers;
+pub mod owned;
+mod reader;
+pub mod registration;
+mod reservation;
+mod works;
 
-pub use block::{Owned, Shared, Unlinked};
-pub use collector::{Alone, Call, Collector, IdSource, Reply};
-pub use reclaim::{Further, Watch, Weigh};
+pub use block::{Failed, Owned, Shared, Unlinked};
+pub use collector::{Collector, IdSource};
+pub use guard::{Guard, LocalGuard};
+pub use owned::OwnedGuard;
+pub use registration::Registration;
 pub use seize_machine::machine;
-pub use seize_model::{agreement, waiting};
 pub use seize_table::{Labelled, Refusal, thread_id, tls};
+pub use seize_words::book::Pass;

@@ -1,15 +1,15 @@
 //! Works of threads that share a collector: each has a registration and guards of its own, or all share one guard. They read links, put
 //! values of new blocks in, and retire what came out, or what was never in a link.
 ghost use Rattle.std.specs.Prelude.{◌≡◌, ◌+◌, ◌≤◌, IfOk};
-ghost use Rattle.seize_guard.specs.Collectors.{its_links};
-ghost use Rattle.seize_guard.specs.OwnedGuards.{owned_collector};
-ghost use Rattle.seize_guard.specs.Registrations.{registered_in};
+ghost use Rattle.seize.specs.Collectors.{its_links};
+ghost use Rattle.seize.specs.OwnedGuards.{owned_collector};
+ghost use Rattle.seize.specs.Registrations.{registered_in};
 
 mod turns;
 
 use crate::clock::{RUNS, Samples, Span};
 use crate::team::{Team, one_run};
-use seize_guard::{Collector, IdSource, OwnedGuard, Refusal, Registration};
+use seize::{Collector, IdSource, OwnedGuard, Refusal, Registration};
 use std::alloc::Global;
 use std::io::ErrorKind;
 use std::rt::Clock;

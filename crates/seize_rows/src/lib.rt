@@ -1,15 +1,35 @@
-//! Tests of the collector in one caller's hands: worked runs, and whatever no contract says. They stand in a crate of their own,
-//! since a crate with tests is proved twice.
+//! Tests of the collector that threads share: whatever no contract says. They stand in a crate of their own, since a crate with tests is
+//! proved twice.
 #![tactic(auto)]
 
 #[cfg(test)]
-mod alone;
+mod any;
 #[cfg(test)]
-mod further;
+mod contending;
 #[cfg(test)]
-mod items;
+mod ending;
 #[cfg(test)]
-mod links;
-mod nest;
+mod forgotten;
+#[cfg(test)]
+mod guards;
+pub mod marked;
+#[cfg(test)]
+mod meeting;
+#[cfg(test)]
+mod nested;
+#[cfg(test)]
+mod numbers;
+#[cfg(test)]
+mod owned;
+#[cfg(test)]
+mod owners;
 #[cfg(test)]
 mod passed_on;
+#[cfg(test)]
+mod sharing;
+#[cfg(test)]
+mod staying;
+mod threads;
+pub mod turns;
+#[cfg(test)]
+mod values;

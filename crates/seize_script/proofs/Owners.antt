@@ -1,9 +1,9 @@
 -- The collectors of the blocks inside a value, and those of each block there.
 use Rattle.std.proofs.Common.{◌≡◌, List, All, refl, sym, ◌∙◌}
 use Rattle.std.proofs.lemmas.List.Elements.{All-same}
-use Rattle.seize.specs.Names.{CollectorName}
-use Rattle.seize.specs.Blocks.{HoldsOnly, Belongs, owners_in}
-use Rattle.seize.proofs.Contents.{each_belongs, owners_of_each, owners_map}
+use Rattle.seize_plain.specs.Names.{CollectorName}
+use Rattle.seize_plain.specs.Blocks.{HoldsOnly, Belongs, owners_in}
+use Rattle.seize_plain.proofs.Contents.{each_belongs, owners_of_each, owners_map}
 use Rattle.seize_script.specs.Values.{owners_of, owners_step}
 use Rattle.seize_script.specs.declared.value.Value.{Value}
 use Rattle.seize_script.specs.declared.value.Value.TheViews.{out-Value, roll-Value}

@@ -1,9 +1,9 @@
 -- Calls for a collector: one more, and groups taken from the front.
 use Rattle.std.proofs.Common.{◌≡◌, suc, List, [], ◌∷◌, ◌++◌, All, sym, subst, arith}
-use Rattle.seize.specs.Names.{CollectorName}
-use Rattle.seize.specs.About.{About}
-use Rattle.seize.specs.Alone.{IsFor, AreFor}
-use Rattle.seize.specs.declared.collector.calls.Call.{Call}
+use Rattle.seize_plain.specs.Names.{CollectorName}
+use Rattle.seize_plain.specs.About.{About}
+use Rattle.seize_plain.specs.Alone.{IsFor, AreFor}
+use Rattle.seize_plain.specs.declared.collector.calls.Call.{Call}
 use Rattle.seize_script.specs.declared.value.Value.{Value}
 use Rattle.seize_script.specs.declared.value.PutInside.{PutInside}
 use Rattle.seize_script.specs.declared.script.Group.{Group}

@@ -1,8 +1,8 @@
 -- Calls for a collector: their links are all below its number of links, and the blocks that they bring are its own.
 use Rattle.std.specs.Prelude.{All}
-use Rattle.seize.specs.About.{About}
-use Rattle.seize.specs.Alone.{AreFor}
-use Rattle.seize.specs.Collectors.{about}
+use Rattle.seize_plain.specs.About.{About}
+use Rattle.seize_plain.specs.Alone.{AreFor}
+use Rattle.seize_plain.specs.Collectors.{about}
 use Rattle.seize_script.specs.declared.parser.Parser.{Parser}
 use Rattle.seize_script.specs.declared.script.Group.{Group}
 use Rattle.seize_script.specs.declared.script.Calls.{Calls}

@@ -1,6 +1,6 @@
 -- The collector that a script is read for.
-use Rattle.seize.specs.About.{About}
-use Rattle.seize.specs.Collectors.{about}
+use Rattle.seize_plain.specs.About.{About}
+use Rattle.seize_plain.specs.Collectors.{about}
 use Rattle.seize_script.specs.declared.call.CallReader.{CallReader}
 use Rattle.seize_script.specs.declared.parser.Parser.{Parser}
 

@@ -1,7 +1,7 @@
 -- The values in a value's brackets, and what a value weighs: 1, and what the values in its brackets weigh.
 use Rattle.std.specs.Prelude.{ℕ, ◌+◌, List, map, sum}
-use Rattle.seize.specs.Names.{CollectorName}
-use Rattle.seize.specs.Blocks.{content, owners_in}
+use Rattle.seize_plain.specs.Names.{CollectorName}
+use Rattle.seize_plain.specs.Blocks.{content, owners_in}
 use Rattle.seize_script.specs.declared.value.Value.{Value}
 use Rattle.seize_script.specs.declared.value.Value.TheOpen.{Value-F}
 use Rattle.seize_script.specs.declared.value.Value.TheViews.{out-Value}

@@ -1,6 +1,6 @@
 -- What a value weighs: at least 1, and more than the values in its brackets together.
 use Rattle.std.proofs.Common.{◌≡◌, ℕ, ◌+◌, ◌≤◌, ◌<◌, map, sum, ap, refl, ◌∙◌, arith}
-use Rattle.seize.proofs.Contents.{contents_map}
+use Rattle.seize_plain.proofs.Contents.{contents_map}
 use Rattle.seize_script.specs.Values.{inside_of, weight_step, weight_of}
 use Rattle.seize_script.specs.declared.value.Value.{Value}
 use Rattle.seize_script.specs.declared.value.Value.TheViews.{out-Value}

@@ -1,15 +1,15 @@
 //! The grammar of one line: a call, and the values in it, whose blocks are made as they are read.
 ghost use Rattle.std.specs.Prelude.{All, ◌≡◌, ◌≤◌, ◌<◌, length, IfOk};
-ghost use Rattle.seize.specs.Alone.{IsFor};
-ghost use Rattle.seize.specs.Blocks.{Belongs};
-ghost use Rattle.seize.specs.Collectors.{about};
+ghost use Rattle.seize_plain.specs.Alone.{IsFor};
+ghost use Rattle.seize_plain.specs.Blocks.{Belongs};
+ghost use Rattle.seize_plain.specs.Collectors.{about};
 ghost use Rattle.seize_script.specs.Readers.{read_for};
 ghost use Rattle.seize_script.specs.Values.{owners_of};
 
 use crate::line::{Line, LineError};
 use crate::name::Name;
 use crate::value::{PutInside, Value};
-use seize::{Call, Collector, Owned};
+use seize_plain::{Call, Collector, Owned};
 use std::alloc::Global;
 
 /// How deep values may stand in one another's brackets; one without brackets is 1 deep.

@@ -1,7 +1,7 @@
 //! Who is told of the values gone: it notes their names, to be printed.
 use crate::name::Name;
 use crate::value::Value;
-use seize::Watch;
+use seize_plain::Watch;
 use std::alloc::{AllocError, Global};
 
 /// The names of the values gone, in order.

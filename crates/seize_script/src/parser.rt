@@ -1,7 +1,7 @@
 //! The grammar of scripts: their lines and groups. A script is read and checked whole before anything of it runs.
 ghost use Rattle.std.specs.Prelude.{◌≡◌, length, IfOk, OnOk};
 ghost use Rattle.seize_script.specs.Ranges.{AreGroupsFor, IsWhole, IsReady};
-ghost use Rattle.seize.specs.Collectors.{about};
+ghost use Rattle.seize_plain.specs.Collectors.{about};
 ghost use Rattle.seize_script.specs.Readers.{parsed_for};
 
 use crate::call::CallReader;
@@ -9,7 +9,7 @@ use crate::failure::Failure;
 use crate::line::{Line, LineError};
 use crate::script::{Calls, Group, GroupEnd, Script};
 use crate::value::{PutInside, Value};
-use seize::{Call, Collector, IdSource};
+use seize_plain::{Call, Collector, IdSource};
 use std::alloc::{AllocError, Global};
 use std::collections::VecDeque;
 use std::mem;

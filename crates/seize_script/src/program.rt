@@ -1,7 +1,7 @@
 //! The program between its arguments and its status: which script it runs, and what it prints. It is over any reader and writers.
 ghost use Rattle.std.specs.Prelude.{◌≡◌, ◌≤◌};
-ghost use Rattle.seize.specs.Alone.{AreFor};
-ghost use Rattle.seize.specs.Collectors.{whose, lent};
+ghost use Rattle.seize_plain.specs.Alone.{AreFor};
+ghost use Rattle.seize_plain.specs.Collectors.{whose, lent};
 ghost use Rattle.seize_script.specs.Values.{owners_of};
 ghost use Rattle.seize_script.specs.Ranges.{IsGroupFor, IsWhole};
 ghost use Rattle.seize_script.specs.Statuses.{status_of};
@@ -12,7 +12,7 @@ use crate::parser::parse;
 use crate::row;
 use crate::script::{Calls, Group, GroupEnd, Script};
 use crate::value::{PutInside, Value};
-use seize::{Alone, Call, Refusal, Reply};
+use seize_plain::{Alone, Call, Refusal, Reply};
 use std::alloc::Global;
 use std::collections::VecDeque;
 use std::io;

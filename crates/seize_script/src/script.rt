@@ -1,6 +1,6 @@
 //! A script that was read whole: the collector that its first line asks for, and the calls on it.
 use crate::value::{PutInside, Value};
-use seize::{Call, Collector};
+use seize_plain::{Call, Collector};
 use std::collections::VecDeque;
 
 /// What a script asks for.

@@ -4,8 +4,8 @@ ghost use Rattle.seize_script.specs.Values.{inside_of, owners_of, weight_of};
 ghost use Rattle.seize_script.specs.Weights.{weight_at_least_one, inside_lighter};
 
 use crate::name::Name;
-use seize::reclaim::Reclaim;
-use seize::{Further, Owned, Weigh};
+use seize_plain::reclaim::Reclaim;
+use seize_plain::{Further, Owned, Weigh};
 
 /// A name, and the values in its brackets.
 #[derive(Drop)]

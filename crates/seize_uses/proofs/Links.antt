@@ -1,10 +1,10 @@
 -- What a swap and a retirement do to the links of the model.
 use Rattle.std.proofs.Common.{◌≡◌, ℕ, zero, suc, ◌<◌, nat_le, max, Bool, true, false, if◌then◌else◌, List, [], ◌∷◌, ◌++◌, length, Option, Some, None, Ok, refl, ◌∙◌, sym, subst, slice_set}
 use Rattle.std.proofs.lemmas.List.{get_or-set_same}
-use Rattle.seize.specs.Waiting.State.{State, slot_at, is_kept}
-use Rattle.seize.specs.Waiting.Attempt.{StateAndGone, release, attempt, gives_up, with_batch_retired, put, with_batch_value}
-use Rattle.seize.specs.Waiting.Further.{settle, further, with_further}
-use Rattle.seize.specs.Waiting.Calls.{unless, unused, no_guard, retire, swap, link_at}
+use Rattle.seize_plain.specs.Waiting.State.{State, slot_at, is_kept}
+use Rattle.seize_plain.specs.Waiting.Attempt.{StateAndGone, release, attempt, gives_up, with_batch_retired, put, with_batch_value}
+use Rattle.seize_plain.specs.Waiting.Further.{settle, further, with_further}
+use Rattle.seize_plain.specs.Waiting.Calls.{unless, unused, no_guard, retire, swap, link_at}
 
 -- what holds of both outcomes of a test
 either : {A : Type 0} (P : A → Type 0) (b : Bool) (x y : A) → P x → P y → P (if b then x else y)

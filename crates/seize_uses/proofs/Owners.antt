@@ -1,10 +1,10 @@
 -- The collectors of the blocks from a node on.
 use Rattle.std.proofs.Common.{◌≡◌, ℕ, List, Option, Some, None, option_to_list, All, refl, sym, ◌∙◌}
 use Rattle.std.proofs.lemmas.List.Elements.{All-same}
-use Rattle.seize.specs.Names.{CollectorName}
-use Rattle.seize.specs.Blocks.{HoldsOnly, Belongs, owners_in}
-use Rattle.seize.proofs.Contents.{each_belongs, owners_of_each}
-use Rattle.seize.specs.declared.block.owned.Owned.{Owned}
+use Rattle.seize_plain.specs.Names.{CollectorName}
+use Rattle.seize_plain.specs.Blocks.{HoldsOnly, Belongs, owners_in}
+use Rattle.seize_plain.proofs.Contents.{each_belongs, owners_of_each}
+use Rattle.seize_plain.specs.declared.block.owned.Owned.{Owned}
 use Rattle.seize_uses.specs.Nodes.{owners_from, owners_on}
 use Rattle.seize_uses.specs.declared.list.Node.{Node}
 use Rattle.seize_uses.specs.declared.list.Node.TheOpen.{Node-F}

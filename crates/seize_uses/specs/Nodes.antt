@@ -1,7 +1,7 @@
 -- What a node of a list holds, and what it weighs: how many nodes there are from it on.
 use Rattle.std.specs.Prelude.{ℕ, ◌+◌, List, map, sum, option_to_list}
-use Rattle.seize.specs.Names.{CollectorName}
-use Rattle.seize.specs.Blocks.{content, owners_in}
+use Rattle.seize_plain.specs.Names.{CollectorName}
+use Rattle.seize_plain.specs.Blocks.{content, owners_in}
 use Rattle.seize_uses.specs.declared.list.Node.{Node}
 use Rattle.seize_uses.specs.declared.list.Node.TheOpen.{Node-F}
 use Rattle.seize_uses.specs.declared.list.Node.TheViews.{out-Node}

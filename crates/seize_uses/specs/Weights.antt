@@ -1,7 +1,7 @@
 -- What a node weighs: at least 1, and more than the next one.
 use Rattle.std.proofs.Common.{◌≡◌, ℕ, ◌+◌, ◌≤◌, ◌<◌, map, sum, Option, Some, None, option_to_list, refl, ◌∙◌, arith}
-use Rattle.seize.specs.Blocks.{content}
-use Rattle.seize.specs.declared.block.owned.Owned.{Owned}
+use Rattle.seize_plain.specs.Blocks.{content}
+use Rattle.seize_plain.specs.declared.block.owned.Owned.{Owned}
 use Rattle.seize_uses.specs.Nodes.{followers, nodes_step, nodes_from}
 use Rattle.seize_uses.specs.declared.list.Node.{Node}
 use Rattle.seize_uses.specs.declared.list.Node.TheViews.{out-Node}

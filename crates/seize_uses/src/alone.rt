@@ -1,11 +1,11 @@
 //! The collector in one caller's hands: a value goes into a link, is read there, comes out and is retired.
 ghost use Rattle.std.specs.Prelude.{◌≡◌, ◌<◌, Some, option_map, IfOk, IfSome};
-ghost use Rattle.seize.specs.Waiting.Calls as calls;
-ghost use Rattle.seize.specs.Blocks.{content, owner_of};
-ghost use Rattle.seize.specs.Collectors.{whose, lent, state_of};
+ghost use Rattle.seize_plain.specs.Waiting.Calls as calls;
+ghost use Rattle.seize_plain.specs.Blocks.{content, owner_of};
+ghost use Rattle.seize_plain.specs.Collectors.{whose, lent, state_of};
 
-use seize::reclaim::Boxed;
-use seize::{Alone, Collector, IdSource, Owned, Refusal, Weigh};
+use seize_plain::reclaim::Boxed;
+use seize_plain::{Alone, Collector, IdSource, Owned, Refusal, Weigh};
 use std::alloc::Global;
 
 /// A number, which holds no block.

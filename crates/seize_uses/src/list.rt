@@ -1,12 +1,12 @@
 //! Values that hold a block of their own type, and a reclaimer that puts it: one retirement of a list's first node ends the whole list.
 ghost use Rattle.std.specs.Prelude.{IfOk, IfSome};
-ghost use Rattle.seize.specs.Blocks.{Belongs};
-ghost use Rattle.seize.specs.Collectors.{about};
+ghost use Rattle.seize_plain.specs.Blocks.{Belongs};
+ghost use Rattle.seize_plain.specs.Collectors.{about};
 ghost use Rattle.seize_uses.specs.Nodes.{followers, owners_from, nodes_from};
 ghost use Rattle.seize_uses.specs.Weights.{one_node_at_least, next_lighter};
 
-use seize::reclaim::Reclaim;
-use seize::{Collector, Further, Owned, Refusal, Weigh};
+use seize_plain::reclaim::Reclaim;
+use seize_plain::{Collector, Further, Owned, Refusal, Weigh};
 
 /// A node of a list.
 #[derive(Drop)]

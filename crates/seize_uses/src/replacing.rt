@@ -1,15 +1,15 @@
 //! A block in the place of the one that was read: how a structure without locks changes a link.
 ghost use Rattle.std.specs.Prelude.{◌≡◌, ◌<◌, ℕ, Option, [], ◌∷◌, IfOk, IfSome};
-ghost use Rattle.seize_guard.specs.Blocks.{unlinked_collector};
-ghost use Rattle.seize_guard.specs.Collectors.{IsBlockOf, IsPassOf, its_links};
-ghost use Rattle.seize_guard.specs.Guards.{guard_collector, guard_slot};
-ghost use Rattle.seize_guard.specs.Machine.Event.{ExchangeLink, ReadLink};
-ghost use Rattle.seize_guard.specs.Makes.{Makes};
-ghost use Rattle.seize_guard.specs.Registrations.{registered_in};
+ghost use Rattle.seize.specs.Blocks.{unlinked_collector};
+ghost use Rattle.seize.specs.Collectors.{IsBlockOf, IsPassOf, its_links};
+ghost use Rattle.seize.specs.Guards.{guard_collector, guard_slot};
+ghost use Rattle.seize.specs.Machine.Event.{ExchangeLink, ReadLink};
+ghost use Rattle.seize.specs.Makes.{Makes};
+ghost use Rattle.seize.specs.Registrations.{registered_in};
 ghost use Rattle.seize_machine.specs.declared.machine.event.Answer.TheVariants.{Link};
 ghost use Rattle.seize_machine.specs.declared.machine.event.Exchange.TheVariants.{Compare};
 
-use seize_guard::{LocalGuard, Owned, Pass, Refusal, Registration, Unlinked};
+use seize::{LocalGuard, Owned, Pass, Refusal, Registration, Unlinked};
 use std::sync::Wait;
 
 /// Puts the block into link 0 in the place of the one that is there. Where the link is empty, or another thread is faster, the block comes

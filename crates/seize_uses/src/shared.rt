@@ -1,12 +1,12 @@
 //! A number that threads share: each reads and replaces it, by a registration of its own.
 ghost use Rattle.std.specs.Prelude.{◌<◌};
-ghost use Rattle.seize_guard.specs.Collectors.{IsPassOf, its_links};
-ghost use Rattle.seize_guard.specs.Laws.{moments_seen, opening_of};
-ghost use Rattle.seize_guard.specs.Makes.{MakesNone};
-ghost use Rattle.seize_guard.specs.Registrations.{registered_in};
-ghost use Rattle.seize_guard.specs.Machine.Laws.{After};
+ghost use Rattle.seize.specs.Collectors.{IsPassOf, its_links};
+ghost use Rattle.seize.specs.Laws.{moments_seen, opening_of};
+ghost use Rattle.seize.specs.Makes.{MakesNone};
+ghost use Rattle.seize.specs.Registrations.{registered_in};
+ghost use Rattle.seize.specs.Machine.Laws.{After};
 
-use seize_guard::{Pass, Refusal, Registration};
+use seize::{Pass, Refusal, Registration};
 use std::sync::Wait;
 
 /// The number in link 0, if there is one.

@@ -9,7 +9,7 @@ use crate::table::loaded_twice;
 use crate::watched::{Newest, retire_under_guard};
 use seize::thread_id::{Numbers, Thread};
 use seize::tls::ThreadLocal;
-use seize::{Collector, IdSource, Watch};
+use seize_plain::{Collector, IdSource, Watch};
 use std::test::Fail;
 
 #[test]
@@ -87,8 +87,8 @@ fn a_slot_enters(rt: HostRuntime) -> Result<(), Fail> {
 
 #[test]
 fn a_shared_number_is_replaced_and_read(rt: HostRuntime) -> Result<(), Fail> {
-    let mut ids = seize_guard::IdSource::new();
-    let collector: seize_guard::Collector<u64> = seize_guard::Collector::new(
+    let mut ids = seize::IdSource::new();
+    let collector: seize::Collector<u64> = seize::Collector::new(
         rt.alloc(),
         &mut ids,
         1,

@@ -1,14 +1,14 @@
 //! A watch: it is told of each value that is gone.
 ghost use Rattle.std.specs.Prelude.{◌≡◌, true, None, IfOk};
-ghost use Rattle.seize.specs.Waiting.Calls.{unused};
-ghost use Rattle.seize.specs.Waiting.State.{slot_at, has_guard};
-ghost use Rattle.seize.specs.Blocks.{owner_of, block_of};
-ghost use Rattle.seize.specs.Collectors.{whose, state_of};
+ghost use Rattle.seize_plain.specs.Waiting.Calls.{unused};
+ghost use Rattle.seize_plain.specs.Waiting.State.{slot_at, has_guard};
+ghost use Rattle.seize_plain.specs.Blocks.{owner_of, block_of};
+ghost use Rattle.seize_plain.specs.Collectors.{whose, state_of};
 
 use crate::alone::Number;
-use seize::reclaim::Boxed;
-use seize::waiting::batches;
-use seize::{Alone, Refusal, Unlinked, Watch};
+use seize_plain::reclaim::Boxed;
+use seize_plain::waiting::batches;
+use seize_plain::{Alone, Refusal, Unlinked, Watch};
 
 /// The number that was gone last.
 #[derive(Drop, Debug, PartialEq, Eq)]

@@ -1,54 +1,68 @@
 //! A block in one owner's hands.
-ghost use Rattle.std.specs.Prelude.{◌≡◌, ◌≢◌};
+ghost use Rattle.std.specs.Prelude.{◌≡◌};
 ghost use Rattle.std.specs.Borrow.{sem};
-ghost use Rattle.seize_store.specs.Named as store;
-ghost use Rattle.seize.specs.Blocks.{content, number_of, owner_of, IsSame};
+ghost use Rattle.seize_book.specs.Others.{IsVacated, book_of};
+ghost use Rattle.seize_store.specs.Named.{bare_store, bare_value, owned_value, store_of};
+ghost use Rattle.seize_words.specs.Chunks.{IsBlockIn, LendsIn, LiesIn, blocks_book};
+ghost use Rattle.seize.specs.Blocks.{content, store_name};
 
-use seize_store::RowToken;
+use seize_store::Bare;
+use seize_words::blocks::Blocks;
+use seize_words::book::{Pass, Seen, ValueKey};
+use seize_words::chunk::{Header, Part};
 use std::ops::{Deref, DerefMut};
 
-/// A block in one owner's hands. It reads as its value, and may be dropped, which ends the value and frees the block's place in its
-/// store. It may outlive its collector, and then keeps the memory of all blocks of its row until it ends.
+/// A block in one owner's hands. It reads as its value, which its owner may change in place.
+///
+/// It may be dropped: then the value ends, and the block's place in the store is free again, by one swap. It may outlive its collector, and
+/// keeps the memory of all blocks of its row until it ends.
 #[derive(Drop)]
 pub struct Owned<T: Drop> {
-    block: seize_store::Owned<(), (), T>,
+    block: seize_store::Owned<Header, Part, T>,
 }
 
 impl<T: Drop> Owned<T> {
-    pub(crate) fn of(block: seize_store::Owned<(), (), T>) -> Owned<T>
-        ensures content { content result ≡ store.owned_value block }
-        ensures number { number_of result ≡ store.owned_number block }
-        ensures owner { owner_of result ≡ store.store_of block }
+    // The block whose values this key is of.
+    pub(crate) fn of(key: ValueKey, block: Bare<Header, Part, T>, book: &Seen) -> Owned<T>
+        requires book { book_of key ≡ book.now.name }
+        requires key { IsVacated key × LiesIn key block }
+        ensures { (content result ≡ bare_value block) × (store_name result ≡ bare_store block) }
     {
-        Owned { block }
+        let part = Part {
+            key: key.bare(),
+            book: book.again(),
+        };
+        Owned {
+            block: block.with(part),
+        }
     }
 
-    pub(crate) fn number(&self) -> usize
-        ensures { result ≡ number_of self.now }
+    // The key of its next value, and the block without it.
+    fn open(self, blocks: &Blocks<T>, pass: &mut Pass) -> (ValueKey, Bare<Header, Part, T>)
+        requires book { blocks_book blocks.now ≡ pass.old.name }
+        requires store { store_name self ≡ (blocks_book blocks.now).store }
+        ensures pass { pass.new ≡ pass.old }
+        ensures block { IsBlockIn blocks.now (content self) result.0 result.1 }
     {
-        self.block.number()
+        let (part, block) = self.block.split();
+        let Part { key, book } = part;
+        let known = block.known();
+        pass.agree(&book);
+        let key = key.place(block.number() as u64, known);
+        (key, block)
     }
 
-    /// Two blocks of one collector that stand at once have different numbers. It gives both back as they were, and does nothing else: its
-    /// contract is the law.
-    pub fn apart(self, other: Owned<T>) -> (Owned<T>, Owned<T>)
-        requires { owner_of self ≡ owner_of other }
-        ensures numbers { number_of self ≢ number_of other }
-        ensures same { IsSame result.0 self × IsSame result.1 other }
+    // Its value is lent from then on, and may go into a link. It gives the block's number, and the key of the value.
+    pub(crate) fn lend(self, blocks: &Blocks<T>, pass: &mut Pass) -> (u64, ValueKey)
+        requires book { blocks_book blocks.now ≡ pass.old.name }
+        requires store { store_name self ≡ (blocks_book blocks.now).store }
+        ensures pass { pass.new ≡ pass.old }
+        ensures lent { LendsIn blocks.now result.1 result.0 (T.row.coded.code (content self)) }
     {
-        let Owned { block } = self;
-        let Owned { block: other } = other;
-        let (block, other) = seize_store::apart(block, other);
-        (Owned { block }, Owned { block: other })
-    }
-
-    /// The value by value, and what shows of which collector it was. The block's place is free again.
-    pub(crate) fn into_parts(self) -> (T, RowToken)
-        ensures value { result.0 ≡ content self }
-        ensures owner { result.1.store ≡ owner_of self }
-    {
-        let Owned { block } = self;
-        block.into_parts()
+        let (mut key, block) = self.open(blocks, pass);
+        let number = block.number() as u64;
+        blocks.lend(&mut key, block);
+        (number, key)
     }
 }
 
@@ -65,7 +79,7 @@ impl<T: Drop> Deref for Owned<T> {
     }
 }
 
-/// The value may be changed while its owner has it. Which collector the block is of, and its number, stay.
+/// Its value may be changed while it has one owner. Its collector stays.
 impl<T: Drop> DerefMut for Owned<T> {
     ghost use Rattle.std.specs.Prelude.{◌≡◌};
     ghost use Rattle.seize.specs.Blocks.{content};

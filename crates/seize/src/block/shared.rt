@@ -1,52 +1,53 @@
-//! A block as it was found in a link.
-ghost use Rattle.std.specs.Prelude.{◌≡◌, ◌==◌, List, ℕ};
-ghost use Rattle.std.specs.Coded.{coded_list, coded_ℕ};
-ghost use Rattle.seize.specs.Blocks.{content, number_of, owner_of, shared_content, shared_number, shared_owner};
+//! Blocks as a guard found them in a link.
+ghost use Rattle.std.specs.Prelude.{◌≡◌};
+ghost use Rattle.seize_book.specs.Blocks.{link_word};
 
-use crate::block::Owned;
-use std::alloc::AllocError;
+use seize_words::glimpse::Glimpse;
 use std::ops::Deref;
 
-/// What a guard found in a link. It reads as its value, and can't outlive what it was read by.
-pub struct Shared<'g, T: Drop> {
-    block: &'g Owned<T>,
+/// What a guard found in a link. It reads as its value, for as long as the guard is borrowed: until then the value is not reclaimed.
+#[derive(Drop)]
+pub struct Shared<'g, T> {
+    value: &'g T,
+    // as the link's word showed it
+    pub(crate) word: u64,
+    pub(crate) glimpse: Glimpse<'g>,
+    ghost worded: { word ≡ link_word glimpse.value },
 }
 
-impl<T: Drop> Clone for Shared<'_, T> {
-    fn clone(&self) -> Result<Self, AllocError> {
-        Ok(*self)
-    }
-}
+impl<'g, T> Shared<'g, T> {
+    ghost use Rattle.std.specs.Prelude.{◌==◌};
+    ghost use Rattle.seize.specs.Blocks.{shared_name, shared_value, shared_word};
 
-impl<T: Drop> Copy for Shared<'_, T> {}
-
-impl<'g, T: Drop> Shared<'g, T> {
-    pub(crate) fn of(block: &'g Owned<T>) -> Shared<'g, T>
-        ensures content { shared_content result ≡ content block.now }
-        ensures number { shared_number result ≡ number_of block.now }
-        ensures owner { shared_owner result ≡ owner_of block.now }
+    // The value that was found where the link showed this word.
+    pub(crate) fn of(value: &'g T, word: u64, glimpse: Glimpse<'g>) -> Shared<'g, T>
+        requires { word ≡ link_word glimpse.value }
+        ensures { (shared_name result ≡ glimpse.entry.value) × (shared_value result ≡ value.now) }
     {
-        Shared { block }
+        Shared {
+            value,
+            word,
+            glimpse,
+        }
     }
 
-    /// Whether both are one block, not only equal values. Both are of one collector.
+    /// Whether both are of one block, where they are of one collector. Else it compares the numbers of two blocks alone.
     pub fn same(&self, other: &Shared<'_, T>) -> bool
-        requires { shared_owner self.now ≡ shared_owner other.now }
-        ensures { result ≡ (shared_number self.now == shared_number other.now) }
+        ensures { result ≡ (shared_word self.now == shared_word other.now) }
     {
-        self.block.number() == other.block.number()
+        self.word == other.word
     }
 }
 
-impl<T: Drop> Deref for Shared<'_, T> {
+impl<T> Deref for Shared<'_, T> {
     type Target = T;
 
     ghost use Rattle.std.specs.Prelude.{◌≡◌};
-    ghost use Rattle.seize.specs.Blocks.{shared_content};
+    ghost use Rattle.seize.specs.Blocks.{shared_value};
 
-    ghost deref_gives = { λ shared value. value ≡ shared_content shared };
+    ghost deref_gives = { λ shared value. value ≡ shared_value shared };
 
     fn deref(&self) -> &T {
-        self.block
+        self.value
     }
 }

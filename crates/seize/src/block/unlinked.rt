@@ -1,60 +1,91 @@
 //! A block that is in no link.
 ghost use Rattle.std.specs.Prelude.{◌≡◌};
-ghost use Rattle.seize.specs.Blocks.{block_of, collector_of};
+ghost use Rattle.seize_calls.specs.Slots.{IsLooseOf, IsReadable};
+ghost use Rattle.seize.specs.Loose.{loose_of-prop};
 
 use crate::block::Owned;
-use std::marker::PhantomData;
+use crate::collector::Collector;
+use seize_calls::slot::Loose;
+use seize_words::book::Pass;
+use seize_words::link::MaybeKey;
 use std::ops::Deref;
 
-/// A block that is in no link, to be retired. It reads as its value.
+/// A block that is in no link, and is to be retired. It reads as its value, and may outlive the guard that took it out.
 ///
-/// It must be spent, by a retirement of its own collector.
+/// It has no `Drop`, so it can't be lost by oversight: it is spent by a retirement.
 pub struct Unlinked<'c, T: Drop> {
-    owned: Owned<T>,
-    collector_id: u64,
-    lives: PhantomData<&'c u8>,
+    pub(crate) collector: &'c Collector<T>,
+    loose: Loose,
+    ghost its: { IsLooseOf collector.now.words loose } by { loose_of-prop collector.now.words loose },
+    ghost readable: { IsReadable loose },
 }
 
 impl<'c, T: Drop> Unlinked<'c, T> {
-    pub(crate) fn of(owned: Owned<T>, collector_id: u64) -> Unlinked<'c, T>
-        ensures block { block_of result ≡ owned }
-        ensures collector { collector_of result ≡ collector_id }
+    ghost use Rattle.std.specs.Prelude.{◌⊎◌, Some, None, IfNone, IfSome};
+    ghost use Rattle.seize_book.specs.Blocks.{link_word};
+    ghost use Rattle.seize_words.specs.LinkWords.{IsLoose, value_held};
+    ghost use Rattle.seize_calls.specs.Slots.{IsLooseIn, its_value};
+    ghost use Rattle.seize_calls.specs.declared.slot.Loose.{Loose};
+    ghost use Rattle.seize.specs.Blocks.{ComesOut, HasContent, content, unlinked_collector, unlinked_name};
+    ghost use Rattle.seize.specs.Collectors.{IsBlockOf, IsPassOf, its_book, its_id, its_words};
+
+    /// A block that was never in a link. No event is made.
+    ///
+    /// It takes no memory and waits for nobody.
+    pub fn from_owned(owned: Owned<T>, collector: &'c Collector<T>) -> Unlinked<'c, T>
+        requires { IsBlockOf collector.now owned }
+        ensures of { unlinked_collector result ≡ collector.now }
+        ensures content { HasContent T.row.coded.code (unlinked_name result) (content owned) }
     {
-        Unlinked {
-            owned,
-            collector_id,
-            lives: PhantomData,
-        }
+        let mut pass = collector.pass();
+        let (number, value) = owned.lend(&collector.words.blocks, &mut pass);
+        let loose = Loose::new(number, value);
+        Unlinked { collector, loose }
     }
 
-    /// The id of the block's collector.
-    pub fn collector_id(&self) -> u64
-        ensures { result ≡ collector_of self.now }
+    // What came out of a link, whose word was this; nothing where that was 0.
+    pub(crate) fn found(
+        collector: &'c Collector<T>,
+        word: u64,
+        key: MaybeKey,
+    ) -> Option<Unlinked<'c, T>>
+        requires word { word ≡ link_word (value_held key) }
+        requires loose { IsLoose key × (key.keys.name ≡ its_book collector.now) }
+        requires readable { (loose : Loose) → IsLooseIn key loose → IsReadable loose }
+        ensures of { IfSome result (λ unlinked. unlinked_collector unlinked ≡ collector.now) }
+        ensures out { ComesOut (value_held key) result }
     {
-        self.collector_id
+        let loose = Loose::of(word, key)?;
+        Some(Unlinked { collector, loose })
     }
 
-    pub(crate) fn into_owned(self) -> Owned<T>
-        ensures { result ≡ block_of self.entry }
+    // What is retired.
+    pub(crate) fn into_loose(self) -> Loose
+        ensures { (its_value result ≡ unlinked_name self.entry) × IsLooseOf (its_words (unlinked_collector self.entry)) result }
     {
         let Unlinked {
-            owned,
-            collector_id: _,
-            lives: _,
+            collector: _,
+            loose,
         } = self;
-        owned
+        loose
+    }
+
+    /// The id of its collector.
+    pub fn collector_id(&self) -> u64
+        ensures { result ≡ its_id (unlinked_collector self.now) }
+    {
+        self.collector.id()
     }
 }
 
 impl<T: Drop> Deref for Unlinked<'_, T> {
     type Target = T;
 
-    ghost use Rattle.std.specs.Prelude.{◌≡◌};
-    ghost use Rattle.seize.specs.Blocks.{content, block_of};
+    ghost use Rattle.seize.specs.Blocks.{HasContent, unlinked_name};
 
-    ghost deref_gives = { λ unlinked value. value ≡ content (block_of unlinked) };
+    ghost deref_gives = { λ unlinked value. HasContent T.row.coded.code (unlinked_name unlinked) value };
 
     fn deref(&self) -> &T {
-        &self.owned
+        self.loose.peek(&self.collector.words.blocks)
     }
 }

@@ -1,5 +1,5 @@
 //! Where collectors get their ids.
-ghost use Rattle.std.specs.Prelude.{◌≡◌};
+ghost use Rattle.std.specs.Prelude.{◌≡◌, ◌+◌, ◌≤◌, ◌<◌, ◌^◌, IfNone, IfSome};
 
 use std::marker::Model;
 
@@ -7,7 +7,7 @@ use std::marker::Model;
 #[derive(Drop)]
 pub struct IdSource {
     // how many ids it has given
-    pub(super) given: u128,
+    given: u128,
 }
 
 impl Model for IdSource {
@@ -24,5 +24,21 @@ impl IdSource {
         ensures { result ≡ 0 }
     {
         IdSource { given: 0 }
+    }
+
+    // The next id, which is not given yet; none is left after 2^64 - 1.
+    pub(super) fn next(&self) -> Option<u64>
+        ensures some { IfSome result (λ id. id ≡ self.now) }
+        ensures none { IfNone result (2 ^ 64 ≤ self.now) }
+    {
+        u64::try_from(self.given).ok()
+    }
+
+    // It is given.
+    pub(super) fn give(&mut self)
+        requires { self.old < 2 ^ 64 }
+        ensures { self.new ≡ self.old + 1 }
+    {
+        self.given += 1;
     }
 }

@@ -1,11 +1,11 @@
 //! What a thread does in a run, turn by turn.
 ghost use Rattle.std.specs.Prelude.{◌≡◌, ◌<◌, ◌≤◌, ◌+◌, IfSome};
-ghost use Rattle.seize_guard.specs.Collectors.{IsBlockOf, IsPassOf, its_links};
-ghost use Rattle.seize_guard.specs.Guards.{guard_collector};
-ghost use Rattle.seize_guard.specs.OwnedGuards.{owned_collector};
-ghost use Rattle.seize_guard.specs.Registrations.{registered_in};
+ghost use Rattle.seize.specs.Collectors.{IsBlockOf, IsPassOf, its_links};
+ghost use Rattle.seize.specs.Guards.{guard_collector};
+ghost use Rattle.seize.specs.OwnedGuards.{owned_collector};
+ghost use Rattle.seize.specs.Registrations.{registered_in};
 
-use seize_guard::{Guard, LocalGuard, Owned, OwnedGuard, Pass, Refusal, Registration, Unlinked};
+use seize::{Guard, LocalGuard, Owned, OwnedGuard, Pass, Refusal, Registration, Unlinked};
 use std::sync::Wait;
 
 /// How many links a collector has, but for `Pipe`.

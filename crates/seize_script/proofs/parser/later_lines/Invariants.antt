@@ -1,6 +1,6 @@
 use Rattle.std.proofs.Common.{◌≡◌}
 use Rattle.seize_script.specs.Ranges.{IsReady}
-use Rattle.seize.specs.Collectors.{about}
+use Rattle.seize_plain.specs.Collectors.{about}
 use Rattle.seize_script.specs.Readers.{parsed_for}
 use Rattle.seize_script.proofs.parser.later_lines.Given as goal
 

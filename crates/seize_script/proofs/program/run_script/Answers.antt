@@ -1,6 +1,6 @@
 use Rattle.std.proofs.Common.{ap, refl}
 use Rattle.seize_script.proofs.Ranging.{group_taken}
-use Rattle.seize.specs.Collectors.{whose}
+use Rattle.seize_plain.specs.Collectors.{whose}
 use Rattle.seize_script.proofs.program.run_script.Goals as goal
 
 pub run_group-requires : goal.run_group-requires

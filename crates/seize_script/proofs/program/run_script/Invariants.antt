@@ -1,6 +1,6 @@
 use Rattle.std.proofs.Common.{All}
 use Rattle.seize_script.specs.Ranges.{IsGroupFor}
-use Rattle.seize.specs.Collectors.{whose}
+use Rattle.seize_plain.specs.Collectors.{whose}
 use Rattle.seize_script.proofs.program.run_script.Given as goal
 
 abbrev pub invariant-loop-group : goal.invariant-loop-group

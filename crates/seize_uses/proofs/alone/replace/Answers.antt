@@ -1,7 +1,7 @@
 use Rattle.std.proofs.Common.{◌≡◌, [], None, option_map, slice_index_or, ap, ◌∙◌, rules}
-use Rattle.seize.specs.Waiting.Calls.{no_guard, link_at}
-use Rattle.seize.specs.Blocks.{content}
-use Rattle.seize.specs.Collectors.{state_of, is_short_of}
+use Rattle.seize_plain.specs.Waiting.Calls.{no_guard, link_at}
+use Rattle.seize_plain.specs.Blocks.{content}
+use Rattle.seize_plain.specs.Collectors.{state_of, is_short_of}
 use Rattle.seize_uses.proofs.Links.{swapped_at, retire_links}
 use Rattle.seize_uses.proofs.Told.{not_short}
 use Rattle.seize_uses.proofs.alone.replace.Goals.{in-Some+in-Ok, in_default}

@@ -1,9 +1,9 @@
 use Rattle.std.proofs.Common.{ℕ, Option, Some, [], ◌∷◌, subst}
 use base.Stored.{gnum}
-use Rattle.seize_guard.specs.Guards.{guard_activation, guard_collector, guard_slot}
-use Rattle.seize_guard.specs.Machine.Event.{ExchangeLink, ReadLink}
-use Rattle.seize_guard.specs.Makes.{Makes}
-use Rattle.seize_guard.proofs.Facts.{makes_then, read_replaced}
+use Rattle.seize.specs.Guards.{guard_activation, guard_collector, guard_slot}
+use Rattle.seize.specs.Machine.Event.{ExchangeLink, ReadLink}
+use Rattle.seize.specs.Makes.{Makes}
+use Rattle.seize.proofs.Facts.{makes_then, read_replaced}
 use Rattle.seize_machine.specs.declared.machine.event.Answer.TheVariants.{Link}
 use Rattle.seize_machine.specs.declared.machine.event.Exchange.TheVariants.{Compare}
 use Rattle.seize_uses.proofs.replacing.replace_read.Goals as goal

@@ -1,6 +1,6 @@
 use Rattle.std.proofs.Common.{[], Some, ap, ◌∙◌}
-use Rattle.seize.specs.Collectors.{state_of, is_short_of}
-use Rattle.seize.specs.Effects.{told_of}
+use Rattle.seize_plain.specs.Collectors.{state_of, is_short_of}
+use Rattle.seize_plain.specs.Effects.{told_of}
 use Rattle.seize_uses.proofs.Told.{not_short}
 use Rattle.seize_uses.proofs.watched.retire_under_guard.Goals as goal
 

@@ -1,5 +1,5 @@
-use Rattle.seize_guard.specs.Collectors.{IsPassOf}
-use Rattle.seize_guard.specs.Registrations.{registered_in}
+use Rattle.seize.specs.Collectors.{IsPassOf}
+use Rattle.seize.specs.Registrations.{registered_in}
 use Rattle.seize_bench.proofs.guards.turns.enter_many.Given as goal
 
 abbrev pub invariant-loop : goal.invariant-loop

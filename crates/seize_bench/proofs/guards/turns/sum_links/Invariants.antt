@@ -1,5 +1,5 @@
-use Rattle.seize_guard.specs.Collectors.{IsPassOf}
-use Rattle.seize_guard.specs.Guards.{guard_collector}
+use Rattle.seize.specs.Collectors.{IsPassOf}
+use Rattle.seize.specs.Guards.{guard_collector}
 use Rattle.seize_bench.proofs.guards.turns.sum_links.Given as goal
 
 abbrev pub invariant-loop-link : goal.invariant-loop-link

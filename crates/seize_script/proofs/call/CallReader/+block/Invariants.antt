@@ -1,5 +1,5 @@
 use Rattle.std.proofs.Common.{◌≡◌, ◌≤◌, length, All}
-use Rattle.seize.specs.Blocks.{Belongs}
+use Rattle.seize_plain.specs.Blocks.{Belongs}
 use Rattle.seize_script.specs.Readers.{read_for}
 use Rattle.seize_script.specs.Values.{owners_of}
 use Rattle.seize_script.proofs.call.CallReader.+block.Given as goal

@@ -1,4 +1,4 @@
-use Rattle.seize.proofs.Contents.{made_belongs}
+use Rattle.seize_plain.proofs.Contents.{made_belongs}
 use Rattle.seize_script.specs.Readers.{read_for}
 use Rattle.seize_script.specs.Values.{owners_of}
 use Rattle.seize_script.specs.declared.value.Value.{Value}

@@ -1,6 +1,6 @@
 use Rattle.std.proofs.Common.{[], All, option_to_list, subst}
 use Rattle.std.proofs.lemmas.List.Elements.{All-head}
-use Rattle.seize.specs.Blocks.{Belongs}
+use Rattle.seize_plain.specs.Blocks.{Belongs}
 use Rattle.seize_uses.specs.Nodes.{owners_from}
 use Rattle.seize_uses.proofs.Owners.{next_belongs}
 use Rattle.seize_uses.proofs.list.PutNextReclaimNode.reclaim.Goals as goal

@@ -1,0 +1,69 @@
+-- What the calls of a guard make, as users see it, with its unit of the slot's activation.
+use Rattle.std.proofs.Common.{◌≡◌, ℕ, false, Option, None, Some, IfSome, is_some, refl, sym, subst, ◌∙◌}
+use Rattle.std.proofs.lemmas.Bool.{false≢true}
+use base.Stored.{Gv}
+use Rattle.seize_machine.specs.Machine.Event.{ExchangeLink, ReadLink}
+use Rattle.seize_machine.specs.declared.machine.event.Answer.TheVariants.{Link as Held}
+use Rattle.seize_machine.specs.declared.machine.event.Exchange.TheVariants.{Compare, Swap}
+use Rattle.seize_machine.specs.declared.machine.event.Job.{Job}
+use Rattle.seize_book.specs.Books.{Learns}
+use Rattle.seize_book.specs.declared.book.pass.Pass.{Pass}
+use Rattle.seize_book.specs.declared.book.seen.Seen.{Seen}
+use Rattle.seize_words.specs.Chunks.{IsFoundAs}
+use Rattle.seize_words.specs.LinkWords.{CompareExchanges, Finds, Swaps, held_before, link_number, value_held}
+use Rattle.seize_words.specs.Links.{comparand}
+use Rattle.seize_words.specs.declared.activation.Activation.{Activation}
+use Rattle.seize_words.specs.declared.glimpse.Found.{Found}
+use Rattle.seize_words.specs.declared.glimpse.Glimpse.{Glimpse}
+use Rattle.seize_words.specs.declared.link.Link.{Link}
+use Rattle.seize_words.specs.declared.link.MaybeKey.{MaybeKey}
+use Rattle.seize.specs.Blocks.{Shows, shared_name, shared_value}
+use Rattle.seize.specs.Makes.{MakesCall, MakesNone, MakesOne}
+use Rattle.seize.specs.Reservations.{IsUnit}
+use Rattle.seize.specs.declared.block.shared.Shared.{Shared}
+use Rattle.seize_book.specs.Tokens.{Name}
+use Rattle.seize.proofs.LinkSteps.{link_compares, link_finds, link_swaps}
+use Rattle.seize.proofs.Made.{none_learned, none_then}
+
+-- a call, when no event was made before it
+pub call_after : (s t : ℕ) (job : Job) (pass ready pass' : Pass) → s ≡ t → MakesNone pass ready → MakesCall s job ready pass' → MakesCall t job pass pass'
+call_after s t job pass ready pass' same none call =
+    subst (λ (k : ℕ). MakesCall k job pass pass') same (record { steps = call.steps; its = call.its; made = none_then none call.made })
+
+module _ (n : Name) (s : ℕ) (unit : Activation) (seen : Seen) (its : IsUnit n s unit seen) (number : ℕ) (link : Link) (at : link_number link ≡ number) (pass learned : Pass) (learns : Learns pass seen learned) where
+  -- a read of a link, once the pass has learned that the activation began
+  pub guard_finds : (pass' : Pass) (v : ℕ) (t : Finds link unit learned pass' v) → MakesOne pass pass' (ReadLink (s) number) (Held (held_before t.reads))
+  guard_finds pass' v t =
+      subst (λ (k : ℕ × ℕ). MakesOne pass pass' (ReadLink k.0 k.1) (Held (held_before t.reads))) (λ j. (its.0.slot j, at j))
+      (none_then (none_learned pass seen learned learns) (link_finds link unit learned pass' v t))
+
+  -- an exchange
+  pub guard_swaps : (key : MaybeKey) (ready : Pass) (key' : MaybeKey) (pass' : Pass) (v : ℕ) → ready ≡ learned → (t : Swaps link unit key ready key' pass' v)
+      → MakesOne pass pass' (ExchangeLink (s) number (Swap (value_held key))) (Held (held_before t.0))
+  guard_swaps key ready key' pass' v same t =
+      subst (λ (k : ℕ × ℕ). MakesOne pass pass' (ExchangeLink k.0 k.1 (Swap (value_held key))) (Held (held_before t.0))) (λ j. (its.0.slot j, at j))
+      (none_then (subst (MakesNone pass) (sym same) (none_learned pass seen learned learns)) (link_swaps link unit key ready key' pass' v t))
+
+  -- and one that compares
+  pub guard_compares : (key : MaybeKey) (ready : Pass) (current : Option ℕ) (key' : MaybeKey) (pass' : Pass) (v : ℕ) (glimpse : Glimpse) → ready ≡ learned → (t : CompareExchanges link unit key ready current key' pass' v glimpse)
+      → MakesOne pass pass' (ExchangeLink (s) number (Compare (comparand current (held_before t.0)) (value_held key))) (Held (held_before t.0))
+  guard_compares key ready current key' pass' v glimpse same t =
+      subst (λ (k : ℕ × ℕ). MakesOne pass pass' (ExchangeLink k.0 k.1 (Compare (comparand current (held_before t.0)) (value_held key))) (Held (held_before t.0))) (λ j. (its.0.slot j, at j))
+      (none_then (subst (MakesNone pass) (sym same) (none_learned pass seen learned learns)) (link_compares link unit key ready current key' pass' v glimpse t))
+
+-- What a read shows: nothing, where the link held nothing;
+pub shows_none : {T X : Type 0} (code : T → Gv) (held : Option ℕ) (found : Option X) (shared : Option (Shared T)) → is_some found ≡ is_some held → found ≡ None → shared ≡ None → Shows code held shared
+shows_none {T} {X} code held found shared same none is =
+    subst (Shows code held) (sym is) (none_held held (subst (λ (o : Option X). is_some o ≡ is_some held) none same))
+  where
+    none_held : (o : Option ℕ) → false ≡ is_some o → o ≡ None
+    none_held None same = refl
+    none_held (Some v) same = absurd (false≢true same)
+
+-- and else the value that was found
+pub shows_found : {T : Type 0} (code : T → Gv) (held : Option ℕ) (result : Option (Found T)) (found : Found T) (shared : Shared T)
+    → IfSome result (λ f. (f.glimpse.value ≡ held) × IsFoundAs f.glimpse.value (code f.value.now)) → result ≡ Some found
+    → (shared_name shared ≡ found.glimpse.value) × (shared_value shared ≡ found.value.now) → Shows code held (Some shared)
+shows_found {T} code held result found shared finds is so =
+    let f = subst (λ (r : Option (Found T)). IfSome r (λ f. (f.glimpse.value ≡ held) × IsFoundAs f.glimpse.value (code f.value.now))) is finds in
+    (so.0 ∙ f.0, subst (λ (t : Option ℕ × T). IsFoundAs t.0 (code t.1)) (λ j. (f.0 j, sym so.1 j)) f.1)

@@ -1,0 +1,61 @@
+-- Which reservation lies in the place of a registration or of a guard, and what its works tell of it.
+use Rattle.std.proofs.Common.{◌≡◌, ◌⊎◌, ◌<◌, ◌≤◌, ◌-◌, ◌^◌, ℕ, List, [], ◌∷◌, inl, inr, arith, ap, append_assoc, subst, sym, ◌∙◌}
+use denote.Bor.{Bor}
+use Rattle.seize_machine.specs.Machine.Event.{Begin, Event, Give, Return}
+use Rattle.seize_machine.specs.declared.machine.event.Answer.{Answer}
+use Rattle.seize_machine.specs.declared.machine.event.Answer.TheVariants.{Done}
+use Rattle.seize_machine.specs.declared.machine.event.Job.TheVariants.{Leave}
+use Rattle.seize_book.specs.Tokens.{Name}
+use Rattle.seize_book.specs.declared.book.pass.Pass.{Pass}
+use Rattle.seize_calls.specs.Slots.{its_book as slot_list, its_number}
+use Rattle.seize.specs.Collectors.{its_book}
+use Rattle.seize.specs.Guards.{guard_collector, guard_slot}
+use Rattle.seize.specs.Makes.{LeavesAndGives, Makes, MakesCall, MakesOne}
+use Rattle.seize_words.specs.declared.reservation.Head.{Head}
+use Rattle.seize_calls.specs.Slots.{IsItsHead}
+use Rattle.seize_calls.specs.declared.slot.Slot.{Slot}
+use Rattle.seize.specs.Reservations.{IsHeadFor, its_label, place_label}
+use Rattle.seize.specs.declared.collector.Collector.{Collector}
+use Rattle.seize.specs.declared.guard.LocalGuard.{LocalGuard}
+use Rattle.seize.specs.declared.reservation.Reservation.{Reservation}
+use Rattle.seize.proofs.Made.{makes_then}
+use Rattle.seize.proofs.Placed.{label_family, label_most, label_number}
+
+-- it is of the list and of the slot that its label says, for so many guards
+pub in_place : {T : Type 0} (n : Name) (s m : ℕ) (r : Reservation T) → its_label r ≡ place_label n s m → ((slot_list r.slot).family ≡ n.family) × (its_number r.slot ≡ s) × (r.most ≡ m)
+in_place n s m r at =
+    (label_family (slot_list r.slot) n (its_number r.slot) s r.most m at, label_number (slot_list r.slot) n (its_number r.slot) s r.most m at, label_most (slot_list r.slot) n (its_number r.slot) s r.most m at)
+
+-- that of a local guard lies with its registration
+pub guard_place : {T : Type 0} (guard : LocalGuard T) → guard.registration.now.reservation ≡ place_label (its_book (guard_collector guard)) (guard_slot guard) (2 ^ 64 - 1)
+guard_place {T} guard = guard.registration.now.at ∙ ap (λ (t : Bor (Collector T) × ℕ). place_label (its_book t.0.now) t.1 (2 ^ 64 - 1)) (λ j. (sym guard.its.0 j, sym guard.its.1 j))
+
+-- as does the head;
+pub guard_head : {T : Type 0} (guard : LocalGuard T) → IsHeadFor (its_book (guard_collector guard)) (guard_slot guard) guard.registration.now.head.now
+guard_head {T} guard =
+    subst (λ (t : Bor (Collector T) × ℕ). IsHeadFor (its_book t.0.now) t.1 guard.registration.now.head.now) (λ j. (sym guard.its.0 j, sym guard.its.1 j)) guard.registration.now.headed
+
+-- which is that of the slot that lies in the place.
+pub head_for : (n : Name) (s t : ℕ) (head : Head) → IsHeadFor n s head → t ≡ s → IsHeadFor n t head
+head_for n s t head is same = (is.0, is.1 ∙ sym same)
+
+pub own_head : {T : Type 0} (slot : Slot T) (n : Name) (s : ℕ) (head : Head) → IsHeadFor n s head → slot.seen.name ≡ n → its_number slot ≡ s → IsItsHead slot head
+own_head slot n s head is book number = (is.0 ∙ sym book, is.1 ∙ sym number)
+
+-- Of two outcomes one is told, whichever guard it was;
+pub one_of_two : {A B X Y : Type 0} → (A × X) ⊎ (B × Y) → X ⊎ Y
+one_of_two (inl t) = inl t.1
+one_of_two (inr t) = inr t.1
+
+-- and where there is one guard at most, the first.
+pub first_of_two : {X Y : Type 0} (guards most : ℕ) → guards ≤ most → most ≡ 1 → ((guards ≡ 1) × X) ⊎ ((1 < guards) × Y) → X
+first_of_two guards most fits one (inl t) = t.1
+first_of_two guards most fits one (inr t) = absurd (omega (arith, fits, one, t.0))
+
+-- The call to leave, and then the number goes back.
+pub leaves_gives : (s : ℕ) (p q r : Pass) → MakesCall s Leave p q → MakesOne q r (Give s) Done → LeavesAndGives s p r
+leaves_gives s p q r call gives = record {
+  steps = call.steps;
+  its = call.its;
+  made = subst (Makes p r) (ap (λ (es : List (Event × Answer)). (Begin s Leave, Done) ∷ es) (append_assoc call.steps ((Return s, Done) ∷ []) ((Give s, Done) ∷ []))) (makes_then call.made gives);
+}

@@ -1,0 +1,188 @@
+-- The parts of a call as users see them: each is made of steps of its slot, where the reclaimer put nothing.
+use Rattle.std.proofs.Common.{◌≡◌, ℕ, ℤ, zero, suc, Bool, true, false, map, List, [], ◌∷◌, ◌++◌, refl, sym, ap, subst, ◌∙◌, append_assoc, append-nil}
+use Rattle.seize_machine.specs.Machine.Event.{AddCount, Detach, Event, Put}
+use Rattle.seize_machine.specs.declared.machine.event.Answer.{Answer}
+use Rattle.seize_machine.specs.declared.machine.event.Answer.TheVariants.{Count}
+use Rattle.seize_book.specs.Adding.{private}
+use Rattle.seize_book.specs.Entry.{Deed}
+use Rattle.seize_book.specs.Passes.{events_by}
+use Rattle.seize_book.specs.Slots.{slot_number}
+use Rattle.seize_book.specs.declared.book.pass.Pass.{Pass}
+use Rattle.seize_calls.specs.Handing.{AreTheirs, Had, Handings, HasHad}
+use Rattle.seize_calls.specs.Inserts.{InsertTries, all_insert_events, insert_events, losses}
+use Rattle.seize_calls.specs.Marks.{actives, readings}
+use Rattle.seize_calls.specs.Settling.{CallState, Drains, DrainsOne, Settles, done_event}
+use Rattle.seize_calls.specs.Walking.{handed_in, hands, steps}
+use Rattle.seize.specs.Ends.{Ended, had_of}
+use Rattle.seize.specs.Makes.{AreStepsOf, made_with}
+use Rattle.seize.proofs.Made.{as_made, made_grew}
+
+-- What a reclaimer had that put nothing.
+
+-- with none of these it put anything
+abbrev pub PutNone : Had → Type 0
+PutNone [] = Unit {0}
+PutNone (one ∷ had) = (one.2 ≡ []) × PutNone had
+
+abbrev pub HandNone : Handings → Type 0
+HandNone [] = Unit {0}
+HandNone (one ∷ handed) = (one.1 ≡ []) × HandNone handed
+
+-- the reclaimer that ends each value puts nothing
+pub ended_none : (ended : Ended) → PutNone (had_of ended)
+ended_none [] = tt
+ended_none (one ∷ ended) = (refl, ended_none ended)
+
+put_apart : (a b : Had) → PutNone (a ++ b) → PutNone a × PutNone b
+put_apart [] b none = (tt, none)
+put_apart (one ∷ a) b none = let rest = put_apart a b none.1 in ((none.0, rest.0), rest.1)
+
+hand_apart : (a b : Handings) → HandNone (a ++ b) → HandNone a × HandNone b
+hand_apart [] b none = (tt, none)
+hand_apart (one ∷ a) b none = let rest = hand_apart a b none.1 in ((none.0, rest.0), rest.1)
+
+theirs_none : (handed : Handings) (kepts : List ℕ) (more : Had) → AreTheirs handed kepts more → PutNone more → HandNone handed
+theirs_none [] kepts more are none = tt
+theirs_none (one ∷ handed) [] more are none = absurd are
+theirs_none (one ∷ handed) (kept ∷ kepts) [] are none = absurd are
+theirs_none (one ∷ handed) (kept ∷ kepts) (had ∷ more) are none = (sym are.0.2 ∙ none.0, theirs_none handed kepts more are.1 none.1)
+
+-- so with none of those that were handed, and with none before
+pub had_none : (handed : Handings) (kepts : List ℕ) (had had' : Had) → HasHad handed kepts had had' → PutNone had' → HandNone handed × PutNone had
+had_none handed kepts had had' has none =
+    let parts = put_apart had has.more (subst PutNone has.after none) in (theirs_none handed kepts has.more has.theirs parts.1, parts.0)
+
+-- Lists of steps.
+
+abbrev pub AreSteps : ℕ → List (Deed × Answer) → Type 0
+AreSteps s es = AreStepsOf s (map as_made es)
+
+pub steps_append : (s : ℕ) (a b : List (Deed × Answer)) → AreSteps s a → AreSteps s b → AreSteps s (a ++ b)
+steps_append s [] b one two = two
+steps_append s (x ∷ a) b one two = (one.0, steps_append s a b one.1 two)
+
+pub steps_of_append : (s : ℕ) (a b : List (Event × Answer)) → AreStepsOf s a → AreStepsOf s b → AreStepsOf s (a ++ b)
+steps_of_append s [] b one two = two
+steps_of_append s (x ∷ a) b one two = (one.0, steps_of_append s a b one.1 two)
+
+readings_steps : (pass : Pass) (s n : ℕ) (finds : List Bool) → AreSteps s (readings pass s n finds)
+readings_steps pass s n [] = tt
+readings_steps pass s n (found ∷ finds) = (refl, readings_steps pass s (suc n) finds)
+
+losses_steps : (pass : Pass) (s m lost : ℕ) → AreSteps s (losses pass s m lost)
+losses_steps pass s m zero = tt
+losses_steps pass s m (suc lost) = steps_append s (losses pass s m lost) _ (losses_steps pass s m lost) (refl, (refl, tt))
+
+turn_steps : (pass : Pass) (s m lost : ℕ) (won : Bool) → AreSteps s (insert_events pass s m (record { lost = lost; won = won }))
+turn_steps pass s m lost true = steps_append s (losses pass s m lost) _ (losses_steps pass s m lost) (refl, (refl, tt))
+turn_steps pass s m lost false = steps_append s (losses pass s m lost) _ (losses_steps pass s m lost) (refl, tt)
+
+turns_steps : (pass : Pass) (s : ℕ) (ms : List ℕ) (turns : List InsertTries) → AreSteps s (all_insert_events pass s ms turns)
+turns_steps pass s [] turns = tt
+turns_steps pass s (m ∷ ms) [] = tt
+turns_steps pass s (m ∷ ms) (turn ∷ turns) =
+    steps_append s (insert_events pass s m turn) (all_insert_events pass s ms turns) (turn_steps pass s m turn.lost turn.won) (turns_steps pass s ms turns)
+
+hands_steps : (pass : Pass) (s : ℕ) (handed : Handings) → HandNone handed → AreSteps s (hands pass s handed)
+hands_steps pass s [] none = tt
+hands_steps pass s (one ∷ handed) none = ((refl, none.0), hands_steps pass s handed none.1)
+
+-- a walk, and what was handed in it
+pub walk_steps : (pass : Pass) (s : ℕ) (walked : List (ℤ × Handings)) → HandNone (handed_in walked) → AreSteps s (steps pass s walked)
+walk_steps pass s [] none = tt
+walk_steps pass s (step ∷ walked) none =
+    let parts = hand_apart step.1 (handed_in walked) none in
+    (refl, steps_append s (hands pass s step.1) (steps pass s walked) (hands_steps pass s step.1 parts.0) (walk_steps pass s walked parts.1))
+
+-- The parts.
+
+-- slot s made steps with the pass, and nothing else was made with it
+pub record Runs (s : ℕ) (pass pass' : Pass) : Type 0 where
+  pub steps : List (Event × Answer)
+  pub its : AreStepsOf s steps
+  pub made : made_with pass' ≡ made_with pass ++ steps
+
+pub runs_by : (s : ℕ) (pass pass' : Pass) (es : List (Deed × Answer)) → events_by pass' ≡ events_by pass ++ es → AreSteps s es → Runs s pass pass'
+runs_by s pass pass' es grew are = record { steps = map as_made es; its = are; made = made_grew pass pass' es grew }
+
+pub runs_then : {s : ℕ} {p q r : Pass} → Runs s p q → Runs s q r → Runs s p r
+runs_then {s} {p} {q} {r} one two = record {
+  steps = one.steps ++ two.steps;
+  its = steps_of_append s one.steps two.steps one.its two.its;
+  made = two.made ∙ ap (λ (made : List (Event × Answer)). made ++ two.steps) one.made ∙ append_assoc (made_with p) one.steps two.steps;
+}
+
+-- between where a call stands first and where it stands then its slot made steps, and before them its reclaimer had put nothing
+pub record Goes (a b : CallState) : Type 0 where
+  pub its : slot_number b.key ≡ slot_number a.key
+  pub runs : Runs (slot_number a.key) a.pass b.pass
+  pub none : PutNone a.had
+
+pub goes_then : {a b c : CallState} → Goes a b → Goes b c → Goes a c
+goes_then {a} {b} {c} one two = record {
+  its = two.its ∙ one.its;
+  runs = runs_then one.runs (subst (λ (s : ℕ). Runs s b.pass c.pass) one.its two.runs);
+  none = one.none;
+}
+
+-- the batch settles
+pub goes_settled : (least : ℕ) (a b : CallState) (retired : Bool) → Settles least a b retired → PutNone b.had → Goes a b
+goes_settled least a b false stays none = record {
+  its = stays.on.its.1;
+  runs = runs_by (slot_number a.key) a.pass b.pass (readings a.pass (slot_number a.key) 0 stays.finds) stays.made (readings_steps a.pass (slot_number a.key) 0 stays.finds);
+  none = subst PutNone stays.had_none none;
+}
+goes_settled least a b true retires none = record {
+  its = retires.on.its.1;
+  runs = runs_by s a.pass b.pass (found ++ (detach ++ (turns ++ (add ++ given))))
+      (retires.made ∙ append_assoc (((events_by a.pass ++ found) ++ detach) ++ turns) add given ∙ append_assoc ((events_by a.pass ++ found) ++ detach) turns (add ++ given)
+      ∙ append_assoc (events_by a.pass ++ found) detach (turns ++ (add ++ given)) ∙ append_assoc (events_by a.pass) found (detach ++ (turns ++ (add ++ given))))
+      (steps_append s found _ (readings_steps a.pass s 0 retires.finds) (refl, steps_append s turns _ (turns_steps a.pass s ms retires.turns) (refl, hands_steps a.pass s retires.handed had.0)));
+  none = had.1;
+}
+  where
+    s : ℕ
+    s = slot_number a.key
+
+    ms : List ℕ
+    ms = actives 0 retires.finds
+
+    found : List (Deed × Answer)
+    found = readings a.pass s 0 retires.finds
+
+    detach : List (Deed × Answer)
+    detach = done_event a.pass (Detach s)
+
+    turns : List (Deed × Answer)
+    turns = all_insert_events a.pass s ms retires.turns
+
+    add : List (Deed × Answer)
+    add = (private a.pass (AddCount s), Count retires.count) ∷ []
+
+    given : List (Deed × Answer)
+    given = hands a.pass s retires.handed
+
+    had : HandNone retires.handed × PutNone a.had
+    had = had_none retires.handed _ a.had b.had retires.has_had none
+
+-- a value is put, and the batch settles
+pub goes_round : (a : CallState) (v kept : ℕ) (b : CallState) (retired : Bool) → DrainsOne a v kept b retired → PutNone b.had → Goes a b
+goes_round a v kept b retired round none = goes_then puts settles
+  where
+    settles : Goes round.full b
+    settles = goes_settled _ round.full b retired round.settles none
+
+    puts : Goes a round.full
+    puts = record {
+      its = round.puts.on.its.1;
+      runs = runs_by (slot_number a.key) a.pass round.full.pass (done_event a.pass (Put (slot_number a.key))) round.puts.made (refl, tt);
+      none = subst PutNone round.same.1 settles.none;
+    }
+
+-- the queue drains
+pub goes_drained : (a b : CallState) → Drains a b → PutNone b.had → Goes a b
+goes_drained a _ Drains.over none =
+    record { its = refl; runs = runs_by (slot_number a.key) a.pass a.pass [] (sym (append-nil (events_by a.pass))) tt; none = none }
+goes_drained a _ (Drains.goes_on b c queue v kept retired drains takes round) none =
+    let last = goes_round (record { key = b.key; pass = b.pass; batch = b.batch; queue = queue; had = b.had }) v kept c retired round none in
+    let on : Goes b c = record { its = last.its; runs = last.runs; none = last.none } in goes_then (goes_drained a b drains on.none) on

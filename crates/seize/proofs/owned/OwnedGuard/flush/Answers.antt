@@ -1,0 +1,19 @@
+use Rattle.std.proofs.Common.{ℕ, refl, sym, subst, ◌∙◌}
+use Rattle.seize_machine.specs.declared.machine.event.Job.TheVariants.{Flush}
+use Rattle.seize_calls.specs.Slots.{its_number}
+use Rattle.seize.specs.Collectors.{its_book}
+use Rattle.seize.specs.Makes.{MakesCall}
+use Rattle.seize.proofs.Placed.{unit_as}
+use Rattle.seize.proofs.Places.{in_place}
+use Rattle.seize.proofs.owned.OwnedGuard.flush.Goals as goal
+
+pub with-requires : goal.with-requires
+with-requires g c =
+    let self = c.args.self.now in let reader = self.reader in let n = its_book reader.collector.now in
+    λ r keeps. let at = in_place n reader.number 1 r (keeps.0 ∙ self.at) in
+    (at.0, (sym c.requires.of.0, sym c.requires.of.1), unit_as n reader.number (its_number r.slot) reader.unit reader.unit reader.seen at.1 refl (reader.its, reader.known))
+
+pub returns : goal.returns
+returns g c =
+    let self = c.args.self.now in let at = in_place (its_book self.reader.collector.now) self.reader.number 1 c.with.ensures.before (c.with.ensures.was.0 ∙ self.at) in
+    subst (λ (s : ℕ). MakesCall s Flush c.args.pass.now c.with.new.with) at.1 c.with.ensures.gives

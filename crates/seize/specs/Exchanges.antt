@@ -1,0 +1,55 @@
+-- What contracts see of an exchange that compares.
+--     current_name current     what the list calls the value that the caller takes a link to hold, or none
+--     ComesBack new back       the block comes back with its content, of the same store, or there is neither
+--     FoundIn a o pass         where o is a value, it was found in a link in this activation, as the pass has seen
+--     TookFound a current pass held result     if the exchange was won, and `current` was found in this activation, as the pass had seen
+--                              before, the link held just that
+--     StandsAlone a word pass later     where the word is that of a block, the pass has looked at the list since; the activation has not
+--                              ended there, and at most one value of that block was named and not reclaimed
+--     IsOutcome code collector new compare held result     where the link held what the exchange compared, that came out, of this
+--                              collector; else what the link held was found, and the block that was to go in comes back
+use Rattle.std.specs.Prelude.{◌≡◌, ◌≢◌, ◌-◌, ℕ, Option, None, Some, IfSome}
+use denote.Bor.{Bor}
+use base.Stored.{Gv}
+use Rattle.core.specs.declared.result.Result.{Result}
+use Rattle.core.specs.declared.result.Result.TheVariants.{Err, Ok}
+use Rattle.seize_book.specs.declared.book.pass.Pass.{Pass}
+use Rattle.seize_book.specs.Passes.{LooksOn}
+use Rattle.seize_words.specs.Activations.{IsLasting}
+use Rattle.seize_words.specs.Chunks.{IsLiveAt}
+use Rattle.seize_words.specs.LinkWords.{WasFound}
+use Rattle.seize_words.specs.declared.activation.Activation.{Activation}
+use Rattle.seize.specs.Blocks.{ComesOut, Shows, content, shared_name, store_name, unlinked_collector}
+use Rattle.seize.specs.declared.block.failed.Failed.{Failed}
+use Rattle.seize.specs.declared.block.owned.Owned.{Owned}
+use Rattle.seize.specs.declared.block.shared.Shared.{Shared}
+use Rattle.seize.specs.declared.block.unlinked.Unlinked.{Unlinked}
+use Rattle.seize.specs.declared.collector.Collector.{Collector}
+
+abbrev pub current_name : {T : Type 0} → Option (Bor (Shared T)) → Option ℕ
+current_name (Some shared) = shared_name shared.now
+current_name None = None
+
+abbrev pub ComesBack : {T : Type 0} → Option (Owned T) → Option (Owned T) → Type 0
+ComesBack (Some new) (Some back) = (content back ≡ content new) × (store_name back ≡ store_name new)
+ComesBack None None = Unit {0}
+ComesBack _ _ = ⊥
+
+abbrev pub FoundIn : Activation → Option ℕ → Pass → Type 0
+FoundIn a o pass = (v : ℕ) → o ≡ Some v → WasFound a v pass
+
+abbrev pub TookFound : {T : Type 0} → Activation → Option ℕ → Pass → Option ℕ → Result (Option (Unlinked T)) (Failed T) → Type 0
+TookFound a current pass held (Ok out) = FoundIn a current pass → held ≡ current
+TookFound a current pass held (Err failed) = Unit {0}
+
+abbrev pub StandsAlone : Activation → ℕ → Pass → Pass → Type 0
+StandsAlone a word pass later =
+    word ≢ 0
+    → LooksOn pass later × IsLasting a later
+    × ((v w : ℕ) → IsLiveAt v (word - 1) later → IsLiveAt w (word - 1) later → v ≡ w)
+
+abbrev pub IsOutcome : {T : Type 0} → (T → Gv) → Collector T → Option (Owned T) → Option ℕ → Option ℕ
+    → Result (Option (Unlinked T)) (Failed T) → Type 0
+IsOutcome code collector new compare held (Ok out) =
+    (compare ≡ held) × ComesOut held out × IfSome out (λ unlinked. unlinked_collector unlinked ≡ collector)
+IsOutcome code collector new compare held (Err failed) = (compare ≢ held) × Shows code held failed.found × ComesBack new failed.new

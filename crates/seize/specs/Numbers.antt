@@ -1,0 +1,61 @@
+-- What lies behind the lock of a collector's numbers.
+--     flags_of slots           which numbers are in use: those in whose place there is no slot
+--     IsEndedAt n i slot       it is number i of the list n, not in use, and inactive
+--     AreEnded n slots         so is each of these, in its place
+--     IsNextSlotOf numbers next    the slot that comes next is of the list of the numbers' key, and comes after all that were made
+--     AreNumbers numbers       the key knows that just these numbers are in use, the slots that lie there are those of the others, and the
+--                              next one is there
+--     HasTaken words pass pass' slot     the slot's number was taken with the pass, by the event `Take`. The slot is in use, and inactive
+--     IsLockFor words numbers  they are of the list of these words;  MayEnd words slot     the slot is in use, and inactive
+use Rattle.std.specs.Prelude.{◌≡◌, ℕ, Bool, map, List, Option, Some, None, get_or}
+use Rattle.std.specs.Option.{is_none}
+use Rattle.seize_machine.specs.Machine.Event.{Take}
+use Rattle.seize_machine.specs.declared.machine.event.Answer.TheVariants.{Done}
+use Rattle.seize_book.specs.Others.{use_flags}
+use Rattle.seize_book.specs.Tokens.{Name}
+use Rattle.seize_book.specs.declared.book.numbers_key.NumbersKey.{NumbersKey}
+use Rattle.seize_book.specs.declared.book.pass.Pass.{Pass}
+use Rattle.seize_words.specs.Joined.{words_book}
+use Rattle.seize_words.specs.Named.{numbers_book, slot_book}
+use Rattle.seize_words.specs.Reserved.{comes_next, next_key}
+use Rattle.seize_words.specs.Totals.{made_of}
+use Rattle.seize_words.specs.declared.slots.next.NextSlot.{NextSlot}
+use Rattle.seize_words.specs.declared.words.Words.{Words}
+use Rattle.seize_calls.specs.Slots.{IsInUse, IsInactive, IsOfList, IsSlotOf, its_number}
+use Rattle.seize_calls.specs.declared.slot.Slot.{Slot}
+use Rattle.seize.specs.Makes.{MakesOne}
+use Rattle.seize.specs.declared.numbers.Numbers.{Numbers}
+
+abbrev pub flags_of : {X : Type 0} → List (Option X) → List Bool
+flags_of slots = map is_none slots
+
+pub record IsEndedAt {T : Type 0} (n : Name) (i : ℕ) (slot : Slot T) : Type 0 where
+  pub its : IsOfList n slot
+  pub number : its_number slot ≡ i
+  pub free : ¬ (IsInUse slot)
+  pub inactive : IsInactive slot
+
+abbrev pub AreEnded : {T : Type 0} → Name → List (Option (Slot T)) → Type 0
+AreEnded {T} n slots = (i : ℕ) (slot : Slot T) → get_or slots i None ≡ Some slot → IsEndedAt n i slot
+
+abbrev pub IsNextSlotOf : NumbersKey → NextSlot → Type 0
+IsNextSlotOf numbers next = (comes_next next ≡ made_of numbers) × (slot_book (next_key next) ≡ numbers_book numbers)
+
+pub record AreNumbers {T : Type 0} (numbers : Numbers T) : Type 0 where
+  pub book : numbers_book numbers.key ≡ numbers.book.name
+  pub flags : use_flags numbers.key ≡ flags_of numbers.slots.items
+  pub slots : AreEnded numbers.book.name numbers.slots.items
+  pub next : NextSlot
+  pub is_there : numbers.next ≡ Some next
+  pub comes : IsNextSlotOf numbers.key next
+
+pub record HasTaken {T : Type 0} (words : Words T) (pass pass' : Pass) (slot : Slot T) : Type 0 where
+  pub its : IsSlotOf words slot
+  pub inactive : IsInactive slot
+  pub takes : MakesOne pass pass' (Take (its_number slot)) Done
+
+abbrev pub IsLockFor : {T : Type 0} → Words T → Numbers T → Type 0
+IsLockFor words numbers = numbers.book.name.family ≡ (words_book words).family
+
+abbrev pub MayEnd : {T : Type 0} → Words T → Slot T → Type 0
+MayEnd words slot = IsSlotOf words slot × IsInactive slot

@@ -1,0 +1,93 @@
+//! The end of a collector, which nobody shares any more: what its links hold, and what waits in the batches of its slots, ends with it.
+//! The calls are made one after the other by a pass that is alone, so none of them waits, and each returns.
+ghost use Rattle.std.specs.Prelude.{◌<◌, ◌≤◌, length};
+ghost use Rattle.seize_book.specs.Passes.{IsSamePass};
+ghost use Rattle.seize_book.specs.Tokens.{IsSole};
+ghost use Rattle.seize_words.specs.Joined.{words_book};
+ghost use Rattle.seize_calls.specs.Slots.{InActivation, IsInactive, IsPassFor, IsSlotOf, KeepsActivation};
+ghost use Rattle.seize.specs.Numbers.{AreNumbers, IsLockFor};
+
+use crate::ends::Ends;
+use crate::numbers::Numbers;
+use seize_calls::draining::Lightens;
+use seize_calls::manner::Alone;
+use seize_calls::slot::{Loose, Slot};
+use seize_words::activation::Activation;
+use seize_words::book::Pass;
+use seize_words::link::MaybeKey;
+use seize_words::words::Words;
+
+/// It puts nothing, so any weight serves.
+impl<T: Drop> Lightens<T> for Ends {
+    ghost weight = { λ _. 0 };
+
+    fn lightens(&self) {}
+}
+
+/// Ends what the links hold, and what waits in the batch of each slot that nobody has. Where there is no such slot it does nothing.
+///
+/// Where a guard was forgotten its slot is active still. Then what is retired here waits for that slot, and does not end.
+///
+/// It takes no memory and waits for nobody, but for what values do as they end.
+pub(crate) fn end_all<T: Drop>(words: &Words<T>, numbers: Numbers<T>, pass: Pass)
+    requires numbers { AreNumbers numbers × IsLockFor words.now numbers }
+    requires pass { IsPassFor words.now pass × IsSole pass.id }
+{
+    let (mut numbers, mut pass) = (numbers, pass);
+    let mut links = words.links.len();
+    for _ in 0..numbers.count() {
+        let Some(slot) = numbers.take_free(words, &mut pass) else {
+            return;
+        };
+        end_slot(words, slot, links, &mut pass);
+        links = 0;
+    }
+}
+
+// The slot enters, takes out what so many links hold, from the first one on, and retires it; then it flushes and leaves.
+fn end_slot<T: Drop>(words: &Words<T>, slot: Slot<T>, links: usize, pass: &mut Pass)
+    requires slot { IsSlotOf words.now slot × IsInactive slot }
+    requires pass { IsPassFor words.now pass.old × IsSole pass.old.id }
+    requires links { links ≤ length (words_book words.now).links }
+    ensures { IsSamePass pass.old pass.new }
+{
+    let mut slot = slot;
+    let mut activation = slot.activation();
+    let head = slot.head(words, pass);
+    slot.enter(words, head, &mut activation, pass);
+    for link in 0..links {
+        empty(words, link, &mut slot, &activation, pass);
+    }
+    slot.flush(words, &mut Ends::new(), pass, &Alone {});
+    let head = slot.head(words, pass);
+    slot.leave(
+        words,
+        head,
+        &mut activation,
+        &mut Ends::new(),
+        pass,
+        &Alone {},
+    );
+}
+
+// Takes out what the link holds, and retires it.
+fn empty<T: Drop>(
+    words: &Words<T>,
+    link: usize,
+    slot: &mut Slot<T>,
+    activation: &Activation,
+    pass: &mut Pass,
+)
+    requires slot { IsSlotOf words.now slot.old × InActivation slot.old activation.now }
+    requires pass { IsPassFor words.now pass.old × IsSole pass.old.id }
+    requires link { link < length (words_book words.now).links }
+    ensures slot { IsSlotOf words.now slot.new × KeepsActivation slot.old slot.new }
+    ensures same { IsSamePass pass.old pass.new }
+{
+    slot.teach(pass);
+    let mut key = MaybeKey::none(pass);
+    let word = words.swap_link(link, 0, &mut key, activation, pass);
+    if let Some(loose) = Loose::of(word, key) {
+        slot.retire(words, loose, 0, &mut Ends::new(), pass, &Alone {});
+    }
+}

@@ -1,0 +1,261 @@
+//! Guards: with one, a thread reads links, exchanges what they hold, and retires what came out. While a guard stands, its slot is active.
+ghost use Rattle.std.specs.Prelude.{◌≡◌};
+
+mod any;
+pub(crate) mod exchanging;
+mod local;
+mod owned;
+
+use crate::block::{Failed, Owned, Shared, Unlinked};
+use crate::collector::Collector;
+use crate::reader::Reader;
+use crate::registration::Registration;
+use crate::works::{Flushing, Leaving, Refreshing, Sparing};
+pub use any::Guard;
+use seize_table::Refusal;
+use seize_words::book::Pass;
+use std::sync::Wait;
+use std::{fmt, mem};
+
+/// A guard of a registration, for the registration's thread alone.
+///
+/// It has no `Drop`: it is spent by `leave`, or by `forget`, after which the slot stays active.
+pub struct LocalGuard<'r, 'c, T: Drop> {
+    registration: &'r Registration<'c, T>,
+    reader: Reader<'c, T>,
+    ghost its: { (reader.collector ≡ registration.now.collector) × (reader.number ≡ registration.now.number) },
+}
+
+impl<'r, 'c, T: Drop> LocalGuard<'r, 'c, T> {
+    ghost use Rattle.std.specs.Prelude.{◌⊎◌, ◌<◌, ℕ, Option, IfErr, IfOk, IfSome};
+    ghost use Rattle.seize_machine.specs.Machine.Event.{ExchangeLink, ReadLink};
+    ghost use Rattle.seize_machine.specs.declared.machine.event.Answer.TheVariants.{Link};
+    ghost use Rattle.seize_machine.specs.declared.machine.event.Exchange.TheVariants.{Compare, Swap};
+    ghost use Rattle.seize_machine.specs.declared.machine.event.Job.TheVariants.{Flush, Leave, Refresh, Retire};
+    ghost use Rattle.seize.specs.Blocks.{ComesOut, IsNamed, Shows, content, unlinked_collector, unlinked_name};
+    ghost use Rattle.seize.specs.Collectors.{IsBlockOf, IsPassOf, its_links};
+    ghost use Rattle.seize_words.specs.Links.{comparand};
+    ghost use Rattle.seize_table.specs.declared.refusal.Refusal.TheVariants.{NoMemory as no_memory};
+    ghost use Rattle.seize.specs.Exchanges.{FoundIn, IsOutcome, TookFound, current_name};
+    ghost use Rattle.seize.specs.Guards.{IsGuardOf, guard_activation, guard_collector, guard_slot};
+    ghost use Rattle.seize.specs.Makes.{MakesCall, MakesOne, StaysActive};
+
+    // One of this registration, which reads so.
+    pub(crate) fn of(
+        registration: &'r Registration<'c, T>,
+        reader: Reader<'c, T>,
+    ) -> LocalGuard<'r, 'c, T>
+        requires { (reader.collector ≡ registration.now.collector) × (reader.number ≡ registration.now.number) }
+        ensures { IsGuardOf registration.now result }
+    {
+        LocalGuard {
+            registration,
+            reader,
+        }
+    }
+
+    /// The collector.
+    pub fn collector(&self) -> &'c Collector<T>
+        ensures { result.now ≡ guard_collector self.now }
+    {
+        self.reader.collector
+    }
+
+    /// The number of its slot.
+    pub fn thread_id(&self) -> usize
+        ensures { result ≡ guard_slot self.now }
+    {
+        self.reader.number
+    }
+
+    /// A block of this value, as `Registration::owned` makes it.
+    ///
+    /// # Errors
+    ///
+    /// `NoMemory` where the store could not grow; the value comes back.
+    pub fn owned(&self, value: T) -> Result<Owned<T>, (Refusal, T)>
+        ensures made { IfOk result (λ owned. IsBlockOf (guard_collector self.now) owned × (content owned ≡ value)) }
+        ensures refused { IfErr result (λ refused. (refused.0 ≡ no_memory) × (refused.1 ≡ value)) }
+    {
+        self.registration.owned(value)
+    }
+
+    /// Reads a link: the event `ReadLink`. What the link holds can be read for as long as the guard is borrowed: other threads may take it
+    /// out of the link meanwhile, and retire it.
+    ///
+    /// It takes no memory and waits for nobody: one load of the link, and where that holds a block three more to find it.
+    pub fn protect(&self, link: usize, pass: &mut Pass) -> Option<Shared<'_, T>>
+        requires of { IsPassOf (guard_collector self.now) pass.old × (link < its_links (guard_collector self.now)) }
+        ensures { (held : Option ℕ) × MakesOne pass.old pass.new (ReadLink (guard_slot self.now) link) (Link held)
+            × Shows T.row.coded.code held result × FoundIn (guard_activation self.now) held pass.new }
+    {
+        self.reader.protect(link, pass)
+    }
+
+    /// Exchanges what a link holds for this block, or for none: the event `ExchangeLink`. It gives what the link held, which may outlive
+    /// the guard, and is to be retired.
+    ///
+    /// It takes no memory and waits for nobody: one load to find the link, one atomic swap, and the look-up of the new block.
+    pub fn swap(
+        &self,
+        link: usize,
+        value: Option<Owned<T>>,
+        pass: &mut Pass,
+    ) -> Option<Unlinked<'c, T>>
+        requires of { IsPassOf (guard_collector self.now) pass.old × (link < its_links (guard_collector self.now)) }
+        requires value { IfSome value (λ owned. IsBlockOf (guard_collector self.now) owned) }
+        ensures of { IfSome result (λ unlinked. unlinked_collector unlinked ≡ guard_collector self.now) }
+        ensures made { (new : Option ℕ) × (held : Option ℕ) × IsNamed T.row.coded.code value new × ComesOut held result
+            × MakesOne pass.old pass.new (ExchangeLink (guard_slot self.now) link (Swap new)) (Link held) }
+    {
+        self.reader.swap(link, value, pass)
+    }
+
+    /// Exchanges what a link holds for this block, or for none, if the link holds what was found, or nothing where that is `None`: the
+    /// event `ExchangeLink`. It gives what the link held, which may outlive the guard, and is to be retired.
+    ///
+    /// Whether it holds that is decided by the number of its block. Where the exchange is won, the event compares with what the link held.
+    /// A value that this guard found since it entered or refreshed is not reclaimed while it stands. So where `current` is such a one, as
+    /// the pass has seen, a won exchange took out that very value, and no other one of the same block.
+    ///
+    /// It takes no memory and waits for nobody: one atomic compare and exchange, and look-ups of the blocks.
+    ///
+    /// # Errors
+    ///
+    /// What the link held, where that was something else, and the block that was to go in.
+    pub fn compare_exchange(
+        &self,
+        link: usize,
+        current: Option<&Shared<'_, T>>,
+        new: Option<Owned<T>>,
+        pass: &mut Pass,
+    ) -> Result<Option<Unlinked<'c, T>>, Failed<'_, T>>
+        requires of { IsPassOf (guard_collector self.now) pass.old × (link < its_links (guard_collector self.now)) }
+        requires value { IfSome new (λ owned. IsBlockOf (guard_collector self.now) owned) }
+        ensures { (v : Option ℕ) × (held : Option ℕ) × IsNamed T.row.coded.code new v
+            × (let compare = comparand (current_name current.entry) held in
+            MakesOne pass.old pass.new (ExchangeLink (guard_slot self.now) link (Compare compare v)) (Link held)
+            × IsOutcome T.row.coded.code (guard_collector self.now) new compare held result
+            × FoundIn (guard_activation self.now) held pass.new
+            × TookFound (guard_activation self.now) (current_name current.entry) pass.old held result) }
+    {
+        self.reader.compare_exchange(link, current, new, pass)
+    }
+
+    /// The same.
+    pub fn compare_exchange_weak(
+        &self,
+        link: usize,
+        current: Option<&Shared<'_, T>>,
+        new: Option<Owned<T>>,
+        pass: &mut Pass,
+    ) -> Result<Option<Unlinked<'c, T>>, Failed<'_, T>>
+        requires of { IsPassOf (guard_collector self.now) pass.old × (link < its_links (guard_collector self.now)) }
+        requires value { IfSome new (λ owned. IsBlockOf (guard_collector self.now) owned) }
+        ensures { (v : Option ℕ) × (held : Option ℕ) × IsNamed T.row.coded.code new v
+            × (let compare = comparand (current_name current.entry) held in
+            MakesOne pass.old pass.new (ExchangeLink (guard_slot self.now) link (Compare compare v)) (Link held)
+            × IsOutcome T.row.coded.code (guard_collector self.now) new compare held result
+            × FoundIn (guard_activation self.now) held pass.new
+            × TookFound (guard_activation self.now) (current_name current.entry) pass.old held result) }
+    {
+        self.compare_exchange(link, current, new, pass)
+    }
+
+    /// Retires what came out of a link: it joins the slot's batch, which is attempted where it has the batch size or more. The slot is
+    /// active, so no value ends in the call.
+    ///
+    /// It takes no memory. An insertion is tried again as often as other threads change the head between a look at it and the try. Within
+    /// another call of the same registration it waits for ever.
+    pub fn defer_retire<W: Wait>(&self, rt: &W, pass: &mut Pass, value: Unlinked<'_, T>)
+        requires of { IsPassOf (guard_collector self.now) pass.old × (unlinked_collector value ≡ guard_collector self.now) }
+        ensures { MakesCall (guard_slot self.now) (Retire (unlinked_name value.entry)) pass.old pass.new }
+    {
+        self.registration.retire(rt, pass, value);
+    }
+
+    /// Attempts the slot's batch at any length.
+    ///
+    /// It takes no memory and waits as `defer_retire` does.
+    pub fn flush<W: Wait>(&self, rt: &W, pass: &mut Pass)
+        requires of { IsPassOf (guard_collector self.now) pass.old }
+        ensures { MakesCall (guard_slot self.now) Flush pass.old pass.new }
+    {
+        let flushing = Flushing {
+            words: &self.reader.collector.words,
+            unit: &self.reader.unit,
+            seen: &self.reader.seen,
+            rt,
+        };
+        self.registration.reservation.with(rt, flushing, pass);
+    }
+
+    /// Ends the slot's activation and begins another, where this is its only guard; beside others it does nothing. What waited for the slot
+    /// is counted down, and what is reclaimed in the call ends there.
+    ///
+    /// It takes no memory. Within another call of the same registration it waits for ever, and else for nobody.
+    pub fn refresh<W: Wait>(&mut self, rt: &W, pass: &mut Pass)
+        requires of { IsPassOf (guard_collector self.old) pass.old }
+        ensures same { (guard_collector self.new ≡ guard_collector self.old) × (guard_slot self.new ≡ guard_slot self.old) }
+        ensures refreshes { let s = guard_slot self.old in MakesCall s Refresh pass.old pass.new ⊎ StaysActive s pass.old pass.new }
+    {
+        let registration = self.registration;
+        let reservation = &registration.reservation;
+        let reader = &mut self.reader;
+        let spare = reservation.with(rt, Sparing {}, pass);
+        let unit = mem::replace(&mut reader.unit, spare);
+        let refreshing = Refreshing {
+            words: &reader.collector.words,
+            head: registration.head,
+            unit,
+            seen: &reader.seen,
+            rt,
+        };
+        let (unit, seen) = reservation.with(rt, refreshing, pass);
+        reader.unit = unit;
+        reader.seen = seen;
+    }
+
+    /// Leaves. The last guard of the slot leaves for it: what waited for the slot is counted down, and what is reclaimed in the call ends
+    /// there. Beside others it makes no event, and the pass learns that the slot is active.
+    ///
+    /// It takes no memory. Within another call of the same registration it waits for ever, and else for nobody.
+    pub fn leave<W: Wait>(self, rt: &W, pass: &mut Pass)
+        requires of { IsPassOf (guard_collector self) pass.old }
+        ensures { MakesCall (guard_slot self.entry) Leave pass.old pass.new ⊎ StaysActive (guard_slot self.entry) pass.old pass.new }
+    {
+        let LocalGuard {
+            registration,
+            reader,
+        } = self;
+        let Reader {
+            collector,
+            number: _,
+            unit,
+            seen,
+        } = reader;
+        let leaving = Leaving {
+            words: &collector.words,
+            head: registration.head,
+            unit,
+            seen,
+            rt,
+        };
+        registration.reservation.with(rt, leaving, pass);
+    }
+
+    /// Spends the guard without leaving. Its slot stays active for good, so what is retired from then on may never be reclaimed.
+    pub fn forget(self) {
+        let LocalGuard {
+            registration: _,
+            reader,
+        } = self;
+        drop(reader);
+    }
+}
+
+impl<T: Drop> fmt::Debug for LocalGuard<'_, '_, T> {
+    fn fmt<W: fmt::Write>(&self, f: &mut fmt::Formatter<W>) -> fmt::Result {
+        f.write_str("LocalGuard")
+    }
+}

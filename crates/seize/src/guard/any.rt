@@ -1,0 +1,119 @@
+//! What code can do with any guard of a collector, by a bound.
+ghost use Rattle.std.specs.Prelude.{◌≡◌, ◌⊎◌, ◌<◌, ℕ, Option, IfErr, IfOk, IfSome};
+ghost use Rattle.seize_machine.specs.Machine.Event.{ExchangeLink, ReadLink};
+ghost use Rattle.seize_machine.specs.declared.machine.event.Answer.TheVariants.{Link};
+ghost use Rattle.seize_machine.specs.declared.machine.event.Exchange.TheVariants.{Compare, Swap};
+ghost use Rattle.seize_machine.specs.declared.machine.event.Job.TheVariants.{Flush, Refresh, Retire};
+ghost use Rattle.seize_words.specs.Links.{comparand};
+ghost use Rattle.seize_table.specs.declared.refusal.Refusal.TheVariants.{NoMemory as no_memory};
+ghost use Rattle.seize.specs.Blocks.{ComesOut, IsNamed, Shows, content, unlinked_collector, unlinked_name};
+ghost use Rattle.seize.specs.Collectors.{IsBlockOf, IsPassOf, its_links};
+ghost use Rattle.seize.specs.Exchanges.{FoundIn, IsOutcome, TookFound, current_name};
+ghost use Rattle.seize.specs.Makes.{MakesCall, MakesOne, StaysActive};
+ghost use Rattle.seize_words.specs.declared.activation.Activation.{Activation};
+ghost use Rattle.seize.specs.declared.collector.Collector.{Collector};
+
+use crate::block::{Failed, Owned, Shared, Unlinked};
+use crate::collector::Collector;
+use seize_table::Refusal;
+use seize_words::book::Pass;
+use std::sync::Wait;
+
+/// A guard of a collector, of whichever kind. `LocalGuard` and `OwnedGuard` say of each call what it takes and where it waits. What comes
+/// out of a link counts as borrowed from the guard here, so generic code retires it before it refreshes.
+pub trait Guard<T: Drop> {
+    /// The collector.
+    ghost guarded: { Self → Collector T };
+
+    /// The number of the slot that is active while the guard stands.
+    ghost number: { Self → ℕ };
+
+    /// Its part of the slot's activation, with which it reads. After a refresh it is of another one.
+    ghost activation: { Self → Activation };
+
+    /// The collector.
+    fn collector(&self) -> &Collector<T>
+        ensures { result.now ≡ guarded self.now };
+
+    /// The number of its slot.
+    fn thread_id(&self) -> usize
+        ensures { result ≡ number self.now };
+
+    /// A block of this value, as `owned` of either guard makes it.
+    ///
+    /// # Errors
+    ///
+    /// `NoMemory` where the store could not grow; the value comes back.
+    fn owned(&self, value: T) -> Result<Owned<T>, (Refusal, T)>
+        ensures made { IfOk result (λ owned. IsBlockOf (guarded self.now) owned × (content owned ≡ value)) }
+        ensures refused { IfErr result (λ refused. (refused.0 ≡ no_memory) × (refused.1 ≡ value)) };
+
+    /// Reads a link: the event `ReadLink`. What the link holds can be read for as long as the guard is borrowed.
+    fn protect(&self, link: usize, pass: &mut Pass) -> Option<Shared<'_, T>>
+        requires of { IsPassOf (guarded self.now) pass.old × (link < its_links (guarded self.now)) }
+        ensures { (held : Option ℕ) × MakesOne pass.old pass.new (ReadLink (number self.now) link) (Link held)
+            × Shows T.row.coded.code held result × FoundIn (activation self.now) held pass.new };
+
+    /// Exchanges what a link holds for this block, or for none: the event `ExchangeLink`. It gives what the link held.
+    fn swap(&self, link: usize, value: Option<Owned<T>>, pass: &mut Pass) -> Option<Unlinked<'_, T>>
+        requires of { IsPassOf (guarded self.now) pass.old × (link < its_links (guarded self.now)) }
+        requires value { IfSome value (λ owned. IsBlockOf (guarded self.now) owned) }
+        ensures of { IfSome result (λ unlinked. unlinked_collector unlinked ≡ guarded self.now) }
+        ensures made { (new : Option ℕ) × (held : Option ℕ) × IsNamed T.row.coded.code value new × ComesOut held result
+            × MakesOne pass.old pass.new (ExchangeLink (number self.now) link (Swap new)) (Link held) };
+
+    /// Exchanges what a link holds for this block, or for none, if the link holds what was found, or nothing where that is `None`. That is
+    /// decided by the number of its block. Where this guard found `current`, as the pass has seen, a won exchange took out that very value.
+    ///
+    /// # Errors
+    ///
+    /// What the link held, where that was something else, and the block that was to go in.
+    fn compare_exchange(
+        &self,
+        link: usize,
+        current: Option<&Shared<'_, T>>,
+        new: Option<Owned<T>>,
+        pass: &mut Pass,
+    ) -> Result<Option<Unlinked<'_, T>>, Failed<'_, T>>
+        requires of { IsPassOf (guarded self.now) pass.old × (link < its_links (guarded self.now)) }
+        requires value { IfSome new (λ owned. IsBlockOf (guarded self.now) owned) }
+        ensures { (v : Option ℕ) × (held : Option ℕ) × IsNamed T.row.coded.code new v
+            × (let compare = comparand (current_name current.entry) held in
+            MakesOne pass.old pass.new (ExchangeLink (number self.now) link (Compare compare v)) (Link held)
+            × IsOutcome T.row.coded.code (guarded self.now) new compare held result
+            × FoundIn (activation self.now) held pass.new
+            × TookFound (activation self.now) (current_name current.entry) pass.old held result) };
+
+    /// The same.
+    fn compare_exchange_weak(
+        &self,
+        link: usize,
+        current: Option<&Shared<'_, T>>,
+        new: Option<Owned<T>>,
+        pass: &mut Pass,
+    ) -> Result<Option<Unlinked<'_, T>>, Failed<'_, T>>
+        requires of { IsPassOf (guarded self.now) pass.old × (link < its_links (guarded self.now)) }
+        requires value { IfSome new (λ owned. IsBlockOf (guarded self.now) owned) }
+        ensures { (v : Option ℕ) × (held : Option ℕ) × IsNamed T.row.coded.code new v
+            × (let compare = comparand (current_name current.entry) held in
+            MakesOne pass.old pass.new (ExchangeLink (number self.now) link (Compare compare v)) (Link held)
+            × IsOutcome T.row.coded.code (guarded self.now) new compare held result
+            × FoundIn (activation self.now) held pass.new
+            × TookFound (activation self.now) (current_name current.entry) pass.old held result) };
+
+    /// Retires what came out of a link: a whole call of the slot.
+    fn defer_retire<W: Wait>(&self, rt: &W, pass: &mut Pass, value: Unlinked<'_, T>)
+        requires of { IsPassOf (guarded self.now) pass.old × (unlinked_collector value ≡ guarded self.now) }
+        ensures { MakesCall (number self.now) (Retire (unlinked_name value.entry)) pass.old pass.new };
+
+    /// Attempts the slot's batch at any length: a whole call of the slot.
+    fn flush<W: Wait>(&self, rt: &W, pass: &mut Pass)
+        requires of { IsPassOf (guarded self.now) pass.old }
+        ensures { MakesCall (number self.now) Flush pass.old pass.new };
+
+    /// Ends the slot's activation and begins another, where this is the slot's only guard; beside others it does nothing.
+    fn refresh<W: Wait>(&mut self, rt: &W, pass: &mut Pass)
+        requires of { IsPassOf (guarded self.old) pass.old }
+        ensures same { (guarded self.new ≡ guarded self.old) × (number self.new ≡ number self.old) }
+        ensures refreshes { MakesCall (number self.old) Refresh pass.old pass.new ⊎ StaysActive (number self.old) pass.old pass.new };
+}

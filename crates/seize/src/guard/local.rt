@@ -1,0 +1,106 @@
+//! A local guard as one of any kind.
+ghost use Rattle.std.specs.Prelude.{◌≡◌, ◌<◌, ℕ, Option, IfSome};
+ghost use Rattle.seize_machine.specs.Machine.Event.{ExchangeLink};
+ghost use Rattle.seize_machine.specs.declared.machine.event.Answer.TheVariants.{Link};
+ghost use Rattle.seize_machine.specs.declared.machine.event.Exchange.TheVariants.{Compare, Swap};
+ghost use Rattle.seize_machine.specs.declared.machine.event.Job.TheVariants.{Retire};
+ghost use Rattle.seize_words.specs.Links.{comparand};
+ghost use Rattle.seize.specs.Blocks.{ComesOut, IsNamed, unlinked_collector, unlinked_name};
+ghost use Rattle.seize.specs.Collectors.{IsBlockOf, IsPassOf, its_links};
+ghost use Rattle.seize.specs.Exchanges.{FoundIn, IsOutcome, TookFound, current_name};
+ghost use Rattle.seize.specs.Guards.{guard_activation, guard_collector, guard_slot};
+ghost use Rattle.seize.specs.Makes.{MakesCall, MakesOne};
+
+use crate::block::{Failed, Owned, Shared, Unlinked};
+use crate::collector::Collector;
+use crate::guard::{Guard, LocalGuard};
+use seize_table::Refusal;
+use seize_words::book::Pass;
+use std::sync::Wait;
+
+impl<T: Drop> Guard<T> for LocalGuard<'_, '_, T> {
+    ghost guarded = { λ guard. guard_collector guard };
+
+    ghost number = { λ guard. guard_slot guard };
+
+    ghost activation = { λ guard. guard_activation guard };
+
+    fn collector(&self) -> &Collector<T> {
+        LocalGuard::collector(self)
+    }
+
+    fn thread_id(&self) -> usize {
+        LocalGuard::thread_id(self)
+    }
+
+    fn owned(&self, value: T) -> Result<Owned<T>, (Refusal, T)> {
+        LocalGuard::owned(self, value)
+    }
+
+    fn protect(&self, link: usize, pass: &mut Pass) -> Option<Shared<'_, T>> {
+        LocalGuard::protect(self, link, pass)
+    }
+
+    fn swap(&self, link: usize, value: Option<Owned<T>>, pass: &mut Pass) -> Option<Unlinked<'_, T>>
+        requires of { IsPassOf (guard_collector self.now) pass.old × (link < its_links (guard_collector self.now)) }
+        requires value { IfSome value (λ owned. IsBlockOf (guard_collector self.now) owned) }
+        ensures of { IfSome result (λ unlinked. unlinked_collector unlinked ≡ guard_collector self.now) }
+        ensures made { (new : Option ℕ) × (held : Option ℕ) × IsNamed T.row.coded.code value new × ComesOut held result
+            × MakesOne pass.old pass.new (ExchangeLink (guard_slot self.now) link (Swap new)) (Link held) }
+    {
+        LocalGuard::swap(self, link, value, pass)
+    }
+
+    fn compare_exchange(
+        &self,
+        link: usize,
+        current: Option<&Shared<'_, T>>,
+        new: Option<Owned<T>>,
+        pass: &mut Pass,
+    ) -> Result<Option<Unlinked<'_, T>>, Failed<'_, T>>
+        requires of { IsPassOf (guard_collector self.now) pass.old × (link < its_links (guard_collector self.now)) }
+        requires value { IfSome new (λ owned. IsBlockOf (guard_collector self.now) owned) }
+        ensures { (v : Option ℕ) × (held : Option ℕ) × IsNamed T.row.coded.code new v
+            × (let compare = comparand (current_name current.entry) held in
+            MakesOne pass.old pass.new (ExchangeLink (guard_slot self.now) link (Compare compare v)) (Link held)
+            × IsOutcome T.row.coded.code (guard_collector self.now) new compare held result
+            × FoundIn (guard_activation self.now) held pass.new
+            × TookFound (guard_activation self.now) (current_name current.entry) pass.old held result) }
+    {
+        LocalGuard::compare_exchange(self, link, current, new, pass)
+    }
+
+    fn compare_exchange_weak(
+        &self,
+        link: usize,
+        current: Option<&Shared<'_, T>>,
+        new: Option<Owned<T>>,
+        pass: &mut Pass,
+    ) -> Result<Option<Unlinked<'_, T>>, Failed<'_, T>>
+        requires of { IsPassOf (guard_collector self.now) pass.old × (link < its_links (guard_collector self.now)) }
+        requires value { IfSome new (λ owned. IsBlockOf (guard_collector self.now) owned) }
+        ensures { (v : Option ℕ) × (held : Option ℕ) × IsNamed T.row.coded.code new v
+            × (let compare = comparand (current_name current.entry) held in
+            MakesOne pass.old pass.new (ExchangeLink (guard_slot self.now) link (Compare compare v)) (Link held)
+            × IsOutcome T.row.coded.code (guard_collector self.now) new compare held result
+            × FoundIn (guard_activation self.now) held pass.new
+            × TookFound (guard_activation self.now) (current_name current.entry) pass.old held result) }
+    {
+        LocalGuard::compare_exchange_weak(self, link, current, new, pass)
+    }
+
+    fn defer_retire<W: Wait>(&self, rt: &W, pass: &mut Pass, value: Unlinked<'_, T>)
+        requires of { IsPassOf (guard_collector self.now) pass.old × (unlinked_collector value ≡ guard_collector self.now) }
+        ensures { MakesCall (guard_slot self.now) (Retire (unlinked_name value.entry)) pass.old pass.new }
+    {
+        LocalGuard::defer_retire(self, rt, pass, value);
+    }
+
+    fn flush<W: Wait>(&self, rt: &W, pass: &mut Pass) {
+        LocalGuard::flush(self, rt, pass);
+    }
+
+    fn refresh<W: Wait>(&mut self, rt: &W, pass: &mut Pass) {
+        LocalGuard::refresh(self, rt, pass);
+    }
+}

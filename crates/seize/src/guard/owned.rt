@@ -1,0 +1,107 @@
+//! An owned guard as one of any kind.
+ghost use Rattle.std.specs.Prelude.{◌≡◌, ◌<◌, ℕ, Option, IfSome};
+ghost use Rattle.seize_machine.specs.Machine.Event.{ExchangeLink};
+ghost use Rattle.seize_machine.specs.declared.machine.event.Answer.TheVariants.{Link};
+ghost use Rattle.seize_machine.specs.declared.machine.event.Exchange.TheVariants.{Compare, Swap};
+ghost use Rattle.seize_machine.specs.declared.machine.event.Job.TheVariants.{Retire};
+ghost use Rattle.seize_words.specs.Links.{comparand};
+ghost use Rattle.seize.specs.Blocks.{ComesOut, IsNamed, unlinked_collector, unlinked_name};
+ghost use Rattle.seize.specs.Collectors.{IsBlockOf, IsPassOf, its_links};
+ghost use Rattle.seize.specs.Exchanges.{FoundIn, IsOutcome, TookFound, current_name};
+ghost use Rattle.seize.specs.Makes.{MakesCall, MakesOne};
+ghost use Rattle.seize.specs.OwnedGuards.{owned_activation, owned_collector, owned_slot};
+
+use crate::block::{Failed, Owned, Shared, Unlinked};
+use crate::collector::Collector;
+use crate::guard::Guard;
+use crate::owned::OwnedGuard;
+use seize_table::Refusal;
+use seize_words::book::Pass;
+use std::sync::Wait;
+
+impl<T: Drop> Guard<T> for OwnedGuard<'_, T> {
+    ghost guarded = { λ guard. owned_collector guard };
+
+    ghost number = { λ guard. owned_slot guard };
+
+    ghost activation = { λ guard. owned_activation guard };
+
+    fn collector(&self) -> &Collector<T> {
+        OwnedGuard::collector(self)
+    }
+
+    fn thread_id(&self) -> usize {
+        OwnedGuard::thread_id(self)
+    }
+
+    fn owned(&self, value: T) -> Result<Owned<T>, (Refusal, T)> {
+        OwnedGuard::owned(self, value)
+    }
+
+    fn protect(&self, link: usize, pass: &mut Pass) -> Option<Shared<'_, T>> {
+        OwnedGuard::protect(self, link, pass)
+    }
+
+    fn swap(&self, link: usize, value: Option<Owned<T>>, pass: &mut Pass) -> Option<Unlinked<'_, T>>
+        requires of { IsPassOf (owned_collector self.now) pass.old × (link < its_links (owned_collector self.now)) }
+        requires value { IfSome value (λ owned. IsBlockOf (owned_collector self.now) owned) }
+        ensures of { IfSome result (λ unlinked. unlinked_collector unlinked ≡ owned_collector self.now) }
+        ensures made { (new : Option ℕ) × (held : Option ℕ) × IsNamed T.row.coded.code value new × ComesOut held result
+            × MakesOne pass.old pass.new (ExchangeLink (owned_slot self.now) link (Swap new)) (Link held) }
+    {
+        OwnedGuard::swap(self, link, value, pass)
+    }
+
+    fn compare_exchange(
+        &self,
+        link: usize,
+        current: Option<&Shared<'_, T>>,
+        new: Option<Owned<T>>,
+        pass: &mut Pass,
+    ) -> Result<Option<Unlinked<'_, T>>, Failed<'_, T>>
+        requires of { IsPassOf (owned_collector self.now) pass.old × (link < its_links (owned_collector self.now)) }
+        requires value { IfSome new (λ owned. IsBlockOf (owned_collector self.now) owned) }
+        ensures { (v : Option ℕ) × (held : Option ℕ) × IsNamed T.row.coded.code new v
+            × (let compare = comparand (current_name current.entry) held in
+            MakesOne pass.old pass.new (ExchangeLink (owned_slot self.now) link (Compare compare v)) (Link held)
+            × IsOutcome T.row.coded.code (owned_collector self.now) new compare held result
+            × FoundIn (owned_activation self.now) held pass.new
+            × TookFound (owned_activation self.now) (current_name current.entry) pass.old held result) }
+    {
+        OwnedGuard::compare_exchange(self, link, current, new, pass)
+    }
+
+    fn compare_exchange_weak(
+        &self,
+        link: usize,
+        current: Option<&Shared<'_, T>>,
+        new: Option<Owned<T>>,
+        pass: &mut Pass,
+    ) -> Result<Option<Unlinked<'_, T>>, Failed<'_, T>>
+        requires of { IsPassOf (owned_collector self.now) pass.old × (link < its_links (owned_collector self.now)) }
+        requires value { IfSome new (λ owned. IsBlockOf (owned_collector self.now) owned) }
+        ensures { (v : Option ℕ) × (held : Option ℕ) × IsNamed T.row.coded.code new v
+            × (let compare = comparand (current_name current.entry) held in
+            MakesOne pass.old pass.new (ExchangeLink (owned_slot self.now) link (Compare compare v)) (Link held)
+            × IsOutcome T.row.coded.code (owned_collector self.now) new compare held result
+            × FoundIn (owned_activation self.now) held pass.new
+            × TookFound (owned_activation self.now) (current_name current.entry) pass.old held result) }
+    {
+        OwnedGuard::compare_exchange_weak(self, link, current, new, pass)
+    }
+
+    fn defer_retire<W: Wait>(&self, rt: &W, pass: &mut Pass, value: Unlinked<'_, T>)
+        requires of { IsPassOf (owned_collector self.now) pass.old × (unlinked_collector value ≡ owned_collector self.now) }
+        ensures { MakesCall (owned_slot self.now) (Retire (unlinked_name value.entry)) pass.old pass.new }
+    {
+        OwnedGuard::defer_retire(self, rt, pass, value);
+    }
+
+    fn flush<W: Wait>(&self, rt: &W, pass: &mut Pass) {
+        OwnedGuard::flush(self, rt, pass);
+    }
+
+    fn refresh<W: Wait>(&mut self, rt: &W, pass: &mut Pass) {
+        OwnedGuard::refresh(self, rt, pass);
+    }
+}

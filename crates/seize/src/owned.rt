@@ -1,0 +1,297 @@
+//! Owned guards: each has a slot of its own, so it needs no registration, and threads share it. They read links by the guard's own unit of
+//! the slot's activation, each with a pass of its own; what changes the slot is done under the guard's lock.
+ghost use Rattle.std.specs.Prelude.{◌≡◌};
+ghost use Rattle.seize.specs.Collectors.{its_book};
+ghost use Rattle.seize.specs.Reservations.{IsHeadFor, place_label};
+
+use crate::block::{Failed, Owned, Shared, Unlinked};
+use crate::collector::Collector;
+use crate::numbers::Ending;
+use crate::reader::Reader;
+use crate::reservation::Reservation;
+use crate::works::{Flushing, Leaving, Refreshing, Retiring, Sparing};
+use seize_calls::slot::Slot;
+use seize_cells::{Lock, LockWork};
+use seize_table::Refusal;
+use seize_words::book::Pass;
+use seize_words::reservation::Head;
+use std::sync::Wait;
+use std::{fmt, mem};
+
+/// A guard with a slot of its own, which threads share by `&`, and which may go to another thread. While it stands, its slot is active.
+///
+/// It has no `Drop`: it is spent by `leave`, or by `forget`, after which the slot stays active.
+///
+/// `defer_retire` and `flush` are done under the guard's lock: each waits while another thread is within one of them. No value ends there,
+/// since the guard's slot is active.
+pub struct OwnedGuard<'c, T: Drop> {
+    reader: Reader<'c, T>,
+    // The slot's head.
+    head: &'c Head,
+    reservation: Lock<Reservation<T>>,
+    ghost at: { reservation ≡ place_label (its_book reader.collector.now) reader.number 1 },
+    ghost headed: { IsHeadFor (its_book reader.collector.now) reader.number head.now },
+}
+
+impl<'c, T: Drop> OwnedGuard<'c, T> {
+    ghost use Rattle.std.specs.Prelude.{◌⊎◌, ◌<◌, ℕ, Option, IfErr, IfOk, IfSome};
+    ghost use Rattle.seize_machine.specs.Machine.Event.{Enter, ExchangeLink, ReadLink};
+    ghost use Rattle.seize_machine.specs.declared.machine.event.Answer.TheVariants.{Done, Link};
+    ghost use Rattle.seize_machine.specs.declared.machine.event.Exchange.TheVariants.{Compare, Swap};
+    ghost use Rattle.seize_machine.specs.declared.machine.event.Job.TheVariants.{Flush, Refresh, Retire};
+    ghost use Rattle.seize_words.specs.Links.{comparand};
+    ghost use Rattle.seize_table.specs.declared.refusal.Refusal.TheVariants.{NoMemory as no_memory};
+    ghost use Rattle.seize_calls.specs.Slots.{IsInactive, its_number};
+    ghost use Rattle.seize.specs.Blocks.{ComesOut, IsNamed, Shows, content, unlinked_collector, unlinked_name};
+    ghost use Rattle.seize.specs.Collectors.{IsBlockOf, IsPassOf, IsSlotFor, its_links};
+    ghost use Rattle.seize.specs.Exchanges.{FoundIn, IsOutcome, TookFound, current_name};
+    ghost use Rattle.seize.specs.Makes.{LeavesAndGives, MakesCall, MakesOne};
+    ghost use Rattle.seize.specs.OwnedGuards.{owned_activation, owned_collector, owned_slot};
+
+    // One with this slot, which enters.
+    pub(crate) fn enter(
+        collector: &'c Collector<T>,
+        slot: Slot<T>,
+        pass: &mut Pass,
+    ) -> OwnedGuard<'c, T>
+        requires slot { IsSlotFor collector.now slot × IsInactive slot }
+        requires pass { IsPassOf collector.now pass.old }
+        ensures of { (owned_collector result ≡ collector.now) × (owned_slot result ≡ its_number slot) }
+        ensures enters { MakesOne pass.old pass.new (Enter (its_number slot)) Done }
+    {
+        let number = slot.number();
+        let words = &collector.words;
+        let head = slot.head(words, &mut collector.pass());
+        let mut reservation = Reservation::new(words, slot, 1);
+        let (unit, seen) = reservation.enter(words, head, pass);
+        OwnedGuard {
+            reader: Reader {
+                collector,
+                number,
+                unit,
+                seen,
+            },
+            head,
+            reservation: Lock::new(reservation),
+        }
+    }
+
+    /// The collector.
+    pub fn collector(&self) -> &'c Collector<T>
+        ensures { result.now ≡ owned_collector self.now }
+    {
+        self.reader.collector
+    }
+
+    /// The number of its slot, for all threads that share it.
+    pub fn thread_id(&self) -> usize
+        ensures { result ≡ owned_slot self.now }
+    {
+        self.reader.number
+    }
+
+    /// A block of this value, as `Collector::owned` makes it.
+    ///
+    /// # Errors
+    ///
+    /// `NoMemory` where the store could not grow; the value comes back.
+    pub fn owned(&self, value: T) -> Result<Owned<T>, (Refusal, T)>
+        ensures made { IfOk result (λ owned. IsBlockOf (owned_collector self.now) owned × (content owned ≡ value)) }
+        ensures refused { IfErr result (λ refused. (refused.0 ≡ no_memory) × (refused.1 ≡ value)) }
+    {
+        self.reader.collector.owned(value)
+    }
+
+    /// Reads a link: the event `ReadLink`. What the link holds can be read for as long as the guard is borrowed: other threads may take it
+    /// out of the link meanwhile, and retire it.
+    ///
+    /// It takes no memory and no lock, and waits for nobody: one load of the link, and where that holds a block three more to find it.
+    pub fn protect(&self, link: usize, pass: &mut Pass) -> Option<Shared<'_, T>>
+        requires of { IsPassOf (owned_collector self.now) pass.old × (link < its_links (owned_collector self.now)) }
+        ensures { (held : Option ℕ) × MakesOne pass.old pass.new (ReadLink (owned_slot self.now) link) (Link held)
+            × Shows T.row.coded.code held result × FoundIn (owned_activation self.now) held pass.new }
+    {
+        self.reader.protect(link, pass)
+    }
+
+    /// Exchanges what a link holds for this block, or for none: the event `ExchangeLink`. It gives what the link held, which may outlive
+    /// the guard, and is to be retired.
+    ///
+    /// It takes no memory and no lock, and waits for nobody: one load to find the link, one atomic swap, and the look-up of the new block.
+    pub fn swap(
+        &self,
+        link: usize,
+        value: Option<Owned<T>>,
+        pass: &mut Pass,
+    ) -> Option<Unlinked<'c, T>>
+        requires of { IsPassOf (owned_collector self.now) pass.old × (link < its_links (owned_collector self.now)) }
+        requires value { IfSome value (λ owned. IsBlockOf (owned_collector self.now) owned) }
+        ensures of { IfSome result (λ unlinked. unlinked_collector unlinked ≡ owned_collector self.now) }
+        ensures made { (new : Option ℕ) × (held : Option ℕ) × IsNamed T.row.coded.code value new × ComesOut held result
+            × MakesOne pass.old pass.new (ExchangeLink (owned_slot self.now) link (Swap new)) (Link held) }
+    {
+        self.reader.swap(link, value, pass)
+    }
+
+    /// Exchanges what a link holds for this block, or for none, if the link holds what was found, or nothing where that is `None`: the
+    /// event `ExchangeLink`. It gives what the link held, which may outlive the guard, and is to be retired.
+    ///
+    /// Whether it holds that is decided by the number of its block. Where the exchange is won, the event compares with what the link held.
+    /// A value that this guard found since it entered or refreshed is not reclaimed while it stands. So where `current` is such a one, as
+    /// the pass has seen, a won exchange took out that very value, and no other one of the same block.
+    ///
+    /// It takes no memory and no lock, and waits for nobody: one atomic compare and exchange, and look-ups of the blocks.
+    ///
+    /// # Errors
+    ///
+    /// What the link held, where that was something else, and the block that was to go in.
+    pub fn compare_exchange(
+        &self,
+        link: usize,
+        current: Option<&Shared<'_, T>>,
+        new: Option<Owned<T>>,
+        pass: &mut Pass,
+    ) -> Result<Option<Unlinked<'c, T>>, Failed<'_, T>>
+        requires of { IsPassOf (owned_collector self.now) pass.old × (link < its_links (owned_collector self.now)) }
+        requires value { IfSome new (λ owned. IsBlockOf (owned_collector self.now) owned) }
+        ensures { (v : Option ℕ) × (held : Option ℕ) × IsNamed T.row.coded.code new v
+            × (let compare = comparand (current_name current.entry) held in
+            MakesOne pass.old pass.new (ExchangeLink (owned_slot self.now) link (Compare compare v)) (Link held)
+            × IsOutcome T.row.coded.code (owned_collector self.now) new compare held result
+            × FoundIn (owned_activation self.now) held pass.new
+            × TookFound (owned_activation self.now) (current_name current.entry) pass.old held result) }
+    {
+        self.reader.compare_exchange(link, current, new, pass)
+    }
+
+    /// The same.
+    pub fn compare_exchange_weak(
+        &self,
+        link: usize,
+        current: Option<&Shared<'_, T>>,
+        new: Option<Owned<T>>,
+        pass: &mut Pass,
+    ) -> Result<Option<Unlinked<'c, T>>, Failed<'_, T>>
+        requires of { IsPassOf (owned_collector self.now) pass.old × (link < its_links (owned_collector self.now)) }
+        requires value { IfSome new (λ owned. IsBlockOf (owned_collector self.now) owned) }
+        ensures { (v : Option ℕ) × (held : Option ℕ) × IsNamed T.row.coded.code new v
+            × (let compare = comparand (current_name current.entry) held in
+            MakesOne pass.old pass.new (ExchangeLink (owned_slot self.now) link (Compare compare v)) (Link held)
+            × IsOutcome T.row.coded.code (owned_collector self.now) new compare held result
+            × FoundIn (owned_activation self.now) held pass.new
+            × TookFound (owned_activation self.now) (current_name current.entry) pass.old held result) }
+    {
+        self.compare_exchange(link, current, new, pass)
+    }
+
+    /// Retires what came out of a link: it joins the slot's batch, which is attempted where it has the batch size or more. This is done
+    /// under the guard's lock. The slot is active, so no value ends in the call.
+    ///
+    /// It takes no memory. It waits while another thread has the lock. An insertion is tried again as often as other threads change the
+    /// head between a look at it and the try.
+    pub fn defer_retire<W: Wait>(&self, rt: &W, pass: &mut Pass, value: Unlinked<'_, T>)
+        requires of { IsPassOf (owned_collector self.now) pass.old × (unlinked_collector value ≡ owned_collector self.now) }
+        ensures { MakesCall (owned_slot self.now) (Retire (unlinked_name value.entry)) pass.old pass.new }
+    {
+        let loose = value.into_loose();
+        let retiring = Retiring {
+            words: &self.reader.collector.words,
+            loose,
+            rt,
+        };
+        self.reservation.with(rt, retiring, pass);
+    }
+
+    /// Attempts the slot's batch at any length.
+    ///
+    /// It takes no memory and waits as `defer_retire` does.
+    pub fn flush<W: Wait>(&self, rt: &W, pass: &mut Pass)
+        requires of { IsPassOf (owned_collector self.now) pass.old }
+        ensures { MakesCall (owned_slot self.now) Flush pass.old pass.new }
+    {
+        let flushing = Flushing {
+            words: &self.reader.collector.words,
+            unit: &self.reader.unit,
+            seen: &self.reader.seen,
+            rt,
+        };
+        self.reservation.with(rt, flushing, pass);
+    }
+
+    /// Ends the slot's activation and begins another. No other thread has the guard meanwhile. What waited for the slot is counted down,
+    /// and what is reclaimed in the call ends there.
+    ///
+    /// It takes no memory and waits for nobody: the lock is free.
+    pub fn refresh<W: Wait>(&mut self, rt: &W, pass: &mut Pass)
+        requires of { IsPassOf (owned_collector self.old) pass.old }
+        ensures same { (owned_collector self.new ≡ owned_collector self.old) × (owned_slot self.new ≡ owned_slot self.old) }
+        ensures refreshes { MakesCall (owned_slot self.old) Refresh pass.old pass.new }
+    {
+        let reader = &mut self.reader;
+        let spare = self.reservation.with(rt, Sparing {}, pass);
+        let unit = mem::replace(&mut reader.unit, spare);
+        let refreshing = Refreshing {
+            words: &reader.collector.words,
+            head: self.head,
+            unit,
+            seen: &reader.seen,
+            rt,
+        };
+        let (unit, seen) = self.reservation.with(rt, refreshing, pass);
+        reader.unit = unit;
+        reader.seen = seen;
+    }
+
+    /// Leaves, and gives the slot's number back: what waited for the slot is counted down, and what is reclaimed in the call ends there.
+    /// Then comes the event `Give`.
+    ///
+    /// It takes no memory, and no lock of the guard. At last it waits for other threads that register or end. The slot's batch stays for
+    /// the next one who has the number.
+    pub fn leave<W: Wait>(self, rt: &W, pass: &mut Pass)
+        requires of { IsPassOf (owned_collector self) pass.old }
+        ensures { LeavesAndGives (owned_slot self.entry) pass.old pass.new }
+    {
+        let OwnedGuard {
+            reader,
+            head,
+            reservation,
+        } = self;
+        let Reader {
+            collector,
+            number: _,
+            unit,
+            seen,
+        } = reader;
+        let words = &collector.words;
+        let mut reservation = reservation.into_value();
+        let leaving = Leaving {
+            words,
+            head,
+            unit,
+            seen,
+            rt,
+        };
+        leaving.work(&mut reservation, pass);
+        let slot = reservation.slot;
+        slot.seen().agree(&words.blocks.book);
+        collector.numbers.with(rt, Ending { words, slot }, pass);
+    }
+
+    /// Spends the guard without leaving. Its slot stays active for good, and its number in use, so what is retired from then on may never
+    /// be reclaimed.
+    pub fn forget(self) {
+        let OwnedGuard {
+            reader,
+            head: _,
+            reservation,
+        } = self;
+        drop(reader);
+        drop(reservation);
+    }
+}
+
+impl<T: Drop> fmt::Debug for OwnedGuard<'_, T> {
+    fn fmt<W: fmt::Write>(&self, f: &mut fmt::Formatter<W>) -> fmt::Result {
+        f.write_str("OwnedGuard")
+    }
+}

@@ -1,0 +1,117 @@
+//! What guards of both kinds have: the collector, the slot's number, and a unit of the slot's activation, with which links are read and
+//! exchanged. No lock is taken for that.
+ghost use Rattle.std.specs.Prelude.{◌≡◌};
+ghost use base.Growing.{prefix_prop};
+ghost use base.Stored.{Coded-set, coded_list};
+ghost use mathlib.Core.List.{IsPrefix};
+ghost use Rattle.seize_book.specs.Entry.{entry_coded};
+ghost use Rattle.seize.specs.Collectors.{its_book};
+ghost use Rattle.seize.specs.Reservations.{IsUnitIn};
+
+use crate::block::{Failed, Owned, Shared, Unlinked, name};
+use crate::collector::Collector;
+use crate::guard::exchanging::{came_back, current_word, exchange, look_back, shown};
+use seize_words::activation::Activation;
+use seize_words::book::{Pass, Seen};
+use std::marker::Brand;
+
+/// What a guard reads with.
+#[derive(Drop)]
+pub(crate) struct Reader<'c, T: Drop> {
+    /// The collector.
+    pub(crate) collector: &'c Collector<T>,
+    /// The number of the slot.
+    pub(crate) number: usize,
+    /// The guard's unit of the slot's activation.
+    pub(crate) unit: Activation,
+    /// What was seen when the activation had begun.
+    pub(crate) seen: Seen,
+    ghost its: { IsUnitIn (its_book collector.now) number unit seen },
+    ghost known: { IsPrefix unit.since seen.seen } by { prefix_prop (Coded-set (coded_list entry_coded)) unit.since seen.seen },
+}
+
+impl<'c, T: Drop> Reader<'c, T> {
+    ghost use Rattle.std.specs.Prelude.{◌<◌, ℕ, Option, IfSome};
+    ghost use Rattle.seize_machine.specs.Machine.Event.{ExchangeLink, ReadLink};
+    ghost use Rattle.seize_machine.specs.declared.machine.event.Answer.TheVariants.{Link};
+    ghost use Rattle.seize_machine.specs.declared.machine.event.Exchange.TheVariants.{Compare, Swap};
+    ghost use Rattle.seize_words.specs.Links.{comparand};
+    ghost use Rattle.seize.specs.Blocks.{ComesOut, IsNamed, Shows, unlinked_collector};
+    ghost use Rattle.seize.specs.Collectors.{IsBlockOf, IsPassOf, its_links};
+    ghost use Rattle.seize.specs.Exchanges.{FoundIn, IsOutcome, TookFound, current_name};
+    ghost use Rattle.seize.specs.Makes.{MakesOne};
+
+    /// Reads a link.
+    pub(crate) fn protect(&self, link: usize, pass: &mut Pass) -> Option<Shared<'_, T>>
+        requires of { IsPassOf self.now.collector.now pass.old × (link < its_links self.now.collector.now) }
+        ensures { (held : Option ℕ) × MakesOne pass.old pass.new (ReadLink self.now.number link) (Link held)
+            × Shows T.row.coded.code held result × FoundIn self.now.unit held pass.new }
+    {
+        pass.learn(&self.seen);
+        let (word, found) = self.collector.words.find(link, &self.unit, pass);
+        let found = found?;
+        Some(Shared::of(found.value, word, found.glimpse))
+    }
+
+    /// Exchanges what a link holds.
+    pub(crate) fn swap(
+        &self,
+        link: usize,
+        value: Option<Owned<T>>,
+        pass: &mut Pass,
+    ) -> Option<Unlinked<'c, T>>
+        requires of { IsPassOf self.now.collector.now pass.old × (link < its_links self.now.collector.now) }
+        requires value { IfSome value (λ owned. IsBlockOf self.now.collector.now owned) }
+        ensures of { IfSome result (λ unlinked. unlinked_collector unlinked ≡ self.now.collector.now) }
+        ensures made { (new : Option ℕ) × (held : Option ℕ) × IsNamed T.row.coded.code value new × ComesOut held result
+            × MakesOne pass.old pass.new (ExchangeLink self.now.number link (Swap new)) (Link held) }
+    {
+        let collector = self.collector;
+        pass.learn(&self.seen);
+        let (new, mut key) = name(value, collector, pass);
+        let old = collector
+            .words
+            .swap_link(link, new, &mut key, &self.unit, pass);
+        Unlinked::found(collector, old, key)
+    }
+
+    /// Exchanges what a link holds, if that is what was found.
+    pub(crate) fn compare_exchange(
+        &self,
+        link: usize,
+        current: Option<&Shared<'_, T>>,
+        new: Option<Owned<T>>,
+        pass: &mut Pass,
+    ) -> Result<Option<Unlinked<'c, T>>, Failed<'_, T>>
+        requires of { IsPassOf self.now.collector.now pass.old × (link < its_links self.now.collector.now) }
+        requires value { IfSome new (λ owned. IsBlockOf self.now.collector.now owned) }
+        ensures { (v : Option ℕ) × (held : Option ℕ) × IsNamed T.row.coded.code new v
+            × (let compare = comparand (current_name current.entry) held in
+            MakesOne pass.old pass.new (ExchangeLink self.now.number link (Compare compare v)) (Link held)
+            × IsOutcome T.row.coded.code self.now.collector.now new compare held result
+            × FoundIn self.now.unit held pass.new
+            × TookFound self.now.unit (current_name current.entry) pass.old held result) }
+    {
+        let collector = self.collector;
+        pass.learn(&self.seen);
+        let seen = current_word(current);
+        let (word, mut key) = name(new, collector, pass);
+        let (old, glimpse) = exchange::<T, Brand>(
+            &collector.words,
+            link,
+            seen,
+            word,
+            &mut key,
+            current,
+            &self.unit,
+            pass,
+        );
+        if old == seen {
+            look_back(&collector.words.blocks, old, &self.unit, pass);
+            return Ok(Unlinked::found(collector, old, key));
+        }
+        let found = shown(&collector.words.blocks, old, glimpse, pass);
+        let new = came_back(collector, word, key, pass);
+        Err(Failed { found, new })
+    }
+}

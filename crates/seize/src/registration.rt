@@ -1,0 +1,187 @@
+//! A thread's slot, for as long as the thread keeps it.
+ghost use Rattle.std.specs.Prelude.{◌≡◌, ◌-◌, ◌^◌};
+ghost use Rattle.seize.specs.Collectors.{its_book};
+ghost use Rattle.seize.specs.Reservations.{IsHeadFor, place_label};
+
+use crate::block::{Owned, Unlinked};
+use crate::collector::Collector;
+use crate::guard::LocalGuard;
+use crate::numbers::Ending;
+use crate::reader::Reader;
+use crate::reservation::Reservation;
+use crate::works::{Adding, Entering, Retiring};
+use seize_calls::slot::Slot;
+use seize_cells::LocalLock;
+use seize_table::Refusal;
+use seize_words::book::Pass;
+use seize_words::reservation::Head;
+use std::sync::Wait;
+
+/// A slot of a collector, in the hands of one thread. It may go to another thread, and isn't shared by two.
+///
+/// It has no `Drop`: it is spent by `end`, which gives the slot's number back, or by `forget`.
+pub struct Registration<'c, T: Drop> {
+    pub(crate) collector: &'c Collector<T>,
+    pub(crate) number: usize,
+    // The slot's head.
+    pub(crate) head: &'c Head,
+    pub(crate) reservation: LocalLock<Reservation<T>>,
+    ghost at: { reservation ≡ place_label (its_book collector.now) number (2 ^ 64 - 1) },
+    ghost headed: { IsHeadFor (its_book collector.now) number head.now },
+}
+
+impl<'c, T: Drop> Registration<'c, T> {
+    ghost use Rattle.std.specs.Prelude.{IfErr, IfOk};
+    ghost use Rattle.seize_machine.specs.declared.machine.event.Job.TheVariants.{Retire};
+    ghost use Rattle.seize_table.specs.declared.refusal.Refusal.TheVariants.{NoMemory as no_memory, TooManyGuards as too_many_guards};
+    ghost use Rattle.seize_calls.specs.Slots.{IsInactive, its_number};
+    ghost use Rattle.seize.specs.Blocks.{content, unlinked_collector, unlinked_name};
+    ghost use Rattle.seize.specs.Collectors.{IsBlockOf, IsPassOf, IsSlotFor};
+    ghost use Rattle.seize.specs.Guards.{IsGuardOf};
+    ghost use Rattle.seize.specs.Makes.{EndsUse, Enters, MakesCall};
+    ghost use Rattle.seize.specs.Registrations.{registered_in, registered_slot};
+
+    // One with this slot.
+    pub(crate) fn of(collector: &'c Collector<T>, slot: Slot<T>) -> Registration<'c, T>
+        requires slot { IsSlotFor collector.now slot × IsInactive slot }
+        ensures { (registered_in result ≡ collector.now) × (registered_slot result ≡ its_number slot) }
+    {
+        let words = &collector.words;
+        let head = slot.head(words, &mut collector.pass());
+        let number = slot.number();
+        let reservation = Reservation::new(words, slot, u64::MAX);
+        Registration {
+            collector,
+            number,
+            head,
+            reservation: LocalLock::new(reservation),
+        }
+    }
+
+    /// The collector.
+    pub fn collector(&self) -> &'c Collector<T>
+        ensures { result.now ≡ registered_in self.now }
+    {
+        self.collector
+    }
+
+    /// The number of its slot.
+    pub fn thread_id(&self) -> usize
+        ensures { result ≡ registered_slot self.now }
+    {
+        self.number
+    }
+
+    /// A guard. The first one enters: the event `Enter`. Beside others it makes no event, and the pass learns that the slot is active.
+    ///
+    /// It takes no memory and waits for nobody: one atomic swap for the first guard, and none for others.
+    ///
+    /// # Errors
+    ///
+    /// `TooManyGuards` where the slot has 2^64 - 1 guards, or within another call of the same registration, as from the `Drop` of a value
+    /// that the call reclaims. No event was made then.
+    pub fn enter(&self, pass: &mut Pass) -> Result<LocalGuard<'_, 'c, T>, Refusal>
+        requires pass { IsPassOf (registered_in self.now) pass.old }
+        ensures made { IfOk result (λ guard. IsGuardOf self.now guard × Enters (registered_slot self.now) pass.old pass.new) }
+        ensures refused { IfErr result (λ refusal. (refusal ≡ too_many_guards) × (pass.new ≡ pass.old)) }
+    {
+        let collector = self.collector;
+        let entering = Entering {
+            words: &collector.words,
+            head: self.head,
+        };
+        match self.reservation.try_with(entering, pass) {
+            Ok(Ok((unit, seen))) => {
+                let reader = Reader {
+                    collector,
+                    number: self.number,
+                    unit,
+                    seen,
+                };
+                Ok(LocalGuard::of(self, reader))
+            }
+            Ok(Err(refusal)) => Err(refusal),
+            Err(_) => Err(Refusal::TooManyGuards),
+        }
+    }
+
+    /// A block of this value, made of one of the slot's that is gone, where it has one: then it takes no atomic step and no memory. Else
+    /// it is made as `Collector::owned` makes it, also within another call of the same registration.
+    ///
+    /// # Errors
+    ///
+    /// `NoMemory` where the store could not grow; the value comes back.
+    pub fn owned(&self, value: T) -> Result<Owned<T>, (Refusal, T)>
+        ensures made { IfOk result (λ owned. IsBlockOf (registered_in self.now) owned × (content owned ≡ value)) }
+        ensures refused { IfErr result (λ refused. (refused.0 ≡ no_memory) × (refused.1 ≡ value)) }
+    {
+        let words = &self.collector.words;
+        let adding = Adding { words, value };
+        match self
+            .reservation
+            .try_with(adding, &mut self.collector.pass())
+        {
+            Ok(added) => {
+                let (key, block) = added?;
+                Ok(Owned::of(key, block, &words.blocks.book))
+            }
+            Err(adding) => self.collector.owned(adding.value),
+        }
+    }
+
+    /// Retires a block that is in no link: it joins the slot's batch, which is attempted where it has the batch size or more. What is
+    /// reclaimed in the call ends there.
+    ///
+    /// It takes no memory. An insertion is tried again as often as other threads change the head between a look at it and the try. Within
+    /// another call of the same registration it waits for ever.
+    pub fn retire<W: Wait>(&self, rt: &W, pass: &mut Pass, value: Unlinked<'_, T>)
+        requires pass { IsPassOf (registered_in self.now) pass.old }
+        requires value { unlinked_collector value ≡ registered_in self.now }
+        ensures { MakesCall (registered_slot self.now) (Retire (unlinked_name value.entry)) pass.old pass.new }
+    {
+        let loose = value.into_loose();
+        let retiring = Retiring {
+            words: &self.collector.words,
+            loose,
+            rt,
+        };
+        self.reservation.with(rt, retiring, pass);
+    }
+
+    /// Gives the slot's number back: the event `Give`, and the answer true. Where a guard was forgotten the slot is active still; then the
+    /// answer is false, no event is made, and the number stays in use.
+    ///
+    /// It takes no memory, and waits for other threads that register or end. The slot's batch stays for the next one who has the number.
+    pub fn end<W: Wait>(self, rt: &W, pass: &mut Pass) -> bool
+        requires pass { IsPassOf (registered_in self) pass.old }
+        ensures { EndsUse (registered_slot self.entry) pass.old pass.new result }
+    {
+        let Registration {
+            collector,
+            number: _,
+            head: _,
+            reservation,
+        } = self;
+        let words = &collector.words;
+        let mut reservation = reservation.into_value();
+        if reservation.guards > 0 {
+            reservation.look(words, pass);
+            return false;
+        }
+        let slot = reservation.slot;
+        slot.seen().agree(&words.blocks.book);
+        collector.numbers.with(rt, Ending { words, slot }, pass);
+        true
+    }
+
+    /// Spends the registration. The slot stays as it is, and its number in use.
+    pub fn forget(self) {
+        let Registration {
+            collector: _,
+            number: _,
+            head: _,
+            reservation,
+        } = self;
+        drop(reservation);
+    }
+}

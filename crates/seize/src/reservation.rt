@@ -1,0 +1,124 @@
+//! What the calls of guards change: a slot, how many guards it has, and what is left of the activation that these share. It lies in its
+//! place, under the lock of a registration or of an owned guard, and each call is a work there (`works`).
+ghost use Rattle.std.specs.Prelude.{◌≡◌};
+ghost use Rattle.seize.specs.Reservations.{IsReservation, its_label};
+
+use seize_calls::slot::Slot;
+use seize_content::Steady;
+use seize_words::activation::Activation;
+use seize_words::book::{Pass, Seen};
+use seize_words::reservation::Head;
+use seize_words::words::Words;
+
+/// A slot in use, and what its guards share.
+#[derive(Drop)]
+pub(crate) struct Reservation<T> {
+    /// The slot, which is active while it has a guard.
+    pub(crate) slot: Slot<T>,
+    /// All units of its activation but one for each guard. Where there is no guard, the activation has still to begin.
+    pub(crate) rest: Activation,
+    /// How many guards there are.
+    pub(crate) guards: u64,
+    /// How many there may be.
+    pub(crate) most: u64,
+}
+
+impl<T> Steady for Reservation<T> {
+    ghost label = { λ reservation. its_label reservation };
+
+    ghost sound = { λ reservation. IsReservation reservation };
+}
+
+impl<T: Drop> Reservation<T> {
+    ghost use Rattle.std.specs.Prelude.{◌<◌};
+    ghost use Rattle.seize_machine.specs.Machine.Event.{Enter};
+    ghost use Rattle.seize_machine.specs.declared.machine.event.Answer.TheVariants.{Done};
+    ghost use Rattle.seize_words.specs.Joined.{words_book};
+    ghost use Rattle.seize_calls.specs.Slots.{InActivation, IsInactive, IsPassFor, IsSlotOf, its_book, its_number};
+    ghost use Rattle.seize.specs.Makes.{MakesOne, StaysActive};
+    ghost use Rattle.seize.specs.Reservations.{IsHeadFor, IsReservationOf, IsUnit, KeepsPlace, place_label};
+
+    /// That of a slot with no guard, which may have so many.
+    pub(crate) fn new(_words: &Words<T>, slot: Slot<T>, most: u64) -> Reservation<T>
+        requires { IsSlotOf _words.now slot × IsInactive slot }
+        ensures { IsReservation result × (its_label result ≡ place_label (words_book _words.now) (its_number slot) most)
+            × (result.guards ≡ 0) }
+    {
+        let rest = slot.activation();
+        Reservation {
+            slot,
+            rest,
+            guards: 0,
+            most,
+        }
+    }
+
+    /// The slot enters with its first guard. It gives the guard's unit, and what was seen then.
+    pub(crate) fn enter(
+        &mut self,
+        words: &Words<T>,
+        head: &Head,
+        pass: &mut Pass,
+    ) -> (Activation, Seen)
+        requires of { IsReservation self.old × IsReservationOf words.now self.old × IsPassFor words.now pass.old }
+        requires head { IsHeadFor (words_book words.now) (its_number self.old.slot) head.now }
+        requires first { (self.old.guards ≡ 0) × (0 < self.old.most) }
+        ensures follows { KeepsPlace self.old self.new }
+        ensures unit { IsUnit (words_book words.now) (its_number self.old.slot) result.0 result.1 }
+        ensures enters { MakesOne pass.old pass.new (Enter (its_number self.old.slot)) Done }
+    {
+        self.slot.seen().agree(&words.blocks.book);
+        self.slot.enter(words, head, &mut self.rest, pass);
+        self.guards = 1;
+        let unit = self.rest.split();
+        (unit, self.slot.seen())
+    }
+
+    /// One guard more beside others. No event is made; the pass learns that the slot is active.
+    pub(crate) fn enter_beside(&mut self, words: &Words<T>, pass: &mut Pass) -> (Activation, Seen)
+        requires of { IsReservation self.old × IsReservationOf words.now self.old × IsPassFor words.now pass.old }
+        requires beside { (0 < self.old.guards) × (self.old.guards < self.old.most) }
+        ensures follows { KeepsPlace self.old self.new }
+        ensures unit { IsUnit (words_book words.now) (its_number self.old.slot) result.0 result.1 }
+        ensures active { StaysActive (its_number self.old.slot) pass.old pass.new }
+    {
+        self.look(words, pass);
+        self.guards += 1;
+        let unit = self.rest.split();
+        (unit, self.slot.seen())
+    }
+
+    /// The slot has a guard, so the pass learns that it is active. No event is made, and nothing is done when the program runs.
+    pub(crate) fn look(&mut self, words: &Words<T>, pass: &mut Pass)
+        requires of { IsReservation self.old × IsReservationOf words.now self.old × IsPassFor words.now pass.old }
+        requires some { 0 < self.old.guards }
+        ensures follows { KeepsPlace self.old self.new × (self.new.guards ≡ self.old.guards) × (self.new.most ≡ self.old.most) }
+        ensures slot { IsSlotOf words.now self.new.slot × InActivation self.new.slot self.new.rest }
+        ensures same { its_number self.new.slot ≡ its_number self.old.slot }
+        ensures active { StaysActive (its_number self.old.slot) pass.old pass.new }
+    {
+        self.slot.seen().agree(&words.blocks.book);
+        self.slot.teach(pass);
+        self.slot.current(words, &self.rest, pass);
+    }
+
+    /// The slot is active, as a guard's unit says. The pass learns that, and no event is made. It does nothing when the program runs.
+    pub(crate) fn current(
+        &mut self,
+        words: &Words<T>,
+        unit: &Activation,
+        seen: &Seen,
+        pass: &mut Pass,
+    )
+        requires of { IsReservation self.old × IsReservationOf words.now self.old × IsPassFor words.now pass.old }
+        requires unit { IsUnit (words_book words.now) (its_number self.old.slot) unit.now seen.now }
+        ensures follows { KeepsPlace self.old self.new × (self.new.guards ≡ self.old.guards) × (self.new.rest ≡ self.old.rest) }
+        ensures active { (0 < self.old.guards) × IsSlotOf words.now self.new.slot × InActivation self.new.slot unit.now }
+        ensures same { its_number self.new.slot ≡ its_number self.old.slot }
+        ensures active_still { StaysActive (its_number self.old.slot) pass.old pass.new }
+    {
+        self.slot.seen().agree(&words.blocks.book);
+        pass.learn(seen);
+        self.slot.current(words, unit, pass);
+    }
+}

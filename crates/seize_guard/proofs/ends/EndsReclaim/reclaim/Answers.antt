@@ -1,9 +1,0 @@
-use Rattle.std.proofs.Common.{ap, ◌∙◌}
-use Rattle.seize_guard.specs.Ends.{had_of}
-use Rattle.seize_guard.proofs.Ended.{had_one_more}
-use Rattle.seize_guard.proofs.ends.EndsReclaim.reclaim.Goals as goal
-
-pub returns-clause-had : goal.returns-clause-had
-returns-clause-had g c =
-    ap had_of c.note.ensures
-    ∙ had_one_more c.args.self.now.ended c.args.kept (g.row.T.coded.code c.args.value) c.args._further.now.values c.requires.further.1

@@ -1,5 +1,0 @@
-use Rattle.seize_guard.specs.Collectors.{IsPassOf}
-use Rattle.seize_guard_rows.proofs.ending.put_in_all.Given as goal
-
-abbrev pub invariant-loop-link : goal.invariant-loop-link
-invariant-loop-link g l = IsPassOf l.collector l.pass

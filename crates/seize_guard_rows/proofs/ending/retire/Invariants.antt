@@ -1,5 +1,0 @@
-use Rattle.seize_guard.specs.Collectors.{IsPassOf}
-use Rattle.seize_guard_rows.proofs.ending.retire.Given as goal
-
-abbrev pub invariant-loop : goal.invariant-loop
-invariant-loop g l = IsPassOf l.collector l.pass

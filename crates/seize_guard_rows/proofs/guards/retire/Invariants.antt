@@ -1,6 +1,0 @@
-use Rattle.seize_guard.specs.Collectors.{IsPassOf}
-use Rattle.seize_guard.specs.Guards.{guard_collector}
-use Rattle.seize_guard_rows.proofs.guards.retire.Given as goal
-
-abbrev pub invariant-loop : goal.invariant-loop
-invariant-loop g l = IsPassOf (guard_collector l.guard) l.pass

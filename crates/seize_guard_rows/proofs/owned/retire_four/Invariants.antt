@@ -1,7 +1,0 @@
-use Rattle.seize_guard.specs.Collectors.{IsPassOf}
-use Rattle.seize_guard.specs.OwnedGuards.{owned_collector}
-use Rattle.std.specs.Prelude.{◌≡◌}
-use Rattle.seize_guard_rows.proofs.owned.retire_four.Given as goal
-
-abbrev pub invariant-loop : goal.invariant-loop
-invariant-loop g l = (owned_collector l.guard ≡ l.collector) × IsPassOf l.collector l.pass

@@ -1,5 +1,0 @@
-use Rattle.seize_guard.specs.Collectors.{IsPassOf}
-use Rattle.seize_guard_rows.proofs.turns.work_by.Given as goal
-
-abbrev pub invariant-loop-n : goal.invariant-loop-n
-invariant-loop-n g l = IsPassOf l.registration.collector.now l.pass

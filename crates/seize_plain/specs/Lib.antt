@@ -1,0 +1,12 @@
+pub mod About
+pub mod Alone
+pub mod Blocks
+pub mod Collectors
+pub mod Effects
+pub mod Lends
+pub mod Names
+pub mod NewCollectors
+pub mod Plain
+pub mod Snapshots
+pub use Rattle.seize_model.specs.Agreement
+pub use Rattle.seize_model.specs.Waiting

@@ -1,0 +1,29 @@
+-- The collectors of the blocks inside a value, and those of each block there.
+use Rattle.std.proofs.Common.{◌≡◌, List, All, refl, sym, ◌∙◌}
+use Rattle.std.proofs.lemmas.List.Elements.{All-same}
+use Rattle.seize_plain.specs.Names.{CollectorName}
+use Rattle.seize_plain.specs.Blocks.{HoldsOnly, Belongs, owners_in}
+use Rattle.seize_plain.proofs.Contents.{each_belongs, owners_of_each, owners_map}
+use Rattle.seize_plain_rows.specs.Nests.{owners_of, owners_step}
+use Rattle.seize_plain_rows.specs.declared.nest.Nest.{Nest}
+use Rattle.seize_plain_rows.specs.declared.nest.Nest.TheViews.{out-Nest, roll-Nest}
+use Rattle.seize_plain_rows.specs.declared.nest.Nest.TheFolds.{fold_out-Nest, fold-roll-Nest}
+use Rattle.seize_plain_rows.specs.declared.nest.Nest.TheOpen.{Nest-F}
+
+owners_out : (value : Nest) → owners_of value ≡ owners_in owners_of (out-Nest value).inside.items
+owners_out value = fold_out-Nest (List CollectorName) owners_step value ∙ owners_map owners_of _ (λ owned. (refl, refl)) (out-Nest value).inside.items
+
+-- a value whose blocks are all of one collector holds blocks of it alone
+pub inside_belongs : (value : Nest) (name : CollectorName) → HoldsOnly owners_of name value → All (Belongs owners_of name) (out-Nest value).inside.items
+inside_belongs value name only =
+    each_belongs owners_of name (out-Nest value).inside.items
+    (All-same (λ owner. owner ≡ name) (owners_in owners_of (out-Nest value).inside.items) (owners_of value) (sym (owners_out value)) only)
+
+owners_made : (made : Nest-F Nest) → owners_of (roll-Nest made) ≡ owners_in owners_of made.inside.items
+owners_made made = fold-roll-Nest (List CollectorName) owners_step made ∙ owners_map owners_of _ (λ owned. (refl, refl)) made.inside.items
+
+-- and a value made of blocks of one collector holds blocks of it alone
+pub holds_only : (made : Nest-F Nest) (name : CollectorName) → All (Belongs owners_of name) made.inside.items → HoldsOnly owners_of name (roll-Nest made)
+holds_only made name each =
+    All-same (λ owner. owner ≡ name) (owners_of (roll-Nest made)) (owners_in owners_of made.inside.items) (owners_made made)
+    (owners_of_each owners_of name made.inside.items each)

@@ -1,0 +1,150 @@
+//! Owned guards, which threads share and which go from one thread to another.
+ghost use Rattle.std.specs.Prelude.{◌≡◌};
+ghost use Rattle.seize.specs.OwnedGuards.{owned_collector};
+
+use crate::values::{Counted, ended};
+use seize::{Collector, IdSource, OwnedGuard, Refusal, Unlinked};
+use std::alloc::Global;
+use std::sync::Wait;
+use std::sync::atomic::AtomicU64;
+use std::test::*;
+use std::thread;
+use std::thread::Threads;
+
+type Counting<'a> = Collector<Counted<'a>>;
+
+// A collector with no link, and batches of this many values.
+fn collector<'a>(alloc: Global, size: usize) -> Result<Counting<'a>, Refusal> {
+    let made: Counting<'a> = Collector::new(alloc, &mut IdSource::new(), 1, 0)?;
+    Ok(made.batch_size(size))
+}
+
+// A guard on its way to another thread: a closure holds only what has a `Drop`.
+struct Handed<'c, 'a>(OwnedGuard<'c, Counted<'a>>);
+
+impl Drop for Handed<'_, '_> {
+    fn drop(self) {
+        let Handed(guard) = self;
+        guard.forget();
+    }
+}
+
+impl Handed<'_, '_> {
+    // The guard leaves.
+    fn leave(self, rt: &impl Wait) {
+        let Handed(guard) = self;
+        let mut pass = guard.collector().pass();
+        guard.leave(rt, &mut pass);
+    }
+}
+
+// Retires a value that was in no link, and flushes. It says whether memory was there for it.
+fn retire<'c, 'a>(
+    rt: &impl Wait,
+    collector: &'c Counting<'a>,
+    guard: &OwnedGuard<'c, Counted<'a>>,
+    ends: &'a AtomicU64,
+) -> bool
+    requires { owned_collector guard.now ≡ collector.now }
+{
+    let mut pass = collector.pass();
+    let Ok(owned) = collector.owned(Counted { ends }) else {
+        return false;
+    };
+    guard.defer_retire(rt, &mut pass, Unlinked::from_owned(owned, collector));
+    guard.flush(rt, &mut pass);
+    true
+}
+
+// Two threads do so.
+fn two<'c, 'a, R: Threads + Wait + Sync>(
+    rt: &R,
+    collector: &'c Counting<'a>,
+    guard: &OwnedGuard<'c, Counted<'a>>,
+    ends: &'a AtomicU64,
+) -> bool
+    requires { owned_collector guard.now ≡ collector.now }
+{
+    let (one, other) = thread::join(
+        rt,
+        move || -> bool
+            requires { owned_collector guard.now ≡ collector.now }
+        { retire(rt, collector, guard, ends) },
+        move || -> bool
+            requires { owned_collector guard.now ≡ collector.now }
+        { retire(rt, collector, guard, ends) },
+    );
+    one && other
+}
+
+// Four do.
+fn four<'c, 'a, R: Threads + Wait + Sync>(
+    rt: &R,
+    collector: &'c Counting<'a>,
+    guard: &OwnedGuard<'c, Counted<'a>>,
+    ends: &'a AtomicU64,
+) -> bool
+    requires { owned_collector guard.now ≡ collector.now }
+{
+    let (one, other) = thread::join(
+        rt,
+        move || -> bool
+            requires { owned_collector guard.now ≡ collector.now }
+        { two(rt, collector, guard, ends) },
+        move || -> bool
+            requires { owned_collector guard.now ≡ collector.now }
+        { two(rt, collector, guard, ends) },
+    );
+    one && other
+}
+
+// Four threads share one guard, and each retires a value and flushes. No value ends while the guard stands, and each when it leaves. The
+// number is free then.
+#[test]
+fn four_threads_share_a_guard(rt: HostRuntime) -> Result<(), Fail> {
+    let ends = AtomicU64::new(0);
+    let collector = collector(rt.alloc(), 1)?;
+    let mut pass = collector.pass();
+    let guard = collector.enter_owned(&rt, &mut pass).expect(&rt, "memory");
+    assert!(rt; four(&rt, &collector, &guard, &ends));
+    assert_eq!(rt; ended(&ends), 0);
+    guard.leave(&rt, &mut pass);
+    assert_eq!(rt; ended(&ends), 4);
+    let registration = collector.register(&rt, &mut pass).expect(&rt, "memory");
+    assert_eq!(rt; registration.thread_id(), 0);
+    assert!(rt; registration.end(&rt, &mut pass));
+    Ok(())
+}
+
+// The guard leaves on another thread.
+fn leave_elsewhere<R: Threads + Wait + Sync>(rt: &R, handed: Handed<'_, '_>) {
+    thread::join(rt, move || handed.leave(rt), || {});
+}
+
+// Retires four values by a guard that leaves then. It says whether memory was there for them.
+fn retire_four<'a>(rt: &impl Wait, collector: &Counting<'a>, ends: &'a AtomicU64) -> bool {
+    let mut pass = collector.pass();
+    let Ok(guard) = collector.enter_owned(rt, &mut pass) else {
+        return false;
+    };
+    let mut all = true;
+    for _ in 0..4u64 {
+        all = retire(rt, collector, &guard, ends) && all;
+    }
+    guard.leave(rt, &mut pass);
+    all
+}
+
+// A guard goes to another thread, and leaves there: what was retired meanwhile, two values in each batch, ends with that.
+#[test]
+fn a_guard_leaves_on_another_thread(rt: HostRuntime) -> Result<(), Fail> {
+    let ends = AtomicU64::new(0);
+    let collector = collector(rt.alloc(), 5)?;
+    let mut pass = collector.pass();
+    let reader = collector.enter_owned(&rt, &mut pass).expect(&rt, "memory");
+    assert!(rt; retire_four(&rt, &collector, &ends));
+    assert_eq!(rt; ended(&ends), 0);
+    leave_elsewhere(&rt, Handed(reader));
+    assert_eq!(rt; ended(&ends), 4);
+    Ok(())
+}
