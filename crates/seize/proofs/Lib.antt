@@ -12,5 +12,6 @@ pub mod Readable
 mod Numbered
 mod Ended
 mod Chunks
+pub mod Stands
 pub mod Facts
 mod Endings

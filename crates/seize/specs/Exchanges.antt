@@ -1,5 +1,6 @@
 -- What contracts see of an exchange that compares.
 --     current_name current     what the list calls the value that the caller takes a link to hold, or none
+--     IsCurrentOf collector current     it was found in a link of this collector, or there is none
 --     ComesBack new back       the block comes back with its content, of the same store, or there is neither
 --     FoundIn a o pass         where o is a value, it was found in a link in this activation, as the pass has seen
 --     TookFound a current pass held result     if the exchange was won, and `current` was found in this activation, as the pass had seen
@@ -19,7 +20,7 @@ use Rattle.seize_words.specs.Activations.{IsLasting}
 use Rattle.seize_words.specs.Chunks.{IsLiveAt}
 use Rattle.seize_words.specs.LinkWords.{WasFound}
 use Rattle.seize_words.specs.declared.activation.Activation.{Activation}
-use Rattle.seize.specs.Blocks.{ComesOut, Shows, content, shared_name, store_name, unlinked_collector}
+use Rattle.seize.specs.Blocks.{ComesOut, IsFoundOf, Shows, content, shared_name, store_name, unlinked_collector}
 use Rattle.seize.specs.declared.block.failed.Failed.{Failed}
 use Rattle.seize.specs.declared.block.owned.Owned.{Owned}
 use Rattle.seize.specs.declared.block.shared.Shared.{Shared}
@@ -29,6 +30,10 @@ use Rattle.seize.specs.declared.collector.Collector.{Collector}
 abbrev pub current_name : {T : Type 0} → Option (Bor (Shared T)) → Option ℕ
 current_name (Some shared) = shared_name shared.now
 current_name None = None
+
+abbrev pub IsCurrentOf : {T : Type 0} → Collector T → Option (Bor (Shared T)) → Type 0
+IsCurrentOf collector (Some shared) = IsFoundOf collector shared.now
+IsCurrentOf collector None = Unit {0}
 
 abbrev pub ComesBack : {T : Type 0} → Option (Owned T) → Option (Owned T) → Type 0
 ComesBack (Some new) (Some back) = (content back ≡ content new) × (store_name back ≡ store_name new)
@@ -52,4 +57,4 @@ abbrev pub IsOutcome : {T : Type 0} → (T → Gv) → Collector T → Option (O
     → Result (Option (Unlinked T)) (Failed T) → Type 0
 IsOutcome code collector new compare held (Ok out) =
     (compare ≡ held) × ComesOut held out × IfSome out (λ unlinked. unlinked_collector unlinked ≡ collector)
-IsOutcome code collector new compare held (Err failed) = (compare ≢ held) × Shows code held failed.found × ComesBack new failed.new
+IsOutcome code collector new compare held (Err failed) = (compare ≢ held) × Shows code collector held failed.found × ComesBack new failed.new

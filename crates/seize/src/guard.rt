@@ -36,7 +36,7 @@ impl<'r, 'c, T: Drop> LocalGuard<'r, 'c, T> {
     ghost use Rattle.seize.specs.Collectors.{IsBlockOf, IsPassOf, its_links};
     ghost use Rattle.seize_words.specs.Links.{comparand};
     ghost use Rattle.seize_table.specs.declared.refusal.Refusal.TheVariants.{NoMemory as no_memory};
-    ghost use Rattle.seize.specs.Exchanges.{FoundIn, IsOutcome, TookFound, current_name};
+    ghost use Rattle.seize.specs.Exchanges.{FoundIn, IsCurrentOf, IsOutcome, TookFound, current_name};
     ghost use Rattle.seize.specs.Guards.{IsGuardOf, guard_activation, guard_collector, guard_slot};
     ghost use Rattle.seize.specs.Makes.{MakesCall, MakesOne, StaysActive};
 
@@ -87,7 +87,7 @@ impl<'r, 'c, T: Drop> LocalGuard<'r, 'c, T> {
     pub fn protect(&self, link: usize, pass: &mut Pass) -> Option<Shared<'_, T>>
         requires of { IsPassOf (guard_collector self.now) pass.old × (link < its_links (guard_collector self.now)) }
         ensures { (held : Option ℕ) × MakesOne pass.old pass.new (ReadLink (guard_slot self.now) link) (Link held)
-            × Shows T.row.coded.code held result × FoundIn (guard_activation self.now) held pass.new }
+            × Shows T.row.coded.code (guard_collector self.now) held result × FoundIn (guard_activation self.now) held pass.new }
     {
         self.reader.protect(link, pass)
     }
@@ -132,6 +132,7 @@ impl<'r, 'c, T: Drop> LocalGuard<'r, 'c, T> {
     ) -> Result<Option<Unlinked<'c, T>>, Failed<'_, T>>
         requires of { IsPassOf (guard_collector self.now) pass.old × (link < its_links (guard_collector self.now)) }
         requires value { IfSome new (λ owned. IsBlockOf (guard_collector self.now) owned) }
+        requires current { IsCurrentOf (guard_collector self.now) current }
         ensures { (v : Option ℕ) × (held : Option ℕ) × IsNamed T.row.coded.code new v
             × (let compare = comparand (current_name current.entry) held in
             MakesOne pass.old pass.new (ExchangeLink (guard_slot self.now) link (Compare compare v)) (Link held)
@@ -152,6 +153,7 @@ impl<'r, 'c, T: Drop> LocalGuard<'r, 'c, T> {
     ) -> Result<Option<Unlinked<'c, T>>, Failed<'_, T>>
         requires of { IsPassOf (guard_collector self.now) pass.old × (link < its_links (guard_collector self.now)) }
         requires value { IfSome new (λ owned. IsBlockOf (guard_collector self.now) owned) }
+        requires current { IsCurrentOf (guard_collector self.now) current }
         ensures { (v : Option ℕ) × (held : Option ℕ) × IsNamed T.row.coded.code new v
             × (let compare = comparand (current_name current.entry) held in
             MakesOne pass.old pass.new (ExchangeLink (guard_slot self.now) link (Compare compare v)) (Link held)

@@ -44,7 +44,7 @@ impl<'c, T: Drop> OwnedGuard<'c, T> {
     ghost use Rattle.seize_calls.specs.Slots.{IsInactive, its_number};
     ghost use Rattle.seize.specs.Blocks.{ComesOut, IsNamed, Shows, content, unlinked_collector, unlinked_name};
     ghost use Rattle.seize.specs.Collectors.{IsBlockOf, IsPassOf, IsSlotFor, its_links};
-    ghost use Rattle.seize.specs.Exchanges.{FoundIn, IsOutcome, TookFound, current_name};
+    ghost use Rattle.seize.specs.Exchanges.{FoundIn, IsCurrentOf, IsOutcome, TookFound, current_name};
     ghost use Rattle.seize.specs.Makes.{LeavesAndGives, MakesCall, MakesOne};
     ghost use Rattle.seize.specs.OwnedGuards.{owned_activation, owned_collector, owned_slot};
 
@@ -109,7 +109,7 @@ impl<'c, T: Drop> OwnedGuard<'c, T> {
     pub fn protect(&self, link: usize, pass: &mut Pass) -> Option<Shared<'_, T>>
         requires of { IsPassOf (owned_collector self.now) pass.old × (link < its_links (owned_collector self.now)) }
         ensures { (held : Option ℕ) × MakesOne pass.old pass.new (ReadLink (owned_slot self.now) link) (Link held)
-            × Shows T.row.coded.code held result × FoundIn (owned_activation self.now) held pass.new }
+            × Shows T.row.coded.code (owned_collector self.now) held result × FoundIn (owned_activation self.now) held pass.new }
     {
         self.reader.protect(link, pass)
     }
@@ -154,6 +154,7 @@ impl<'c, T: Drop> OwnedGuard<'c, T> {
     ) -> Result<Option<Unlinked<'c, T>>, Failed<'_, T>>
         requires of { IsPassOf (owned_collector self.now) pass.old × (link < its_links (owned_collector self.now)) }
         requires value { IfSome new (λ owned. IsBlockOf (owned_collector self.now) owned) }
+        requires current { IsCurrentOf (owned_collector self.now) current }
         ensures { (v : Option ℕ) × (held : Option ℕ) × IsNamed T.row.coded.code new v
             × (let compare = comparand (current_name current.entry) held in
             MakesOne pass.old pass.new (ExchangeLink (owned_slot self.now) link (Compare compare v)) (Link held)
@@ -174,6 +175,7 @@ impl<'c, T: Drop> OwnedGuard<'c, T> {
     ) -> Result<Option<Unlinked<'c, T>>, Failed<'_, T>>
         requires of { IsPassOf (owned_collector self.now) pass.old × (link < its_links (owned_collector self.now)) }
         requires value { IfSome new (λ owned. IsBlockOf (owned_collector self.now) owned) }
+        requires current { IsCurrentOf (owned_collector self.now) current }
         ensures { (v : Option ℕ) × (held : Option ℕ) × IsNamed T.row.coded.code new v
             × (let compare = comparand (current_name current.entry) held in
             MakesOne pass.old pass.new (ExchangeLink (owned_slot self.now) link (Compare compare v)) (Link held)

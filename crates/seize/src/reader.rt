@@ -38,19 +38,20 @@ impl<'c, T: Drop> Reader<'c, T> {
     ghost use Rattle.seize_words.specs.Links.{comparand};
     ghost use Rattle.seize.specs.Blocks.{ComesOut, IsNamed, Shows, unlinked_collector};
     ghost use Rattle.seize.specs.Collectors.{IsBlockOf, IsPassOf, its_links};
-    ghost use Rattle.seize.specs.Exchanges.{FoundIn, IsOutcome, TookFound, current_name};
+    ghost use Rattle.seize.specs.Exchanges.{FoundIn, IsCurrentOf, IsOutcome, TookFound, current_name};
     ghost use Rattle.seize.specs.Makes.{MakesOne};
 
     /// Reads a link.
     pub(crate) fn protect(&self, link: usize, pass: &mut Pass) -> Option<Shared<'_, T>>
         requires of { IsPassOf self.now.collector.now pass.old × (link < its_links self.now.collector.now) }
         ensures { (held : Option ℕ) × MakesOne pass.old pass.new (ReadLink self.now.number link) (Link held)
-            × Shows T.row.coded.code held result × FoundIn self.now.unit held pass.new }
+            × Shows T.row.coded.code self.now.collector.now held result × FoundIn self.now.unit held pass.new }
     {
         pass.learn(&self.seen);
         let (word, found) = self.collector.words.find(link, &self.unit, pass);
         let found = found?;
-        Some(Shared::of(found.value, word, found.glimpse))
+        let book = &self.collector.words.blocks.book;
+        Some(Shared::of(found.value, word, found.glimpse, book))
     }
 
     /// Exchanges what a link holds.
@@ -85,6 +86,7 @@ impl<'c, T: Drop> Reader<'c, T> {
     ) -> Result<Option<Unlinked<'c, T>>, Failed<'_, T>>
         requires of { IsPassOf self.now.collector.now pass.old × (link < its_links self.now.collector.now) }
         requires value { IfSome new (λ owned. IsBlockOf self.now.collector.now owned) }
+        requires current { IsCurrentOf self.now.collector.now current }
         ensures { (v : Option ℕ) × (held : Option ℕ) × IsNamed T.row.coded.code new v
             × (let compare = comparand (current_name current.entry) held in
             MakesOne pass.old pass.new (ExchangeLink self.now.number link (Compare compare v)) (Link held)
@@ -110,7 +112,7 @@ impl<'c, T: Drop> Reader<'c, T> {
             look_back(&collector.words.blocks, old, &self.unit, pass);
             return Ok(Unlinked::found(collector, old, key));
         }
-        let found = shown(&collector.words.blocks, old, glimpse, pass);
+        let found = shown(collector, old, glimpse, pass);
         let new = came_back(collector, word, key, pass);
         Err(Failed { found, new })
     }

@@ -1,12 +1,16 @@
 //! A number that threads share: each reads and replaces it, by a registration of its own.
-ghost use Rattle.std.specs.Prelude.{◌<◌};
+ghost use base.Stored.{gnum};
+ghost use Rattle.std.specs.Prelude.{◌<◌, ℕ, IfSome};
+ghost use Rattle.seize.specs.Blocks.{HasContent};
 ghost use Rattle.seize.specs.Collectors.{IsPassOf, its_links};
+ghost use Rattle.seize.specs.Guards.{guard_collector, guard_slot};
 ghost use Rattle.seize.specs.Laws.{moments_seen, opening_of};
 ghost use Rattle.seize.specs.Makes.{MakesNone};
 ghost use Rattle.seize.specs.Registrations.{registered_in};
+ghost use Rattle.seize.specs.Machine.History.{Found, HasParted, Reclaimed};
 ghost use Rattle.seize.specs.Machine.Laws.{After};
 
-use seize::{Pass, Refusal, Registration};
+use seize::{LocalGuard, Pass, Refusal, Registration};
 use std::sync::Wait;
 
 /// The number in link 0, if there is one.
@@ -57,4 +61,17 @@ pub fn audit(registration: &Registration<'_, u64>, pass: &mut Pass)
     ensures after { After (opening_of pass.new) (moments_seen pass.new) }
 {
     registration.collector().laws(pass);
+}
+
+/// The number in link 0, which the guard found, after a look at the list. Each time that it was reclaimed in what the pass sees then, the
+/// guard's slot had left or refreshed since it was found. The guard stands, so that is never.
+pub fn read_and_audit(guard: &LocalGuard<'_, '_, u64>, pass: &mut Pass) -> Option<u64>
+    requires of { IsPassOf (guard_collector guard.now) pass.old × (0 < its_links (guard_collector guard.now)) }
+    ensures pass { IsPassOf (guard_collector guard.now) pass.new }
+    ensures found { IfSome result (λ n. (v : ℕ) × HasContent gnum v n × (e : ℕ) × Found (moments_seen pass.new) (guard_slot guard.now) v e
+        × ((c : ℕ) → Reclaimed (moments_seen pass.new) v c → HasParted (moments_seen pass.new) (guard_slot guard.now) e c)) }
+{
+    let found = guard.protect(0, pass)?;
+    guard.collector().laws(pass);
+    Some(*found)
 }

@@ -8,7 +8,7 @@ ghost use Rattle.seize_words.specs.Links.{comparand};
 ghost use Rattle.seize_table.specs.declared.refusal.Refusal.TheVariants.{NoMemory as no_memory};
 ghost use Rattle.seize.specs.Blocks.{ComesOut, IsNamed, Shows, content, unlinked_collector, unlinked_name};
 ghost use Rattle.seize.specs.Collectors.{IsBlockOf, IsPassOf, its_links};
-ghost use Rattle.seize.specs.Exchanges.{FoundIn, IsOutcome, TookFound, current_name};
+ghost use Rattle.seize.specs.Exchanges.{FoundIn, IsCurrentOf, IsOutcome, TookFound, current_name};
 ghost use Rattle.seize.specs.Makes.{MakesCall, MakesOne, StaysActive};
 ghost use Rattle.seize_words.specs.declared.activation.Activation.{Activation};
 ghost use Rattle.seize.specs.declared.collector.Collector.{Collector};
@@ -52,7 +52,7 @@ pub trait Guard<T: Drop> {
     fn protect(&self, link: usize, pass: &mut Pass) -> Option<Shared<'_, T>>
         requires of { IsPassOf (guarded self.now) pass.old × (link < its_links (guarded self.now)) }
         ensures { (held : Option ℕ) × MakesOne pass.old pass.new (ReadLink (number self.now) link) (Link held)
-            × Shows T.row.coded.code held result × FoundIn (activation self.now) held pass.new };
+            × Shows T.row.coded.code (guarded self.now) held result × FoundIn (activation self.now) held pass.new };
 
     /// Exchanges what a link holds for this block, or for none: the event `ExchangeLink`. It gives what the link held.
     fn swap(&self, link: usize, value: Option<Owned<T>>, pass: &mut Pass) -> Option<Unlinked<'_, T>>
@@ -77,6 +77,7 @@ pub trait Guard<T: Drop> {
     ) -> Result<Option<Unlinked<'_, T>>, Failed<'_, T>>
         requires of { IsPassOf (guarded self.now) pass.old × (link < its_links (guarded self.now)) }
         requires value { IfSome new (λ owned. IsBlockOf (guarded self.now) owned) }
+        requires current { IsCurrentOf (guarded self.now) current }
         ensures { (v : Option ℕ) × (held : Option ℕ) × IsNamed T.row.coded.code new v
             × (let compare = comparand (current_name current.entry) held in
             MakesOne pass.old pass.new (ExchangeLink (number self.now) link (Compare compare v)) (Link held)
@@ -94,6 +95,7 @@ pub trait Guard<T: Drop> {
     ) -> Result<Option<Unlinked<'_, T>>, Failed<'_, T>>
         requires of { IsPassOf (guarded self.now) pass.old × (link < its_links (guarded self.now)) }
         requires value { IfSome new (λ owned. IsBlockOf (guarded self.now) owned) }
+        requires current { IsCurrentOf (guarded self.now) current }
         ensures { (v : Option ℕ) × (held : Option ℕ) × IsNamed T.row.coded.code new v
             × (let compare = comparand (current_name current.entry) held in
             MakesOne pass.old pass.new (ExchangeLink (number self.now) link (Compare compare v)) (Link held)

@@ -7,7 +7,7 @@ ghost use Rattle.seize_machine.specs.declared.machine.event.Job.TheVariants.{Ret
 ghost use Rattle.seize_words.specs.Links.{comparand};
 ghost use Rattle.seize.specs.Blocks.{ComesOut, IsNamed, unlinked_collector, unlinked_name};
 ghost use Rattle.seize.specs.Collectors.{IsBlockOf, IsPassOf, its_links};
-ghost use Rattle.seize.specs.Exchanges.{FoundIn, IsOutcome, TookFound, current_name};
+ghost use Rattle.seize.specs.Exchanges.{FoundIn, IsCurrentOf, IsOutcome, TookFound, current_name};
 ghost use Rattle.seize.specs.Makes.{MakesCall, MakesOne};
 ghost use Rattle.seize.specs.OwnedGuards.{owned_activation, owned_collector, owned_slot};
 
@@ -61,6 +61,7 @@ impl<T: Drop> Guard<T> for OwnedGuard<'_, T> {
     ) -> Result<Option<Unlinked<'_, T>>, Failed<'_, T>>
         requires of { IsPassOf (owned_collector self.now) pass.old × (link < its_links (owned_collector self.now)) }
         requires value { IfSome new (λ owned. IsBlockOf (owned_collector self.now) owned) }
+        requires current { IsCurrentOf (owned_collector self.now) current }
         ensures { (v : Option ℕ) × (held : Option ℕ) × IsNamed T.row.coded.code new v
             × (let compare = comparand (current_name current.entry) held in
             MakesOne pass.old pass.new (ExchangeLink (owned_slot self.now) link (Compare compare v)) (Link held)
@@ -80,6 +81,7 @@ impl<T: Drop> Guard<T> for OwnedGuard<'_, T> {
     ) -> Result<Option<Unlinked<'_, T>>, Failed<'_, T>>
         requires of { IsPassOf (owned_collector self.now) pass.old × (link < its_links (owned_collector self.now)) }
         requires value { IfSome new (λ owned. IsBlockOf (owned_collector self.now) owned) }
+        requires current { IsCurrentOf (owned_collector self.now) current }
         ensures { (v : Option ℕ) × (held : Option ℕ) × IsNamed T.row.coded.code new v
             × (let compare = comparand (current_name current.entry) held in
             MakesOne pass.old pass.new (ExchangeLink (owned_slot self.now) link (Compare compare v)) (Link held)
