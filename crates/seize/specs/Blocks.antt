@@ -6,7 +6,8 @@
 --     unlinked_name u           what the list calls the value that is in no link;  unlinked_collector u     its collector
 --     IsNamed code owned o      o is what the list calls the value of this block, or there is neither
 --     IsFoundOf collector shared     it was found in a link of this collector
---     Shows code collector held shared    what was found is what the link held, a block of this collector with that value; or there is neither
+--     Shows code collector held shared     what was found is what the link held, a block of this collector with that value; or there is
+--                               neither
 --     ComesOut held u           what came out is what the link held, or there is neither
 use Rattle.std.specs.Prelude.{◌≡◌, ℕ, Option, None, Some, List}
 use base.Stored.{Gv}

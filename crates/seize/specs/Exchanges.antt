@@ -57,4 +57,5 @@ abbrev pub IsOutcome : {T : Type 0} → (T → Gv) → Collector T → Option (O
     → Result (Option (Unlinked T)) (Failed T) → Type 0
 IsOutcome code collector new compare held (Ok out) =
     (compare ≡ held) × ComesOut held out × IfSome out (λ unlinked. unlinked_collector unlinked ≡ collector)
-IsOutcome code collector new compare held (Err failed) = (compare ≢ held) × Shows code collector held failed.found × ComesBack new failed.new
+IsOutcome code collector new compare held (Err failed) =
+    (compare ≢ held) × Shows code collector held failed.found × ComesBack new failed.new
