@@ -1,6 +1,6 @@
 -- What was made with a pass, as users see it: the events with their answers, and no more.
 --     made_with pass          the events that were made with it, with their answers, in order
---     IsAmong x made          this event, with this answer, is among those that were made
+--     WasMade x made          this event, with this answer, is among those that were made
 --     Makes pass pass' events     the pass has seen a legal list that goes on from what it had seen, and just these events were made with
 --                             it since: each stands in that list once, in order, after all that it had seen before
 --     IsActiveIn pass s       slot s is active in the list that the pass has seen
@@ -31,9 +31,9 @@ use Rattle.seize_book.specs.declared.book.pass.Pass.{Pass}
 abbrev pub made_with : Pass → List (Event × Answer)
 made_with pass = map (λ (made : Deed × Answer). (made.0.event, made.1)) (events_by pass)
 
-abbrev pub IsAmong : Event × Answer → List (Event × Answer) → Type 0
-IsAmong x [] = ⊥
-IsAmong x (y ∷ made) = (y ≡ x) ⊎ IsAmong x made
+abbrev pub WasMade : Event × Answer → List (Event × Answer) → Type 0
+WasMade x [] = ⊥
+WasMade x (y ∷ made) = (y ≡ x) ⊎ WasMade x made
 
 pub record Makes (pass pass' : Pass) (events : List (Event × Answer)) : Type 0 where
   pub same : IsSamePass pass pass'
