@@ -1,31 +1,31 @@
 //! A block in the place of the one that was read: how a structure without locks changes a link.
-ghost use Rattle.std.specs.Prelude.{◌≡◌, ◌<◌, ℕ, Option, [], ◌∷◌, IfOk, IfSome};
-ghost use Rattle.seize.specs.Blocks.{unlinked_collector};
+ghost use base.Stored.{gnum};
+ghost use Rattle.std.specs.Prelude.{◌≡◌, ◌<◌, ℕ, Option, Some, [], ◌∷◌, IfOk, IfSome};
+ghost use Rattle.seize.specs.Blocks.{IsNamed, unlinked_collector};
 ghost use Rattle.seize.specs.Collectors.{IsBlockOf, IsPassOf, its_links};
-ghost use Rattle.seize.specs.Guards.{guard_collector, guard_slot};
 ghost use Rattle.seize.specs.Machine.Event.{ExchangeLink, ReadLink};
 ghost use Rattle.seize.specs.Makes.{Makes};
 ghost use Rattle.seize.specs.Registrations.{registered_in};
 ghost use Rattle.seize_machine.specs.declared.machine.event.Answer.TheVariants.{Link};
 ghost use Rattle.seize_machine.specs.declared.machine.event.Exchange.TheVariants.{Compare};
 
-use seize::{LocalGuard, Owned, Pass, Refusal, Registration, Unlinked};
+use seize::{Guard, Owned, Pass, Refusal, Registration, Unlinked};
 use std::sync::Wait;
 
-/// Puts the block into link 0 in the place of the one that is there. Where the link is empty, or another thread is faster, the block comes
+/// Puts the block into link 0 in the place of the one that is there, by a guard of either kind. Where the link is empty, or another thread is faster, the block comes
 /// back. The value that comes out is the one that was read, and no other value of the same block, since that is not used again while the
 /// guard stands.
-pub fn replace_read<'c>(
-    guard: &LocalGuard<'_, 'c, u64>,
+pub fn replace_read<'g, G: Guard<u64>>(
+    guard: &'g G,
     new: Owned<u64>,
     pass: &mut Pass,
-) -> Result<Option<Unlinked<'c, u64>>, Option<Owned<u64>>>
-    requires of { IsPassOf (guard_collector guard.now) pass.old × (0 < its_links (guard_collector guard.now)) }
-    requires value { IsBlockOf (guard_collector guard.now) new }
-    ensures pass { IsPassOf (guard_collector guard.now) pass.new }
-    ensures of { IfOk result (λ out. IfSome out (λ old. unlinked_collector old ≡ guard_collector guard.now)) }
-    ensures took { IfOk result (λ _. (held : Option ℕ) × (v : Option ℕ) × Makes pass.old pass.new
-        ((ReadLink (guard_slot guard.now) 0, Link held) ∷ (ExchangeLink (guard_slot guard.now) 0 (Compare held v), Link held) ∷ [])) }
+) -> Result<Option<Unlinked<'g, u64>>, Option<Owned<u64>>>
+    requires of { IsPassOf (G.guarded guard.now) pass.old × (0 < its_links (G.guarded guard.now)) }
+    requires value { IsBlockOf (G.guarded guard.now) new }
+    ensures pass { IsPassOf (G.guarded guard.now) pass.new }
+    ensures of { IfOk result (λ out. IfSome out (λ old. unlinked_collector old ≡ G.guarded guard.now)) }
+    ensures took { IfOk result (λ _. (held : Option ℕ) × (v : Option ℕ) × IsNamed gnum (Some new) v × Makes pass.old pass.new
+        ((ReadLink (G.number guard.now) 0, Link held) ∷ (ExchangeLink (G.number guard.now) 0 (Compare held v), Link held) ∷ [])) }
 {
     let Some(found) = guard.protect(0, pass) else {
         return Err(Some(new));
