@@ -13,6 +13,8 @@ pub use Rattle.seize.proofs.Found.{found_still, read_replaced}
 pub use Rattle.seize.proofs.Made.{makes_then}
 -- what was made with a pass stays made, and stands among the moments of which the laws speak
 pub use Rattle.seize.proofs.Stands.{made_now, made_stands, made_still, read_found}
+-- and a value whose retirement returned is retired there
+pub use Rattle.seize.proofs.Retired.{call_still, retired_by}
 
 -- A name says one content: `coded` is `T.row.coded`.
 pub content_once : {T : Type 0} (coded : Coded T) (v : ℕ) (x y : T) → HasContent coded.code v x → HasContent coded.code v y → x ≡ y

@@ -13,5 +13,6 @@ mod Numbered
 mod Ended
 mod Chunks
 pub mod Stands
+pub mod Retired
 pub mod Facts
 mod Endings

@@ -29,7 +29,7 @@ kept x (Made d, answer) some all false more among = inr (more among)
 kept x (Used u, answer) some all true more among = more among
 kept x (Used u, answer) some all false more among = more among
 
-picked : (test : Entry × Answer → Bool) (es : List (Entry × Answer)) (x : Event × Answer) → WasMade x (map as_made (events_in (filter test es))) → WasMade x (map as_made (events_in es))
+pub picked : (test : Entry × Answer → Bool) (es : List (Entry × Answer)) (x : Event × Answer) → WasMade x (map as_made (events_in (filter test es))) → WasMade x (map as_made (events_in es))
 picked test [] x among = among
 picked test (e ∷ es) x among = kept x e (filter test es) es (test e) (picked test es x) among
 
@@ -50,7 +50,7 @@ made_before x [] fs among = absurd among
 made_before x (e ∷ es) fs (inl same) = inl same
 made_before x (e ∷ es) fs (inr more) = inr (made_before x es fs more)
 
-made_after : (x : Event × Answer) (es fs : List (Event × Answer)) → WasMade x fs → WasMade x (es ++ fs)
+pub made_after : (x : Event × Answer) (es fs : List (Event × Answer)) → WasMade x fs → WasMade x (es ++ fs)
 made_after x [] fs among = among
 made_after x (e ∷ es) fs among = inr (made_after x es fs among)
 

@@ -1,16 +1,16 @@
 //! A number that threads share: each reads and replaces it, by a registration of its own.
 ghost use base.Stored.{gnum};
-ghost use Rattle.std.specs.Prelude.{◌<◌, ℕ, IfSome};
-ghost use Rattle.seize.specs.Blocks.{HasContent};
+ghost use Rattle.std.specs.Prelude.{◌≡◌, ◌<◌, ℕ, IfSome};
+ghost use Rattle.seize.specs.Blocks.{HasContent, unlinked_collector, unlinked_name};
 ghost use Rattle.seize.specs.Collectors.{IsPassOf, its_links};
 ghost use Rattle.seize.specs.Guards.{guard_collector, guard_slot};
 ghost use Rattle.seize.specs.Laws.{moments_seen, opening_of};
 ghost use Rattle.seize.specs.Makes.{MakesNone};
 ghost use Rattle.seize.specs.Registrations.{registered_in};
-ghost use Rattle.seize.specs.Machine.History.{Found, HasParted, Reclaimed};
+ghost use Rattle.seize.specs.Machine.History.{Found, HasParted, IsActiveAt, Reclaimed, Retired};
 ghost use Rattle.seize.specs.Machine.Laws.{After};
 
-use seize::{LocalGuard, Pass, Refusal, Registration};
+use seize::{LocalGuard, Pass, Refusal, Registration, Unlinked};
 use std::sync::Wait;
 
 /// The number in link 0, if there is one.
@@ -74,4 +74,21 @@ pub fn read_and_audit(guard: &LocalGuard<'_, '_, u64>, pass: &mut Pass) -> Optio
     let found = guard.protect(0, pass)?;
     guard.collector().laws(pass);
     Some(*found)
+}
+
+/// Retires a number that came out of a link, and looks at the list. The retirement stands there; and each time that the number was
+/// reclaimed in what the pass sees then, that was after it, and each slot that was active at it had left or refreshed in between.
+pub fn retire_and_audit<W: Wait>(
+    guard: &LocalGuard<'_, '_, u64>,
+    value: Unlinked<'_, u64>,
+    rt: &W,
+    pass: &mut Pass,
+)
+    requires of { IsPassOf (guard_collector guard.now) pass.old × (unlinked_collector value ≡ guard_collector guard.now) }
+    ensures pass { IsPassOf (guard_collector guard.now) pass.new }
+    ensures retired { let v = unlinked_name value.entry in let ms = moments_seen pass.new in (q : ℕ) × Retired ms v q
+        × ((c : ℕ) → Reclaimed ms v c → (q < c) × ((s : ℕ) → IsActiveAt ms s q → HasParted ms s q c)) }
+{
+    guard.defer_retire(rt, pass, value);
+    guard.collector().laws(pass);
 }
