@@ -10,9 +10,9 @@ use Rattle.seize.specs.declared.block.shared.Shared.{Shared}
 use Rattle.seize.specs.declared.collector.Collector.{Collector}
 -- what was found stays found, and a won exchange of it took out that; and what one call makes and then another
 pub use Rattle.seize.proofs.Found.{found_still, read_replaced}
-pub use Rattle.seize.proofs.Made.{makes_then}
--- what was made with a pass stays made, and stands among the moments of which the laws speak
-pub use Rattle.seize.proofs.Stands.{made_now, made_stands, made_still, read_found}
+pub use Rattle.seize.proofs.Made.{makes_then, then_none}
+-- what calls made with a pass stands among the moments of which the laws speak
+pub use Rattle.seize.proofs.Stands.{made_since, read_found}
 -- and a value whose retirement returned is retired there
 pub use Rattle.seize.proofs.Retired.{call_still, retired_by}
 

@@ -12,6 +12,7 @@ pub mod Readable
 mod Numbered
 mod Ended
 mod Chunks
+pub mod Protected
 pub mod Stands
 pub mod Retired
 pub mod Facts

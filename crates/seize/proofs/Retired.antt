@@ -1,20 +1,19 @@
 -- A value whose retirement a pass made is retired among the moments that it has seen, since the call returned: between its begin and its
 -- return the slot can only put it into its batch.
 use Rattle.std.proofs.Common.{◌≡◌, ℕ, zero, suc, ◌<◌, ◌≤◌, Bool, true, false, cond, ◌==◌, ◌⊎◌, List, [], ◌∷◌, ◌++◌, filter, length, map, Option, None, Some, inl, inr, refl, sym, ap, subst, ◌∙◌}
-use Rattle.std.specs.Prelude.{slice_get}
 use Rattle.std.proofs.lemmas.List.{get_or-set_same, get_or_past}
 use Rattle.std.proofs.lemmas.Bool.{cases_lt, false≢true}
 use Rattle.seize_machine.specs.Machine.Event.{Event, Take, Give, Enter, Begin, Put, ReadHead, Detach, Insert, AddCount, SwapOut, SubCount, Hand, Return, ReadLink, ExchangeLink, event_slot}
 use Rattle.seize_machine.specs.Machine.Frames.{changes_slot}
 use Rattle.seize_machine.specs.Machine.History.{Moment, Retired, Timed, and_then, are_legal, call_value, is_legal, is_link_event, or_illegal, retired_value}
 use Rattle.seize_machine.specs.Machine.Next.{Outcome, begun_at, next}
-use Rattle.seize_machine.specs.Machine.State.{Append, Call, Slot, State, is_idle, no_slot, slot_at}
+use Rattle.seize_machine.specs.Machine.State.{Append, Slot, State, is_idle, no_slot, slot_at}
 use Rattle.seize_machine.specs.declared.machine.event.Answer.{Answer}
-use Rattle.seize_machine.specs.declared.machine.event.Answer.TheVariants.{Done, Illegal}
+use Rattle.seize_machine.specs.declared.machine.event.Answer.TheVariants.{Done}
 use Rattle.seize_machine.specs.declared.machine.event.Job.{Job}
 use Rattle.seize_machine.specs.declared.machine.event.Job.TheVariants.{Retire}
 use Rattle.seize_machine.proofs.Facts.{Stands, Step, and_true, eq_true, forced, slot_frame, step_of}
-use Rattle.seize_book.specs.Book.{IsLegalList, mine, moments, outcome, with_answers}
+use Rattle.seize_book.specs.Book.{IsLegalList, moments, with_answers}
 use Rattle.seize_book.specs.Entry.{Deed, Entry, Made, Use, Used, maker, timed_deed}
 use Rattle.seize_book.specs.Passes.{events_in}
 use Rattle.seize_book.specs.Tokens.{start}

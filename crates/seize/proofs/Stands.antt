@@ -1,18 +1,18 @@
 -- What was made with a pass stands among the moments that it has seen. So the laws, which speak of these, speak of a user's own calls.
-use Rattle.std.proofs.Common.{◌≡◌, ℕ, zero, suc, Bool, true, false, cond, ◌==◌, ◌⊎◌, List, [], ◌∷◌, ◌++◌, filter, map, Option, Some, inl, inr, refl, sym, ap, subst, ◌∙◌}
+use Rattle.std.proofs.Common.{◌≡◌, ℕ, zero, suc, ◌≤◌, Bool, true, false, arith, cond, ◌==◌, ◌⊎◌, List, [], ◌∷◌, ◌++◌, filter, length, map, Some, inl, inr, refl, sym, ap, subst, ◌∙◌}
 use Rattle.std.specs.Prelude.{slice_get}
 use Rattle.seize_machine.specs.Machine.State.{State}
 use Rattle.seize_machine.specs.Machine.Event.{Event, ReadLink}
 use Rattle.seize_machine.specs.Machine.History.{Found, Moment, is_link_event, linked_value, or_illegal}
 use Rattle.seize_machine.specs.declared.machine.event.Answer.{Answer}
-use Rattle.seize_machine.specs.declared.machine.event.Answer.TheVariants.{Link}
-use Rattle.seize_book.specs.Book.{mine, moments, outcome, with_answers}
-use Rattle.seize_book.specs.Entry.{Entry, Made, Used, maker}
+use Rattle.seize_machine.specs.declared.machine.event.Answer.TheVariants.{Done, Link}
+use Rattle.seize_book.specs.Book.{moments, outcome, with_answers}
+use Rattle.seize_book.specs.Entry.{Deed, Entry, Made, Used, maker}
 use Rattle.seize_book.specs.Passes.{events_in}
-use Rattle.seize_book.specs.Tokens.{start}
+use Rattle.seize_book.specs.Tokens.{Name, start}
 use Rattle.seize_book.specs.declared.book.pass.Pass.{Pass}
 use Rattle.seize.specs.Laws.{moments_seen}
-use Rattle.seize.specs.Makes.{WasMade, Makes, MakesOne, made_with}
+use Rattle.seize.specs.Makes.{Makes, WasMade, made_with}
 use Rattle.seize_book.proofs.Facts.{equal}
 use Rattle.seize.proofs.Made.{as_made}
 
@@ -40,29 +40,55 @@ stands st (Made d ∷ log) x (inl same) = (zero, (_, refl, ap (λ (y : Event × 
 stands st (Made d ∷ log) x (inr more) = let there = stands (or_illegal st (outcome st (Made d))).0 log x more in (suc there.0, there.1)
 stands st (Used u ∷ log) x more = stands st log x more
 
-pub made_stands : (pass : Pass) (x : Event × Answer) → WasMade x (made_with pass) → (e : ℕ) × StandsAt (moments_seen pass) x e
-made_stands pass x among = stands (start pass.name) pass.seen x (picked (λ a. maker a.0 == pass.id) (with_answers (start pass.name) pass.seen) x among)
+-- what is picked of a list, beyond what is picked of its beginning, stands after that
+abbrev picks : (Entry × Answer → Bool) → State → List Entry → List (Event × Answer)
+picks test st log = map as_made (events_in (filter test (with_answers st log)))
 
--- Of what was made by a call, and of what was made before it.
+abbrev StandsAfter : State → List Entry → List Entry → Event × Answer → Type 0
+StandsAfter st a b x = (e : ℕ) × (length (moments st a) ≤ e) × StandsAt (moments st (a ++ b)) x e
 
-made_before : (x : Event × Answer) (es fs : List (Event × Answer)) → WasMade x es → WasMade x (es ++ fs)
-made_before x [] fs among = absurd among
-made_before x (e ∷ es) fs (inl same) = inl same
-made_before x (e ∷ es) fs (inr more) = inr (made_before x es fs more)
+abbrev rest_of : {A : Type 0} → List A → List A
+rest_of [] = []
+rest_of (y ∷ ys) = ys
+
+one_on : (st : State) (d : Deed) (a b : List Entry) (x : Event × Answer) → StandsAfter (or_illegal st (outcome st (Made d))).0 a b x → StandsAfter st (Made d ∷ a) b x
+one_on st d a b x there = (suc there.0, omega (arith, there.1), there.2)
+
+-- the first entry of the beginning is picked on both sides, or on neither
+dropped : (e : Entry × Answer) (some more : List (Entry × Answer)) (es : List (Event × Answer)) (b : Bool)
+    → map as_made (events_in (cond b (e ∷ some) some)) ≡ map as_made (events_in (cond b (e ∷ more) more)) ++ es → map as_made (events_in some) ≡ map as_made (events_in more) ++ es
+dropped (Made d, answer) some more es true is = ap rest_of is
+dropped (Made d, answer) some more es false is = is
+dropped (Used u, answer) some more es true is = is
+dropped (Used u, answer) some more es false is = is
+
+stands_after : (test : Entry × Answer → Bool) (st : State) (a b : List Entry) (es : List (Event × Answer)) (x : Event × Answer) → picks test st (a ++ b) ≡ picks test st a ++ es → WasMade x es → StandsAfter st a b x
+stands_after test st [] b es x is made = let there = stands st b x (picked test (with_answers st b) x (subst (WasMade x) (sym is) made)) in (there.0, omega arith, there.1)
+stands_after test st (Made d ∷ a) b es x is made =
+    let done = or_illegal st (outcome st (Made d)) in
+    one_on st d a b x (stands_after test done.0 a b es x (dropped (Made d, done.1) (filter test (with_answers done.0 (a ++ b))) (filter test (with_answers done.0 a)) es (test (Made d, done.1)) is) made)
+stands_after test st (Used u ∷ a) b es x is made =
+    stands_after test st a b es x (dropped (Used u, Done) (filter test (with_answers st (a ++ b))) (filter test (with_answers st a)) es (test (Used u, Done)) is) made
+
+-- **What calls made with a pass stands among the moments that it has seen since**, after all that it had seen before.
+pub made_since : (x : Event × Answer) {p q : Pass} {es : List (Event × Answer)} → Makes p q es → WasMade x es → (e : ℕ) × (length (moments_seen p) ≤ e) × StandsAt (moments_seen q) x e
+made_since x {p} {q} {es} makes made =
+    let test : ℕ → Entry × Answer → Bool = λ id a. maker a.0 == id in
+    let same : (p.name ≡ q.name) × (p.id ≡ q.id) = (sym makes.same.0, sym makes.same.1) in
+    let is : picks (test q.id) (start q.name) (p.seen ++ makes.grows.0) ≡ picks (test q.id) (start q.name) p.seen ++ es =
+        subst (λ (seen : List Entry). picks (test q.id) (start q.name) seen ≡ picks (test q.id) (start q.name) p.seen ++ es) (sym makes.grows.1)
+        (subst (λ (t : Name × ℕ). made_with q ≡ picks (test t.1) (start t.0) p.seen ++ es) (λ j. (same.0 j, same.1 j)) makes.made) in
+    let there = stands_after (test q.id) (start q.name) p.seen makes.grows.0 es x is made in (
+      there.0,
+      subst (λ (n : Name). length (moments (start n) p.seen) ≤ there.0) (sym same.0) there.1,
+      subst (λ (seen : List Entry). StandsAt (moments (start q.name) seen) x there.0) (makes.grows.1) there.2,
+    )
 
 pub made_after : (x : Event × Answer) (es fs : List (Event × Answer)) → WasMade x fs → WasMade x (es ++ fs)
 made_after x [] fs among = among
 made_after x (e ∷ es) fs among = inr (made_after x es fs among)
 
--- what was made stays made
-pub made_still : (x : Event × Answer) {p q : Pass} {es : List (Event × Answer)} → Makes p q es → WasMade x (made_with p) → WasMade x (made_with q)
-made_still x {p} {q} {es} makes among = subst (WasMade x) (sym makes.made) (made_before x (made_with p) es among)
-
--- and what a call made is made then
-pub made_now : (x : Event × Answer) {p q : Pass} {es : List (Event × Answer)} → Makes p q es → WasMade x es → WasMade x (made_with q)
-made_now x {p} {q} {es} makes among = subst (WasMade x) (sym makes.made) (made_after x (made_with p) es among)
-
--- What a pass read in a link is found there, as the laws say it.
-pub read_found : (pass : Pass) (s l v : ℕ) → WasMade (ReadLink s l, Link (Some v)) (made_with pass) → (e : ℕ) × Found (moments_seen pass) s v e
-read_found pass s l v among = let there = made_stands pass (ReadLink s l, Link (Some v)) among in
-    (there.0, (there.1.0, there.1.1, ap (is_link_event s) there.1.2 ∙ equal s s refl, ap linked_value there.1.3))
+-- What was read in a link with a pass is found there, as the laws say it, after all that the pass had seen before.
+pub read_found : (s l v : ℕ) {p q : Pass} {es : List (Event × Answer)} → Makes p q es → WasMade (ReadLink s l, Link (Some v)) es → (e : ℕ) × (length (moments_seen p) ≤ e) × Found (moments_seen q) s v e
+read_found s l v makes made = let there = made_since (ReadLink s l, Link (Some v)) makes made in
+    (there.0, there.1, (there.2.0, there.2.1, ap (is_link_event s) there.2.2 ∙ equal s s refl, ap linked_value there.2.3))

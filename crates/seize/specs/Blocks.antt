@@ -6,6 +6,7 @@
 --     unlinked_name u           what the list calls the value that is in no link;  unlinked_collector u     its collector
 --     IsNamed code owned o      o is what the list calls the value of this block, or there is neither
 --     IsFoundOf collector shared     it was found in a link of this collector
+--     AreOfOneCollector shared other     both were found in links of one collector
 --     Shows code collector held shared     what was found is what the link held, a block of this collector with that value; or there is
 --                               neither
 --     ComesOut held u           what came out is what the link held, or there is neither
@@ -52,6 +53,9 @@ IsNamed code _ _ = ⊥
 
 abbrev pub IsFoundOf : {T : Type 0} → Collector T → Shared T → Type 0
 IsFoundOf collector shared = shared.book.name ≡ words_book collector.words
+
+abbrev pub AreOfOneCollector : {T : Type 0} → Shared T → Shared T → Type 0
+AreOfOneCollector shared other = shared.book.name ≡ other.book.name
 
 abbrev pub Shows : {T : Type 0} → (T → Gv) → Collector T → Option ℕ → Option (Shared T) → Type 0
 Shows code collector held (Some shared) =

@@ -1,8 +1,11 @@
 -- What contracts see of an exchange that compares.
 --     current_name current     what the list calls the value that the caller takes a link to hold, or none
 --     IsCurrentOf collector current     it was found in a link of this collector, or there is none
+--     MakesExchange code collector s a link current new pass pass' result     slot s made one event, an exchange that compares: `put` is what
+--                              the list calls the new block, and `held` what the link held at the event
 --     ComesBack new back       the block comes back with its content, of the same store, or there is neither
 --     FoundIn a o pass         where o is a value, it was found in a link in this activation, as the pass has seen
+--     Protects a pass          no value that was found in this activation, as the pass has seen, is reclaimed in what it has seen
 --     TookFound a current pass held result     if the exchange was won, and `current` was found in this activation, as the pass had seen
 --                              before, the link held just that
 --     StandsAlone a word pass later     where the word is that of a block, the pass has looked at the list since; the activation has not
@@ -14,13 +17,20 @@ use denote.Bor.{Bor}
 use base.Stored.{Gv}
 use Rattle.core.specs.declared.result.Result.{Result}
 use Rattle.core.specs.declared.result.Result.TheVariants.{Err, Ok}
+use Rattle.seize_machine.specs.Machine.Event.{ExchangeLink}
+use Rattle.seize_machine.specs.Machine.History.{Reclaimed}
+use Rattle.seize_machine.specs.declared.machine.event.Answer.TheVariants.{Link}
+use Rattle.seize_machine.specs.declared.machine.event.Exchange.TheVariants.{Compare}
 use Rattle.seize_book.specs.declared.book.pass.Pass.{Pass}
 use Rattle.seize_book.specs.Passes.{LooksOn}
 use Rattle.seize_words.specs.Activations.{IsLasting}
 use Rattle.seize_words.specs.Chunks.{IsLiveAt}
 use Rattle.seize_words.specs.LinkWords.{WasFound}
+use Rattle.seize_words.specs.Links.{comparand}
 use Rattle.seize_words.specs.declared.activation.Activation.{Activation}
-use Rattle.seize.specs.Blocks.{ComesOut, IsFoundOf, Shows, content, shared_name, store_name, unlinked_collector}
+use Rattle.seize.specs.Blocks.{ComesOut, IsFoundOf, IsNamed, Shows, content, shared_name, store_name, unlinked_collector}
+use Rattle.seize.specs.Laws.{moments_seen}
+use Rattle.seize.specs.Makes.{MakesOne}
 use Rattle.seize.specs.declared.block.failed.Failed.{Failed}
 use Rattle.seize.specs.declared.block.owned.Owned.{Owned}
 use Rattle.seize.specs.declared.block.shared.Shared.{Shared}
@@ -43,6 +53,9 @@ ComesBack _ _ = ⊥
 abbrev pub FoundIn : Activation → Option ℕ → Pass → Type 0
 FoundIn a o pass = (v : ℕ) → o ≡ Some v → WasFound a v pass
 
+abbrev pub Protects : Activation → Pass → Type 0
+Protects a pass = (v k : ℕ) → FoundIn a (Some v) pass → ¬ (Reclaimed (moments_seen pass) v k)
+
 abbrev pub TookFound : {T : Type 0} → Activation → Option ℕ → Pass → Option ℕ → Result (Option (Unlinked T)) (Failed T) → Type 0
 TookFound a current pass held (Ok out) = FoundIn a current pass → held ≡ current
 TookFound a current pass held (Err failed) = Unit {0}
@@ -59,3 +72,13 @@ IsOutcome code collector new compare held (Ok out) =
     (compare ≡ held) × ComesOut held out × IfSome out (λ unlinked. unlinked_collector unlinked ≡ collector)
 IsOutcome code collector new compare held (Err failed) =
     (compare ≢ held) × Shows code collector held failed.found × ComesBack new failed.new
+
+pub record MakesExchange {T : Type 0} (code : T → Gv) (collector : Collector T) (s : ℕ) (a : Activation) (link : ℕ) (current : Option ℕ)
+    (new : Option (Owned T)) (pass pass' : Pass) (result : Result (Option (Unlinked T)) (Failed T)) : Type 0 where
+  pub put : Option ℕ
+  pub held : Option ℕ
+  pub named : IsNamed code new put
+  pub made : MakesOne pass pass' (ExchangeLink s link (Compare (comparand current held) put)) (Link held)
+  pub outcome : IsOutcome code collector new (comparand current held) held result
+  pub found : FoundIn a held pass'
+  pub took : TookFound a current pass held result

@@ -30,15 +30,14 @@ impl<'r, 'c, T: Drop> LocalGuard<'r, 'c, T> {
     ghost use Rattle.std.specs.Prelude.{◌⊎◌, ◌<◌, ℕ, Option, IfErr, IfOk, IfSome};
     ghost use Rattle.seize_machine.specs.Machine.Event.{ExchangeLink, ReadLink};
     ghost use Rattle.seize_machine.specs.declared.machine.event.Answer.TheVariants.{Link};
-    ghost use Rattle.seize_machine.specs.declared.machine.event.Exchange.TheVariants.{Compare, Swap};
+    ghost use Rattle.seize_machine.specs.declared.machine.event.Exchange.TheVariants.{Swap};
     ghost use Rattle.seize_machine.specs.declared.machine.event.Job.TheVariants.{Flush, Leave, Refresh, Retire};
     ghost use Rattle.seize.specs.Blocks.{ComesOut, IsNamed, Shows, content, unlinked_collector, unlinked_name};
     ghost use Rattle.seize.specs.Collectors.{IsBlockOf, IsPassOf, its_links};
-    ghost use Rattle.seize_words.specs.Links.{comparand};
     ghost use Rattle.seize_table.specs.declared.refusal.Refusal.TheVariants.{NoMemory as no_memory};
-    ghost use Rattle.seize.specs.Exchanges.{FoundIn, IsCurrentOf, IsOutcome, TookFound, current_name};
+    ghost use Rattle.seize.specs.Exchanges.{FoundIn, IsCurrentOf, MakesExchange, Protects, current_name};
     ghost use Rattle.seize.specs.Guards.{IsGuardOf, guard_activation, guard_collector, guard_slot};
-    ghost use Rattle.seize.specs.Makes.{MakesCall, MakesOne, StaysActive};
+    ghost use Rattle.seize.specs.Makes.{MakesCall, MakesNone, MakesOne, StaysActive};
 
     // One of this registration, which reads so.
     pub(crate) fn of(
@@ -92,6 +91,18 @@ impl<'r, 'c, T: Drop> LocalGuard<'r, 'c, T> {
         self.reader.protect(link, pass)
     }
 
+    /// The pass looks at the list of events. No value that this guard found since it entered or refreshed, as the pass has seen, is
+    /// reclaimed in what it sees then. It may see values there that this guard found, and that others retired since.
+    ///
+    /// It makes no event, and does nothing when the program runs: its contract is the law.
+    pub fn protected(&self, pass: &mut Pass)
+        requires of { IsPassOf (guard_collector self.now) pass.old }
+        ensures none { MakesNone pass.old pass.new }
+        ensures protects { Protects (guard_activation self.now) pass.new }
+    {
+        self.reader.protected(pass);
+    }
+
     /// Exchanges what a link holds for this block, or for none: the event `ExchangeLink`. It gives what the link held, which may outlive
     /// the guard, and is to be retired.
     ///
@@ -133,12 +144,8 @@ impl<'r, 'c, T: Drop> LocalGuard<'r, 'c, T> {
         requires of { IsPassOf (guard_collector self.now) pass.old × (link < its_links (guard_collector self.now)) }
         requires value { IfSome new (λ owned. IsBlockOf (guard_collector self.now) owned) }
         requires current { IsCurrentOf (guard_collector self.now) current }
-        ensures { (v : Option ℕ) × (held : Option ℕ) × IsNamed T.row.coded.code new v
-            × (let compare = comparand (current_name current.entry) held in
-            MakesOne pass.old pass.new (ExchangeLink (guard_slot self.now) link (Compare compare v)) (Link held)
-            × IsOutcome T.row.coded.code (guard_collector self.now) new compare held result
-            × FoundIn (guard_activation self.now) held pass.new
-            × TookFound (guard_activation self.now) (current_name current.entry) pass.old held result) }
+        ensures { MakesExchange T.row.coded.code (guard_collector self.now) (guard_slot self.now) (guard_activation self.now) link
+            (current_name current.entry) new pass.old pass.new result }
     {
         self.reader.compare_exchange(link, current, new, pass)
     }
@@ -154,12 +161,8 @@ impl<'r, 'c, T: Drop> LocalGuard<'r, 'c, T> {
         requires of { IsPassOf (guard_collector self.now) pass.old × (link < its_links (guard_collector self.now)) }
         requires value { IfSome new (λ owned. IsBlockOf (guard_collector self.now) owned) }
         requires current { IsCurrentOf (guard_collector self.now) current }
-        ensures { (v : Option ℕ) × (held : Option ℕ) × IsNamed T.row.coded.code new v
-            × (let compare = comparand (current_name current.entry) held in
-            MakesOne pass.old pass.new (ExchangeLink (guard_slot self.now) link (Compare compare v)) (Link held)
-            × IsOutcome T.row.coded.code (guard_collector self.now) new compare held result
-            × FoundIn (guard_activation self.now) held pass.new
-            × TookFound (guard_activation self.now) (current_name current.entry) pass.old held result) }
+        ensures { MakesExchange T.row.coded.code (guard_collector self.now) (guard_slot self.now) (guard_activation self.now) link
+            (current_name current.entry) new pass.old pass.new result }
     {
         self.compare_exchange(link, current, new, pass)
     }

@@ -34,12 +34,11 @@ impl<'c, T: Drop> Reader<'c, T> {
     ghost use Rattle.std.specs.Prelude.{◌<◌, ℕ, Option, IfSome};
     ghost use Rattle.seize_machine.specs.Machine.Event.{ExchangeLink, ReadLink};
     ghost use Rattle.seize_machine.specs.declared.machine.event.Answer.TheVariants.{Link};
-    ghost use Rattle.seize_machine.specs.declared.machine.event.Exchange.TheVariants.{Compare, Swap};
-    ghost use Rattle.seize_words.specs.Links.{comparand};
+    ghost use Rattle.seize_machine.specs.declared.machine.event.Exchange.TheVariants.{Swap};
     ghost use Rattle.seize.specs.Blocks.{ComesOut, IsNamed, Shows, unlinked_collector};
     ghost use Rattle.seize.specs.Collectors.{IsBlockOf, IsPassOf, its_links};
-    ghost use Rattle.seize.specs.Exchanges.{FoundIn, IsCurrentOf, IsOutcome, TookFound, current_name};
-    ghost use Rattle.seize.specs.Makes.{MakesOne};
+    ghost use Rattle.seize.specs.Exchanges.{FoundIn, IsCurrentOf, MakesExchange, Protects, current_name};
+    ghost use Rattle.seize.specs.Makes.{MakesNone, MakesOne};
 
     /// Reads a link.
     pub(crate) fn protect(&self, link: usize, pass: &mut Pass) -> Option<Shared<'_, T>>
@@ -52,6 +51,16 @@ impl<'c, T: Drop> Reader<'c, T> {
         let found = found?;
         let book = &self.collector.words.blocks.book;
         Some(Shared::of(found.value, word, found.glimpse, book))
+    }
+
+    /// The pass looks at the list, in which the guard's activation has not ended.
+    pub(crate) fn protected(&self, pass: &mut Pass)
+        requires { IsPassOf self.now.collector.now pass.old }
+        ensures none { MakesNone pass.old pass.new }
+        ensures protects { Protects self.now.unit pass.new }
+    {
+        pass.slots();
+        self.unit.lasts(pass);
     }
 
     /// Exchanges what a link holds.
@@ -87,28 +96,24 @@ impl<'c, T: Drop> Reader<'c, T> {
         requires of { IsPassOf self.now.collector.now pass.old × (link < its_links self.now.collector.now) }
         requires value { IfSome new (λ owned. IsBlockOf self.now.collector.now owned) }
         requires current { IsCurrentOf self.now.collector.now current }
-        ensures { (v : Option ℕ) × (held : Option ℕ) × IsNamed T.row.coded.code new v
-            × (let compare = comparand (current_name current.entry) held in
-            MakesOne pass.old pass.new (ExchangeLink self.now.number link (Compare compare v)) (Link held)
-            × IsOutcome T.row.coded.code self.now.collector.now new compare held result
-            × FoundIn self.now.unit held pass.new
-            × TookFound self.now.unit (current_name current.entry) pass.old held result) }
+        ensures { MakesExchange T.row.coded.code self.now.collector.now self.now.number self.now.unit link
+            (current_name current.entry) new pass.old pass.new result }
     {
         let collector = self.collector;
         pass.learn(&self.seen);
-        let seen = current_word(current);
+        let expected = current_word(current);
         let (word, mut key) = name(new, collector, pass);
         let (old, glimpse) = exchange::<T, Brand>(
             &collector.words,
             link,
-            seen,
+            expected,
             word,
             &mut key,
             current,
             &self.unit,
             pass,
         );
-        if old == seen {
+        if old == expected {
             look_back(&collector.words.blocks, old, &self.unit, pass);
             return Ok(Unlinked::found(collector, old, key));
         }

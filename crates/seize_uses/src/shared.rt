@@ -1,6 +1,6 @@
 //! A number that threads share: each reads and replaces it, by a registration of its own.
 ghost use base.Stored.{gnum};
-ghost use Rattle.std.specs.Prelude.{◌≡◌, ◌<◌, ℕ, IfSome};
+ghost use Rattle.std.specs.Prelude.{◌≡◌, ◌<◌, ◌≤◌, ℕ, length, IfSome};
 ghost use Rattle.seize.specs.Blocks.{HasContent, unlinked_collector, unlinked_name};
 ghost use Rattle.seize.specs.Collectors.{IsPassOf, its_links};
 ghost use Rattle.seize.specs.Guards.{guard_collector, guard_slot};
@@ -63,16 +63,16 @@ pub fn audit(registration: &Registration<'_, u64>, pass: &mut Pass)
     registration.collector().laws(pass);
 }
 
-/// The number in link 0, which the guard found, after a look at the list. Each time that it was reclaimed in what the pass sees then, the
-/// guard's slot had left or refreshed since it was found. The guard stands, so that is never.
+/// The number in link 0, which the guard found, after a look at the list. The read stands there, after all that the pass had seen before; and
+/// while the guard stands, the number is not reclaimed in what the pass sees.
 pub fn read_and_audit(guard: &LocalGuard<'_, '_, u64>, pass: &mut Pass) -> Option<u64>
     requires of { IsPassOf (guard_collector guard.now) pass.old × (0 < its_links (guard_collector guard.now)) }
     ensures pass { IsPassOf (guard_collector guard.now) pass.new }
-    ensures found { IfSome result (λ n. (v : ℕ) × HasContent gnum v n × (e : ℕ) × Found (moments_seen pass.new) (guard_slot guard.now) v e
-        × ((c : ℕ) → Reclaimed (moments_seen pass.new) v c → HasParted (moments_seen pass.new) (guard_slot guard.now) e c)) }
+    ensures found { let ms = moments_seen pass.new in IfSome result (λ n. (v : ℕ) × HasContent gnum v n
+        × ((e : ℕ) × (length (moments_seen pass.old) ≤ e) × Found ms (guard_slot guard.now) v e) × ((k : ℕ) → ¬ (Reclaimed ms v k))) }
 {
     let found = guard.protect(0, pass)?;
-    guard.collector().laws(pass);
+    guard.protected(pass);
     Some(*found)
 }
 

@@ -20,7 +20,7 @@ pub struct Shared<'g, T> {
 
 impl<'g, T> Shared<'g, T> {
     ghost use Rattle.std.specs.Prelude.{◌==◌};
-    ghost use Rattle.seize.specs.Blocks.{shared_name, shared_value, shared_word};
+    ghost use Rattle.seize.specs.Blocks.{AreOfOneCollector, shared_name, shared_value, shared_word};
 
     // The value that was found where a link of this book showed this word.
     pub(crate) fn of(value: &'g T, word: u64, glimpse: Glimpse<'g>, book: &Seen) -> Shared<'g, T>
@@ -36,8 +36,9 @@ impl<'g, T> Shared<'g, T> {
         }
     }
 
-    /// Whether both are of one block, where they are of one collector. Else it compares the numbers of two blocks alone.
+    /// Whether both are of one block. They are of one collector.
     pub fn same(&self, other: &Shared<'_, T>) -> bool
+        requires { AreOfOneCollector self.now other.now }
         ensures { result ≡ (shared_word self.now == shared_word other.now) }
     {
         self.word == other.word

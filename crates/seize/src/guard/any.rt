@@ -2,13 +2,12 @@
 ghost use Rattle.std.specs.Prelude.{◌≡◌, ◌⊎◌, ◌<◌, ℕ, Option, IfErr, IfOk, IfSome};
 ghost use Rattle.seize_machine.specs.Machine.Event.{ExchangeLink, ReadLink};
 ghost use Rattle.seize_machine.specs.declared.machine.event.Answer.TheVariants.{Link};
-ghost use Rattle.seize_machine.specs.declared.machine.event.Exchange.TheVariants.{Compare, Swap};
+ghost use Rattle.seize_machine.specs.declared.machine.event.Exchange.TheVariants.{Swap};
 ghost use Rattle.seize_machine.specs.declared.machine.event.Job.TheVariants.{Flush, Refresh, Retire};
-ghost use Rattle.seize_words.specs.Links.{comparand};
 ghost use Rattle.seize_table.specs.declared.refusal.Refusal.TheVariants.{NoMemory as no_memory};
 ghost use Rattle.seize.specs.Blocks.{ComesOut, IsNamed, Shows, content, unlinked_collector, unlinked_name};
 ghost use Rattle.seize.specs.Collectors.{IsBlockOf, IsPassOf, its_links};
-ghost use Rattle.seize.specs.Exchanges.{FoundIn, IsCurrentOf, IsOutcome, TookFound, current_name};
+ghost use Rattle.seize.specs.Exchanges.{FoundIn, IsCurrentOf, MakesExchange, current_name};
 ghost use Rattle.seize.specs.Makes.{MakesCall, MakesOne, StaysActive};
 ghost use Rattle.seize_words.specs.declared.activation.Activation.{Activation};
 ghost use Rattle.seize.specs.declared.collector.Collector.{Collector};
@@ -78,12 +77,8 @@ pub trait Guard<T: Drop> {
         requires of { IsPassOf (guarded self.now) pass.old × (link < its_links (guarded self.now)) }
         requires value { IfSome new (λ owned. IsBlockOf (guarded self.now) owned) }
         requires current { IsCurrentOf (guarded self.now) current }
-        ensures { (v : Option ℕ) × (held : Option ℕ) × IsNamed T.row.coded.code new v
-            × (let compare = comparand (current_name current.entry) held in
-            MakesOne pass.old pass.new (ExchangeLink (number self.now) link (Compare compare v)) (Link held)
-            × IsOutcome T.row.coded.code (guarded self.now) new compare held result
-            × FoundIn (activation self.now) held pass.new
-            × TookFound (activation self.now) (current_name current.entry) pass.old held result) };
+        ensures { MakesExchange T.row.coded.code (guarded self.now) (number self.now) (activation self.now) link
+            (current_name current.entry) new pass.old pass.new result };
 
     /// The same.
     fn compare_exchange_weak(
@@ -96,12 +91,8 @@ pub trait Guard<T: Drop> {
         requires of { IsPassOf (guarded self.now) pass.old × (link < its_links (guarded self.now)) }
         requires value { IfSome new (λ owned. IsBlockOf (guarded self.now) owned) }
         requires current { IsCurrentOf (guarded self.now) current }
-        ensures { (v : Option ℕ) × (held : Option ℕ) × IsNamed T.row.coded.code new v
-            × (let compare = comparand (current_name current.entry) held in
-            MakesOne pass.old pass.new (ExchangeLink (number self.now) link (Compare compare v)) (Link held)
-            × IsOutcome T.row.coded.code (guarded self.now) new compare held result
-            × FoundIn (activation self.now) held pass.new
-            × TookFound (activation self.now) (current_name current.entry) pass.old held result) };
+        ensures { MakesExchange T.row.coded.code (guarded self.now) (number self.now) (activation self.now) link
+            (current_name current.entry) new pass.old pass.new result };
 
     /// Retires what came out of a link: a whole call of the slot.
     fn defer_retire<W: Wait>(&self, rt: &W, pass: &mut Pass, value: Unlinked<'_, T>)

@@ -2,12 +2,11 @@
 ghost use Rattle.std.specs.Prelude.{◌≡◌, ◌<◌, ℕ, Option, IfSome};
 ghost use Rattle.seize_machine.specs.Machine.Event.{ExchangeLink};
 ghost use Rattle.seize_machine.specs.declared.machine.event.Answer.TheVariants.{Link};
-ghost use Rattle.seize_machine.specs.declared.machine.event.Exchange.TheVariants.{Compare, Swap};
+ghost use Rattle.seize_machine.specs.declared.machine.event.Exchange.TheVariants.{Swap};
 ghost use Rattle.seize_machine.specs.declared.machine.event.Job.TheVariants.{Retire};
-ghost use Rattle.seize_words.specs.Links.{comparand};
 ghost use Rattle.seize.specs.Blocks.{ComesOut, IsNamed, unlinked_collector, unlinked_name};
 ghost use Rattle.seize.specs.Collectors.{IsBlockOf, IsPassOf, its_links};
-ghost use Rattle.seize.specs.Exchanges.{FoundIn, IsCurrentOf, IsOutcome, TookFound, current_name};
+ghost use Rattle.seize.specs.Exchanges.{IsCurrentOf, MakesExchange, current_name};
 ghost use Rattle.seize.specs.Guards.{guard_activation, guard_collector, guard_slot};
 ghost use Rattle.seize.specs.Makes.{MakesCall, MakesOne};
 
@@ -61,12 +60,8 @@ impl<T: Drop> Guard<T> for LocalGuard<'_, '_, T> {
         requires of { IsPassOf (guard_collector self.now) pass.old × (link < its_links (guard_collector self.now)) }
         requires value { IfSome new (λ owned. IsBlockOf (guard_collector self.now) owned) }
         requires current { IsCurrentOf (guard_collector self.now) current }
-        ensures { (v : Option ℕ) × (held : Option ℕ) × IsNamed T.row.coded.code new v
-            × (let compare = comparand (current_name current.entry) held in
-            MakesOne pass.old pass.new (ExchangeLink (guard_slot self.now) link (Compare compare v)) (Link held)
-            × IsOutcome T.row.coded.code (guard_collector self.now) new compare held result
-            × FoundIn (guard_activation self.now) held pass.new
-            × TookFound (guard_activation self.now) (current_name current.entry) pass.old held result) }
+        ensures { MakesExchange T.row.coded.code (guard_collector self.now) (guard_slot self.now) (guard_activation self.now) link
+            (current_name current.entry) new pass.old pass.new result }
     {
         LocalGuard::compare_exchange(self, link, current, new, pass)
     }
@@ -81,12 +76,8 @@ impl<T: Drop> Guard<T> for LocalGuard<'_, '_, T> {
         requires of { IsPassOf (guard_collector self.now) pass.old × (link < its_links (guard_collector self.now)) }
         requires value { IfSome new (λ owned. IsBlockOf (guard_collector self.now) owned) }
         requires current { IsCurrentOf (guard_collector self.now) current }
-        ensures { (v : Option ℕ) × (held : Option ℕ) × IsNamed T.row.coded.code new v
-            × (let compare = comparand (current_name current.entry) held in
-            MakesOne pass.old pass.new (ExchangeLink (guard_slot self.now) link (Compare compare v)) (Link held)
-            × IsOutcome T.row.coded.code (guard_collector self.now) new compare held result
-            × FoundIn (guard_activation self.now) held pass.new
-            × TookFound (guard_activation self.now) (current_name current.entry) pass.old held result) }
+        ensures { MakesExchange T.row.coded.code (guard_collector self.now) (guard_slot self.now) (guard_activation self.now) link
+            (current_name current.entry) new pass.old pass.new result }
     {
         LocalGuard::compare_exchange_weak(self, link, current, new, pass)
     }
