@@ -9,6 +9,8 @@ mod contending;
 #[cfg(test)]
 mod ending;
 #[cfg(test)]
+mod exchanging;
+#[cfg(test)]
 mod forgotten;
 #[cfg(test)]
 mod guards;
@@ -29,6 +31,8 @@ mod passed_on;
 mod sharing;
 #[cfg(test)]
 mod staying;
+#[cfg(test)]
+mod sums;
 mod threads;
 pub mod turns;
 #[cfg(test)]
