@@ -18,6 +18,8 @@ pub mod marked;
 #[cfg(test)]
 mod meeting;
 #[cfg(test)]
+mod memory;
+#[cfg(test)]
 mod nested;
 #[cfg(test)]
 mod numbers;

@@ -1,0 +1,157 @@
+//! Which calls ask for no memory. Each test gives a sign when it is set up, by a request for memory of a size that no other has. The script
+//! `tools/memory` runs these tests with each request after that refused.
+ghost use Rattle.std.specs.Prelude.{◌≡◌, ◌<◌, IfOk};
+ghost use Rattle.seize.specs.Collectors.{IsBlockOf, IsPassOf, its_links};
+ghost use Rattle.seize.specs.Guards.{guard_collector};
+ghost use Rattle.seize.specs.Registrations.{registered_in};
+
+use crate::values::{Counted, ended};
+use seize::{Collector, IdSource, LocalGuard, Owned, Pass, Refusal, Registration};
+use std::alloc::Global;
+use std::sync::Wait;
+use std::sync::atomic::AtomicU64;
+use std::test::*;
+
+// The size of the request that is the sign, in bytes. tools/memory knows it too.
+const SIGN: usize = 4_099;
+
+// How many blocks are made first, and how many links take them: each link takes four, of which three are retired.
+const BLOCKS: u64 = 40;
+
+const LINKS: u64 = 10;
+
+// A collector with ten links, and batches of 32 values.
+fn collector<'a>(alloc: Global) -> Result<Collector<Counted<'a>>, Refusal>
+    ensures { IfOk result (λ made. its_links made ≡ 10) }
+{
+    Collector::new(alloc, &mut IdSource::new(), 1, 10)
+}
+
+// Gives the sign.
+pub(crate) fn give_sign(alloc: Global) -> Result<(), Refusal> {
+    let sign: Vec<u8> = Vec::with_capacity(alloc, SIGN)?;
+    drop(sign);
+    Ok(())
+}
+
+// A block with a value that counts its end.
+pub(crate) fn block<'a>(
+    registration: &Registration<'_, Counted<'a>>,
+    ends: &'a AtomicU64,
+) -> Result<Owned<Counted<'a>>, Refusal>
+    ensures { IfOk result (λ owned. IsBlockOf (registered_in registration.now) owned) }
+{
+    registration
+        .owned(Counted { ends })
+        .map_err(|(refusal, _)| refusal)
+}
+
+// Puts a block into the link, and retires what was there, with a guard that leaves then.
+pub(crate) fn put<'a>(
+    rt: &impl Wait,
+    registration: &Registration<'_, Counted<'a>>,
+    link: usize,
+    block: Owned<Counted<'a>>,
+    pass: &mut Pass,
+) -> Result<(), Refusal>
+    requires of { IsPassOf (registered_in registration.now) pass.old × (link < its_links (registered_in registration.now)) }
+    requires block { IsBlockOf (registered_in registration.now) block }
+    ensures { IsPassOf (registered_in registration.now) pass.new }
+{
+    let guard = registration.enter(pass)?;
+    if let Some(old) = guard.swap(link, Some(block), pass) {
+        guard.defer_retire(rt, pass, old);
+    }
+    guard.leave(rt, pass);
+    Ok(())
+}
+
+// Makes so many blocks, gives the sign, and puts the blocks into the links, one after the other.
+fn put_all<'a>(
+    rt: &impl Wait,
+    alloc: Global,
+    registration: &Registration<'_, Counted<'a>>,
+    count: u64,
+    ends: &'a AtomicU64,
+    pass: &mut Pass,
+) -> Result<(), Refusal>
+    requires of { IsPassOf (registered_in registration.now) pass.old × (its_links (registered_in registration.now) ≡ 10) }
+    ensures { IsPassOf (registered_in registration.now) pass.new }
+{
+    if count == 0 {
+        return give_sign(alloc);
+    }
+    let block = block(registration, ends)?;
+    put_all(rt, alloc, registration, count - 1, ends, pass)?;
+    put(rt, registration, (count % LINKS) as usize, block, pass)
+}
+
+// Reads link 0, takes out what it read by an exchange, and retires that. It says whether the exchange was won.
+fn take_out<'a>(rt: &impl Wait, guard: &LocalGuard<'_, '_, Counted<'a>>, pass: &mut Pass) -> bool
+    requires of { IsPassOf (guard_collector guard.now) pass.old × (0 < its_links (guard_collector guard.now)) }
+    ensures { IsPassOf (guard_collector guard.now) pass.new }
+{
+    let found = guard.protect(0, pass);
+    match guard.compare_exchange(0, found.as_ref(), None, pass) {
+        Ok(Some(old)) => {
+            guard.defer_retire(rt, pass, old);
+            true
+        }
+        Ok(None) => false,
+        Err(_) => false,
+    }
+}
+
+// How many values had ended when they were put in, when a guard had flushed, when it had refreshed, and when it had left; and whether it
+// took out one more by an exchange before that.
+fn make_calls<'a>(
+    rt: &impl Wait,
+    alloc: Global,
+    registration: &Registration<'_, Counted<'a>>,
+    ends: &'a AtomicU64,
+    pass: &mut Pass,
+) -> Result<([u64; 4], bool), Refusal>
+    requires of { IsPassOf (registered_in registration.now) pass.old × (its_links (registered_in registration.now) ≡ 10) }
+    ensures { IsPassOf (registered_in registration.now) pass.new }
+{
+    put_all(rt, alloc, registration, BLOCKS, ends, pass)?;
+    let put_in = ended(ends);
+    let mut guard = registration.enter(pass)?;
+    guard.flush(rt, pass);
+    let flushed = ended(ends);
+    guard.refresh(rt, pass);
+    let refreshed = ended(ends);
+    let taken = take_out(rt, &guard, pass);
+    guard.leave(rt, pass);
+    Ok(([put_in, flushed, refreshed, ended(ends)], taken))
+}
+
+// The same, and whether the registration ended.
+fn make_all<'a>(
+    rt: &impl Wait,
+    alloc: Global,
+    collector: &Collector<Counted<'a>>,
+    ends: &'a AtomicU64,
+) -> Result<([u64; 4], bool, bool), Refusal>
+    requires { its_links collector.now ≡ 10 }
+{
+    let mut pass = collector.pass();
+    let registration = collector.register(rt, &mut pass)?;
+    let made = make_calls(rt, alloc, &registration, ends, &mut pass);
+    let well = registration.end(rt, &mut pass);
+    let (ends, taken) = made?;
+    Ok((ends, taken, well))
+}
+
+// A slot enters, swaps, retires 30 of 40 values, flushes, refreshes, reads, exchanges, leaves and ends, and its collector is dropped. Where
+// each request for memory after the making of the blocks is refused, each of these calls goes well too, and values end as they do with it.
+#[test]
+fn calls_that_ask_for_no_memory(rt: HostRuntime) -> Result<(), Fail> {
+    let ends = AtomicU64::new(0);
+    let collector = collector(rt.alloc())?;
+    let made = make_all(&rt, rt.alloc(), &collector, &ends)?;
+    assert_eq!(rt; made, ([0, 0, 30, 30], true, true));
+    drop(collector);
+    assert_eq!(rt; ended(&ends), BLOCKS);
+    Ok(())
+}
