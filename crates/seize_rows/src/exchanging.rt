@@ -5,7 +5,7 @@ ghost use Rattle.seize.specs.Guards.{guard_collector};
 ghost use Rattle.seize.specs.Registrations.{registered_in};
 
 use crate::marked::{Marked, ended, marks};
-use crate::sums::{Sum, Tried, collector, put};
+use crate::sums::{Sum, Tried, collector, put, read};
 use seize::{Collector, LocalGuard, Owned, Pass, Refusal, Registration};
 use std::sync::Wait;
 use std::sync::atomic::AtomicU64;
@@ -175,7 +175,7 @@ fn four_threads_add_by_exchanges(rt: HostRuntime) -> Result<(), Fail> {
     let tried = four(&rt, &collector, marks.as_slice())?;
     assert_eq!(rt; (tried.won, tried.odd), (4 * TURNS, 0));
     assert!(rt; tried.lost <= 3 * tried.won);
-    assert_eq!(rt; crate::sums::read(&rt, &collector)?, Some(4 * TURNS));
+    assert_eq!(rt; read(&rt, &collector)?, Some(4 * TURNS));
     let (_, more) = ended(marks.as_slice());
     assert_eq!(rt; more, 0);
     drop(collector);

@@ -14,6 +14,8 @@ mod exchanging;
 mod forgotten;
 #[cfg(test)]
 mod guards;
+#[cfg(test)]
+mod ids;
 pub mod marked;
 #[cfg(test)]
 mod meeting;
