@@ -15,6 +15,8 @@ mod forgotten;
 #[cfg(test)]
 mod guards;
 #[cfg(test)]
+mod handed;
+#[cfg(test)]
 mod ids;
 pub mod marked;
 #[cfg(test)]
