@@ -36,10 +36,14 @@ mod passed_on;
 #[cfg(test)]
 mod sharing;
 #[cfg(test)]
+mod signs;
+#[cfg(test)]
 mod staying;
 #[cfg(test)]
 mod sums;
 mod threads;
+#[cfg(test)]
+mod turned;
 pub mod turns;
 #[cfg(test)]
 mod values;
