@@ -28,6 +28,8 @@ mod nested;
 #[cfg(test)]
 mod numbers;
 #[cfg(test)]
+mod own_guards;
+#[cfg(test)]
 mod owned;
 #[cfg(test)]
 mod owners;
