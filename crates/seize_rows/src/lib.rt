@@ -36,6 +36,8 @@ mod owners;
 #[cfg(test)]
 mod passed_on;
 #[cfg(test)]
+mod places;
+#[cfg(test)]
 mod sharing;
 #[cfg(test)]
 mod signs;
