@@ -51,3 +51,5 @@ mod turned;
 pub mod turns;
 #[cfg(test)]
 mod values;
+#[cfg(test)]
+mod winning;
