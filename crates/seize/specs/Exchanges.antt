@@ -1,8 +1,8 @@
 -- What contracts see of an exchange that compares.
 --     current_name current     what the list calls the value that the caller takes a link to hold, or none
 --     IsCurrentOf collector current     it was found in a link of this collector, or there is none
---     MakesExchange code collector s a link current new pass pass' result     slot s made one event, an exchange that compares: `put` is what
---                              the list calls the new block, and `held` what the link held at the event
+--     MakesExchange code collector s a link current new pass pass' result     slot s made one event, an exchange that compares: `put` is
+--                              what the list calls the new block, and `held` what the link held at the event
 --     ComesBack new back       the block comes back with its content, of the same store, or there is neither
 --     FoundIn a o pass         where o is a value, it was found in a link in this activation, as the pass has seen
 --     Protects a pass          no value that was found in this activation, as the pass has seen, is reclaimed in what it has seen

@@ -1,4 +1,5 @@
-//! Callers of `seize`, as README.md and CALLING.md show them: each says by its contract what a caller may count on.
+//! Callers of `seize` and `seize_plain`, as README.md, CALLING.md and docs/ALONE.md show them. Each says by its contract what a caller may
+//! count on.
 #![tactic(auto)]
 
 pub mod alone;

@@ -63,8 +63,8 @@ pub fn audit(registration: &Registration<'_, u64>, pass: &mut Pass)
     registration.collector().laws(pass);
 }
 
-/// The number in link 0, which the guard found, after a look at the list. The read stands there, after all that the pass had seen before; and
-/// while the guard stands, the number is not reclaimed in what the pass sees.
+/// The number in link 0, which the guard found, after a look at the list. The read stands there, after all that the pass had seen before;
+/// and while the guard stands, the number is not reclaimed in what the pass sees.
 pub fn read_and_audit(guard: &LocalGuard<'_, '_, u64>, pass: &mut Pass) -> Option<u64>
     requires of { IsPassOf (guard_collector guard.now) pass.old × (0 < its_links (guard_collector guard.now)) }
     ensures pass { IsPassOf (guard_collector guard.now) pass.new }
