@@ -11,10 +11,10 @@ use Rattle.seize_uses.proofs.replacing.replace_read.Goals as goal
 pub returns-in-Ok-clause-took : goal.returns-in-Ok-clause-took
 returns-in-Ok-clause-took g c =
     let guard = c.args.guard.now in let s = g.G.Guard.number guard in let finds = c.protect.ensures in let took = c.compare_exchange.ensures in
-    let same = read_replaced gnum (g.G.Guard.activation guard) (g.G.Guard.guarded guard) (Some c.args.new) c.protect.new.pass finds.2 c.in-Some.is finds.3 took.3.1 took.3.3 c.in-Ok.is in (
+    let same = read_replaced gnum (g.G.Guard.activation guard) (g.G.Guard.guarded guard) (Some c.args.new) c.protect.new.pass finds.2 c.in-Some.is finds.3 took.outcome took.took c.in-Ok.is in (
       finds.0,
-      took.0,
-      took.2,
-      subst (λ (t : Option ℕ × Option ℕ). Makes c.args.pass.now c.compare_exchange.new.pass ((ReadLink s 0, Link finds.0) ∷ (ExchangeLink s 0 (Compare t.0 took.0), Link t.1) ∷ [])) (λ j. (same.0 j, same.1 j))
-          (makes_then {es = (ReadLink s 0, Link finds.0) ∷ []} finds.1 took.3.0),
+      took.put,
+      took.named,
+      subst (λ (t : Option ℕ × Option ℕ). Makes c.args.pass.now c.compare_exchange.new.pass ((ReadLink s 0, Link finds.0) ∷ (ExchangeLink s 0 (Compare t.0 took.put), Link t.1) ∷ [])) (λ j. (same.0 j, same.1 j))
+          (makes_then {es = (ReadLink s 0, Link finds.0) ∷ []} finds.1 took.made),
     )
