@@ -3,13 +3,14 @@ ghost use base.Stored.{gnum};
 ghost use Rattle.std.specs.Prelude.{◌≡◌, ◌<◌, ℕ, Option, Some, [], ◌∷◌, IfOk, IfSome};
 ghost use Rattle.seize.specs.Blocks.{IsNamed, unlinked_collector};
 ghost use Rattle.seize.specs.Collectors.{IsBlockOf, IsPassOf, its_links};
+ghost use Rattle.seize.specs.Guards.{guard_collector};
 ghost use Rattle.seize.specs.Machine.Event.{ExchangeLink, ReadLink};
 ghost use Rattle.seize.specs.Makes.{Makes};
 ghost use Rattle.seize.specs.Registrations.{registered_in};
 ghost use Rattle.seize_machine.specs.declared.machine.event.Answer.TheVariants.{Link};
 ghost use Rattle.seize_machine.specs.declared.machine.event.Exchange.TheVariants.{Compare};
 
-use seize::{Guard, Owned, Pass, Refusal, Registration, Unlinked};
+use seize::{Failed, Guard, LocalGuard, Owned, Pass, Refusal, Registration, Unlinked};
 use std::sync::Wait;
 
 /// Puts the block into link 0 in the place of the one that is there, by a guard of either kind. Where the link is empty, or another thread
@@ -63,4 +64,61 @@ pub fn exchange<W: Wait>(
     };
     guard.leave(rt, pass);
     Ok(done)
+}
+
+/// Adds to the number in link 0, if there is one: the sum comes in the place of the number that was read. Where another thread was faster,
+/// it tries again with what the link held then. It tries so often at most, and says whether a try was won.
+pub fn add<W: Wait>(
+    registration: &Registration<'_, u64>,
+    more: u64,
+    attempts: usize,
+    rt: &W,
+    pass: &mut Pass,
+) -> Result<bool, Refusal>
+    requires pass { IsPassOf (registered_in registration.now) pass.old }
+    requires link { 0 < its_links (registered_in registration.now) }
+    ensures pass { IsPassOf (registered_in registration.now) pass.new }
+{
+    let block = registration.owned(more).map_err(|(refusal, _)| refusal)?;
+    let guard = registration.enter(pass)?;
+    let added = add_under(&guard, more, attempts, block, rt, pass);
+    guard.leave(rt, pass);
+    Ok(added)
+}
+
+// The same under this guard, with this block.
+fn add_under<W: Wait>(
+    guard: &LocalGuard<'_, '_, u64>,
+    more: u64,
+    attempts: usize,
+    block: Owned<u64>,
+    rt: &W,
+    pass: &mut Pass,
+) -> bool
+    requires of { IsPassOf (guard_collector guard.now) pass.old × (0 < its_links (guard_collector guard.now)) }
+    requires block { IsBlockOf (guard_collector guard.now) block }
+    ensures pass { IsPassOf (guard_collector guard.now) pass.new }
+{
+    let (mut found, mut block) = (guard.protect(0, pass), block);
+    for _ in 0..attempts {
+        let Some(shared) = found else {
+            return false;
+        };
+        *block = shared.wrapping_add(more);
+        match guard.compare_exchange(0, Some(&shared), Some(block), pass) {
+            Ok(Some(old)) => {
+                guard.defer_retire(rt, pass, old);
+                return true;
+            }
+            Ok(None) => return true,
+            Err(Failed { found: other, new }) => {
+                let Some(back) = new else {
+                    return false;
+                };
+                found = other;
+                block = back;
+            }
+        }
+    }
+    false
 }
