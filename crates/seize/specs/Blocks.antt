@@ -5,17 +5,13 @@
 --     shared_word shared        the word that a link shows for it: its block's number and one more
 --     unlinked_name u           what the list calls the value that is in no link;  unlinked_collector u     its collector
 --     IsNamed code owned o      o is what the list calls the value of this block, or there is neither
---     IsFoundOf collector shared     it was found in a link of this collector
---     AreOfOneCollector shared other     both were found in links of one collector
---     Shows code collector held shared     what was found is what the link held, a block of this collector with that value; or there is
---                               neither
+--     Shows code held shared    what was found is what the link held, a block with that value; or there is neither
 --     ComesOut held u           what came out is what the link held, or there is neither
 use Rattle.std.specs.Prelude.{◌≡◌, ℕ, Option, None, Some, List}
 use base.Stored.{Gv}
 use Rattle.seize_store.specs.Named as store
 use Rattle.seize_book.specs.Blocks.{link_word}
 use Rattle.seize_words.specs.Chunks.{IsFoundAs, IsLentAs}
-use Rattle.seize_words.specs.Joined.{words_book}
 use Rattle.seize_calls.specs.Slots.{its_value}
 use Rattle.seize.specs.declared.block.owned.Owned.{Owned}
 use Rattle.seize.specs.declared.block.shared.Shared.{Shared}
@@ -51,16 +47,9 @@ IsNamed code (Some owned) (Some v) = HasContent code v (content owned)
 IsNamed code None None = Unit {0}
 IsNamed code _ _ = ⊥
 
-abbrev pub IsFoundOf : {T : Type 0} → Collector T → Shared T → Type 0
-IsFoundOf collector shared = shared.book.name ≡ words_book collector.words
-
-abbrev pub AreOfOneCollector : {T : Type 0} → Shared T → Shared T → Type 0
-AreOfOneCollector shared other = shared.book.name ≡ other.book.name
-
-abbrev pub Shows : {T : Type 0} → (T → Gv) → Collector T → Option ℕ → Option (Shared T) → Type 0
-Shows code collector held (Some shared) =
-    (shared_name shared ≡ held) × IsFoundAs held (code (shared_value shared)) × IsFoundOf collector shared
-Shows code collector held None = held ≡ None
+abbrev pub Shows : {T : Type 0} → (T → Gv) → Option ℕ → Option (Shared T) → Type 0
+Shows code held (Some shared) = (shared_name shared ≡ held) × IsFoundAs held (code (shared_value shared))
+Shows code held None = held ≡ None
 
 abbrev pub ComesOut : {T : Type 0} → Option ℕ → Option (Unlinked T) → Type 0
 ComesOut held (Some unlinked) = held ≡ Some (unlinked_name unlinked)

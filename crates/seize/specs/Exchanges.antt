@@ -1,6 +1,5 @@
 -- What contracts see of an exchange that compares.
 --     current_name current     what the list calls the value that the caller takes a link to hold, or none
---     IsCurrentOf collector current     it was found in a link of this collector, or there is none
 --     MakesExchange code collector s a link current new pass pass' result     slot s made one event, an exchange that compares: `put` is
 --                              what the list calls the new block, and `held` what the link held at the event
 --     ComesBack new back       the block comes back with its content, of the same store, or there is neither
@@ -28,7 +27,7 @@ use Rattle.seize_words.specs.Chunks.{IsLiveAt}
 use Rattle.seize_words.specs.LinkWords.{WasFound}
 use Rattle.seize_words.specs.Links.{comparand}
 use Rattle.seize_words.specs.declared.activation.Activation.{Activation}
-use Rattle.seize.specs.Blocks.{ComesOut, IsFoundOf, IsNamed, Shows, content, shared_name, store_name, unlinked_collector}
+use Rattle.seize.specs.Blocks.{ComesOut, IsNamed, Shows, content, shared_name, store_name, unlinked_collector}
 use Rattle.seize.specs.Laws.{moments_seen}
 use Rattle.seize.specs.Makes.{MakesOne}
 use Rattle.seize.specs.declared.block.failed.Failed.{Failed}
@@ -40,10 +39,6 @@ use Rattle.seize.specs.declared.collector.Collector.{Collector}
 abbrev pub current_name : {T : Type 0} → Option (Bor (Shared T)) → Option ℕ
 current_name (Some shared) = shared_name shared.now
 current_name None = None
-
-abbrev pub IsCurrentOf : {T : Type 0} → Collector T → Option (Bor (Shared T)) → Type 0
-IsCurrentOf collector (Some shared) = IsFoundOf collector shared.now
-IsCurrentOf collector None = Unit {0}
 
 abbrev pub ComesBack : {T : Type 0} → Option (Owned T) → Option (Owned T) → Type 0
 ComesBack (Some new) (Some back) = (content back ≡ content new) × (store_name back ≡ store_name new)
@@ -71,7 +66,7 @@ abbrev pub IsOutcome : {T : Type 0} → (T → Gv) → Collector T → Option (O
 IsOutcome code collector new compare held (Ok out) =
     (compare ≡ held) × ComesOut held out × IfSome out (λ unlinked. unlinked_collector unlinked ≡ collector)
 IsOutcome code collector new compare held (Err failed) =
-    (compare ≢ held) × Shows code collector held failed.found × ComesBack new failed.new
+    (compare ≢ held) × Shows code held failed.found × ComesBack new failed.new
 
 pub record MakesExchange {T : Type 0} (code : T → Gv) (collector : Collector T) (s : ℕ) (a : Activation) (link : ℕ) (current : Option ℕ)
     (new : Option (Owned T)) (pass pass' : Pass) (result : Result (Option (Unlinked T)) (Failed T)) : Type 0 where

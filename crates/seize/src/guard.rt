@@ -35,7 +35,7 @@ impl<'r, 'c, T: Drop> LocalGuard<'r, 'c, T> {
     ghost use Rattle.seize.specs.Blocks.{ComesOut, IsNamed, Shows, content, unlinked_collector, unlinked_name};
     ghost use Rattle.seize.specs.Collectors.{IsBlockOf, IsPassOf, its_links};
     ghost use Rattle.seize_table.specs.declared.refusal.Refusal.TheVariants.{NoMemory as no_memory};
-    ghost use Rattle.seize.specs.Exchanges.{FoundIn, IsCurrentOf, MakesExchange, Protects, current_name};
+    ghost use Rattle.seize.specs.Exchanges.{FoundIn, MakesExchange, Protects, current_name};
     ghost use Rattle.seize.specs.Guards.{IsGuardOf, guard_activation, guard_collector, guard_slot};
     ghost use Rattle.seize.specs.Makes.{MakesCall, MakesNone, MakesOne, StaysActive};
 
@@ -86,7 +86,7 @@ impl<'r, 'c, T: Drop> LocalGuard<'r, 'c, T> {
     pub fn protect(&self, link: usize, pass: &mut Pass) -> Option<Shared<'_, T>>
         requires of { IsPassOf (guard_collector self.now) pass.old × (link < its_links (guard_collector self.now)) }
         ensures { (held : Option ℕ) × MakesOne pass.old pass.new (ReadLink (guard_slot self.now) link) (Link held)
-            × Shows T.row.coded.code (guard_collector self.now) held result × FoundIn (guard_activation self.now) held pass.new }
+            × Shows T.row.coded.code held result × FoundIn (guard_activation self.now) held pass.new }
     {
         self.reader.protect(link, pass)
     }
@@ -143,7 +143,6 @@ impl<'r, 'c, T: Drop> LocalGuard<'r, 'c, T> {
     ) -> Result<Option<Unlinked<'c, T>>, Failed<'_, T>>
         requires of { IsPassOf (guard_collector self.now) pass.old × (link < its_links (guard_collector self.now)) }
         requires value { IfSome new (λ owned. IsBlockOf (guard_collector self.now) owned) }
-        requires current { IsCurrentOf (guard_collector self.now) current }
         ensures { MakesExchange T.row.coded.code (guard_collector self.now) (guard_slot self.now) (guard_activation self.now) link
             (current_name current.entry) new pass.old pass.new result }
     {
@@ -160,7 +159,6 @@ impl<'r, 'c, T: Drop> LocalGuard<'r, 'c, T> {
     ) -> Result<Option<Unlinked<'c, T>>, Failed<'_, T>>
         requires of { IsPassOf (guard_collector self.now) pass.old × (link < its_links (guard_collector self.now)) }
         requires value { IfSome new (λ owned. IsBlockOf (guard_collector self.now) owned) }
-        requires current { IsCurrentOf (guard_collector self.now) current }
         ensures { MakesExchange T.row.coded.code (guard_collector self.now) (guard_slot self.now) (guard_activation self.now) link
             (current_name current.entry) new pass.old pass.new result }
     {

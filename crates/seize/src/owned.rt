@@ -43,7 +43,7 @@ impl<'c, T: Drop> OwnedGuard<'c, T> {
     ghost use Rattle.seize_calls.specs.Slots.{IsInactive, its_number};
     ghost use Rattle.seize.specs.Blocks.{ComesOut, IsNamed, Shows, content, unlinked_collector, unlinked_name};
     ghost use Rattle.seize.specs.Collectors.{IsBlockOf, IsPassOf, IsSlotFor, its_links};
-    ghost use Rattle.seize.specs.Exchanges.{FoundIn, IsCurrentOf, MakesExchange, Protects, current_name};
+    ghost use Rattle.seize.specs.Exchanges.{FoundIn, MakesExchange, Protects, current_name};
     ghost use Rattle.seize.specs.Makes.{LeavesAndGives, MakesCall, MakesNone, MakesOne};
     ghost use Rattle.seize.specs.OwnedGuards.{owned_activation, owned_collector, owned_slot};
 
@@ -108,7 +108,7 @@ impl<'c, T: Drop> OwnedGuard<'c, T> {
     pub fn protect(&self, link: usize, pass: &mut Pass) -> Option<Shared<'_, T>>
         requires of { IsPassOf (owned_collector self.now) pass.old × (link < its_links (owned_collector self.now)) }
         ensures { (held : Option ℕ) × MakesOne pass.old pass.new (ReadLink (owned_slot self.now) link) (Link held)
-            × Shows T.row.coded.code (owned_collector self.now) held result × FoundIn (owned_activation self.now) held pass.new }
+            × Shows T.row.coded.code held result × FoundIn (owned_activation self.now) held pass.new }
     {
         self.reader.protect(link, pass)
     }
@@ -165,7 +165,6 @@ impl<'c, T: Drop> OwnedGuard<'c, T> {
     ) -> Result<Option<Unlinked<'c, T>>, Failed<'_, T>>
         requires of { IsPassOf (owned_collector self.now) pass.old × (link < its_links (owned_collector self.now)) }
         requires value { IfSome new (λ owned. IsBlockOf (owned_collector self.now) owned) }
-        requires current { IsCurrentOf (owned_collector self.now) current }
         ensures { MakesExchange T.row.coded.code (owned_collector self.now) (owned_slot self.now) (owned_activation self.now) link
             (current_name current.entry) new pass.old pass.new result }
     {
@@ -182,7 +181,6 @@ impl<'c, T: Drop> OwnedGuard<'c, T> {
     ) -> Result<Option<Unlinked<'c, T>>, Failed<'_, T>>
         requires of { IsPassOf (owned_collector self.now) pass.old × (link < its_links (owned_collector self.now)) }
         requires value { IfSome new (λ owned. IsBlockOf (owned_collector self.now) owned) }
-        requires current { IsCurrentOf (owned_collector self.now) current }
         ensures { MakesExchange T.row.coded.code (owned_collector self.now) (owned_slot self.now) (owned_activation self.now) link
             (current_name current.entry) new pass.old pass.new result }
     {

@@ -37,20 +37,19 @@ impl<'c, T: Drop> Reader<'c, T> {
     ghost use Rattle.seize_machine.specs.declared.machine.event.Exchange.TheVariants.{Swap};
     ghost use Rattle.seize.specs.Blocks.{ComesOut, IsNamed, Shows, unlinked_collector};
     ghost use Rattle.seize.specs.Collectors.{IsBlockOf, IsPassOf, its_links};
-    ghost use Rattle.seize.specs.Exchanges.{FoundIn, IsCurrentOf, MakesExchange, Protects, current_name};
+    ghost use Rattle.seize.specs.Exchanges.{FoundIn, MakesExchange, Protects, current_name};
     ghost use Rattle.seize.specs.Makes.{MakesNone, MakesOne};
 
     /// Reads a link.
     pub(crate) fn protect(&self, link: usize, pass: &mut Pass) -> Option<Shared<'_, T>>
         requires of { IsPassOf self.now.collector.now pass.old × (link < its_links self.now.collector.now) }
         ensures { (held : Option ℕ) × MakesOne pass.old pass.new (ReadLink self.now.number link) (Link held)
-            × Shows T.row.coded.code self.now.collector.now held result × FoundIn self.now.unit held pass.new }
+            × Shows T.row.coded.code held result × FoundIn self.now.unit held pass.new }
     {
         pass.learn(&self.seen);
         let (word, found) = self.collector.words.find(link, &self.unit, pass);
         let found = found?;
-        let book = &self.collector.words.blocks.book;
-        Some(Shared::of(found.value, word, found.glimpse, book))
+        Some(Shared::of(found.value, word, found.glimpse))
     }
 
     /// The pass looks at the list, in which the guard's activation has not ended.
@@ -95,7 +94,6 @@ impl<'c, T: Drop> Reader<'c, T> {
     ) -> Result<Option<Unlinked<'c, T>>, Failed<'_, T>>
         requires of { IsPassOf self.now.collector.now pass.old × (link < its_links self.now.collector.now) }
         requires value { IfSome new (λ owned. IsBlockOf self.now.collector.now owned) }
-        requires current { IsCurrentOf self.now.collector.now current }
         ensures { MakesExchange T.row.coded.code self.now.collector.now self.now.number self.now.unit link
             (current_name current.entry) new pass.old pass.new result }
     {
@@ -117,7 +115,7 @@ impl<'c, T: Drop> Reader<'c, T> {
             look_back(&collector.words.blocks, old, &self.unit, pass);
             return Ok(Unlinked::found(collector, old, key));
         }
-        let found = shown(collector, old, glimpse, pass);
+        let found = shown(&collector.words.blocks, old, glimpse, pass);
         let new = came_back(collector, word, key, pass);
         Err(Failed { found, new })
     }

@@ -2,7 +2,6 @@
 ghost use Rattle.std.specs.Prelude.{◌≡◌};
 ghost use Rattle.seize_book.specs.Blocks.{link_word};
 
-use seize_words::book::Seen;
 use seize_words::glimpse::Glimpse;
 use std::ops::Deref;
 
@@ -13,32 +12,27 @@ pub struct Shared<'g, T> {
     // as the link's word showed it
     pub(crate) word: u64,
     pub(crate) glimpse: Glimpse<'g>,
-    // the list of the collector in which it was found
-    pub(crate) book: Seen,
     ghost worded: { word ≡ link_word glimpse.value },
 }
 
 impl<'g, T> Shared<'g, T> {
     ghost use Rattle.std.specs.Prelude.{◌==◌};
-    ghost use Rattle.seize.specs.Blocks.{AreOfOneCollector, shared_name, shared_value, shared_word};
+    ghost use Rattle.seize.specs.Blocks.{shared_name, shared_value, shared_word};
 
-    // The value that was found where a link of this book showed this word.
-    pub(crate) fn of(value: &'g T, word: u64, glimpse: Glimpse<'g>, book: &Seen) -> Shared<'g, T>
+    // The value that was found where the link showed this word.
+    pub(crate) fn of(value: &'g T, word: u64, glimpse: Glimpse<'g>) -> Shared<'g, T>
         requires { word ≡ link_word glimpse.value }
-        ensures shows { (shared_name result ≡ glimpse.entry.value) × (shared_value result ≡ value.now) }
-        ensures book { result.book.name ≡ book.now.name }
+        ensures { (shared_name result ≡ glimpse.entry.value) × (shared_value result ≡ value.now) }
     {
         Shared {
             value,
             word,
             glimpse,
-            book: book.again(),
         }
     }
 
-    /// Whether both are of one block. They are of one collector.
+    /// Whether both are of one block, where they are of one collector. Else it compares the numbers of two blocks alone.
     pub fn same(&self, other: &Shared<'_, T>) -> bool
-        requires { AreOfOneCollector self.now other.now }
         ensures { result ≡ (shared_word self.now == shared_word other.now) }
     {
         self.word == other.word

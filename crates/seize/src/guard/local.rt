@@ -6,7 +6,7 @@ ghost use Rattle.seize_machine.specs.declared.machine.event.Exchange.TheVariants
 ghost use Rattle.seize_machine.specs.declared.machine.event.Job.TheVariants.{Retire};
 ghost use Rattle.seize.specs.Blocks.{ComesOut, IsNamed, unlinked_collector, unlinked_name};
 ghost use Rattle.seize.specs.Collectors.{IsBlockOf, IsPassOf, its_links};
-ghost use Rattle.seize.specs.Exchanges.{IsCurrentOf, MakesExchange, current_name};
+ghost use Rattle.seize.specs.Exchanges.{MakesExchange, current_name};
 ghost use Rattle.seize.specs.Guards.{guard_activation, guard_collector, guard_slot};
 ghost use Rattle.seize.specs.Makes.{MakesCall, MakesOne};
 
@@ -59,7 +59,6 @@ impl<T: Drop> Guard<T> for LocalGuard<'_, '_, T> {
     ) -> Result<Option<Unlinked<'_, T>>, Failed<'_, T>>
         requires of { IsPassOf (guard_collector self.now) pass.old × (link < its_links (guard_collector self.now)) }
         requires value { IfSome new (λ owned. IsBlockOf (guard_collector self.now) owned) }
-        requires current { IsCurrentOf (guard_collector self.now) current }
         ensures { MakesExchange T.row.coded.code (guard_collector self.now) (guard_slot self.now) (guard_activation self.now) link
             (current_name current.entry) new pass.old pass.new result }
     {
@@ -75,7 +74,6 @@ impl<T: Drop> Guard<T> for LocalGuard<'_, '_, T> {
     ) -> Result<Option<Unlinked<'_, T>>, Failed<'_, T>>
         requires of { IsPassOf (guard_collector self.now) pass.old × (link < its_links (guard_collector self.now)) }
         requires value { IfSome new (λ owned. IsBlockOf (guard_collector self.now) owned) }
-        requires current { IsCurrentOf (guard_collector self.now) current }
         ensures { MakesExchange T.row.coded.code (guard_collector self.now) (guard_slot self.now) (guard_activation self.now) link
             (current_name current.entry) new pass.old pass.new result }
     {
