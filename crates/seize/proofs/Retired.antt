@@ -130,7 +130,7 @@ from_begin test st d log s v legal after made on true [] is =
     let done = or_illegal st (next d.size st d.event) in let first = legal_made st d log legal in
     let begun : Step d.size st (Begin s (Retire v)) done = subst (λ (e : Event). Step d.size st e done) (ap (λ (xs : List (Event × Answer)). (first_or (Begin s (Retire v), Done) xs).0) is) first.0 in
     one_on st d log v (until_return (later st d) log s v first.1 (begins d.size st s v done begun)
-        (picked test (with_answers (later st d) log) (Return s, Done) (subst (WasMade (Return s, Done)) (sym (ap rest_of is)) made)))
+    (picked test (with_answers (later st d) log) (Return s, Done) (subst (WasMade (Return s, Done)) (sym (ap rest_of is)) made)))
 
 unused : (b : Bool) (e : Use × Answer) (es : List (Entry × Answer)) (xs : List (Event × Answer)) → map as_made (events_in (cond b ((Used e.0, e.1) ∷ es) es)) ≡ xs → map as_made (events_in es) ≡ xs
 unused true e es xs is = is

@@ -76,8 +76,8 @@ made_since x {p} {q} {es} makes made =
     let test : ℕ → Entry × Answer → Bool = λ id a. maker a.0 == id in
     let same : (p.name ≡ q.name) × (p.id ≡ q.id) = (sym makes.same.0, sym makes.same.1) in
     let is : picks (test q.id) (start q.name) (p.seen ++ makes.grows.0) ≡ picks (test q.id) (start q.name) p.seen ++ es =
-        subst (λ (seen : List Entry). picks (test q.id) (start q.name) seen ≡ picks (test q.id) (start q.name) p.seen ++ es) (sym makes.grows.1)
-        (subst (λ (t : Name × ℕ). made_with q ≡ picks (test t.1) (start t.0) p.seen ++ es) (λ j. (same.0 j, same.1 j)) makes.made) in
+    subst (λ (seen : List Entry). picks (test q.id) (start q.name) seen ≡ picks (test q.id) (start q.name) p.seen ++ es) (sym makes.grows.1)
+    (subst (λ (t : Name × ℕ). made_with q ≡ picks (test t.1) (start t.0) p.seen ++ es) (λ j. (same.0 j, same.1 j)) makes.made) in
     let there = stands_after (test q.id) (start q.name) p.seen makes.grows.0 es x is made in (
       there.0,
       subst (λ (n : Name). length (moments (start n) p.seen) ≤ there.0) (sym same.0) there.1,

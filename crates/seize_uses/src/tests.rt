@@ -88,12 +88,7 @@ fn a_slot_enters(rt: HostRuntime) -> Result<(), Fail> {
 #[test]
 fn a_shared_number_is_replaced_and_read(rt: HostRuntime) -> Result<(), Fail> {
     let mut ids = seize::IdSource::new();
-    let collector: seize::Collector<u64> = seize::Collector::new(
-        rt.alloc(),
-        &mut ids,
-        1,
-        1,
-    )?;
+    let collector: seize::Collector<u64> = seize::Collector::new(rt.alloc(), &mut ids, 1, 1)?;
     let mut pass = collector.pass();
     let registration = collector.register(&rt, &mut pass)?;
     let before = read(&registration, &rt, &mut pass);
