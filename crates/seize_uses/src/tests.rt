@@ -3,7 +3,7 @@
 use crate::alone::{Number, read_and_retire};
 use crate::list::{Node, PutNext, in_front};
 use crate::machine::with_active_slot;
-use crate::replacing::exchange;
+use crate::replacing::{add, exchange};
 use crate::shared::{audit, read, replace};
 use crate::table::loaded_twice;
 use crate::watched::{Newest, retire_under_guard};
@@ -95,11 +95,13 @@ fn a_shared_number_is_replaced_and_read(rt: HostRuntime) -> Result<(), Fail> {
     let first = replace(&registration, 7, &rt, &mut pass);
     let second = replace(&registration, 8, &rt, &mut pass);
     let third = exchange(&registration, 9, &rt, &mut pass);
+    let none = add(&registration, 1, 0, &rt, &mut pass);
+    let fourth = add(&registration, 5, 1, &rt, &mut pass);
     let after = read(&registration, &rt, &mut pass);
     audit(&registration, &mut pass);
     assert!(rt; registration.end(&rt, &mut pass));
     assert!(rt; first.is_ok() && second.is_ok());
-    assert!(rt; third?);
-    assert_eq!(rt; (before?, after?), (None, Some(9)));
+    assert_eq!(rt; (third?, none?, fourth?), (true, false, true));
+    assert_eq!(rt; (before?, after?), (None, Some(14)));
     Ok(())
 }
