@@ -8,13 +8,13 @@ use Rattle.seize_machine.specs.Machine.Frames.{used}
 use Rattle.seize_machine.specs.declared.machine.event.Answer.{Answer}
 use Rattle.seize_machine.proofs.Facts.{Step, step_of}
 use Rattle.seize_table.specs.Place.{all_numbers}
-use Rattle.seize_book.specs.Book.{after, numbers, slots}
-use Rattle.seize_book.specs.Adding.{private}
+use Rattle.seize_book.specs.Book.{after, kinds, numbers, rules, slots}
+use Rattle.seize_book.specs.Adding.{LooksWithKeys, private}
 use Rattle.seize_book.specs.Entry.{Entry, Made}
 use Rattle.seize_book.specs.Fair.{Before}
-use Rattle.seize_book.specs.Ledger.{HeldKey}
+use Rattle.seize_book.specs.Ledger.{HeldKey, HoldersKnow, WithKinds}
 use Rattle.seize_book.specs.Others.{AreNumbersOf, Follows, Knew, MayTakeNumber, first_false, state_of, use_flags}
-use Rattle.seize_book.specs.Private.{own_of}
+use Rattle.seize_book.specs.Private.{is_one, own_of}
 use Rattle.seize_book.specs.Slots.{AddsEvent, IsKeyOfBook, slot_number}
 use Rattle.seize_book.specs.Tokens.{Name, start}
 use Rattle.seize_book.specs.declared.book.keys.Keys.{Keys}
@@ -88,3 +88,19 @@ pub may_take_by : (its_numbers : NumbersKey) (key : SlotKey) → slot_number key
 may_take_by its_numbers key least below few =
     let st : State = after (start its_numbers.keys.name) (own_of its_numbers.keys.held) in
     (least ∙ sym (free_by st.slots), subst (λ (m : ℕ). slot_number key < m) (length-map st.slots (λ slot. slot.used)) below, few)
+
+-- What a look with the key shows.
+
+pub numbers_within : (held : List (HeldKey Entry)) → is_one numbers held ≡ true → WithKinds kinds held
+numbers_within held one = subst (WithKinds kinds) (sym (only_is numbers held one)) (omega arith, tt)
+
+module _ (its_numbers : NumbersKey) (pass pass' : Pass) (keys' : Keys) (book : AreNumbersOf its_numbers pass) (looks : LooksWithKeys its_numbers.keys pass keys' pass') where
+  pub looked_used : used (after (start pass.name) pass'.seen) ≡ use_flags its_numbers
+  looked_used =
+      let held = its_numbers.keys.held in
+      let kept = subst (λ (hs : List (HeldKey Entry)). HoldersKnow (rules (start pass.name)) hs pass'.seen) (only_is numbers held its_numbers.one) looks.2.kept in
+      sym (ap (λ (n : Name). used (after (start n) (own_of held))) book ∙ kept.0.1)
+
+  pub looked_flags : used (state_of keys') ≡ used (after (start pass.name) pass'.seen)
+  looked_flags = let is = looks.1 in
+      ap (λ (t : Name × List Entry). used (after (start t.0) t.1)) (λ j. ((is.0 ∙ book) j, (ap own_of is.1 ∙ (after_one numbers its_numbers.keys.held pass'.seen its_numbers.one).1) j))

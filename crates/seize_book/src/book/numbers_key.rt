@@ -4,6 +4,7 @@ ghost use Rattle.seize_book.specs.Book.{numbers};
 ghost use Rattle.seize_book.specs.Private.{is_one, key_of};
 
 use crate::book::keys::Keys;
+use crate::book::pass::Pass;
 
 /// The right to take slots' numbers and to give them back. It knows which are in use.
 ///
@@ -14,4 +15,20 @@ pub struct NumbersKey {
     pub keys: Keys,
     ghost one: { is_one numbers keys.held ≡ true },
     ghost zero: { key_of keys.held ≡ 0 },
+}
+
+impl NumbersKey {
+    ghost use Rattle.seize_machine.specs.Machine.Frames.{used};
+    ghost use Rattle.seize_book.specs.Homesteads.{state_seen};
+    ghost use Rattle.seize_book.specs.Others.{AreNumbersOf, FollowsNumbers, use_flags};
+    ghost use Rattle.seize_book.specs.Passes.{LooksOn};
+
+    /// Looks at the list with no event: so many slots were made, and just those numbers are in use, as the key knows.
+    pub fn look(&mut self, pass: &mut Pass)
+        requires book { AreNumbersOf self.old pass.old }
+        ensures looks { LooksOn pass.old pass.new × FollowsNumbers self.old pass.new self.new }
+        ensures used { (used (state_seen pass.new) ≡ use_flags self.old) × (use_flags self.new ≡ use_flags self.old) }
+    {
+        self.keys.look(pass);
+    }
 }
