@@ -63,11 +63,10 @@ their_deeds st [] = refl
 their_deeds st (Made d ∷ log) = ap (λ (ds : List Deed). d ∷ ds) (their_deeds (done_by next st (timed_deed d)).0 log)
 their_deeds st (Used u ∷ log) = their_deeds st log
 
--- and with their answers
-pub made_there : (pass pass' : Pass) (made : List (Deed × Answer)) → IsSamePass pass pass' → (adds : AddsAlone pass pass') (sole : IsSole pass.id) → events_by pass' ≡ events_by pass ++ made
-    → events_in (with_answers (after (start pass.name) pass.seen) (adds sole).0) ≡ made
-made_there pass pass' made same adds sole events =
-    append_cancel_left (events_by pass) (events_in (with_answers st more.0)) made (sym (events_append (mine_of pass) (with_answers st more.0)) ∙ sym (ap events_in mine_now) ∙ events)
+-- and with their answers: those that were made with the pass are the entries that were added
+pub made_added : (pass pass' : Pass) → IsSamePass pass pass' → (adds : AddsAlone pass pass') (sole : IsSole pass.id)
+    → events_by pass' ≡ events_by pass ++ events_in (with_answers (after (start pass.name) pass.seen) (adds sole).0)
+made_added pass pass' same adds sole = ap events_in mine_now ∙ events_append (mine_of pass) (with_answers st more.0)
   where
     more : (added : List Entry) × (pass'.seen ≡ pass.seen ++ added) × AllBy pass.id added
     more = adds sole
@@ -82,6 +81,10 @@ made_there pass pass' made same adds sole events =
         ∙ ap (filter (λ a. maker a.0 == pass.id)) (answered_append (start pass.name) pass.seen more.0)
         ∙ filter-append (λ a. maker a.0 == pass.id) (with_answers (start pass.name) pass.seen) (with_answers st more.0)
         ∙ ap (λ (log : List (Entry × Answer)). mine_of pass ++ log) (all_mine st pass.id more.0 more.2)
+
+pub made_there : (pass pass' : Pass) (made : List (Deed × Answer)) → IsSamePass pass pass' → (adds : AddsAlone pass pass') (sole : IsSole pass.id) → events_by pass' ≡ events_by pass ++ made
+    → events_in (with_answers (after (start pass.name) pass.seen) (adds sole).0) ≡ made
+made_there pass pass' made same adds sole events = append_cancel_left (events_by pass) _ made (sym (made_added pass pass' same adds sole) ∙ events)
 
 pub made_alone : (pass pass' : Pass) (made : List (Deed × Answer)) → IsSamePass pass pass' → AddsAlone pass pass' → IsSole pass.id → events_by pass' ≡ events_by pass ++ made
     → deeds pass'.seen ≡ deeds pass.seen ++ map (λ a. a.0) made
