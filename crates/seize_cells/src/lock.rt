@@ -1,5 +1,5 @@
 //! A lock over a value that stays in its place. Threads share it by `&`, and one of them at a time has work done on the value.
-ghost use Rattle.std.specs.Prelude.{◌≡◌, ℕ, IfErr, IfOk};
+ghost use Rattle.std.specs.Prelude.{◌≡◌, ℕ};
 ghost use base.Stored.{coded_ℕ};
 ghost use Rattle.seize_content.specs.Steady.{keeps};
 ghost use Rattle.seize_cells.specs.Locks.{HadLock, MayLock};
@@ -57,18 +57,17 @@ impl<M: Steady> Lock<M> {
         result
     }
 
-    /// The same without waiting: where the lock is taken, the work is not done, and comes back.
-    pub fn try_with<W: LockWork<M, A, R>, A, R>(&self, work: W, with: &mut A) -> Result<R, W>
-        requires { MayLock M.label M.sound self.now (λ x. W.may work x with.old) }
-        ensures done { IfOk result (λ r. HadLock M.label M.sound self.now (λ x y. W.gives work x y with.old with.new r)) }
-        ensures taken { IfErr result (λ back. (back ≡ work) × (with.new ≡ with.old)) }
+    /// The same for a caller who has the lock alone. It takes no lock: nobody else can have it, whatever became of a work.
+    pub fn with_mut<W: LockWork<M, A, R>, A, R>(&mut self, work: W, with: &mut A) -> R
+        requires { MayLock M.label M.sound self.old (λ x. W.may work x with.old) }
+        ensures same { self.new ≡ self.old }
+        ensures done { HadLock M.label M.sound self.old (λ x y. W.gives work x y with.old with.new result) }
     {
-        let Some(mut token) = self.token.try_take() else {
-            return Err(work);
-        };
-        let result = work_in(&self.cell, &mut token, work, with);
-        self.token.give(token);
-        Ok(result)
+        let Lock { cell, token: kept } = self;
+        let mut token = cell.renew();
+        let result = work_in(cell, &mut token, work, with);
+        *kept = TokenLock::new(token);
+        result
     }
 
     /// The value.

@@ -1,6 +1,6 @@
 //! A latch for which threads wait asleep: some attempts with yields between them, and then a bell, which is rung at each give while someone
 //! waits.
-ghost use Rattle.std.specs.Prelude.{◌≡◌, IfSome};
+ghost use Rattle.std.specs.Prelude.{◌≡◌};
 
 use crate::latch::Latch;
 use seize_content::CellToken;
@@ -32,13 +32,6 @@ impl TokenLock {
             bell: AtomicU64::new(0),
             waiting: AtomicU64::new(0),
         }
-    }
-
-    /// The token, where nobody has it.
-    pub(crate) fn try_take(&self) -> Option<CellToken>
-        ensures { IfSome result (λ token. token.name ≡ self.now.latch) }
-    {
-        self.latch.try_take()
     }
 
     /// The token, as soon as nobody has it.

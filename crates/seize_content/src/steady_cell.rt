@@ -68,6 +68,16 @@ impl<M: Steady> SteadyCell<M> {
         value
     }
 
+    /// The cell has another name, which nothing else has, and this is its token: what became of the one before does not matter. The value
+    /// and its label are as they were. Nothing is done when the program runs.
+    pub fn renew(&mut self) -> CellToken
+        ensures { (result.name ≡ self.new.name) × (self.new.label ≡ self.old.label) }
+    {
+        CellToken {
+            marker: PhantomData,
+        }
+    }
+
     /// Has the work done on the value.
     pub fn work<W: Work<M, R>, R>(&self, token: &mut CellToken, work: W) -> R
         requires name { token.old.name ≡ self.now.name }
