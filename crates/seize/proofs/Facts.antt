@@ -11,7 +11,7 @@ use Rattle.seize.specs.declared.block.shared.Shared.{Shared}
 pub use Rattle.seize.proofs.Found.{found_still, read_replaced}
 pub use Rattle.seize.proofs.Made.{makes_then, then_none}
 -- what calls made with a pass stands among the moments of which the laws speak
-pub use Rattle.seize.proofs.Stands.{made_since, read_found}
+pub use Rattle.seize.proofs.Stands.{made_since, read_found, reclaimed_still, retired_still}
 -- and a value whose retirement returned is retired there
 pub use Rattle.seize.proofs.Retired.{call_still, retired_by}
 

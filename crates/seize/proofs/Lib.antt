@@ -17,3 +17,6 @@ pub mod Stands
 pub mod Retired
 pub mod Facts
 mod Endings
+mod Swept
+mod Bare
+mod Taken

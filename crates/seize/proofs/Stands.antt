@@ -1,9 +1,10 @@
 -- What was made with a pass stands among the moments that it has seen. So the laws, which speak of these, speak of a user's own calls.
 use Rattle.std.proofs.Common.{◌≡◌, ℕ, zero, suc, ◌≤◌, Bool, true, false, arith, cond, ◌==◌, ◌⊎◌, List, [], ◌∷◌, ◌++◌, filter, length, map, Some, inl, inr, refl, sym, ap, subst, ◌∙◌}
 use Rattle.std.specs.Prelude.{slice_get}
+use mathlib.Core.List.{IsPrefix}
 use Rattle.seize_machine.specs.Machine.State.{State}
 use Rattle.seize_machine.specs.Machine.Event.{Event, ReadLink}
-use Rattle.seize_machine.specs.Machine.History.{Found, Moment, is_link_event, linked_value, or_illegal}
+use Rattle.seize_machine.specs.Machine.History.{Found, Moment, Reclaimed, Retired, is_link_event, linked_value, or_illegal}
 use Rattle.seize_machine.specs.declared.machine.event.Answer.{Answer}
 use Rattle.seize_machine.specs.declared.machine.event.Answer.TheVariants.{Done, Link}
 use Rattle.seize_book.specs.Book.{moments, outcome, with_answers}
@@ -92,3 +93,17 @@ made_after x (e ∷ es) fs among = inr (made_after x es fs among)
 pub read_found : (s l v : ℕ) {p q : Pass} {es : List (Event × Answer)} → Makes p q es → WasMade (ReadLink s l, Link (Some v)) es → (e : ℕ) × (length (moments_seen p) ≤ e) × Found (moments_seen q) s v e
 read_found s l v makes made = let there = made_since (ReadLink s l, Link (Some v)) makes made in
     (there.0, there.1, (there.2.0, there.2.1, ap (is_link_event s) there.2.2 ∙ equal s s refl, ap linked_value there.2.3))
+
+-- A moment of a list is one of each list that goes on from it, so what was retired in it was retired, and what was reclaimed was.
+
+moment_still : (st : State) (a b : List Entry) (q : ℕ) (m : Moment) → slice_get (moments st a) q ≡ Some m → slice_get (moments st (a ++ b)) q ≡ Some m
+moment_still st [] b q m is = absurd (cc)
+moment_still st (Made d ∷ a) b zero m is = is
+moment_still st (Made d ∷ a) b (suc q) m is = moment_still (or_illegal st (outcome st (Made d))).0 a b q m is
+moment_still st (Used u ∷ a) b q m is = moment_still st a b q m is
+
+pub retired_still : (st : State) {a b : List Entry} {v q : ℕ} → IsPrefix a b → Retired (moments st a) v q → Retired (moments st b) v q
+retired_still st {a} {b} {v} {q} grows r = (r.0, subst (λ (log : List Entry). slice_get (moments st log) q ≡ Some r.0) grows.1 (moment_still st a grows.0 q r.0 r.1), r.2)
+
+pub reclaimed_still : (st : State) {a b : List Entry} {v c : ℕ} → IsPrefix a b → Reclaimed (moments st a) v c → Reclaimed (moments st b) v c
+reclaimed_still st {a} {b} {v} {c} grows r = (r.0, subst (λ (log : List Entry). slice_get (moments st log) c ≡ Some r.0) grows.1 (moment_still st a grows.0 c r.0 r.1), r.2)

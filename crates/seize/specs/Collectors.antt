@@ -2,6 +2,7 @@
 --     its_book c        the list of events of the collector, by its name
 --     its_store c       the store where its blocks lie;  its_words c   its words
 --     its_size c, its_links c, its_id c     its batch size, how many links it has, and its id
+--     seen_by c         what it has seen of its list, as its porter knows: a pass that it gives goes on from there
 --     IsPassOf c pass   it is a pass of the collector, of its batch size
 --     BeginsEmpty c links   its list begins with no slot, and with so many links, which are empty
 --     IsNewPassOf c pass    and nothing was made with it. It has seen a legal list of the collector's, of which all laws hold (GoesOnTo)
@@ -12,6 +13,7 @@
 use Rattle.std.specs.Prelude.{◌≡◌, ◌⊎◌, ℕ, ◌≤◌, ◌<◌, ◌^◌, List, [], None, length, replicate}
 use Rattle.seize_table.specs.declared.refusal.Refusal.{Refusal}
 use Rattle.seize_table.specs.declared.refusal.Refusal.TheVariants.{NoMemory, NoNumbers, TooManyProcessors}
+use Rattle.seize_book.specs.Entry.{Entry}
 use Rattle.seize_book.specs.Tokens.{Name}
 use Rattle.seize_book.specs.Porters.{GoesOnTo}
 use Rattle.seize_book.specs.declared.book.pass.Pass.{Pass}
@@ -42,6 +44,9 @@ its_links collector = length (its_book collector).links
 abbrev pub its_id : {T : Type 0} → Collector T → ℕ
 its_id collector = collector.id
 
+abbrev pub seen_by : {T : Type 0} → Collector T → List Entry
+seen_by collector = collector.porter.seen
+
 abbrev pub IsPassOf : {T : Type 0} → Collector T → Pass → Type 0
 IsPassOf collector pass = (pass.name ≡ its_book collector) × (pass.size ≡ its_size collector)
 
@@ -49,10 +54,11 @@ abbrev pub IsBlockOf : {T : Type 0} → Collector T → Owned T → Type 0
 IsBlockOf collector owned = store_name owned ≡ its_store collector
 
 abbrev pub BeginsEmpty : {T : Type 0} → Collector T → ℕ → Type 0
-BeginsEmpty collector links = ((its_book collector).slots ≡ 0) × ((its_book collector).links ≡ replicate links None)
+BeginsEmpty collector links =
+    ((its_book collector).slots ≡ 0) × ((its_book collector).links ≡ replicate links None) × (seen_by collector ≡ [])
 
 abbrev pub IsNewPassOf : {T : Type 0} → Collector T → Pass → Type 0
-IsNewPassOf collector pass = IsPassOf collector pass × (made_with pass ≡ []) × GoesOnTo pass.name [] pass.seen
+IsNewPassOf collector pass = IsPassOf collector pass × (made_with pass ≡ []) × GoesOnTo pass.name (seen_by collector) pass.seen
 
 abbrev pub IsSlotFor : {T : Type 0} → Collector T → Slot T → Type 0
 IsSlotFor collector slot = IsSlotOf collector.words slot

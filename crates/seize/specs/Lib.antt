@@ -9,8 +9,10 @@ pub mod Loose
 pub mod Makes
 pub mod Numbers
 pub mod OwnedGuards
+pub mod Reclaims
 pub mod Registrations
 pub mod Reservations
+pub mod Sweeps
 pub use Rattle.seize_machine.specs.Machine
 pub use Rattle.seize_table.specs.Free
 pub use Rattle.seize_table.specs.Place

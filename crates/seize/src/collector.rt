@@ -6,6 +6,7 @@ mod ids;
 
 use crate::block::Owned;
 use crate::ending::end_all;
+use crate::numbers::sweeping::Sweeping;
 use crate::numbers::{Numbers, Registering};
 use crate::owned::OwnedGuard;
 use crate::registration::Registration;
@@ -13,7 +14,7 @@ pub use ids::IdSource;
 use seize_cells::Lock;
 use seize_machine::machine;
 use seize_table::Refusal;
-use seize_words::book::{Pass, Porter};
+use seize_words::book::{Pass, Porter, Seen, Stay};
 use seize_words::words::Words;
 use std::alloc::Global;
 use std::cmp::max;
@@ -51,7 +52,7 @@ impl<T: Drop> Collector<T> {
     ghost use Rattle.seize_machine.specs.declared.machine.event.Answer.TheVariants.{Done};
     ghost use Rattle.seize_table.specs.declared.refusal.Refusal.TheVariants.{NoMemory as no_memory, NoNumbers as no_numbers};
     ghost use Rattle.seize.specs.Blocks.{content};
-    ghost use Rattle.seize.specs.Collectors.{BeginsEmpty, IsBlockOf, IsNewPassOf, IsPassOf, IsRefusalFor, its_book, its_id, its_links, its_size};
+    ghost use Rattle.seize.specs.Collectors.{BeginsEmpty, IsBlockOf, IsNewPassOf, IsPassOf, IsRefusalFor, its_book, its_id, its_links, its_size, seen_by};
     ghost use Rattle.seize.specs.Registrations.{registered_in, registered_slot};
     ghost use Rattle.seize.specs.Makes.{MakesNone, MakesOne};
 
@@ -110,7 +111,8 @@ impl<T: Drop> Collector<T> {
 
     /// With batches of this many values, not rounded. 0 serves as 1.
     pub fn batch_size(self, n: usize) -> Collector<T>
-        ensures { (its_size result ≡ n) × (its_book result ≡ its_book self) × (its_id result ≡ its_id self) }
+        ensures same { (its_book result ≡ its_book self) × (seen_by result ≡ seen_by self) × (its_id result ≡ its_id self) }
+        ensures size { its_size result ≡ n }
     {
         let Collector {
             mut words,
@@ -238,6 +240,79 @@ impl<T: Drop> Collector<T> {
     {
         machine::laws();
         pass.slots();
+    }
+}
+
+// All slots that nobody has are swept by a pass that is alone.
+#[derive(Drop)]
+struct Sweep<'a, T> {
+    words: &'a Words<T>,
+    numbers: &'a mut Lock<Numbers<T>>,
+    ghost numbered: { numbers.now ≡ (words_book words.now).family },
+}
+
+impl<'a, T: Drop> Stay<bool> for Sweep<'a, T> {
+    ghost use Rattle.seize_book.specs.Tokens.{IsSole};
+    ghost use Rattle.seize_calls.specs.Slots.{IsPassFor};
+    ghost use Rattle.seize.specs.Sweeps.{Sweeps};
+
+    ghost may = { λ sweep pass. IsPassFor sweep.words.now pass × IsSole pass.id };
+
+    ghost gives = { λ sweep sweep' pass pass' result. (sweep'.numbers.now ≡ sweep.numbers.now) × Sweeps pass pass' result };
+
+    fn stay(&mut self, pass: &mut Pass<'static>) -> bool {
+        let words = self.words;
+        self.numbers.with_mut(Sweeping { words }, pass)
+    }
+}
+
+impl<T: Drop> Collector<T> {
+    ghost use mathlib.Core.List.{IsPrefix};
+    ghost use Rattle.seize_book.specs.Porters.{GoesOnTo};
+    ghost use Rattle.seize.specs.Collectors.{its_book, seen_by};
+    ghost use Rattle.seize.specs.Reclaims.{IsSameCollector, ReclaimsAll};
+
+    /// Keeps what passes of the collector saw, also when they are over (`Seen::learn`). Another pass learns from it (`Pass::learn`), and so
+    /// does the collector (`covers`). It has no bytes.
+    pub fn seen(&self) -> Seen
+        ensures { result.name ≡ its_book self.now }
+    {
+        self.words.blocks.book.again()
+    }
+
+    /// The collector has seen then what this has, and no less than before. It does nothing when the program runs: its contract is the law.
+    pub fn covers(&mut self, known: &Seen)
+        requires known { known.now.name ≡ its_book self.old }
+        ensures same { IsSameCollector self.old self.new }
+        ensures covers { GoesOnTo (its_book self.old) (seen_by self.old) (seen_by self.new) × IsPrefix known.now.seen (seen_by self.new) }
+    {
+        let porter = &mut self.porter;
+        porter.come_home();
+        porter.covers(known);
+        porter.leave_home();
+    }
+
+    /// Reclaims what waits in the batches of all slots that nobody has, and says whether that is all: it is where no number is in use, so
+    /// that each registration ended and each owned guard left. Then each value that was ever retired has ended. What the links hold stays.
+    ///
+    /// All passes, guards and registrations are over by then. Where a registration was forgotten, the values of its slot's batch stay
+    /// where they are; where a guard was forgotten, so does all that its slot keeps back.
+    ///
+    /// It takes no memory and waits for nobody, but for what values do as they end. Each slot makes three atomic swaps and one addition.
+    pub fn reclaim_all(&mut self) -> bool
+        ensures { ReclaimsAll self.old self.new result }
+    {
+        let Collector {
+            words,
+            porter,
+            numbers,
+            id: _,
+            alloc: _,
+        } = self;
+        let mut sweep = Sweep { words, numbers };
+        let all = porter.stay(&mut sweep);
+        porter.leave_home();
+        all
     }
 }
 

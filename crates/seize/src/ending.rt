@@ -1,6 +1,6 @@
 //! The end of a collector, which nobody shares any more: what its links hold, and what waits in the batches of its slots, ends with it.
 //! The calls are made one after the other by a pass that is alone, so none of them waits, and each returns.
-ghost use Rattle.std.specs.Prelude.{◌<◌, ◌≤◌, length};
+ghost use Rattle.std.specs.Prelude.{◌<◌, length};
 ghost use Rattle.seize_book.specs.Passes.{IsSamePass};
 ghost use Rattle.seize_book.specs.Tokens.{IsSole};
 ghost use Rattle.seize_words.specs.Joined.{words_book};
@@ -9,9 +9,11 @@ ghost use Rattle.seize.specs.Numbers.{AreNumbers, IsLockFor};
 
 use crate::ends::Ends;
 use crate::numbers::Numbers;
+use crate::numbers::sweeping::Sweeping;
 use seize_calls::draining::Lightens;
 use seize_calls::manner::Alone;
 use seize_calls::slot::{Loose, Slot};
+use seize_cells::LockWork;
 use seize_words::activation::Activation;
 use seize_words::book::Pass;
 use seize_words::link::MaybeKey;
@@ -24,7 +26,7 @@ impl<T: Drop> Lightens<T> for Ends {
     fn lightens(&self) {}
 }
 
-/// Ends what the links hold, and what waits in the batch of each slot that nobody has. Where there is no such slot it does nothing.
+/// Ends what waits in the batch of each slot that nobody has, and then what the links hold. Where there is no such slot it does nothing.
 ///
 /// Where a guard was forgotten its slot is active still. Then what is retired here waits for that slot, and does not end.
 ///
@@ -34,32 +36,25 @@ pub(crate) fn end_all<T: Drop>(words: &Words<T>, numbers: Numbers<T>, pass: Pass
     requires pass { IsPassFor words.now pass × IsSole pass.id }
 {
     let (mut numbers, mut pass) = (numbers, pass);
-    let mut links = words.links.len();
-    for _ in 0..numbers.count() {
-        let Some(slot) = numbers.take_free(words, &mut pass) else {
-            return;
-        };
-        end_slot(words, slot, links, &mut pass);
-        links = 0;
+    Sweeping { words }.work(&mut numbers, &mut pass);
+    if let Some(slot) = numbers.take_free(words, &mut pass) {
+        end_links(words, slot, &mut pass);
     }
 }
 
-// The slot enters, takes out what so many links hold, from the first one on, and retires it; then it flushes and leaves.
-fn end_slot<T: Drop>(words: &Words<T>, slot: Slot<T>, links: usize, pass: &mut Pass)
+// The slot enters, takes out what the links hold and retires it; then it flushes and leaves.
+fn end_links<T: Drop>(words: &Words<T>, slot: Slot<T>, pass: &mut Pass)
     requires slot { IsSlotOf words.now slot × IsInactive slot }
     requires pass { IsPassFor words.now pass.old × IsSole pass.old.id }
-    requires links { links ≤ length (words_book words.now).links }
-    ensures { IsSamePass pass.old pass.new }
 {
     let mut slot = slot;
     let mut activation = slot.activation();
     let head = slot.head(words, pass);
     slot.enter(words, head, &mut activation, pass);
-    for link in 0..links {
+    for link in 0..words.links.len() {
         empty(words, link, &mut slot, &activation, pass);
     }
     slot.flush(words, &mut Ends::new(), pass, &Alone {});
-    let head = slot.head(words, pass);
     slot.leave(
         words,
         head,

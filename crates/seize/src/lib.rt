@@ -26,4 +26,4 @@ pub use owned::OwnedGuard;
 pub use registration::Registration;
 pub use seize_machine::machine;
 pub use seize_table::{Labelled, Refusal, thread_id, tls};
-pub use seize_words::book::Pass;
+pub use seize_words::book::{Pass, Seen};

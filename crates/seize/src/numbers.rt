@@ -12,6 +12,8 @@ ghost use Rattle.seize.specs.Makes.{MakesNone, MakesOne};
 ghost use Rattle.seize.specs.Numbers.{AreNumbers, HasTaken, IsLockFor, MayEnd};
 ghost use Rattle.seize_table.specs.declared.refusal.Refusal.TheVariants.{NoMemory as no_memory};
 
+pub(crate) mod sweeping;
+
 use seize_calls::slot::Slot;
 use seize_cells::LockWork;
 use seize_content::Steady;

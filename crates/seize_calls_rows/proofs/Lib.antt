@@ -1,5 +1,1 @@
-pub mod Back
-pub mod Events
 pub mod Ready
-pub mod Seats
-pub mod Sole

@@ -10,8 +10,6 @@ pub mod guest;
 pub mod hall;
 pub mod putting;
 pub mod running;
-pub mod seat;
 #[cfg(test)]
 mod tests;
-pub mod turns;
 pub mod visitor;

@@ -1,17 +1,14 @@
 //! Whole calls of slots: by one thread, and by threads that each have a slot.
-ghost use Rattle.std.specs.Prelude.{◌≡◌, IfOk, false};
+ghost use Rattle.std.specs.Prelude.{IfOk};
 ghost use Rattle.seize_calls_rows.specs.Visitors.{IsVisitorOf};
 
 mod beside;
-mod forgetting;
 mod guest;
 
 use crate::counting::Counting;
 use crate::hall::{Hall, open, open_one, open_two};
 use crate::putting::{Fresh, Putting};
 use crate::running::{LINKS, Tally};
-use crate::seat::Seat;
-use crate::turns::reclaim_all;
 use crate::visitor::Visitor;
 use seize_calls::manner::Beside;
 use seize_table::Refusal;
@@ -281,16 +278,6 @@ fn all<R: Threads + Wait + Sync>(
     Ok([a, b, c, d])
 }
 
-// Where the visitor sits that has left.
-fn seat(visitor: Visitor) -> Seat
-    ensures { (result.visitor ≡ visitor) × (result.active ≡ false) }
-{
-    Seat {
-        visitor,
-        active: false,
-    }
-}
-
 #[test]
 fn four_threads_end_each_value_at_most_once(rt: HostRuntime) -> Result<(), Fail> {
     let marks = marks(rt.alloc(), 4 * TURNS)?;
@@ -306,39 +293,5 @@ fn four_threads_end_each_value_at_most_once(rt: HostRuntime) -> Result<(), Fail>
         left = left.wrapping_add(tally.left);
     }
     assert_eq!(rt; told(marks.as_slice()), (left.wrapping_add(LINKS), 0));
-    Ok(())
-}
-
-// Of what two threads retired at most as much is left in each batch as its bound allows. Nothing that was found had ended before its reader
-// left, and each value ended at most once: all but those in the links and in the batches ended. Then the gate is shut to one caller, who
-// has these back: each value ended, and once.
-#[test]
-fn all_values_come_back_at_a_shut_gate(rt: HostRuntime) -> Result<(), Fail> {
-    let marks = marks(rt.alloc(), 2 * TURNS)?;
-    let (hall, a, b) = open_two(rt.alloc(), 32)?;
-    let ((a, one), (b, two)) = both(&rt, &hall, marks.as_slice(), 0, a, b)?;
-    let left = one.left.wrapping_add(two.left).wrapping_add(LINKS);
-    assert!(rt; one.left < 32 && two.left < 32);
-    assert_eq!(rt; (one.early, two.early), (0, 0));
-    assert_eq!(rt;
-        one.count.wrapping_add(two.count),
-        (2 * TURNS).wrapping_sub(left)
-    );
-    assert_eq!(rt; told(marks.as_slice()), (left, 0));
-    let Hall { words, porter } = hall;
-    let (mut first, mut second) = (seat(a), seat(b));
-    let (mut counting, mut pass) = (Counting::new(marks.as_slice()), porter.shut());
-    assert!(rt;
-        reclaim_all(
-            &words,
-            &mut first,
-            &mut second,
-            &mut counting,
-            &mut pass,
-            &rt
-        )
-    );
-    assert_eq!(rt; counting.count, left);
-    assert_eq!(rt; told(marks.as_slice()), (0, 0));
     Ok(())
 }

@@ -15,7 +15,7 @@ use std::thread;
 use std::thread::Threads;
 
 // How often each thread puts a value into each link, twice.
-const TIMES: u64 = 500;
+pub(crate) const TIMES: u64 = 500;
 
 pub(crate) type Counting<'a> = Collector<Counted<'a>>;
 
@@ -112,7 +112,7 @@ fn linked_values_end_with_their_collector(rt: HostRuntime) -> Result<(), Fail> {
 }
 
 // Two slots at once retire two and three values.
-fn retire_by_two<'a>(
+pub(crate) fn retire_by_two<'a>(
     rt: &impl Wait,
     collector: &Counting<'a>,
     ends: &'a AtomicU64,
@@ -174,7 +174,7 @@ fn retire_while_active<'a>(
 }
 
 // A registration that retired two values is forgotten.
-fn forget_registration<'a>(
+pub(crate) fn forget_registration<'a>(
     rt: &impl Wait,
     collector: &Counting<'a>,
     ends: &'a AtomicU64,
@@ -221,7 +221,7 @@ fn a_forgotten_guard_keeps_all_that_is_left(rt: HostRuntime) -> Result<(), Fail>
 }
 
 // Two threads put values into the same links, and retire others.
-fn put_by_two<'a, R: Threads + Wait + Sync>(
+pub(crate) fn put_by_two<'a, R: Threads + Wait + Sync>(
     rt: &R,
     collector: &Counting<'a>,
     ends: &'a AtomicU64,

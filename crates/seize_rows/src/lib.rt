@@ -38,6 +38,8 @@ mod passed_on;
 #[cfg(test)]
 mod places;
 #[cfg(test)]
+mod reclaiming;
+#[cfg(test)]
 mod refreshing;
 #[cfg(test)]
 mod shared_guard;

@@ -1,0 +1,165 @@
+-- Which numbers are in use while the slots that nobody has take theirs again, from the first on, and give them back, from the last on.
+use Rattle.std.proofs.Common.{◌≡◌, ℕ, zero, suc, ◌+◌, ◌<◌, ◌≤◌, ◌⊎◌, inl, inr, ⊎_elim, Bool, true, false, not, ◌↔◌, List, [], ◌∷◌, ◌++◌, length, map, Option, Some, None, is_some, get_or, slice_set, refl, sym, ap, subst, ◌∙◌, arith}
+use Rattle.std.specs.List.{list_all}
+use Rattle.std.specs.Option.{is_none}
+use Rattle.std.specs.Prelude.{slice_index_or}
+use Rattle.std.proofs.lemmas.List.{length-map, length-set, map-set}
+use Rattle.seize_machine.specs.Machine.State.{Slot as Record, no_slot}
+use Rattle.seize_table.specs.Place.{all_numbers}
+use Rattle.seize_book.specs.Book.{after}
+use Rattle.seize_book.specs.Others.{FollowsNumbers, MayTakeNumber, first_false, use_flags}
+use Rattle.seize_book.specs.declared.book.pass.Pass.{Pass}
+use Rattle.seize_words.specs.Named.{numbers_book}
+use Rattle.seize_words.specs.Totals.{made_of}
+use Rattle.seize_calls.specs.Slots.{IsInUse, IsInactive, IsOfList, SetsUse, its_key, its_number}
+use Rattle.seize_calls.specs.declared.slot.Slot.{Slot}
+use Rattle.seize_calls.proofs.Slots.{may_take_slot}
+use Rattle.seize.specs.Numbers.{AreNumbers, IsEndedAt, flags_of}
+use Rattle.seize.specs.Sweeps.{AreAllHere, AreTakenTo, IsTakenAt, KeepsPlaces, flags_to}
+use Rattle.seize.specs.declared.numbers.Numbers.{Numbers}
+
+-- Lists of places.
+module _ {X : Type 0} where
+  flags_length : (n : ℕ) (slots : List (Option X)) → length (flags_to n slots) ≡ length slots
+  flags_length zero slots = length-map slots is_none
+  flags_length (suc n) [] = refl
+  flags_length (suc n) (o ∷ slots) = ap suc (flags_length n slots)
+
+  pub taken_one : (slots : List (Option X)) (n : ℕ) (o : Option X) → n < length slots → slice_set (flags_to n slots) n true ≡ flags_to (suc n) (slice_set slots n o)
+  taken_one [] n o below = absurd (omega (arith, below))
+  taken_one (x ∷ slots) zero o below = refl
+  taken_one (x ∷ slots) (suc n) o below = ap (λ (flags : List Bool). true ∷ flags) (taken_one slots n o (omega (arith, below)))
+
+  pub given_one : (slots : List (Option X)) (n : ℕ) (o : Option X) → n < length slots → slice_set (flags_to (suc n) slots) n (is_none o) ≡ flags_to n (slice_set slots n o)
+  given_one [] n o below = absurd (omega (arith, below))
+  given_one (x ∷ slots) zero o below = refl
+  given_one (x ∷ slots) (suc n) o below = ap (λ (flags : List Bool). true ∷ flags) (given_one slots n o (omega (arith, below)))
+
+  -- where none lies, the number is in use all the while
+  pub taken_none : (slots : List (Option X)) (n : ℕ) → n < length slots → get_or slots n None ≡ None → flags_to (suc n) (slice_set slots n None) ≡ flags_to n slots
+  taken_none [] n below none = absurd (omega (arith, below))
+  taken_none (x ∷ slots) zero below none = ap (λ (b : Bool). b ∷ flags_of slots) (sym (ap is_none none))
+  taken_none (x ∷ slots) (suc n) below none = ap (λ (flags : List Bool). true ∷ flags) (taken_none slots n (omega (arith, below)) none)
+
+  pub given_none : (slots : List (Option X)) (n : ℕ) → n < length slots → get_or slots n None ≡ None → flags_to n (slice_set slots n None) ≡ flags_to (suc n) slots
+  given_none [] n below none = absurd (omega (arith, below))
+  given_none (x ∷ slots) zero below none = refl
+  given_none (x ∷ slots) (suc n) below none = ap (λ (flags : List Bool). true ∷ flags) (given_none slots n (omega (arith, below)) none)
+
+  -- the least that is not in use is that of the next slot that lies here
+  pub first_here : (slots : List (Option X)) (n : ℕ) (x : X) → get_or slots n None ≡ Some x → first_false (flags_to n slots) ≡ n
+  first_here [] zero x is = absurd (cc)
+  first_here [] (suc n) x is = absurd (cc)
+  first_here (o ∷ slots) zero x is = go o is
+    where
+      go : (o : Option X) → o ≡ Some x → first_false (is_none o ∷ flags_of slots) ≡ 0
+      go None is = absurd (cc)
+      go (Some y) is = refl
+  first_here (o ∷ slots) (suc n) x is = ap suc (first_here slots n x is)
+
+  -- what lies in which place is as it was
+  pub places_set : (slots : List (Option X)) (n : ℕ) (o : Option X) → is_none o ≡ is_none (get_or slots n None) → n < length slots → flags_of (slice_set slots n o) ≡ flags_of slots
+  places_set [] n o same below = refl
+  places_set (x ∷ slots) zero o same below = ap (λ (b : Bool). b ∷ flags_of slots) same
+  places_set (x ∷ slots) (suc n) o same below = ap (λ (flags : List Bool). is_none x ∷ flags) (places_set slots n o same (omega (arith, below)))
+
+  -- what lies in a place when one was set
+  pub set_or : (slots : List (Option X)) (n i : ℕ) (o : Option X) (x : X) → get_or (slice_set slots n o) i None ≡ Some x → ((i ≡ n) × (o ≡ Some x)) ⊎ (¬ (i ≡ n) × (get_or slots i None ≡ Some x))
+  set_or [] n zero o x is = absurd (cc)
+  set_or [] n (suc i) o x is = absurd (cc)
+  set_or (y ∷ slots) zero zero o x is = inl (refl, is)
+  set_or (y ∷ slots) zero (suc i) o x is = inr ((λ e. absurd (omega (arith, e))), is)
+  set_or (y ∷ slots) (suc n) zero o x is = inr ((λ e. absurd (omega (arith, e))), is)
+  set_or (y ∷ slots) (suc n) (suc i) o x is =
+      ⊎_elim (λ here. inl (ap suc here.0, here.1)) (λ other. inr ((λ e. other.0 (omega (arith, e))), other.1)) (set_or slots n i o x is)
+
+  pub here_below : (slots : List (Option X)) (i : ℕ) (x : X) → get_or slots i None ≡ Some x → i < length slots
+  here_below [] zero x is = absurd (cc)
+  here_below [] (suc i) x is = absurd (cc)
+  here_below (o ∷ slots) zero x is = omega arith
+  here_below (o ∷ slots) (suc i) x is = let less = here_below slots i x is in omega (arith, less)
+
+  -- where all are here, each place has one
+  pub here_at : (slots : List (Option X)) (i : ℕ) → AreAllHere (flags_of slots) → i < length slots → (x : X) × (get_or slots i None ≡ Some x)
+  here_at [] i all below = absurd (omega (arith, below))
+  here_at (Some x ∷ slots) zero all below = (x, refl)
+  here_at (None ∷ slots) zero all below = absurd (let e : true ≡ false = all.0 in cc)
+  here_at (o ∷ slots) (suc i) all below = here_at slots i all.1 (omega (arith, below))
+
+  pub all_here : (slots : List (Option X)) → list_all is_some slots ≡ true → AreAllHere (flags_of slots)
+  all_here [] all = tt
+  all_here (None ∷ slots) all = absurd (cc)
+  all_here (Some x ∷ slots) all = (refl, all_here slots all)
+
+  pub here_all : (slots : List (Option X)) → AreAllHere (flags_of slots) → list_all is_some slots ≡ true
+  here_all [] all = refl
+  here_all (None ∷ slots) all = absurd (let e : true ≡ false = all.0 in cc)
+  here_all (Some x ∷ slots) all = here_all slots all.1
+
+-- as the records say it
+pub unused_all : (slots : List Record) → AreAllHere (map (λ slot. slot.used) slots) → (s : ℕ) → (slice_index_or slots s no_slot).used ≡ false
+unused_all [] all s = refl
+unused_all (x ∷ slots) all zero = all.0
+unused_all (x ∷ slots) all (suc s) = unused_all slots all.1 s
+
+pub all_unused : (slots : List Record) → ((s : ℕ) → (slice_index_or slots s no_slot).used ≡ false) → AreAllHere (map (λ slot. slot.used) slots)
+all_unused [] unused = tt
+all_unused (x ∷ slots) unused = (unused 0, all_unused slots (λ s. unused (suc s)))
+
+-- The numbers are taken to none, and so others find them.
+module _ {T : Type 0} (numbers : Numbers T) where
+  pub taken_first : AreNumbers numbers → AreTakenTo 0 numbers
+  taken_first are = record {
+    book = are.book;
+    flags = are.flags;
+    slots = λ i slot is. let at = are.slots i slot is in record { its = at.its; number = at.number; inactive = at.inactive; used = λ less. absurd (omega (arith, less)); free = λ _. at.free };
+    next = are.next;
+    is_there = are.is_there;
+    comes = are.comes;
+  }
+
+  pub taken_last : AreTakenTo 0 numbers → AreNumbers numbers
+  taken_last are = record {
+    book = are.book;
+    flags = are.flags;
+    slots = λ i slot is. let at = are.slots i slot is in record { its = at.its; number = at.number; free = at.free (omega arith); inactive = at.inactive };
+    next = are.next;
+    is_there = are.is_there;
+    comes = are.comes;
+  }
+
+module _ {T : Type 0} (n : ℕ) (numbers : Numbers T) (are : AreTakenTo n numbers) where
+  abbrev items : List (Option (Slot T))
+  items = numbers.slots.items
+
+  -- how many numbers there are
+  pub many_known : length (use_flags numbers.key) ≡ length items
+  many_known = ap (λ (us : List Bool). length us) are.flags ∙ flags_length n items
+
+  pub few_here : (k : ℕ) → k ≤ length items → k < all_numbers
+  few_here k below = let ok = numbers.slots.ok in let small = numbers.slots.small in omega (arith, below, ok.0, ok.1, small)
+
+  -- the next slot may take its number
+  pub may_take_next : (slot : Slot T) → get_or items n None ≡ Some slot → MayTakeNumber numbers.key (its_key slot)
+  may_take_next slot is =
+      let its = (are.slots n slot is).number in let below = here_below items n slot is in let long = many_known in
+      may_take_slot numbers.key slot (its ∙ sym (first_here items n slot is) ∙ ap first_false (sym are.flags)) (omega (arith, its, below, long)) (subst (λ (k : ℕ). k < all_numbers) (sym its) (few_here n (omega (arith, below))))
+
+  -- one number is set, and what lies in its place
+  module _ (m : ℕ) (numbers' : Numbers T) (key_book : numbers_book numbers'.key ≡ numbers_book numbers.key) (made : made_of numbers'.key ≡ made_of numbers.key) (at : ℕ) (o : Option (Slot T)) (flags : use_flags numbers'.key ≡ flags_to m (slice_set items at o))
+      (put : (slot : Slot T) → o ≡ Some slot → IsTakenAt numbers.book.name m at slot) (others : (i : ℕ) → ¬ (i ≡ at) → (slot : Slot T) → get_or items i None ≡ Some slot → IsTakenAt numbers.book.name n i slot → IsTakenAt numbers.book.name m i slot)
+      (slots : numbers'.slots.items ≡ slice_set items at o) (next : numbers'.next ≡ numbers.next) (book : numbers'.book ≡ numbers.book) where
+    stands : (i : ℕ) (slot : Slot T) → get_or (slice_set items at o) i None ≡ Some slot → IsTakenAt numbers.book.name m i slot
+    stands i slot is =
+        ⊎_elim (λ here. subst (λ (k : ℕ). IsTakenAt numbers.book.name m k slot) (sym here.0) (put slot here.1)) (λ other. others i other.0 slot other.1 (are.slots i slot other.1))
+        (set_or items at i o slot is)
+
+    pub taken_set : AreTakenTo m numbers'
+    taken_set = record {
+      book = key_book ∙ are.book ∙ ap (λ seen. seen.name) (sym book);
+      flags = flags ∙ ap (flags_to m) (sym slots);
+      slots = λ i slot is. subst (λ name. IsTakenAt name m i slot) (ap (λ seen. seen.name) (sym book)) (stands i slot (ap (λ items. get_or items i None) (sym slots) ∙ is));
+      next = are.next;
+      is_there = next ∙ are.is_there;
+      comes = (are.comes.0 ∙ sym made, are.comes.1 ∙ sym key_book);
+    }

@@ -1,0 +1,104 @@
+-- What is known where a pass is alone and each slot that nobody has is emptied in turn.
+--     IsLedBy s pass pass'     nothing was added to the list but events of slot s, none of which exchanges a link: the records of other
+--                              slots and whether they are active are as they were, and so are all links;  Leads s st st'     of states
+--     AreOff pass              no slot is active, as the pass has seen
+--     LeavesNothing pass s     slot s has no call, is not active, and has no batch, as the pass has seen
+--     flags_to n slots         which numbers are in use, where the slots of the first n that lie here have taken their numbers
+--     IsTakenAt name n i slot  it is number i of the list, inactive, and in use just where i is below n
+--     AreTakenTo n numbers     the numbers, where so it is; for n = 0 they are as others find them (`AreNumbers`)
+--     AreAllHere flags         none of these is in use: each slot lies here
+--     Sweeps pass pass' all    it is the same pass, and the list goes on with no exchange of a link. It says `all` where no number is in
+--                              use then, and in that case each value that was ever retired is reclaimed
+use Rattle.std.specs.Prelude.{◌≡◌, ◌↔◌, ◌<◌, ◌≤◌, ℕ, suc, zero, Bool, true, false, List, [], ◌∷◌, Option, Some, None, get_or, is_some}
+use Rattle.seize_machine.specs.Machine.Frames.{used}
+use Rattle.seize_machine.specs.Machine.History.{Reclaimed, Retired}
+use Rattle.seize_machine.specs.Machine.State.{State, head_at, is_active, link_at, slot_at}
+use Rattle.seize_book.specs.Homesteads.{state_seen}
+use Rattle.seize_book.specs.Others.{use_flags}
+use Rattle.seize_book.specs.Passes.{IsSamePass}
+use Rattle.seize_book.specs.Porters.{GoesOnTo}
+use Rattle.seize_book.specs.Tokens.{Name}
+use Rattle.seize_book.specs.declared.book.pass.Pass.{Pass}
+use Rattle.seize_words.specs.Named.{numbers_book}
+use Rattle.seize_words.specs.declared.slots.next.NextSlot.{NextSlot}
+use Rattle.seize_calls.specs.Slots.{IsInUse, IsInactive, IsOfList, its_number}
+use Rattle.seize_calls.specs.declared.slot.Slot.{Slot}
+use mathlib.Core.List.{IsPrefix}
+use Rattle.seize.specs.Laws.{moments_seen}
+use Rattle.seize.specs.Numbers.{IsNextSlotOf, flags_of}
+use Rattle.seize.specs.declared.numbers.Numbers.{Numbers}
+
+pub record Leads (s : ℕ) (st st' : State) : Type 0 where
+  pub slots : (t : ℕ) → ¬ (t ≡ s) → slot_at st' t ≡ slot_at st t
+  pub active : (t : ℕ) → ¬ (t ≡ s) → is_active (head_at st' t) ≡ is_active (head_at st t)
+  pub links : (l : ℕ) → link_at st' l ≡ link_at st l
+
+pub record IsLedBy (s : ℕ) (pass pass' : Pass) : Type 0 where
+  pub same : IsSamePass pass pass'
+  pub grows : IsPrefix pass.seen pass'.seen
+  pub leads : Leads s (state_seen pass) (state_seen pass')
+
+abbrev pub HasSameLinks : Pass → Pass → Type 0
+HasSameLinks pass pass' = (l : ℕ) → link_at (state_seen pass') l ≡ link_at (state_seen pass) l
+
+-- the same pass, with a list that goes on and changes no link
+abbrev pub KeepsOn : Pass → Pass → Type 0
+KeepsOn pass pass' = IsSamePass pass pass' × IsPrefix pass.seen pass'.seen × HasSameLinks pass pass'
+
+abbrev pub IsOff : Pass → ℕ → Type 0
+IsOff pass s = is_active (head_at (state_seen pass) s) ≡ false
+
+abbrev pub AreOff : Pass → Type 0
+AreOff pass = (s : ℕ) → IsOff pass s
+
+pub record LeavesNothing (pass : Pass) (s : ℕ) : Type 0 where
+  pub call : is_some (slot_at (state_seen pass) s).call ≡ false
+  pub off : IsOff pass s
+  pub batch : (slot_at (state_seen pass) s).batch ≡ []
+
+abbrev pub flags_to : {X : Type 0} → ℕ → List (Option X) → List Bool
+flags_to zero slots = flags_of slots
+flags_to (suc n) [] = []
+flags_to (suc n) (o ∷ slots) = true ∷ flags_to n slots
+
+pub record IsTakenAt {T : Type 0} (name : Name) (n i : ℕ) (slot : Slot T) : Type 0 where
+  pub its : IsOfList name slot
+  pub number : its_number slot ≡ i
+  pub inactive : IsInactive slot
+  pub used : i < n → IsInUse slot
+  pub free : n ≤ i → ¬ (IsInUse slot)
+
+pub record AreTakenTo {T : Type 0} (n : ℕ) (numbers : Numbers T) : Type 0 where
+  pub book : numbers_book numbers.key ≡ numbers.book.name
+  pub flags : use_flags numbers.key ≡ flags_to n numbers.slots.items
+  pub slots : (i : ℕ) (slot : Slot T) → get_or numbers.slots.items i None ≡ Some slot → IsTakenAt numbers.book.name n i slot
+  pub next : NextSlot
+  pub is_there : numbers.next ≡ Some next
+  pub comes : IsNextSlotOf numbers.key next
+
+abbrev pub AreAllHere : List Bool → Type 0
+AreAllHere [] = Unit {0}
+AreAllHere (flag ∷ flags) = (flag ≡ false) × AreAllHere flags
+
+-- the list and the places are as they were
+abbrev pub KeepsPlaces : {T : Type 0} → Numbers T → Numbers T → Type 0
+KeepsPlaces numbers numbers' =
+    (numbers'.book ≡ numbers.book) × (flags_of numbers'.slots.items ≡ flags_of numbers.slots.items)
+
+-- each slot that leaves nothing does so still
+abbrev pub KeepsLeft : Pass → Pass → Type 0
+KeepsLeft pass pass' = (s : ℕ) → LeavesNothing pass s → LeavesNothing pass' s
+
+-- each slot that lies here is not active;  and each below n leaves nothing
+abbrev pub AreOffBelow : {T : Type 0} → ℕ → Numbers T → Pass → Type 0
+AreOffBelow {T} n numbers pass = (i : ℕ) (slot : Slot T) → i < n → get_or numbers.slots.items i None ≡ Some slot → IsOff pass i
+
+abbrev pub LeaveNothingBelow : {T : Type 0} → ℕ → Numbers T → Pass → Type 0
+LeaveNothingBelow {T} n numbers pass = (i : ℕ) (slot : Slot T) → i < n → get_or numbers.slots.items i None ≡ Some slot → LeavesNothing pass i
+
+pub record Sweeps (pass pass' : Pass) (all : Bool) : Type 0 where
+  pub same : IsSamePass pass pass'
+  pub goes_on : GoesOnTo pass.name pass.seen pass'.seen
+  pub links : HasSameLinks pass pass'
+  pub all_back : (all ≡ true) ↔ ((s : ℕ) → (slot_at (state_seen pass') s).used ≡ false)
+  pub reclaimed : all ≡ true → (v q : ℕ) → Retired (moments_seen pass') v q → (k : ℕ) × Reclaimed (moments_seen pass') v k

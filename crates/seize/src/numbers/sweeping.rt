@@ -1,0 +1,129 @@
+//! What is done with the slots that nobody has, where nobody shares the collector. Each takes its number again, enters, attempts its batch
+//! at any length, and leaves; then the numbers go back. The pass is alone, so no call waits, and each returns.
+ghost use Rattle.std.specs.Prelude.{◌≡◌, ◌↔◌, length, true};
+ghost use Rattle.seize_book.specs.Tokens.{IsSole};
+ghost use Rattle.seize_words.specs.Joined.{words_book};
+ghost use Rattle.seize_calls.specs.Slots.{IsInactive, IsPassFor, IsSlotOf, its_number};
+ghost use Rattle.seize.specs.Numbers.{AreNumbers, IsLockFor, flags_of};
+ghost use Rattle.seize.specs.Sweeps.{AreAllHere, AreOff, AreOffBelow, AreTakenTo, IsLedBy, KeepsLeft, KeepsOn, KeepsPlaces, LeaveNothingBelow, LeavesNothing, Sweeps};
+
+use crate::ends::Ends;
+use crate::numbers::Numbers;
+use seize_calls::manner::Alone;
+use seize_calls::slot::Slot;
+use seize_cells::LockWork;
+use seize_words::book::Pass;
+use seize_words::words::Words;
+
+// The slot enters, attempts its batch and leaves.
+fn sweep<T: Drop>(words: &Words<T>, slot: &mut Slot<T>, pass: &mut Pass)
+    requires slot { IsSlotOf words.now slot.old × IsInactive slot.old }
+    requires pass { IsPassFor words.now pass.old × IsSole pass.old.id }
+    ensures slot { IsSlotOf words.now slot.new × IsInactive slot.new × (its_number slot.new ≡ its_number slot.old) }
+    ensures led { IsLedBy (its_number slot.old) pass.old pass.new }
+    ensures left { AreOff pass.old → LeavesNothing pass.new (its_number slot.old) }
+{
+    let mut activation = slot.activation();
+    let head = slot.head(words, pass);
+    slot.enter(words, head, &mut activation, pass);
+    slot.flush(words, &mut Ends::new(), pass, &Alone {});
+    slot.leave(
+        words,
+        head,
+        &mut activation,
+        &mut Ends::new(),
+        pass,
+        &Alone {},
+    );
+    slot.look(words, pass);
+}
+
+impl<T: Drop> Numbers<T> {
+    /// Each slot that nobody has takes its number again, enters, attempts its batch and leaves, and then the numbers go back. It says
+    /// whether all are there, so that no number is in use.
+    ///
+    /// It takes no memory and waits for nobody, but for what values do as they end.
+    pub(crate) fn sweep(&mut self, words: &Words<T>, pass: &mut Pass) -> bool
+        requires numbers { AreNumbers self.old × (self.old.book.name ≡ words_book words.now) }
+        requires pass { IsPassFor words.now pass.old × IsSole pass.old.id }
+        ensures numbers { AreNumbers self.new × (self.new.book ≡ self.old.book) }
+        ensures sweeps { Sweeps pass.old pass.new result }
+    {
+        self.take_all(words, pass);
+        self.key.look(pass);
+        self.sweep_all(words, pass);
+        self.give_all(words, pass);
+        self.key.look(pass);
+        self.slots.iter().all(|slot| slot.is_some())
+    }
+
+    // Each slot that lies here takes its number again, and is not active.
+    fn take_all(&mut self, words: &Words<T>, pass: &mut Pass)
+        requires numbers { AreNumbers self.old × (self.old.book.name ≡ words_book words.now) }
+        requires pass { IsPassFor words.now pass.old × IsSole pass.old.id }
+        ensures taken { AreTakenTo (length self.new.slots.items) self.new × KeepsPlaces self.old self.new }
+        ensures off { KeepsOn pass.old pass.new × AreOffBelow (length self.new.slots.items) self.new pass.new }
+    {
+        for n in 0..self.slots.len() {
+            if let Some(slot) = self.slots[n].take() {
+                let mut slot = slot;
+                slot.take_again(words, &mut self.key, pass);
+                slot.look(words, pass);
+                self.slots[n] = Some(slot);
+            }
+        }
+    }
+
+    // Each slot that lies here enters, attempts its batch and leaves.
+    fn sweep_all(&mut self, words: &Words<T>, pass: &mut Pass)
+        requires taken { AreTakenTo (length self.old.slots.items) self.old × (self.old.book.name ≡ words_book words.now) }
+        requires pass { IsPassFor words.now pass.old × IsSole pass.old.id }
+        ensures taken { AreTakenTo (length self.new.slots.items) self.new × KeepsPlaces self.old self.new }
+        ensures left { KeepsOn pass.old pass.new
+            × (AreOff pass.old → LeaveNothingBelow (length self.new.slots.items) self.new pass.new) }
+    {
+        for n in 0..self.slots.len() {
+            if let Some(slot) = self.slots[n].take() {
+                let mut slot = slot;
+                sweep(words, &mut slot, pass);
+                self.slots[n] = Some(slot);
+            }
+        }
+    }
+
+    // The numbers go back, the last one first.
+    fn give_all(&mut self, words: &Words<T>, pass: &mut Pass)
+        requires taken { AreTakenTo (length self.old.slots.items) self.old × (self.old.book.name ≡ words_book words.now) }
+        requires pass { IsPassFor words.now pass.old × IsSole pass.old.id }
+        ensures numbers { AreNumbers self.new × KeepsPlaces self.old self.new }
+        ensures left { KeepsOn pass.old pass.new × KeepsLeft pass.old pass.new }
+    {
+        let many = self.slots.len();
+        for given in 0..many {
+            let n = many - 1 - given;
+            if let Some(slot) = self.slots[n].take() {
+                let mut slot = slot;
+                slot.give(words, &mut self.key, pass);
+                self.slots[n] = Some(slot);
+            }
+        }
+    }
+}
+
+/// All slots that nobody has are swept: the work of a caller who has the collector alone.
+#[derive(Drop)]
+pub(crate) struct Sweeping<'a, T> {
+    /// The words of the collector.
+    pub(crate) words: &'a Words<T>,
+}
+
+impl<'a, 'p, T: Drop> LockWork<Numbers<T>, Pass<'p>, bool> for Sweeping<'a, T> {
+    ghost may = { λ work numbers pass. IsLockFor work.words.now numbers × IsPassFor work.words.now pass × IsSole pass.id };
+
+    ghost gives = { λ work numbers numbers' pass pass' result. Sweeps pass pass' result };
+
+    fn work(self, numbers: &mut Numbers<T>, pass: &mut Pass<'p>) -> bool {
+        numbers.book.agree(&self.words.blocks.book);
+        numbers.sweep(self.words, pass)
+    }
+}
