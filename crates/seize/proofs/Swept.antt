@@ -1,6 +1,8 @@
 -- What a slot's calls leave of all others, and of the links, where the pass is alone.
-use Rattle.std.proofs.Common.{◌≡◌, ℕ, ◌==◌, Bool, true, false, List, [], ◌∷◌, ◌++◌, map, Option, None, Some, refl, sym, ap, subst, ◌∙◌, append-nil, append_assoc, arith}
+use Rattle.std.proofs.Common.{◌≡◌, ℕ, zero, suc, ◌==◌, is_some, slice_set, Bool, true, false, List, [], ◌∷◌, ◌++◌, map, Option, None, Some, refl, sym, ap, subst, ◌∙◌, append-nil, append_assoc, arith}
+use Rattle.std.specs.Prelude.{slice_index_or}
 use Rattle.std.proofs.lemmas.List.{append_cancel_left}
+use native.Mathlib.Decide.{ℕ_discrete}
 use base.Growing.{prefix_refl, prefix_trans}
 use mathlib.Core.List.{IsPrefix}
 use Rattle.seize_machine.proofs.Facts.{Step, active_frame, link_frame, slot_frame, step_of}
@@ -8,10 +10,11 @@ use Rattle.seize_machine.specs.Machine.Event.{AddCount, Begin, Detach, Enter, Ev
 use Rattle.seize_machine.specs.Machine.Frames.{changes_link, changes_slot}
 use Rattle.seize_machine.specs.Machine.History.{done_by, or_illegal}
 use Rattle.seize_machine.specs.Machine.Next.{Outcome, next}
-use Rattle.seize_machine.specs.Machine.State.{State, head_at, is_active, link_at, slot_at}
+use Rattle.seize_machine.specs.Machine.State.{Slot as Record, State, head_at, is_active, link_at, no_slot, slot_at}
 use Rattle.seize_machine.specs.declared.machine.event.Answer.{Answer}
 use Rattle.seize_machine.specs.declared.machine.event.Job.{Job}
 use Rattle.seize_machine.specs.declared.machine.event.Job.TheVariants.{Flush, Leave}
+use Rattle.seize_book.specs.Adding.{private}
 use Rattle.seize_book.specs.Book.{after, with_answers}
 use Rattle.seize_book.specs.Entry.{Deed, Entry, Made, Used, timed_deed}
 use Rattle.seize_book.specs.Homesteads.{state_seen}
@@ -27,8 +30,8 @@ use Rattle.seize_words.specs.declared.activation.Activation.{Activation}
 use Rattle.seize_words.specs.declared.words.Words.{Words}
 use Rattle.seize.specs.Ends.{Ended, had_of}
 use Rattle.seize.specs.Makes.{AreStepsOf, IsStepOf, Makes, MakesCall, MakesOne, made_with}
-use Rattle.seize.specs.Sweeps.{HasSameLinks, IsLedBy, KeepsOn, Leads}
-use Rattle.seize.proofs.Made.{as_made, made_grew, one_added}
+use Rattle.seize.specs.Sweeps.{IsLedBy, IsOff, KeepsOn, Leads, LeavesNothing}
+use Rattle.seize.proofs.Made.{as_made, made_grew, one_added, step_added}
 use Rattle.seize.proofs.Wholly.{slot_flushes, slot_leaves}
 
 -- One event of the slot that is on no link.
@@ -222,3 +225,58 @@ module _ {T : Type 0} (slot : Slot T) (pass : Pass) (slot' : Slot T) (pass' : Pa
 -- the slot is the same all the while
 pub led_as : (s t : ℕ) (pass pass' : Pass) → t ≡ s → IsLedBy t pass pass' → IsLedBy s pass pass'
 led_as s t pass pass' same led = subst (λ (k : ℕ). IsLedBy k pass pass') same led
+
+-- What stays of slots that are not active, or that leave nothing.
+
+pub kept_off : (s n t : ℕ) (pass pass' : Pass) → s ≡ n → IsLedBy s pass pass' → IsOff pass' n → IsOff pass t → IsOff pass' t
+kept_off s n t pass pass' same led off was = go (ℕ_discrete t n)
+  where
+    go : Dec (t ≡ n) → IsOff pass' t
+    go (yes e) = subst (IsOff pass') (sym e) off
+    go (no differs) = led.leads.active t (λ e. differs (e ∙ same)) ∙ was
+
+pub kept_left : (s n t : ℕ) (pass pass' : Pass) → s ≡ n → IsLedBy s pass pass' → ¬ (t ≡ n) → LeavesNothing pass t → LeavesNothing pass' t
+kept_left s n t pass pass' same led differs was =
+    let apart : ¬ (t ≡ s) = λ e. differs (e ∙ same) in record {
+      call = ap (λ (z : Record). is_some z.call) (led.leads.slots t apart) ∙ was.call;
+      off = led.leads.active t apart ∙ was.off;
+      batch = ap (λ (z : Record). z.batch) (led.leads.slots t apart) ∙ was.batch;
+    }
+
+there_set : {X : Type 0} (P : X → Type 0) (xs : List X) (n : ℕ) (x d : X) → P x → P (slice_index_or xs n d) → P (slice_index_or (slice_set xs n x) n d)
+there_set P [] n x d new old = old
+there_set P (y ∷ xs) zero x d new old = new
+there_set P (y ∷ xs) (suc n) x d new old = there_set P xs n x d new old
+
+-- when a number goes back, its slot keeps its batch, and has no call still
+given_step : (size : ℕ) (st : State) (s : ℕ) (d : State × Answer) → Step size st (Give s) d
+    → ((slot_at d.0 s).batch ≡ (slot_at st s).batch) × ((slot_at d.0 s).call ≡ (slot_at st s).call) × (head_at d.0 s ≡ head_at st s)
+given_step size st s _ (Step.gave _ idle off) = (
+  there_set (λ (z : Record). z.batch ≡ (slot_at st s).batch) st.slots s (record (slot_at st s) { used = false }) no_slot refl refl,
+  there_set (λ (z : Record). z.call ≡ (slot_at st s).call) st.slots s (record (slot_at st s) { used = false }) no_slot refl refl,
+  refl,
+)
+
+module _ {T : Type 0} (slot : Slot T) (pass : Pass) (slot' : Slot T) (pass' : Pass) (sole : IsSole pass.id) (e : SlotGives slot pass slot' pass') where
+  given_before : after (start e.0.ready.name) e.0.does.2.0.before ≡ state_seen pass
+  given_before =
+      ap (λ (log : List Entry). after (start e.0.ready.name) log) (e.0.does.2.0.alone (prepared_sole slot pass e.0.ready e.0.prepares sole)) ∙ prepared_same slot pass e.0.ready e.0.prepares sole
+
+  given_later : state_seen pass' ≡ e.0.does.2.0.later
+  given_later = ap (λ (n : Name). after (start n) pass'.seen) e.0.does.0.0 ∙ e.0.does.2.0.leads
+
+  own_left : LeavesNothing pass (its_number slot) → LeavesNothing pass' (its_number slot)
+  own_left was =
+      let s = its_number slot in
+      let is = given_step e.0.ready.size (after (start e.0.ready.name) e.0.does.2.0.before) s (e.0.does.2.0.later, e.0.does.2.0.answer) (step_added e.0.ready pass' (private e.0.ready (Give s)) e.0.does.2.0) in record {
+        call = ap (λ (st : State). is_some (slot_at st s).call) given_later ∙ ap is_some is.1 ∙ ap (λ (st : State). is_some (slot_at st s).call) given_before ∙ was.call;
+        off = ap (λ (st : State). is_active (head_at st s)) given_later ∙ ap is_active is.2 ∙ ap (λ (st : State). is_active (head_at st s)) given_before ∙ was.off;
+        batch = ap (λ (st : State). (slot_at st s).batch) given_later ∙ is.0 ∙ ap (λ (st : State). (slot_at st s).batch) given_before ∙ was.batch;
+      }
+
+  pub given_left : (t : ℕ) → LeavesNothing pass t → LeavesNothing pass' t
+  given_left t was = go (ℕ_discrete t (its_number slot))
+    where
+      go : Dec (t ≡ its_number slot) → LeavesNothing pass' t
+      go (yes same) = subst (LeavesNothing pass') (sym same) (own_left (subst (LeavesNothing pass) same was))
+      go (no differs) = kept_left (its_number slot) (its_number slot) t pass pass' refl (gives slot pass slot' pass' sole e) differs was

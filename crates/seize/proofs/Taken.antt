@@ -8,6 +8,8 @@ use Rattle.seize_machine.specs.Machine.State.{Slot as Record, no_slot}
 use Rattle.seize_table.specs.Place.{all_numbers}
 use Rattle.seize_book.specs.Book.{after}
 use Rattle.seize_book.specs.Others.{FollowsNumbers, MayTakeNumber, first_false, use_flags}
+use Rattle.seize_book.specs.Tokens.{Name}
+use Rattle.seize_book.specs.declared.book.numbers_key.NumbersKey.{NumbersKey}
 use Rattle.seize_book.specs.declared.book.pass.Pass.{Pass}
 use Rattle.seize_words.specs.Named.{numbers_book}
 use Rattle.seize_words.specs.Totals.{made_of}
@@ -15,8 +17,9 @@ use Rattle.seize_calls.specs.Slots.{IsInUse, IsInactive, IsOfList, SetsUse, its_
 use Rattle.seize_calls.specs.declared.slot.Slot.{Slot}
 use Rattle.seize_calls.proofs.Slots.{may_take_slot}
 use Rattle.seize.specs.Numbers.{AreNumbers, IsEndedAt, flags_of}
-use Rattle.seize.specs.Sweeps.{AreAllHere, AreTakenTo, IsTakenAt, KeepsPlaces, flags_to}
+use Rattle.seize.specs.Sweeps.{AreAllHere, AreTakenTo, IsHere, IsTakenAt, KeepsPlaces, flags_to}
 use Rattle.seize.specs.declared.numbers.Numbers.{Numbers}
+use Rattle.seize.proofs.Numbered.{made_flags, some_same}
 
 -- Lists of places.
 module _ {X : Type 0} where
@@ -46,6 +49,13 @@ module _ {X : Type 0} where
   given_none (x ∷ slots) zero below none = refl
   given_none (x ∷ slots) (suc n) below none = ap (λ (flags : List Bool). true ∷ flags) (given_none slots n (omega (arith, below)) none)
 
+  -- what lies in a place whose number was taken says nothing of that
+  pub taken_same : (slots : List (Option X)) (m n : ℕ) (o : Option X) → n < m → flags_to m (slice_set slots n o) ≡ flags_to m slots
+  taken_same slots zero n o below = absurd (omega (arith, below))
+  taken_same [] (suc m) n o below = refl
+  taken_same (x ∷ slots) (suc m) zero o below = refl
+  taken_same (x ∷ slots) (suc m) (suc n) o below = ap (λ (flags : List Bool). true ∷ flags) (taken_same slots m n o (omega (arith, below)))
+
   -- the least that is not in use is that of the next slot that lies here
   pub first_here : (slots : List (Option X)) (n : ℕ) (x : X) → get_or slots n None ≡ Some x → first_false (flags_to n slots) ≡ n
   first_here [] zero x is = absurd (cc)
@@ -55,7 +65,17 @@ module _ {X : Type 0} where
       go : (o : Option X) → o ≡ Some x → first_false (is_none o ∷ flags_of slots) ≡ 0
       go None is = absurd (cc)
       go (Some y) is = refl
-  first_here (o ∷ slots) (suc n) x is = ap suc (first_here slots n x is)
+  first_here (o ∷ slots) (suc n) x is = ap (λ (k : ℕ). 1 + k) (first_here slots n x is) ∙ one_more n
+    where
+      one_more : (n : ℕ) → 1 + n ≡ suc n
+      one_more n = omega arith
+
+  -- where none was laid, none lies
+  pub none_flag : (slots : List (Option X)) (n : ℕ) (o : Option X) → o ≡ None → get_or (flags_of (slice_set slots n o)) n true ≡ true
+  none_flag [] zero o is = refl
+  none_flag [] (suc n) o is = refl
+  none_flag (x ∷ slots) zero o is = ap is_none is
+  none_flag (x ∷ slots) (suc n) o is = none_flag slots n o is
 
   -- what lies in which place is as it was
   pub places_set : (slots : List (Option X)) (n : ℕ) (o : Option X) → is_none o ≡ is_none (get_or slots n None) → n < length slots → flags_of (slice_set slots n o) ≡ flags_of slots
@@ -163,3 +183,47 @@ module _ {T : Type 0} (n : ℕ) (numbers : Numbers T) (are : AreTakenTo n number
       is_there = next ∙ are.is_there;
       comes = (are.comes.0 ∙ sym made, are.comes.1 ∙ sym key_book);
     }
+
+  -- A slot lies in this place, and one lies there afterwards; or there is none.
+  module _ (m : ℕ) (numbers' : Numbers T) (at : ℕ) (below : at < length items) (others : (i : ℕ) → ¬ (i ≡ at) → (slot : Slot T) → IsTakenAt numbers.book.name n i slot → IsTakenAt numbers.book.name m i slot)
+      (next : numbers'.next ≡ numbers.next) (book : numbers'.book ≡ numbers.book) where
+    pub some_there : (slot slot' : Slot T) → get_or items at None ≡ Some slot → numbers_book numbers'.key ≡ numbers_book numbers.key → made_of numbers'.key ≡ made_of numbers.key
+        → use_flags numbers'.key ≡ flags_to m (slice_set items at (Some slot')) → IsTakenAt numbers.book.name m at slot' → numbers'.slots.items ≡ slice_set items at (Some slot') → AreTakenTo m numbers' × KeepsPlaces numbers numbers'
+    some_there slot slot' is key_book made flags its slots = (
+      taken_set m numbers' key_book made at (Some slot') flags (λ s same. subst (IsTakenAt numbers.book.name m at) (some_same slot' s same) its) (λ i differs s _. others i differs s) slots next book,
+      (book, ap flags_of slots ∙ places_set items at (Some slot') (sym (ap is_none is)) below),
+    )
+
+    pub none_there : (o : Option (Slot T)) → o ≡ None → get_or items at None ≡ None → numbers'.key ≡ numbers.key → flags_to m (slice_set items at None) ≡ flags_to n items → numbers'.slots.items ≡ slice_set items at o → AreTakenTo m numbers' × KeepsPlaces numbers numbers'
+    none_there o none is key flags slots =
+        let as_none : numbers'.slots.items ≡ slice_set items at None = slots ∙ ap (slice_set items at) none in (
+          taken_set m numbers' (ap numbers_book key) (ap made_of key) at None (ap use_flags key ∙ are.flags ∙ sym flags) (λ s same. absurd (cc)) (λ i differs s _. others i differs s) as_none next book,
+          (book, ap flags_of as_none ∙ places_set items at None (sym (ap is_none is)) below),
+        )
+
+-- how many were made is as before when one is set
+pub made_sets : {T : Type 0} (key : NumbersKey) (pass' : Pass) (key' : NumbersKey) (slot : Slot T) (used : Bool) → SetsUse key pass' key' slot used → made_of key' ≡ made_of key
+made_sets key pass' key' slot used sets =
+    made_flags key' ∙ ap (λ (us : List Bool). length us) sets.1 ∙ length-set (use_flags key) (its_number slot) used ∙ sym (made_flags key)
+
+-- another place stands as it did, where one number more is taken, or one went back
+pub other_taken : {T : Type 0} (name : Name) (n i : ℕ) (slot : Slot T) → ¬ (i ≡ n) → IsTakenAt name n i slot → IsTakenAt name (n + 1) i slot
+other_taken name n i slot differs at = record { its = at.its; number = at.number; inactive = at.inactive; used = λ less. at.used (omega (arith, less, differs)); free = λ least. at.free (omega (arith, least)) }
+
+pub other_given : {T : Type 0} (name : Name) (n i : ℕ) (slot : Slot T) → ¬ (i ≡ n) → IsTakenAt name (n + 1) i slot → IsTakenAt name n i slot
+other_given name n i slot differs at = record { its = at.its; number = at.number; inactive = at.inactive; used = λ less. at.used (omega (arith, less)); free = λ least. at.free (omega (arith, least, differs)) }
+
+pub set_twice : {X : Type 0} (xs : List X) (n : ℕ) (a b : X) → slice_set (slice_set xs n a) n b ≡ slice_set xs n b
+set_twice [] n a b = refl
+set_twice (x ∷ xs) zero a b = refl
+set_twice (x ∷ xs) (suc n) a b = ap (λ ys. x ∷ ys) (set_twice xs n a b)
+
+-- what is said of a place where none lies
+pub none_here : {A : Type 0} {X : Type 0} (slots : List (Option X)) (n : ℕ) (o : Option X) → o ≡ None → IsHere (flags_of (slice_set slots n o)) n → A
+none_here slots n o is here = absurd (let e : true ≡ false = sym (none_flag slots n o is) ∙ here in cc)
+
+pub plus_one : (n : ℕ) → suc n ≡ n + 1
+plus_one n = omega arith
+
+pub taken_as : {T : Type 0} (numbers : Numbers T) (k m : ℕ) → k ≡ m → AreTakenTo m numbers → AreTakenTo k numbers
+taken_as numbers k m same are = subst (λ (n : ℕ). AreTakenTo n numbers) (sym same) are

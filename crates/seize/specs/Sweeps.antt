@@ -85,16 +85,26 @@ abbrev pub KeepsPlaces : {T : Type 0} → Numbers T → Numbers T → Type 0
 KeepsPlaces numbers numbers' =
     (numbers'.book ≡ numbers.book) × (flags_of numbers'.slots.items ≡ flags_of numbers.slots.items)
 
--- each slot that leaves nothing does so still
+-- there is a slot in this place
+abbrev pub IsHere : List Bool → ℕ → Type 0
+IsHere flags i = get_or flags i true ≡ false
+
+-- each slot below n that lies here is not active;  or leaves nothing
+abbrev pub AreOffBelow : ℕ → List Bool → Pass → Type 0
+AreOffBelow n flags pass = (i : ℕ) → i < n → IsHere flags i → IsOff pass i
+
+abbrev pub LeaveNothingBelow : ℕ → List Bool → Pass → Type 0
+LeaveNothingBelow n flags pass = (i : ℕ) → i < n → IsHere flags i → LeavesNothing pass i
+
+-- each slot that is not active is not active still;  each that leaves nothing does so still;  and so each but one
+abbrev pub KeepsOff : Pass → Pass → Type 0
+KeepsOff pass pass' = (s : ℕ) → IsOff pass s → IsOff pass' s
+
 abbrev pub KeepsLeft : Pass → Pass → Type 0
 KeepsLeft pass pass' = (s : ℕ) → LeavesNothing pass s → LeavesNothing pass' s
 
--- each slot that lies here is not active;  and each below n leaves nothing
-abbrev pub AreOffBelow : {T : Type 0} → ℕ → Numbers T → Pass → Type 0
-AreOffBelow {T} n numbers pass = (i : ℕ) (slot : Slot T) → i < n → get_or numbers.slots.items i None ≡ Some slot → IsOff pass i
-
-abbrev pub LeaveNothingBelow : {T : Type 0} → ℕ → Numbers T → Pass → Type 0
-LeaveNothingBelow {T} n numbers pass = (i : ℕ) (slot : Slot T) → i < n → get_or numbers.slots.items i None ≡ Some slot → LeavesNothing pass i
+abbrev pub KeepsLeftBut : ℕ → Pass → Pass → Type 0
+KeepsLeftBut n pass pass' = (s : ℕ) → ¬ (s ≡ n) → LeavesNothing pass s → LeavesNothing pass' s
 
 pub record Sweeps (pass pass' : Pass) (all : Bool) : Type 0 where
   pub same : IsSamePass pass pass'

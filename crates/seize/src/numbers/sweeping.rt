@@ -1,11 +1,11 @@
 //! What is done with the slots that nobody has, where nobody shares the collector. Each takes its number again, enters, attempts its batch
 //! at any length, and leaves; then the numbers go back. The pass is alone, so no call waits, and each returns.
-ghost use Rattle.std.specs.Prelude.{◌≡◌, ◌↔◌, length, true};
+ghost use Rattle.std.specs.Prelude.{◌≡◌, ◌<◌, ◌+◌, length};
 ghost use Rattle.seize_book.specs.Tokens.{IsSole};
 ghost use Rattle.seize_words.specs.Joined.{words_book};
 ghost use Rattle.seize_calls.specs.Slots.{IsInactive, IsPassFor, IsSlotOf, its_number};
 ghost use Rattle.seize.specs.Numbers.{AreNumbers, IsLockFor, flags_of};
-ghost use Rattle.seize.specs.Sweeps.{AreAllHere, AreOff, AreOffBelow, AreTakenTo, IsLedBy, KeepsLeft, KeepsOn, KeepsPlaces, LeaveNothingBelow, LeavesNothing, Sweeps};
+ghost use Rattle.seize.specs.Sweeps.{AreOff, AreOffBelow, AreTakenTo, IsHere, IsLedBy, IsOff, KeepsLeft, KeepsLeftBut, KeepsOff, KeepsOn, KeepsPlaces, LeaveNothingBelow, LeavesNothing, Sweeps};
 
 use crate::ends::Ends;
 use crate::numbers::Numbers;
@@ -59,18 +59,28 @@ impl<T: Drop> Numbers<T> {
 
     // Each slot that lies here takes its number again, and is not active.
     fn take_all(&mut self, words: &Words<T>, pass: &mut Pass)
-        requires numbers { AreNumbers self.old × (self.old.book.name ≡ words_book words.now) }
+        requires numbers { AreTakenTo 0 self.old × (self.old.book.name ≡ words_book words.now) }
         requires pass { IsPassFor words.now pass.old × IsSole pass.old.id }
         ensures taken { AreTakenTo (length self.new.slots.items) self.new × KeepsPlaces self.old self.new }
-        ensures off { KeepsOn pass.old pass.new × AreOffBelow (length self.new.slots.items) self.new pass.new }
+        ensures off { KeepsOn pass.old pass.new × AreOffBelow (length self.new.slots.items) (flags_of self.new.slots.items) pass.new }
     {
         for n in 0..self.slots.len() {
-            if let Some(slot) = self.slots[n].take() {
-                let mut slot = slot;
-                slot.take_again(words, &mut self.key, pass);
-                slot.look(words, pass);
-                self.slots[n] = Some(slot);
-            }
+            self.take_at(words, n, pass);
+        }
+    }
+
+    // The slot in this place, if there is one, takes its number again. The numbers before are in use.
+    fn take_at(&mut self, words: &Words<T>, n: usize, pass: &mut Pass)
+        requires numbers { AreTakenTo n self.old × (self.old.book.name ≡ words_book words.now) × (n < length self.old.slots.items) }
+        requires pass { IsPassFor words.now pass.old × IsSole pass.old.id }
+        ensures taken { AreTakenTo (n + 1) self.new × KeepsPlaces self.old self.new }
+        ensures off { KeepsOn pass.old pass.new × KeepsOff pass.old pass.new × (IsHere (flags_of self.new.slots.items) n → IsOff pass.new n) }
+    {
+        if let Some(slot) = self.slots[n].take() {
+            let mut slot = slot;
+            slot.take_again(words, &mut self.key, pass);
+            slot.look(words, pass);
+            self.slots[n] = Some(slot);
         }
     }
 
@@ -80,14 +90,26 @@ impl<T: Drop> Numbers<T> {
         requires pass { IsPassFor words.now pass.old × IsSole pass.old.id }
         ensures taken { AreTakenTo (length self.new.slots.items) self.new × KeepsPlaces self.old self.new }
         ensures left { KeepsOn pass.old pass.new
-            × (AreOff pass.old → LeaveNothingBelow (length self.new.slots.items) self.new pass.new) }
+            × (AreOff pass.old → LeaveNothingBelow (length self.new.slots.items) (flags_of self.new.slots.items) pass.new) }
     {
         for n in 0..self.slots.len() {
-            if let Some(slot) = self.slots[n].take() {
-                let mut slot = slot;
-                sweep(words, &mut slot, pass);
-                self.slots[n] = Some(slot);
-            }
+            self.sweep_at(words, n, pass);
+        }
+    }
+
+    // So does the slot in this place, if there is one.
+    fn sweep_at(&mut self, words: &Words<T>, n: usize, pass: &mut Pass)
+        requires taken { AreTakenTo (length self.old.slots.items) self.old × (self.old.book.name ≡ words_book words.now)
+            × (n < length self.old.slots.items) }
+        requires pass { IsPassFor words.now pass.old × IsSole pass.old.id }
+        ensures taken { AreTakenTo (length self.new.slots.items) self.new × KeepsPlaces self.old self.new }
+        ensures kept { KeepsOn pass.old pass.new × KeepsLeftBut n pass.old pass.new }
+        ensures left { AreOff pass.old → AreOff pass.new × (IsHere (flags_of self.new.slots.items) n → LeavesNothing pass.new n) }
+    {
+        if let Some(slot) = self.slots[n].take() {
+            let mut slot = slot;
+            sweep(words, &mut slot, pass);
+            self.slots[n] = Some(slot);
         }
     }
 
@@ -95,17 +117,26 @@ impl<T: Drop> Numbers<T> {
     fn give_all(&mut self, words: &Words<T>, pass: &mut Pass)
         requires taken { AreTakenTo (length self.old.slots.items) self.old × (self.old.book.name ≡ words_book words.now) }
         requires pass { IsPassFor words.now pass.old × IsSole pass.old.id }
-        ensures numbers { AreNumbers self.new × KeepsPlaces self.old self.new }
+        ensures numbers { AreTakenTo 0 self.new × KeepsPlaces self.old self.new }
         ensures left { KeepsOn pass.old pass.new × KeepsLeft pass.old pass.new }
     {
         let many = self.slots.len();
         for given in 0..many {
-            let n = many - 1 - given;
-            if let Some(slot) = self.slots[n].take() {
-                let mut slot = slot;
-                slot.give(words, &mut self.key, pass);
-                self.slots[n] = Some(slot);
-            }
+            self.give_at(words, many - 1 - given, pass);
+        }
+    }
+
+    // The number of the slot in this place, if there is one, goes back. Those after it went back before.
+    fn give_at(&mut self, words: &Words<T>, n: usize, pass: &mut Pass)
+        requires taken { AreTakenTo (n + 1) self.old × (self.old.book.name ≡ words_book words.now) × (n < length self.old.slots.items) }
+        requires pass { IsPassFor words.now pass.old × IsSole pass.old.id }
+        ensures taken { AreTakenTo n self.new × KeepsPlaces self.old self.new }
+        ensures left { KeepsOn pass.old pass.new × KeepsLeft pass.old pass.new }
+    {
+        if let Some(slot) = self.slots[n].take() {
+            let mut slot = slot;
+            slot.give(words, &mut self.key, pass);
+            self.slots[n] = Some(slot);
         }
     }
 }

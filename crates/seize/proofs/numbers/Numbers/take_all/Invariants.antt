@@ -1,0 +1,12 @@
+use Rattle.std.proofs.Common.{◌≡◌, length}
+use Rattle.seize_book.specs.Tokens.{IsSole}
+use Rattle.seize_words.specs.Joined.{words_book}
+use Rattle.seize_calls.specs.Slots.{IsPassFor}
+use Rattle.seize.specs.Numbers.{flags_of}
+use Rattle.seize.specs.Sweeps.{AreOffBelow, AreTakenTo, KeepsOn, KeepsPlaces}
+use Rattle.seize.proofs.numbers.Numbers.take_all.Given as goal
+
+abbrev pub invariant-loop-n : goal.invariant-loop-n
+invariant-loop-n g l =
+    AreTakenTo l.n l.self × KeepsPlaces l.fn.self l.self × (length l.self.slots.items ≡ length l.fn.self.slots.items) × IsPassFor l.words l.pass × IsSole l.pass.id
+    × KeepsOn l.fn.pass l.pass × AreOffBelow l.n (flags_of l.self.slots.items) l.pass
