@@ -20,3 +20,4 @@ mod Endings
 mod Swept
 mod Bare
 mod Taken
+mod Cleared

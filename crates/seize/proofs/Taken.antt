@@ -23,7 +23,7 @@ use Rattle.seize.proofs.Numbered.{made_flags, some_same}
 
 -- Lists of places.
 module _ {X : Type 0} where
-  flags_length : (n : ℕ) (slots : List (Option X)) → length (flags_to n slots) ≡ length slots
+  pub flags_length : (n : ℕ) (slots : List (Option X)) → length (flags_to n slots) ≡ length slots
   flags_length zero slots = length-map slots is_none
   flags_length (suc n) [] = refl
   flags_length (suc n) (o ∷ slots) = ap suc (flags_length n slots)
@@ -227,3 +227,19 @@ plus_one n = omega arith
 
 pub taken_as : {T : Type 0} (numbers : Numbers T) (k m : ℕ) → k ≡ m → AreTakenTo m numbers → AreTakenTo k numbers
 taken_as numbers k m same are = subst (λ (n : ℕ). AreTakenTo n numbers) (sym same) are
+
+-- the key looked at the list, and knows no less
+pub taken_looked : {T : Type 0} (n : ℕ) (numbers numbers' : Numbers T) (pass' : Pass) → AreTakenTo n numbers → FollowsNumbers numbers.key pass' numbers'.key → use_flags numbers'.key ≡ use_flags numbers.key → numbers'.slots ≡ numbers.slots → numbers'.next ≡ numbers.next
+    → numbers'.book ≡ numbers.book → AreTakenTo n numbers'
+taken_looked n numbers numbers' pass' are follows flags slots next book =
+    let made : made_of numbers'.key ≡ made_of numbers.key = made_flags numbers'.key ∙ ap (λ (us : List Bool). length us) flags ∙ sym (made_flags numbers.key) in record {
+      book = follows.0 ∙ are.book ∙ ap (λ seen. seen.name) (sym book);
+      flags = flags ∙ are.flags ∙ ap (λ slots. flags_to n slots.items) (sym slots);
+      slots = λ i slot is. subst (λ name. IsTakenAt name n i slot) (ap (λ seen. seen.name) (sym book)) (are.slots i slot (ap (λ slots. get_or slots.items i None) (sym slots) ∙ is));
+      next = are.next;
+      is_there = next ∙ are.is_there;
+      comes = (are.comes.0 ∙ sym made, are.comes.1 ∙ sym follows.0);
+    }
+
+pub places_length : {T : Type 0} (numbers numbers' : Numbers T) → KeepsPlaces numbers numbers' → length numbers'.slots.items ≡ length numbers.slots.items
+places_length numbers numbers' keeps = sym (length-map numbers'.slots.items is_none) ∙ ap (λ (us : List Bool). length us) keeps.1 ∙ length-map numbers.slots.items is_none

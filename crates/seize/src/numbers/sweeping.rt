@@ -1,6 +1,7 @@
 //! What is done with the slots that nobody has, where nobody shares the collector. Each takes its number again, enters, attempts its batch
 //! at any length, and leaves; then the numbers go back. The pass is alone, so no call waits, and each returns.
-ghost use Rattle.std.specs.Prelude.{◌≡◌, ◌<◌, ◌+◌, length};
+ghost use Rattle.std.specs.Prelude.{◌≡◌, ◌<◌, ◌+◌, is_some, length};
+ghost use Rattle.std.specs.List.{list_all};
 ghost use Rattle.seize_book.specs.Tokens.{IsSole};
 ghost use Rattle.seize_words.specs.Joined.{words_book};
 ghost use Rattle.seize_calls.specs.Slots.{IsInactive, IsPassFor, IsSlotOf, its_number};
@@ -54,6 +55,13 @@ impl<T: Drop> Numbers<T> {
         self.sweep_all(words, pass);
         self.give_all(words, pass);
         self.key.look(pass);
+        self.all_here()
+    }
+
+    // Whether no number is in use: each slot that was made lies here.
+    fn all_here(&self) -> bool
+        ensures { result ≡ list_all is_some self.now.slots.items }
+    {
         self.slots.iter().all(|slot| slot.is_some())
     }
 

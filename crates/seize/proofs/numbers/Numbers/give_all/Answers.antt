@@ -1,0 +1,38 @@
+use Rattle.std.proofs.Common.{◌≡◌, ◌-◌, ◌+◌, ◌<◌, ℕ, length, refl, sym, ap, ◌∙◌, arith}
+use Rattle.seize.proofs.Placed.{still_for}
+use Rattle.seize.proofs.Swept.{keeps_none, keeps_then, still_sole}
+use Rattle.seize.proofs.Taken.{places_length, taken_as}
+use Rattle.seize.proofs.numbers.Numbers.give_all.Goals as goal
+
+pub loop-given-init : goal.loop-given-init
+loop-given-init g c =
+    let self = c.args.self.now in let many = c.len-many.ensures in
+    (taken_as self (c.len-many.result - 0) (length self.slots.items) (omega (arith, many)) c.requires.taken.0, (refl, refl), omega (arith, many), c.requires.pass.0, c.requires.pass.1, keeps_none c.args.pass.now, λ t was. was)
+
+pub give_at-requires : goal.give_at-requires
+give_at-requires g c =
+    let i = c.loop-given.invariant in let many = c.len-many.result in let given = c.loop-given.given in let less : given < many = c.loop-given-test.true in let long = i.2 in (
+      omega arith,
+      (
+        (taken_as c.loop-given.self (many - 1 - given + 1) (many - given) (omega (arith, less)) i.0, ap (λ seen. seen.name) i.1.0 ∙ c.requires.taken.1, omega (arith, less, long)),
+        (i.3, i.4),
+      ),
+    )
+
+pub loop-given-preserved : goal.loop-given-preserved
+loop-given-preserved g c =
+    let i = c.loop-given.invariant in let many = c.len-many.result in let given = c.loop-given.given in let less : given < many = c.loop-given-test.true in
+    let one = c.give_at.ensures in let was = c.loop-given.pass in let now = c.give_at.new.pass in let self' = c.give_at.new.self in (
+      taken_as self' (many - (given + 1)) (many - 1 - given) (omega (arith, less)) one.taken.0,
+      (one.taken.1.0 ∙ i.1.0, one.taken.1.1 ∙ i.1.1),
+      places_length c.loop-given.self self' one.taken.1 ∙ i.2,
+      still_for c.args.words.now was now i.3 one.left.0.0,
+      still_sole was now one.left.0.0 i.4,
+      keeps_then c.args.pass.now was now i.5 one.left.0,
+      λ t left. one.left.1 t (i.6 t left),
+    )
+
+pub returns-clause-numbers : goal.returns-clause-numbers
+returns-clause-numbers g c =
+    let i = c.loop-given.invariant in let over = c.loop-given-test.false in
+    (taken_as c.loop-given.self 0 (c.len-many.result - c.loop-given.given) (omega (arith, over)) i.0, i.1)
