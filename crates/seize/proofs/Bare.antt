@@ -41,7 +41,7 @@ use Rattle.seize.proofs.Swept.{enters, flushes, leaves, led_as, led_made, led_pr
 -- Reading a head answers whether it is active, and changes none.
 
 is_read : (size : ℕ) (st : State) (s n : ℕ) (t : State × Answer) → Step size st (ReadHead s n) t → t.1 ≡ HeadRead (is_active (head_at st n))
-is_read size st s n _ (Step.marked _ _ next note marks queue e r at) = refl
+is_read size st s n _ (Step.marked _ _ then note marks queue e r at) = refl
 is_read size st s n _ (Step.looked_at _ b won m later queue e) = refl
 
 same_answer : (a b : Bool) → HeadRead a ≡ HeadRead b → a ≡ b

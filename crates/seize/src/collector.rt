@@ -258,7 +258,7 @@ impl<'a, T: Drop> Stay<bool> for Sweep<'a, T> {
 
     ghost may = { λ sweep pass. IsPassFor sweep.words.now pass × IsSole pass.id };
 
-    ghost gives = { λ sweep sweep' pass pass' result. (sweep'.numbers.now ≡ sweep.numbers.now) × Sweeps pass pass' result };
+    ghost gives = { λ sweep sweep' pass pass' result. (sweep'.numbers ≡ sweep.numbers) × Sweeps pass pass' result };
 
     fn stay(&mut self, pass: &mut Pass<'static>) -> bool {
         let words = self.words;
@@ -302,16 +302,12 @@ impl<T: Drop> Collector<T> {
     pub fn reclaim_all(&mut self) -> bool
         ensures { ReclaimsAll self.old self.new result }
     {
-        let Collector {
-            words,
-            porter,
-            numbers,
-            id: _,
-            alloc: _,
-        } = self;
-        let mut sweep = Sweep { words, numbers };
-        let all = porter.stay(&mut sweep);
-        porter.leave_home();
+        let mut sweep = Sweep {
+            words: &self.words,
+            numbers: &mut self.numbers,
+        };
+        let all = self.porter.stay(&mut sweep);
+        self.porter.leave_home();
         all
     }
 }

@@ -1,0 +1,30 @@
+use Rattle.std.proofs.Common.{◌≡◌, ◌↔◌, ℕ, Bool, true, false, List, refl, sym, ap, subst, ◌∙◌}
+use Rattle.seize_machine.specs.Machine.History.{Reclaimed, Retired}
+use Rattle.seize_machine.specs.Machine.State.{link_at, slot_at}
+use Rattle.seize_book.specs.Book.{after, moments}
+use Rattle.seize_book.specs.Entry.{Entry}
+use Rattle.seize_book.specs.Porters.{GoesOnTo}
+use Rattle.seize_book.specs.Tokens.{Name, start}
+use Rattle.seize.specs.Collectors.{its_book, seen_by}
+use Rattle.seize.proofs.collector.Collector.reclaim_all.Goals as goal
+
+pub invariant_of-self : goal.invariant_of-self
+invariant_of-self g c =
+    let stay = c.stay-all.ensures in let leave = c.leave_home.ensures in let self = c.args.self.now in record {
+      lends = (leave.0.0 ∙ sym stay.again.0.0 ∙ stay.same.0 ∙ stay.shut.book.0 ∙ self.lends.0, leave.0.1 ∙ sym stay.again.0.1 ∙ stay.same.2 ∙ stay.shut.book.1 ∙ self.lends.1, leave.2);
+      numbered = ap (λ r. r.now) stay.gives.0 ∙ self.numbered;
+    }
+
+pub returns : goal.returns
+returns g c =
+    let stay = c.stay-all.ensures in let leave = c.leave_home.ensures in let self = c.args.self.now in let lent = stay.lent in let back = stay.back in let sweeps = stay.gives.1 in let name = its_book self in let seen' = c.leave_home.new.self.seen in
+    let lent_name : lent.name ≡ name = stay.shut.book.0 ∙ self.lends.0 in let back_name : back.name ≡ name = stay.same.0 ∙ lent_name in let back_seen : back.seen ≡ seen' = sym stay.again.1 ∙ sym leave.1 in
+    record {
+      same = (refl, refl, refl);
+      seen = lent.seen;
+      goes_on = subst (λ (n : Name). GoesOnTo n self.porter.seen lent.seen) self.lends.0 stay.shut.goes_on;
+      grows = subst (λ (t : Name × List Entry). GoesOnTo t.0 lent.seen t.1) (λ j. (lent_name j, back_seen j)) sweeps.goes_on;
+      links = λ l. ap (λ (t : Name × List Entry). link_at (after (start t.0) t.1) l) (λ j. (sym back_name j, sym back_seen j)) ∙ sweeps.links l ∙ ap (λ (n : Name). link_at (after (start n) lent.seen) l) lent_name;
+      all_back = subst (λ (t : Name × List Entry). (c.stay-all.result ≡ true) ↔ ((s : ℕ) → (slot_at (after (start t.0) t.1) s).used ≡ false)) (λ j. (back_name j, back_seen j)) sweeps.all_back;
+      reclaimed = λ so. subst (λ (t : Name × List Entry). (v q : ℕ) → Retired (moments (start t.0) t.1) v q → (k : ℕ) × Reclaimed (moments (start t.0) t.1) v k) (λ j. (back_name j, back_seen j)) (sweeps.reclaimed so);
+    }
