@@ -1,5 +1,5 @@
 -- Where a pass is alone and no other slot is active, a slot that attempted its batch has none; and it keeps none when it leaves.
-use Rattle.std.proofs.Common.{◌≡◌, ℕ, suc, ◌<◌, ◌≤◌, ◌⊎◌, Bool, true, false, List, [], ◌∷◌, ◌++◌, length, map, None, Some, is_some, refl, sym, ap, subst, ◌∙◌, append-nil, arith}
+use Rattle.std.proofs.Common.{◌≡◌, ℕ, suc, ◌<◌, ◌≤◌, ◌⊎◌, Bool, true, false, List, [], ◌∷◌, ◌++◌, length, None, Some, is_some, refl, sym, ap, subst, ◌∙◌, arith}
 use native.Mathlib.Decide.{ℕ_discrete}
 use mathlib.Core.Logic.{inl, inr}
 use Rattle.seize_machine.proofs.Facts.{Step, head_frame, step_of}
@@ -8,16 +8,16 @@ use Rattle.seize_machine.specs.declared.machine.event.Job.TheVariants.{Leave}
 use Rattle.seize_machine.specs.Machine.Frames.{changes_head_of}
 use Rattle.seize_machine.specs.Machine.History.{done_by, or_illegal}
 use Rattle.seize_machine.specs.Machine.Next.{Outcome, next}
-use Rattle.seize_machine.specs.Machine.State.{Head, Slot as Record, State, head_at, is_active, slot_at}
+use Rattle.seize_machine.specs.Machine.State.{Slot as Record, State, head_at, is_active}
 use Rattle.seize_machine.specs.declared.machine.event.Answer.{Answer}
 use Rattle.seize_machine.specs.declared.machine.event.Answer.TheVariants.{Head as HeadRead, Illegal}
 use Rattle.seize_book.specs.Adding.{private}
-use Rattle.seize_book.specs.Book.{after, with_answers}
+use Rattle.seize_book.specs.Book.{with_answers}
 use Rattle.seize_book.specs.Entry.{Deed, Entry, Made, Used, timed_deed}
 use Rattle.seize_book.specs.Homesteads.{state_seen}
 use Rattle.seize_book.specs.Passes.{events_in}
 use Rattle.seize_book.specs.Slots.{slot_number, slot_of}
-use Rattle.seize_book.specs.Tokens.{IsSole, start}
+use Rattle.seize_book.specs.Tokens.{IsSole}
 use Rattle.seize_book.specs.Values.{values_of}
 use Rattle.seize_book.specs.declared.book.pass.Pass.{Pass}
 use Rattle.seize_calls.proofs.Alone.{made_there}
@@ -26,9 +26,8 @@ use Rattle.seize_calls.specs.Batches.{keys_in}
 use Rattle.seize_calls.specs.Calls.{Flushes, Leaves}
 use Rattle.seize_calls.specs.Handing.{Had, Handings, values_put}
 use Rattle.seize_calls.specs.Marks.{actives, readings}
-use Rattle.seize_calls.specs.Settling.{CallState, Drains, RetiresBatch, Settles, Stays}
+use Rattle.seize_calls.specs.Settling.{CallState, Drains, Settles}
 use Rattle.seize_calls.specs.Slots.{IsInactive, IsOfWords, IsPassFor, Prepares, SlotEnters, SlotFlushes, SlotLeaves, SlotLooks, its_book, its_number}
-use Rattle.seize_calls.specs.Walking.{handed_in}
 use Rattle.seize_calls.specs.declared.slot.Slot.{Slot}
 use Rattle.seize_words.specs.declared.activation.Activation.{Activation}
 use Rattle.seize_words.specs.declared.words.Words.{Words}
@@ -124,6 +123,7 @@ module _ {T : Type 0} (slot : Slot T) (pass : Pass) (slot' : Slot T) (pass' : Pa
         (led_made k e.ready f.begun.pass _ keeps.same keeps.alone (prepared_sole slot pass e.ready e.prepares sole) f.begins.begins.made (((λ u apart. other k u k refl apart), λ l. refl), tt)).active t differs_own
         ∙ ap (λ (st : State). is_active (head_at st t)) (prepared_same slot pass e.ready e.prepares sole)
         ∙ off t (λ e. differs_own (e ∙ sym slot.together.numbered))
+
     settled_none : PutNone f.settled.had
     settled_none = (goes_drained f.settled f.drained f.drains (subst PutNone f.returns.had_none none)).none
 
@@ -141,7 +141,7 @@ module _ {T : Type 0} (slot : Slot T) (pass : Pass) (slot' : Slot T) (pass' : Pa
         few (inl short) = no_values batch (omega (arith, short.1))
         few (inr many) =
             let one = (few_active f.begun.pass (slot_number f.begun.key) 0 r.finds (state_seen f.begun.pass) (r.on.alone begun_sole).0
-                (made_there f.begun.pass f.settled.pass _ r.on.same r.on.alone begun_sole r.made) begun_off).0 in
+            (made_there f.begun.pass f.settled.pass _ r.on.same r.on.alone begun_sole r.made) begun_off).0 in
             no_values batch (omega (arith, one, many))
 
     pub flush_bare : (slot_of slot'.key).batch ≡ []

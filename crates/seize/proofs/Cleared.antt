@@ -1,5 +1,5 @@
 -- Where each slot leaves nothing, each value that was ever retired is reclaimed.
-use Rattle.std.proofs.Common.{◌≡◌, ℕ, zero, suc, ◌<◌, ◌≤◌, Bool, true, false, not, ◌&&◌, List, [], ◌∷◌, length, map, is_some, ◌⊎◌, inl, inr, ⊎_elim, refl, sym, ap, subst, ◌∙◌, arith}
+use Rattle.std.proofs.Common.{◌≡◌, ℕ, zero, suc, ◌<◌, ◌≤◌, Bool, true, not, ◌&&◌, List, [], ◌∷◌, length, is_some, ◌⊎◌, inl, inr, ⊎_elim, refl, ap, subst, ◌∙◌, arith}
 use Rattle.std.specs.Prelude.{slice_index_or}
 use Rattle.std.specs.List.{list_all}
 use Rattle.std.proofs.lemmas.List.{length-map}
@@ -7,12 +7,12 @@ use Rattle.seize_machine.proofs.Facts.{heads_length, law_quiet}
 use Rattle.seize_machine.specs.Machine.Frames.{used}
 use Rattle.seize_machine.specs.Machine.History.{Reclaimed, Retired, answers_of}
 use Rattle.seize_machine.specs.Machine.Laws.{is_quiet}
-use Rattle.seize_machine.specs.Machine.State.{Head, Inactive, Slot as Record, State, are_distinct, head_at, is_active, linked_values, no_slot, slot_at}
+use Rattle.seize_machine.specs.Machine.State.{Inactive, Slot as Record, State, are_distinct, head_at, is_active, linked_values, no_slot, slot_at}
 use Rattle.seize_book.specs.Book.{IsLegalList, after, moments}
 use Rattle.seize_book.specs.Entry.{events_of}
 use Rattle.seize_book.specs.Homesteads.{state_seen}
 use Rattle.seize_book.specs.Passes.{LooksOn}
-use Rattle.seize_book.specs.Tokens.{IsSole, Name, start}
+use Rattle.seize_book.specs.Tokens.{IsSole, start}
 use Rattle.seize_book.specs.declared.book.pass.Pass.{Pass}
 use Rattle.seize_book.proofs.Facts.{as_legal, reached_after}
 use Rattle.seize.specs.Laws.{moments_seen}

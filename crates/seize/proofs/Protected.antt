@@ -1,12 +1,10 @@
 -- What a guard found is not reclaimed while its activation lasts.
-use Rattle.std.proofs.Common.{◌≡◌, ℕ, zero, suc, Bool, true, false, ◌==◌, ◌||◌, List, [], ◌∷◌, ◌++◌, length, option_to_list, Option, None, Some, refl, sym, ap, subst, ◌∙◌}
-use Rattle.std.specs.Prelude.{slice_get}
+use Rattle.std.proofs.Common.{◌≡◌, ℕ, zero, suc, Bool, true, false, ◌==◌, ◌||◌, List, [], ◌∷◌, ◌++◌, option_to_list, Option, None, Some, refl, sym, ap, subst, ◌∙◌}
 use Rattle.std.proofs.lemmas.Bool.{false≢true}
 use Rattle.seize_machine.specs.Machine.History.{Moment, Reclaimed, answers_of, handed, handed_value}
-use Rattle.seize_machine.specs.Machine.State.{State, are_distinct, has, linked_values}
-use Rattle.seize_machine.specs.declared.machine.event.Answer.{Answer}
+use Rattle.seize_machine.specs.Machine.State.{are_distinct, has, linked_values}
 use Rattle.seize_machine.proofs.Facts.{law_gone, some_is}
-use Rattle.seize_book.specs.Book.{IsLegalList, moments}
+use Rattle.seize_book.specs.Book.{IsLegalList}
 use Rattle.seize_book.specs.Entry.{events_of}
 use Rattle.seize_book.specs.Homesteads.{state_seen}
 use Rattle.seize_book.specs.Passes.{LooksOn}
@@ -16,7 +14,7 @@ use Rattle.seize_book.proofs.Facts.{as_legal, equal}
 use Rattle.seize_words.specs.Activations.{IsLasting}
 use Rattle.seize_words.specs.declared.activation.Activation.{Activation}
 use Rattle.seize_words.proofs.Facts.{found_stands}
-use Rattle.seize.specs.Exchanges.{FoundIn, Protects}
+use Rattle.seize.specs.Exchanges.{Protects}
 use Rattle.seize.specs.Laws.{moments_seen}
 
 -- a value that an event handed is among those handed

@@ -1,5 +1,5 @@
 -- What was made with a pass stands among the moments that it has seen. So the laws, which speak of these, speak of a user's own calls.
-use Rattle.std.proofs.Common.{◌≡◌, ℕ, zero, suc, ◌≤◌, Bool, true, false, arith, cond, ◌==◌, ◌⊎◌, List, [], ◌∷◌, ◌++◌, filter, length, map, Some, inl, inr, refl, sym, ap, subst, ◌∙◌}
+use Rattle.std.proofs.Common.{◌≡◌, ℕ, zero, suc, ◌≤◌, Bool, true, false, arith, cond, ◌==◌, List, [], ◌∷◌, ◌++◌, filter, length, map, Some, inl, inr, refl, sym, ap, subst, ◌∙◌}
 use Rattle.std.specs.Prelude.{slice_get}
 use mathlib.Core.List.{IsPrefix}
 use Rattle.seize_machine.specs.Machine.State.{State}
@@ -102,8 +102,8 @@ moment_still st (Made d ∷ a) b zero m is = is
 moment_still st (Made d ∷ a) b (suc q) m is = moment_still (or_illegal st (outcome st (Made d))).0 a b q m is
 moment_still st (Used u ∷ a) b q m is = moment_still st a b q m is
 
-pub retired_still : (st : State) {a b : List Entry} {v q : ℕ} → IsPrefix a b → Retired (moments st a) v q → Retired (moments st b) v q
-retired_still st {a} {b} {v} {q} grows r = (r.0, subst (λ (log : List Entry). slice_get (moments st log) q ≡ Some r.0) grows.1 (moment_still st a grows.0 q r.0 r.1), r.2)
+pub retired_still : (st : State) (a b : List Entry) (v q : ℕ) → IsPrefix a b → Retired (moments st a) v q → Retired (moments st b) v q
+retired_still st a b v q grows r = (r.0, subst (λ (log : List Entry). slice_get (moments st log) q ≡ Some r.0) grows.1 (moment_still st a grows.0 q r.0 r.1), r.2)
 
-pub reclaimed_still : (st : State) {a b : List Entry} {v c : ℕ} → IsPrefix a b → Reclaimed (moments st a) v c → Reclaimed (moments st b) v c
-reclaimed_still st {a} {b} {v} {c} grows r = (r.0, subst (λ (log : List Entry). slice_get (moments st log) c ≡ Some r.0) grows.1 (moment_still st a grows.0 c r.0 r.1), r.2)
+pub reclaimed_still : (st : State) (a b : List Entry) (v c : ℕ) → IsPrefix a b → Reclaimed (moments st a) v c → Reclaimed (moments st b) v c
+reclaimed_still st a b v c grows r = (r.0, subst (λ (log : List Entry). slice_get (moments st log) c ≡ Some r.0) grows.1 (moment_still st a grows.0 c r.0 r.1), r.2)

@@ -1,5 +1,5 @@
 -- What a slot's calls leave of all others, and of the links, where the pass is alone.
-use Rattle.std.proofs.Common.{◌≡◌, ℕ, zero, suc, ◌==◌, is_some, slice_set, Bool, true, false, List, [], ◌∷◌, ◌++◌, map, Option, None, Some, refl, sym, ap, subst, ◌∙◌, append-nil, append_assoc, arith}
+use Rattle.std.proofs.Common.{◌≡◌, ℕ, zero, suc, ◌==◌, is_some, slice_set, Bool, false, List, [], ◌∷◌, ◌++◌, map, None, Some, refl, sym, ap, subst, ◌∙◌, append-nil}
 use Rattle.std.specs.Prelude.{slice_index_or}
 use Rattle.std.proofs.lemmas.List.{append_cancel_left}
 use native.Mathlib.Decide.{ℕ_discrete}
@@ -10,7 +10,7 @@ use Rattle.seize_machine.specs.Machine.Event.{AddCount, Begin, Detach, Enter, Ev
 use Rattle.seize_machine.specs.Machine.Frames.{changes_link, changes_slot}
 use Rattle.seize_machine.specs.Machine.History.{done_by, or_illegal}
 use Rattle.seize_machine.specs.Machine.Next.{Outcome, next}
-use Rattle.seize_machine.specs.Machine.State.{Slot as Record, State, head_at, is_active, link_at, no_slot, slot_at}
+use Rattle.seize_machine.specs.Machine.State.{Slot as Record, State, head_at, is_active, no_slot, slot_at}
 use Rattle.seize_machine.specs.declared.machine.event.Answer.{Answer}
 use Rattle.seize_machine.specs.declared.machine.event.Job.{Job}
 use Rattle.seize_machine.specs.declared.machine.event.Job.TheVariants.{Flush, Leave}
@@ -24,12 +24,12 @@ use Rattle.seize_book.specs.declared.book.pass.Pass.{Pass}
 use Rattle.seize_book.proofs.Facts.{same_twice, unequal}
 use Rattle.seize_calls.proofs.Alone.{alone_noted, alone_twice, made_added, made_there}
 use Rattle.seize_calls.specs.Alone.{AddsAlone}
-use Rattle.seize_calls.specs.Slots.{CallsWith, IsOfWords, IsPassFor, Prepares, SlotEnters, SlotFlushes, SlotGives, SlotLeaves, SlotLooks, SlotTakes, its_number}
+use Rattle.seize_calls.specs.Slots.{IsOfWords, IsPassFor, Prepares, SlotEnters, SlotFlushes, SlotGives, SlotLeaves, SlotLooks, SlotTakes, its_number}
 use Rattle.seize_calls.specs.declared.slot.Slot.{Slot}
 use Rattle.seize_words.specs.declared.activation.Activation.{Activation}
 use Rattle.seize_words.specs.declared.words.Words.{Words}
 use Rattle.seize.specs.Ends.{Ended, had_of}
-use Rattle.seize.specs.Makes.{AreStepsOf, IsStepOf, Makes, MakesCall, MakesOne, made_with}
+use Rattle.seize.specs.Makes.{AreStepsOf, IsStepOf, Makes, MakesCall, made_with}
 use Rattle.seize.specs.Sweeps.{IsLedBy, IsOff, KeepsOn, Leads, LeavesNothing}
 use Rattle.seize.proofs.Made.{as_made, made_grew, one_added, step_added}
 use Rattle.seize.proofs.Wholly.{slot_flushes, slot_leaves}

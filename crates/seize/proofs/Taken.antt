@@ -1,22 +1,21 @@
 -- Which numbers are in use while the slots that nobody has take theirs again, from the first on, and give them back, from the last on.
-use Rattle.std.proofs.Common.{◌≡◌, ℕ, zero, suc, ◌+◌, ◌<◌, ◌≤◌, ◌⊎◌, inl, inr, ⊎_elim, Bool, true, false, not, ◌↔◌, List, [], ◌∷◌, ◌++◌, length, map, Option, Some, None, is_some, get_or, slice_set, refl, sym, ap, subst, ◌∙◌, arith}
+use Rattle.std.proofs.Common.{◌≡◌, ℕ, zero, suc, ◌+◌, ◌<◌, ◌≤◌, ◌⊎◌, inl, inr, ⊎_elim, Bool, true, false, List, [], ◌∷◌, length, map, Option, Some, None, is_some, get_or, slice_set, refl, sym, ap, subst, ◌∙◌, arith}
 use Rattle.std.specs.List.{list_all}
 use Rattle.std.specs.Option.{is_none}
 use Rattle.std.specs.Prelude.{slice_index_or}
-use Rattle.std.proofs.lemmas.List.{length-map, length-set, map-set}
+use Rattle.std.proofs.lemmas.List.{length-map, length-set}
 use Rattle.seize_machine.specs.Machine.State.{Slot as Record, no_slot}
 use Rattle.seize_table.specs.Place.{all_numbers}
-use Rattle.seize_book.specs.Book.{after}
 use Rattle.seize_book.specs.Others.{FollowsNumbers, MayTakeNumber, first_false, use_flags}
 use Rattle.seize_book.specs.Tokens.{Name}
 use Rattle.seize_book.specs.declared.book.numbers_key.NumbersKey.{NumbersKey}
 use Rattle.seize_book.specs.declared.book.pass.Pass.{Pass}
 use Rattle.seize_words.specs.Named.{numbers_book}
 use Rattle.seize_words.specs.Totals.{made_of}
-use Rattle.seize_calls.specs.Slots.{IsInUse, IsInactive, IsOfList, SetsUse, its_key, its_number}
+use Rattle.seize_calls.specs.Slots.{SetsUse, its_key, its_number}
 use Rattle.seize_calls.specs.declared.slot.Slot.{Slot}
 use Rattle.seize_calls.proofs.Slots.{may_take_slot}
-use Rattle.seize.specs.Numbers.{AreNumbers, IsEndedAt, flags_of}
+use Rattle.seize.specs.Numbers.{AreNumbers, flags_of}
 use Rattle.seize.specs.Sweeps.{AreAllHere, AreTakenTo, IsHere, IsTakenAt, KeepsPlaces, flags_to}
 use Rattle.seize.specs.declared.numbers.Numbers.{Numbers}
 use Rattle.seize.proofs.Numbered.{made_flags, some_same}

@@ -8,7 +8,6 @@
 --     ReclaimsAll c c' all     the same collector has seen a longer list, in which no link was exchanged since nobody shared it; `seen` was
 --                              the whole list then. It says `all` where no number is in use, and then each retired value is reclaimed
 use Rattle.std.specs.Prelude.{◌≡◌, ◌↔◌, ℕ, Bool, true, false, List}
-use mathlib.Core.List.{IsPrefix}
 use Rattle.seize_machine.specs.Machine.History.{Moment, Reclaimed, Retired}
 use Rattle.seize_machine.specs.Machine.State.{State, link_at, slot_at}
 use Rattle.seize_book.specs.Book.{after, moments}

@@ -10,7 +10,6 @@
 --     Sweeps pass pass' all    it is the same pass, and the list goes on with no exchange of a link. It says `all` where no number is in
 --                              use then, and in that case each value that was ever retired is reclaimed
 use Rattle.std.specs.Prelude.{◌≡◌, ◌↔◌, ◌<◌, ◌≤◌, ℕ, suc, zero, Bool, true, false, List, [], ◌∷◌, Option, Some, None, get_or, is_some}
-use Rattle.seize_machine.specs.Machine.Frames.{used}
 use Rattle.seize_machine.specs.Machine.History.{Reclaimed, Retired}
 use Rattle.seize_machine.specs.Machine.State.{State, head_at, is_active, link_at, slot_at}
 use Rattle.seize_book.specs.Homesteads.{state_seen}

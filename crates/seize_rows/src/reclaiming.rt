@@ -1,7 +1,9 @@
 //! What an exclusive call reclaims: all that was retired, where nothing was forgotten, and it says so. The links keep what they hold, and
 //! the collector is shared again.
 
-use crate::ending::{TIMES, collector, forget_guard, forget_registration, put_by_two, put_in_all, retire_by_two};
+use crate::ending::{
+    TIMES, collector, forget_guard, forget_registration, put_by_two, put_in_all, retire_by_two,
+};
 use crate::values::ended;
 use std::sync::atomic::AtomicU64;
 use std::test::*;

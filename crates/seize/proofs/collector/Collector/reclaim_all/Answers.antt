@@ -1,11 +1,11 @@
-use Rattle.std.proofs.Common.{◌≡◌, ◌↔◌, ℕ, Bool, true, false, List, refl, sym, ap, subst, ◌∙◌}
+use Rattle.std.proofs.Common.{◌≡◌, ◌↔◌, ℕ, true, false, List, refl, sym, ap, subst, ◌∙◌}
 use Rattle.seize_machine.specs.Machine.History.{Reclaimed, Retired}
 use Rattle.seize_machine.specs.Machine.State.{link_at, slot_at}
 use Rattle.seize_book.specs.Book.{after, moments}
 use Rattle.seize_book.specs.Entry.{Entry}
 use Rattle.seize_book.specs.Porters.{GoesOnTo}
 use Rattle.seize_book.specs.Tokens.{Name, start}
-use Rattle.seize.specs.Collectors.{its_book, seen_by}
+use Rattle.seize.specs.Collectors.{its_book}
 use Rattle.seize.proofs.collector.Collector.reclaim_all.Goals as goal
 
 pub invariant_of-self : goal.invariant_of-self

@@ -1,6 +1,5 @@
 use Rattle.std.proofs.Common.{◌-◌, ◌≡◌, length}
 use Rattle.seize_book.specs.Tokens.{IsSole}
-use Rattle.seize_words.specs.Joined.{words_book}
 use Rattle.seize_calls.specs.Slots.{IsPassFor}
 use Rattle.seize.specs.Sweeps.{AreTakenTo, KeepsLeft, KeepsOn, KeepsPlaces}
 use Rattle.seize.proofs.numbers.Numbers.give_all.Given as goal

@@ -1,4 +1,4 @@
-use Rattle.std.proofs.Common.{◌≡◌, ◌<◌, ◌+◌, ℕ, Bool, List, refl, ap, length, subst, sym, ◌∙◌, arith}
+use Rattle.std.proofs.Common.{◌≡◌, ◌+◌, ℕ, Bool, List, subst, sym, ◌∙◌, arith}
 use native.Mathlib.Decide.{ℕ_discrete}
 use Rattle.seize_book.specs.declared.book.pass.Pass.{Pass}
 use Rattle.seize.specs.Numbers.{flags_of}

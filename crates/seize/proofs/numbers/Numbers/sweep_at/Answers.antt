@@ -1,11 +1,8 @@
-use Rattle.std.proofs.Common.{◌≡◌, ℕ, length, Some, None, get_or, refl, sym, ap, subst, ◌∙◌, arith}
+use Rattle.std.proofs.Common.{◌≡◌, length, Some, None, refl, sym, subst, ◌∙◌, arith}
 use Rattle.std.proofs.lemmas.List.{get_or_default, length-set}
 use Rattle.std.specs.Prelude.{slice_set}
-use native.Mathlib.Decide.{ℕ_discrete}
 use Rattle.seize_calls.specs.Slots.{IsOfList, its_number}
-use Rattle.seize.specs.Numbers.{flags_of}
-use Rattle.seize.specs.Sweeps.{AreTakenTo, IsTakenAt, KeepsPlaces, LeavesNothing, flags_to}
-use Rattle.seize.specs.declared.numbers.Numbers.{Numbers}
+use Rattle.seize.specs.Sweeps.{IsTakenAt, LeavesNothing}
 use Rattle.seize.proofs.Swept.{keeps_none, keeps_on, kept_left, kept_off}
 use Rattle.seize.proofs.Taken.{none_here, none_there, set_twice, some_there, taken_as, taken_same}
 use Rattle.seize.proofs.numbers.Numbers.sweep_at.Goals as goal

@@ -1,4 +1,4 @@
-use Rattle.std.proofs.Common.{◌≡◌, ℕ, length, sym, subst, arith}
+use Rattle.std.proofs.Common.{length, arith}
 use Rattle.seize.proofs.Taken.{taken_as}
 use Rattle.seize.proofs.numbers.Numbers.take_all.Goals as goal
 
