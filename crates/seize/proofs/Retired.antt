@@ -22,7 +22,7 @@ use Rattle.seize_book.specs.declared.book.pass.Pass.{Pass}
 use Rattle.seize.specs.Laws.{moments_seen}
 use Rattle.seize.specs.Makes.{MakesCall, MakesNone, WasMade, made_with}
 use Rattle.seize.proofs.Made.{as_made, then_none}
-use Rattle.seize.proofs.Stands.{made_after, picked}
+use Rattle.seize.proofs.Stands.{made_after, picked, rest_of}
 
 -- Events one by one.
 
@@ -96,10 +96,6 @@ legal_made st d log legal = let first = legal_first st (timed_deed d) (next d.si
 abbrev first_or : {A : Type 0} → A → List A → A
 first_or x [] = x
 first_or x (y ∷ ys) = y
-
-abbrev rest_of : {A : Type 0} → List A → List A
-rest_of [] = []
-rest_of (y ∷ ys) = ys
 
 -- where the slot is about to put the value, and the list has a return of its call, the value is retired
 until_first : (st : State) (d : Deed) (log : List Entry) (s v : ℕ) → IsLegalList st (Made d ∷ log) → Appends st s v → (b : Bool) → changes_slot s d.event ≡ b

@@ -48,7 +48,7 @@ picks test st log = map as_made (events_in (filter test (with_answers st log)))
 abbrev StandsAfter : State → List Entry → List Entry → Event × Answer → Type 0
 StandsAfter st a b x = (e : ℕ) × (length (moments st a) ≤ e) × StandsAt (moments st (a ++ b)) x e
 
-abbrev rest_of : {A : Type 0} → List A → List A
+abbrev pub rest_of : {A : Type 0} → List A → List A
 rest_of [] = []
 rest_of (y ∷ ys) = ys
 

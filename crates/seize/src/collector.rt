@@ -29,9 +29,10 @@ const MOST_PROCESSORS: usize = 0x8000_0000_0000_0000;
 /// It has numbered links, which hold a block each or nothing, and slots, which threads have by their registrations. It follows the Hyaline
 /// scheme with one list of waiting batches for each slot.
 ///
-/// Where it is dropped, each value ends that a link holds, and each that waits in the batch of a slot whose number went back: its
-/// registration ended with the answer true, or its owned guard left. That takes no memory and waits for nobody, but for what the values do
-/// as they end. Where something was forgotten, values leak, with the memory of their rows of the store:
+/// Where nobody shares it, `reclaim_all` ends what waits in the batches. Where it is dropped, that is done, and then each value ends that a
+/// link holds. A batch is reached if its slot's number went back: its registration ended with the answer true, or its owned guard left. That
+/// takes no memory and waits for nobody, but for what the values do as they end. Where something was forgotten, values leak, with the memory
+/// of their rows of the store:
 ///
 /// - where a registration was forgotten, those in its slot's batch, and where no number went back, those in the links too;
 /// - where a guard was forgotten, all of them: its slot is active for good, and what is retired waits for it.
@@ -46,11 +47,11 @@ pub struct Collector<T: Drop> {
 }
 
 impl<T: Drop> Collector<T> {
-    ghost use Rattle.std.specs.Prelude.{◌⊎◌, ◌+◌, ◌≤◌, ◌<◌, ◌^◌, None, Some, max as greater, IfOk, IfErr};
+    ghost use Rattle.std.specs.Prelude.{◌+◌, ◌≤◌, ◌^◌, max as greater, IfOk, IfErr};
     ghost use Rattle.std.specs.Int.{IsNextPowerOfTwo};
     ghost use Rattle.seize_machine.specs.Machine.Event.{Take};
     ghost use Rattle.seize_machine.specs.declared.machine.event.Answer.TheVariants.{Done};
-    ghost use Rattle.seize_table.specs.declared.refusal.Refusal.TheVariants.{NoMemory as no_memory, NoNumbers as no_numbers};
+    ghost use Rattle.seize_table.specs.declared.refusal.Refusal.TheVariants.{NoMemory as no_memory};
     ghost use Rattle.seize.specs.Blocks.{content};
     ghost use Rattle.seize.specs.Collectors.{BeginsEmpty, IsBlockOf, IsNewPassOf, IsPassOf, IsRefusalFor, its_book, its_id, its_links, its_size, seen_by};
     ghost use Rattle.seize.specs.Registrations.{registered_in, registered_slot};
@@ -298,7 +299,8 @@ impl<T: Drop> Collector<T> {
     /// All passes, guards and registrations are over by then. Where a registration was forgotten, the values of its slot's batch stay
     /// where they are; where a guard was forgotten, so does all that its slot keeps back.
     ///
-    /// It takes no memory and waits for nobody, but for what values do as they end. Each slot makes three atomic swaps and one addition.
+    /// It takes no memory and waits for nobody, but for what values do as they end. Each slot that nobody has makes two atomic swaps, and
+    /// four atomic steps more where its batch has values.
     pub fn reclaim_all(&mut self) -> bool
         ensures { ReclaimsAll self.old self.new result }
     {

@@ -34,7 +34,7 @@ pub struct OwnedGuard<'c, T: Drop> {
 }
 
 impl<'c, T: Drop> OwnedGuard<'c, T> {
-    ghost use Rattle.std.specs.Prelude.{◌⊎◌, ◌<◌, ℕ, Option, IfErr, IfOk, IfSome};
+    ghost use Rattle.std.specs.Prelude.{◌<◌, ℕ, Option, IfErr, IfOk, IfSome};
     ghost use Rattle.seize_machine.specs.Machine.Event.{Enter, ExchangeLink, ReadLink};
     ghost use Rattle.seize_machine.specs.declared.machine.event.Answer.TheVariants.{Done, Link};
     ghost use Rattle.seize_machine.specs.declared.machine.event.Exchange.TheVariants.{Swap};

@@ -34,7 +34,7 @@ impl<T: Drop> Reservation<T> {
     ghost use Rattle.seize_machine.specs.Machine.Event.{Enter};
     ghost use Rattle.seize_machine.specs.declared.machine.event.Answer.TheVariants.{Done};
     ghost use Rattle.seize_words.specs.Joined.{words_book};
-    ghost use Rattle.seize_calls.specs.Slots.{InActivation, IsInactive, IsPassFor, IsSlotOf, its_book, its_number};
+    ghost use Rattle.seize_calls.specs.Slots.{InActivation, IsInactive, IsPassFor, IsSlotOf, its_number};
     ghost use Rattle.seize.specs.Makes.{MakesOne, StaysActive};
     ghost use Rattle.seize.specs.Reservations.{IsHeadFor, IsReservationOf, IsUnit, KeepsPlace, place_label};
 

@@ -5,8 +5,6 @@
 #[cfg(test)]
 mod any;
 #[cfg(test)]
-mod contending;
-#[cfg(test)]
 mod ending;
 #[cfg(test)]
 mod exchanging;

@@ -1,10 +1,8 @@
 pub mod Did
 pub mod Leaves
 pub mod NumberedRuns
-pub mod Replacements
 pub mod Runs
 pub mod SameLent
 pub mod Shared
-pub mod SharedNumbers
 pub mod Stages
 pub mod Told

@@ -337,25 +337,6 @@ pub fn walk_heads(
 }
 
 impl<'p> Entrant<'p> {
-    /// Enters, swaps the value of a new block into a link, and leaves, so often, with one link after the other. It gives the sum of the
-    /// words that it put in, less those that came out, modulo 2^64. Nothing comes where memory was refused, or something waited.
-    pub fn swap_many(self, words: &Words<u64>, turns: u64) -> Option<u64>
-        requires may { MayEnter words.now self }
-    {
-        let Entrant {
-            slot,
-            mut key,
-            mut pass,
-        } = self;
-        let mut left: u64 = 0;
-        for turn in 0..turns {
-            let link = (turn % LINKS) as usize;
-            let (put, out) = swap_once(words, link, turn, slot, &mut key, &mut pass)?;
-            left = left.wrapping_add(put).wrapping_sub(out);
-        }
-        Some(left)
-    }
-
     /// Enters, and takes out what each link holds. It gives the sum of the words, modulo 2^64, and how many links held something.
     pub fn empty_links(self, words: &Words<u64>) -> (u64, u64)
         requires may { MayEnter words.now self }

@@ -7,7 +7,5 @@ pub mod guests;
 pub mod homing;
 pub mod lending;
 pub mod numbered_run;
-pub mod replacing;
-pub mod shared_numbers;
 #[cfg(test)]
 mod tests;

@@ -4,12 +4,11 @@ ghost use Rattle.seize_words_rows.specs.Guests.{IsGuestOf};
 ghost use Rattle.std.specs.Prelude.{◌≡◌, IfSome};
 
 use crate::entrants::{
-    Entered, Entrant, LINKS, TURNS, meet, open, read_under, share_and_find, share_and_swap,
-    walk_heads,
+    Entered, Entrant, meet, open, read_under, share_and_find, share_and_swap, walk_heads,
 };
 use crate::guests::{Guest, welcome};
 use crate::lending::{lend_and_give_back, lend_and_note};
-use crate::{numbered_run, shared_numbers};
+use crate::numbered_run;
 use seize_words::activation::Activation;
 use seize_words::batch::Count;
 use seize_words::book::{
@@ -134,32 +133,6 @@ fn a_batch_is_counted_by_the_number_of_its_block(rt: HostRuntime) {
     assert!(rt; numbered_run::count_up(&words, &mut retired, &mut retirer, &mut pass));
 }
 
-// Where others may append, the number of the first of two slots goes back, and is taken again as the least that is not in use. So the third
-// slot that is made has the number after both.
-#[test]
-fn a_number_goes_back_and_is_taken_again(rt: HostRuntime) {
-    let Some((words, porter, mut numbers, next)) = shared_numbers::begin(rt.alloc()) else {
-        panic!(rt; "no memory");
-    };
-    let mut pass = porter.pass();
-    let Some((mut first, second, next)) = shared_numbers::make_two(
-        &words,
-        &mut numbers,
-        next,
-        &mut pass,
-    ) else {
-        panic!(rt; "no memory");
-    };
-    assert_eq!(rt; (first.number, second.number, next.number()), (0, 1, 2));
-    shared_numbers::give(&words, &mut numbers, &mut first, &mut pass);
-    shared_numbers::take_again(&words, &mut numbers, &mut first, &mut pass);
-    let Some((third, next)) = shared_numbers::make_third(&words, &mut numbers, next, &mut pass)
-    else {
-        panic!(rt; "no memory");
-    };
-    assert_eq!(rt; (third.number, next.number()), (2, 3));
-}
-
 // One thread makes 100 slots, whose heads go into the table, the last of them into its third bucket. Another walks the heads of all slots
 // that there are, first when there is none: each walk finds as many as the word says.
 #[test]
@@ -216,27 +189,6 @@ fn what_a_lost_exchange_found_is_seen(rt: HostRuntime) {
         panic!(rt; "no memory");
     };
     assert_eq!(rt; one.put_and_lose(&words, 0, 70), Some(70));
-}
-
-// Two threads swap. It gives the sum of the words put in, less those that came out.
-fn swap_both<R: Threads + Wait + Sync>(
-    rt: &R,
-    words: &Words<u64>,
-    a: Entrant,
-    b: Entrant,
-) -> Option<u64>
-    requires { MayEnter words.now a × MayEnter words.now b }
-{
-    let (one, two) = thread::join(
-        rt,
-        move || -> Option<u64>
-            requires { MayEnter words.now a }
-        { a.swap_many(words, SWAPS) },
-        move || -> Option<u64>
-            requires { MayEnter words.now b }
-        { b.swap_many(words, SWAPS) },
-    );
-    Some(one?.wrapping_add(two?))
 }
 
 // Two threads enter, and put a value into a link each. It gives the words too.
@@ -308,127 +260,6 @@ fn passes_that_met_know_both_activations(rt: HostRuntime) {
     let ((one, put_1), (two, put_2)) = enter_both(&rt, &words, a, b);
     assert!(rt; put_1 != put_2);
     assert_eq!(rt; read_both(&rt, &words, one, two), (put_2, put_1));
-}
-
-// Two threads replace what one link holds. It gives the sum of the words put in, less those that came out, and how many exchanges were won.
-fn replace_both<R: Threads + Wait + Sync>(
-    rt: &R,
-    words: &Words<u64>,
-    a: Entrant,
-    b: Entrant,
-    tries: u64,
-) -> Option<(u64, u64)>
-    requires { MayEnter words.now a × MayEnter words.now b }
-{
-    let (one, two) = thread::join(
-        rt,
-        move || -> Option<(u64, u64)>
-            requires { MayEnter words.now a }
-        { a.replace_many(words, 3, SWAPS, tries) },
-        move || -> Option<(u64, u64)>
-            requires { MayEnter words.now b }
-        { b.replace_many(words, 3, SWAPS, tries) },
-    );
-    let (one, two) = (one?, two?);
-    Some((one.0.wrapping_add(two.0), one.1.wrapping_add(two.1)))
-}
-
-// Each of two threads puts the values of 5,000 new blocks into one link, in place of what it read there just before, and tries again where
-// the other was in between. Each block's number comes out once, or is in the link in the end.
-#[test]
-fn replacements_lose_and_invent_no_block(rt: HostRuntime) {
-    let Some((words, porter, source)) = open(rt.alloc()) else {
-        panic!(rt; "no memory");
-    };
-    let Some((a, source)) = source.make(&words, &porter) else {
-        panic!(rt; "no memory");
-    };
-    let Some((b, source)) = source.make(&words, &porter) else {
-        panic!(rt; "no memory");
-    };
-    let Some((last, _)) = source.make(&words, &porter) else {
-        panic!(rt; "no memory");
-    };
-    let Some((left, won)) = replace_both(&rt, &words, a, b, TURNS) else {
-        panic!(rt; "no memory");
-    };
-    assert_eq!(rt; won, 2 * SWAPS);
-    assert_eq!(rt; last.empty_links(&words), (left, 1));
-}
-
-// The same with one try each. Whoever makes the first exchange wins it. And each that one of them lost found what the other had put in
-// since the read, by another exchange each time: so the other won no fewer than it lost, and both together won at least as many as one of
-// them made.
-#[test]
-fn exchanges_are_won_and_lose_no_block(rt: HostRuntime) {
-    let Some((words, porter, source)) = open(rt.alloc()) else {
-        panic!(rt; "no memory");
-    };
-    let Some((a, source)) = source.make(&words, &porter) else {
-        panic!(rt; "no memory");
-    };
-    let Some((b, source)) = source.make(&words, &porter) else {
-        panic!(rt; "no memory");
-    };
-    let Some((last, _)) = source.make(&words, &porter) else {
-        panic!(rt; "no memory");
-    };
-    let Some((left, won)) = replace_both(&rt, &words, a, b, 1) else {
-        panic!(rt; "no memory");
-    };
-    assert!(rt; won >= SWAPS);
-    assert_eq!(rt; last.empty_links(&words), (left, 1));
-}
-
-// Two threads swap, and two replace.
-fn all<R: Threads + Wait + Sync>(
-    rt: &R,
-    words: &Words<u64>,
-    first: (Entrant, Entrant),
-    last: (Entrant, Entrant),
-) -> Option<u64>
-    requires { MayEnter words.now first.0 × MayEnter words.now first.1 × MayEnter words.now last.0 × MayEnter words.now last.1 }
-{
-    let (a, b) = first;
-    let (c, d) = last;
-    let (one, two) = thread::join(
-        rt,
-        move || -> Option<u64>
-            requires { MayEnter words.now a × MayEnter words.now b }
-        { swap_both(rt, words, a, b) },
-        move || -> Option<(u64, u64)>
-            requires { MayEnter words.now c × MayEnter words.now d }
-        { replace_both(rt, words, c, d, TURNS) },
-    );
-    Some(one?.wrapping_add(two?.0))
-}
-
-// Two threads swap the values of new blocks into eight links, and two replace what one of these holds. Each block's number comes out once,
-// or is in a link in the end.
-#[test]
-fn four_threads_lose_and_invent_no_block(rt: HostRuntime) {
-    let Some((words, porter, source)) = open(rt.alloc()) else {
-        panic!(rt; "no memory");
-    };
-    let Some((a, source)) = source.make(&words, &porter) else {
-        panic!(rt; "no memory");
-    };
-    let Some((b, source)) = source.make(&words, &porter) else {
-        panic!(rt; "no memory");
-    };
-    let Some((c, source)) = source.make(&words, &porter) else {
-        panic!(rt; "no memory");
-    };
-    let Some((d, source)) = source.make(&words, &porter) else {
-        panic!(rt; "no memory");
-    };
-    let Some((last, _)) = source.make(&words, &porter) else {
-        panic!(rt; "no memory");
-    };
-    let Some(left) = all(&rt, &words, (a, b), (c, d)) else {
-        panic!(rt; "no memory");
-    };
-    assert_eq!(rt; last.empty_links(&words), (left, LINKS));
 }
 
 // A link is read with a unit of an activation and with the rest of it, and the slot leaves with all.

@@ -2,7 +2,7 @@
 ghost use Rattle.std.specs.Prelude.{◌≡◌};
 ghost use Rattle.std.specs.Borrow.{sem};
 ghost use Rattle.seize_book.specs.Others.{IsVacated, book_of};
-ghost use Rattle.seize_store.specs.Named.{bare_store, bare_value, owned_value, store_of};
+ghost use Rattle.seize_store.specs.Named.{bare_store, bare_value};
 ghost use Rattle.seize_words.specs.Chunks.{IsBlockIn, LendsIn, LiesIn, blocks_book};
 ghost use Rattle.seize.specs.Blocks.{content, store_name};
 

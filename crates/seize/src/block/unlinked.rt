@@ -21,13 +21,13 @@ pub struct Unlinked<'c, T: Drop> {
 }
 
 impl<'c, T: Drop> Unlinked<'c, T> {
-    ghost use Rattle.std.specs.Prelude.{◌⊎◌, Some, None, IfNone, IfSome};
+    ghost use Rattle.std.specs.Prelude.{IfSome};
     ghost use Rattle.seize_book.specs.Blocks.{link_word};
     ghost use Rattle.seize_words.specs.LinkWords.{IsLoose, value_held};
     ghost use Rattle.seize_calls.specs.Slots.{IsLooseIn, its_value};
     ghost use Rattle.seize_calls.specs.declared.slot.Loose.{Loose};
     ghost use Rattle.seize.specs.Blocks.{ComesOut, HasContent, content, unlinked_collector, unlinked_name};
-    ghost use Rattle.seize.specs.Collectors.{IsBlockOf, IsPassOf, its_book, its_id, its_words};
+    ghost use Rattle.seize.specs.Collectors.{IsBlockOf, its_book, its_id, its_words};
 
     /// A block that was never in a link. No event is made.
     ///

@@ -82,7 +82,8 @@ impl<T: Drop> Numbers<T> {
         requires numbers { AreTakenTo n self.old × (self.old.book.name ≡ words_book words.now) × (n < length self.old.slots.items) }
         requires pass { IsPassFor words.now pass.old × IsSole pass.old.id }
         ensures taken { AreTakenTo (n + 1) self.new × KeepsPlaces self.old self.new }
-        ensures off { KeepsOn pass.old pass.new × KeepsOff pass.old pass.new × (IsHere (flags_of self.new.slots.items) n → IsOff pass.new n) }
+        ensures off { KeepsOn pass.old pass.new × KeepsOff pass.old pass.new
+            × (IsHere (flags_of self.new.slots.items) n → IsOff pass.new n) }
     {
         if let Some(slot) = self.slots[n].take() {
             let mut slot = slot;

@@ -1,6 +1,0 @@
-use Rattle.seize.specs.Collectors.{IsPassOf}
-use Rattle.seize.specs.OwnedGuards.{owned_collector}
-use Rattle.seize_rows.proofs.contending.work.Given as goal
-
-abbrev pub invariant-loop-n : goal.invariant-loop-n
-invariant-loop-n g l = IsPassOf (owned_collector l.guard) l.pass
