@@ -3,6 +3,7 @@
 --     left_by c                the state where that leads
 --     IsSameCollector c c'     it is the same one: its list, its batch size and its id
 --     moments_of c             the events that the collector has seen, each with the states before and after it
+--     moments_kept known       the same of what was kept of a pass
 --     AllReclaimed c           each value that was ever retired is reclaimed, as the collector has seen
 --     NoneInUse c              no number is in use then
 --     ReclaimsAll c c' all     the same collector has seen a longer list, in which no link was exchanged since nobody shared it; `seen` was
@@ -14,8 +15,12 @@ use Rattle.seize_book.specs.Book.{after, moments}
 use Rattle.seize_book.specs.Entry.{Entry}
 use Rattle.seize_book.specs.Porters.{GoesOnTo}
 use Rattle.seize_book.specs.Tokens.{start}
+use Rattle.seize_book.specs.declared.book.seen.Seen.{Seen}
 use Rattle.seize.specs.Collectors.{its_book, its_id, its_size, seen_by}
 use Rattle.seize.specs.declared.collector.Collector.{Collector}
+
+abbrev pub moments_kept : Seen → List Moment
+moments_kept known = moments (start known.name) known.seen
 
 module _ {T : Type 0} where
   abbrev pub left_by : Collector T → State
