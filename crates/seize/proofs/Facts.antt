@@ -1,16 +1,28 @@
 -- What other crates may build on. All else in `proofs` is no interface, and may change. Assumes `Logic`.
-use Rattle.std.proofs.Common.{◌≡◌, ℕ, Option, Some, refl, sym, ◌∙◌, subst}
+use Rattle.std.proofs.Common.{◌≡◌, ℕ, Bool, true, false, Option, Some, refl, sym, ◌∙◌, subst}
+use base.Growing.{prefix_trans}
 use base.Stored.{Coded}
+use mathlib.Core.List.{IsPrefix}
+use Rattle.seize_machine.specs.Machine.History.{Reclaimed, Retired}
 use Rattle.seize_machine.proofs.Facts.{some_is}
+use Rattle.seize_book.specs.Book.{moments}
 use Rattle.seize_book.specs.Loans.{place_of}
+use Rattle.seize_book.specs.Tokens.{Name, start}
+use Rattle.seize_book.specs.declared.book.pass.Pass.{Pass}
+use Rattle.seize_book.specs.declared.book.seen.Seen.{Seen}
 use Rattle.seize_words.specs.Chunks.{IsLentAs}
 use Rattle.seize_words.proofs.Facts.{same_content}
 use Rattle.seize.specs.Blocks.{HasContent, Shows, shared_value}
+use Rattle.seize.specs.Collectors.{its_book, seen_by}
+use Rattle.seize.specs.Laws.{moments_seen}
+use Rattle.seize.specs.Makes.{EndsUse}
+use Rattle.seize.specs.Reclaims.{IsSameCollector, ReclaimsAll, moments_kept, moments_of}
+use Rattle.seize.specs.declared.collector.Collector.{Collector}
 use Rattle.seize.specs.declared.block.shared.Shared.{Shared}
 -- what was found stays found, and a won exchange of it took out that; and what one call makes and then another
 pub use Rattle.seize.proofs.Found.{found_still, read_replaced}
 pub use Rattle.seize.proofs.Made.{makes_then, then_none}
--- what calls made with a pass stands among the moments of which the laws speak
+-- what calls made with a pass stands among the moments of which the laws speak, and in each list that goes on
 pub use Rattle.seize.proofs.Stands.{made_since, read_found, reclaimed_still, retired_still}
 -- and a value whose retirement returned is retired there
 pub use Rattle.seize.proofs.Retired.{call_still, retired_by}
@@ -25,3 +37,20 @@ pub found_content : {T : Type 0} (coded : Coded T) (held : Option ℕ) (shared :
 found_content coded held shared v x shows is has =
     content_once coded v (shared_value shared) x
     (subst (λ (w : ℕ). IsLentAs w (coded.code (shared_value shared))) (some_is shows.1.0 v (sym shows.1.1 ∙ is)) shows.1.2) has
+
+-- A registration's end only adds to what its pass has seen.
+pub use_ended : (s : ℕ) (pass pass' : Pass) (gave : Bool) → EndsUse s pass pass' gave → IsPrefix pass.seen pass'.seen
+use_ended s pass pass' true ends = ends.grows
+use_ended s pass pass' false ends = ends.0.grows
+
+-- What was retired as a pass had seen is retired in what was kept of it later.
+pub kept_retired : (known : Seen) (pass : Pass) (v q : ℕ) → known.name ≡ pass.name → IsPrefix pass.seen known.seen → Retired (moments_seen pass) v q → Retired (moments_kept known) v q
+kept_retired known pass v q name grows retired =
+    retired_still (start known.name) pass.seen known.seen v q grows (subst (λ (n : Name). Retired (moments (start n) pass.seen) v q) (sym name) retired)
+
+-- What was retired in what the collector covers is reclaimed when it has reclaimed all.
+pub reclaimed_then : {T : Type 0} (known : Seen) (c c' c'' : Collector T) (v q : ℕ) → known.name ≡ its_book c → IsSameCollector c c' → IsPrefix known.seen (seen_by c') → ReclaimsAll c' c'' true → Retired (moments_kept known) v q → (k : ℕ) × Reclaimed (moments_of c'') v k
+reclaimed_then known c c' c'' v q name same covers all retired =
+    all.reclaimed refl v q
+    (retired_still (start (its_book c'')) known.seen (seen_by c'') v q (prefix_trans known.seen all.seen (seen_by c'') (prefix_trans known.seen (seen_by c') all.seen covers all.goes_on.grows) all.grows.grows)
+    (subst (λ (n : Name). Retired (moments (start n) known.seen) v q) (name ∙ sym same.0 ∙ sym all.same.0) retired))

@@ -14,7 +14,10 @@ pub fn retire<W: Wait>(collector: &Collector<u64>, number: u64, rt: &W) -> Resul
     ensures book { IfOk result (λ known. known.name ≡ its_book collector.now) }
     ensures retired { IfOk result (λ known. (v : ℕ) × HasContent gnum v number × ((q : ℕ) × Retired (moments_kept known) v q)) }
 {
-    let block = collector.owned(number).map_err(|(refusal, _)| refusal)?;
+    let block = match collector.owned(number) {
+        Ok(block) => block,
+        Err((refusal, _)) => return Err(refusal),
+    };
     let mut pass = collector.pass();
     let registration = collector.register(rt, &mut pass)?;
     registration.retire(rt, &mut pass, Unlinked::from_owned(block, collector));

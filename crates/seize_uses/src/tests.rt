@@ -3,6 +3,7 @@
 use crate::alone::{Number, read_and_retire};
 use crate::list::{Node, PutNext, in_front};
 use crate::machine::with_active_slot;
+use crate::reclaiming::retire_and_reclaim;
 use crate::replacing::{add, exchange};
 use crate::shared::{audit, read, replace};
 use crate::table::loaded_twice;
@@ -103,5 +104,15 @@ fn a_shared_number_is_replaced_and_read(rt: HostRuntime) -> Result<(), Fail> {
     assert!(rt; first.is_ok() && second.is_ok());
     assert_eq!(rt; (third?, none?, fourth?), (true, false, true));
     assert_eq!(rt; (before?, after?), (None, Some(14)));
+    Ok(())
+}
+
+#[test]
+fn a_number_is_reclaimed_by_who_has_the_collector_alone(rt: HostRuntime) -> Result<(), Fail> {
+    let mut ids = seize::IdSource::new();
+    let mut collector: seize::Collector<u64> = seize::Collector::new(rt.alloc(), &mut ids, 1, 0)?;
+    for number in 0..3u64 {
+        assert!(rt; retire_and_reclaim(&mut collector, number, &rt)?);
+    }
     Ok(())
 }

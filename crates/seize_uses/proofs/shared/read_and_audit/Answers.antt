@@ -1,4 +1,4 @@
-use Rattle.std.proofs.Common.{ℕ, Option, Some, [], ◌∷◌, ap, inl, subst, sym}
+use Rattle.std.proofs.Common.{ℕ, Option, ap, inl, subst, sym}
 use base.Stored.{gnum}
 use Rattle.seize.specs.Blocks.{HasContent, Shows}
 use Rattle.seize.specs.Exchanges.{FoundIn}
