@@ -29,8 +29,8 @@ const MOST_PROCESSORS: usize = 0x8000_0000_0000_0000;
 /// It has numbered links, which hold a block each or nothing, and slots, which threads have by their registrations. It follows the Hyaline
 /// scheme with one list of waiting batches for each slot.
 ///
-/// Where nobody shares it, `reclaim_all` ends what waits in the batches of slots. Where it is dropped that is done, and then each value ends
-/// that a link holds. It reaches the batch of each slot whose number went back: its registration ended with the answer true, or its owned
+/// Where nobody shares it, `reclaim_all` ends what waits in the batches of slots. Where it is dropped that is done, and then each value
+/// ends that a link holds. It reaches the batch of each slot whose number went back: its registration ended with the answer true, or its owned
 /// guard left. That takes no memory and waits for nobody, but for what the values do as they end. Where something was forgotten, values
 /// leak, with the memory of their rows of the store:
 ///
