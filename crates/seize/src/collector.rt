@@ -30,9 +30,9 @@ const MOST_PROCESSORS: usize = 0x8000_0000_0000_0000;
 /// scheme with one list of waiting batches for each slot.
 ///
 /// Where nobody shares it, `reclaim_all` ends what waits in the batches of slots. Where it is dropped that is done, and then each value
-/// ends that a link holds. It reaches the batch of each slot whose number went back: its registration ended with the answer true, or its owned
-/// guard left. That takes no memory and waits for nobody, but for what the values do as they end. Where something was forgotten, values
-/// leak, with the memory of their rows of the store:
+/// ends that a link holds. It reaches the batch of each slot whose number went back: its registration ended with the answer true, or its
+/// owned guard left. That takes no memory and waits for nobody, but for what the values do as they end. Where something was forgotten,
+/// values leak, with the memory of their rows of the store:
 ///
 /// - where a registration was forgotten, those in its slot's batch, and where no number went back, those in the links too;
 /// - where a guard was forgotten, all of them: its slot is active for good, and what is retired waits for it.
