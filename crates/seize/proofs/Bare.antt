@@ -162,8 +162,8 @@ module _ {T : Type 0} (slot : Slot T) (pass : Pass) (slot' : Slot T) (pass' : Pa
         sym l.rests.batch.1 ∙ ap values_of (l.returns.batch ∙ ap (λ (x : CallState). x.batch) same ∙ l.batch) ∙ slot.together.batch_is.1
 
 -- A slot that looked at the list, and that has no batch as its key knows, leaves nothing behind.
-pub left_by : {T : Type 0} (slot slot' : Slot T) (pass pass' : Pass) → SlotLooks slot pass slot' pass' → its_book slot ≡ pass.name → IsInactive slot → (slot_of slot.key).batch ≡ [] → LeavesNothing pass' (its_number slot)
-left_by slot slot' pass pass' looks book off none =
+pub cleared_by : {T : Type 0} (slot slot' : Slot T) (pass pass' : Pass) → SlotLooks slot pass slot' pass' → its_book slot ≡ pass.name → IsInactive slot → (slot_of slot.key).batch ≡ [] → LeavesNothing pass' (its_number slot)
+cleared_by slot slot' pass pass' looks book off none =
     let so = shown slot slot' pass pass' looks book in record {
       call = ap (λ (z : Record). is_some z.call) so.0 ∙ ap is_some so.2;
       off = so.1 ∙ looked_active _ _ _ _ looks.0.does ∙ off;
@@ -220,7 +220,7 @@ module _ {T : Type 0} (words : Words T) (s0 s2 s3 s4 s5 : Slot T) (p0 p1 p2 p3 p
   swept_led = led_then s p0 p1 p5 (led_prepared s0 p0 p1 prep sole s) (led_then s p1 p2 p5 led2 (led_then s p2 p3 p5 led3 (led_then s p3 p4 p5 led4 (looks s4 p4 s5 p5 sole4 s looked))))
 
   pub swept_left : AreOff p0 → IsInactive s4 → LeavesNothing p5 s
-  swept_left off inactive = subst (LeavesNothing p5) num4 (left_by s4 s5 p4 p5 looked (of4.book ∙ for4.0) inactive (batch4 ∙ batch3))
+  swept_left off inactive = subst (LeavesNothing p5) num4 (cleared_by s4 s5 p4 p5 looked (of4.book ∙ for4.0) inactive (batch4 ∙ batch3))
     where
       off2 : OthersOff (its_number s2) (state_seen p2)
       off2 t differs = led2.leads.active t (λ e. differs (e ∙ sym num2)) ∙ ap (λ (st : State). is_active (head_at st t)) (prepared_same s0 p0 p1 prep sole) ∙ off t

@@ -16,8 +16,9 @@ use Rattle.seize_book.specs.Tokens.{IsSole, start}
 use Rattle.seize_book.specs.declared.book.pass.Pass.{Pass}
 use Rattle.seize_book.proofs.Facts.{as_legal, reached_after}
 use Rattle.seize.specs.Laws.{moments_seen}
-use Rattle.seize.specs.Sweeps.{AreAllHere, AreOff, AreOffBelow, IsHere, IsOff, KeepsOn, LeavesNothing}
+use Rattle.seize.specs.Sweeps.{AreOff, AreOffBelow, LiesHere, IsOff, KeepsOn, LeavesNothing}
 use Rattle.seize.proofs.Swept.{keeps_on, led_none}
+use Rattle.seize.proofs.Taken.{AreAllHere}
 
 -- Lists of which so much is known at each place.
 
@@ -30,7 +31,7 @@ all_by : {X : Type 0} (P : X → Bool) (xs : List X) (d : X) → ((t : ℕ) → 
 all_by P [] d each = refl
 all_by P (x ∷ xs) d each = (λ i. each 0 i && list_all P xs) ∙ all_by P xs d (λ t. each (suc t))
 
-pub here_in : (flags : List Bool) (t : ℕ) → AreAllHere flags → t < length flags → IsHere flags t
+pub here_in : (flags : List Bool) (t : ℕ) → AreAllHere flags → t < length flags → LiesHere flags t
 here_in [] t all below = absurd (omega (arith, below))
 here_in (flag ∷ flags) zero all below = all.0
 here_in (flag ∷ flags) (suc t) all below = here_in flags t all.1 (omega (arith, below))

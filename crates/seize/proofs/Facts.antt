@@ -16,7 +16,7 @@ use Rattle.seize.specs.Blocks.{HasContent, Shows, shared_value}
 use Rattle.seize.specs.Collectors.{its_book, seen_by}
 use Rattle.seize.specs.Laws.{moments_seen}
 use Rattle.seize.specs.Makes.{EndsUse}
-use Rattle.seize.specs.Reclaims.{IsSameCollector, ReclaimsAll, moments_kept, moments_of}
+use Rattle.seize.specs.Reclaims.{Learns, ReclaimsAll, moments_kept, moments_of}
 use Rattle.seize.specs.declared.collector.Collector.{Collector}
 use Rattle.seize.specs.declared.block.shared.Shared.{Shared}
 -- what was found stays found, and a won exchange of it took out that; and what one call makes and then another
@@ -48,9 +48,9 @@ pub kept_retired : (known : Seen) (pass : Pass) (v q : ℕ) → known.name ≡ p
 kept_retired known pass v q name grows retired =
     retired_still (start known.name) pass.seen known.seen v q grows (subst (λ (n : Name). Retired (moments (start n) pass.seen) v q) (sym name) retired)
 
--- What was retired in what the collector covers is reclaimed when it has reclaimed all.
-pub reclaimed_then : {T : Type 0} (known : Seen) (c c' c'' : Collector T) (v q : ℕ) → known.name ≡ its_book c → IsSameCollector c c' → IsPrefix known.seen (seen_by c') → ReclaimsAll c' c'' true → Retired (moments_kept known) v q → (k : ℕ) × Reclaimed (moments_of c'') v k
-reclaimed_then known c c' c'' v q name same covers all retired =
+-- What was retired in what the collector learned is reclaimed when it has reclaimed all.
+pub reclaimed_then : {T : Type 0} (known : Seen) (c c' c'' : Collector T) (v q : ℕ) → known.name ≡ its_book c → Learns c c' known → ReclaimsAll c' c'' true → Retired (moments_kept known) v q → (k : ℕ) × Reclaimed (moments_of c'') v k
+reclaimed_then known c c' c'' v q name learns all retired =
     all.reclaimed refl v q
-    (retired_still (start (its_book c'')) known.seen (seen_by c'') v q (prefix_trans known.seen all.seen (seen_by c'') (prefix_trans known.seen (seen_by c') all.seen covers all.goes_on.grows) all.grows.grows)
-    (subst (λ (n : Name). Retired (moments (start n) known.seen) v q) (name ∙ sym same.0 ∙ sym all.same.0) retired))
+    (retired_still (start (its_book c'')) known.seen (seen_by c'') v q (prefix_trans known.seen all.at_call (seen_by c'') (prefix_trans known.seen (seen_by c') all.at_call learns.knows all.goes_on.grows) all.grows.grows)
+    (subst (λ (n : Name). Retired (moments (start n) known.seen) v q) (name ∙ sym learns.same.0 ∙ sym all.same.0) retired))

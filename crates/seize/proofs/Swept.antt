@@ -22,7 +22,7 @@ use Rattle.seize_book.specs.Passes.{IsSamePass, LooksOn, events_by, events_in}
 use Rattle.seize_book.specs.Tokens.{AddsEntry, IsSole, Name, start}
 use Rattle.seize_book.specs.declared.book.pass.Pass.{Pass}
 use Rattle.seize_book.proofs.Facts.{same_twice, unequal}
-use Rattle.seize_calls.proofs.Alone.{alone_noted, alone_twice, made_added, made_there}
+use Rattle.seize_calls.proofs.Alone.{alone_none, alone_noted, alone_twice, made_added, made_there}
 use Rattle.seize_calls.specs.Alone.{AddsAlone}
 use Rattle.seize_calls.specs.Slots.{IsOfWords, IsPassFor, Prepares, SlotEnters, SlotFlushes, SlotGives, SlotLeaves, SlotLooks, SlotTakes, its_number}
 use Rattle.seize_calls.specs.declared.slot.Slot.{Slot}
@@ -30,7 +30,7 @@ use Rattle.seize_words.specs.declared.activation.Activation.{Activation}
 use Rattle.seize_words.specs.declared.words.Words.{Words}
 use Rattle.seize.specs.Ends.{Ended, had_of}
 use Rattle.seize.specs.Makes.{AreStepsOf, IsStepOf, Makes, MakesCall, made_with}
-use Rattle.seize.specs.Sweeps.{IsLedBy, IsOff, KeepsOn, Leads, LeavesNothing}
+use Rattle.seize.specs.Sweeps.{IsLedBy, IsOff, KeepsOn, KeepsOthers, LeavesNothing}
 use Rattle.seize.proofs.Made.{as_made, made_grew, one_added, step_added}
 use Rattle.seize.proofs.Wholly.{slot_flushes, slot_leaves}
 
@@ -43,31 +43,31 @@ abbrev pub AreOf : ℕ → List (Event × Answer) → Type 0
 AreOf s [] = Unit {0}
 AreOf s (e ∷ es) = IsOf s e.0 × AreOf s es
 
-pub leads_same : (s : ℕ) (st : State) → Leads s st st
+pub leads_same : (s : ℕ) (st : State) → KeepsOthers s st st
 leads_same s st = record { slots = λ t other. refl; active = λ t other. refl; links = λ l. refl }
 
-pub leads_then : (s : ℕ) (a b c : State) → Leads s a b → Leads s b c → Leads s a c
+pub leads_then : (s : ℕ) (a b c : State) → KeepsOthers s a b → KeepsOthers s b c → KeepsOthers s a c
 leads_then s a b c one two = record {
   slots = λ t other. two.slots t other ∙ one.slots t other;
   active = λ t other. two.active t other ∙ one.active t other;
   links = λ l. two.links l ∙ one.links l;
 }
 
-leads_step : (s size : ℕ) (st : State) (event : Event) (d : State × Answer) → Step size st event d → IsOf s event → Leads s st d.0
+leads_step : (s size : ℕ) (st : State) (event : Event) (d : State × Answer) → Step size st event d → IsOf s event → KeepsOthers s st d.0
 leads_step s size st event d step is = record {
   slots = λ t other. slot_frame t size st event d step (is.0 t other);
   active = λ t other. active_frame t size st event d step (is.0 t other);
   links = λ l. link_frame l size st event d step (is.1 l);
 }
 
-leads_one : (s : ℕ) (st : State) (d : Deed) → IsOf s d.event → Leads s st (done_by next st (timed_deed d)).0
+leads_one : (s : ℕ) (st : State) (d : Deed) → IsOf s d.event → KeepsOthers s st (done_by next st (timed_deed d)).0
 leads_one s st d is = go (next d.size st d.event) refl
   where
-    go : (o : Outcome) → next d.size st d.event ≡ o → Leads s st (or_illegal st o).0
+    go : (o : Outcome) → next d.size st d.event ≡ o → KeepsOthers s st (or_illegal st o).0
     go None none = leads_same s st
     go (Some done) some = leads_step s d.size st d.event done (step_of d.size st d.event done some) is
 
-leads_after : (s : ℕ) (st : State) (log : List Entry) → AreOf s (map as_made (events_in (with_answers st log))) → Leads s st (after st log)
+leads_after : (s : ℕ) (st : State) (log : List Entry) → AreOf s (map as_made (events_in (with_answers st log))) → KeepsOthers s st (after st log)
 leads_after s st [] are = leads_same s st
 leads_after s st (Made d ∷ log) are =
     let done : State × Answer = done_by next st (timed_deed d) in leads_then s st done.0 (after done.0 log) (leads_one s st d are.0) (leads_after s done.0 log are.1)
@@ -96,15 +96,16 @@ pub led_by : (s : ℕ) (pass pass' : Pass) (es : List (Event × Answer)) → Mak
 led_by s pass pass' es makes adds sole are = record {
   same = makes.same;
   grows = makes.grows;
-  leads = subst (λ (st : State). Leads s (state_seen pass) st) (sym (later_by pass pass' makes.same adds sole))
+  adds = adds;
+  leads = subst (λ (st : State). KeepsOthers s (state_seen pass) st) (sym (later_by pass pass' makes.same adds sole))
       (leads_after s (state_seen pass) (adds sole).0 (subst (AreOf s) (sym (added_is pass pass' es makes adds sole)) are));
 }
 
 -- the same, where the entries that were made are known
 pub led_made : (s : ℕ) (pass pass' : Pass) (made : List (Deed × Answer)) → IsSamePass pass pass' → AddsAlone pass pass' → IsSole pass.id → events_by pass' ≡ events_by pass ++ made → AreOf s (map as_made made)
-    → Leads s (state_seen pass) (state_seen pass')
+    → KeepsOthers s (state_seen pass) (state_seen pass')
 led_made s pass pass' made same adds sole events are =
-    subst (λ (st : State). Leads s (state_seen pass) st) (sym (later_by pass pass' same adds sole))
+    subst (λ (st : State). KeepsOthers s (state_seen pass) st) (sym (later_by pass pass' same adds sole))
     (leads_after s (state_seen pass) (adds sole).0 (subst (λ (log : List (Deed × Answer)). AreOf s (map as_made log)) (sym (made_there pass pass' made same adds sole events)) are))
 
 -- Which events are of a slot.
@@ -143,24 +144,26 @@ pub led_none : (s : ℕ) (pass pass' : Pass) → IsSamePass pass pass' → pass'
 led_none s pass pass' same seen = record {
   same = same;
   grows = subst (IsPrefix pass.seen) (sym seen) (prefix_refl pass.seen);
-  leads = subst (λ (st : State). Leads s (state_seen pass) st) (λ j. after (start (sym same.0 j)) (sym seen j)) (leads_same s (state_seen pass));
+  adds = λ sole. ([], seen ∙ sym (append-nil pass.seen), tt);
+  leads = subst (λ (st : State). KeepsOthers s (state_seen pass) st) (λ j. after (start (sym same.0 j)) (sym seen j)) (leads_same s (state_seen pass));
 }
 
 pub led_then : (s : ℕ) (a b c : Pass) → IsLedBy s a b → IsLedBy s b c → IsLedBy s a c
 led_then s a b c one two = record {
   same = same_twice a b c one.same two.same;
   grows = prefix_trans a.seen b.seen c.seen one.grows two.grows;
+  adds = alone_twice a b c one.same one.adds two.adds;
   leads = leads_then s (state_seen a) (state_seen b) (state_seen c) one.leads two.leads;
 }
 
 pub keeps_on : (s : ℕ) (pass pass' : Pass) → IsLedBy s pass pass' → KeepsOn pass pass'
-keeps_on s pass pass' led = (led.same, led.grows, led.leads.links)
+keeps_on s pass pass' led = (led.same, led.grows, led.leads.links, led.adds)
 
 pub keeps_none : (pass : Pass) → KeepsOn pass pass
-keeps_none pass = ((refl, refl, refl), prefix_refl pass.seen, λ l. refl)
+keeps_none pass = ((refl, refl, refl), prefix_refl pass.seen, (λ l. refl), alone_none pass)
 
 pub keeps_then : (a b c : Pass) → KeepsOn a b → KeepsOn b c → KeepsOn a c
-keeps_then a b c one two = (same_twice a b c one.0 two.0, prefix_trans a.seen b.seen c.seen one.1 two.1, λ l. two.2 l ∙ one.2 l)
+keeps_then a b c one two = (same_twice a b c one.0 two.0, prefix_trans a.seen b.seen c.seen one.1 two.1, (λ l. two.2 l ∙ one.2 l), alone_twice a b c one.0 one.3 two.3)
 
 pub still_sole : (pass pass' : Pass) → IsSamePass pass pass' → IsSole pass.id → IsSole pass'.id
 still_sole pass pass' same sole = subst IsSole (sym same.1) sole

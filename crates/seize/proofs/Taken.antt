@@ -16,9 +16,14 @@ use Rattle.seize_calls.specs.Slots.{SetsUse, its_key, its_number}
 use Rattle.seize_calls.specs.declared.slot.Slot.{Slot}
 use Rattle.seize_calls.proofs.Slots.{may_take_slot}
 use Rattle.seize.specs.Numbers.{AreNumbers, flags_of}
-use Rattle.seize.specs.Sweeps.{AreAllHere, AreTakenTo, IsHere, IsTakenAt, KeepsPlaces, flags_to}
+use Rattle.seize.specs.Sweeps.{AreTakenTo, LiesHere, IsTakenAt, KeepsPlaces, flags_to}
 use Rattle.seize.specs.declared.numbers.Numbers.{Numbers}
 use Rattle.seize.proofs.Numbered.{made_flags, some_same}
+
+-- none of these is in use
+abbrev pub AreAllHere : List Bool → Type 0
+AreAllHere [] = Unit {0}
+AreAllHere (flag ∷ flags) = (flag ≡ false) × AreAllHere flags
 
 -- Lists of places.
 module _ {X : Type 0} where
@@ -218,7 +223,7 @@ set_twice (x ∷ xs) zero a b = refl
 set_twice (x ∷ xs) (suc n) a b = ap (λ ys. x ∷ ys) (set_twice xs n a b)
 
 -- what is said of a place where none lies
-pub none_here : {A : Type 0} {X : Type 0} (slots : List (Option X)) (n : ℕ) (o : Option X) → o ≡ None → IsHere (flags_of (slice_set slots n o)) n → A
+pub none_here : {A : Type 0} {X : Type 0} (slots : List (Option X)) (n : ℕ) (o : Option X) → o ≡ None → LiesHere (flags_of (slice_set slots n o)) n → A
 none_here slots n o is here = absurd (let e : true ≡ false = sym (none_flag slots n o is) ∙ here in cc)
 
 pub plus_one : (n : ℕ) → suc n ≡ n + 1

@@ -1,48 +1,68 @@
 -- What reclaiming all leaves of a collector, which nobody shares meanwhile.
---     seen_by c                what the collector has seen of its list of events: a pass that it gives goes on from there
---     left_by c                the state where that leads
+--     its_state c              the state where the list leads that the collector has seen
+--     moments_of c             the events of that list, each with the states before and after it;  moments_kept known     those that a
+--                              `Seen` keeps of a pass
 --     IsSameCollector c c'     it is the same one: its list, its batch size and its id
---     moments_of c             the events that the collector has seen, each with the states before and after it
---     moments_kept known       the same of what was kept of a pass
+--     AddsNothing c seen       nothing was made in this list with the collector's own pass, the first one (0), beyond what it had seen
+--     Learns c c' known        the same collector has seen what the `Seen` has, and no less than before, and added nothing
+--     NoneInUse c              no number is in use, as the collector has seen
 --     AllReclaimed c           each value that was ever retired is reclaimed, as the collector has seen
---     NoneInUse c              no number is in use then
---     ReclaimsAll c c' all     the same collector has seen a longer list, in which no link was exchanged since nobody shared it; `seen` was
---                              the whole list then. It says `all` where no number is in use, and then each retired value is reclaimed
-use Rattle.std.specs.Prelude.{◌≡◌, ◌↔◌, ℕ, Bool, true, false, List}
+--     ReclaimsAll c c' all     the same collector has seen a longer list. At the call the list was this: the collector had added nothing to
+--                              what it had seen, and all that comes after was made with its own pass. Links, and which numbers are in use,
+--                              are as they were then. It says `all` just where no number is in use; then no slot has a call, is active or
+--                              has a batch (IsCleared), and each value that was ever retired is reclaimed
+use Rattle.std.specs.Prelude.{◌≡◌, ◌↔◌, ℕ, Bool, true, false, List, ◌++◌}
+use mathlib.Core.List.{IsPrefix}
+use Rattle.seize_machine.specs.Machine.Frames.{used}
 use Rattle.seize_machine.specs.Machine.History.{Moment, Reclaimed, Retired}
 use Rattle.seize_machine.specs.Machine.State.{State, link_at, slot_at}
-use Rattle.seize_book.specs.Book.{after, moments}
+use Rattle.seize_book.specs.Book.{after, mine, moments}
 use Rattle.seize_book.specs.Entry.{Entry}
 use Rattle.seize_book.specs.Porters.{GoesOnTo}
 use Rattle.seize_book.specs.Tokens.{start}
 use Rattle.seize_book.specs.declared.book.seen.Seen.{Seen}
+use Rattle.seize_calls.specs.Alone.{AllBy}
 use Rattle.seize.specs.Collectors.{its_book, its_id, its_size, seen_by}
+use Rattle.seize.specs.Sweeps.{IsCleared}
 use Rattle.seize.specs.declared.collector.Collector.{Collector}
 
 abbrev pub moments_kept : Seen → List Moment
 moments_kept known = moments (start known.name) known.seen
 
 module _ {T : Type 0} where
-  abbrev pub left_by : Collector T → State
-  left_by c = after (start (its_book c)) (seen_by c)
-
-  abbrev pub IsSameCollector : Collector T → Collector T → Type 0
-  IsSameCollector c c' = (its_book c' ≡ its_book c) × (its_size c' ≡ its_size c) × (its_id c' ≡ its_id c)
+  abbrev pub its_state : Collector T → State
+  its_state c = after (start (its_book c)) (seen_by c)
 
   abbrev pub moments_of : Collector T → List Moment
   moments_of c = moments (start (its_book c)) (seen_by c)
 
+  abbrev pub IsSameCollector : Collector T → Collector T → Type 0
+  IsSameCollector c c' = (its_book c' ≡ its_book c) × (its_size c' ≡ its_size c) × (its_id c' ≡ its_id c)
+
+  abbrev pub AddsNothing : Collector T → List Entry → Type 0
+  AddsNothing c seen = mine (start (its_book c)) 0 seen ≡ mine (start (its_book c)) 0 (seen_by c)
+
+  pub record Learns (c c' : Collector T) (known : Seen) : Type 0 where
+    pub same : IsSameCollector c c'
+    pub goes_on : GoesOnTo (its_book c) (seen_by c) (seen_by c')
+    pub nothing : AddsNothing c (seen_by c')
+    pub knows : IsPrefix known.seen (seen_by c')
+
+  abbrev pub NoneInUse : Collector T → Type 0
+  NoneInUse c = (s : ℕ) → (slot_at (its_state c) s).used ≡ false
+
   abbrev pub AllReclaimed : Collector T → Type 0
   AllReclaimed c = (v q : ℕ) → Retired (moments_of c) v q → (k : ℕ) × Reclaimed (moments_of c) v k
 
-  abbrev pub NoneInUse : Collector T → Type 0
-  NoneInUse c = (s : ℕ) → (slot_at (left_by c) s).used ≡ false
-
   pub record ReclaimsAll (c c' : Collector T) (all : Bool) : Type 0 where
     pub same : IsSameCollector c c'
-    pub seen : List Entry
-    pub goes_on : GoesOnTo (its_book c) (seen_by c) seen
-    pub grows : GoesOnTo (its_book c) seen (seen_by c')
-    pub links : (l : ℕ) → link_at (left_by c') l ≡ link_at (after (start (its_book c)) seen) l
-    pub all_back : (all ≡ true) ↔ NoneInUse c'
+    pub at_call : List Entry
+    pub goes_on : GoesOnTo (its_book c) (seen_by c) at_call
+    pub nothing : AddsNothing c at_call
+    pub grows : GoesOnTo (its_book c) at_call (seen_by c')
+    pub by_itself : (added : List Entry) × (seen_by c' ≡ at_call ++ added) × AllBy 0 added
+    pub links : (l : ℕ) → link_at (its_state c') l ≡ link_at (after (start (its_book c)) at_call) l
+    pub numbers : used (its_state c') ≡ used (after (start (its_book c)) at_call)
+    pub none_in_use : (all ≡ true) ↔ NoneInUse c'
+    pub cleared : all ≡ true → (s : ℕ) → IsCleared (its_state c') s
     pub reclaimed : all ≡ true → AllReclaimed c'

@@ -1,15 +1,22 @@
 -- What is known where a pass is alone and each slot that nobody has is emptied in turn.
---     IsLedBy s pass pass'     nothing was added to the list but events of slot s, none of which exchanges a link: the records of other
---                              slots and whether they are active are as they were, and so are all links;  Leads s st st'     of states
---     AreOff pass              no slot is active, as the pass has seen
---     LeavesNothing pass s     slot s has no call, is not active, and has no batch, as the pass has seen
+--     KeepsOthers s st st'     the records of all slots but s, and whether they are active, are as they were, and so are all links
+--     IsLedBy s pass pass'     it is so, and what was added to the list was made with this pass, where that is alone (AddsAlone)
+--     HasSameLinks pass pass'  each link holds what it held;  KeepsOn pass pass'     and this is the same pass, with a list that goes on
+--     IsOff pass s, AreOff pass     slot s is not active, as the pass has seen, or none is
+--     IsCleared st s           slot s has no call, is not active, and has no batch;  LeavesNothing pass s     so it is as the pass has seen
 --     flags_to n slots         which numbers are in use, where the slots of the first n that lie here have taken their numbers
 --     IsTakenAt name n i slot  it is number i of the list, inactive, and in use just where i is below n
 --     AreTakenTo n numbers     the numbers, where so it is; for n = 0 they are as others find them (`AreNumbers`)
---     AreAllHere flags         none of these is in use: each slot lies here
---     Sweeps pass pass' all    it is the same pass, and the list goes on with no exchange of a link. It says `all` where no number is in
---                              use then, and in that case each value that was ever retired is reclaimed
+--     KeepsPlaces numbers numbers'     the list is the same, and slots lie in the same places
+--     LiesHere flags i         a slot lies in place i
+--     AreOffBelow n flags pass, AreClearedBelow n flags pass     each slot below n that lies here is not active, or leaves nothing
+--     KeepsOff pass pass'      each slot that is not active stays so;  KeepsCleared pass pass'     and so each that leaves nothing does;
+--                              KeepsClearedBut n pass pass'     each but slot n
+--     Sweeps pass pass' all    it is the same pass. The list goes on with entries of this pass alone, where that is alone. The links, and
+--                              which numbers are in use, are as they were. It says `all` just where no number is in use; then each slot
+--                              leaves nothing, and each value that was ever retired is reclaimed
 use Rattle.std.specs.Prelude.{◌≡◌, ◌↔◌, ◌<◌, ◌≤◌, ℕ, suc, zero, Bool, true, false, List, [], ◌∷◌, Option, Some, None, get_or, is_some}
+use Rattle.seize_machine.specs.Machine.Frames.{used}
 use Rattle.seize_machine.specs.Machine.History.{Reclaimed, Retired}
 use Rattle.seize_machine.specs.Machine.State.{State, head_at, is_active, link_at, slot_at}
 use Rattle.seize_book.specs.Homesteads.{state_seen}
@@ -20,6 +27,7 @@ use Rattle.seize_book.specs.Tokens.{Name}
 use Rattle.seize_book.specs.declared.book.pass.Pass.{Pass}
 use Rattle.seize_words.specs.Named.{numbers_book}
 use Rattle.seize_words.specs.declared.slots.next.NextSlot.{NextSlot}
+use Rattle.seize_calls.specs.Alone.{AddsAlone}
 use Rattle.seize_calls.specs.Slots.{IsInUse, IsInactive, IsOfList, its_number}
 use Rattle.seize_calls.specs.declared.slot.Slot.{Slot}
 use mathlib.Core.List.{IsPrefix}
@@ -27,7 +35,7 @@ use Rattle.seize.specs.Laws.{moments_seen}
 use Rattle.seize.specs.Numbers.{IsNextSlotOf, flags_of}
 use Rattle.seize.specs.declared.numbers.Numbers.{Numbers}
 
-pub record Leads (s : ℕ) (st st' : State) : Type 0 where
+pub record KeepsOthers (s : ℕ) (st st' : State) : Type 0 where
   pub slots : (t : ℕ) → ¬ (t ≡ s) → slot_at st' t ≡ slot_at st t
   pub active : (t : ℕ) → ¬ (t ≡ s) → is_active (head_at st' t) ≡ is_active (head_at st t)
   pub links : (l : ℕ) → link_at st' l ≡ link_at st l
@@ -35,14 +43,15 @@ pub record Leads (s : ℕ) (st st' : State) : Type 0 where
 pub record IsLedBy (s : ℕ) (pass pass' : Pass) : Type 0 where
   pub same : IsSamePass pass pass'
   pub grows : IsPrefix pass.seen pass'.seen
-  pub leads : Leads s (state_seen pass) (state_seen pass')
+  pub adds : AddsAlone pass pass'
+  pub leads : KeepsOthers s (state_seen pass) (state_seen pass')
 
 abbrev pub HasSameLinks : Pass → Pass → Type 0
 HasSameLinks pass pass' = (l : ℕ) → link_at (state_seen pass') l ≡ link_at (state_seen pass) l
 
 -- the same pass, with a list that goes on and changes no link
 abbrev pub KeepsOn : Pass → Pass → Type 0
-KeepsOn pass pass' = IsSamePass pass pass' × IsPrefix pass.seen pass'.seen × HasSameLinks pass pass'
+KeepsOn pass pass' = IsSamePass pass pass' × IsPrefix pass.seen pass'.seen × HasSameLinks pass pass' × AddsAlone pass pass'
 
 abbrev pub IsOff : Pass → ℕ → Type 0
 IsOff pass s = is_active (head_at (state_seen pass) s) ≡ false
@@ -50,10 +59,14 @@ IsOff pass s = is_active (head_at (state_seen pass) s) ≡ false
 abbrev pub AreOff : Pass → Type 0
 AreOff pass = (s : ℕ) → IsOff pass s
 
-pub record LeavesNothing (pass : Pass) (s : ℕ) : Type 0 where
-  pub call : is_some (slot_at (state_seen pass) s).call ≡ false
-  pub off : IsOff pass s
-  pub batch : (slot_at (state_seen pass) s).batch ≡ []
+-- slot s has no call, is not active, and has no batch
+pub record IsCleared (st : State) (s : ℕ) : Type 0 where
+  pub call : is_some (slot_at st s).call ≡ false
+  pub off : is_active (head_at st s) ≡ false
+  pub batch : (slot_at st s).batch ≡ []
+
+abbrev pub LeavesNothing : Pass → ℕ → Type 0
+LeavesNothing pass s = IsCleared (state_seen pass) s
 
 abbrev pub flags_to : {X : Type 0} → ℕ → List (Option X) → List Bool
 flags_to zero slots = flags_of slots
@@ -75,39 +88,37 @@ pub record AreTakenTo {T : Type 0} (n : ℕ) (numbers : Numbers T) : Type 0 wher
   pub is_there : numbers.next ≡ Some next
   pub comes : IsNextSlotOf numbers.key next
 
-abbrev pub AreAllHere : List Bool → Type 0
-AreAllHere [] = Unit {0}
-AreAllHere (flag ∷ flags) = (flag ≡ false) × AreAllHere flags
-
 -- the list and the places are as they were
 abbrev pub KeepsPlaces : {T : Type 0} → Numbers T → Numbers T → Type 0
 KeepsPlaces numbers numbers' =
     (numbers'.book ≡ numbers.book) × (flags_of numbers'.slots.items ≡ flags_of numbers.slots.items)
 
 -- there is a slot in this place
-abbrev pub IsHere : List Bool → ℕ → Type 0
-IsHere flags i = get_or flags i true ≡ false
+abbrev pub LiesHere : List Bool → ℕ → Type 0
+LiesHere flags i = get_or flags i true ≡ false
 
 -- each slot below n that lies here is not active;  or leaves nothing
 abbrev pub AreOffBelow : ℕ → List Bool → Pass → Type 0
-AreOffBelow n flags pass = (i : ℕ) → i < n → IsHere flags i → IsOff pass i
+AreOffBelow n flags pass = (i : ℕ) → i < n → LiesHere flags i → IsOff pass i
 
-abbrev pub LeaveNothingBelow : ℕ → List Bool → Pass → Type 0
-LeaveNothingBelow n flags pass = (i : ℕ) → i < n → IsHere flags i → LeavesNothing pass i
+abbrev pub AreClearedBelow : ℕ → List Bool → Pass → Type 0
+AreClearedBelow n flags pass = (i : ℕ) → i < n → LiesHere flags i → LeavesNothing pass i
 
--- each slot that is not active is not active still;  each that leaves nothing does so still;  and so each but one
 abbrev pub KeepsOff : Pass → Pass → Type 0
 KeepsOff pass pass' = (s : ℕ) → IsOff pass s → IsOff pass' s
 
-abbrev pub KeepsLeft : Pass → Pass → Type 0
-KeepsLeft pass pass' = (s : ℕ) → LeavesNothing pass s → LeavesNothing pass' s
+abbrev pub KeepsCleared : Pass → Pass → Type 0
+KeepsCleared pass pass' = (s : ℕ) → LeavesNothing pass s → LeavesNothing pass' s
 
-abbrev pub KeepsLeftBut : ℕ → Pass → Pass → Type 0
-KeepsLeftBut n pass pass' = (s : ℕ) → ¬ (s ≡ n) → LeavesNothing pass s → LeavesNothing pass' s
+abbrev pub KeepsClearedBut : ℕ → Pass → Pass → Type 0
+KeepsClearedBut n pass pass' = (s : ℕ) → ¬ (s ≡ n) → LeavesNothing pass s → LeavesNothing pass' s
 
 pub record Sweeps (pass pass' : Pass) (all : Bool) : Type 0 where
   pub same : IsSamePass pass pass'
   pub goes_on : GoesOnTo pass.name pass.seen pass'.seen
+  pub adds : AddsAlone pass pass'
   pub links : HasSameLinks pass pass'
-  pub all_back : (all ≡ true) ↔ ((s : ℕ) → (slot_at (state_seen pass') s).used ≡ false)
+  pub numbers : used (state_seen pass') ≡ used (state_seen pass)
+  pub none_in_use : (all ≡ true) ↔ ((s : ℕ) → (slot_at (state_seen pass') s).used ≡ false)
+  pub cleared : all ≡ true → (s : ℕ) → LeavesNothing pass' s
   pub reclaimed : all ≡ true → (v q : ℕ) → Retired (moments_seen pass') v q → (k : ℕ) × Reclaimed (moments_seen pass') v k

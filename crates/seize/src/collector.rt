@@ -268,24 +268,23 @@ impl<'a, T: Drop> Stay<bool> for Sweep<'a, T> {
 }
 
 impl<T: Drop> Collector<T> {
-    ghost use mathlib.Core.List.{IsPrefix};
-    ghost use Rattle.seize_book.specs.Porters.{GoesOnTo};
-    ghost use Rattle.seize.specs.Collectors.{its_book, seen_by};
-    ghost use Rattle.seize.specs.Reclaims.{IsSameCollector, ReclaimsAll};
+    ghost use Rattle.seize.specs.Collectors.{its_book};
+    ghost use Rattle.seize.specs.Reclaims.{Learns, ReclaimsAll};
 
-    /// Keeps what passes of the collector saw, also when they are over (`Seen::learn`). Another pass learns from it (`Pass::learn`), and so
-    /// does the collector (`covers`). It has no bytes.
+    /// An empty note of this collector's list. It learns what a pass has seen (`Seen::learn`, which forgets what it knew beyond that), and
+    /// outlives the pass: another pass learns from it (`Pass::learn`), and so does the collector. It has no bytes.
     pub fn seen(&self) -> Seen
         ensures { result.name ≡ its_book self.now }
     {
         self.words.blocks.book.again()
     }
 
-    /// The collector has seen then what this has, and no less than before. It does nothing when the program runs: its contract is the law.
-    pub fn covers(&mut self, known: &Seen)
+    /// From now on the collector knows all events that the note knows, and all that it knew; so does each pass that it gives. It is there
+    /// for proofs: it makes no event, and changes nothing when the program runs. Before `reclaim_all` it is called with the note of each
+    /// thread.
+    pub fn learn(&mut self, known: &Seen)
         requires known { known.now.name ≡ its_book self.old }
-        ensures same { IsSameCollector self.old self.new }
-        ensures covers { GoesOnTo (its_book self.old) (seen_by self.old) (seen_by self.new) × IsPrefix known.now.seen (seen_by self.new) }
+        ensures { Learns self.old self.new known.now }
     {
         let porter = &mut self.porter;
         porter.come_home();
@@ -293,14 +292,15 @@ impl<T: Drop> Collector<T> {
         porter.leave_home();
     }
 
-    /// Reclaims what waits in the batches of all slots that nobody has, and says whether that is all: it is where no number is in use, so
-    /// that each registration ended and each owned guard left. Then each value that was ever retired has ended. What the links hold stays.
+    /// Reclaims what waits in the batches of all slots that nobody has. It answers true where no number is in use: each registration
+    /// ended with the answer true, and each owned guard left. Then each value that was ever retired was reclaimed, and its `Drop` ran.
+    /// What the links hold stays, and the collector may be shared again.
     ///
-    /// All passes, guards and registrations are over by then. Where a registration was forgotten, the values of its slot's batch stay
-    /// where they are; where a guard was forgotten, so does all that its slot keeps back.
+    /// It answers false for good where a registration or a guard was forgotten. The batch of a forgotten registration's slot stays then;
+    /// and what waits for the slot of a forgotten guard, or is attempted later, stays as well.
     ///
-    /// It takes no memory and waits for nobody, but for what values do as they end. Each slot that nobody has makes two atomic swaps, and
-    /// four atomic steps more where its batch has values.
+    /// The slots go in order of their numbers. It takes no memory and waits for nobody, but for what values do as they end. Each slot
+    /// makes two atomic swaps and an attempt of its batch, which looks at the heads of all slots.
     pub fn reclaim_all(&mut self) -> bool
         ensures { ReclaimsAll self.old self.new result }
     {

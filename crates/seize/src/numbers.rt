@@ -129,11 +129,6 @@ impl<T: Drop> Numbers<T> {
     ghost use Rattle.seize_book.specs.Passes.{IsSamePass};
     ghost use Rattle.seize_calls.specs.Slots.{IsInactive, IsSlotOf};
 
-    /// How many slots were made.
-    pub(crate) fn count(&self) -> usize {
-        self.slots.len()
-    }
-
     /// The slot of the least number that is not in use, where there is one: the number is taken again. No slot is made.
     ///
     /// It takes no memory and waits for nobody.

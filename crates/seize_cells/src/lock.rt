@@ -13,7 +13,7 @@ use std::sync::Wait;
 /// A value and its lock. In a clause a lock is the label of its value.
 ///
 /// Only a work has the value, where it lies, and no work changes the label or leaves the value unsound. If a work does not return, its lock
-/// is held for good.
+/// is held for as long as threads share it.
 #[derive(Drop)]
 pub struct Lock<M: Steady> {
     cell: SteadyCell<M>,

@@ -143,14 +143,17 @@ fn make_all<'a>(
     Ok((ends, taken, well))
 }
 
-// A slot enters, swaps, retires 30 of 40 values, flushes, refreshes, reads, exchanges, leaves and ends, and its collector is dropped. Where
-// each request for memory after the making of the blocks is refused, each of these calls goes well too, and values end as they do with it.
+// A slot enters, swaps, retires 30 of 40 values, flushes, refreshes, reads, exchanges, leaves and ends. Its collector reclaims all, and is
+// dropped. Where each request for memory after the making of the blocks is refused, each of these calls goes well too, and values end as
+// they do with it.
 #[test]
 fn calls_that_ask_for_no_memory(rt: HostRuntime) -> Result<(), Fail> {
     let ends = AtomicU64::new(0);
-    let collector = collector(rt.alloc())?;
+    let mut collector = collector(rt.alloc())?;
     let made = make_all(&rt, rt.alloc(), &collector, &ends)?;
     assert_eq!(rt; made, ([0, 0, 30, 30], true, true));
+    assert!(rt; collector.reclaim_all());
+    assert_eq!(rt; ended(&ends), 31);
     drop(collector);
     assert_eq!(rt; ended(&ends), BLOCKS);
     Ok(())

@@ -1,10 +1,18 @@
 //! What an exclusive call reclaims: all that was retired, where nothing was forgotten, and it says so. The links keep what they hold, and
 //! the collector is shared again.
 
+ghost use Rattle.std.specs.Prelude.{◌≡◌, ◌<◌, IfOk};
+ghost use Rattle.seize.specs.Collectors.{IsPassOf, its_links};
+ghost use Rattle.seize.specs.Registrations.{registered_in};
+
 use crate::ending::{
     TIMES, collector, forget_guard, forget_registration, put_by_two, put_in_all, retire_by_two,
 };
+use crate::marked::{Marked, ended as ended_marks, marks};
 use crate::values::ended;
+use seize::{Collector, IdSource, Pass, Refusal, Registration};
+use std::alloc::Global;
+use std::sync::Wait;
 use std::sync::atomic::AtomicU64;
 use std::test::*;
 
@@ -75,5 +83,86 @@ fn what_two_threads_retired_ends(rt: HostRuntime) -> Result<(), Fail> {
     assert_eq!(rt; ended(&ends), 12 * TIMES - 3);
     drop(collector);
     assert_eq!(rt; ended(&ends), 12 * TIMES);
+    Ok(())
+}
+
+// A collector with one link.
+fn numbers<'a>(alloc: Global) -> Result<Collector<Marked<'a>>, Refusal>
+    ensures { IfOk result (λ made. 0 < its_links made) }
+{
+    Collector::new(alloc, &mut IdSource::new(), 1, 1)
+}
+
+// Puts this number into the link, and retires what was there.
+fn put<'a>(
+    rt: &impl Wait,
+    registration: &Registration<'_, Marked<'a>>,
+    number: Marked<'a>,
+    pass: &mut Pass,
+) -> Result<(), Refusal>
+    requires of { IsPassOf (registered_in registration.now) pass.old × (0 < its_links (registered_in registration.now)) }
+    ensures { IsPassOf (registered_in registration.now) pass.new }
+{
+    let block = match registration.owned(number) {
+        Ok(block) => block,
+        Err((refusal, _)) => return Err(refusal),
+    };
+    let guard = registration.enter(pass)?;
+    if let Some(old) = guard.swap(0, Some(block), pass) {
+        guard.defer_retire(rt, pass, old);
+    }
+    guard.leave(rt, pass);
+    Ok(())
+}
+
+// Puts so many numbers into the link, one after the other, and says which one it holds then.
+fn put_many<'a>(
+    rt: &impl Wait,
+    collector: &Collector<Marked<'a>>,
+    many: u64,
+    marks: &'a [AtomicU64],
+) -> Result<Option<u64>, Refusal>
+    requires { 0 < its_links collector.now }
+{
+    let mut pass = collector.pass();
+    let registration = collector.register(rt, &mut pass)?;
+    let mut answer = Ok(());
+    for value in 0..many {
+        if let Err(refusal) = put(rt, &registration, Marked { value, marks }, &mut pass) {
+            answer = Err(refusal);
+        }
+    }
+    let found = read(rt, &registration, &mut pass);
+    registration.end(rt, &mut pass);
+    answer?;
+    found
+}
+
+// The number in the link.
+fn read<'a>(
+    rt: &impl Wait,
+    registration: &Registration<'_, Marked<'a>>,
+    pass: &mut Pass,
+) -> Result<Option<u64>, Refusal>
+    requires of { IsPassOf (registered_in registration.now) pass.old × (0 < its_links (registered_in registration.now)) }
+    ensures { IsPassOf (registered_in registration.now) pass.new }
+{
+    let guard = registration.enter(pass)?;
+    let found = guard.protect(0, pass).map(|shared| shared.value);
+    guard.leave(rt, pass);
+    Ok(found)
+}
+
+#[test]
+fn a_link_keeps_its_number_and_each_other_ends_once(rt: HostRuntime) -> Result<(), Fail> {
+    let marks = marks(rt.alloc(), 10)?;
+    let marks = marks.as_slice();
+    let mut collector = numbers(rt.alloc())?;
+    assert_eq!(rt; put_many(&rt, &collector, 10, marks)?, Some(9));
+    assert!(rt; collector.reclaim_all());
+    assert_eq!(rt; ended_marks(marks), (9, 0));
+    assert_eq!(rt; put_many(&rt, &collector, 0, marks)?, Some(9));
+    drop(collector);
+    assert_eq!(rt; ended_marks(marks), (10, 0));
     Ok(())
 }

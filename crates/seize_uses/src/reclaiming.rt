@@ -1,4 +1,4 @@
-//! A caller who has the collector alone has all reclaimed that was retired, and knows it of a number of its own.
+//! A caller who has the collector alone has all reclaimed that was retired, and knows it of what its threads retired.
 ghost use base.Stored.{gnum};
 ghost use Rattle.std.specs.Prelude.{◌≡◌, ℕ, IfOk, true};
 ghost use Rattle.seize.specs.Blocks.{HasContent};
@@ -9,7 +9,8 @@ ghost use Rattle.seize.specs.Reclaims.{moments_kept, moments_of};
 use seize::{Collector, Refusal, Seen, Unlinked};
 use std::sync::Wait;
 
-/// Retires a new number by a registration of its own, which ends then. It keeps what its pass saw: there the number is retired.
+/// Retires a new block with this number by a registration of its own, which ends then. The note that comes back knows of it: a value of
+/// this content is retired there.
 pub fn retire<W: Wait>(collector: &Collector<u64>, number: u64, rt: &W) -> Result<Seen, Refusal>
     ensures book { IfOk result (λ known. known.name ≡ its_book collector.now) }
     ensures retired { IfOk result (λ known. (v : ℕ) × HasContent gnum v number × ((q : ℕ) × Retired (moments_kept known) v q)) }
@@ -27,15 +28,11 @@ pub fn retire<W: Wait>(collector: &Collector<u64>, number: u64, rt: &W) -> Resul
     Ok(known)
 }
 
-/// Retires a new number, and has the collector reclaim all. If that says that it did, the number was reclaimed.
-pub fn retire_and_reclaim<W: Wait>(
-    collector: &mut Collector<u64>,
-    number: u64,
-    rt: &W,
-) -> Result<bool, Refusal>
-    ensures { IfOk result (λ all. all ≡ true → (v : ℕ) × HasContent gnum v number × ((k : ℕ) × Reclaimed (moments_of collector.new) v k)) }
+/// Has the collector reclaim all. If it says so, each value that the note knows to be retired was reclaimed.
+pub fn reclaim(collector: &mut Collector<u64>, known: &Seen) -> bool
+    requires book { known.now.name ≡ its_book collector.old }
+    ensures { result ≡ true → (v q : ℕ) → Retired (moments_kept known.now) v q → (k : ℕ) × Reclaimed (moments_of collector.new) v k }
 {
-    let known = retire(collector, number, rt)?;
-    collector.covers(&known);
-    Ok(collector.reclaim_all())
+    collector.learn(known);
+    collector.reclaim_all()
 }

@@ -3,7 +3,7 @@
 use crate::alone::{Number, read_and_retire};
 use crate::list::{Node, PutNext, in_front};
 use crate::machine::with_active_slot;
-use crate::reclaiming::retire_and_reclaim;
+use crate::reclaiming::{reclaim, retire};
 use crate::replacing::{add, exchange};
 use crate::shared::{audit, read, replace};
 use crate::table::loaded_twice;
@@ -108,11 +108,12 @@ fn a_shared_number_is_replaced_and_read(rt: HostRuntime) -> Result<(), Fail> {
 }
 
 #[test]
-fn a_number_is_reclaimed_by_who_has_the_collector_alone(rt: HostRuntime) -> Result<(), Fail> {
+fn numbers_are_reclaimed_by_who_has_the_collector_alone(rt: HostRuntime) -> Result<(), Fail> {
     let mut ids = seize::IdSource::new();
     let mut collector: seize::Collector<u64> = seize::Collector::new(rt.alloc(), &mut ids, 1, 0)?;
     for number in 0..3u64 {
-        assert!(rt; retire_and_reclaim(&mut collector, number, &rt)?);
+        let known = retire(&collector, number, &rt)?;
+        assert!(rt; reclaim(&mut collector, &known));
     }
     Ok(())
 }

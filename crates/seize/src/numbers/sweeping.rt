@@ -6,7 +6,7 @@ ghost use Rattle.seize_book.specs.Tokens.{IsSole};
 ghost use Rattle.seize_words.specs.Joined.{words_book};
 ghost use Rattle.seize_calls.specs.Slots.{IsInactive, IsPassFor, IsSlotOf, its_number};
 ghost use Rattle.seize.specs.Numbers.{AreNumbers, IsLockFor, flags_of};
-ghost use Rattle.seize.specs.Sweeps.{AreOff, AreOffBelow, AreTakenTo, IsHere, IsLedBy, IsOff, KeepsLeft, KeepsLeftBut, KeepsOff, KeepsOn, KeepsPlaces, LeaveNothingBelow, LeavesNothing, Sweeps};
+ghost use Rattle.seize.specs.Sweeps.{AreOff, AreOffBelow, AreTakenTo, LiesHere, IsLedBy, IsOff, KeepsCleared, KeepsClearedBut, KeepsOff, KeepsOn, KeepsPlaces, AreClearedBelow, LeavesNothing, Sweeps};
 
 use crate::ends::Ends;
 use crate::numbers::Numbers;
@@ -40,8 +40,8 @@ fn sweep<T: Drop>(words: &Words<T>, slot: &mut Slot<T>, pass: &mut Pass)
 }
 
 impl<T: Drop> Numbers<T> {
-    /// Each slot that nobody has takes its number again, enters, attempts its batch and leaves, and then the numbers go back. It says
-    /// whether all are there, so that no number is in use.
+    /// Each slot that nobody has takes its number again; then each enters, attempts its batch and leaves; then the numbers go back. It says
+    /// whether all slots are there, so that no number is in use.
     ///
     /// It takes no memory and waits for nobody, but for what values do as they end.
     pub(crate) fn sweep(&mut self, words: &Words<T>, pass: &mut Pass) -> bool
@@ -50,6 +50,7 @@ impl<T: Drop> Numbers<T> {
         ensures numbers { AreNumbers self.new × (self.new.book ≡ self.old.book) }
         ensures sweeps { Sweeps pass.old pass.new result }
     {
+        self.key.look(pass);
         self.take_all(words, pass);
         self.key.look(pass);
         self.sweep_all(words, pass);
@@ -83,7 +84,7 @@ impl<T: Drop> Numbers<T> {
         requires pass { IsPassFor words.now pass.old × IsSole pass.old.id }
         ensures taken { AreTakenTo (n + 1) self.new × KeepsPlaces self.old self.new }
         ensures off { KeepsOn pass.old pass.new × KeepsOff pass.old pass.new
-            × (IsHere (flags_of self.new.slots.items) n → IsOff pass.new n) }
+            × (LiesHere (flags_of self.new.slots.items) n → IsOff pass.new n) }
     {
         if let Some(slot) = self.slots[n].take() {
             let mut slot = slot;
@@ -99,7 +100,7 @@ impl<T: Drop> Numbers<T> {
         requires pass { IsPassFor words.now pass.old × IsSole pass.old.id }
         ensures taken { AreTakenTo (length self.new.slots.items) self.new × KeepsPlaces self.old self.new }
         ensures left { KeepsOn pass.old pass.new
-            × (AreOff pass.old → LeaveNothingBelow (length self.new.slots.items) (flags_of self.new.slots.items) pass.new) }
+            × (AreOff pass.old → AreClearedBelow (length self.new.slots.items) (flags_of self.new.slots.items) pass.new) }
     {
         for n in 0..self.slots.len() {
             self.sweep_at(words, n, pass);
@@ -112,8 +113,8 @@ impl<T: Drop> Numbers<T> {
             × (n < length self.old.slots.items) }
         requires pass { IsPassFor words.now pass.old × IsSole pass.old.id }
         ensures taken { AreTakenTo (length self.new.slots.items) self.new × KeepsPlaces self.old self.new }
-        ensures kept { KeepsOn pass.old pass.new × KeepsLeftBut n pass.old pass.new }
-        ensures left { AreOff pass.old → AreOff pass.new × (IsHere (flags_of self.new.slots.items) n → LeavesNothing pass.new n) }
+        ensures kept { KeepsOn pass.old pass.new × KeepsClearedBut n pass.old pass.new }
+        ensures left { AreOff pass.old → AreOff pass.new × (LiesHere (flags_of self.new.slots.items) n → LeavesNothing pass.new n) }
     {
         if let Some(slot) = self.slots[n].take() {
             let mut slot = slot;
@@ -127,7 +128,7 @@ impl<T: Drop> Numbers<T> {
         requires taken { AreTakenTo (length self.old.slots.items) self.old × (self.old.book.name ≡ words_book words.now) }
         requires pass { IsPassFor words.now pass.old × IsSole pass.old.id }
         ensures numbers { AreTakenTo 0 self.new × KeepsPlaces self.old self.new }
-        ensures left { KeepsOn pass.old pass.new × KeepsLeft pass.old pass.new }
+        ensures left { KeepsOn pass.old pass.new × KeepsCleared pass.old pass.new }
     {
         let many = self.slots.len();
         for given in 0..many {
@@ -140,7 +141,7 @@ impl<T: Drop> Numbers<T> {
         requires taken { AreTakenTo (n + 1) self.old × (self.old.book.name ≡ words_book words.now) × (n < length self.old.slots.items) }
         requires pass { IsPassFor words.now pass.old × IsSole pass.old.id }
         ensures taken { AreTakenTo n self.new × KeepsPlaces self.old self.new }
-        ensures left { KeepsOn pass.old pass.new × KeepsLeft pass.old pass.new }
+        ensures left { KeepsOn pass.old pass.new × KeepsCleared pass.old pass.new }
     {
         if let Some(slot) = self.slots[n].take() {
             let mut slot = slot;

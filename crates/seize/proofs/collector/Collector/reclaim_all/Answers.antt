@@ -1,10 +1,13 @@
 use Rattle.std.proofs.Common.{◌≡◌, ◌↔◌, ℕ, true, false, List, refl, sym, ap, subst, ◌∙◌}
 use Rattle.seize_machine.specs.Machine.History.{Reclaimed, Retired}
 use Rattle.seize_machine.specs.Machine.State.{link_at, slot_at}
-use Rattle.seize_book.specs.Book.{after, moments}
+use Rattle.seize_book.specs.Book.{after, mine, moments}
 use Rattle.seize_book.specs.Entry.{Entry}
 use Rattle.seize_book.specs.Porters.{GoesOnTo}
 use Rattle.seize_book.specs.Tokens.{Name, start}
+use Rattle.seize_machine.specs.Machine.Frames.{used}
+use Rattle.seize_calls.specs.Alone.{AllBy}
+use Rattle.seize.specs.Sweeps.{IsCleared}
 use Rattle.seize.specs.Collectors.{its_book}
 use Rattle.seize.proofs.collector.Collector.reclaim_all.Goals as goal
 
@@ -19,12 +22,17 @@ pub returns : goal.returns
 returns g c =
     let stay = c.stay-all.ensures in let leave = c.leave_home.ensures in let self = c.args.self.now in let lent = stay.lent in let back = stay.back in let sweeps = stay.gives.1 in let name = its_book self in let seen' = c.leave_home.new.self.seen in
     let lent_name : lent.name ≡ name = stay.shut.book.0 ∙ self.lends.0 in let back_name : back.name ≡ name = stay.same.0 ∙ lent_name in let back_seen : back.seen ≡ seen' = sym stay.again.1 ∙ sym leave.1 in
+    let added = sweeps.adds stay.shut.alone in
     record {
       same = (refl, refl, refl);
-      seen = lent.seen;
+      at_call = lent.seen;
       goes_on = subst (λ (n : Name). GoesOnTo n self.porter.seen lent.seen) self.lends.0 stay.shut.goes_on;
+      nothing = subst (λ (n : Name). mine (start n) 0 lent.seen ≡ mine (start n) 0 self.porter.seen) self.lends.0 stay.shut.none_made;
       grows = subst (λ (t : Name × List Entry). GoesOnTo t.0 lent.seen t.1) (λ j. (lent_name j, back_seen j)) sweeps.goes_on;
+      by_itself = (added.0, sym back_seen ∙ added.1, subst (λ (p : ℕ). AllBy p added.0) stay.shut.alone added.2);
       links = λ l. ap (λ (t : Name × List Entry). link_at (after (start t.0) t.1) l) (λ j. (sym back_name j, sym back_seen j)) ∙ sweeps.links l ∙ ap (λ (n : Name). link_at (after (start n) lent.seen) l) lent_name;
-      all_back = subst (λ (t : Name × List Entry). (c.stay-all.result ≡ true) ↔ ((s : ℕ) → (slot_at (after (start t.0) t.1) s).used ≡ false)) (λ j. (back_name j, back_seen j)) sweeps.all_back;
+      numbers = ap (λ (t : Name × List Entry). used (after (start t.0) t.1)) (λ j. (sym back_name j, sym back_seen j)) ∙ sweeps.numbers ∙ ap (λ (n : Name). used (after (start n) lent.seen)) lent_name;
+      none_in_use = subst (λ (t : Name × List Entry). (c.stay-all.result ≡ true) ↔ ((s : ℕ) → (slot_at (after (start t.0) t.1) s).used ≡ false)) (λ j. (back_name j, back_seen j)) sweeps.none_in_use;
+      cleared = λ so. subst (λ (t : Name × List Entry). (s : ℕ) → IsCleared (after (start t.0) t.1) s) (λ j. (back_name j, back_seen j)) (sweeps.cleared so);
       reclaimed = λ so. subst (λ (t : Name × List Entry). (v q : ℕ) → Retired (moments (start t.0) t.1) v q → (k : ℕ) × Reclaimed (moments (start t.0) t.1) v k) (λ j. (back_name j, back_seen j)) (sweeps.reclaimed so);
     }

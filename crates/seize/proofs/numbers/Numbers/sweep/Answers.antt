@@ -9,20 +9,27 @@ use Rattle.seize_book.specs.Homesteads.{state_seen}
 use Rattle.seize_book.specs.Loans.{AllCarryOne}
 use Rattle.seize_book.specs.Tokens.{Name, start}
 use Rattle.seize.specs.Numbers.{flags_of}
-use Rattle.seize.specs.Sweeps.{AreAllHere, AreOff, KeepsOn, LeavesNothing, flags_to}
-use Rattle.seize.proofs.Cleared.{all_cleared, all_off, each_of, here_in, keeps_looked, looked_left, looked_off, past_nothing}
+use Rattle.seize.specs.Sweeps.{AreOff, KeepsOn, LeavesNothing, flags_to}
+use Rattle.seize.proofs.Cleared.{all_cleared, all_off, each_of, here_in, keeps_looked, looked_left, looked_off, looked_state, past_nothing}
 use Rattle.seize.proofs.Placed.{still_for}
 use Rattle.seize.proofs.Swept.{keeps_then, still_sole}
-use Rattle.seize.proofs.Taken.{all_here, all_unused, flags_length, here_all, taken_first, taken_last, taken_looked, unused_all}
+use Rattle.seize.proofs.Taken.{AreAllHere, all_here, all_unused, flags_length, here_all, taken_first, taken_last, taken_looked, unused_all}
 use Rattle.seize.proofs.numbers.Numbers.sweep.Goals as goal
 
 pub take_all-requires : goal.take_all-requires
-take_all-requires g c = (omega arith, ((taken_first c.args.self.now c.requires.numbers.0, c.requires.numbers.1), c.requires.pass))
+take_all-requires g c =
+    let words = c.args.words.now in let self = c.args.self.now in let p = c.args.pass.now in let p0 = c.look.new.pass in let look = c.look.ensures.looks in (
+      omega arith,
+      (
+        (taken_looked 0 self _ p0 (taken_first self c.requires.numbers.0) look.1 c.look.ensures.used.1 refl refl refl, c.requires.numbers.1),
+        (still_for words p p0 c.requires.pass.0 look.0.same, still_sole p p0 look.0.same c.requires.pass.1),
+      ),
+    )
 
 pub sweep_all-requires : goal.sweep_all-requires
 sweep_all-requires g c =
-    let words = c.args.words.now in let p0 = c.args.pass.now in let p1 = c.take_all.new.pass in let p2 = c.look.new.pass in let taken = c.take_all.new.self in let take = c.take_all.ensures in let look = c.look.ensures in
-    let for1 = still_for words p0 p1 c.requires.pass.0 take.off.0.0 in let sole1 = still_sole p0 p1 take.off.0.0 c.requires.pass.1 in (
+    let words = c.args.words.now in let p = c.args.pass.now in let p0 = c.look.new.pass in let p1 = c.take_all.new.pass in let p2 = c.look-2.new.pass in let taken = c.take_all.new.self in let take = c.take_all.ensures in let look = c.look-2.ensures in
+    let same0 = c.look.ensures.looks.0.same in let for1 = still_for words p0 p1 (still_for words p p0 c.requires.pass.0 same0) take.off.0.0 in let sole1 = still_sole p0 p1 take.off.0.0 (still_sole p p0 same0 c.requires.pass.1) in (
       omega arith,
       (
         (taken_looked (length taken.slots.items) taken _ p2 take.taken.0 look.looks.1 look.used.1 refl refl refl, ap (λ seen. seen.name) take.taken.1.0 ∙ c.requires.numbers.1),
@@ -32,25 +39,39 @@ sweep_all-requires g c =
 
 pub returns-clause-numbers : goal.returns-clause-numbers
 returns-clause-numbers g c =
-    let given = c.give_all.new.self in let give = c.give_all.ensures in let look = c.look-2.ensures in (
-      taken_last _ (taken_looked 0 given _ c.look-2.new.pass give.numbers.0 look.looks.1 look.used.1 refl refl refl),
+    let given = c.give_all.new.self in let give = c.give_all.ensures in let look = c.look-3.ensures in (
+      taken_last _ (taken_looked 0 given _ c.look-3.new.pass give.numbers.0 look.looks.1 look.used.1 refl refl refl),
       give.numbers.1.0 ∙ c.sweep_all.ensures.taken.1.0 ∙ c.take_all.ensures.taken.1.0,
     )
 
 pub returns-clause-sweeps : goal.returns-clause-sweeps
 returns-clause-sweeps g c =
-    let p0 = c.args.pass.now in let p1 = c.take_all.new.pass in let p2 = c.look.new.pass in let p3 = c.sweep_all.new.pass in let p4 = c.give_all.new.pass in let p5 = c.look-2.new.pass in
-    let take = c.take_all.ensures in let look1 = c.look.ensures in let each = c.sweep_all.ensures in let give = c.give_all.ensures in let look2 = c.look-2.ensures in
-    let sole1 = still_sole p0 p1 take.off.0.0 c.requires.pass.1 in let sole2 = still_sole p1 p2 look1.looks.0.same sole1 in let sole3 = still_sole p2 p3 each.left.0.0 sole2 in let sole4 = still_sole p3 p4 give.left.0.0 sole3 in
-    let keeps : KeepsOn p0 p5 = keeps_then p0 p1 p5 take.off.0 (keeps_then p1 p2 p5 (keeps_looked p1 p2 look1.looks.0 sole1) (keeps_then p2 p3 p5 each.left.0 (keeps_then p3 p4 p5 give.left.0 (keeps_looked p4 p5 look2.looks.0 sole4)))) in
-    let taken = c.take_all.new.self in let swept = c.sweep_all.new.self in let given = c.give_all.new.self in
-    let name4 : p4.name ≡ p0.name = sym look2.looks.0.same.0 ∙ keeps.0.0 in let name5 : p4.name ≡ p5.name = sym look2.looks.0.same.0 in
+    let p = c.args.pass.now in let p0 = c.look.new.pass in let p1 = c.take_all.new.pass in let p2 = c.look-2.new.pass in let p3 = c.sweep_all.new.pass in let p4 = c.give_all.new.pass in let p5 = c.look-3.new.pass in
+    let look0 = c.look.ensures in let take = c.take_all.ensures in let look1 = c.look-2.ensures in let each = c.sweep_all.ensures in let give = c.give_all.ensures in let look2 = c.look-3.ensures in
+    let sole = c.requires.pass.1 in let sole0 = still_sole p p0 look0.looks.0.same sole in
+    let sole1 = still_sole p0 p1 take.off.0.0 sole0 in let sole2 = still_sole p1 p2 look1.looks.0.same sole1 in let sole3 = still_sole p2 p3 each.left.0.0 sole2 in let sole4 = still_sole p3 p4 give.left.0.0 sole3 in
+    let keeps : KeepsOn p p5 = keeps_then p p0 p5 (keeps_looked p p0 look0.looks.0 sole)
+    (keeps_then p0 p1 p5 take.off.0 (keeps_then p1 p2 p5 (keeps_looked p1 p2 look1.looks.0 sole1) (keeps_then p2 p3 p5 each.left.0 (keeps_then p3 p4 p5 give.left.0 (keeps_looked p4 p5 look2.looks.0 sole4))))) in
+    let self = c.args.self.now in let taken = c.take_all.new.self in let swept = c.sweep_all.new.self in let given = c.give_all.new.self in
+    let name4 : p4.name ≡ p.name = sym look2.looks.0.same.0 ∙ keeps.0.0 in let name5 : p4.name ≡ p5.name = sym look2.looks.0.same.0 in
     let legal5 : IsLegalList (start p5.name) p5.seen = subst (λ (n : Name). IsLegalList (start n) p5.seen) name5 look2.looks.0.legal in
     let distinct5 : are_distinct (linked_values p5.name.links) ≡ true = subst (λ (n : Name). are_distinct (linked_values n.links) ≡ true) name5 look2.looks.0.distinct in
     let flags5 : used (state_seen p5) ≡ flags_of given.slots.items = look2.used.0 ∙ give.numbers.0.flags in
     let legal2 : IsLegalList (start p2.name) p2.seen = subst (λ (n : Name). IsLegalList (start n) p2.seen) (sym look1.looks.0.same.0) look1.looks.0.legal in
     let distinct2 : are_distinct (linked_values p2.name.links) ≡ true = subst (λ (n : Name). are_distinct (linked_values n.links) ≡ true) (sym look1.looks.0.same.0) look1.looks.0.distinct in
     let here_of : c.all_here.result ≡ true → AreAllHere (flags_of given.slots.items) = λ so. all_here given.slots.items (sym c.all_here.ensures ∙ so) in
+    let places3 = give.numbers.1.1 in let places2 = each.taken.1.1 in
+    let cleared : c.all_here.result ≡ true → (t : ℕ) → LeavesNothing p5 t = λ so.
+    let here = here_of so in
+    let here2 : AreAllHere (flags_of taken.slots.items) = subst AreAllHere (places3 ∙ places2) here in
+    let all2 = flags_to (length taken.slots.items) taken.slots.items in let used2 : used (state_seen p2) ≡ all2 = look1.used.0 ∙ take.taken.0.flags in
+    let off2 : AreOff p2 = all_off p2 legal2 distinct2 all2 used2 (length taken.slots.items) (sym (flags_length (length taken.slots.items) taken.slots.items)) (flags_of taken.slots.items) (length-map taken.slots.items is_none) here2
+    (λ t less at. looked_off p1 p2 look1.looks.0 sole1 t (take.off.1 t less at)) in
+    let many = length swept.slots.items in let here3 : AreAllHere (flags_of swept.slots.items) = subst AreAllHere places3 here in
+    let long3 : length (flags_of swept.slots.items) ≡ many = length-map swept.slots.items is_none in
+    let long5 : length (used (state_seen p5)) ≡ many = ap (λ (us : List Bool). length us) (flags5 ∙ places3) ∙ long3 in
+    each_of (LeavesNothing p5) many (λ t less. looked_left p4 p5 look2.looks.0 sole4 t (give.left.1 t (each.left.1 off2 t less (here_in (flags_of swept.slots.items) t here3 (omega (arith, less, long3))))))
+    (λ t past. past_nothing p5 legal5 distinct5 t (omega (arith, past, long5))) in
     record {
       same = keeps.0;
       goes_on = record {
@@ -60,22 +81,13 @@ returns-clause-sweeps g c =
         lent = subst (λ (n : Name). AllCarryOne (after (start n) p5.seen).named) name4 look2.looks.0.lent;
         distinct = subst (λ (n : Name). are_distinct (linked_values n.links) ≡ true) name4 look2.looks.0.distinct;
       };
+      adds = keeps.3;
       links = keeps.2;
-      all_back = (
+      numbers = flags5 ∙ places3 ∙ places2 ∙ take.taken.1.1 ∙ sym c.requires.numbers.0.flags ∙ sym look0.used.0 ∙ ap used (looked_state p p0 look0.looks.0 sole);
+      none_in_use = (
         (λ so. unused_all (state_seen p5).slots (subst AreAllHere (sym flags5) (here_of so))),
         λ unused. c.all_here.ensures ∙ here_all given.slots.items (subst AreAllHere flags5 (all_unused (state_seen p5).slots unused)),
       );
-      reclaimed = λ so.
-          let here = here_of so in let places3 = give.numbers.1.1 in let places2 = each.taken.1.1 in
-          let here2 : AreAllHere (flags_of taken.slots.items) = subst AreAllHere (places3 ∙ places2) here in
-          let all2 = flags_to (length taken.slots.items) taken.slots.items in let used2 : used (state_seen p2) ≡ all2 = look1.used.0 ∙ take.taken.0.flags in
-          let off2 : AreOff p2 = all_off p2 legal2 distinct2 all2 used2 (length taken.slots.items) (sym (flags_length (length taken.slots.items) taken.slots.items)) (flags_of taken.slots.items) (length-map taken.slots.items is_none) here2 (λ t less at. looked_off p1 p2 look1.looks.0 sole1 t (take.off.1 t less at)) in
-          let many = length swept.slots.items in let here3 : AreAllHere (flags_of swept.slots.items) = subst AreAllHere places3 here in
-          let long3 : length (flags_of swept.slots.items) ≡ many = length-map swept.slots.items is_none in
-          let long5 : length (used (state_seen p5)) ≡ many = ap (λ (us : List Bool). length us) (flags5 ∙ places3) ∙ long3 in
-          let left5 : (t : ℕ) → LeavesNothing p5 t =
-          each_of (LeavesNothing p5) many
-          (λ t less. looked_left p4 p5 look2.looks.0 sole4 t (give.left.1 t (each.left.1 off2 t less (here_in (flags_of swept.slots.items) t here3 (omega (arith, less, long3))))))
-          (λ t past. past_nothing p5 legal5 distinct5 t (omega (arith, past, long5))) in
-          all_cleared p5 legal5 distinct5 left5;
+      cleared = cleared;
+      reclaimed = λ so. all_cleared p5 legal5 distinct5 (cleared so);
     }

@@ -2,19 +2,19 @@ use Rattle.std.proofs.Common.{◌≡◌, ◌+◌, ℕ, Bool, List, subst, sym, �
 use native.Mathlib.Decide.{ℕ_discrete}
 use Rattle.seize_book.specs.declared.book.pass.Pass.{Pass}
 use Rattle.seize.specs.Numbers.{flags_of}
-use Rattle.seize.specs.Sweeps.{IsHere, KeepsLeftBut, LeaveNothingBelow, LeavesNothing}
+use Rattle.seize.specs.Sweeps.{LiesHere, KeepsClearedBut, AreClearedBelow, LeavesNothing}
 use Rattle.seize.proofs.Placed.{still_for}
 use Rattle.seize.proofs.Swept.{keeps_then, still_sole}
 use Rattle.seize.proofs.Taken.{places_length}
 use Rattle.seize.proofs.numbers.Numbers.sweep_all.Goals as goal
 
 -- one place more was swept
-more_swept : (n : ℕ) (flags flags' : List Bool) (pass pass' : Pass) → flags' ≡ flags → KeepsLeftBut n pass pass' → LeaveNothingBelow n flags pass → (IsHere flags' n → LeavesNothing pass' n) → LeaveNothingBelow (n + 1) flags' pass'
+more_swept : (n : ℕ) (flags flags' : List Bool) (pass pass' : Pass) → flags' ≡ flags → KeepsClearedBut n pass pass' → AreClearedBelow n flags pass → (LiesHere flags' n → LeavesNothing pass' n) → AreClearedBelow (n + 1) flags' pass'
 more_swept n flags flags' pass pass' same kept was one t less here = go (ℕ_discrete t n)
   where
     go : Dec (t ≡ n) → LeavesNothing pass' t
-    go (yes e) = subst (LeavesNothing pass') (sym e) (one (subst (IsHere flags') e here))
-    go (no differs) = kept t differs (was t (let apart : t ≡ n → ⊥ = differs in omega (arith, less, apart)) (subst (λ (us : List Bool). IsHere us t) same here))
+    go (yes e) = subst (LeavesNothing pass') (sym e) (one (subst (LiesHere flags') e here))
+    go (no differs) = kept t differs (was t (let apart : t ≡ n → ⊥ = differs in omega (arith, less, apart)) (subst (λ (us : List Bool). LiesHere us t) same here))
 
 pub loop-n-preserved : goal.loop-n-preserved
 loop-n-preserved g c =
