@@ -5,8 +5,8 @@ ghost use Rattle.seize.specs.Collectors.{IsBlockOf, IsPassOf, its_links};
 ghost use Rattle.seize.specs.OwnedGuards.{owned_collector};
 ghost use Rattle.seize.specs.Registrations.{registered_in};
 
-use crate::marked::{Marked, ended, ends_of, marks};
 use seize::{Collector, IdSource, Owned, OwnedGuard, Pass, Refusal, Registration, Unlinked};
+use seize_threads_rows::marked::{Marked, ended, ends_of, marks};
 use std::alloc::Global;
 use std::process::Abort;
 use std::sync::Wait;

@@ -3,11 +3,7 @@
 #![tactic(auto)]
 
 #[cfg(test)]
-mod any;
-#[cfg(test)]
 mod ending;
-#[cfg(test)]
-mod exchanging;
 #[cfg(test)]
 mod forgotten;
 #[cfg(test)]
@@ -16,7 +12,6 @@ mod guards;
 mod handed;
 #[cfg(test)]
 mod ids;
-pub mod marked;
 #[cfg(test)]
 mod meeting;
 #[cfg(test)]
@@ -25,8 +20,6 @@ mod memory;
 mod nested;
 #[cfg(test)]
 mod numbers;
-#[cfg(test)]
-mod own_guards;
 #[cfg(test)]
 mod owned;
 #[cfg(test)]
@@ -37,23 +30,6 @@ mod passed_on;
 mod places;
 #[cfg(test)]
 mod reclaiming;
-#[cfg(test)]
-mod refreshing;
-#[cfg(test)]
-mod shared_guard;
-#[cfg(test)]
-mod sharing;
-#[cfg(test)]
-mod signs;
-#[cfg(test)]
-mod staying;
-#[cfg(test)]
-mod sums;
 mod threads;
 #[cfg(test)]
-mod turned;
-pub mod turns;
-#[cfg(test)]
 mod values;
-#[cfg(test)]
-mod winning;

@@ -8,9 +8,9 @@ ghost use Rattle.seize.specs.Registrations.{registered_in};
 use crate::ending::{
     TIMES, collector, forget_guard, forget_registration, put_by_two, put_in_all, retire_by_two,
 };
-use crate::marked::{Marked, ended as ended_marks, marks};
 use crate::values::ended;
 use seize::{Collector, IdSource, Pass, Refusal, Registration};
+use seize_threads_rows::marked::{Marked, ended as ended_marks, marks};
 use std::alloc::Global;
 use std::sync::Wait;
 use std::sync::atomic::AtomicU64;

@@ -1,7 +1,7 @@
 use Rattle.std.specs.Prelude.{◌≡◌}
 use Rattle.seize.specs.Collectors.{IsPassOf, its_links}
 use Rattle.seize.specs.Guards.{guard_collector}
-use Rattle.seize_rows.proofs.refreshing.read_until_over.Given as goal
+use Rattle.seize_threads_rows.proofs.refreshing.read_until_over.Given as goal
 
 abbrev pub invariant-loop : goal.invariant-loop
 invariant-loop g l =

@@ -1,7 +1,7 @@
 use Rattle.std.specs.Prelude.{IfSome}
 use Rattle.seize.specs.Collectors.{IsBlockOf, IsPassOf}
 use Rattle.seize.specs.Guards.{guard_collector}
-use Rattle.seize_rows.proofs.exchanging.add.Given as goal
+use Rattle.seize_threads_rows.proofs.exchanging.add.Given as goal
 
 abbrev pub invariant-loop : goal.invariant-loop
 invariant-loop g l =

@@ -1,0 +1,28 @@
+//! Tests of guards on threads: what readers see while others swap, exchange, retire and refresh. They stand in a crate of their own, so that
+//! they are proved beside the other tests of the collector.
+#![tactic(auto)]
+
+#[cfg(test)]
+mod any;
+#[cfg(test)]
+mod exchanging;
+pub mod marked;
+#[cfg(test)]
+mod own_guards;
+#[cfg(test)]
+mod refreshing;
+#[cfg(test)]
+mod shared_guard;
+#[cfg(test)]
+mod sharing;
+#[cfg(test)]
+mod signs;
+#[cfg(test)]
+mod staying;
+#[cfg(test)]
+mod sums;
+#[cfg(test)]
+mod turned;
+pub mod turns;
+#[cfg(test)]
+mod winning;
