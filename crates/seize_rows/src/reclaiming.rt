@@ -153,16 +153,26 @@ fn read<'a>(
     Ok(found)
 }
 
+// Puts ten numbers into the link of a new collector and has all reclaimed. It says which number the link held before and after, whether
+// all was reclaimed, and how many numbers had ended then, and how many more than once.
+fn reclaim<'a>(
+    rt: &impl Wait,
+    alloc: Global,
+    marks: &'a [AtomicU64],
+) -> Result<(Option<u64>, bool, (u64, u64), Option<u64>), Refusal> {
+    let mut collector = numbers(alloc)?;
+    let before = put_many(rt, &collector, 10, marks)?;
+    let all = collector.reclaim_all();
+    let ends = ended_marks(marks);
+    let after = put_many(rt, &collector, 0, marks)?;
+    Ok((before, all, ends, after))
+}
+
 #[test]
 fn a_link_keeps_its_number_and_each_other_ends_once(rt: HostRuntime) -> Result<(), Fail> {
     let marks = marks(rt.alloc(), 10)?;
-    let marks = marks.as_slice();
-    let mut collector = numbers(rt.alloc())?;
-    assert_eq!(rt; put_many(&rt, &collector, 10, marks)?, Some(9));
-    assert!(rt; collector.reclaim_all());
-    assert_eq!(rt; ended_marks(marks), (9, 0));
-    assert_eq!(rt; put_many(&rt, &collector, 0, marks)?, Some(9));
-    drop(collector);
-    assert_eq!(rt; ended_marks(marks), (10, 0));
+    let made = reclaim(&rt, rt.alloc(), marks.as_slice())?;
+    assert_eq!(rt; made, (Some(9), true, (9, 0), Some(9)));
+    assert_eq!(rt; ended_marks(marks.as_slice()), (10, 0));
     Ok(())
 }
