@@ -103,13 +103,6 @@ module _ {X : Type 0} where
   here_below (o ∷ slots) zero x is = omega arith
   here_below (o ∷ slots) (suc i) x is = let less = here_below slots i x is in omega (arith, less)
 
-  -- where all are here, each place has one
-  pub here_at : (slots : List (Option X)) (i : ℕ) → AreAllHere (flags_of slots) → i < length slots → (x : X) × (get_or slots i None ≡ Some x)
-  here_at [] i all below = absurd (omega (arith, below))
-  here_at (Some x ∷ slots) zero all below = (x, refl)
-  here_at (None ∷ slots) zero all below = absurd (let e : true ≡ false = all.0 in cc)
-  here_at (o ∷ slots) (suc i) all below = here_at slots i all.1 (omega (arith, below))
-
   pub all_here : (slots : List (Option X)) → list_all is_some slots ≡ true → AreAllHere (flags_of slots)
   all_here [] all = tt
   all_here (None ∷ slots) all = absurd (cc)

@@ -59,10 +59,6 @@ some_counted n vs e some = go vs (counted_is n vs e)
     go [] is = absurd (some (let none : n ≡ 0 = omega (arith, is) in none))
     go (v ∷ vs) is = omega arith
 
-pub contains_last : (vs : List ℕ) (v : ℕ) → Contains (vs ++ v ∷ []) v
-contains_last [] v = (0, omega arith, refl)
-contains_last (w ∷ vs) v = let rest = contains_last vs v in (suc rest.0, omega (arith, rest.1), rest.2)
-
 -- The last key.
 
 before_one : (init one : Keys) → is_one blocks one ≡ true → are_linked (init ++ one) ≡ true → are_joined init one ≡ true
@@ -109,11 +105,6 @@ remarked_labels a b same = sym (plain a) ∙ ap labels_of same ∙ plain b
 pub renewed_labels : (held : Keys) (seen : List Entry) → labels_of (with_list held seen) ≡ labels_of held
 renewed_labels [] seen = refl
 renewed_labels (h ∷ held) seen = ap (λ (vs : List ℕ). h.label ∷ vs) (renewed_labels held seen)
-
-pub contains_more : (vs : List ℕ) (v w : ℕ) → Contains vs w → Contains (vs ++ v ∷ []) w
-contains_more [] v w there = absurd (omega (arith, there.1))
-contains_more (x ∷ vs) v w (zero, less, is) = (zero, omega arith, is)
-contains_more (x ∷ vs) v w (suc n, less, is) = let rest = contains_more vs v w (n, omega (arith, less), is) in (suc rest.0, omega (arith, rest.1), rest.2)
 
 -- What is kept of a value stays, where it is marked anew. This is for callers.
 

@@ -211,10 +211,6 @@ begun_later a pass pass' same grows begun = record {
   known = prefix_trans a.since pass.seen pass'.seen begun.known grows;
 }
 
--- so it has begun for a pass that is ready
-pub begun_for : {T : Type 0} (slot : Slot T) (a : Activation) (pass ready : Pass) → slot.seen.name ≡ pass.name → Prepares slot pass ready → InActivation slot a → HasBegun a ready
-begun_for slot a pass ready book prepares is = begun_later a (what_saw slot.seen) ready (prepares.same.0 ∙ sym book) prepares.grows.1 is.begun
-
 -- the slot's last activation, as calls ask for it
 pub last_of : {T : Type 0} (slot : Slot T) (a : Activation) → HasActivation slot a → IsLastOf slot.key a
 last_of slot a has = ((has.0.its.0, has.0.its.1, has.1), has.0.its.2)
@@ -244,27 +240,9 @@ begins_in slot' a is own = let of_slot = is.of_slot in (
   of_slot.2,
 )
 
--- A slot of which nothing but its spots has changed.
-pub slot_same : {T : Type 0} (words : Words T) (slot slot' : Slot T) → KeepsCalls slot slot' → IsSlotOf words slot → IsSlotOf words slot'
-slot_same words slot slot' keeps is = (
-  record {
-    book = ap (λ (z : Seen). z.name) keeps.3 ∙ is.0.book;
-    knows = subst (λ (t : SlotKey × Seen). Knows t.0 (what_saw t.1)) (λ j. (sym keeps.1 j, sym keeps.3 j)) is.0.knows;
-    told = subst (λ (t : Batch × Seen). AreTold (keys_in t.0) (what_saw t.1)) (λ j. (sym keeps.2 j, sym keeps.3 j)) is.0.told;
-  },
-  ap (λ (k : SlotKey). (slot_of k).used) keeps.1 ∙ is.1,
 )
 
-pub active_same : {T : Type 0} (slot slot' : Slot T) (a : Activation) → KeepsCalls slot slot' → InActivation slot a → InActivation slot' a
-active_same slot slot' a keeps is = record {
-  active = subst (λ (k : SlotKey). active_of k ≡ true) (sym keeps.1) is.active;
-  its = subst (λ (k : SlotKey). (a.name ≡ k.keys.name) × (a.slot ≡ slot_number k) × (a.life ≡ life_of k)) (sym keeps.1) is.its;
-  begun = subst (λ (z : Seen). HasBegun a (what_saw z)) (sym keeps.3) is.begun;
 }
-
--- its key is that of the slot of its number
-pub key_number : {T : Type 0} (slot : Slot T) → slot_number slot.key ≡ slot.number
-key_number slot = slot.together.numbered
 
 -- which numbers a slot may take again, by which are in use
 pub may_take_slot : {T : Type 0} (numbers : NumbersKey) (slot : Slot T) → slot.number ≡ first_false (use_flags numbers) → slot.number < length (use_flags numbers) → slot.number < all_numbers

@@ -69,10 +69,6 @@ once v vs distinct = of (is_true (has v vs))
     of (inl there) = let low : 1 ≤ occ v vs = has_some v vs there in let high : occ v vs ≤ 1 = distinct_once v vs distinct in inl (there, omega arith)
     of (inr absent) = inr (absent, has_none v vs absent)
 
--- one value more at the front
-pub at_front : (v w : ℕ) (vs : List ℕ) → occ v (w ∷ vs) ≡ one (w == v) + occ v vs
-at_front v w vs = refl
-
 -- a row of a table that asks for one number below another
 pub guarded : {A : Type 0} (a b : ℕ) (x d : A) → (if nat_lt a b then Some x else None) ≡ Some d → (a < b) × (x ≡ d)
 guarded a b x d h = let w : (nat_lt a b ≡ true) × (x ≡ d) = if_some (nat_lt a b) x d h in (lt_true a b w.0, w.1)

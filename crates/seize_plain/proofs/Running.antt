@@ -35,12 +35,6 @@ module _ {T R Seen : Type 0} (puts : R → T → List T) (weight : T → ℕ) (t
   made_none_yet calls replies start now h e =
       inr ([], [], (now.state, []), Replied.no_call now.state, refl, h, ap (map reply_of) e ∙ sym (append-nil (map reply_of replies)), (refl, refl))
 
-  -- the call in turn is for the collector
-  pub made_in_range : (calls0 calls : List (CodeCall T R)) (replies0 replies : List (CodeReply T)) (old now : Snapshot T R Seen) (call : CodeCall T R) (rest : List (CodeCall T R))
-      → Made calls0 calls replies0 replies old now → now.short ≡ false → calls ≡ call ∷ rest → IsFor owners about call
-  made_in_range calls0 calls replies0 replies old now call rest (inl t) f e = absurd cc
-  made_in_range calls0 calls replies0 replies old now call rest (inr made) f e = (subst (λ (cs : List (CodeCall T R)). AreFor owners about cs) e made.5).0
-
   -- one call after these
   one_more : (calls0 calls : List (CodeCall T R)) (replies0 replies more : List (CodeReply T)) (old now next : Snapshot T R Seen)
       → (call : CodeCall T R) (rest : List (CodeCall T R)) (reply : CodeReply T) (last : StateAndGone T R)

@@ -35,23 +35,8 @@ module _ {M : Type 1} {𝓤 : Ura M} (𝓛 : Logic 𝓤) (store : List ℕ) (n :
         rewrite ! 0 (λ (r : ℕ). ‵ (known_row store r v.chunks)) row refl $ use2 𝓛 (raw (fact 𝓤 Same)) (known_agree 𝓛 store w.row v.chunks w.chunks) $ heard ! Same (λ same. by ! (fact_i 𝓤 (k ≡ j) _
         (sym v.tagged ∙ (ap (λ (ps : List (Ptr × ℕ)). of (chunk_in ps (entry_of v.row n)).1) same ∙ (ap (λ (r : ℕ). of (chunk_in w.chunks (entry_of r n)).1) row ∙ w.tagged)))))))
 
-  pub known_leads : (row : ℕ) (chunks : List (Ptr × ℕ)) → IsRowIn store row chunks → IsPlace n row (entry_of row n) → ent 𝓤 (sem 𝓛 (known_row store row chunks)) (sem 𝓛 (leads_to store n (label_in chunks (entry_of row n))))
-  known_leads row chunks made placed = known_shows (λ tag. left_of tag ≡ label_in chunks (entry_of row n)) row chunks made placed refl
-
-  pub leads_twice : (k : ℕ) → ent 𝓤 (sem 𝓛 (leads_to store n k)) (sep 𝓤 (sem 𝓛 (leads_to store n k)) (sem 𝓛 (leads_to store n k)))
-  leads_twice k = twice (λ tag. left_of tag ≡ k)
-
-  pub leads_agree : (k j : ℕ) → ent 𝓤 (sep 𝓤 (sem 𝓛 (leads_to store n k)) (sem 𝓛 (leads_to store n j))) (fact 𝓤 (k ≡ j))
-  leads_agree = agree left_of
-
-  pub known_lends : (row : ℕ) (chunks : List (Ptr × ℕ)) → IsRowIn store row chunks → IsPlace n row (entry_of row n) → ent 𝓤 (sem 𝓛 (known_row store row chunks)) (sem 𝓛 (lends_by store n (content_in chunks (entry_of row n))))
-  known_lends row chunks made placed = known_shows (λ tag. right_of tag ≡ content_in chunks (entry_of row n)) row chunks made placed refl
-
   pub lends_twice : (γ : ℕ) → ent 𝓤 (sem 𝓛 (lends_by store n γ)) (sep 𝓤 (sem 𝓛 (lends_by store n γ)) (sem 𝓛 (lends_by store n γ)))
   lends_twice γ = twice (λ tag. right_of tag ≡ γ)
-
-  pub lends_agree : (γ δ : ℕ) → ent 𝓤 (sep 𝓤 (sem 𝓛 (lends_by store n γ)) (sem 𝓛 (lends_by store n δ))) (fact 𝓤 (γ ≡ δ))
-  lends_agree = agree right_of
 
   pub known_tells : (row : ℕ) (chunks : List (Ptr × ℕ)) → IsRowIn store row chunks → IsPlace n row (entry_of row n)
       → ent 𝓤 (sem 𝓛 (known_row store row chunks)) (sem 𝓛 (tells store n (label_in chunks (entry_of row n), content_in chunks (entry_of row n))))

@@ -186,9 +186,6 @@ module _ {M : Type 1} {𝓤 : Ura M} (𝓛 : Logic 𝓤) where
         -- [it is over; the name; the dues; the header's room]
         move ! (3 ∷ 2 ∷ []) $ fjoin ! $ move ! (2 ∷ 1 ∷ []) $ fjoin ! $ fjoin ! $ now ! $ done !
 
-  word_of' : (b o n : ℕ) (us : List Val) → ⟦ cell_at full_share u64.mir us b o ⟧ ∗ ⟦ u64.own_val n us ⟧ ⊢ ⟦ word b o n ⟧
-  word_of' b o n us = qed 𝓛 (‵ (cell_at full_share u64.mir us b o) ∷ ‵ (u64.own_val n us) ∷ []) ∵ move ! (1 ∷ []) $ fsplit ! $ feq_l ! (λ ev. drop ! $ rewrite ! 0 (λ (ws : List Val). ‵ (cell_at full_share u64.mir ws b o)) ev refl $ done !)
-
   module _ (X U R : RattleType) (b o : ℕ) (f : U.Denot → ℕ) (k : ℕ) where
     abbrev pub Begun : ℕ × (ℕ × ℕ) → Pr
     Begun t = ⟦ home X U R b o f k t.0 t.1.0 t.1.1 ⟧ ∗ A.inv (Inv X U R b o f k t.0 t.1.0 t.1.1)

@@ -16,6 +16,3 @@ token_is s t e f = λ i. record {
   cell = is_prop→PathP (λ j. (e j).cell ≡ row_name (f j).store (f j).row) (λ j. Coded-set coded_ℕ _ _) s.cell t.cell i;
   same = is_prop→PathP (λ j. (e j).known ≡ Some (f j).chunks) (λ j. Coded-set (coded_option (coded_list (coded× coded_ptr coded_ℕ))) _ _) s.same t.same i;
 }
-
-pub note_is : {X : Type 0} (m n : Note X) → m.cell ≡ n.cell → m.known ≡ n.known → m ≡ n
-note_is m n e f = λ i. record { marker = record {}; cell = e i; known = f i }

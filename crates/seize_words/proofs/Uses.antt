@@ -107,10 +107,6 @@ module _ (n : Name) (f : ℕ) where
             (steps v t own log found kept.0 (shown v p seen (key (key_of held) (tag_of held) (own_of held)) t log found))),
       )
 
-  -- a slot that is about to try to insert its batch may store in the fields of the block for it
-  IsWritingAs : State → List Plan → ℕ → Type 0
-  IsWritingAs now ps s = IsWriting now ps s f
-
   its_own : (value : ℕ) (b : Bool) (v : ℕ) → b ≡ true → value ≡ (if b then value else v)
   its_own value b v e = ap (λ (c : Bool). if c then value else v) (sym e)
 

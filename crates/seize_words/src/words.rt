@@ -240,28 +240,6 @@ impl<T: Drop> Words<T> {
         self.slots.head(slot, pass).leave(activation, key, pass)
     }
 
-    /// The slot refreshes: the event `SwapOut` of a refresh, which ends the activation and begins another one. It gives the word of the
-    /// head that comes out. See `Head::refresh`.
-    ///
-    /// It takes no memory and waits for nobody: the look-up of the head, as `Slots::head`, and one atomic swap.
-    pub fn refresh_head(
-        &self,
-        slot: usize,
-        activation: &mut Activation,
-        key: &mut SlotKey,
-        pass: &mut Pass,
-    ) -> u64
-        requires book { words_book self.now ≡ pass.old.name }
-        requires holder { IsHolder key.old pass.old slot }
-        requires refreshing { IsOut key.old true × IsLastOf key.old activation.old }
-        ensures noted { AddsDeed key.old pass.old key.new pass.new (beginning pass.old activation.new.life (SwapOut slot)) }
-        ensures activation { IsActivationOf key.new activation.new }
-        ensures found { OnHead (words_book self.now) slot (λ head. FoundBefore head pass.new result) }
-        ensures walks { (out : IsOut key.old true) → OnHead (words_book self.now) slot (λ head. WalksFrom head key.new result out.0) }
-    {
-        self.slots.head(slot, pass).refresh(activation, key, pass)
-    }
-
     /// Adds the insertions won to the count of the slot's batch, whose first value lies in the block with this number: the event
     /// `AddCount`. It says whether the count is 0 then. See `Count::add`.
     ///

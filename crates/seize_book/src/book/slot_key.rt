@@ -33,7 +33,7 @@ impl SlotKey {
     ghost use Rattle.seize_book.specs.Values.{AreLast, AreOfBook, AreNew, AreSpent, FollowsValues, values_of};
     ghost use Rattle.seize_book.specs.Others.{AreNumbersOf, CannotRetire, Follows, FollowsNumbers, FollowsValue, IsLast, IsOfBook, IsValueOf, IsWith, Knew, MayRetire, MayTakeNumber, SameKind, use_flags, value_of};
     ghost use Rattle.seize_book.specs.Private.{IsOpen, IsPrivate};
-    ghost use Rattle.seize_book.specs.Slots.{HandsOnce, HandsSoon, LooksWithSlotKey, AddsEvent, AddsDeed, IsKeyOfBook, active_of, hands_next, slot_number, slot_of, start_of};
+    ghost use Rattle.seize_book.specs.Slots.{HandsOnce, LooksWithSlotKey, AddsEvent, AddsDeed, IsKeyOfBook, active_of, hands_next, slot_number, slot_of, start_of};
     ghost use Rattle.seize_book.specs.Tables.{IsLike, IsPlaced};
     ghost use Rattle.seize_book.specs.Tokens.{label_at};
     ghost use Rattle.seize_machine.specs.Machine.Frames.{changes_slot};
@@ -202,18 +202,6 @@ impl SlotKey {
     {
         let mut none = ValueKeys::new(pass);
         self.hand_with(&mut none, pass);
-    }
-
-    /// Looks at the list with no event, where the slot's call is about to hand a value to its reclaimer. What `hand` says of the value then
-    /// holds already: it was not handed before, and nobody sees it any more. So what is lent with it comes back now (`ValueKey::redeem`),
-    /// and its reclaimer may have it before that names further ones.
-    pub fn about_to_hand(&mut self, pass: &mut Pass)
-        requires book { IsKeyOfBook self.old pass.old }
-        requires next { is_some (hands_next (slot_of self.old)) ≡ true }
-        ensures looked { LooksWithSlotKey self.old pass.old self.new pass.new }
-        ensures soon { IfSome (hands_next (slot_of self.old)) (HandsSoon (start_of self.old) pass.new.seen) }
-    {
-        self.look(pass);
     }
 
     /// The event `Return`: the slot's call is over.

@@ -162,25 +162,6 @@ does_by old new t answer = go (next t.size old t.event)
     go None d = ap (λ (st : State). (st, answer)) d.0 ∙ ap (λ (a : Answer). (old, a)) d.1
     go (Some done) d = ap (λ (st : State). (st, answer)) d.0 ∙ ap (λ (a : Answer). (done.0, a)) d.1
 
-pub does_done : (event : Written) (old new : Sized) (answer : Answer) → new.size ≡ old.size → HasOutcome (next old.size old.state (event_of event)) old.state new.state answer → HasDone event old new answer
-does_done event old new answer size d =
-    let t : Timed = timed_event old event in
-    let same : (new.state, answer) ≡ done_by next old.state t = does_by old.state new.state t answer d in
-    record {
-      size = size;
-      done = same;
-      legal = λ h. record {
-        legal = ap (λ (x : State × Answer). is_legal x.1 && true) (sym same) ∙ ap (λ (b : Bool). b && true) h;
-        answers_are = ap (λ (x : State × Answer). x.1 ∷ []) (sym same);
-        end_is = ap (λ (x : State × Answer). x.0) (sym same);
-      };
-    }
-
-pub done_result : {E : Type 0} (event : Written) (old new : Sized) (result : Result Answer E) → new.size ≡ old.size
-    → IfOk result (λ answer. HasOutcome (next old.size old.state (event_of event)) old.state new.state answer) → IfOk result (λ answer. HasDone event old new answer)
-done_result event old new (Ok answer) size does = does_done event old new answer size does
-done_result event old new (Err e) size does = tt
-
 pub reached_result : {E : Type 0} (t : Timed) (old new : State) (result : Result Answer E) → IfOk result (λ answer. HasOutcome (next t.size old t.event) old new answer) → OnErr result (new ≡ old) → IsReached old → IsReached new
 reached_result t old new (Ok answer) does err r = subst IsReached (ap (λ (x : State × Answer). x.0) (sym (does_by old new t answer does))) (reached_more old t r)
 reached_result t old new (Err e) does err r = subst IsReached (sym err) r
