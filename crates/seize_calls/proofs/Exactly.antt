@@ -27,6 +27,16 @@ use Rattle.seize_calls.proofs.Events.{same_done}
 use Rattle.seize_calls.proofs.Keeps.{same_private}
 use Rattle.seize_calls.proofs.Onwards.{no_rounds}
 
+-- the machine is where these events take it
+pub state_alone : (st : State) (log log' : List Entry) (more : List Deed) → deeds log' ≡ deeds log ++ more → after st log' ≡ after st (log ++ map Made more)
+state_alone st log log' more is =
+    ap (λ (ds : List Deed). end_of st (history next st (map timed_deed ds)))
+    (is ∙ ap (λ (ds : List Deed). deeds log ++ ds) (sym (plain more)) ∙ sym (deeds_append log (map Made more)))
+  where
+    plain : (ds : List Deed) → deeds (map Made ds) ≡ ds
+    plain [] = refl
+    plain (d ∷ ds) = ap (λ (rest : List Deed). d ∷ rest) (plain ds)
+
 same_readings : (pass pass' : Pass) → IsSamePass pass pass' → (s n : ℕ) (finds : List Bool) → readings pass' s n finds ≡ readings pass s n finds
 same_readings pass pass' same s n [] = refl
 same_readings pass pass' same s n (found ∷ finds) = λ i. (same_private pass pass' same (ReadHead s n) i, Head found) ∷ same_readings pass pass' same s (suc n) finds i
@@ -51,6 +61,9 @@ module _ (key : SlotKey) (pass : Pass) (v kept : ℕ) (values : ValueKeys) (had 
 
   abbrev events_made : List (Deed × Answer)
   events_made = begin ++ (done_event pass (Put s) ++ (readings pass s 0 stays.finds ++ done_event pass (Return s)))
+
+  abbrev deeds_made : List Deed
+  deeds_made = map (λ a. a.0) events_made
 
   same_one : IsSamePass pass begun.pass
   same_one = r.begins.begins.keeps.same
@@ -87,3 +100,9 @@ module _ (key : SlotKey) (pass : Pass) (v kept : ℕ) (values : ValueKeys) (had 
       ∙ append_assoc ((events_by pass ++ begin) ++ put) (readings pass s 0 finds) (done_event pass (Return s))
       ∙ append_assoc (events_by pass ++ begin) put (readings pass s 0 finds ++ done_event pass (Return s))
       ∙ append_assoc (events_by pass) begin (put ++ (readings pass s 0 finds ++ done_event pass (Return s)))
+
+  pub retired_exactly : deeds pass'.seen ≡ deeds pass.seen ++ deeds_made
+  retired_exactly = made_alone pass pass' events_made r.rests.same r.rests.alone sole made
+
+  pub state_exactly : (st : State) → after st pass'.seen ≡ after st (pass.seen ++ map Made deeds_made)
+  state_exactly st = state_alone st pass.seen pass'.seen deeds_made retired_exactly

@@ -32,14 +32,13 @@ use Rattle.seize_words.specs.Walks.{Knows}
 use Rattle.seize_words.specs.declared.activation.Activation.{Activation}
 use Rattle.seize_words.specs.declared.chunk.Header.{Header}
 use Rattle.seize_words.specs.declared.chunk.Part.{Part}
-use Rattle.seize_words.specs.declared.words.Words.{Words}
 use Rattle.seize_book.proofs.Facts.{legal_prefix, same_twice}
 use Rattle.seize_words.proofs.Facts.{all_told_later, knows_noted, may_take_by, more_slots, moved, seen_grows}
 use Rattle.seize_calls.proofs.Keeps.{state_before}
 use Rattle.seize_calls.specs.Batches.{keys_in}
 use Rattle.seize_calls.specs.Calls.{HasBegun, Rests}
 use Rattle.seize_calls.specs.Settling.{HasBatch}
-use Rattle.seize_calls.specs.Slots.{HasActivation, InActivation, IsInUse, IsInactive, IsSlotOf, KeepsActivation, KeepsCalls, Prepares}
+use Rattle.seize_calls.specs.Slots.{HasActivation, InActivation, IsInUse, IsInactive, KeepsActivation, Prepares}
 use Rattle.seize_calls.specs.Together.{BelongTogether, what_saw}
 use Rattle.seize_calls.specs.declared.batch.Batch.{Batch}
 use Rattle.seize_calls.specs.declared.slot.Slot.{Slot}
@@ -211,6 +210,10 @@ begun_later a pass pass' same grows begun = record {
   known = prefix_trans a.since pass.seen pass'.seen begun.known grows;
 }
 
+-- so it has begun for a pass that is ready
+pub begun_for : {T : Type 0} (slot : Slot T) (a : Activation) (pass ready : Pass) → slot.seen.name ≡ pass.name → Prepares slot pass ready → InActivation slot a → HasBegun a ready
+begun_for slot a pass ready book prepares is = begun_later a (what_saw slot.seen) ready (prepares.same.0 ∙ sym book) prepares.grows.1 is.begun
+
 -- the slot's last activation, as calls ask for it
 pub last_of : {T : Type 0} (slot : Slot T) (a : Activation) → HasActivation slot a → IsLastOf slot.key a
 last_of slot a has = ((has.0.its.0, has.0.its.1, has.1), has.0.its.2)
@@ -239,10 +242,6 @@ begins_in slot' a is own = let of_slot = is.of_slot in (
   },
   of_slot.2,
 )
-
-)
-
-}
 
 -- which numbers a slot may take again, by which are in use
 pub may_take_slot : {T : Type 0} (numbers : NumbersKey) (slot : Slot T) → slot.number ≡ first_false (use_flags numbers) → slot.number < length (use_flags numbers) → slot.number < all_numbers
