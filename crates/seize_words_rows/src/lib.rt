@@ -1,4 +1,4 @@
-//! Callers of the words of one book: slots that enter and leave, swaps and reads of links, replacements, blocks that are lent and had back,
+//! Callers of the words of one book: slots that enter and leave, swaps and reads of links, blocks that are lent and had back,
 //! a porter that comes home, and a worked run. They show that the contracts below, with the exported lemmas, suffice for a caller.
 #![tactic(auto)]
 
