@@ -33,7 +33,7 @@ made_looked {p} {q} {r} {es} makes (inl same) = subst (λ (z : Pass). Makes p z 
 made_looked {p} {q} {r} makes (inr looks) = then_none makes (none_looked q r looks)
 
 -- a block that comes back by its name has its content
-pub comes_back : {T : Type 0} (coded : Coded T) (collector : Collector T) (o : Option ℕ) (new back : Option (Owned T)) → IsNamed coded.code new o → IsNamed coded.code back o
+pub comes_back : {T R : Type 0} (coded : Coded T) (collector : Collector T R) (o : Option ℕ) (new back : Option (Owned T)) → IsNamed coded.code new o → IsNamed coded.code back o
     → IfSome new (λ owned. IsBlockOf collector owned) → IfSome back (λ owned. IsBlockOf collector owned) → ComesBack new back
 comes_back coded collector (Some v) (Some new) (Some back) named again of its = (content_once coded v (content back) (content new) again named, its ∙ sym of)
 comes_back coded collector (Some v) (Some new) None named again of its = absurd again

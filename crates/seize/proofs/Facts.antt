@@ -49,7 +49,7 @@ kept_retired known pass v q name grows retired =
     retired_still (start known.name) pass.seen known.seen v q grows (subst (λ (n : Name). Retired (moments (start n) pass.seen) v q) (sym name) retired)
 
 -- What was retired in what the collector learned is reclaimed when it has reclaimed all.
-pub reclaimed_then : {T : Type 0} (known : Seen) (c c' c'' : Collector T) (v q : ℕ) → known.name ≡ its_book c → Learns c c' known → ReclaimsAll c' c'' true → Retired (moments_kept known) v q → (k : ℕ) × Reclaimed (moments_of c'') v k
+pub reclaimed_then : {T R : Type 0} (known : Seen) (c c' c'' : Collector T R) (v q : ℕ) → known.name ≡ its_book c → Learns c c' known → ReclaimsAll c' c'' true → Retired (moments_kept known) v q → (k : ℕ) × Reclaimed (moments_of c'') v k
 reclaimed_then known c c' c'' v q name learns all retired =
     all.reclaimed refl v q
     (retired_still (start (its_book c'')) known.seen (seen_by c'') v q (prefix_trans known.seen all.at_call (seen_by c'') (prefix_trans known.seen (seen_by c') all.at_call learns.knows all.goes_on.grows) all.grows.grows)

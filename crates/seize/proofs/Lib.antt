@@ -17,6 +17,7 @@ pub mod Stands
 pub mod Retired
 pub mod Facts
 mod Endings
+mod OfKind
 mod Swept
 mod Bare
 mod Taken

@@ -96,7 +96,7 @@ pub still_for : {T : Type 0} (words : Words T) (pass pass' : Pass) → IsPassFor
 still_for words pass pass' for same = (for.0 ∙ sym same.0, for.1 ∙ sym same.2)
 
 -- a pass of the collector is one for its words, and so is the same pass by another name
-pub pass_as : {T : Type 0} (collector : Collector T) (pass pass' : Pass) → pass' ≡ pass → IsPassOf collector pass → IsPassFor (its_words collector) pass'
+pub pass_as : {T R : Type 0} (collector : Collector T R) (pass pass' : Pass) → pass' ≡ pass → IsPassOf collector pass → IsPassFor (its_words collector) pass'
 pass_as collector pass pass' same of = (sym (ap (λ (p : Pass). p.name) same ∙ of.0), sym (ap (λ (p : Pass). p.size) same ∙ of.1))
 
 -- and a look with the slot, after the pass has learned what the slot had seen, shows that the slot is active still

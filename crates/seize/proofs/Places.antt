@@ -27,13 +27,13 @@ in_place n s m r at =
     (label_family (slot_list r.slot) n (its_number r.slot) s r.most m at, label_number (slot_list r.slot) n (its_number r.slot) s r.most m at, label_most (slot_list r.slot) n (its_number r.slot) s r.most m at)
 
 -- that of a local guard lies with its registration
-pub guard_place : {T : Type 0} (guard : LocalGuard T) → guard.registration.now.reservation ≡ place_label (its_book (guard_collector guard)) (guard_slot guard) (2 ^ 64 - 1)
-guard_place {T} guard = guard.registration.now.at ∙ ap (λ (t : Bor (Collector T) × ℕ). place_label (its_book t.0.now) t.1 (2 ^ 64 - 1)) (λ j. (sym guard.its.0 j, sym guard.its.1 j))
+pub guard_place : {T R : Type 0} (guard : LocalGuard T R) → guard.registration.now.reservation ≡ place_label (its_book (guard_collector guard)) (guard_slot guard) (2 ^ 64 - 1)
+guard_place {T} {R} guard = guard.registration.now.at ∙ ap (λ (t : Bor (Collector T R) × ℕ). place_label (its_book t.0.now) t.1 (2 ^ 64 - 1)) (λ j. (sym guard.its.0 j, sym guard.its.1 j))
 
 -- as does the head;
-pub guard_head : {T : Type 0} (guard : LocalGuard T) → IsHeadFor (its_book (guard_collector guard)) (guard_slot guard) guard.registration.now.head.now
-guard_head {T} guard =
-    subst (λ (t : Bor (Collector T) × ℕ). IsHeadFor (its_book t.0.now) t.1 guard.registration.now.head.now) (λ j. (sym guard.its.0 j, sym guard.its.1 j)) guard.registration.now.headed
+pub guard_head : {T R : Type 0} (guard : LocalGuard T R) → IsHeadFor (its_book (guard_collector guard)) (guard_slot guard) guard.registration.now.head.now
+guard_head {T} {R} guard =
+    subst (λ (t : Bor (Collector T R) × ℕ). IsHeadFor (its_book t.0.now) t.1 guard.registration.now.head.now) (λ j. (sym guard.its.0 j, sym guard.its.1 j)) guard.registration.now.headed
 
 -- which is that of the slot that lies in the place.
 pub head_for : (n : Name) (s t : ℕ) (head : Head) → IsHeadFor n s head → t ≡ s → IsHeadFor n t head

@@ -36,10 +36,10 @@ shared_value shared = shared.value.now
 abbrev pub shared_word : {T : Type 0} → Shared T → ℕ
 shared_word shared = link_word (shared_name shared)
 
-abbrev pub unlinked_name : {T : Type 0} → Unlinked T → ℕ
+abbrev pub unlinked_name : {T R : Type 0} → Unlinked T R → ℕ
 unlinked_name unlinked = its_value unlinked.loose
 
-abbrev pub unlinked_collector : {T : Type 0} → Unlinked T → Collector T
+abbrev pub unlinked_collector : {T R : Type 0} → Unlinked T R → Collector T R
 unlinked_collector unlinked = unlinked.collector.now
 
 abbrev pub IsNamed : {T : Type 0} → (T → Gv) → Option (Owned T) → Option ℕ → Type 0
@@ -51,6 +51,6 @@ abbrev pub Shows : {T : Type 0} → (T → Gv) → Option ℕ → Option (Shared
 Shows code held (Some shared) = (shared_name shared ≡ held) × IsFoundAs held (code (shared_value shared))
 Shows code held None = held ≡ None
 
-abbrev pub ComesOut : {T : Type 0} → Option ℕ → Option (Unlinked T) → Type 0
+abbrev pub ComesOut : {T R : Type 0} → Option ℕ → Option (Unlinked T R) → Type 0
 ComesOut held (Some unlinked) = held ≡ Some (unlinked_name unlinked)
 ComesOut held None = held ≡ None

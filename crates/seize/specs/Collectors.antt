@@ -26,41 +26,41 @@ use Rattle.seize.specs.Makes.{made_with}
 use Rattle.seize.specs.declared.block.owned.Owned.{Owned}
 use Rattle.seize.specs.declared.collector.Collector.{Collector}
 
-abbrev pub its_words : {T : Type 0} → Collector T → Words T
+abbrev pub its_words : {T R : Type 0} → Collector T R → Words T
 its_words collector = collector.words
 
-abbrev pub its_book : {T : Type 0} → Collector T → Name
+abbrev pub its_book : {T R : Type 0} → Collector T R → Name
 its_book collector = words_book collector.words
 
-abbrev pub its_store : {T : Type 0} → Collector T → List ℕ
+abbrev pub its_store : {T R : Type 0} → Collector T R → List ℕ
 its_store collector = (its_book collector).store
 
-abbrev pub its_size : {T : Type 0} → Collector T → ℕ
+abbrev pub its_size : {T R : Type 0} → Collector T R → ℕ
 its_size collector = collector.words.size
 
-abbrev pub its_links : {T : Type 0} → Collector T → ℕ
+abbrev pub its_links : {T R : Type 0} → Collector T R → ℕ
 its_links collector = length (its_book collector).links
 
-abbrev pub its_id : {T : Type 0} → Collector T → ℕ
+abbrev pub its_id : {T R : Type 0} → Collector T R → ℕ
 its_id collector = collector.id
 
-abbrev pub seen_by : {T : Type 0} → Collector T → List Entry
+abbrev pub seen_by : {T R : Type 0} → Collector T R → List Entry
 seen_by collector = collector.porter.seen
 
-abbrev pub IsPassOf : {T : Type 0} → Collector T → Pass → Type 0
+abbrev pub IsPassOf : {T R : Type 0} → Collector T R → Pass → Type 0
 IsPassOf collector pass = (pass.name ≡ its_book collector) × (pass.size ≡ its_size collector)
 
-abbrev pub IsBlockOf : {T : Type 0} → Collector T → Owned T → Type 0
+abbrev pub IsBlockOf : {T R : Type 0} → Collector T R → Owned T → Type 0
 IsBlockOf collector owned = store_name owned ≡ its_store collector
 
-abbrev pub BeginsEmpty : {T : Type 0} → Collector T → ℕ → Type 0
+abbrev pub BeginsEmpty : {T R : Type 0} → Collector T R → ℕ → Type 0
 BeginsEmpty collector links =
     ((its_book collector).slots ≡ 0) × ((its_book collector).links ≡ replicate links None) × (seen_by collector ≡ [])
 
-abbrev pub IsNewPassOf : {T : Type 0} → Collector T → Pass → Type 0
+abbrev pub IsNewPassOf : {T R : Type 0} → Collector T R → Pass → Type 0
 IsNewPassOf collector pass = IsPassOf collector pass × (made_with pass ≡ []) × GoesOnTo pass.name (seen_by collector) pass.seen
 
-abbrev pub IsSlotFor : {T : Type 0} → Collector T → Slot T → Type 0
+abbrev pub IsSlotFor : {T R : Type 0} → Collector T R → Slot T → Type 0
 IsSlotFor collector slot = IsSlotOf collector.words slot
 
 -- in this order

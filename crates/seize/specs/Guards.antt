@@ -9,15 +9,15 @@ use Rattle.seize.specs.declared.collector.Collector.{Collector}
 use Rattle.seize.specs.declared.guard.LocalGuard.{LocalGuard}
 use Rattle.seize.specs.declared.registration.Registration.{Registration}
 
-abbrev pub guard_collector : {T : Type 0} → LocalGuard T → Collector T
+abbrev pub guard_collector : {T R : Type 0} → LocalGuard T R → Collector T R
 guard_collector guard = guard.reader.collector.now
 
-abbrev pub guard_slot : {T : Type 0} → LocalGuard T → ℕ
+abbrev pub guard_slot : {T R : Type 0} → LocalGuard T R → ℕ
 guard_slot guard = guard.reader.number
 
-abbrev pub guard_activation : {T : Type 0} → LocalGuard T → Activation
+abbrev pub guard_activation : {T R : Type 0} → LocalGuard T R → Activation
 guard_activation guard = guard.reader.unit
 
-abbrev pub IsGuardOf : {T : Type 0} → Registration T → LocalGuard T → Type 0
+abbrev pub IsGuardOf : {T R : Type 0} → Registration T R → LocalGuard T R → Type 0
 IsGuardOf registration guard =
     (guard_collector guard ≡ registered_in registration) × (guard_slot guard ≡ registered_slot registration)

@@ -13,6 +13,7 @@
 --     LeavesAndGives s pass pass'    a whole call of slot s to leave, and then its number went back
 --     EndsUse s pass pass' gave     the use of slot s ended: its number went back; or no event was made, and it is active (`StaysActive`)
 --     Enters s pass pass'     slot s entered; or no event was made, and it is active
+--     IsOfKind v kind pass    the retirement of v said that it is of this kind, in what the pass has seen
 use Rattle.std.specs.Prelude.{◌≡◌, ◌⊎◌, ℕ, Bool, true, false, map, List, [], ◌∷◌, ◌++◌}
 use mathlib.Core.List.{IsPrefix}
 use Rattle.seize_machine.specs.Machine.Event.{AddCount, Begin, Detach, Enter, Event, Give, Hand, Insert, Put, ReadHead, Return}
@@ -24,6 +25,7 @@ use Rattle.seize_machine.specs.declared.machine.event.Job.{Job}
 use Rattle.seize_machine.specs.declared.machine.event.Job.TheVariants.{Leave}
 use Rattle.seize_book.specs.Book.{IsLegalList, after}
 use Rattle.seize_book.specs.Entry.{Deed}
+use Rattle.seize_book.specs.Kept.{IsTold}
 use Rattle.seize_book.specs.Passes.{IsSamePass, events_by}
 use Rattle.seize_book.specs.Tokens.{start}
 use Rattle.seize_book.specs.declared.book.pass.Pass.{Pass}
@@ -55,6 +57,9 @@ StaysActive s pass pass' = MakesNone pass pass' × IsActiveIn pass' s
 
 abbrev pub Enters : ℕ → Pass → Pass → Type 0
 Enters s pass pass' = MakesOne pass pass' (Enter s) Done ⊎ StaysActive s pass pass'
+
+abbrev pub IsOfKind : ℕ → ℕ → Pass → Type 0
+IsOfKind v kind pass = IsTold pass.seen v kind
 
 abbrev pub IsStepOf : ℕ → Event × Answer → Type 0
 IsStepOf s (Put t, answer) = t ≡ s

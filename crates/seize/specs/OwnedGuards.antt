@@ -6,11 +6,11 @@ use Rattle.seize_words.specs.declared.activation.Activation.{Activation}
 use Rattle.seize.specs.declared.collector.Collector.{Collector}
 use Rattle.seize.specs.declared.owned.OwnedGuard.{OwnedGuard}
 
-abbrev pub owned_collector : {T : Type 0} → OwnedGuard T → Collector T
+abbrev pub owned_collector : {T R : Type 0} → OwnedGuard T R → Collector T R
 owned_collector guard = guard.reader.collector.now
 
-abbrev pub owned_slot : {T : Type 0} → OwnedGuard T → ℕ
+abbrev pub owned_slot : {T R : Type 0} → OwnedGuard T R → ℕ
 owned_slot guard = guard.reader.number
 
-abbrev pub owned_activation : {T : Type 0} → OwnedGuard T → Activation
+abbrev pub owned_activation : {T R : Type 0} → OwnedGuard T R → Activation
 owned_activation guard = guard.reader.unit

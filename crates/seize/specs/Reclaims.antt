@@ -29,32 +29,32 @@ use Rattle.seize.specs.declared.collector.Collector.{Collector}
 abbrev pub moments_kept : Seen → List Moment
 moments_kept known = moments (start known.name) known.seen
 
-module _ {T : Type 0} where
-  abbrev pub its_state : Collector T → State
+module _ {T R : Type 0} where
+  abbrev pub its_state : Collector T R → State
   its_state c = after (start (its_book c)) (seen_by c)
 
-  abbrev pub moments_of : Collector T → List Moment
+  abbrev pub moments_of : Collector T R → List Moment
   moments_of c = moments (start (its_book c)) (seen_by c)
 
-  abbrev pub IsSameCollector : Collector T → Collector T → Type 0
+  abbrev pub IsSameCollector : Collector T R → Collector T R → Type 0
   IsSameCollector c c' = (its_book c' ≡ its_book c) × (its_size c' ≡ its_size c) × (its_id c' ≡ its_id c)
 
-  abbrev pub AddsNothing : Collector T → List Entry → Type 0
+  abbrev pub AddsNothing : Collector T R → List Entry → Type 0
   AddsNothing c seen = mine (start (its_book c)) 0 seen ≡ mine (start (its_book c)) 0 (seen_by c)
 
-  pub record Learns (c c' : Collector T) (known : Seen) : Type 0 where
+  pub record Learns (c c' : Collector T R) (known : Seen) : Type 0 where
     pub same : IsSameCollector c c'
     pub goes_on : GoesOnTo (its_book c) (seen_by c) (seen_by c')
     pub nothing : AddsNothing c (seen_by c')
     pub knows : IsPrefix known.seen (seen_by c')
 
-  abbrev pub NoneInUse : Collector T → Type 0
+  abbrev pub NoneInUse : Collector T R → Type 0
   NoneInUse c = (s : ℕ) → (slot_at (its_state c) s).used ≡ false
 
-  abbrev pub AllReclaimed : Collector T → Type 0
+  abbrev pub AllReclaimed : Collector T R → Type 0
   AllReclaimed c = (v q : ℕ) → Retired (moments_of c) v q → (k : ℕ) × Reclaimed (moments_of c) v k
 
-  pub record ReclaimsAll (c c' : Collector T) (all : Bool) : Type 0 where
+  pub record ReclaimsAll (c c' : Collector T R) (all : Bool) : Type 0 where
     pub same : IsSameCollector c c'
     pub at_call : List Entry
     pub goes_on : GoesOnTo (its_book c) (seen_by c) at_call

@@ -4,8 +4,8 @@ use Rattle.std.specs.Prelude.{ℕ}
 use Rattle.seize.specs.declared.collector.Collector.{Collector}
 use Rattle.seize.specs.declared.registration.Registration.{Registration}
 
-abbrev pub registered_in : {T : Type 0} → Registration T → Collector T
+abbrev pub registered_in : {T R : Type 0} → Registration T R → Collector T R
 registered_in registration = registration.collector.now
 
-abbrev pub registered_slot : {T : Type 0} → Registration T → ℕ
+abbrev pub registered_slot : {T R : Type 0} → Registration T R → ℕ
 registered_slot registration = registration.number

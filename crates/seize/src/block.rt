@@ -12,6 +12,7 @@ mod shared;
 mod unlinked;
 
 use crate::collector::Collector;
+use crate::reclaim::Reclaim;
 pub use failed::Failed;
 pub use owned::Owned;
 use seize_words::book::Pass;
@@ -20,9 +21,9 @@ pub use shared::Shared;
 pub use unlinked::Unlinked;
 
 // The word of the block that is to go into a link, and the key of its value; or that of none.
-pub(crate) fn name<T: Drop>(
+pub(crate) fn name<T: Drop, R: Reclaim<T>>(
     value: Option<Owned<T>>,
-    collector: &Collector<T>,
+    collector: &Collector<T, R>,
     pass: &mut Pass,
 ) -> (u64, MaybeKey)
     requires pass { IsPassOf collector.now pass.old }

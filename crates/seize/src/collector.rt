@@ -9,6 +9,7 @@ use crate::ending::end_all;
 use crate::numbers::sweeping::Sweeping;
 use crate::numbers::{Numbers, Registering};
 use crate::owned::OwnedGuard;
+use crate::reclaim::{Boxed, Reclaim};
 use crate::registration::Registration;
 pub use ids::IdSource;
 use seize_cells::Lock;
@@ -36,10 +37,12 @@ const MOST_PROCESSORS: usize = 0x8000_0000_0000_0000;
 ///
 /// - where a registration was forgotten, those in its slot's batch, and where no number went back, those in the links too;
 /// - where a guard was forgotten, all of them: its slot is active for good, and what is retired waits for it.
-pub struct Collector<T: Drop> {
+pub struct Collector<T: Drop, R: Reclaim<T> = Boxed> {
     pub(crate) words: Words<T>,
     porter: Porter,
     pub(crate) numbers: Lock<Numbers<T>>,
+    // In a box, so that no size depends on it.
+    pub(crate) reclaimer: Box<R>,
     id: u64,
     alloc: Global,
     ghost lends: { (porter.name ≡ words_book words) × (porter.size ≡ words.size) × (porter.home ≡ false) },
@@ -47,15 +50,9 @@ pub struct Collector<T: Drop> {
 }
 
 impl<T: Drop> Collector<T> {
-    ghost use Rattle.std.specs.Prelude.{◌+◌, ◌≤◌, ◌^◌, max as greater, IfOk, IfErr};
+    ghost use Rattle.std.specs.Prelude.{◌+◌, max as greater, IfOk, IfErr};
     ghost use Rattle.std.specs.Int.{IsNextPowerOfTwo};
-    ghost use Rattle.seize_machine.specs.Machine.Event.{Take};
-    ghost use Rattle.seize_machine.specs.declared.machine.event.Answer.TheVariants.{Done};
-    ghost use Rattle.seize_table.specs.declared.refusal.Refusal.TheVariants.{NoMemory as no_memory};
-    ghost use Rattle.seize.specs.Blocks.{content};
-    ghost use Rattle.seize.specs.Collectors.{BeginsEmpty, IsBlockOf, IsNewPassOf, IsPassOf, IsRefusalFor, its_book, its_id, its_links, its_size, seen_by};
-    ghost use Rattle.seize.specs.Registrations.{registered_in, registered_slot};
-    ghost use Rattle.seize.specs.Makes.{MakesNone, MakesOne};
+    ghost use Rattle.seize.specs.Collectors.{BeginsEmpty, IsRefusalFor, its_id, its_size};
 
     /// A collector with no slot and this many empty links. Its batch size is `max(32, processors)`, rounded up to a power of two. It asks
     /// for the memory of its links, and of the entries of its table of slots for so many processors.
@@ -74,6 +71,38 @@ impl<T: Drop> Collector<T> {
             × (its_id made ≡ ids.old) × (ids.new ≡ ids.old + 1)) }
         ensures refused { IfErr result (λ refusal. (ids.new ≡ ids.old) × IsRefusalFor processors ids.old refusal) }
     {
+        Collector::with_reclaimer(alloc, ids, processors, links, Boxed)
+    }
+}
+
+impl<T: Drop, R: Reclaim<T>> Collector<T, R> {
+    ghost use Rattle.std.specs.Prelude.{◌+◌, ◌≤◌, ◌^◌, max as greater, IfOk, IfErr};
+    ghost use Rattle.std.specs.Int.{IsNextPowerOfTwo};
+    ghost use Rattle.seize_machine.specs.Machine.Event.{Take};
+    ghost use Rattle.seize_machine.specs.declared.machine.event.Answer.TheVariants.{Done};
+    ghost use Rattle.seize_table.specs.declared.refusal.Refusal.TheVariants.{NoMemory as no_memory};
+    ghost use Rattle.seize.specs.Blocks.{content};
+    ghost use Rattle.seize.specs.Collectors.{BeginsEmpty, IsBlockOf, IsNewPassOf, IsPassOf, IsRefusalFor, its_book, its_id, its_links, its_size, seen_by};
+    ghost use Rattle.seize.specs.Registrations.{registered_in, registered_slot};
+    ghost use Rattle.seize.specs.Makes.{MakesNone, MakesOne};
+
+    /// The same, with a reclaimer of the caller's own, for which it asks for memory too: each value that was retired goes to it once no
+    /// slot can read it any more, and so does what the links hold when the collector is dropped, as of kind 0.
+    ///
+    /// # Errors
+    ///
+    /// As with `new`.
+    pub fn with_reclaimer(
+        alloc: Global,
+        ids: &mut IdSource,
+        processors: usize,
+        links: usize,
+        reclaimer: R,
+    ) -> Result<Collector<T, R>, Refusal>
+        ensures made { IfOk result (λ made. IsNextPowerOfTwo (greater 32 processors) (its_size made) × BeginsEmpty made links
+            × (its_id made ≡ ids.old) × (ids.new ≡ ids.old + 1)) }
+        ensures refused { IfErr result (λ refusal. (ids.new ≡ ids.old) × IsRefusalFor processors ids.old refusal) }
+    {
         if processors > MOST_PROCESSORS {
             return Err(Refusal::TooManyProcessors);
         }
@@ -81,7 +110,7 @@ impl<T: Drop> Collector<T> {
         let Some(id) = ids.next() else {
             return Err(Refusal::NoNumbers);
         };
-        let collector = Collector::with(alloc, id, size, processors, links)?;
+        let collector = Collector::with(alloc, id, size, processors, links, reclaimer)?;
         ids.give();
         Ok(collector)
     }
@@ -93,11 +122,15 @@ impl<T: Drop> Collector<T> {
         size: usize,
         processors: usize,
         links: usize,
-    ) -> Result<Collector<T>, Refusal>
+        reclaimer: R,
+    ) -> Result<Collector<T, R>, Refusal>
         requires { processors ≤ 2 ^ 63 }
         ensures made { IfOk result (λ made. (its_size made ≡ size) × BeginsEmpty made links × (its_id made ≡ id)) }
         ensures refused { IfErr result (λ refusal. refusal ≡ no_memory) }
     {
+        let Ok(reclaimer) = Box::new(alloc, reclaimer) else {
+            return Err(Refusal::NoMemory);
+        };
         let (words, mut porter, key, next) = Words::new(alloc, processors, links, size)?;
         porter.leave_home();
         let numbers = Numbers::new(alloc, key, next, &words.blocks.book);
@@ -105,13 +138,14 @@ impl<T: Drop> Collector<T> {
             words,
             porter,
             numbers: Lock::new(numbers),
+            reclaimer,
             id,
             alloc,
         })
     }
 
     /// With batches of this many values, not rounded. 0 serves as 1.
-    pub fn batch_size(self, n: usize) -> Collector<T>
+    pub fn batch_size(self, n: usize) -> Collector<T, R>
         ensures same { (its_book result ≡ its_book self) × (seen_by result ≡ seen_by self) × (its_id result ≡ its_id self) }
         ensures size { its_size result ≡ n }
     {
@@ -119,6 +153,7 @@ impl<T: Drop> Collector<T> {
             mut words,
             mut porter,
             numbers,
+            reclaimer,
             id,
             alloc,
         } = self;
@@ -127,6 +162,7 @@ impl<T: Drop> Collector<T> {
             words,
             porter,
             numbers,
+            reclaimer,
             id,
             alloc,
         }
@@ -178,7 +214,11 @@ impl<T: Drop> Collector<T> {
     ///
     /// `NoMemory` where the allocator refuses. No event was made then. It is never `NoNumbers`: the list of slots has room for fewer than
     /// 2^63, so memory is refused before the 2^64 - 32 numbers are all in use.
-    pub fn register<W: Wait>(&self, rt: &W, pass: &mut Pass) -> Result<Registration<'_, T>, Refusal>
+    pub fn register<W: Wait>(
+        &self,
+        rt: &W,
+        pass: &mut Pass,
+    ) -> Result<Registration<'_, T, R>, Refusal>
         requires pass { IsPassOf self.now pass.old }
         ensures made { IfOk result (λ made. (registered_in made ≡ self.now)
             × MakesOne pass.old pass.new (Take (registered_slot made)) Done) }
@@ -193,7 +233,7 @@ impl<T: Drop> Collector<T> {
     }
 }
 
-impl<T: Drop> Collector<T> {
+impl<T: Drop, R: Reclaim<T>> Collector<T, R> {
     ghost use Rattle.std.specs.Prelude.{IfErr, IfOk, [], ◌∷◌};
     ghost use Rattle.seize_machine.specs.Machine.Event.{Enter, Take};
     ghost use Rattle.seize_machine.specs.declared.machine.event.Answer.TheVariants.{Done};
@@ -215,7 +255,7 @@ impl<T: Drop> Collector<T> {
         &self,
         rt: &W,
         pass: &mut Pass,
-    ) -> Result<OwnedGuard<'_, T>, Refusal>
+    ) -> Result<OwnedGuard<'_, T, R>, Refusal>
         requires pass { IsPassOf self.now pass.old }
         ensures made { IfOk result (λ guard. (owned_collector guard ≡ self.now)
             × Makes pass.old pass.new ((Take (owned_slot guard), Done) ∷ (Enter (owned_slot guard), Done) ∷ [])) }
@@ -246,13 +286,14 @@ impl<T: Drop> Collector<T> {
 
 // All slots that nobody has are swept by a pass that is alone.
 #[derive(Drop)]
-struct Sweep<'a, T> {
+struct Sweep<'a, T, R: Copy> {
     words: &'a Words<T>,
+    reclaimer: &'a R,
     numbers: &'a mut Lock<Numbers<T>>,
     ghost numbered: { numbers.now ≡ (words_book words.now).family },
 }
 
-impl<'a, T: Drop> Stay<bool> for Sweep<'a, T> {
+impl<'a, T: Drop, R: Reclaim<T>> Stay<bool> for Sweep<'a, T, R> {
     ghost use Rattle.seize_book.specs.Tokens.{IsSole};
     ghost use Rattle.seize_calls.specs.Slots.{IsPassFor};
     ghost use Rattle.seize.specs.Sweeps.{Sweeps};
@@ -262,12 +303,12 @@ impl<'a, T: Drop> Stay<bool> for Sweep<'a, T> {
     ghost gives = { λ sweep sweep' pass pass' result. (sweep'.numbers ≡ sweep.numbers) × Sweeps pass pass' result };
 
     fn stay(&mut self, pass: &mut Pass<'static>) -> bool {
-        let words = self.words;
-        self.numbers.with_mut(Sweeping { words }, pass)
+        let (words, reclaimer) = (self.words, *self.reclaimer);
+        self.numbers.with_mut(Sweeping { words, reclaimer }, pass)
     }
 }
 
-impl<T: Drop> Collector<T> {
+impl<T: Drop, R: Reclaim<T>> Collector<T, R> {
     ghost use Rattle.seize.specs.Collectors.{its_book};
     ghost use Rattle.seize.specs.Reclaims.{Learns, ReclaimsAll};
 
@@ -306,6 +347,7 @@ impl<T: Drop> Collector<T> {
     {
         let mut sweep = Sweep {
             words: &self.words,
+            reclaimer: &*self.reclaimer,
             numbers: &mut self.numbers,
         };
         let all = self.porter.stay(&mut sweep);
@@ -315,7 +357,7 @@ impl<T: Drop> Collector<T> {
 }
 
 /// Two collectors of one id source are equal where they are one.
-impl<T: Drop> PartialEq for Collector<T> {
+impl<T: Drop, R: Reclaim<T>> PartialEq for Collector<T, R> {
     ghost use Rattle.std.specs.Prelude.{◌==◌};
     ghost use Rattle.std.proofs.Common.{rules};
     ghost use Rattle.std.specs.Cmp.Rules.{comparing};
@@ -325,19 +367,19 @@ impl<T: Drop> PartialEq for Collector<T> {
 
     ghost laws = { Prim.search (comparing, rules) };
 
-    fn eq(&self, other: &Collector<T>) -> bool {
+    fn eq(&self, other: &Collector<T, R>) -> bool {
         self.id == other.id
     }
 }
 
-impl<T: Drop> Eq for Collector<T> {
+impl<T: Drop, R: Reclaim<T>> Eq for Collector<T, R> {
     ghost use Rattle.std.proofs.Common.{rules};
     ghost use Rattle.std.specs.Cmp.Rules.{comparing};
 
     ghost laws = { Prim.search (comparing, rules) };
 }
 
-impl<T: Drop> fmt::Debug for Collector<T> {
+impl<T: Drop, R: Reclaim<T>> fmt::Debug for Collector<T, R> {
     fn fmt<W: fmt::Write>(&self, f: &mut fmt::Formatter<W>) -> fmt::Result {
         f.debug_struct("Collector")
             .field("batch_size", &self.words.size)
@@ -345,15 +387,21 @@ impl<T: Drop> fmt::Debug for Collector<T> {
     }
 }
 
-impl<T: Drop> Drop for Collector<T> {
+impl<T: Drop, R: Reclaim<T>> Drop for Collector<T, R> {
     fn drop(self) {
         let Collector {
             words,
             porter,
             numbers,
+            reclaimer,
             id: _,
             alloc: _,
         } = self;
-        end_all(&words, numbers.into_value(), porter.shut());
+        end_all(
+            &words,
+            Box::into_inner(reclaimer),
+            numbers.into_value(),
+            porter.shut(),
+        );
     }
 }

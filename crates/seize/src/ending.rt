@@ -7,9 +7,10 @@ ghost use Rattle.seize_words.specs.Joined.{words_book};
 ghost use Rattle.seize_calls.specs.Slots.{InActivation, IsInactive, IsPassFor, IsSlotOf, KeepsActivation};
 ghost use Rattle.seize.specs.Numbers.{AreNumbers, IsLockFor};
 
-use crate::ends::Ends;
+use crate::ends::Hands;
 use crate::numbers::Numbers;
 use crate::numbers::sweeping::Sweeping;
+use crate::reclaim::Reclaim;
 use seize_calls::draining::Lightens;
 use seize_calls::manner::Alone;
 use seize_calls::slot::{Loose, Slot};
@@ -20,30 +21,36 @@ use seize_words::link::MaybeKey;
 use seize_words::words::Words;
 
 /// It puts nothing, so any weight serves.
-impl<T: Drop> Lightens<T> for Ends {
+impl<T: Drop, R: Reclaim<T>> Lightens<T> for Hands<R> {
     ghost weight = { λ _. 0 };
 
     fn lightens(&self) {}
 }
 
-/// Ends what waits in the batch of each slot that nobody has, and then what the links hold. Where there is no such slot it does nothing.
+/// Reclaims what waits in the batch of each slot that nobody has, and then what the links hold, as of kind 0. Where there is no such slot
+/// it does nothing.
 ///
 /// Where a guard was forgotten its slot is active still. Then what is retired here waits for that slot, and does not end.
 ///
 /// It takes no memory and waits for nobody, but for what values do as they end.
-pub(crate) fn end_all<T: Drop>(words: &Words<T>, numbers: Numbers<T>, pass: Pass)
+pub(crate) fn end_all<T: Drop, R: Reclaim<T>>(
+    words: &Words<T>,
+    reclaimer: R,
+    numbers: Numbers<T>,
+    pass: Pass,
+)
     requires numbers { AreNumbers numbers × IsLockFor words.now numbers }
     requires pass { IsPassFor words.now pass × IsSole pass.id }
 {
     let (mut numbers, mut pass) = (numbers, pass);
-    Sweeping { words }.work(&mut numbers, &mut pass);
+    Sweeping { words, reclaimer }.work(&mut numbers, &mut pass);
     if let Some(slot) = numbers.take_free(words, &mut pass) {
-        end_links(words, slot, &mut pass);
+        end_links(words, reclaimer, slot, &mut pass);
     }
 }
 
 // The slot enters, takes out what the links hold and retires it; then it flushes and leaves.
-fn end_links<T: Drop>(words: &Words<T>, slot: Slot<T>, pass: &mut Pass)
+fn end_links<T: Drop, R: Reclaim<T>>(words: &Words<T>, reclaimer: R, slot: Slot<T>, pass: &mut Pass)
     requires slot { IsSlotOf words.now slot × IsInactive slot }
     requires pass { IsPassFor words.now pass.old × IsSole pass.old.id }
 {
@@ -52,22 +59,23 @@ fn end_links<T: Drop>(words: &Words<T>, slot: Slot<T>, pass: &mut Pass)
     let head = slot.head(words, pass);
     slot.enter(words, head, &mut activation, pass);
     for link in 0..words.links.len() {
-        empty(words, link, &mut slot, &activation, pass);
+        empty(words, reclaimer, link, &mut slot, &activation, pass);
     }
-    slot.flush(words, &mut Ends::new(), pass, &Alone {});
+    slot.flush(words, &mut Hands::new(reclaimer), pass, &Alone {});
     slot.leave(
         words,
         head,
         &mut activation,
-        &mut Ends::new(),
+        &mut Hands::new(reclaimer),
         pass,
         &Alone {},
     );
 }
 
 // Takes out what the link holds, and retires it.
-fn empty<T: Drop>(
+fn empty<T: Drop, R: Reclaim<T>>(
     words: &Words<T>,
+    reclaimer: R,
     link: usize,
     slot: &mut Slot<T>,
     activation: &Activation,
@@ -83,6 +91,6 @@ fn empty<T: Drop>(
     let mut key = MaybeKey::none(pass);
     let word = words.swap_link(link, 0, &mut key, activation, pass);
     if let Some(loose) = Loose::of(word, key) {
-        slot.retire(words, loose, 0, &mut Ends::new(), pass, &Alone {});
+        slot.retire(words, loose, 0, &mut Hands::new(reclaimer), pass, &Alone {});
     }
 }

@@ -9,6 +9,7 @@ mod owned;
 use crate::block::{Failed, Owned, Shared, Unlinked};
 use crate::collector::Collector;
 use crate::reader::Reader;
+use crate::reclaim::{Boxed, Reclaim};
 use crate::registration::Registration;
 use crate::works::{Flushing, Leaving, Refreshing, Sparing};
 pub use any::Guard;
@@ -20,13 +21,13 @@ use std::{fmt, mem};
 /// A guard of a registration, for the registration's thread alone.
 ///
 /// It has no `Drop`: it is spent by `leave`, or by `forget`, after which the slot stays active.
-pub struct LocalGuard<'r, 'c, T: Drop> {
-    registration: &'r Registration<'c, T>,
-    reader: Reader<'c, T>,
+pub struct LocalGuard<'r, 'c, T: Drop, R: Reclaim<T> = Boxed> {
+    registration: &'r Registration<'c, T, R>,
+    reader: Reader<'c, T, R>,
     ghost its: { (reader.collector ≡ registration.now.collector) × (reader.number ≡ registration.now.number) },
 }
 
-impl<'r, 'c, T: Drop> LocalGuard<'r, 'c, T> {
+impl<'r, 'c, T: Drop, R: Reclaim<T>> LocalGuard<'r, 'c, T, R> {
     ghost use Rattle.std.specs.Prelude.{◌⊎◌, ◌<◌, ℕ, Option, IfErr, IfOk, IfSome};
     ghost use Rattle.seize_machine.specs.Machine.Event.{ExchangeLink, ReadLink};
     ghost use Rattle.seize_machine.specs.declared.machine.event.Answer.TheVariants.{Link};
@@ -37,13 +38,13 @@ impl<'r, 'c, T: Drop> LocalGuard<'r, 'c, T> {
     ghost use Rattle.seize_table.specs.declared.refusal.Refusal.TheVariants.{NoMemory as no_memory};
     ghost use Rattle.seize.specs.Exchanges.{FoundIn, MakesExchange, Protects, current_name};
     ghost use Rattle.seize.specs.Guards.{IsGuardOf, guard_activation, guard_collector, guard_slot};
-    ghost use Rattle.seize.specs.Makes.{MakesCall, MakesNone, MakesOne, StaysActive};
+    ghost use Rattle.seize.specs.Makes.{IsOfKind, MakesCall, MakesNone, MakesOne, StaysActive};
 
     // One of this registration, which reads so.
     pub(crate) fn of(
-        registration: &'r Registration<'c, T>,
-        reader: Reader<'c, T>,
-    ) -> LocalGuard<'r, 'c, T>
+        registration: &'r Registration<'c, T, R>,
+        reader: Reader<'c, T, R>,
+    ) -> LocalGuard<'r, 'c, T, R>
         requires { (reader.collector ≡ registration.now.collector) × (reader.number ≡ registration.now.number) }
         ensures { IsGuardOf registration.now result }
     {
@@ -54,7 +55,7 @@ impl<'r, 'c, T: Drop> LocalGuard<'r, 'c, T> {
     }
 
     /// The collector.
-    pub fn collector(&self) -> &'c Collector<T>
+    pub fn collector(&self) -> &'c Collector<T, R>
         ensures { result.now ≡ guard_collector self.now }
     {
         self.reader.collector
@@ -112,7 +113,7 @@ impl<'r, 'c, T: Drop> LocalGuard<'r, 'c, T> {
         link: usize,
         value: Option<Owned<T>>,
         pass: &mut Pass,
-    ) -> Option<Unlinked<'c, T>>
+    ) -> Option<Unlinked<'c, T, R>>
         requires of { IsPassOf (guard_collector self.now) pass.old × (link < its_links (guard_collector self.now)) }
         requires value { IfSome value (λ owned. IsBlockOf (guard_collector self.now) owned) }
         ensures of { IfSome result (λ unlinked. unlinked_collector unlinked ≡ guard_collector self.now) }
@@ -140,7 +141,7 @@ impl<'r, 'c, T: Drop> LocalGuard<'r, 'c, T> {
         current: Option<&Shared<'_, T>>,
         new: Option<Owned<T>>,
         pass: &mut Pass,
-    ) -> Result<Option<Unlinked<'c, T>>, Failed<'_, T>>
+    ) -> Result<Option<Unlinked<'c, T, R>>, Failed<'_, T>>
         requires of { IsPassOf (guard_collector self.now) pass.old × (link < its_links (guard_collector self.now)) }
         requires value { IfSome new (λ owned. IsBlockOf (guard_collector self.now) owned) }
         ensures { MakesExchange T.row.coded.code (guard_collector self.now) (guard_slot self.now) (guard_activation self.now) link
@@ -156,7 +157,7 @@ impl<'r, 'c, T: Drop> LocalGuard<'r, 'c, T> {
         current: Option<&Shared<'_, T>>,
         new: Option<Owned<T>>,
         pass: &mut Pass,
-    ) -> Result<Option<Unlinked<'c, T>>, Failed<'_, T>>
+    ) -> Result<Option<Unlinked<'c, T, R>>, Failed<'_, T>>
         requires of { IsPassOf (guard_collector self.now) pass.old × (link < its_links (guard_collector self.now)) }
         requires value { IfSome new (λ owned. IsBlockOf (guard_collector self.now) owned) }
         ensures { MakesExchange T.row.coded.code (guard_collector self.now) (guard_slot self.now) (guard_activation self.now) link
@@ -170,11 +171,26 @@ impl<'r, 'c, T: Drop> LocalGuard<'r, 'c, T> {
     ///
     /// It takes no memory. An insertion is tried again as often as other threads change the head between a look at it and the try. Within
     /// another call of the same registration it waits for ever.
-    pub fn defer_retire<W: Wait>(&self, rt: &W, pass: &mut Pass, value: Unlinked<'_, T>)
+    pub fn defer_retire<W: Wait>(&self, rt: &W, pass: &mut Pass, value: Unlinked<'_, T, R>)
         requires of { IsPassOf (guard_collector self.now) pass.old × (unlinked_collector value ≡ guard_collector self.now) }
         ensures { MakesCall (guard_slot self.now) (Retire (unlinked_name value.entry)) pass.old pass.new }
     {
         self.registration.retire(rt, pass, value);
+    }
+
+    /// The same, and says of which kind the value is: see `Registration::retire_as`.
+    pub fn defer_retire_as<W: Wait>(
+        &self,
+        rt: &W,
+        pass: &mut Pass,
+        value: Unlinked<'_, T, R>,
+        kind: u64,
+    )
+        requires of { IsPassOf (guard_collector self.now) pass.old × (unlinked_collector value ≡ guard_collector self.now) }
+        ensures call { MakesCall (guard_slot self.now) (Retire (unlinked_name value.entry)) pass.old pass.new }
+        ensures kind { IsOfKind (unlinked_name value.entry) kind pass.new }
+    {
+        self.registration.retire_as(rt, pass, value, kind);
     }
 
     /// Attempts the slot's batch at any length.
@@ -186,6 +202,7 @@ impl<'r, 'c, T: Drop> LocalGuard<'r, 'c, T> {
     {
         let flushing = Flushing {
             words: &self.reader.collector.words,
+            reclaimer: *self.reader.collector.reclaimer,
             unit: &self.reader.unit,
             seen: &self.reader.seen,
             rt,
@@ -209,6 +226,7 @@ impl<'r, 'c, T: Drop> LocalGuard<'r, 'c, T> {
         let unit = mem::replace(&mut reader.unit, spare);
         let refreshing = Refreshing {
             words: &reader.collector.words,
+            reclaimer: *reader.collector.reclaimer,
             head: registration.head,
             unit,
             seen: &reader.seen,
@@ -239,6 +257,7 @@ impl<'r, 'c, T: Drop> LocalGuard<'r, 'c, T> {
         } = reader;
         let leaving = Leaving {
             words: &collector.words,
+            reclaimer: *collector.reclaimer,
             head: registration.head,
             unit,
             seen,
@@ -257,7 +276,7 @@ impl<'r, 'c, T: Drop> LocalGuard<'r, 'c, T> {
     }
 }
 
-impl<T: Drop> fmt::Debug for LocalGuard<'_, '_, T> {
+impl<T: Drop, R: Reclaim<T>> fmt::Debug for LocalGuard<'_, '_, T, R> {
     fn fmt<W: fmt::Write>(&self, f: &mut fmt::Formatter<W>) -> fmt::Result {
         f.write_str("LocalGuard")
     }

@@ -8,6 +8,7 @@ use crate::block::{Failed, Owned, Shared, Unlinked};
 use crate::collector::Collector;
 use crate::numbers::Ending;
 use crate::reader::Reader;
+use crate::reclaim::{Boxed, Reclaim};
 use crate::reservation::Reservation;
 use crate::works::{Flushing, Leaving, Refreshing, Retiring, Sparing};
 use seize_calls::slot::Slot;
@@ -24,8 +25,8 @@ use std::{fmt, mem};
 ///
 /// `defer_retire` and `flush` are done under the guard's lock: each waits while another thread is within one of them. No value ends there,
 /// since the guard's slot is active.
-pub struct OwnedGuard<'c, T: Drop> {
-    reader: Reader<'c, T>,
+pub struct OwnedGuard<'c, T: Drop, R: Reclaim<T> = Boxed> {
+    reader: Reader<'c, T, R>,
     // The slot's head.
     head: &'c Head,
     reservation: Lock<Reservation<T>>,
@@ -33,7 +34,7 @@ pub struct OwnedGuard<'c, T: Drop> {
     ghost headed: { IsHeadFor (its_book reader.collector.now) reader.number head.now },
 }
 
-impl<'c, T: Drop> OwnedGuard<'c, T> {
+impl<'c, T: Drop, R: Reclaim<T>> OwnedGuard<'c, T, R> {
     ghost use Rattle.std.specs.Prelude.{◌<◌, ℕ, Option, IfErr, IfOk, IfSome};
     ghost use Rattle.seize_machine.specs.Machine.Event.{Enter, ExchangeLink, ReadLink};
     ghost use Rattle.seize_machine.specs.declared.machine.event.Answer.TheVariants.{Done, Link};
@@ -44,15 +45,15 @@ impl<'c, T: Drop> OwnedGuard<'c, T> {
     ghost use Rattle.seize.specs.Blocks.{ComesOut, IsNamed, Shows, content, unlinked_collector, unlinked_name};
     ghost use Rattle.seize.specs.Collectors.{IsBlockOf, IsPassOf, IsSlotFor, its_links};
     ghost use Rattle.seize.specs.Exchanges.{FoundIn, MakesExchange, Protects, current_name};
-    ghost use Rattle.seize.specs.Makes.{LeavesAndGives, MakesCall, MakesNone, MakesOne};
+    ghost use Rattle.seize.specs.Makes.{IsOfKind, LeavesAndGives, MakesCall, MakesNone, MakesOne};
     ghost use Rattle.seize.specs.OwnedGuards.{owned_activation, owned_collector, owned_slot};
 
     // One with this slot, which enters.
     pub(crate) fn enter(
-        collector: &'c Collector<T>,
+        collector: &'c Collector<T, R>,
         slot: Slot<T>,
         pass: &mut Pass,
-    ) -> OwnedGuard<'c, T>
+    ) -> OwnedGuard<'c, T, R>
         requires slot { IsSlotFor collector.now slot × IsInactive slot }
         requires pass { IsPassOf collector.now pass.old }
         ensures of { (owned_collector result ≡ collector.now) × (owned_slot result ≡ its_number slot) }
@@ -76,7 +77,7 @@ impl<'c, T: Drop> OwnedGuard<'c, T> {
     }
 
     /// The collector.
-    pub fn collector(&self) -> &'c Collector<T>
+    pub fn collector(&self) -> &'c Collector<T, R>
         ensures { result.now ≡ owned_collector self.now }
     {
         self.reader.collector
@@ -134,7 +135,7 @@ impl<'c, T: Drop> OwnedGuard<'c, T> {
         link: usize,
         value: Option<Owned<T>>,
         pass: &mut Pass,
-    ) -> Option<Unlinked<'c, T>>
+    ) -> Option<Unlinked<'c, T, R>>
         requires of { IsPassOf (owned_collector self.now) pass.old × (link < its_links (owned_collector self.now)) }
         requires value { IfSome value (λ owned. IsBlockOf (owned_collector self.now) owned) }
         ensures of { IfSome result (λ unlinked. unlinked_collector unlinked ≡ owned_collector self.now) }
@@ -162,7 +163,7 @@ impl<'c, T: Drop> OwnedGuard<'c, T> {
         current: Option<&Shared<'_, T>>,
         new: Option<Owned<T>>,
         pass: &mut Pass,
-    ) -> Result<Option<Unlinked<'c, T>>, Failed<'_, T>>
+    ) -> Result<Option<Unlinked<'c, T, R>>, Failed<'_, T>>
         requires of { IsPassOf (owned_collector self.now) pass.old × (link < its_links (owned_collector self.now)) }
         requires value { IfSome new (λ owned. IsBlockOf (owned_collector self.now) owned) }
         ensures { MakesExchange T.row.coded.code (owned_collector self.now) (owned_slot self.now) (owned_activation self.now) link
@@ -178,7 +179,7 @@ impl<'c, T: Drop> OwnedGuard<'c, T> {
         current: Option<&Shared<'_, T>>,
         new: Option<Owned<T>>,
         pass: &mut Pass,
-    ) -> Result<Option<Unlinked<'c, T>>, Failed<'_, T>>
+    ) -> Result<Option<Unlinked<'c, T, R>>, Failed<'_, T>>
         requires of { IsPassOf (owned_collector self.now) pass.old × (link < its_links (owned_collector self.now)) }
         requires value { IfSome new (λ owned. IsBlockOf (owned_collector self.now) owned) }
         ensures { MakesExchange T.row.coded.code (owned_collector self.now) (owned_slot self.now) (owned_activation self.now) link
@@ -192,14 +193,32 @@ impl<'c, T: Drop> OwnedGuard<'c, T> {
     ///
     /// It takes no memory. It waits while another thread has the lock. An insertion is tried again as often as other threads change the
     /// head between a look at it and the try.
-    pub fn defer_retire<W: Wait>(&self, rt: &W, pass: &mut Pass, value: Unlinked<'_, T>)
+    pub fn defer_retire<W: Wait>(&self, rt: &W, pass: &mut Pass, value: Unlinked<'_, T, R>)
         requires of { IsPassOf (owned_collector self.now) pass.old × (unlinked_collector value ≡ owned_collector self.now) }
         ensures { MakesCall (owned_slot self.now) (Retire (unlinked_name value.entry)) pass.old pass.new }
     {
+        self.defer_retire_as(rt, pass, value, 0);
+    }
+
+    /// The same, and says of which kind the value is: see `Registration::retire_as`.
+    pub fn defer_retire_as<W: Wait>(
+        &self,
+        rt: &W,
+        pass: &mut Pass,
+        value: Unlinked<'_, T, R>,
+        kind: u64,
+    )
+        requires of { IsPassOf (owned_collector self.now) pass.old × (unlinked_collector value ≡ owned_collector self.now) }
+        ensures call { MakesCall (owned_slot self.now) (Retire (unlinked_name value.entry)) pass.old pass.new }
+        ensures kind { IsOfKind (unlinked_name value.entry) kind pass.new }
+    {
+        let collector = self.reader.collector;
         let loose = value.into_loose();
         let retiring = Retiring {
-            words: &self.reader.collector.words,
+            words: &collector.words,
+            reclaimer: *collector.reclaimer,
             loose,
+            kind,
             rt,
         };
         self.reservation.with(rt, retiring, pass);
@@ -214,6 +233,7 @@ impl<'c, T: Drop> OwnedGuard<'c, T> {
     {
         let flushing = Flushing {
             words: &self.reader.collector.words,
+            reclaimer: *self.reader.collector.reclaimer,
             unit: &self.reader.unit,
             seen: &self.reader.seen,
             rt,
@@ -235,6 +255,7 @@ impl<'c, T: Drop> OwnedGuard<'c, T> {
         let unit = mem::replace(&mut reader.unit, spare);
         let refreshing = Refreshing {
             words: &reader.collector.words,
+            reclaimer: *reader.collector.reclaimer,
             head: self.head,
             unit,
             seen: &reader.seen,
@@ -269,6 +290,7 @@ impl<'c, T: Drop> OwnedGuard<'c, T> {
         let mut reservation = reservation.into_value();
         let leaving = Leaving {
             words,
+            reclaimer: *collector.reclaimer,
             head,
             unit,
             seen,
@@ -293,7 +315,7 @@ impl<'c, T: Drop> OwnedGuard<'c, T> {
     }
 }
 
-impl<T: Drop> fmt::Debug for OwnedGuard<'_, T> {
+impl<T: Drop, R: Reclaim<T>> fmt::Debug for OwnedGuard<'_, T, R> {
     fn fmt<W: fmt::Write>(&self, f: &mut fmt::Formatter<W>) -> fmt::Result {
         f.write_str("OwnedGuard")
     }

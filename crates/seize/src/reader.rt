@@ -11,15 +11,16 @@ ghost use Rattle.seize.specs.Reservations.{IsUnitIn};
 use crate::block::{Failed, Owned, Shared, Unlinked, name};
 use crate::collector::Collector;
 use crate::guard::exchanging::{came_back, current_word, exchange, look_back, shown};
+use crate::reclaim::Reclaim;
 use seize_words::activation::Activation;
 use seize_words::book::{Pass, Seen};
 use std::marker::Brand;
 
 /// What a guard reads with.
 #[derive(Drop)]
-pub(crate) struct Reader<'c, T: Drop> {
+pub(crate) struct Reader<'c, T: Drop, R: Reclaim<T>> {
     /// The collector.
-    pub(crate) collector: &'c Collector<T>,
+    pub(crate) collector: &'c Collector<T, R>,
     /// The number of the slot.
     pub(crate) number: usize,
     /// The guard's unit of the slot's activation.
@@ -30,7 +31,7 @@ pub(crate) struct Reader<'c, T: Drop> {
     ghost known: { IsPrefix unit.since seen.seen } by { prefix_prop (Coded-set (coded_list entry_coded)) unit.since seen.seen },
 }
 
-impl<'c, T: Drop> Reader<'c, T> {
+impl<'c, T: Drop, R: Reclaim<T>> Reader<'c, T, R> {
     ghost use Rattle.std.specs.Prelude.{◌<◌, ℕ, Option, IfSome};
     ghost use Rattle.seize_machine.specs.Machine.Event.{ExchangeLink, ReadLink};
     ghost use Rattle.seize_machine.specs.declared.machine.event.Answer.TheVariants.{Link};
@@ -68,7 +69,7 @@ impl<'c, T: Drop> Reader<'c, T> {
         link: usize,
         value: Option<Owned<T>>,
         pass: &mut Pass,
-    ) -> Option<Unlinked<'c, T>>
+    ) -> Option<Unlinked<'c, T, R>>
         requires of { IsPassOf self.now.collector.now pass.old × (link < its_links self.now.collector.now) }
         requires value { IfSome value (λ owned. IsBlockOf self.now.collector.now owned) }
         ensures of { IfSome result (λ unlinked. unlinked_collector unlinked ≡ self.now.collector.now) }
@@ -91,7 +92,7 @@ impl<'c, T: Drop> Reader<'c, T> {
         current: Option<&Shared<'_, T>>,
         new: Option<Owned<T>>,
         pass: &mut Pass,
-    ) -> Result<Option<Unlinked<'c, T>>, Failed<'_, T>>
+    ) -> Result<Option<Unlinked<'c, T, R>>, Failed<'_, T>>
         requires of { IsPassOf self.now.collector.now pass.old × (link < its_links self.now.collector.now) }
         requires value { IfSome new (λ owned. IsBlockOf self.now.collector.now owned) }
         ensures { MakesExchange T.row.coded.code self.now.collector.now self.now.number self.now.unit link

@@ -8,6 +8,7 @@ use crate::collector::Collector;
 use crate::guard::LocalGuard;
 use crate::numbers::Ending;
 use crate::reader::Reader;
+use crate::reclaim::{Boxed, Reclaim};
 use crate::reservation::Reservation;
 use crate::works::{Adding, Entering, Retiring};
 use seize_calls::slot::Slot;
@@ -20,8 +21,8 @@ use std::sync::Wait;
 /// A slot of a collector, in the hands of one thread. It may go to another thread, and isn't shared by two.
 ///
 /// It has no `Drop`: it is spent by `end`, which gives the slot's number back, or by `forget`.
-pub struct Registration<'c, T: Drop> {
-    pub(crate) collector: &'c Collector<T>,
+pub struct Registration<'c, T: Drop, R: Reclaim<T> = Boxed> {
+    pub(crate) collector: &'c Collector<T, R>,
     pub(crate) number: usize,
     // The slot's head.
     pub(crate) head: &'c Head,
@@ -30,7 +31,7 @@ pub struct Registration<'c, T: Drop> {
     ghost headed: { IsHeadFor (its_book collector.now) number head.now },
 }
 
-impl<'c, T: Drop> Registration<'c, T> {
+impl<'c, T: Drop, R: Reclaim<T>> Registration<'c, T, R> {
     ghost use Rattle.std.specs.Prelude.{IfErr, IfOk};
     ghost use Rattle.seize_machine.specs.declared.machine.event.Job.TheVariants.{Retire};
     ghost use Rattle.seize_table.specs.declared.refusal.Refusal.TheVariants.{NoMemory as no_memory, TooManyGuards as too_many_guards};
@@ -38,11 +39,11 @@ impl<'c, T: Drop> Registration<'c, T> {
     ghost use Rattle.seize.specs.Blocks.{content, unlinked_collector, unlinked_name};
     ghost use Rattle.seize.specs.Collectors.{IsBlockOf, IsPassOf, IsSlotFor};
     ghost use Rattle.seize.specs.Guards.{IsGuardOf};
-    ghost use Rattle.seize.specs.Makes.{EndsUse, Enters, MakesCall};
+    ghost use Rattle.seize.specs.Makes.{EndsUse, Enters, IsOfKind, MakesCall};
     ghost use Rattle.seize.specs.Registrations.{registered_in, registered_slot};
 
     // One with this slot.
-    pub(crate) fn of(collector: &'c Collector<T>, slot: Slot<T>) -> Registration<'c, T>
+    pub(crate) fn of(collector: &'c Collector<T, R>, slot: Slot<T>) -> Registration<'c, T, R>
         requires slot { IsSlotFor collector.now slot × IsInactive slot }
         ensures { (registered_in result ≡ collector.now) × (registered_slot result ≡ its_number slot) }
     {
@@ -59,7 +60,7 @@ impl<'c, T: Drop> Registration<'c, T> {
     }
 
     /// The collector.
-    pub fn collector(&self) -> &'c Collector<T>
+    pub fn collector(&self) -> &'c Collector<T, R>
         ensures { result.now ≡ registered_in self.now }
     {
         self.collector
@@ -80,7 +81,7 @@ impl<'c, T: Drop> Registration<'c, T> {
     ///
     /// `TooManyGuards` where the slot has 2^64 - 1 guards, or within another call of the same registration, as from the `Drop` of a value
     /// that the call reclaims. No event was made then.
-    pub fn enter(&self, pass: &mut Pass) -> Result<LocalGuard<'_, 'c, T>, Refusal>
+    pub fn enter(&self, pass: &mut Pass) -> Result<LocalGuard<'_, 'c, T, R>, Refusal>
         requires pass { IsPassOf (registered_in self.now) pass.old }
         ensures made { IfOk result (λ guard. IsGuardOf self.now guard × Enters (registered_slot self.now) pass.old pass.new) }
         ensures refused { IfErr result (λ refusal. (refusal ≡ too_many_guards) × (pass.new ≡ pass.old)) }
@@ -134,15 +135,29 @@ impl<'c, T: Drop> Registration<'c, T> {
     ///
     /// It takes no memory. An insertion is tried again as often as other threads change the head between a look at it and the try. Within
     /// another call of the same registration it waits for ever.
-    pub fn retire<W: Wait>(&self, rt: &W, pass: &mut Pass, value: Unlinked<'_, T>)
+    pub fn retire<W: Wait>(&self, rt: &W, pass: &mut Pass, value: Unlinked<'_, T, R>)
         requires pass { IsPassOf (registered_in self.now) pass.old }
         requires value { unlinked_collector value ≡ registered_in self.now }
         ensures { MakesCall (registered_slot self.now) (Retire (unlinked_name value.entry)) pass.old pass.new }
     {
+        self.retire_as(rt, pass, value, 0);
+    }
+
+    /// The same, and says of which kind the value is. Its reclaimer is given the kind, and the list says for good that this is kept of the
+    /// value.
+    pub fn retire_as<W: Wait>(&self, rt: &W, pass: &mut Pass, value: Unlinked<'_, T, R>, kind: u64)
+        requires pass { IsPassOf (registered_in self.now) pass.old }
+        requires value { unlinked_collector value ≡ registered_in self.now }
+        ensures call { MakesCall (registered_slot self.now) (Retire (unlinked_name value.entry)) pass.old pass.new }
+        ensures kind { IsOfKind (unlinked_name value.entry) kind pass.new }
+    {
+        let collector = self.collector;
         let loose = value.into_loose();
         let retiring = Retiring {
-            words: &self.collector.words,
+            words: &collector.words,
+            reclaimer: *collector.reclaimer,
             loose,
+            kind,
             rt,
         };
         self.reservation.with(rt, retiring, pass);

@@ -5,10 +5,11 @@ ghost use Rattle.seize_words.specs.Chunks.{IsBlockIn};
 ghost use Rattle.seize_words.specs.Joined.{words_book};
 ghost use Rattle.seize_machine.specs.declared.machine.event.Job.TheVariants.{Flush, Leave, Refresh, Retire};
 ghost use Rattle.seize_table.specs.declared.refusal.Refusal.TheVariants.{NoMemory as no_memory, TooManyGuards as too_many_guards};
-ghost use Rattle.seize.specs.Makes.{Enters, MakesCall, StaysActive};
+ghost use Rattle.seize.specs.Makes.{Enters, IsOfKind, MakesCall, StaysActive};
 ghost use Rattle.seize.specs.Reservations.{IsHeadFor, IsReservationOf, IsUnit};
 
-use crate::ends::Ends;
+use crate::ends::Hands;
+use crate::reclaim::Reclaim;
 use crate::reservation::Reservation;
 use seize_calls::manner::Beside;
 use seize_calls::slot::Loose;
@@ -87,33 +88,53 @@ impl<'a, 'p, T: Drop> LockWork<
 }
 
 /// A value is retired.
-pub(crate) struct Retiring<'a, T, W> {
+pub(crate) struct Retiring<'a, T, R: Copy, W> {
     /// The words of the collector.
     pub(crate) words: &'a Words<T>,
+    /// Its reclaimer.
+    pub(crate) reclaimer: R,
     /// The value.
     pub(crate) loose: Loose,
+    /// Its kind.
+    pub(crate) kind: u64,
     /// The runtime by whose leave it may wait.
     pub(crate) rt: &'a W,
 }
 
-impl<'a, 'p, T: Drop, W: Wait> LockWork<Reservation<T>, Pass<'p>, ()> for Retiring<'a, T, W> {
+impl<'a, 'p, T: Drop, R: Reclaim<T>, W: Wait> LockWork<Reservation<T>, Pass<'p>, ()>
+    for Retiring<'a, T, R, W> {
     ghost may = { λ work r pass. IsReservationOf work.words.now r × IsPassFor work.words.now pass × IsLooseOf work.words.now work.loose };
 
-    ghost gives = { λ work r r' pass pass' _. MakesCall (its_number r.slot) (Retire (its_value work.loose)) pass pass' };
+    ghost gives = { λ work r r' pass pass' _. MakesCall (its_number r.slot) (Retire (its_value work.loose)) pass pass'
+        × IsOfKind (its_value work.loose) work.kind pass' };
 
     fn work(self, r: &mut Reservation<T>, pass: &mut Pass<'p>) {
-        let Retiring { words, loose, rt } = self;
+        let Retiring {
+            words,
+            reclaimer,
+            loose,
+            kind,
+            rt,
+        } = self;
         r.slot.seen().agree(&words.blocks.book);
-        r.slot
-            .retire(words, loose, 0, &mut Ends::new(), pass, &Beside { rt });
+        r.slot.retire(
+            words,
+            loose,
+            kind,
+            &mut Hands::new(reclaimer),
+            pass,
+            &Beside { rt },
+        );
     }
 }
 
 /// The slot's batch is attempted.
 #[derive(Drop)]
-pub(crate) struct Flushing<'a, T, W> {
+pub(crate) struct Flushing<'a, T, R: Copy, W> {
     /// The words of the collector.
     pub(crate) words: &'a Words<T>,
+    /// Its reclaimer.
+    pub(crate) reclaimer: R,
     /// The guard's unit.
     pub(crate) unit: &'a Activation,
     /// What was seen when its activation had begun.
@@ -122,7 +143,8 @@ pub(crate) struct Flushing<'a, T, W> {
     pub(crate) rt: &'a W,
 }
 
-impl<'a, 'p, T: Drop, W: Wait> LockWork<Reservation<T>, Pass<'p>, ()> for Flushing<'a, T, W> {
+impl<'a, 'p, T: Drop, R: Reclaim<T>, W: Wait> LockWork<Reservation<T>, Pass<'p>, ()>
+    for Flushing<'a, T, R, W> {
     ghost may = { λ work r pass. IsReservationOf work.words.now r × IsPassFor work.words.now pass
         × IsUnit (words_book work.words.now) (its_number r.slot) work.unit.now work.seen.now };
 
@@ -131,12 +153,14 @@ impl<'a, 'p, T: Drop, W: Wait> LockWork<Reservation<T>, Pass<'p>, ()> for Flushi
     fn work(self, r: &mut Reservation<T>, pass: &mut Pass<'p>) {
         let Flushing {
             words,
+            reclaimer,
             unit,
             seen,
             rt,
         } = self;
         r.current(words, unit, seen, pass);
-        r.slot.flush(words, &mut Ends::new(), pass, &Beside { rt });
+        r.slot
+            .flush(words, &mut Hands::new(reclaimer), pass, &Beside { rt });
     }
 }
 
@@ -157,9 +181,11 @@ impl<'p, T: Drop> LockWork<Reservation<T>, Pass<'p>, Activation> for Sparing {
 /// The slot refreshes for its only guard; beside others nothing is done. It gives the guard's unit, and what was seen when its activation
 /// had begun.
 #[derive(Drop)]
-pub(crate) struct Refreshing<'a, T, W> {
+pub(crate) struct Refreshing<'a, T, R: Copy, W> {
     /// The words of the collector.
     pub(crate) words: &'a Words<T>,
+    /// Its reclaimer.
+    pub(crate) reclaimer: R,
     /// The slot's head.
     pub(crate) head: &'a Head,
     /// The guard's unit.
@@ -170,8 +196,8 @@ pub(crate) struct Refreshing<'a, T, W> {
     pub(crate) rt: &'a W,
 }
 
-impl<'a, 'p, T: Drop, W: Wait> LockWork<Reservation<T>, Pass<'p>, (Activation, Seen)>
-    for Refreshing<'a, T, W> {
+impl<'a, 'p, T: Drop, R: Reclaim<T>, W: Wait> LockWork<Reservation<T>, Pass<'p>, (Activation, Seen)>
+    for Refreshing<'a, T, R, W> {
     ghost may = { λ work r pass. IsReservationOf work.words.now r × IsPassFor work.words.now pass
         × IsUnit (words_book work.words.now) (its_number r.slot) work.unit work.seen.now
         × IsHeadFor (words_book work.words.now) (its_number r.slot) work.head.now };
@@ -183,6 +209,7 @@ impl<'a, 'p, T: Drop, W: Wait> LockWork<Reservation<T>, Pass<'p>, (Activation, S
     fn work(self, r: &mut Reservation<T>, pass: &mut Pass<'p>) -> (Activation, Seen) {
         let Refreshing {
             words,
+            reclaimer,
             head,
             unit,
             seen,
@@ -197,7 +224,7 @@ impl<'a, 'p, T: Drop, W: Wait> LockWork<Reservation<T>, Pass<'p>, (Activation, S
             words,
             head,
             &mut r.rest,
-            &mut Ends::new(),
+            &mut Hands::new(reclaimer),
             pass,
             &Beside { rt },
         );
@@ -208,9 +235,11 @@ impl<'a, 'p, T: Drop, W: Wait> LockWork<Reservation<T>, Pass<'p>, (Activation, S
 
 /// A guard leaves. The slot's last one leaves for it; beside others no event is made.
 #[derive(Drop)]
-pub(crate) struct Leaving<'a, T, W> {
+pub(crate) struct Leaving<'a, T, R: Copy, W> {
     /// The words of the collector.
     pub(crate) words: &'a Words<T>,
+    /// Its reclaimer.
+    pub(crate) reclaimer: R,
     /// The slot's head.
     pub(crate) head: &'a Head,
     /// The guard's unit.
@@ -221,7 +250,8 @@ pub(crate) struct Leaving<'a, T, W> {
     pub(crate) rt: &'a W,
 }
 
-impl<'a, 'p, T: Drop, W: Wait> LockWork<Reservation<T>, Pass<'p>, ()> for Leaving<'a, T, W> {
+impl<'a, 'p, T: Drop, R: Reclaim<T>, W: Wait> LockWork<Reservation<T>, Pass<'p>, ()>
+    for Leaving<'a, T, R, W> {
     ghost may = { λ work r pass. IsReservationOf work.words.now r × IsPassFor work.words.now pass
         × IsUnit (words_book work.words.now) (its_number r.slot) work.unit work.seen
         × IsHeadFor (words_book work.words.now) (its_number r.slot) work.head.now };
@@ -233,6 +263,7 @@ impl<'a, 'p, T: Drop, W: Wait> LockWork<Reservation<T>, Pass<'p>, ()> for Leavin
     fn work(self, r: &mut Reservation<T>, pass: &mut Pass<'p>) {
         let Leaving {
             words,
+            reclaimer,
             head,
             unit,
             seen,
@@ -248,7 +279,7 @@ impl<'a, 'p, T: Drop, W: Wait> LockWork<Reservation<T>, Pass<'p>, ()> for Leavin
             words,
             head,
             &mut r.rest,
-            &mut Ends::new(),
+            &mut Hands::new(reclaimer),
             pass,
             &Beside { rt },
         );

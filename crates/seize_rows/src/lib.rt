@@ -13,6 +13,8 @@ mod handed;
 #[cfg(test)]
 mod ids;
 #[cfg(test)]
+mod kinds;
+#[cfg(test)]
 mod meeting;
 #[cfg(test)]
 mod memory;

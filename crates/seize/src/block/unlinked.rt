@@ -5,6 +5,7 @@ ghost use Rattle.seize.specs.Loose.{loose_of-prop};
 
 use crate::block::Owned;
 use crate::collector::Collector;
+use crate::reclaim::{Boxed, Reclaim};
 use seize_calls::slot::Loose;
 use seize_words::book::Pass;
 use seize_words::link::MaybeKey;
@@ -13,14 +14,14 @@ use std::ops::Deref;
 /// A block that is in no link, and is to be retired. It reads as its value, and may outlive the guard that took it out.
 ///
 /// It has no `Drop`, so it can't be lost by oversight: it is spent by a retirement.
-pub struct Unlinked<'c, T: Drop> {
-    pub(crate) collector: &'c Collector<T>,
+pub struct Unlinked<'c, T: Drop, R: Reclaim<T> = Boxed> {
+    pub(crate) collector: &'c Collector<T, R>,
     loose: Loose,
     ghost its: { IsLooseOf collector.now.words loose } by { loose_of-prop collector.now.words loose },
     ghost readable: { IsReadable loose },
 }
 
-impl<'c, T: Drop> Unlinked<'c, T> {
+impl<'c, T: Drop, R: Reclaim<T>> Unlinked<'c, T, R> {
     ghost use Rattle.std.specs.Prelude.{IfSome};
     ghost use Rattle.seize_book.specs.Blocks.{link_word};
     ghost use Rattle.seize_words.specs.LinkWords.{IsLoose, value_held};
@@ -32,7 +33,7 @@ impl<'c, T: Drop> Unlinked<'c, T> {
     /// A block that was never in a link. No event is made.
     ///
     /// It takes no memory and waits for nobody.
-    pub fn from_owned(owned: Owned<T>, collector: &'c Collector<T>) -> Unlinked<'c, T>
+    pub fn from_owned(owned: Owned<T>, collector: &'c Collector<T, R>) -> Unlinked<'c, T, R>
         requires { IsBlockOf collector.now owned }
         ensures of { unlinked_collector result ≡ collector.now }
         ensures content { HasContent T.row.coded.code (unlinked_name result) (content owned) }
@@ -45,10 +46,10 @@ impl<'c, T: Drop> Unlinked<'c, T> {
 
     // What came out of a link, whose word was this; nothing where that was 0.
     pub(crate) fn found(
-        collector: &'c Collector<T>,
+        collector: &'c Collector<T, R>,
         word: u64,
         key: MaybeKey,
-    ) -> Option<Unlinked<'c, T>>
+    ) -> Option<Unlinked<'c, T, R>>
         requires word { word ≡ link_word (value_held key) }
         requires loose { IsLoose key × (key.keys.name ≡ its_book collector.now) }
         requires readable { (loose : Loose) → IsLooseIn key loose → IsReadable loose }
@@ -78,7 +79,7 @@ impl<'c, T: Drop> Unlinked<'c, T> {
     }
 }
 
-impl<T: Drop> Deref for Unlinked<'_, T> {
+impl<T: Drop, R: Reclaim<T>> Deref for Unlinked<'_, T, R> {
     type Target = T;
 
     ghost use Rattle.seize.specs.Blocks.{HasContent, unlinked_name};

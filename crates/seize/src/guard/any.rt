@@ -8,21 +8,22 @@ ghost use Rattle.seize_table.specs.declared.refusal.Refusal.TheVariants.{NoMemor
 ghost use Rattle.seize.specs.Blocks.{ComesOut, IsNamed, Shows, content, unlinked_collector, unlinked_name};
 ghost use Rattle.seize.specs.Collectors.{IsBlockOf, IsPassOf, its_links};
 ghost use Rattle.seize.specs.Exchanges.{FoundIn, MakesExchange, current_name};
-ghost use Rattle.seize.specs.Makes.{MakesCall, MakesOne, StaysActive};
+ghost use Rattle.seize.specs.Makes.{IsOfKind, MakesCall, MakesOne, StaysActive};
 ghost use Rattle.seize_words.specs.declared.activation.Activation.{Activation};
 ghost use Rattle.seize.specs.declared.collector.Collector.{Collector};
 
 use crate::block::{Failed, Owned, Shared, Unlinked};
 use crate::collector::Collector;
+use crate::reclaim::Reclaim;
 use seize_table::Refusal;
 use seize_words::book::Pass;
 use std::sync::Wait;
 
 /// A guard of a collector, of whichever kind. `LocalGuard` and `OwnedGuard` say of each call what it takes and where it waits. What comes
 /// out of a link counts as borrowed from the guard here, so generic code retires it before it refreshes.
-pub trait Guard<T: Drop> {
+pub trait Guard<T: Drop, R: Reclaim<T>> {
     /// The collector.
-    ghost guarded: { Self → Collector T };
+    ghost guarded: { Self → Collector T R };
 
     /// The number of the slot that is active while the guard stands.
     ghost number: { Self → ℕ };
@@ -31,7 +32,7 @@ pub trait Guard<T: Drop> {
     ghost activation: { Self → Activation };
 
     /// The collector.
-    fn collector(&self) -> &Collector<T>
+    fn collector(&self) -> &Collector<T, R>
         ensures { result.now ≡ guarded self.now };
 
     /// The number of its slot.
@@ -54,7 +55,12 @@ pub trait Guard<T: Drop> {
             × Shows T.row.coded.code held result × FoundIn (activation self.now) held pass.new };
 
     /// Exchanges what a link holds for this block, or for none: the event `ExchangeLink`. It gives what the link held.
-    fn swap(&self, link: usize, value: Option<Owned<T>>, pass: &mut Pass) -> Option<Unlinked<'_, T>>
+    fn swap(
+        &self,
+        link: usize,
+        value: Option<Owned<T>>,
+        pass: &mut Pass,
+    ) -> Option<Unlinked<'_, T, R>>
         requires of { IsPassOf (guarded self.now) pass.old × (link < its_links (guarded self.now)) }
         requires value { IfSome value (λ owned. IsBlockOf (guarded self.now) owned) }
         ensures of { IfSome result (λ unlinked. unlinked_collector unlinked ≡ guarded self.now) }
@@ -73,7 +79,7 @@ pub trait Guard<T: Drop> {
         current: Option<&Shared<'_, T>>,
         new: Option<Owned<T>>,
         pass: &mut Pass,
-    ) -> Result<Option<Unlinked<'_, T>>, Failed<'_, T>>
+    ) -> Result<Option<Unlinked<'_, T, R>>, Failed<'_, T>>
         requires of { IsPassOf (guarded self.now) pass.old × (link < its_links (guarded self.now)) }
         requires value { IfSome new (λ owned. IsBlockOf (guarded self.now) owned) }
         ensures { MakesExchange T.row.coded.code (guarded self.now) (number self.now) (activation self.now) link
@@ -86,16 +92,28 @@ pub trait Guard<T: Drop> {
         current: Option<&Shared<'_, T>>,
         new: Option<Owned<T>>,
         pass: &mut Pass,
-    ) -> Result<Option<Unlinked<'_, T>>, Failed<'_, T>>
+    ) -> Result<Option<Unlinked<'_, T, R>>, Failed<'_, T>>
         requires of { IsPassOf (guarded self.now) pass.old × (link < its_links (guarded self.now)) }
         requires value { IfSome new (λ owned. IsBlockOf (guarded self.now) owned) }
         ensures { MakesExchange T.row.coded.code (guarded self.now) (number self.now) (activation self.now) link
             (current_name current.entry) new pass.old pass.new result };
 
     /// Retires what came out of a link: a whole call of the slot.
-    fn defer_retire<W: Wait>(&self, rt: &W, pass: &mut Pass, value: Unlinked<'_, T>)
+    fn defer_retire<W: Wait>(&self, rt: &W, pass: &mut Pass, value: Unlinked<'_, T, R>)
         requires of { IsPassOf (guarded self.now) pass.old × (unlinked_collector value ≡ guarded self.now) }
         ensures { MakesCall (number self.now) (Retire (unlinked_name value.entry)) pass.old pass.new };
+
+    /// The same, and says of which kind the value is: see `Registration::retire_as`.
+    fn defer_retire_as<W: Wait>(
+        &self,
+        rt: &W,
+        pass: &mut Pass,
+        value: Unlinked<'_, T, R>,
+        kind: u64,
+    )
+        requires of { IsPassOf (guarded self.now) pass.old × (unlinked_collector value ≡ guarded self.now) }
+        ensures call { MakesCall (number self.now) (Retire (unlinked_name value.entry)) pass.old pass.new }
+        ensures kind { IsOfKind (unlinked_name value.entry) kind pass.new };
 
     /// Attempts the slot's batch at any length: a whole call of the slot.
     fn flush<W: Wait>(&self, rt: &W, pass: &mut Pass)

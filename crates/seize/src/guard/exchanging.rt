@@ -13,6 +13,7 @@ ghost use Rattle.seize.specs.Exchanges.{StandsAlone, current_name};
 
 use crate::block::{Owned, Shared};
 use crate::collector::Collector;
+use crate::reclaim::Reclaim;
 use seize_words::activation::Activation;
 use seize_words::blocks::Blocks;
 use seize_words::book::Pass;
@@ -89,8 +90,8 @@ pub(crate) fn shown<'g, T: Drop>(
 }
 
 // The block that was to go into the link, whose word was this.
-pub(crate) fn came_back<T: Drop>(
-    collector: &Collector<T>,
+pub(crate) fn came_back<T: Drop, R: Reclaim<T>>(
+    collector: &Collector<T, R>,
     word: u64,
     key: MaybeKey,
     pass: &mut Pass,

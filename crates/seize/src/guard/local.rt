@@ -8,23 +8,24 @@ ghost use Rattle.seize.specs.Blocks.{ComesOut, IsNamed, unlinked_collector, unli
 ghost use Rattle.seize.specs.Collectors.{IsBlockOf, IsPassOf, its_links};
 ghost use Rattle.seize.specs.Exchanges.{MakesExchange, current_name};
 ghost use Rattle.seize.specs.Guards.{guard_activation, guard_collector, guard_slot};
-ghost use Rattle.seize.specs.Makes.{MakesCall, MakesOne};
+ghost use Rattle.seize.specs.Makes.{IsOfKind, MakesCall, MakesOne};
 
 use crate::block::{Failed, Owned, Shared, Unlinked};
 use crate::collector::Collector;
 use crate::guard::{Guard, LocalGuard};
+use crate::reclaim::Reclaim;
 use seize_table::Refusal;
 use seize_words::book::Pass;
 use std::sync::Wait;
 
-impl<T: Drop> Guard<T> for LocalGuard<'_, '_, T> {
+impl<T: Drop, R: Reclaim<T>> Guard<T, R> for LocalGuard<'_, '_, T, R> {
     ghost guarded = { λ guard. guard_collector guard };
 
     ghost number = { λ guard. guard_slot guard };
 
     ghost activation = { λ guard. guard_activation guard };
 
-    fn collector(&self) -> &Collector<T> {
+    fn collector(&self) -> &Collector<T, R> {
         LocalGuard::collector(self)
     }
 
@@ -40,7 +41,12 @@ impl<T: Drop> Guard<T> for LocalGuard<'_, '_, T> {
         LocalGuard::protect(self, link, pass)
     }
 
-    fn swap(&self, link: usize, value: Option<Owned<T>>, pass: &mut Pass) -> Option<Unlinked<'_, T>>
+    fn swap(
+        &self,
+        link: usize,
+        value: Option<Owned<T>>,
+        pass: &mut Pass,
+    ) -> Option<Unlinked<'_, T, R>>
         requires of { IsPassOf (guard_collector self.now) pass.old × (link < its_links (guard_collector self.now)) }
         requires value { IfSome value (λ owned. IsBlockOf (guard_collector self.now) owned) }
         ensures of { IfSome result (λ unlinked. unlinked_collector unlinked ≡ guard_collector self.now) }
@@ -56,7 +62,7 @@ impl<T: Drop> Guard<T> for LocalGuard<'_, '_, T> {
         current: Option<&Shared<'_, T>>,
         new: Option<Owned<T>>,
         pass: &mut Pass,
-    ) -> Result<Option<Unlinked<'_, T>>, Failed<'_, T>>
+    ) -> Result<Option<Unlinked<'_, T, R>>, Failed<'_, T>>
         requires of { IsPassOf (guard_collector self.now) pass.old × (link < its_links (guard_collector self.now)) }
         requires value { IfSome new (λ owned. IsBlockOf (guard_collector self.now) owned) }
         ensures { MakesExchange T.row.coded.code (guard_collector self.now) (guard_slot self.now) (guard_activation self.now) link
@@ -71,7 +77,7 @@ impl<T: Drop> Guard<T> for LocalGuard<'_, '_, T> {
         current: Option<&Shared<'_, T>>,
         new: Option<Owned<T>>,
         pass: &mut Pass,
-    ) -> Result<Option<Unlinked<'_, T>>, Failed<'_, T>>
+    ) -> Result<Option<Unlinked<'_, T, R>>, Failed<'_, T>>
         requires of { IsPassOf (guard_collector self.now) pass.old × (link < its_links (guard_collector self.now)) }
         requires value { IfSome new (λ owned. IsBlockOf (guard_collector self.now) owned) }
         ensures { MakesExchange T.row.coded.code (guard_collector self.now) (guard_slot self.now) (guard_activation self.now) link
@@ -80,11 +86,25 @@ impl<T: Drop> Guard<T> for LocalGuard<'_, '_, T> {
         LocalGuard::compare_exchange_weak(self, link, current, new, pass)
     }
 
-    fn defer_retire<W: Wait>(&self, rt: &W, pass: &mut Pass, value: Unlinked<'_, T>)
+    fn defer_retire<W: Wait>(&self, rt: &W, pass: &mut Pass, value: Unlinked<'_, T, R>)
         requires of { IsPassOf (guard_collector self.now) pass.old × (unlinked_collector value ≡ guard_collector self.now) }
         ensures { MakesCall (guard_slot self.now) (Retire (unlinked_name value.entry)) pass.old pass.new }
     {
         LocalGuard::defer_retire(self, rt, pass, value);
+    }
+
+    fn defer_retire_as<W: Wait>(
+        &self,
+        rt: &W,
+        pass: &mut Pass,
+        value: Unlinked<'_, T, R>,
+        kind: u64,
+    )
+        requires of { IsPassOf (guard_collector self.now) pass.old × (unlinked_collector value ≡ guard_collector self.now) }
+        ensures call { MakesCall (guard_slot self.now) (Retire (unlinked_name value.entry)) pass.old pass.new }
+        ensures kind { IsOfKind (unlinked_name value.entry) kind pass.new }
+    {
+        LocalGuard::defer_retire_as(self, rt, pass, value, kind);
     }
 
     fn flush<W: Wait>(&self, rt: &W, pass: &mut Pass) {

@@ -7,25 +7,26 @@ ghost use Rattle.seize_machine.specs.declared.machine.event.Job.TheVariants.{Ret
 ghost use Rattle.seize.specs.Blocks.{ComesOut, IsNamed, unlinked_collector, unlinked_name};
 ghost use Rattle.seize.specs.Collectors.{IsBlockOf, IsPassOf, its_links};
 ghost use Rattle.seize.specs.Exchanges.{MakesExchange, current_name};
-ghost use Rattle.seize.specs.Makes.{MakesCall, MakesOne};
+ghost use Rattle.seize.specs.Makes.{IsOfKind, MakesCall, MakesOne};
 ghost use Rattle.seize.specs.OwnedGuards.{owned_activation, owned_collector, owned_slot};
 
 use crate::block::{Failed, Owned, Shared, Unlinked};
 use crate::collector::Collector;
 use crate::guard::Guard;
 use crate::owned::OwnedGuard;
+use crate::reclaim::Reclaim;
 use seize_table::Refusal;
 use seize_words::book::Pass;
 use std::sync::Wait;
 
-impl<T: Drop> Guard<T> for OwnedGuard<'_, T> {
+impl<T: Drop, R: Reclaim<T>> Guard<T, R> for OwnedGuard<'_, T, R> {
     ghost guarded = { λ guard. owned_collector guard };
 
     ghost number = { λ guard. owned_slot guard };
 
     ghost activation = { λ guard. owned_activation guard };
 
-    fn collector(&self) -> &Collector<T> {
+    fn collector(&self) -> &Collector<T, R> {
         OwnedGuard::collector(self)
     }
 
@@ -41,7 +42,12 @@ impl<T: Drop> Guard<T> for OwnedGuard<'_, T> {
         OwnedGuard::protect(self, link, pass)
     }
 
-    fn swap(&self, link: usize, value: Option<Owned<T>>, pass: &mut Pass) -> Option<Unlinked<'_, T>>
+    fn swap(
+        &self,
+        link: usize,
+        value: Option<Owned<T>>,
+        pass: &mut Pass,
+    ) -> Option<Unlinked<'_, T, R>>
         requires of { IsPassOf (owned_collector self.now) pass.old × (link < its_links (owned_collector self.now)) }
         requires value { IfSome value (λ owned. IsBlockOf (owned_collector self.now) owned) }
         ensures of { IfSome result (λ unlinked. unlinked_collector unlinked ≡ owned_collector self.now) }
@@ -57,7 +63,7 @@ impl<T: Drop> Guard<T> for OwnedGuard<'_, T> {
         current: Option<&Shared<'_, T>>,
         new: Option<Owned<T>>,
         pass: &mut Pass,
-    ) -> Result<Option<Unlinked<'_, T>>, Failed<'_, T>>
+    ) -> Result<Option<Unlinked<'_, T, R>>, Failed<'_, T>>
         requires of { IsPassOf (owned_collector self.now) pass.old × (link < its_links (owned_collector self.now)) }
         requires value { IfSome new (λ owned. IsBlockOf (owned_collector self.now) owned) }
         ensures { MakesExchange T.row.coded.code (owned_collector self.now) (owned_slot self.now) (owned_activation self.now) link
@@ -72,7 +78,7 @@ impl<T: Drop> Guard<T> for OwnedGuard<'_, T> {
         current: Option<&Shared<'_, T>>,
         new: Option<Owned<T>>,
         pass: &mut Pass,
-    ) -> Result<Option<Unlinked<'_, T>>, Failed<'_, T>>
+    ) -> Result<Option<Unlinked<'_, T, R>>, Failed<'_, T>>
         requires of { IsPassOf (owned_collector self.now) pass.old × (link < its_links (owned_collector self.now)) }
         requires value { IfSome new (λ owned. IsBlockOf (owned_collector self.now) owned) }
         ensures { MakesExchange T.row.coded.code (owned_collector self.now) (owned_slot self.now) (owned_activation self.now) link
@@ -81,11 +87,25 @@ impl<T: Drop> Guard<T> for OwnedGuard<'_, T> {
         OwnedGuard::compare_exchange_weak(self, link, current, new, pass)
     }
 
-    fn defer_retire<W: Wait>(&self, rt: &W, pass: &mut Pass, value: Unlinked<'_, T>)
+    fn defer_retire<W: Wait>(&self, rt: &W, pass: &mut Pass, value: Unlinked<'_, T, R>)
         requires of { IsPassOf (owned_collector self.now) pass.old × (unlinked_collector value ≡ owned_collector self.now) }
         ensures { MakesCall (owned_slot self.now) (Retire (unlinked_name value.entry)) pass.old pass.new }
     {
         OwnedGuard::defer_retire(self, rt, pass, value);
+    }
+
+    fn defer_retire_as<W: Wait>(
+        &self,
+        rt: &W,
+        pass: &mut Pass,
+        value: Unlinked<'_, T, R>,
+        kind: u64,
+    )
+        requires of { IsPassOf (owned_collector self.now) pass.old × (unlinked_collector value ≡ owned_collector self.now) }
+        ensures call { MakesCall (owned_slot self.now) (Retire (unlinked_name value.entry)) pass.old pass.new }
+        ensures kind { IsOfKind (unlinked_name value.entry) kind pass.new }
+    {
+        OwnedGuard::defer_retire_as(self, rt, pass, value, kind);
     }
 
     fn flush<W: Wait>(&self, rt: &W, pass: &mut Pass) {

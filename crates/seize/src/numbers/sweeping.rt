@@ -8,8 +8,9 @@ ghost use Rattle.seize_calls.specs.Slots.{IsInactive, IsPassFor, IsSlotOf, its_n
 ghost use Rattle.seize.specs.Numbers.{AreNumbers, IsLockFor, flags_of};
 ghost use Rattle.seize.specs.Sweeps.{AreOff, AreOffBelow, AreTakenTo, LiesHere, IsLedBy, IsOff, KeepsCleared, KeepsClearedBut, KeepsOff, KeepsOn, KeepsPlaces, AreClearedBelow, LeavesNothing, Sweeps};
 
-use crate::ends::Ends;
+use crate::ends::Hands;
 use crate::numbers::Numbers;
+use crate::reclaim::Reclaim;
 use seize_calls::manner::Alone;
 use seize_calls::slot::Slot;
 use seize_cells::LockWork;
@@ -17,7 +18,12 @@ use seize_words::book::Pass;
 use seize_words::words::Words;
 
 // The slot enters, attempts its batch and leaves.
-fn sweep<T: Drop>(words: &Words<T>, slot: &mut Slot<T>, pass: &mut Pass)
+fn sweep<T: Drop, R: Reclaim<T>>(
+    words: &Words<T>,
+    reclaimer: R,
+    slot: &mut Slot<T>,
+    pass: &mut Pass,
+)
     requires slot { IsSlotOf words.now slot.old × IsInactive slot.old }
     requires pass { IsPassFor words.now pass.old × IsSole pass.old.id }
     ensures slot { IsSlotOf words.now slot.new × IsInactive slot.new × (its_number slot.new ≡ its_number slot.old) }
@@ -27,12 +33,12 @@ fn sweep<T: Drop>(words: &Words<T>, slot: &mut Slot<T>, pass: &mut Pass)
     let mut activation = slot.activation();
     let head = slot.head(words, pass);
     slot.enter(words, head, &mut activation, pass);
-    slot.flush(words, &mut Ends::new(), pass, &Alone {});
+    slot.flush(words, &mut Hands::new(reclaimer), pass, &Alone {});
     slot.leave(
         words,
         head,
         &mut activation,
-        &mut Ends::new(),
+        &mut Hands::new(reclaimer),
         pass,
         &Alone {},
     );
@@ -44,7 +50,12 @@ impl<T: Drop> Numbers<T> {
     /// whether all slots are there, so that no number is in use.
     ///
     /// It takes no memory and waits for nobody, but for what values do as they end.
-    pub(crate) fn sweep(&mut self, words: &Words<T>, pass: &mut Pass) -> bool
+    pub(crate) fn sweep<R: Reclaim<T>>(
+        &mut self,
+        words: &Words<T>,
+        reclaimer: R,
+        pass: &mut Pass,
+    ) -> bool
         requires numbers { AreNumbers self.old × (self.old.book.name ≡ words_book words.now) }
         requires pass { IsPassFor words.now pass.old × IsSole pass.old.id }
         ensures numbers { AreNumbers self.new × (self.new.book ≡ self.old.book) }
@@ -53,7 +64,7 @@ impl<T: Drop> Numbers<T> {
         self.key.look(pass);
         self.take_all(words, pass);
         self.key.look(pass);
-        self.sweep_all(words, pass);
+        self.sweep_all(words, reclaimer, pass);
         self.give_all(words, pass);
         self.key.look(pass);
         self.all_here()
@@ -95,7 +106,7 @@ impl<T: Drop> Numbers<T> {
     }
 
     // Each slot that lies here enters, attempts its batch and leaves.
-    fn sweep_all(&mut self, words: &Words<T>, pass: &mut Pass)
+    fn sweep_all<R: Reclaim<T>>(&mut self, words: &Words<T>, reclaimer: R, pass: &mut Pass)
         requires taken { AreTakenTo (length self.old.slots.items) self.old × (self.old.book.name ≡ words_book words.now) }
         requires pass { IsPassFor words.now pass.old × IsSole pass.old.id }
         ensures taken { AreTakenTo (length self.new.slots.items) self.new × KeepsPlaces self.old self.new }
@@ -103,12 +114,12 @@ impl<T: Drop> Numbers<T> {
             × (AreOff pass.old → AreClearedBelow (length self.new.slots.items) (flags_of self.new.slots.items) pass.new) }
     {
         for n in 0..self.slots.len() {
-            self.sweep_at(words, n, pass);
+            self.sweep_at(words, reclaimer, n, pass);
         }
     }
 
     // So does the slot in this place, if there is one.
-    fn sweep_at(&mut self, words: &Words<T>, n: usize, pass: &mut Pass)
+    fn sweep_at<R: Reclaim<T>>(&mut self, words: &Words<T>, reclaimer: R, n: usize, pass: &mut Pass)
         requires taken { AreTakenTo (length self.old.slots.items) self.old × (self.old.book.name ≡ words_book words.now)
             × (n < length self.old.slots.items) }
         requires pass { IsPassFor words.now pass.old × IsSole pass.old.id }
@@ -118,7 +129,7 @@ impl<T: Drop> Numbers<T> {
     {
         if let Some(slot) = self.slots[n].take() {
             let mut slot = slot;
-            sweep(words, &mut slot, pass);
+            sweep(words, reclaimer, &mut slot, pass);
             self.slots[n] = Some(slot);
         }
     }
@@ -153,18 +164,20 @@ impl<T: Drop> Numbers<T> {
 
 /// All slots that nobody has are swept: the work of a caller who has the collector alone.
 #[derive(Drop)]
-pub(crate) struct Sweeping<'a, T> {
+pub(crate) struct Sweeping<'a, T, R: Copy> {
     /// The words of the collector.
     pub(crate) words: &'a Words<T>,
+    /// Its reclaimer.
+    pub(crate) reclaimer: R,
 }
 
-impl<'a, 'p, T: Drop> LockWork<Numbers<T>, Pass<'p>, bool> for Sweeping<'a, T> {
+impl<'a, 'p, T: Drop, R: Reclaim<T>> LockWork<Numbers<T>, Pass<'p>, bool> for Sweeping<'a, T, R> {
     ghost may = { λ work numbers pass. IsLockFor work.words.now numbers × IsPassFor work.words.now pass × IsSole pass.id };
 
     ghost gives = { λ work numbers numbers' pass pass' result. Sweeps pass pass' result };
 
     fn work(self, numbers: &mut Numbers<T>, pass: &mut Pass<'p>) -> bool {
         numbers.book.agree(&self.words.blocks.book);
-        numbers.sweep(self.words, pass)
+        numbers.sweep(self.words, self.reclaimer, pass)
     }
 }

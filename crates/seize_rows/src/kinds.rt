@@ -1,0 +1,139 @@
+//! A reclaimer of the caller's own: each value goes to it once, with the kind that its retirement said, by whatever call ends the value.
+ghost use Rattle.std.specs.Prelude.{◌≡◌, IfOk};
+ghost use Rattle.seize.specs.Collectors.{IsPassOf, its_links};
+ghost use Rattle.seize.specs.OwnedGuards.{owned_collector};
+ghost use Rattle.seize.specs.Registrations.{registered_in};
+
+use crate::values::ended;
+use seize::{Collector, IdSource, OwnedGuard, Pass, Reclaim, Refusal, Registration, Unlinked};
+use std::alloc::Global;
+use std::sync::Wait;
+use std::sync::atomic::{AtomicU64, Ordering};
+use std::test::*;
+
+// Adds each value to the sum of its kind.
+#[derive(Clone, Copy)]
+struct Sums<'a> {
+    sums: &'a [AtomicU64],
+}
+
+impl Reclaim<u64> for Sums<'_> {
+    fn reclaim(self, kind: u64, value: u64) {
+        if let Some(sum) = self.sums.get(kind as usize) {
+            sum.fetch_add(value, Ordering::SeqCst);
+        }
+    }
+}
+
+type Summing<'a> = Collector<u64, Sums<'a>>;
+
+// A collector with one link, whose batches have this many values.
+fn collector<'a>(alloc: Global, size: usize, sums: &'a [AtomicU64]) -> Result<Summing<'a>, Refusal>
+    ensures { IfOk result (λ made. its_links made ≡ 1) }
+{
+    let collector = Collector::with_reclaimer(alloc, &mut IdSource::new(), 1, 1, Sums { sums })?;
+    Ok(collector.batch_size(size))
+}
+
+// The sums of the kinds 0, 1 and 2.
+fn sums_of(sums: &[AtomicU64; 3]) -> (u64, u64, u64) {
+    (ended(&sums[0]), ended(&sums[1]), ended(&sums[2]))
+}
+
+fn no_sums() -> [AtomicU64; 3] {
+    [AtomicU64::new(0), AtomicU64::new(0), AtomicU64::new(0)]
+}
+
+// Retires a value that was in no link.
+fn retire<'a>(
+    rt: &impl Wait,
+    registration: &Registration<'_, u64, Sums<'a>>,
+    value: u64,
+    kind: u64,
+    pass: &mut Pass,
+) -> Result<(), Refusal>
+    requires { IsPassOf (registered_in registration.now) pass.old }
+    ensures { IsPassOf (registered_in registration.now) pass.new }
+{
+    let collector = registration.collector();
+    let owned = match collector.owned(value) {
+        Ok(owned) => owned,
+        Err((refusal, _)) => return Err(refusal),
+    };
+    registration.retire_as(rt, pass, Unlinked::from_owned(owned, collector), kind);
+    Ok(())
+}
+
+// One slot retires 1 as of kind 0, 2 and 8 as of kind 1, and 4 as of kind 2.
+fn retire_four<'a>(rt: &impl Wait, collector: &Summing<'a>) -> Result<(), Refusal> {
+    let mut pass = collector.pass();
+    let registration = collector.register(rt, &mut pass)?;
+    let one = retire(rt, &registration, 1, 0, &mut pass);
+    let two = retire(rt, &registration, 2, 1, &mut pass);
+    let four = retire(rt, &registration, 4, 2, &mut pass);
+    let eight = retire(rt, &registration, 8, 1, &mut pass);
+    registration.end(rt, &mut pass);
+    one.and(two).and(four).and(eight)
+}
+
+#[test]
+fn a_full_batch_goes_to_the_reclaimer(rt: HostRuntime) -> Result<(), Fail> {
+    let all = no_sums();
+    let collector = collector(rt.alloc(), 4, &all)?;
+    retire_four(&rt, &collector)?;
+    assert_eq!(rt; sums_of(&all), (1, 10, 4));
+    drop(collector);
+    assert_eq!(rt; sums_of(&all), (1, 10, 4));
+    Ok(())
+}
+
+#[test]
+fn what_waits_goes_to_the_reclaimer_once(rt: HostRuntime) -> Result<(), Fail> {
+    let all = no_sums();
+    let mut collector = collector(rt.alloc(), 32, &all)?;
+    retire_four(&rt, &collector)?;
+    assert_eq!(rt; sums_of(&all), (0, 0, 0));
+    assert!(rt; collector.reclaim_all());
+    assert_eq!(rt; sums_of(&all), (1, 10, 4));
+    retire_four(&rt, &collector)?;
+    drop(collector);
+    assert_eq!(rt; sums_of(&all), (2, 20, 8));
+    Ok(())
+}
+
+// Puts a value into the link, and retires what was there as of kind 2.
+fn put<'a>(rt: &impl Wait, guard: &OwnedGuard<'_, u64, Sums<'a>>, value: u64, pass: &mut Pass)
+    requires of { IsPassOf (owned_collector guard.now) pass.old × (its_links (owned_collector guard.now) ≡ 1) }
+    ensures { IsPassOf (owned_collector guard.now) pass.new }
+{
+    if let Ok(owned) = guard.owned(value) {
+        if let Some(old) = guard.swap(0, Some(owned), pass) {
+            guard.defer_retire_as(rt, pass, old, 2);
+        }
+    }
+}
+
+// A guard puts two values into the link, one after the other, and hands the first one as it leaves.
+fn exchange<'a>(rt: &impl Wait, collector: &Summing<'a>) -> Result<(), Refusal>
+    requires { its_links collector.now ≡ 1 }
+{
+    let mut pass = collector.pass();
+    let guard = collector.enter_owned(rt, &mut pass)?;
+    put(rt, &guard, 16, &mut pass);
+    put(rt, &guard, 32, &mut pass);
+    guard.flush(rt, &mut pass);
+    guard.leave(rt, &mut pass);
+    Ok(())
+}
+
+#[test]
+fn leaves_and_drops_call_the_reclaimer(rt: HostRuntime) -> Result<(), Fail> {
+    let all = no_sums();
+    let collector = collector(rt.alloc(), 32, &all)?;
+    exchange(&rt, &collector)?;
+    assert_eq!(rt; sums_of(&all), (0, 0, 16));
+    // what the link holds counts as of kind 0
+    drop(collector);
+    assert_eq!(rt; sums_of(&all), (32, 0, 16));
+    Ok(())
+}
