@@ -10,17 +10,17 @@ ghost use Rattle.seize.specs.Registrations.{registered_in};
 ghost use Rattle.seize_machine.specs.declared.machine.event.Answer.TheVariants.{Link};
 ghost use Rattle.seize_machine.specs.declared.machine.event.Exchange.TheVariants.{Compare};
 
-use seize::{Boxed, Failed, Guard, LocalGuard, Owned, Pass, Refusal, Registration, Unlinked};
+use seize::{Failed, Guard, LocalGuard, Owned, Pass, Refusal, Registration, Unlinked};
 use std::sync::Wait;
 
 /// Puts the block into link 0 in the place of the one that is there, by a guard of either kind. Where the link is empty, or another thread
 /// is faster, the block comes back. The value that comes out is the one that was read, and no other value of the same block, since that is
 /// not used again while the guard stands.
-pub fn replace_read<'g, G: Guard<u64, Boxed>>(
+pub fn replace_read<'g, G: Guard<u64>>(
     guard: &'g G,
     new: Owned<u64>,
     pass: &mut Pass,
-) -> Result<Option<Unlinked<'g, u64>>, Option<Owned<u64>>>
+) -> Result<Option<Unlinked<'g, u64, G::Reclaimer>>, Option<Owned<u64>>>
     requires of { IsPassOf (G.guarded guard.now) pass.old × (0 < its_links (G.guarded guard.now)) }
     requires value { IsBlockOf (G.guarded guard.now) new }
     ensures pass { IsPassOf (G.guarded guard.now) pass.new }

@@ -21,9 +21,12 @@ use std::sync::Wait;
 
 /// A guard of a collector, of whichever kind. `LocalGuard` and `OwnedGuard` say of each call what it takes and where it waits. What comes
 /// out of a link counts as borrowed from the guard here, so generic code retires it before it refreshes.
-pub trait Guard<T: Drop, R: Reclaim<T>> {
+pub trait Guard<T: Drop> {
+    /// The type of the collector's reclaimer.
+    type Reclaimer: Reclaim<T>;
+
     /// The collector.
-    ghost guarded: { Self → Collector T R };
+    ghost guarded: { Self → Collector T Self.Reclaimer };
 
     /// The number of the slot that is active while the guard stands.
     ghost number: { Self → ℕ };
@@ -32,7 +35,7 @@ pub trait Guard<T: Drop, R: Reclaim<T>> {
     ghost activation: { Self → Activation };
 
     /// The collector.
-    fn collector(&self) -> &Collector<T, R>
+    fn collector(&self) -> &Collector<T, Self::Reclaimer>
         ensures { result.now ≡ guarded self.now };
 
     /// The number of its slot.
@@ -60,7 +63,7 @@ pub trait Guard<T: Drop, R: Reclaim<T>> {
         link: usize,
         value: Option<Owned<T>>,
         pass: &mut Pass,
-    ) -> Option<Unlinked<'_, T, R>>
+    ) -> Option<Unlinked<'_, T, Self::Reclaimer>>
         requires of { IsPassOf (guarded self.now) pass.old × (link < its_links (guarded self.now)) }
         requires value { IfSome value (λ owned. IsBlockOf (guarded self.now) owned) }
         ensures of { IfSome result (λ unlinked. unlinked_collector unlinked ≡ guarded self.now) }
@@ -79,7 +82,7 @@ pub trait Guard<T: Drop, R: Reclaim<T>> {
         current: Option<&Shared<'_, T>>,
         new: Option<Owned<T>>,
         pass: &mut Pass,
-    ) -> Result<Option<Unlinked<'_, T, R>>, Failed<'_, T>>
+    ) -> Result<Option<Unlinked<'_, T, Self::Reclaimer>>, Failed<'_, T>>
         requires of { IsPassOf (guarded self.now) pass.old × (link < its_links (guarded self.now)) }
         requires value { IfSome new (λ owned. IsBlockOf (guarded self.now) owned) }
         ensures { MakesExchange T.row.coded.code (guarded self.now) (number self.now) (activation self.now) link
@@ -92,14 +95,19 @@ pub trait Guard<T: Drop, R: Reclaim<T>> {
         current: Option<&Shared<'_, T>>,
         new: Option<Owned<T>>,
         pass: &mut Pass,
-    ) -> Result<Option<Unlinked<'_, T, R>>, Failed<'_, T>>
+    ) -> Result<Option<Unlinked<'_, T, Self::Reclaimer>>, Failed<'_, T>>
         requires of { IsPassOf (guarded self.now) pass.old × (link < its_links (guarded self.now)) }
         requires value { IfSome new (λ owned. IsBlockOf (guarded self.now) owned) }
         ensures { MakesExchange T.row.coded.code (guarded self.now) (number self.now) (activation self.now) link
             (current_name current.entry) new pass.old pass.new result };
 
     /// Retires what came out of a link: a whole call of the slot.
-    fn defer_retire<W: Wait>(&self, rt: &W, pass: &mut Pass, value: Unlinked<'_, T, R>)
+    fn defer_retire<W: Wait>(
+        &self,
+        rt: &W,
+        pass: &mut Pass,
+        value: Unlinked<'_, T, Self::Reclaimer>,
+    )
         requires of { IsPassOf (guarded self.now) pass.old × (unlinked_collector value ≡ guarded self.now) }
         ensures { MakesCall (number self.now) (Retire (unlinked_name value.entry)) pass.old pass.new };
 
@@ -108,7 +116,7 @@ pub trait Guard<T: Drop, R: Reclaim<T>> {
         &self,
         rt: &W,
         pass: &mut Pass,
-        value: Unlinked<'_, T, R>,
+        value: Unlinked<'_, T, Self::Reclaimer>,
         kind: u64,
     )
         requires of { IsPassOf (guarded self.now) pass.old × (unlinked_collector value ≡ guarded self.now) }

@@ -18,7 +18,9 @@ use seize_table::Refusal;
 use seize_words::book::Pass;
 use std::sync::Wait;
 
-impl<T: Drop, R: Reclaim<T>> Guard<T, R> for LocalGuard<'_, '_, T, R> {
+impl<T: Drop, R: Reclaim<T>> Guard<T> for LocalGuard<'_, '_, T, R> {
+    type Reclaimer = R;
+
     ghost guarded = { λ guard. guard_collector guard };
 
     ghost number = { λ guard. guard_slot guard };

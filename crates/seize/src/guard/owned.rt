@@ -19,7 +19,9 @@ use seize_table::Refusal;
 use seize_words::book::Pass;
 use std::sync::Wait;
 
-impl<T: Drop, R: Reclaim<T>> Guard<T, R> for OwnedGuard<'_, T, R> {
+impl<T: Drop, R: Reclaim<T>> Guard<T> for OwnedGuard<'_, T, R> {
+    type Reclaimer = R;
+
     ghost guarded = { λ guard. owned_collector guard };
 
     ghost number = { λ guard. owned_slot guard };

@@ -5,7 +5,7 @@ ghost use Rattle.seize.specs.Guards.{guard_collector};
 ghost use Rattle.seize.specs.OwnedGuards.{owned_collector};
 ghost use Rattle.seize.specs.Registrations.{registered_in};
 
-use seize::{Boxed, Guard, LocalGuard, Owned, OwnedGuard, Pass, Refusal, Registration, Unlinked};
+use seize::{Guard, LocalGuard, Owned, OwnedGuard, Pass, Refusal, Registration, Unlinked};
 use std::sync::Wait;
 
 /// How many links a collector has, but for `Pipe`.
@@ -162,7 +162,7 @@ fn read<W: Wait>(
 }
 
 // Puts a block into a link, or none, and retires what was there.
-fn replace<G: Guard<u64, Boxed>, W: Wait>(
+fn replace<G: Guard<u64>, W: Wait>(
     guard: &G,
     link: usize,
     new: Option<Owned<u64>>,
