@@ -5,6 +5,7 @@
 pub mod alone;
 pub mod list;
 pub mod machine;
+pub mod reclaimers;
 pub mod reclaiming;
 pub mod replacing;
 pub mod shared;
