@@ -5,17 +5,18 @@ use base.Stored.{Coded}
 use mathlib.Core.List.{IsPrefix}
 use Rattle.seize_machine.specs.Machine.History.{Reclaimed, Retired}
 use Rattle.seize_machine.proofs.Facts.{some_is}
-use Rattle.seize_book.specs.Book.{moments}
+use Rattle.seize_machine.specs.Machine.State.{are_distinct, linked_values}
+use Rattle.seize_book.specs.Book.{IsLegalList, moments}
 use Rattle.seize_book.specs.Loans.{place_of}
 use Rattle.seize_book.specs.Tokens.{Name, start}
 use Rattle.seize_book.specs.declared.book.pass.Pass.{Pass}
 use Rattle.seize_book.specs.declared.book.seen.Seen.{Seen}
 use Rattle.seize_words.specs.Chunks.{IsLentAs}
-use Rattle.seize_words.proofs.Facts.{same_content}
+use Rattle.seize_words.proofs.Facts.{same_content, told_later, told_once}
 use Rattle.seize.specs.Blocks.{HasContent, Shows, shared_value}
 use Rattle.seize.specs.Collectors.{its_book, seen_by}
 use Rattle.seize.specs.Laws.{moments_seen}
-use Rattle.seize.specs.Makes.{EndsUse}
+use Rattle.seize.specs.Makes.{EndsUse, IsOfKind}
 use Rattle.seize.specs.Reclaims.{Learns, ReclaimsAll, moments_kept, moments_of}
 use Rattle.seize.specs.declared.collector.Collector.{Collector}
 use Rattle.seize.specs.declared.block.shared.Shared.{Shared}
@@ -26,6 +27,13 @@ pub use Rattle.seize.proofs.Made.{makes_then, then_none}
 pub use Rattle.seize.proofs.Stands.{made_since, read_found, reclaimed_still, retired_still}
 -- and a value whose retirement returned is retired there
 pub use Rattle.seize.proofs.Retired.{call_still, retired_by}
+
+-- The kind of a value stays so as a pass sees more, and it has one.
+pub kind_still : (v kind : ℕ) (pass pass' : Pass) → IsPrefix pass.seen pass'.seen → IsOfKind v kind pass → IsOfKind v kind pass'
+kind_still v kind pass pass' grows told = told_later pass.seen pass'.seen v kind grows told
+
+pub kind_once : (v k l : ℕ) (pass : Pass) → are_distinct (linked_values pass.name.links) ≡ true → IsLegalList (start pass.name) pass.seen → IsOfKind v k pass → IsOfKind v l pass → k ≡ l
+kind_once v k l pass distinct legal one two = told_once pass.name pass.seen v k l distinct legal one two
 
 -- A name says one content: `coded` is `T.row.coded`.
 pub content_once : {T : Type 0} (coded : Coded T) (v : ℕ) (x y : T) → HasContent coded.code v x → HasContent coded.code v y → x ≡ y

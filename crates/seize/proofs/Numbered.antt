@@ -24,7 +24,7 @@ use Rattle.seize_words.specs.declared.words.Words.{Words}
 use Rattle.seize_calls.specs.Slots.{IsFreeSlotOf, IsOfList, SetsUse, SlotGives, its_key, its_number}
 use Rattle.seize_calls.specs.declared.slot.Slot.{Slot}
 use Rattle.seize_calls.proofs.Slots.{may_take_slot}
-use Rattle.seize.specs.Numbers.{AreEnded, AreNumbers, IsEndedAt, IsNextSlotOf, flags_of}
+use Rattle.seize.specs.Numbers.{AreNumbers, AreTaken, IsNextSlotOf, IsTakenAt, flags_of}
 use Rattle.seize.specs.declared.numbers.Numbers.{Numbers}
 
 -- Places of a list where something may be.
@@ -112,6 +112,10 @@ pub there_known : {T : Type 0} (slot : Slot T) (numbers : NumbersKey) → slot.s
 there_known slot numbers name own =
     subst (λ (k : ℕ). its_number slot < k) (ap (λ (t : Name × List Entry). length (after (start t.0) t.1).slots) (λ i. (name i, own i)) ∙ made_flags numbers) slot.together.there
 
+-- there are fewer numbers than a list can have places
+pub few : {T : Type 0} (numbers : Numbers T) (n : ℕ) → n ≤ length numbers.slots.items → n < all_numbers
+few numbers n below = let ok = numbers.slots.ok in let small = numbers.slots.small in omega (arith, below, ok.0, ok.1, small)
+
 module _ {T : Type 0} (numbers : Numbers T) (are : AreNumbers numbers) where
   abbrev items : List (Option (Slot T))
   items = numbers.slots.items
@@ -119,13 +123,9 @@ module _ {T : Type 0} (numbers : Numbers T) (are : AreNumbers numbers) where
   pub flags_length : length (use_flags numbers.key) ≡ length items
   flags_length = ap (λ (us : List Bool). length us) are.flags ∙ length-map items is_none
 
-  -- there are fewer than a list can have places
-  pub few : (n : ℕ) → n ≤ length items → n < all_numbers
-  few n below = let ok = numbers.slots.ok in let small = numbers.slots.small in omega (arith, below, ok.0, ok.1, small)
-
   -- the slot that nobody has and whose number is the least may be taken again
   module _ (n : ℕ) (found : position is_some items ≡ Some n) (slot : Slot T) (is : get_or items n None ≡ Some slot) where
-    pub ended : IsEndedAt numbers.book.name n slot
+    pub ended : IsTakenAt numbers.book.name 0 n slot
     ended = are.slots n slot is
 
     pub may_take_first : MayTakeNumber numbers.key (its_key slot)
@@ -134,19 +134,19 @@ module _ {T : Type 0} (numbers : Numbers T) (are : AreNumbers numbers) where
         may_take_slot numbers.key slot
         (its ∙ first_is items n found ∙ ap first_false (sym are.flags))
         (omega (arith, its, below, long))
-        (subst (λ (k : ℕ). k < all_numbers) (sym its) (few n (omega (arith, below))))
+        (subst (λ (k : ℕ). k < all_numbers) (sym its) (few numbers n (omega (arith, below))))
 
   -- and where no such slot is left, all numbers are in use
   pub is_full : position is_some items ≡ None → IsFull numbers.key
   is_full none =
       let made = made_flags numbers.key ∙ flags_length in (
         free_by (state_of numbers.key.keys).slots ∙ ap first_false are.flags ∙ none_free items none ∙ sym made,
-        subst (λ (k : ℕ). k < all_numbers) (sym made) (few (length items) (omega arith)),
+        subst (λ (k : ℕ). k < all_numbers) (sym made) (few numbers (length items) (omega arith)),
       )
 
   -- The use of one number is set, and what lies in its place.
   module _ (numbers' : Numbers T) (pass' : Pass) (slot : Slot T) (used : Bool) (sets : SetsUse numbers.key pass' numbers'.key slot used) (n : ℕ) (its : its_number slot ≡ n) (item : Option (Slot T)) (is : is_none item ≡ used)
-      (put : (s : Slot T) → item ≡ Some s → IsEndedAt numbers.book.name n s) (slots : numbers'.slots.items ≡ slice_set items n item) (next : numbers'.next ≡ numbers.next) (book : numbers'.book ≡ numbers.book) where
+      (put : (s : Slot T) → item ≡ Some s → IsTakenAt numbers.book.name 0 n s) (slots : numbers'.slots.items ≡ slice_set items n item) (next : numbers'.next ≡ numbers.next) (book : numbers'.book ≡ numbers.book) where
     flags' : use_flags numbers'.key ≡ flags_of numbers'.slots.items
     flags' =
         sets.1 ∙ (λ i. slice_set (are.flags i) (its i) used) ∙ ap (slice_set (flags_of items) n) (sym is)
@@ -155,14 +155,14 @@ module _ {T : Type 0} (numbers : Numbers T) (are : AreNumbers numbers) where
     made' : made_of numbers'.key ≡ made_of numbers.key
     made' = made_flags numbers'.key ∙ ap (λ (us : List Bool). length us) sets.1 ∙ length-set (use_flags numbers.key) (its_number slot) used ∙ sym (made_flags numbers.key)
 
-    slots' : AreEnded numbers.book.name (slice_set items n item)
-    slots' i s = at_set (λ o. o ≡ Some s → IsEndedAt numbers.book.name i s) items n i item (λ same there. subst (λ (k : ℕ). IsEndedAt numbers.book.name k s) same (put s there)) (are.slots i s)
+    slots' : AreTaken numbers.book.name 0 (slice_set items n item)
+    slots' i s = at_set (λ o. o ≡ Some s → IsTakenAt numbers.book.name 0 i s) items n i item (λ same there. subst (λ (k : ℕ). IsTakenAt numbers.book.name 0 k s) same (put s there)) (are.slots i s)
 
     pub numbers_set : AreNumbers numbers'
     numbers_set = record {
       book = sets.0.0 ∙ are.book ∙ ap (λ seen. seen.name) (sym book);
       flags = flags';
-      slots = subst (λ (t : Name × List (Option (Slot T))). AreEnded t.0 t.1) (λ i. ((sym book i).name, sym slots i)) slots';
+      slots = subst (λ (t : Name × List (Option (Slot T))). AreTaken t.0 0 t.1) (λ i. ((sym book i).name, sym slots i)) slots';
       next = are.next;
       is_there = next ∙ are.is_there;
       comes = (are.comes.0 ∙ sym made', are.comes.1 ∙ sym sets.0.0);
@@ -178,7 +178,7 @@ module _ {T : Type 0} (numbers : Numbers T) (are : AreNumbers numbers) where
       let comes = next_is left there in record {
         book = ap numbers_book key ∙ are.book ∙ ap (λ seen. seen.name) (sym book);
         flags = ap use_flags key ∙ are.flags ∙ ap flags_of (sym slots);
-        slots = subst (λ (t : Name × List (Option (Slot T))). AreEnded t.0 t.1) (λ i. ((sym book i).name, sym slots i)) are.slots;
+        slots = subst (λ (t : Name × List (Option (Slot T))). AreTaken t.0 0 t.1) (λ i. ((sym book i).name, sym slots i)) are.slots;
         next = next';
         is_there = is;
         comes = (same.0 ∙ comes.0 ∙ ap made_of (sym key), ap (λ (k : SlotKey). k.keys.name) same.1 ∙ comes.1 ∙ ap numbers_book (sym key));
@@ -200,7 +200,7 @@ module _ {T : Type 0} (numbers : Numbers T) (are : AreNumbers numbers) where
     numbers_made = record {
       book = makes.made.follows.0 ∙ are.book ∙ ap (λ seen. seen.name) (sym book);
       flags = flags_made ∙ ap flags_of (sym slots);
-      slots = subst (λ (t : Name × List (Option (Slot T))). AreEnded t.0 t.1) (λ i. ((sym book i).name, sym slots i)) (λ i s there. are.slots i s (sym (at_push items i) ∙ there));
+      slots = subst (λ (t : Name × List (Option (Slot T))). AreTaken t.0 0 t.1) (λ i. ((sym book i).name, sym slots i)) (λ i s there. are.slots i s (sym (at_push items i) ∙ there));
       next = next';
       is_there = is;
       comes = makes.comes;
@@ -235,10 +235,11 @@ module _ {T : Type 0} (numbers : Numbers T) (are : AreNumbers numbers) (words : 
       let same : length (use_flags key') ≡ length (use_flags numbers.key) = ap (λ (us : List Bool). length us) sets.1 ∙ length-set (use_flags numbers.key) (its_number slot) false in
       let long = flags_length numbers are in omega (arith, here, same, long)
 
-  pub given_ended : IsEndedAt numbers.book.name (its_number slot') slot'
+  pub given_ended : IsTakenAt numbers.book.name 0 (its_number slot') slot'
   given_ended = record {
     its = subst (λ (n : Name). IsOfList n slot') (sym of) free.0;
     number = refl;
-    free = λ used. absurd (let no : false ≡ true = sym free.1 ∙ used in cc);
     inactive = free.2;
+    used = λ less. absurd (omega (arith, less));
+    free = λ _ used. absurd (let no : false ≡ true = sym free.1 ∙ used in cc);
   }

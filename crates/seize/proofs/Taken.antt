@@ -15,10 +15,10 @@ use Rattle.seize_words.specs.Totals.{made_of}
 use Rattle.seize_calls.specs.Slots.{SetsUse, its_key, its_number}
 use Rattle.seize_calls.specs.declared.slot.Slot.{Slot}
 use Rattle.seize_calls.proofs.Slots.{may_take_slot}
-use Rattle.seize.specs.Numbers.{AreNumbers, flags_of}
-use Rattle.seize.specs.Sweeps.{AreTakenTo, LiesHere, IsTakenAt, KeepsPlaces, flags_to}
+use Rattle.seize.specs.Numbers.{AreTakenTo, IsTakenAt, flags_of, flags_to}
+use Rattle.seize.specs.Sweeps.{LiesHere, KeepsPlaces}
 use Rattle.seize.specs.declared.numbers.Numbers.{Numbers}
-use Rattle.seize.proofs.Numbered.{made_flags, some_same}
+use Rattle.seize.proofs.Numbered.{few, made_flags, some_same}
 
 -- none of these is in use
 abbrev pub AreAllHere : List Bool → Type 0
@@ -123,28 +123,6 @@ pub all_unused : (slots : List Record) → ((s : ℕ) → (slice_index_or slots 
 all_unused [] unused = tt
 all_unused (x ∷ slots) unused = (unused 0, all_unused slots (λ s. unused (suc s)))
 
--- The numbers are taken to none, and so others find them.
-module _ {T : Type 0} (numbers : Numbers T) where
-  pub taken_first : AreNumbers numbers → AreTakenTo 0 numbers
-  taken_first are = record {
-    book = are.book;
-    flags = are.flags;
-    slots = λ i slot is. let at = are.slots i slot is in record { its = at.its; number = at.number; inactive = at.inactive; used = λ less. absurd (omega (arith, less)); free = λ _. at.free };
-    next = are.next;
-    is_there = are.is_there;
-    comes = are.comes;
-  }
-
-  pub taken_last : AreTakenTo 0 numbers → AreNumbers numbers
-  taken_last are = record {
-    book = are.book;
-    flags = are.flags;
-    slots = λ i slot is. let at = are.slots i slot is in record { its = at.its; number = at.number; free = at.free (omega arith); inactive = at.inactive };
-    next = are.next;
-    is_there = are.is_there;
-    comes = are.comes;
-  }
-
 module _ {T : Type 0} (n : ℕ) (numbers : Numbers T) (are : AreTakenTo n numbers) where
   abbrev items : List (Option (Slot T))
   items = numbers.slots.items
@@ -153,14 +131,11 @@ module _ {T : Type 0} (n : ℕ) (numbers : Numbers T) (are : AreTakenTo n number
   pub many_known : length (use_flags numbers.key) ≡ length items
   many_known = ap (λ (us : List Bool). length us) are.flags ∙ flags_length n items
 
-  pub few_here : (k : ℕ) → k ≤ length items → k < all_numbers
-  few_here k below = let ok = numbers.slots.ok in let small = numbers.slots.small in omega (arith, below, ok.0, ok.1, small)
-
   -- the next slot may take its number
   pub may_take_next : (slot : Slot T) → get_or items n None ≡ Some slot → MayTakeNumber numbers.key (its_key slot)
   may_take_next slot is =
       let its = (are.slots n slot is).number in let below = here_below items n slot is in let long = many_known in
-      may_take_slot numbers.key slot (its ∙ sym (first_here items n slot is) ∙ ap first_false (sym are.flags)) (omega (arith, its, below, long)) (subst (λ (k : ℕ). k < all_numbers) (sym its) (few_here n (omega (arith, below))))
+      may_take_slot numbers.key slot (its ∙ sym (first_here items n slot is) ∙ ap first_false (sym are.flags)) (omega (arith, its, below, long)) (subst (λ (k : ℕ). k < all_numbers) (sym its) (few numbers n (omega (arith, below))))
 
   -- one number is set, and what lies in its place
   module _ (m : ℕ) (numbers' : Numbers T) (key_book : numbers_book numbers'.key ≡ numbers_book numbers.key) (made : made_of numbers'.key ≡ made_of numbers.key) (at : ℕ) (o : Option (Slot T)) (flags : use_flags numbers'.key ≡ flags_to m (slice_set items at o))

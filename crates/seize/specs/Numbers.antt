@@ -1,13 +1,15 @@
 -- What lies behind the lock of a collector's numbers.
 --     flags_of slots           which numbers are in use: those in whose place there is no slot
---     IsEndedAt n i slot       it is number i of the list n, not in use, and inactive
---     AreEnded n slots         so is each of these, in its place
+--     flags_to n slots         the same, where the slots of the first n that lie here have taken their numbers
+--     IsTakenAt name n i slot  it is number i of the list, inactive, and in use just where i is below n
+--     AreTaken name n slots    so is each of these, in its place
 --     IsNextSlotOf numbers next    the slot that comes next is of the list of the numbers' key, and comes after all that were made
---     AreNumbers numbers       the key knows that just these numbers are in use, the slots that lie there are those of the others, and the
---                              next one is there
+--     AreTakenTo n numbers     the key knows that just these numbers are in use, the slots that lie there are those of the others and of
+--                              the first n, and the next one is there
+--     AreNumbers numbers       so others find them: no slot that lies there has taken its number
 --     HasTaken words pass pass' slot     the slot's number was taken with the pass, by the event `Take`. The slot is in use, and inactive
 --     IsLockFor words numbers  they are of the list of these words;  MayEnd words slot     the slot is in use, and inactive
-use Rattle.std.specs.Prelude.{◌≡◌, ℕ, Bool, map, List, Option, Some, None, get_or}
+use Rattle.std.specs.Prelude.{◌≡◌, ◌<◌, ◌≤◌, ℕ, suc, zero, Bool, true, map, List, [], ◌∷◌, Option, Some, None, get_or}
 use Rattle.std.specs.Option.{is_none}
 use Rattle.seize_machine.specs.Machine.Event.{Take}
 use Rattle.seize_machine.specs.declared.machine.event.Answer.TheVariants.{Done}
@@ -29,25 +31,34 @@ use Rattle.seize.specs.declared.numbers.Numbers.{Numbers}
 abbrev pub flags_of : {X : Type 0} → List (Option X) → List Bool
 flags_of slots = map is_none slots
 
-pub record IsEndedAt {T : Type 0} (n : Name) (i : ℕ) (slot : Slot T) : Type 0 where
-  pub its : IsOfList n slot
-  pub number : its_number slot ≡ i
-  pub free : ¬ (IsInUse slot)
-  pub inactive : IsInactive slot
+abbrev pub flags_to : {X : Type 0} → ℕ → List (Option X) → List Bool
+flags_to zero slots = flags_of slots
+flags_to (suc n) [] = []
+flags_to (suc n) (o ∷ slots) = true ∷ flags_to n slots
 
-abbrev pub AreEnded : {T : Type 0} → Name → List (Option (Slot T)) → Type 0
-AreEnded {T} n slots = (i : ℕ) (slot : Slot T) → get_or slots i None ≡ Some slot → IsEndedAt n i slot
+pub record IsTakenAt {T : Type 0} (name : Name) (n i : ℕ) (slot : Slot T) : Type 0 where
+  pub its : IsOfList name slot
+  pub number : its_number slot ≡ i
+  pub inactive : IsInactive slot
+  pub used : i < n → IsInUse slot
+  pub free : n ≤ i → ¬ (IsInUse slot)
+
+abbrev pub AreTaken : {T : Type 0} → Name → ℕ → List (Option (Slot T)) → Type 0
+AreTaken {T} name n slots = (i : ℕ) (slot : Slot T) → get_or slots i None ≡ Some slot → IsTakenAt name n i slot
 
 abbrev pub IsNextSlotOf : NumbersKey → NextSlot → Type 0
 IsNextSlotOf numbers next = (comes_next next ≡ made_of numbers) × (slot_book (next_key next) ≡ numbers_book numbers)
 
-pub record AreNumbers {T : Type 0} (numbers : Numbers T) : Type 0 where
+pub record AreTakenTo {T : Type 0} (n : ℕ) (numbers : Numbers T) : Type 0 where
   pub book : numbers_book numbers.key ≡ numbers.book.name
-  pub flags : use_flags numbers.key ≡ flags_of numbers.slots.items
-  pub slots : AreEnded numbers.book.name numbers.slots.items
+  pub flags : use_flags numbers.key ≡ flags_to n numbers.slots.items
+  pub slots : AreTaken numbers.book.name n numbers.slots.items
   pub next : NextSlot
   pub is_there : numbers.next ≡ Some next
   pub comes : IsNextSlotOf numbers.key next
+
+abbrev pub AreNumbers : {T : Type 0} → Numbers T → Type 0
+AreNumbers numbers = AreTakenTo 0 numbers
 
 pub record HasTaken {T : Type 0} (words : Words T) (pass pass' : Pass) (slot : Slot T) : Type 0 where
   pub its : IsSlotOf words slot

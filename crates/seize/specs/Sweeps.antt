@@ -4,9 +4,6 @@
 --     HasSameLinks pass pass'  each link holds what it held;  KeepsOn pass pass'     and this is the same pass, with a list that goes on
 --     IsOff pass s, AreOff pass     slot s is not active, as the pass has seen, or none is
 --     IsCleared st s           slot s has no call, is not active, and has no batch;  LeavesNothing pass s     so it is as the pass has seen
---     flags_to n slots         which numbers are in use, where the slots of the first n that lie here have taken their numbers
---     IsTakenAt name n i slot  it is number i of the list, inactive, and in use just where i is below n
---     AreTakenTo n numbers     the numbers, where so it is; for n = 0 they are as others find them (`AreNumbers`)
 --     KeepsPlaces numbers numbers'     the list is the same, and slots lie in the same places
 --     LiesHere flags i         a slot lies in place i
 --     AreOffBelow n flags pass, AreClearedBelow n flags pass     each slot below n that lies here is not active, or leaves nothing
@@ -15,24 +12,18 @@
 --     Sweeps pass pass' all    it is the same pass. The list goes on with entries of this pass alone, where that is alone. The links, and
 --                              which numbers are in use, are as they were. It says `all` just where no number is in use; then each slot
 --                              leaves nothing, and each value that was ever retired is reclaimed
-use Rattle.std.specs.Prelude.{◌≡◌, ◌↔◌, ◌<◌, ◌≤◌, ℕ, suc, zero, Bool, true, false, List, [], ◌∷◌, Option, Some, None, get_or, is_some}
+use Rattle.std.specs.Prelude.{◌≡◌, ◌↔◌, ◌<◌, ◌≤◌, ℕ, Bool, true, false, List, [], ◌∷◌, get_or, is_some}
 use Rattle.seize_machine.specs.Machine.Frames.{used}
 use Rattle.seize_machine.specs.Machine.History.{Reclaimed, Retired}
 use Rattle.seize_machine.specs.Machine.State.{State, head_at, is_active, link_at, slot_at}
 use Rattle.seize_book.specs.Homesteads.{state_seen}
-use Rattle.seize_book.specs.Others.{use_flags}
 use Rattle.seize_book.specs.Passes.{IsSamePass}
 use Rattle.seize_book.specs.Porters.{GoesOnTo}
-use Rattle.seize_book.specs.Tokens.{Name}
 use Rattle.seize_book.specs.declared.book.pass.Pass.{Pass}
-use Rattle.seize_words.specs.Named.{numbers_book}
-use Rattle.seize_words.specs.declared.slots.next.NextSlot.{NextSlot}
 use Rattle.seize_calls.specs.Alone.{AddsAlone}
-use Rattle.seize_calls.specs.Slots.{IsInUse, IsInactive, IsOfList, its_number}
-use Rattle.seize_calls.specs.declared.slot.Slot.{Slot}
 use mathlib.Core.List.{IsPrefix}
 use Rattle.seize.specs.Laws.{moments_seen}
-use Rattle.seize.specs.Numbers.{IsNextSlotOf, flags_of}
+use Rattle.seize.specs.Numbers.{flags_of}
 use Rattle.seize.specs.declared.numbers.Numbers.{Numbers}
 
 pub record KeepsOthers (s : ℕ) (st st' : State) : Type 0 where
@@ -67,26 +58,6 @@ pub record IsCleared (st : State) (s : ℕ) : Type 0 where
 
 abbrev pub LeavesNothing : Pass → ℕ → Type 0
 LeavesNothing pass s = IsCleared (state_seen pass) s
-
-abbrev pub flags_to : {X : Type 0} → ℕ → List (Option X) → List Bool
-flags_to zero slots = flags_of slots
-flags_to (suc n) [] = []
-flags_to (suc n) (o ∷ slots) = true ∷ flags_to n slots
-
-pub record IsTakenAt {T : Type 0} (name : Name) (n i : ℕ) (slot : Slot T) : Type 0 where
-  pub its : IsOfList name slot
-  pub number : its_number slot ≡ i
-  pub inactive : IsInactive slot
-  pub used : i < n → IsInUse slot
-  pub free : n ≤ i → ¬ (IsInUse slot)
-
-pub record AreTakenTo {T : Type 0} (n : ℕ) (numbers : Numbers T) : Type 0 where
-  pub book : numbers_book numbers.key ≡ numbers.book.name
-  pub flags : use_flags numbers.key ≡ flags_to n numbers.slots.items
-  pub slots : (i : ℕ) (slot : Slot T) → get_or numbers.slots.items i None ≡ Some slot → IsTakenAt numbers.book.name n i slot
-  pub next : NextSlot
-  pub is_there : numbers.next ≡ Some next
-  pub comes : IsNextSlotOf numbers.key next
 
 -- the list and the places are as they were
 abbrev pub KeepsPlaces : {T : Type 0} → Numbers T → Numbers T → Type 0

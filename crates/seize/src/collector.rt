@@ -30,9 +30,9 @@ const MOST_PROCESSORS: usize = 0x8000_0000_0000_0000;
 /// It has numbered links, which hold a block each or nothing, and slots, which threads have by their registrations. It follows the Hyaline
 /// scheme with one list of waiting batches for each slot.
 ///
-/// Where nobody shares it, `reclaim_all` ends what waits in the batches of slots. Where it is dropped that is done, and then each value
-/// ends that a link holds. It reaches the batch of each slot whose number went back: its registration ended with the answer true, or its
-/// owned guard left. That takes no memory and waits for nobody, but for what the values do as they end. Where something was forgotten,
+/// Where nobody shares it, `reclaim_all` reclaims what waits in the batches of slots. Where it is dropped that is done, and then each value
+/// in a link goes to the reclaimer. It reaches the batch of each slot whose number went back: its registration ended with the answer true,
+/// or its owned guard left. That takes no memory and waits for nobody, but for what the reclaimer does. Where something was forgotten,
 /// values leak, with the memory of their rows of the store:
 ///
 /// - where a registration was forgotten, those in its slot's batch, and where no number went back, those in the links too;
@@ -41,7 +41,7 @@ pub struct Collector<T: Drop, R: Reclaim<T> = Boxed> {
     pub(crate) words: Words<T>,
     porter: Porter,
     pub(crate) numbers: Lock<Numbers<T>>,
-    // In a box, so that no size depends on it.
+    // In a box, so that the size of a collector does not depend on it: proofs of calls by a `&` to one ask that it is below 2^63.
     pub(crate) reclaimer: Box<R>,
     id: u64,
     alloc: Global,
@@ -55,7 +55,7 @@ impl<T: Drop> Collector<T> {
     ghost use Rattle.seize.specs.Collectors.{BeginsEmpty, IsRefusalFor, its_id, its_size};
 
     /// A collector with no slot and this many empty links. Its batch size is `max(32, processors)`, rounded up to a power of two. It asks
-    /// for the memory of its links, and of the entries of its table of slots for so many processors.
+    /// for the memory of its links, of the entries of its table of slots for so many processors, and of a box for its reclaimer.
     ///
     /// # Errors
     ///
@@ -86,8 +86,8 @@ impl<T: Drop, R: Reclaim<T>> Collector<T, R> {
     ghost use Rattle.seize.specs.Registrations.{registered_in, registered_slot};
     ghost use Rattle.seize.specs.Makes.{MakesNone, MakesOne};
 
-    /// The same, with a reclaimer of the caller's own, for which it asks for memory too: each value that was retired goes to it once no
-    /// slot can read it any more, and so does what the links hold when the collector is dropped, as of kind 0.
+    /// The same, with a reclaimer of the caller's own: each value that was retired goes to it once no slot can read it any more, and so
+    /// does what the links hold when the collector is dropped, as of kind 0.
     ///
     /// # Errors
     ///
@@ -333,14 +333,14 @@ impl<T: Drop, R: Reclaim<T>> Collector<T, R> {
         porter.leave_home();
     }
 
-    /// Reclaims what waits in the batches of all slots that nobody has. It answers true where no number is in use: each registration
-    /// ended with the answer true, and each owned guard left. Then each value that was ever retired was reclaimed, and its `Drop` ran.
+    /// Reclaims what waits in the batches of all slots that nobody has. It answers true where no number is in use: each registration ended
+    /// with the answer true, and each owned guard left. Then each value that was ever retired was reclaimed, and went to the reclaimer.
     /// What the links hold stays, and the collector may be shared again.
     ///
     /// It answers false for good where a registration or a guard was forgotten. The batch of a forgotten registration's slot stays then;
     /// and what waits for the slot of a forgotten guard, or is attempted later, stays as well.
     ///
-    /// The slots go in order of their numbers. It takes no memory and waits for nobody, but for what values do as they end. Each slot
+    /// The slots go in order of their numbers. It takes no memory and waits for nobody, but for what the reclaimer does. Each slot
     /// makes two atomic swaps and an attempt of its batch, which looks at the heads of all slots.
     pub fn reclaim_all(&mut self) -> bool
         ensures { ReclaimsAll self.old self.new result }

@@ -7,7 +7,7 @@ ghost use Rattle.seize_words.specs.Joined.{words_book};
 ghost use Rattle.seize_calls.specs.Slots.{InActivation, IsInactive, IsPassFor, IsSlotOf, KeepsActivation};
 ghost use Rattle.seize.specs.Numbers.{AreNumbers, IsLockFor};
 
-use crate::ends::Hands;
+use crate::ends::Forwards;
 use crate::numbers::Numbers;
 use crate::numbers::sweeping::Sweeping;
 use crate::reclaim::Reclaim;
@@ -21,7 +21,7 @@ use seize_words::link::MaybeKey;
 use seize_words::words::Words;
 
 /// It puts nothing, so any weight serves.
-impl<T: Drop, R: Reclaim<T>> Lightens<T> for Hands<R> {
+impl<T: Drop, R: Reclaim<T>> Lightens<T> for Forwards<R> {
     ghost weight = { λ _. 0 };
 
     fn lightens(&self) {}
@@ -32,7 +32,7 @@ impl<T: Drop, R: Reclaim<T>> Lightens<T> for Hands<R> {
 ///
 /// Where a guard was forgotten its slot is active still. Then what is retired here waits for that slot, and does not end.
 ///
-/// It takes no memory and waits for nobody, but for what values do as they end.
+/// It takes no memory and waits for nobody, but for what the reclaimer does.
 pub(crate) fn end_all<T: Drop, R: Reclaim<T>>(
     words: &Words<T>,
     reclaimer: R,
@@ -61,12 +61,12 @@ fn end_links<T: Drop, R: Reclaim<T>>(words: &Words<T>, reclaimer: R, slot: Slot<
     for link in 0..words.links.len() {
         empty(words, reclaimer, link, &mut slot, &activation, pass);
     }
-    slot.flush(words, &mut Hands::new(reclaimer), pass, &Alone {});
+    slot.flush(words, &mut Forwards::new(reclaimer), pass, &Alone {});
     slot.leave(
         words,
         head,
         &mut activation,
-        &mut Hands::new(reclaimer),
+        &mut Forwards::new(reclaimer),
         pass,
         &Alone {},
     );
@@ -91,6 +91,13 @@ fn empty<T: Drop, R: Reclaim<T>>(
     let mut key = MaybeKey::none(pass);
     let word = words.swap_link(link, 0, &mut key, activation, pass);
     if let Some(loose) = Loose::of(word, key) {
-        slot.retire(words, loose, 0, &mut Hands::new(reclaimer), pass, &Alone {});
+        slot.retire(
+            words,
+            loose,
+            0,
+            &mut Forwards::new(reclaimer),
+            pass,
+            &Alone {},
+        );
     }
 }

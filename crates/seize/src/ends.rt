@@ -8,10 +8,10 @@ use seize_calls::handing;
 use seize_words::blocks::Blocks;
 use std::marker::{Model, PhantomData};
 
-/// Which values ended. It has no bytes.
+/// Which values went to the reclaimer. It has no bytes.
 pub(crate) struct Ends {
     marker: PhantomData<()>,
-    /// Of each value that ended the word that was kept of it, and its code, the oldest first. It is there for clauses alone.
+    /// Of each of them the word that was kept of it, and its code, the oldest first. It is there for clauses alone.
     pub(crate) ghost ended: { Ended } by { ended_coded },
 }
 
@@ -28,7 +28,7 @@ impl Drop for Ends {
 impl Ends {
     ghost use Rattle.std.specs.Prelude.{◌≡◌, [], ◌∷◌, ◌++◌};
 
-    /// None ended.
+    /// None did.
     pub(crate) fn new() -> Ends
         ensures { result.ended ≡ [] }
     {
@@ -37,7 +37,7 @@ impl Ends {
         }
     }
 
-    // This value is among those that ended. It does nothing when the program runs.
+    // This value is one of them. It does nothing when the program runs.
     fn note<T>(&mut self, kept: u64, value: &T)
         ensures { self.new.ended ≡ self.old.ended ++ (kept, T.row.coded.code value.now) ∷ [] }
     {}
@@ -45,28 +45,28 @@ impl Ends {
 
 /// Gives each value to the collector's reclaimer, with the word that was kept of it: its kind.
 #[derive(Drop)]
-pub(crate) struct Hands<R: Copy> {
+pub(crate) struct Forwards<R: Copy> {
     reclaimer: R,
     /// What it had.
     pub(crate) ends: Ends,
 }
 
-impl<R: Copy> Hands<R> {
+impl<R: Copy> Forwards<R> {
     ghost use Rattle.std.specs.Prelude.{◌≡◌, []};
 
     /// It has had none.
-    pub(crate) fn new(reclaimer: R) -> Hands<R>
+    pub(crate) fn new(reclaimer: R) -> Forwards<R>
         ensures { result.ends.ended ≡ [] }
     {
-        Hands {
+        Forwards {
             reclaimer,
             ends: Ends::new(),
         }
     }
 }
 
-impl<T: Drop, R: Reclaim<T>> handing::Reclaim<T> for Hands<R> {
-    ghost had = { λ hands. had_of hands.ends.ended };
+impl<T: Drop, R: Reclaim<T>> handing::Reclaim<T> for Forwards<R> {
+    ghost had = { λ forwards. had_of forwards.ends.ended };
 
     ghost serves = { λ _ _. Unit {0} };
 

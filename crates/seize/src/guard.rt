@@ -173,7 +173,8 @@ impl<'r, 'c, T: Drop, R: Reclaim<T>> LocalGuard<'r, 'c, T, R> {
     /// another call of the same registration it waits for ever.
     pub fn defer_retire<W: Wait>(&self, rt: &W, pass: &mut Pass, value: Unlinked<'_, T, R>)
         requires of { IsPassOf (guard_collector self.now) pass.old × (unlinked_collector value ≡ guard_collector self.now) }
-        ensures { MakesCall (guard_slot self.now) (Retire (unlinked_name value.entry)) pass.old pass.new }
+        ensures call { MakesCall (guard_slot self.now) (Retire (unlinked_name value.entry)) pass.old pass.new }
+        ensures kind { IsOfKind (unlinked_name value.entry) 0 pass.new }
     {
         self.registration.retire(rt, pass, value);
     }
@@ -211,9 +212,9 @@ impl<'r, 'c, T: Drop, R: Reclaim<T>> LocalGuard<'r, 'c, T, R> {
     }
 
     /// Ends the slot's activation and begins another, where this is its only guard; beside others it does nothing. What waited for the slot
-    /// is counted down, and what is reclaimed in the call ends there.
+    /// is counted down, and what is reclaimed in the call goes to the reclaimer there.
     ///
-    /// It takes no memory. Within another call of the same registration it waits for ever, and else for nobody.
+    /// But for what that does, it takes no memory. Within another call of the same registration it waits for ever, and else for nobody.
     pub fn refresh<W: Wait>(&mut self, rt: &W, pass: &mut Pass)
         requires of { IsPassOf (guard_collector self.old) pass.old }
         ensures same { (guard_collector self.new ≡ guard_collector self.old) × (guard_slot self.new ≡ guard_slot self.old) }
@@ -237,10 +238,11 @@ impl<'r, 'c, T: Drop, R: Reclaim<T>> LocalGuard<'r, 'c, T, R> {
         reader.seen = seen;
     }
 
-    /// Leaves. The last guard of the slot leaves for it: what waited for the slot is counted down, and what is reclaimed in the call ends
-    /// there. Beside others it makes no event, and the pass learns that the slot is active.
+    /// Leaves. The last guard of the slot leaves for it: what waited for the slot is counted down, and what is reclaimed in the call goes
+    /// to the reclaimer there. Beside others it makes no event, and the pass learns that the slot is active.
     ///
-    /// It takes no memory. Within another call of the same registration it waits for ever, and else for nobody.
+    /// But for what the reclaimer does, it takes no memory. Within another call of the same registration it waits for ever, and else for
+    /// nobody.
     pub fn leave<W: Wait>(self, rt: &W, pass: &mut Pass)
         requires of { IsPassOf (guard_collector self) pass.old }
         ensures { MakesCall (guard_slot self.entry) Leave pass.old pass.new ⊎ StaysActive (guard_slot self.entry) pass.old pass.new }

@@ -195,7 +195,8 @@ impl<'c, T: Drop, R: Reclaim<T>> OwnedGuard<'c, T, R> {
     /// head between a look at it and the try.
     pub fn defer_retire<W: Wait>(&self, rt: &W, pass: &mut Pass, value: Unlinked<'_, T, R>)
         requires of { IsPassOf (owned_collector self.now) pass.old × (unlinked_collector value ≡ owned_collector self.now) }
-        ensures { MakesCall (owned_slot self.now) (Retire (unlinked_name value.entry)) pass.old pass.new }
+        ensures call { MakesCall (owned_slot self.now) (Retire (unlinked_name value.entry)) pass.old pass.new }
+        ensures kind { IsOfKind (unlinked_name value.entry) 0 pass.new }
     {
         self.defer_retire_as(rt, pass, value, 0);
     }
@@ -242,9 +243,9 @@ impl<'c, T: Drop, R: Reclaim<T>> OwnedGuard<'c, T, R> {
     }
 
     /// Ends the slot's activation and begins another. No other thread has the guard meanwhile. What waited for the slot is counted down,
-    /// and what is reclaimed in the call ends there.
+    /// and what is reclaimed in the call goes to the reclaimer there.
     ///
-    /// It takes no memory and waits for nobody: the lock is free.
+    /// But for what that does, it takes no memory and waits for nobody: the lock is free.
     pub fn refresh<W: Wait>(&mut self, rt: &W, pass: &mut Pass)
         requires of { IsPassOf (owned_collector self.old) pass.old }
         ensures same { (owned_collector self.new ≡ owned_collector self.old) × (owned_slot self.new ≡ owned_slot self.old) }
@@ -266,11 +267,11 @@ impl<'c, T: Drop, R: Reclaim<T>> OwnedGuard<'c, T, R> {
         reader.seen = seen;
     }
 
-    /// Leaves, and gives the slot's number back: what waited for the slot is counted down, and what is reclaimed in the call ends there.
-    /// Then comes the event `Give`.
+    /// Leaves, and gives the slot's number back: what waited for the slot is counted down, and what is reclaimed in the call goes to the
+    /// reclaimer there. Then comes the event `Give`.
     ///
-    /// It takes no memory, and no lock of the guard. At last it waits for other threads that register or end. The slot's batch stays for
-    /// the next one who has the number.
+    /// But for what the reclaimer does, it takes no memory. It takes no lock of the guard. At last it waits for other threads that
+    /// register or end. The slot's batch stays for the next one who has the number.
     pub fn leave<W: Wait>(self, rt: &W, pass: &mut Pass)
         requires of { IsPassOf (owned_collector self) pass.old }
         ensures { LeavesAndGives (owned_slot self.entry) pass.old pass.new }

@@ -79,8 +79,8 @@ impl<'c, T: Drop, R: Reclaim<T>> Registration<'c, T, R> {
     ///
     /// # Errors
     ///
-    /// `TooManyGuards` where the slot has 2^64 - 1 guards, or within another call of the same registration, as from the `Drop` of a value
-    /// that the call reclaims. No event was made then.
+    /// `TooManyGuards` where the slot has 2^64 - 1 guards, or within another call of the same registration, as from its reclaimer, or
+    /// the `Drop` of a value that the call reclaims. No event was made then.
     pub fn enter(&self, pass: &mut Pass) -> Result<LocalGuard<'_, 'c, T, R>, Refusal>
         requires pass { IsPassOf (registered_in self.now) pass.old }
         ensures made { IfOk result (λ guard. IsGuardOf self.now guard × Enters (registered_slot self.now) pass.old pass.new) }
@@ -131,14 +131,15 @@ impl<'c, T: Drop, R: Reclaim<T>> Registration<'c, T, R> {
     }
 
     /// Retires a block that is in no link: it joins the slot's batch, which is attempted where it has the batch size or more. What is
-    /// reclaimed in the call ends there.
+    /// reclaimed in the call goes to the reclaimer there.
     ///
-    /// It takes no memory. An insertion is tried again as often as other threads change the head between a look at it and the try. Within
-    /// another call of the same registration it waits for ever.
+    /// But for what that does, it takes no memory. An insertion is tried again as often as other threads change the head between a look at
+    /// it and the try. Within another call of the same registration it waits for ever.
     pub fn retire<W: Wait>(&self, rt: &W, pass: &mut Pass, value: Unlinked<'_, T, R>)
         requires pass { IsPassOf (registered_in self.now) pass.old }
         requires value { unlinked_collector value ≡ registered_in self.now }
-        ensures { MakesCall (registered_slot self.now) (Retire (unlinked_name value.entry)) pass.old pass.new }
+        ensures call { MakesCall (registered_slot self.now) (Retire (unlinked_name value.entry)) pass.old pass.new }
+        ensures kind { IsOfKind (unlinked_name value.entry) 0 pass.new }
     {
         self.retire_as(rt, pass, value, 0);
     }

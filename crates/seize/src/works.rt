@@ -8,7 +8,7 @@ ghost use Rattle.seize_table.specs.declared.refusal.Refusal.TheVariants.{NoMemor
 ghost use Rattle.seize.specs.Makes.{Enters, IsOfKind, MakesCall, StaysActive};
 ghost use Rattle.seize.specs.Reservations.{IsHeadFor, IsReservationOf, IsUnit};
 
-use crate::ends::Hands;
+use crate::ends::Forwards;
 use crate::reclaim::Reclaim;
 use crate::reservation::Reservation;
 use seize_calls::manner::Beside;
@@ -121,7 +121,7 @@ impl<'a, 'p, T: Drop, R: Reclaim<T>, W: Wait> LockWork<Reservation<T>, Pass<'p>,
             words,
             loose,
             kind,
-            &mut Hands::new(reclaimer),
+            &mut Forwards::new(reclaimer),
             pass,
             &Beside { rt },
         );
@@ -160,7 +160,7 @@ impl<'a, 'p, T: Drop, R: Reclaim<T>, W: Wait> LockWork<Reservation<T>, Pass<'p>,
         } = self;
         r.current(words, unit, seen, pass);
         r.slot
-            .flush(words, &mut Hands::new(reclaimer), pass, &Beside { rt });
+            .flush(words, &mut Forwards::new(reclaimer), pass, &Beside { rt });
     }
 }
 
@@ -224,7 +224,7 @@ impl<'a, 'p, T: Drop, R: Reclaim<T>, W: Wait> LockWork<Reservation<T>, Pass<'p>,
             words,
             head,
             &mut r.rest,
-            &mut Hands::new(reclaimer),
+            &mut Forwards::new(reclaimer),
             pass,
             &Beside { rt },
         );
@@ -279,7 +279,7 @@ impl<'a, 'p, T: Drop, R: Reclaim<T>, W: Wait> LockWork<Reservation<T>, Pass<'p>,
             words,
             head,
             &mut r.rest,
-            &mut Hands::new(reclaimer),
+            &mut Forwards::new(reclaimer),
             pass,
             &Beside { rt },
         );

@@ -11,17 +11,23 @@ use std::sync::Wait;
 use std::sync::atomic::{AtomicU64, Ordering};
 use std::test::*;
 
-// Adds each value to the sum of its kind.
+const SECOND: u64 = 0x1_0000_0001;
+
+// Adds each value to the sum of its kind: 0, `SECOND` or `u64::MAX`.
 #[derive(Clone, Copy)]
 struct Sums<'a> {
-    sums: &'a [AtomicU64],
+    sums: &'a [AtomicU64; 3],
 }
 
 impl Reclaim<u64> for Sums<'_> {
     fn reclaim(self, kind: u64, value: u64) {
-        if let Some(sum) = self.sums.get(kind as usize) {
-            sum.fetch_add(value, Ordering::SeqCst);
-        }
+        let place = match kind {
+            0 => 0,
+            SECOND => 1,
+            u64::MAX => 2,
+            _ => return,
+        };
+        self.sums[place].fetch_add(value, Ordering::SeqCst);
     }
 }
 
@@ -35,7 +41,6 @@ fn collector<'a>(alloc: Global, size: usize, sums: &'a [AtomicU64]) -> Result<Su
     Ok(collector.batch_size(size))
 }
 
-// The sums of the kinds 0, 1 and 2.
 fn sums_of(sums: &[AtomicU64; 3]) -> (u64, u64, u64) {
     (ended(&sums[0]), ended(&sums[1]), ended(&sums[2]))
 }
@@ -44,7 +49,6 @@ fn no_sums() -> [AtomicU64; 3] {
     [AtomicU64::new(0), AtomicU64::new(0), AtomicU64::new(0)]
 }
 
-// Retires a value that was in no link.
 fn retire<'a>(
     rt: &impl Wait,
     registration: &Registration<'_, u64, Sums<'a>>,
@@ -64,14 +68,14 @@ fn retire<'a>(
     Ok(())
 }
 
-// One slot retires 1 as of kind 0, 2 and 8 as of kind 1, and 4 as of kind 2.
+// One slot retires 1 as of the first kind, 2 and 8 as of the second, and 4 as of the third.
 fn retire_four<'a>(rt: &impl Wait, collector: &Summing<'a>) -> Result<(), Refusal> {
     let mut pass = collector.pass();
     let registration = collector.register(rt, &mut pass)?;
     let one = retire(rt, &registration, 1, 0, &mut pass);
-    let two = retire(rt, &registration, 2, 1, &mut pass);
-    let four = retire(rt, &registration, 4, 2, &mut pass);
-    let eight = retire(rt, &registration, 8, 1, &mut pass);
+    let two = retire(rt, &registration, 2, SECOND, &mut pass);
+    let four = retire(rt, &registration, 4, u64::MAX, &mut pass);
+    let eight = retire(rt, &registration, 8, SECOND, &mut pass);
     registration.end(rt, &mut pass);
     one.and(two).and(four).and(eight)
 }
@@ -101,14 +105,14 @@ fn what_waits_goes_to_the_reclaimer_once(rt: HostRuntime) -> Result<(), Fail> {
     Ok(())
 }
 
-// Puts a value into the link, and retires what was there as of kind 2.
+// Puts a value into the link, and retires what was there as of the third kind.
 fn put<'a>(rt: &impl Wait, guard: &OwnedGuard<'_, u64, Sums<'a>>, value: u64, pass: &mut Pass)
     requires of { IsPassOf (owned_collector guard.now) pass.old × (its_links (owned_collector guard.now) ≡ 1) }
     ensures { IsPassOf (owned_collector guard.now) pass.new }
 {
     if let Ok(owned) = guard.owned(value) {
         if let Some(old) = guard.swap(0, Some(owned), pass) {
-            guard.defer_retire_as(rt, pass, old, 2);
+            guard.defer_retire_as(rt, pass, old, u64::MAX);
         }
     }
 }
@@ -132,7 +136,6 @@ fn leaves_and_drops_call_the_reclaimer(rt: HostRuntime) -> Result<(), Fail> {
     let collector = collector(rt.alloc(), 32, &all)?;
     exchange(&rt, &collector)?;
     assert_eq!(rt; sums_of(&all), (0, 0, 16));
-    // what the link holds counts as of kind 0
     drop(collector);
     assert_eq!(rt; sums_of(&all), (32, 0, 16));
     Ok(())

@@ -33,13 +33,6 @@ fn what_was_retired_ends_and_links_stay(rt: HostRuntime) -> Result<(), Fail> {
 }
 
 #[test]
-fn a_new_collector_has_nothing_to_reclaim(rt: HostRuntime) -> Result<(), Fail> {
-    let mut collector = collector(rt.alloc())?;
-    assert!(rt; collector.reclaim_all());
-    Ok(())
-}
-
-#[test]
 fn batches_of_two_slots_end_at_once(rt: HostRuntime) -> Result<(), Fail> {
     let ends = AtomicU64::new(0);
     let mut collector = collector(rt.alloc())?;

@@ -1,6 +1,6 @@
 //! What threads share, and what goes from one to another: each function here is proved where its types allow that. None of them is called.
 
-use seize::{Collector, Owned, OwnedGuard, Pass, Registration, Shared, Unlinked};
+use seize::{Collector, Owned, OwnedGuard, Pass, Reclaim, Registration, Shared, Unlinked};
 
 fn is_sent<T: Send>(value: T) -> T {
     value
@@ -10,11 +10,15 @@ fn is_shared<T: Sync>(value: &T) -> &T {
     value
 }
 
-fn collector_sends<T: Drop + Send + Sync>(collector: Collector<T>) -> Collector<T> {
+fn collector_sends<T: Drop + Send + Sync, R: Reclaim<T> + Send + Sync>(
+    collector: Collector<T, R>,
+) -> Collector<T, R> {
     is_sent(collector)
 }
 
-fn collector_shares<T: Drop + Send + Sync>(collector: &Collector<T>) -> &Collector<T> {
+fn collector_shares<T: Drop + Send + Sync, R: Reclaim<T> + Send + Sync>(
+    collector: &Collector<T, R>,
+) -> &Collector<T, R> {
     is_shared(collector)
 }
 
@@ -22,7 +26,9 @@ fn owned_sends<T: Drop + Send>(owned: Owned<T>) -> Owned<T> {
     is_sent(owned)
 }
 
-fn unlinked_sends<T: Drop + Send + Sync>(unlinked: Unlinked<'_, T>) -> Unlinked<'_, T> {
+fn unlinked_sends<T: Drop + Send + Sync, R: Reclaim<T> + Send + Sync>(
+    unlinked: Unlinked<'_, T, R>,
+) -> Unlinked<'_, T, R> {
     is_sent(unlinked)
 }
 
@@ -30,19 +36,21 @@ fn shared_sends<'g, T: Sync>(shared: Shared<'g, T>) -> Shared<'g, T> {
     is_sent(shared)
 }
 
-fn registration_sends<T: Drop + Send + Sync>(
-    registration: Registration<'_, T>,
-) -> Registration<'_, T> {
+fn registration_sends<T: Drop + Send + Sync, R: Reclaim<T> + Send + Sync>(
+    registration: Registration<'_, T, R>,
+) -> Registration<'_, T, R> {
     is_sent(registration)
 }
 
-fn owned_guard_sends<T: Drop + Send + Sync>(guard: OwnedGuard<'_, T>) -> OwnedGuard<'_, T> {
+fn owned_guard_sends<T: Drop + Send + Sync, R: Reclaim<T> + Send + Sync>(
+    guard: OwnedGuard<'_, T, R>,
+) -> OwnedGuard<'_, T, R> {
     is_sent(guard)
 }
 
-fn owned_guard_shares<'g, 'c, T: Drop + Send + Sync>(
-    guard: &'g OwnedGuard<'c, T>,
-) -> &'g OwnedGuard<'c, T> {
+fn owned_guard_shares<'g, 'c, T: Drop + Send + Sync, R: Reclaim<T> + Send + Sync>(
+    guard: &'g OwnedGuard<'c, T, R>,
+) -> &'g OwnedGuard<'c, T, R> {
     is_shared(guard)
 }
 

@@ -1,8 +1,12 @@
 //! Each caller once, where memory is there.
+ghost use Rattle.std.specs.Prelude.{◌≡◌, ◌<◌, IfOk};
+ghost use Rattle.seize.specs.Collectors.{IsPassOf, its_links};
+ghost use Rattle.seize.specs.Registrations.{registered_in};
 
 use crate::alone::{Number, read_and_retire};
 use crate::list::{Node, PutNext, in_front};
 use crate::machine::with_active_slot;
+use crate::reclaimers::{Counting, Counts, put, remove};
 use crate::reclaiming::{reclaim, retire};
 use crate::replacing::{add, exchange};
 use crate::shared::{audit, read, replace};
@@ -10,7 +14,11 @@ use crate::table::loaded_twice;
 use crate::watched::{Newest, retire_under_guard};
 use seize::thread_id::{Numbers, Thread};
 use seize::tls::ThreadLocal;
+use seize::{Pass, Refusal, Registration};
 use seize_plain::{Collector, IdSource, Watch};
+use std::alloc::Global;
+use std::sync::Wait;
+use std::sync::atomic::AtomicU64;
 use std::test::Fail;
 
 #[test]
@@ -115,5 +123,62 @@ fn numbers_are_reclaimed_by_who_has_the_collector_alone(rt: HostRuntime) -> Resu
         let known = retire(&collector, number, &rt)?;
         assert!(rt; reclaim(&mut collector, &known));
     }
+    Ok(())
+}
+
+type CountingCollector<'a> = seize::Collector<u64, Counting<'a>>;
+
+// A collector with one link, whose values are counted.
+fn counting<'a>(alloc: Global, counts: &'a Counts) -> Result<CountingCollector<'a>, Refusal>
+    ensures { IfOk result (λ made. 0 < its_links made) }
+{
+    seize::Collector::with_reclaimer(
+        alloc,
+        &mut seize::IdSource::new(),
+        1,
+        1,
+        Counting { counts },
+    )
+}
+
+// Two numbers are put into the link, and the second one is removed; then the guard's batch is attempted. What was counted before the guard
+// refreshes, and afterwards.
+fn count_a_refresh<'a>(
+    registration: &Registration<'_, u64, Counting<'a>>,
+    counts: &'a Counts,
+    rt: &impl Wait,
+    pass: &mut Pass,
+) -> Result<((u64, u64), (u64, u64)), Refusal>
+    requires { IsPassOf (registered_in registration.now) pass.old × (0 < its_links (registered_in registration.now)) }
+    ensures { IsPassOf (registered_in registration.now) pass.new }
+{
+    let mut guard = registration.enter(pass)?;
+    if let Ok(block) = guard.owned(1) {
+        put(&guard, block, rt, pass);
+    }
+    if let Ok(block) = guard.owned(2) {
+        put(&guard, block, rt, pass);
+    }
+    remove(&guard, rt, pass);
+    guard.flush(rt, pass);
+    let before = counts.read();
+    guard.refresh(rt, pass);
+    let after = counts.read();
+    guard.leave(rt, pass);
+    Ok((before, after))
+}
+
+#[test]
+fn each_number_is_counted_by_its_kind(rt: HostRuntime) -> Result<(), Fail> {
+    let counts = Counts {
+        replaced: AtomicU64::new(0),
+        removed: AtomicU64::new(0),
+    };
+    let collector = counting(rt.alloc(), &counts)?;
+    let mut pass = collector.pass();
+    let registration = collector.register(&rt, &mut pass)?;
+    let counted = count_a_refresh(&registration, &counts, &rt, &mut pass);
+    registration.end(&rt, &mut pass);
+    assert_eq!(rt; counted?, ((0, 0), (1, 1)));
     Ok(())
 }

@@ -109,7 +109,8 @@ pub trait Guard<T: Drop> {
         value: Unlinked<'_, T, Self::Reclaimer>,
     )
         requires of { IsPassOf (guarded self.now) pass.old × (unlinked_collector value ≡ guarded self.now) }
-        ensures { MakesCall (number self.now) (Retire (unlinked_name value.entry)) pass.old pass.new };
+        ensures call { MakesCall (number self.now) (Retire (unlinked_name value.entry)) pass.old pass.new }
+        ensures kind { IsOfKind (unlinked_name value.entry) 0 pass.new };
 
     /// The same, and says of which kind the value is: see `Registration::retire_as`.
     fn defer_retire_as<W: Wait>(

@@ -90,7 +90,8 @@ impl<T: Drop, R: Reclaim<T>> Guard<T> for LocalGuard<'_, '_, T, R> {
 
     fn defer_retire<W: Wait>(&self, rt: &W, pass: &mut Pass, value: Unlinked<'_, T, R>)
         requires of { IsPassOf (guard_collector self.now) pass.old × (unlinked_collector value ≡ guard_collector self.now) }
-        ensures { MakesCall (guard_slot self.now) (Retire (unlinked_name value.entry)) pass.old pass.new }
+        ensures call { MakesCall (guard_slot self.now) (Retire (unlinked_name value.entry)) pass.old pass.new }
+        ensures kind { IsOfKind (unlinked_name value.entry) 0 pass.new }
     {
         LocalGuard::defer_retire(self, rt, pass, value);
     }

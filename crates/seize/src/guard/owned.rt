@@ -91,7 +91,8 @@ impl<T: Drop, R: Reclaim<T>> Guard<T> for OwnedGuard<'_, T, R> {
 
     fn defer_retire<W: Wait>(&self, rt: &W, pass: &mut Pass, value: Unlinked<'_, T, R>)
         requires of { IsPassOf (owned_collector self.now) pass.old × (unlinked_collector value ≡ owned_collector self.now) }
-        ensures { MakesCall (owned_slot self.now) (Retire (unlinked_name value.entry)) pass.old pass.new }
+        ensures call { MakesCall (owned_slot self.now) (Retire (unlinked_name value.entry)) pass.old pass.new }
+        ensures kind { IsOfKind (unlinked_name value.entry) 0 pass.new }
     {
         OwnedGuard::defer_retire(self, rt, pass, value);
     }

@@ -5,10 +5,10 @@ ghost use Rattle.std.specs.List.{list_all};
 ghost use Rattle.seize_book.specs.Tokens.{IsSole};
 ghost use Rattle.seize_words.specs.Joined.{words_book};
 ghost use Rattle.seize_calls.specs.Slots.{IsInactive, IsPassFor, IsSlotOf, its_number};
-ghost use Rattle.seize.specs.Numbers.{AreNumbers, IsLockFor, flags_of};
-ghost use Rattle.seize.specs.Sweeps.{AreOff, AreOffBelow, AreTakenTo, LiesHere, IsLedBy, IsOff, KeepsCleared, KeepsClearedBut, KeepsOff, KeepsOn, KeepsPlaces, AreClearedBelow, LeavesNothing, Sweeps};
+ghost use Rattle.seize.specs.Numbers.{AreNumbers, AreTakenTo, IsLockFor, flags_of};
+ghost use Rattle.seize.specs.Sweeps.{AreOff, AreOffBelow, LiesHere, IsLedBy, IsOff, KeepsCleared, KeepsClearedBut, KeepsOff, KeepsOn, KeepsPlaces, AreClearedBelow, LeavesNothing, Sweeps};
 
-use crate::ends::Hands;
+use crate::ends::Forwards;
 use crate::numbers::Numbers;
 use crate::reclaim::Reclaim;
 use seize_calls::manner::Alone;
@@ -33,12 +33,12 @@ fn sweep<T: Drop, R: Reclaim<T>>(
     let mut activation = slot.activation();
     let head = slot.head(words, pass);
     slot.enter(words, head, &mut activation, pass);
-    slot.flush(words, &mut Hands::new(reclaimer), pass, &Alone {});
+    slot.flush(words, &mut Forwards::new(reclaimer), pass, &Alone {});
     slot.leave(
         words,
         head,
         &mut activation,
-        &mut Hands::new(reclaimer),
+        &mut Forwards::new(reclaimer),
         pass,
         &Alone {},
     );
@@ -49,7 +49,7 @@ impl<T: Drop> Numbers<T> {
     /// Each slot that nobody has takes its number again; then each enters, attempts its batch and leaves; then the numbers go back. It says
     /// whether all slots are there, so that no number is in use.
     ///
-    /// It takes no memory and waits for nobody, but for what values do as they end.
+    /// It takes no memory and waits for nobody, but for what the reclaimer does.
     pub(crate) fn sweep<R: Reclaim<T>>(
         &mut self,
         words: &Words<T>,

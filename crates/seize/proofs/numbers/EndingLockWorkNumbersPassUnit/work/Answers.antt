@@ -1,7 +1,7 @@
 use Rattle.std.proofs.Common.{Some, false, refl, sym, subst, ◌∙◌, arith}
 use Rattle.seize.proofs.Made.{slot_gives}
 use Rattle.seize.proofs.Numbered.{given_below, given_ended, numbers_set, some_same}
-use Rattle.seize.specs.Numbers.{IsEndedAt}
+use Rattle.seize.specs.Numbers.{IsTakenAt}
 use Rattle.seize.proofs.numbers.EndingLockWorkNumbersPassUnit.work.Goals as goal
 
 -- the slot is one of those that were made, so its place is there
@@ -19,7 +19,7 @@ returns g c =
       (
         refl,
         numbers_set numbers are _ one.new.pass slot false one.ensures.numbers n (sym gives.0.same.0 ∙ sym number) (Some slot') refl
-            (λ s is. subst (IsEndedAt numbers.book.name n) (some_same slot' s is) (subst (λ k. IsEndedAt numbers.book.name k slot') (sym number) ended)) refl refl refl,
+            (λ s is. subst (IsTakenAt numbers.book.name 0 n) (some_same slot' s is) (subst (λ k. IsTakenAt numbers.book.name 0 k slot') (sym number) ended)) refl refl refl,
       ),
       slot_gives slot pass slot' one.new.pass gives,
     )

@@ -1,7 +1,8 @@
 use Rattle.std.proofs.Common.{◌-◌, ◌≡◌, length}
 use Rattle.seize_book.specs.Tokens.{IsSole}
 use Rattle.seize_calls.specs.Slots.{IsPassFor}
-use Rattle.seize.specs.Sweeps.{AreTakenTo, KeepsCleared, KeepsOn, KeepsPlaces}
+use Rattle.seize.specs.Numbers.{AreTakenTo}
+use Rattle.seize.specs.Sweeps.{KeepsCleared, KeepsOn, KeepsPlaces}
 use Rattle.seize.proofs.numbers.Numbers.give_all.Given as goal
 
 abbrev pub invariant-loop-given : goal.invariant-loop-given

@@ -3,7 +3,7 @@ use Rattle.std.proofs.lemmas.List.{get_or_default}
 use Rattle.std.specs.Prelude.{slice_set}
 use Rattle.seize_book.specs.Others.{use_flags}
 use Rattle.seize_calls.specs.Slots.{IsOfList, its_number}
-use Rattle.seize.specs.Sweeps.{IsTakenAt, flags_to}
+use Rattle.seize.specs.Numbers.{IsTakenAt, flags_to}
 use Rattle.seize.proofs.Swept.{given_left, gives, keeps_none, keeps_on}
 use Rattle.seize.proofs.Taken.{given_none, given_one, made_sets, none_there, other_given, plus_one, set_twice, some_there}
 use Rattle.seize.proofs.numbers.Numbers.give_at.Goals as goal

@@ -8,12 +8,12 @@ use Rattle.seize_book.specs.Homes.{IsSound}
 use Rattle.seize_book.specs.Homesteads.{state_seen}
 use Rattle.seize_book.specs.Loans.{AllCarryOne}
 use Rattle.seize_book.specs.Tokens.{Name, start}
-use Rattle.seize.specs.Numbers.{flags_of}
-use Rattle.seize.specs.Sweeps.{AreOff, KeepsOn, LeavesNothing, flags_to}
+use Rattle.seize.specs.Numbers.{flags_of, flags_to}
+use Rattle.seize.specs.Sweeps.{AreOff, KeepsOn, LeavesNothing}
 use Rattle.seize.proofs.Cleared.{all_cleared, all_off, each_of, here_in, keeps_looked, looked_left, looked_off, looked_state, past_nothing}
 use Rattle.seize.proofs.Placed.{still_for}
 use Rattle.seize.proofs.Swept.{keeps_then, still_sole}
-use Rattle.seize.proofs.Taken.{AreAllHere, all_here, all_unused, flags_length, here_all, taken_first, taken_last, taken_looked, unused_all}
+use Rattle.seize.proofs.Taken.{AreAllHere, all_here, all_unused, flags_length, here_all, taken_looked, unused_all}
 use Rattle.seize.proofs.numbers.Numbers.sweep.Goals as goal
 
 pub take_all-requires : goal.take_all-requires
@@ -21,7 +21,7 @@ take_all-requires g c =
     let words = c.args.words.now in let self = c.args.self.now in let p = c.args.pass.now in let p0 = c.look.new.pass in let look = c.look.ensures.looks in (
       omega arith,
       (
-        (taken_looked 0 self _ p0 (taken_first self c.requires.numbers.0) look.1 c.look.ensures.used.1 refl refl refl, c.requires.numbers.1),
+        (taken_looked 0 self _ p0 c.requires.numbers.0 look.1 c.look.ensures.used.1 refl refl refl, c.requires.numbers.1),
         (still_for words p p0 c.requires.pass.0 look.0.same, still_sole p p0 look.0.same c.requires.pass.1),
       ),
     )
@@ -40,7 +40,7 @@ sweep_all-requires g c =
 pub returns-clause-numbers : goal.returns-clause-numbers
 returns-clause-numbers g c =
     let given = c.give_all.new.self in let give = c.give_all.ensures in let look = c.look-3.ensures in (
-      taken_last _ (taken_looked 0 given _ c.look-3.new.pass give.numbers.0 look.looks.1 look.used.1 refl refl refl),
+      taken_looked 0 given _ c.look-3.new.pass give.numbers.0 look.looks.1 look.used.1 refl refl refl,
       give.numbers.1.0 ∙ c.sweep_all.ensures.taken.1.0 ∙ c.take_all.ensures.taken.1.0,
     )
 

@@ -1,8 +1,8 @@
 use Rattle.std.proofs.Common.{◌≡◌, length}
 use Rattle.seize_book.specs.Tokens.{IsSole}
 use Rattle.seize_calls.specs.Slots.{IsPassFor}
-use Rattle.seize.specs.Numbers.{flags_of}
-use Rattle.seize.specs.Sweeps.{AreOff, AreTakenTo, KeepsOn, KeepsPlaces, AreClearedBelow}
+use Rattle.seize.specs.Numbers.{AreTakenTo, flags_of}
+use Rattle.seize.specs.Sweeps.{AreOff, KeepsOn, KeepsPlaces, AreClearedBelow}
 use Rattle.seize.proofs.numbers.Numbers.sweep_all.Given as goal
 
 abbrev pub invariant-loop-n : goal.invariant-loop-n

@@ -2,7 +2,8 @@ use Rattle.std.proofs.Common.{◌≡◌, length, Some, None, refl, sym, subst, �
 use Rattle.std.proofs.lemmas.List.{get_or_default, length-set}
 use Rattle.std.specs.Prelude.{slice_set}
 use Rattle.seize_calls.specs.Slots.{IsOfList, its_number}
-use Rattle.seize.specs.Sweeps.{IsTakenAt, LeavesNothing}
+use Rattle.seize.specs.Numbers.{IsTakenAt}
+use Rattle.seize.specs.Sweeps.{LeavesNothing}
 use Rattle.seize.proofs.Swept.{keeps_none, keeps_on, kept_left, kept_off}
 use Rattle.seize.proofs.Taken.{none_here, none_there, set_twice, some_there, taken_as, taken_same}
 use Rattle.seize.proofs.numbers.Numbers.sweep_at.Goals as goal

@@ -5,7 +5,8 @@ use Rattle.seize_book.specs.Others.{use_flags}
 use Rattle.seize_book.specs.Slots.{slot_of}
 use Rattle.seize_calls.proofs.Current.{looked_active, shown}
 use Rattle.seize_calls.specs.Slots.{IsOfList, its_number}
-use Rattle.seize.specs.Sweeps.{IsLedBy, IsOff, IsTakenAt, flags_to}
+use Rattle.seize.specs.Numbers.{IsTakenAt, flags_to}
+use Rattle.seize.specs.Sweeps.{IsLedBy, IsOff}
 use Rattle.seize.proofs.Numbered.{not_used}
 use Rattle.seize.proofs.Placed.{still_for}
 use Rattle.seize.proofs.Swept.{keeps_none, keeps_on, kept_off, led_then, looks, still_sole, takes}

@@ -1,7 +1,7 @@
 use Rattle.std.proofs.Common.{ap, ◌∙◌}
 use Rattle.seize.specs.Ends.{had_of}
 use Rattle.seize.proofs.Ended.{had_one_more}
-use Rattle.seize.proofs.ends.HandsReclaim.reclaim.Goals as goal
+use Rattle.seize.proofs.ends.ForwardsReclaim.reclaim.Goals as goal
 
 pub returns-clause-had : goal.returns-clause-had
 returns-clause-had g c =
