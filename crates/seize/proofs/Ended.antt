@@ -1,4 +1,4 @@
--- What the reclaimer that ends each value had: of each one that it put nothing. Assumes `Logic`.
+-- What went to the reclaimer of a collector: with each value that nothing was put. Assumes `Logic`.
 use Rattle.std.proofs.Common.{◌≡◌, ℕ, List, [], ◌∷◌, ◌++◌, refl, sym, ap, ◌∙◌}
 use base.Stored.{Gv}
 use Rattle.std.proofs.lemmas.List.{map-append}

@@ -28,7 +28,7 @@ abbrev pub HandNone : Handings → Type 0
 HandNone [] = Unit {0}
 HandNone (one ∷ handed) = (one.1 ≡ []) × HandNone handed
 
--- the reclaimer that ends each value puts nothing
+-- the reclaimer of a collector puts nothing
 pub ended_none : (ended : Ended) → PutNone (had_of ended)
 ended_none [] = tt
 ended_none (one ∷ ended) = (refl, ended_none ended)

@@ -115,7 +115,7 @@ module _ (key : SlotKey) (pass : Pass) (values : ValueKeys) (had : Had) (key' : 
             ∙ ap (λ (e : Event). made_with pass ++ (Begin s job, Done) ∷ (e, Done) ∷ map as_made walk) swaps;
       }
 
--- The calls of a slot as one value, with the reclaimer that ends each value.
+-- The calls of a slot as one value, with the reclaimer of a collector.
 
 module _ {T : Type 0} (words : Words T) (slot : Slot T) (pass : Pass) (slot' : Slot T) (pass' : Pass) (of : IsOfWords words slot') (for : IsPassFor words pass) where
   -- what the pass has seen is a legal list then, since it is what the slot has seen

@@ -1,4 +1,4 @@
--- What the reclaimer that ends each value had.
+-- What went to the reclaimer of a collector.
 --     Ended            of each value that ended the word that was kept of it, and its code, the oldest first;  ended_coded   its code
 --     had_of ended     as calls say it: it put nothing with any of them
 use Rattle.std.specs.Prelude.{ℕ, map, List, []}
