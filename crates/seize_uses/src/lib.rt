@@ -3,6 +3,7 @@
 #![tactic(auto)]
 
 pub mod alone;
+pub mod cache;
 pub mod list;
 pub mod machine;
 pub mod reclaimers;

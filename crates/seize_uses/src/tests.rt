@@ -4,6 +4,7 @@ ghost use Rattle.seize.specs.Collectors.{IsPassOf, its_links};
 ghost use Rattle.seize.specs.Registrations.{registered_in};
 
 use crate::alone::{Number, read_and_retire};
+use crate::cache::{self, Entry};
 use crate::list::{Node, PutNext, in_front};
 use crate::machine::with_active_slot;
 use crate::reclaimers::{Counting, Counts, put, remove};
@@ -180,5 +181,39 @@ fn each_number_is_counted_by_its_kind(rt: HostRuntime) -> Result<(), Fail> {
     let counted = count_a_refresh(&registration, &counts, &rt, &mut pass);
     registration.end(&rt, &mut pass);
     assert_eq!(rt; counted?, ((0, 0), (1, 1)));
+    Ok(())
+}
+
+// What is found under the keys 1, 3 and 2 when values were put under 1 and 3, which share one of two places.
+fn found_in_a_cache(
+    registration: &Registration<'_, Entry>,
+    rt: &impl Wait,
+    pass: &mut Pass,
+) -> Result<(Option<u64>, Option<u64>, Option<u64>), Refusal>
+    requires { IsPassOf (registered_in registration.now) pass.old × (0 < its_links (registered_in registration.now)) }
+    ensures { IsPassOf (registered_in registration.now) pass.new }
+{
+    let guard = registration.enter(pass)?;
+    let one = cache::put(&guard, Entry { key: 1, value: 10 }, rt, pass);
+    let three = cache::put(&guard, Entry { key: 3, value: 30 }, rt, pass);
+    let found = (
+        cache::get(&guard, 1, pass),
+        cache::get(&guard, 3, pass),
+        cache::get(&guard, 2, pass),
+    );
+    guard.leave(rt, pass);
+    one.and(three)?;
+    Ok(found)
+}
+
+#[test]
+fn a_cache_has_the_last_entry_of_a_place(rt: HostRuntime) -> Result<(), Fail> {
+    let mut ids = seize::IdSource::new();
+    let collector: seize::Collector<Entry> = seize::Collector::new(rt.alloc(), &mut ids, 1, 2)?;
+    let mut pass = collector.pass();
+    let registration = collector.register(&rt, &mut pass)?;
+    let found = found_in_a_cache(&registration, &rt, &mut pass);
+    registration.end(&rt, &mut pass);
+    assert_eq!(rt; found?, (None, Some(30), None));
     Ok(())
 }
