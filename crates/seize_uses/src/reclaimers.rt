@@ -1,12 +1,13 @@
 //! A reclaimer of one's own, which counts what ends, and a caller who says of which kind a value is.
-ghost use Rattle.std.specs.Prelude.{◌≡◌, ◌<◌, ℕ, true};
+ghost use Rattle.std.specs.Prelude.{◌≡◌, ◌<◌, ℕ, IfOk, true};
 ghost use Rattle.seize.specs.Collectors.{IsBlockOf, IsPassOf, its_links};
 ghost use Rattle.seize.specs.Guards.{guard_collector};
 ghost use Rattle.seize.specs.Laws.{moments_seen};
 ghost use Rattle.seize.specs.Machine.History.{Retired};
 ghost use Rattle.seize.specs.Makes.{IsOfKind};
 
-use seize::{LocalGuard, Owned, Pass, Reclaim};
+use seize::{Collector, IdSource, LocalGuard, Owned, Pass, Reclaim, Refusal};
+use std::alloc::Global;
 use std::sync::Wait;
 use std::sync::atomic::{AtomicU64, Ordering};
 
@@ -47,6 +48,18 @@ impl Reclaim<u64> for Counting<'_> {
         };
         count.fetch_add(1, Ordering::SeqCst);
     }
+}
+
+/// A collector with one link, whose numbers are counted as they end. It may be refused as `Collector::new` is.
+pub fn collector<'a>(
+    alloc: Global,
+    ids: &mut IdSource,
+    processors: usize,
+    counts: &'a Counts,
+) -> Result<Collector<u64, Counting<'a>>, Refusal>
+    ensures { IfOk result (λ made. its_links made ≡ 1) }
+{
+    Collector::with_reclaimer(alloc, ids, processors, 1, Counting { counts })
 }
 
 /// Puts a block into link 0, and retires the number that was there, if there was one: it is of kind 0.

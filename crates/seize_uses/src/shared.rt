@@ -40,10 +40,7 @@ pub fn replace<W: Wait>(
     requires link { 0 < its_links (registered_in registration.now) }
     ensures pass { IsPassOf (registered_in registration.now) pass.new }
 {
-    let block = registration
-        .collector()
-        .owned(value)
-        .map_err(|(refusal, _)| refusal)?;
+    let block = registration.owned(value).map_err(|(refusal, _)| refusal)?;
     let guard = registration.enter(pass)?;
     if let Some(old) = guard.swap(0, Some(block), pass) {
         guard.defer_retire(rt, pass, old);

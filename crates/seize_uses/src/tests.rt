@@ -1,5 +1,5 @@
 //! Each caller once, where memory is there.
-ghost use Rattle.std.specs.Prelude.{◌≡◌, ◌<◌, IfOk};
+ghost use Rattle.std.specs.Prelude.{◌<◌};
 ghost use Rattle.seize.specs.Collectors.{IsPassOf, its_links};
 ghost use Rattle.seize.specs.Registrations.{registered_in};
 
@@ -7,7 +7,7 @@ use crate::alone::{Number, read_and_retire};
 use crate::cache::{self, Entry};
 use crate::list::{Node, PutNext, in_front};
 use crate::machine::with_active_slot;
-use crate::reclaimers::{Counting, Counts, put, remove};
+use crate::reclaimers::{Counting, Counts, collector, put, remove};
 use crate::reclaiming::{reclaim, retire};
 use crate::replacing::{add, exchange};
 use crate::shared::{audit, read, replace};
@@ -17,7 +17,6 @@ use seize::thread_id::{Numbers, Thread};
 use seize::tls::ThreadLocal;
 use seize::{Pass, Refusal, Registration};
 use seize_plain::{Collector, IdSource, Watch};
-use std::alloc::Global;
 use std::sync::Wait;
 use std::sync::atomic::AtomicU64;
 use std::test::Fail;
@@ -127,21 +126,6 @@ fn numbers_are_reclaimed_by_who_has_the_collector_alone(rt: HostRuntime) -> Resu
     Ok(())
 }
 
-type CountingCollector<'a> = seize::Collector<u64, Counting<'a>>;
-
-// A collector with one link, whose values are counted.
-fn counting<'a>(alloc: Global, counts: &'a Counts) -> Result<CountingCollector<'a>, Refusal>
-    ensures { IfOk result (λ made. 0 < its_links made) }
-{
-    seize::Collector::with_reclaimer(
-        alloc,
-        &mut seize::IdSource::new(),
-        1,
-        1,
-        Counting { counts },
-    )
-}
-
 // Two numbers are put into the link, and the second one is removed; then the guard's batch is attempted. What was counted before the guard
 // refreshes, and afterwards.
 fn count_a_refresh<'a>(
@@ -175,7 +159,8 @@ fn each_number_is_counted_by_its_kind(rt: HostRuntime) -> Result<(), Fail> {
         replaced: AtomicU64::new(0),
         removed: AtomicU64::new(0),
     };
-    let collector = counting(rt.alloc(), &counts)?;
+    let mut ids = seize::IdSource::new();
+    let collector = collector(rt.alloc(), &mut ids, 1, &counts)?;
     let mut pass = collector.pass();
     let registration = collector.register(&rt, &mut pass)?;
     let counted = count_a_refresh(&registration, &counts, &rt, &mut pass);
