@@ -28,7 +28,8 @@ fn place(guard: &LocalGuard<'_, '_, Entry>, key: u64) -> usize
     key as usize % guard.collector().links()
 }
 
-/// The value under this key, if its place holds one. Then the list says that this guard's slot found it: an entry with the key and the value.
+/// The value under this key, if its place holds one. Then the list says that this guard's slot found it: an entry with the key and the
+/// value.
 pub fn get(guard: &LocalGuard<'_, '_, Entry>, key: u64, pass: &mut Pass) -> Option<u64>
     requires of { IsPassOf (guard_collector guard.now) pass.old × (0 < its_links (guard_collector guard.now)) }
     ensures pass { IsPassOf (guard_collector guard.now) pass.new }
