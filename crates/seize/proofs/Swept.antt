@@ -30,7 +30,7 @@ use Rattle.seize_words.specs.declared.activation.Activation.{Activation}
 use Rattle.seize_words.specs.declared.words.Words.{Words}
 use Rattle.seize.specs.Ends.{Ended, had_of}
 use Rattle.seize.specs.Makes.{AreStepsOf, IsStepOf, Makes, MakesCall, made_with}
-use Rattle.seize.specs.Sweeps.{IsLedBy, IsOff, KeepsOn, KeepsOthers, LeavesNothing}
+use Rattle.seize.specs.Sweeps.{IsLedBy, IsOff, KeepsOn, KeepsOthers, LeavesNothing, KeepsElse, LiesHere}
 use Rattle.seize.proofs.Made.{as_made, made_grew, one_added, step_added}
 use Rattle.seize.proofs.Wholly.{slot_flushes, slot_leaves}
 
@@ -283,3 +283,20 @@ module _ {T : Type 0} (slot : Slot T) (pass : Pass) (slot' : Slot T) (pass' : Pa
       go : Dec (t ≡ its_number slot) → LeavesNothing pass' t
       go (yes same) = subst (LeavesNothing pass') (sym same) (own_left (subst (LeavesNothing pass) same was))
       go (no differs) = kept_left (its_number slot) (its_number slot) t pass pass' refl (gives slot pass slot' pass' sole e) differs was
+
+-- The slots that do not lie here.
+
+pub else_none : (flags : List Bool) (pass : Pass) → KeepsElse flags pass pass
+else_none flags pass t not = (refl, λ was. was)
+
+pub else_then : (flags : List Bool) (a b c : Pass) → KeepsElse flags a b → KeepsElse flags b c → KeepsElse flags a c
+else_then flags a b c one two t not = let first = one t not in let second = two t not in (second.0 ∙ first.0, λ was. second.1 (first.1 was))
+
+-- what a slot that lies here does leaves them as they were
+pub else_led : (flags : List Bool) (s n : ℕ) (pass pass' : Pass) → s ≡ n → LiesHere flags n → IsLedBy s pass pass' → KeepsElse flags pass pass'
+else_led flags s n pass pass' same here led t not =
+    let apart : ¬ (t ≡ s) = λ e. not (subst (LiesHere flags) (sym (e ∙ same)) here) in (led.leads.slots t apart, λ was. led.leads.active t apart ∙ was)
+
+-- in the places as they were before
+pub else_more : (flags flags' : List Bool) (a b c : Pass) → flags' ≡ flags → KeepsElse flags a b → KeepsElse flags' b c → KeepsElse flags' a c
+else_more flags flags' a b c same one two = else_then flags' a b c (subst (λ (us : List Bool). KeepsElse us a b) (sym same) one) two

@@ -1,5 +1,5 @@
 -- Which numbers are in use while the slots that nobody has take theirs again, from the first on, and give them back, from the last on.
-use Rattle.std.proofs.Common.{◌≡◌, ℕ, zero, suc, ◌+◌, ◌<◌, ◌≤◌, ◌⊎◌, inl, inr, ⊎_elim, Bool, true, false, List, [], ◌∷◌, length, map, Option, Some, None, is_some, get_or, slice_set, refl, sym, ap, subst, ◌∙◌, arith}
+use Rattle.std.proofs.Common.{◌≡◌, ℕ, zero, suc, ◌+◌, ◌<◌, ◌⊎◌, inl, inr, ⊎_elim, Bool, true, false, List, [], ◌∷◌, length, map, Option, Some, None, is_some, get_or, slice_set, refl, sym, ap, subst, ◌∙◌, arith}
 use Rattle.std.specs.List.{list_all}
 use Rattle.std.specs.Option.{is_none}
 use Rattle.std.specs.Prelude.{slice_index_or}
@@ -80,6 +80,12 @@ module _ {X : Type 0} where
   none_flag [] (suc n) o is = refl
   none_flag (x ∷ slots) zero o is = ap is_none is
   none_flag (x ∷ slots) (suc n) o is = none_flag slots n o is
+
+  -- where one was laid, it lies
+  pub some_flag : (slots : List (Option X)) (n : ℕ) (a o : Option X) → is_none o ≡ false → n < length slots → LiesHere (flags_of (slice_set (slice_set slots n a) n o)) n
+  some_flag [] n a o is below = absurd (omega (arith, below))
+  some_flag (x ∷ slots) zero a o is below = is
+  some_flag (x ∷ slots) (suc n) a o is below = some_flag slots n a o is (omega (arith, below))
 
   -- what lies in which place is as it was
   pub places_set : (slots : List (Option X)) (n : ℕ) (o : Option X) → is_none o ≡ is_none (get_or slots n None) → n < length slots → flags_of (slice_set slots n o) ≡ flags_of slots

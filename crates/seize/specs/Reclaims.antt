@@ -10,11 +10,14 @@
 --     ReclaimsAll c c' all     the same collector has seen a longer list. At the call the list was this: the collector had added nothing to
 --                              what it had seen, and all that comes after was made with its own pass. Links, and which numbers are in use,
 --                              are as they were then. It says `all` just where no number is in use; then no slot has a call, is active or
---                              has a batch (IsCleared), and each value that was ever retired is reclaimed
-use Rattle.std.specs.Prelude.{◌≡◌, ◌↔◌, ℕ, Bool, true, false, List, ◌++◌}
+--                              has a batch (IsCleared), and each value that was ever retired is reclaimed. Where no slot had a call or was
+--                              active at the call, each value that was ever retired is reclaimed, or stands in the batch of a slot whose
+--                              number is in use (StandsInUse), whatever it says
+use Rattle.std.specs.Prelude.{◌≡◌, ◌⊎◌, ◌↔◌, ℕ, Bool, true, false, List, ◌++◌}
 use mathlib.Core.List.{IsPrefix}
 use Rattle.seize_machine.specs.Machine.Frames.{used}
 use Rattle.seize_machine.specs.Machine.History.{Moment, Reclaimed, Retired}
+use Rattle.seize_machine.specs.Machine.Laws.{is_quiet}
 use Rattle.seize_machine.specs.Machine.State.{State, link_at, slot_at}
 use Rattle.seize_book.specs.Book.{after, mine, moments}
 use Rattle.seize_book.specs.Entry.{Entry}
@@ -23,7 +26,7 @@ use Rattle.seize_book.specs.Tokens.{start}
 use Rattle.seize_book.specs.declared.book.seen.Seen.{Seen}
 use Rattle.seize_calls.specs.Alone.{AllBy}
 use Rattle.seize.specs.Collectors.{its_book, its_id, its_size, seen_by}
-use Rattle.seize.specs.Sweeps.{IsCleared}
+use Rattle.seize.specs.Sweeps.{IsCleared, StandsInUse}
 use Rattle.seize.specs.declared.collector.Collector.{Collector}
 
 abbrev pub moments_kept : Seen → List Moment
@@ -66,3 +69,5 @@ module _ {T R : Type 0} where
     pub none_in_use : (all ≡ true) ↔ NoneInUse c'
     pub cleared : all ≡ true → (s : ℕ) → IsCleared (its_state c') s
     pub reclaimed : all ≡ true → AllReclaimed c'
+    pub rests : is_quiet (after (start (its_book c)) at_call) ≡ true → (v q : ℕ) → Retired (moments_of c') v q
+        → ((k : ℕ) × Reclaimed (moments_of c') v k) ⊎ StandsInUse (its_state c') v

@@ -9,12 +9,17 @@
 --     AreOffBelow n flags pass, AreClearedBelow n flags pass     each slot below n that lies here is not active, or leaves nothing
 --     KeepsOff pass pass'      each slot that is not active stays so;  KeepsCleared pass pass'     and so each that leaves nothing does;
 --                              KeepsClearedBut n pass pass'     each but slot n
+--     KeepsElse flags pass pass'   the record of each slot that does not lie here is as it was, and none of these is active that was not
+--     StandsInUse st v         v stands in the batch of a slot whose number is in use
 --     Sweeps pass pass' all    it is the same pass. The list goes on with entries of this pass alone, where that is alone. The links, and
 --                              which numbers are in use, are as they were. It says `all` just where no number is in use; then each slot
 --                              leaves nothing, and each value that was ever retired is reclaimed
-use Rattle.std.specs.Prelude.{◌≡◌, ◌↔◌, ◌<◌, ◌≤◌, ℕ, Bool, true, false, List, [], ◌∷◌, get_or, is_some}
+--                              If no slot had a call or was active, each retired value is reclaimed, or stands in use (`rests`)
+use Rattle.std.specs.Prelude.{◌≡◌, ◌⊎◌, ◌↔◌, ◌<◌, ℕ, Bool, true, false, List, [], get_or, is_some}
 use Rattle.seize_machine.specs.Machine.Frames.{used}
+use Rattle.std.specs.List.{Contains}
 use Rattle.seize_machine.specs.Machine.History.{Reclaimed, Retired}
+use Rattle.seize_machine.specs.Machine.Laws.{is_quiet}
 use Rattle.seize_machine.specs.Machine.State.{State, head_at, is_active, link_at, slot_at}
 use Rattle.seize_book.specs.Homesteads.{state_seen}
 use Rattle.seize_book.specs.Passes.{IsSamePass}
@@ -84,6 +89,13 @@ KeepsCleared pass pass' = (s : ℕ) → LeavesNothing pass s → LeavesNothing p
 abbrev pub KeepsClearedBut : ℕ → Pass → Pass → Type 0
 KeepsClearedBut n pass pass' = (s : ℕ) → ¬ (s ≡ n) → LeavesNothing pass s → LeavesNothing pass' s
 
+abbrev pub KeepsElse : List Bool → Pass → Pass → Type 0
+KeepsElse flags pass pass' =
+    (t : ℕ) → ¬ (LiesHere flags t) → (slot_at (state_seen pass') t ≡ slot_at (state_seen pass) t) × (IsOff pass t → IsOff pass' t)
+
+abbrev pub StandsInUse : State → ℕ → Type 0
+StandsInUse st v = (s : ℕ) × ((slot_at st s).used ≡ true) × Contains (slot_at st s).batch v
+
 pub record Sweeps (pass pass' : Pass) (all : Bool) : Type 0 where
   pub same : IsSamePass pass pass'
   pub goes_on : GoesOnTo pass.name pass.seen pass'.seen
@@ -93,3 +105,5 @@ pub record Sweeps (pass pass' : Pass) (all : Bool) : Type 0 where
   pub none_in_use : (all ≡ true) ↔ ((s : ℕ) → (slot_at (state_seen pass') s).used ≡ false)
   pub cleared : all ≡ true → (s : ℕ) → LeavesNothing pass' s
   pub reclaimed : all ≡ true → (v q : ℕ) → Retired (moments_seen pass') v q → (k : ℕ) × Reclaimed (moments_seen pass') v k
+  pub rests : is_quiet (state_seen pass) ≡ true → (v q : ℕ) → Retired (moments_seen pass') v q
+      → ((k : ℕ) × Reclaimed (moments_seen pass') v k) ⊎ StandsInUse (state_seen pass') v

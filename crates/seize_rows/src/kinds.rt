@@ -34,7 +34,11 @@ impl Reclaim<u64> for Sums<'_> {
 type Summing<'a> = Collector<u64, Sums<'a>>;
 
 // A collector with one link, whose batches have this many values.
-fn collector<'a>(alloc: Global, size: usize, sums: &'a [AtomicU64]) -> Result<Summing<'a>, Refusal>
+fn collector<'a>(
+    alloc: Global,
+    size: usize,
+    sums: &'a [AtomicU64; 3],
+) -> Result<Summing<'a>, Refusal>
     ensures { IfOk result (λ made. its_links made ≡ 1) }
 {
     let collector = Collector::with_reclaimer(alloc, &mut IdSource::new(), 1, 1, Sums { sums })?;
@@ -60,10 +64,7 @@ fn retire<'a>(
     ensures { IsPassOf (registered_in registration.now) pass.new }
 {
     let collector = registration.collector();
-    let owned = match collector.owned(value) {
-        Ok(owned) => owned,
-        Err((refusal, _)) => return Err(refusal),
-    };
+    let owned = collector.owned(value).map_err(|(refusal, _)| refusal)?;
     registration.retire_as(rt, pass, Unlinked::from_owned(owned, collector), kind);
     Ok(())
 }

@@ -6,7 +6,7 @@ ghost use Rattle.seize_book.specs.Tokens.{IsSole};
 ghost use Rattle.seize_words.specs.Joined.{words_book};
 ghost use Rattle.seize_calls.specs.Slots.{IsInactive, IsPassFor, IsSlotOf, its_number};
 ghost use Rattle.seize.specs.Numbers.{AreNumbers, AreTakenTo, IsLockFor, flags_of};
-ghost use Rattle.seize.specs.Sweeps.{AreOff, AreOffBelow, LiesHere, IsLedBy, IsOff, KeepsCleared, KeepsClearedBut, KeepsOff, KeepsOn, KeepsPlaces, AreClearedBelow, LeavesNothing, Sweeps};
+ghost use Rattle.seize.specs.Sweeps.{AreOff, AreOffBelow, LiesHere, IsLedBy, IsOff, KeepsCleared, KeepsClearedBut, KeepsElse, KeepsOff, KeepsOn, KeepsPlaces, AreClearedBelow, LeavesNothing, Sweeps};
 
 use crate::ends::Forwards;
 use crate::numbers::Numbers;
@@ -83,6 +83,7 @@ impl<T: Drop> Numbers<T> {
         requires pass { IsPassFor words.now pass.old × IsSole pass.old.id }
         ensures taken { AreTakenTo (length self.new.slots.items) self.new × KeepsPlaces self.old self.new }
         ensures off { KeepsOn pass.old pass.new × AreOffBelow (length self.new.slots.items) (flags_of self.new.slots.items) pass.new }
+        ensures others { KeepsElse (flags_of self.new.slots.items) pass.old pass.new }
     {
         for n in 0..self.slots.len() {
             self.take_at(words, n, pass);
@@ -96,6 +97,7 @@ impl<T: Drop> Numbers<T> {
         ensures taken { AreTakenTo (n + 1) self.new × KeepsPlaces self.old self.new }
         ensures off { KeepsOn pass.old pass.new × KeepsOff pass.old pass.new
             × (LiesHere (flags_of self.new.slots.items) n → IsOff pass.new n) }
+        ensures others { KeepsElse (flags_of self.new.slots.items) pass.old pass.new }
     {
         if let Some(slot) = self.slots[n].take() {
             let mut slot = slot;
@@ -112,6 +114,7 @@ impl<T: Drop> Numbers<T> {
         ensures taken { AreTakenTo (length self.new.slots.items) self.new × KeepsPlaces self.old self.new }
         ensures left { KeepsOn pass.old pass.new
             × (AreOff pass.old → AreClearedBelow (length self.new.slots.items) (flags_of self.new.slots.items) pass.new) }
+        ensures others { KeepsElse (flags_of self.new.slots.items) pass.old pass.new }
     {
         for n in 0..self.slots.len() {
             self.sweep_at(words, reclaimer, n, pass);
@@ -126,6 +129,7 @@ impl<T: Drop> Numbers<T> {
         ensures taken { AreTakenTo (length self.new.slots.items) self.new × KeepsPlaces self.old self.new }
         ensures kept { KeepsOn pass.old pass.new × KeepsClearedBut n pass.old pass.new }
         ensures left { AreOff pass.old → AreOff pass.new × (LiesHere (flags_of self.new.slots.items) n → LeavesNothing pass.new n) }
+        ensures others { KeepsElse (flags_of self.new.slots.items) pass.old pass.new }
     {
         if let Some(slot) = self.slots[n].take() {
             let mut slot = slot;
@@ -140,6 +144,7 @@ impl<T: Drop> Numbers<T> {
         requires pass { IsPassFor words.now pass.old × IsSole pass.old.id }
         ensures numbers { AreTakenTo 0 self.new × KeepsPlaces self.old self.new }
         ensures left { KeepsOn pass.old pass.new × KeepsCleared pass.old pass.new }
+        ensures others { KeepsElse (flags_of self.new.slots.items) pass.old pass.new }
     {
         let many = self.slots.len();
         for given in 0..many {
@@ -153,6 +158,7 @@ impl<T: Drop> Numbers<T> {
         requires pass { IsPassFor words.now pass.old × IsSole pass.old.id }
         ensures taken { AreTakenTo n self.new × KeepsPlaces self.old self.new }
         ensures left { KeepsOn pass.old pass.new × KeepsCleared pass.old pass.new }
+        ensures others { KeepsElse (flags_of self.new.slots.items) pass.old pass.new }
     {
         if let Some(slot) = self.slots[n].take() {
             let mut slot = slot;

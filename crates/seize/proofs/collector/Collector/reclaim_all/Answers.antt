@@ -1,4 +1,4 @@
-use Rattle.std.proofs.Common.{◌≡◌, ◌↔◌, ℕ, true, false, List, refl, sym, ap, subst, ◌∙◌}
+use Rattle.std.proofs.Common.{◌≡◌, ◌↔◌, ◌⊎◌, ℕ, true, false, List, refl, sym, ap, subst, ◌∙◌}
 use Rattle.seize_machine.specs.Machine.History.{Reclaimed, Retired}
 use Rattle.seize_machine.specs.Machine.State.{link_at, slot_at}
 use Rattle.seize_book.specs.Book.{after, mine, moments}
@@ -7,7 +7,8 @@ use Rattle.seize_book.specs.Porters.{GoesOnTo}
 use Rattle.seize_book.specs.Tokens.{Name, start}
 use Rattle.seize_machine.specs.Machine.Frames.{used}
 use Rattle.seize_calls.specs.Alone.{AllBy}
-use Rattle.seize.specs.Sweeps.{IsCleared}
+use Rattle.seize_machine.specs.Machine.Laws.{is_quiet}
+use Rattle.seize.specs.Sweeps.{IsCleared, StandsInUse}
 use Rattle.seize.specs.Collectors.{its_book}
 use Rattle.seize.proofs.collector.Collector.reclaim_all.Goals as goal
 
@@ -35,4 +36,6 @@ returns g c =
       none_in_use = subst (λ (t : Name × List Entry). (c.stay-all.result ≡ true) ↔ ((s : ℕ) → (slot_at (after (start t.0) t.1) s).used ≡ false)) (λ j. (back_name j, back_seen j)) sweeps.none_in_use;
       cleared = λ so. subst (λ (t : Name × List Entry). (s : ℕ) → IsCleared (after (start t.0) t.1) s) (λ j. (back_name j, back_seen j)) (sweeps.cleared so);
       reclaimed = λ so. subst (λ (t : Name × List Entry). (v q : ℕ) → Retired (moments (start t.0) t.1) v q → (k : ℕ) × Reclaimed (moments (start t.0) t.1) v k) (λ j. (back_name j, back_seen j)) (sweeps.reclaimed so);
+      rests = λ quiet. subst (λ (t : Name × List Entry). (v q : ℕ) → Retired (moments (start t.0) t.1) v q → ((k : ℕ) × Reclaimed (moments (start t.0) t.1) v k) ⊎ StandsInUse (after (start t.0) t.1) v)
+          (λ j. (back_name j, back_seen j)) (sweeps.rests (ap (λ (n : Name). is_quiet (after (start n) lent.seen)) lent_name ∙ quiet));
     }

@@ -1,13 +1,14 @@
 use Rattle.std.proofs.Common.{◌-◌, ◌+◌, ◌<◌, length, refl, ap, ◌∙◌, arith}
 use Rattle.seize.proofs.Placed.{still_for}
-use Rattle.seize.proofs.Swept.{keeps_none, keeps_then, still_sole}
+use Rattle.seize.proofs.Swept.{keeps_none, keeps_then, still_sole, else_more, else_none}
 use Rattle.seize.proofs.Taken.{places_length, taken_as}
+use Rattle.seize.specs.Numbers.{flags_of}
 use Rattle.seize.proofs.numbers.Numbers.give_all.Goals as goal
 
 pub loop-given-init : goal.loop-given-init
 loop-given-init g c =
     let self = c.args.self.now in let many = c.len-many.ensures in
-    (taken_as self (c.len-many.result - 0) (length self.slots.items) (omega (arith, many)) c.requires.taken.0, (refl, refl), omega (arith, many), c.requires.pass.0, c.requires.pass.1, keeps_none c.args.pass.now, λ t was. was)
+    (taken_as self (c.len-many.result - 0) (length self.slots.items) (omega (arith, many)) c.requires.taken.0, (refl, refl), omega (arith, many), c.requires.pass.0, c.requires.pass.1, keeps_none c.args.pass.now, (λ t was. was), else_none _ c.args.pass.now)
 
 pub give_at-requires : goal.give_at-requires
 give_at-requires g c =
@@ -30,6 +31,7 @@ loop-given-preserved g c =
       still_sole was now one.left.0.0 i.4,
       keeps_then c.args.pass.now was now i.5 one.left.0,
       λ t left. one.left.1 t (i.6 t left),
+      else_more (flags_of c.loop-given.self.slots.items) (flags_of self'.slots.items) c.args.pass.now was now one.taken.1.1 i.7 one.others,
     )
 
 pub returns-clause-numbers : goal.returns-clause-numbers

@@ -4,8 +4,8 @@ use Rattle.std.specs.Prelude.{slice_set}
 use Rattle.seize_book.specs.Others.{use_flags}
 use Rattle.seize_calls.specs.Slots.{IsOfList, its_number}
 use Rattle.seize.specs.Numbers.{IsTakenAt, flags_to}
-use Rattle.seize.proofs.Swept.{given_left, gives, keeps_none, keeps_on}
-use Rattle.seize.proofs.Taken.{given_none, given_one, made_sets, none_there, other_given, plus_one, set_twice, some_there}
+use Rattle.seize.proofs.Swept.{given_left, gives, keeps_none, keeps_on, else_led, else_none}
+use Rattle.seize.proofs.Taken.{given_none, given_one, made_sets, none_there, other_given, plus_one, set_twice, some_there, some_flag}
 use Rattle.seize.proofs.numbers.Numbers.give_at.Goals as goal
 
 pub give-requires : goal.give-requires
@@ -51,3 +51,13 @@ returns-in_default-clause-taken g c =
 
 pub returns-in_default-clause-left : goal.returns-in_default-clause-left
 returns-in_default-clause-left g c = (keeps_none c.args.pass.now, λ t was. was)
+
+pub returns-in_default-clause-others : goal.returns-in_default-clause-others
+returns-in_default-clause-others g c = else_none _ c.args.pass.now
+
+pub returns-in-Some-clause-others : goal.returns-in-Some-clause-others
+returns-in-Some-clause-others g c =
+    let self = c.args.self.now in let n = c.args.n in let items = self.slots.items in let numbers = c.requires.taken in let slot = c.in-Some.slot in let one = c.give in
+    let is = get_or_default items n None c.index_mut.result.now numbers.2 ∙ sym c.index_mut.ensures.value ∙ sym c.take.ensures.value ∙ c.in-Some.is in
+    else_led _ (its_number slot) n c.args.pass.now one.new.pass (numbers.0.slots n slot is).number (some_flag items n c.take.new.self (Some one.new.self) refl numbers.2)
+    (gives slot c.args.pass.now one.new.self one.new.pass c.requires.pass.1 one.ensures.gives)

@@ -1,18 +1,18 @@
 use Rattle.std.specs.Option.{is_none}
 use Rattle.std.proofs.lemmas.List.{length-map}
-use Rattle.std.proofs.Common.{◌≡◌, ℕ, Bool, List, true, length, refl, sym, ap, subst, ◌∙◌, arith}
+use Rattle.std.proofs.Common.{◌≡◌, ℕ, Bool, List, true, length, refl, sym, ap, subst, ◌∙◌, arith, false, is_some, inl, inr, ⊎_elim}
 use Rattle.seize_machine.specs.Machine.Frames.{used}
-use Rattle.seize_machine.specs.Machine.State.{are_distinct, linked_values}
+use Rattle.seize_machine.specs.Machine.State.{Slot as Record, are_distinct, linked_values, slot_at}
 use Rattle.seize_book.specs.Book.{IsLegalList, after}
 use Rattle.seize_book.specs.Homes.{IsSound}
 use Rattle.seize_book.specs.Homesteads.{state_seen}
 use Rattle.seize_book.specs.Loans.{AllCarryOne}
 use Rattle.seize_book.specs.Tokens.{Name, start}
 use Rattle.seize.specs.Numbers.{flags_of, flags_to}
-use Rattle.seize.specs.Sweeps.{AreOff, KeepsOn, LeavesNothing}
-use Rattle.seize.proofs.Cleared.{all_cleared, all_off, each_of, here_in, keeps_looked, looked_left, looked_off, looked_state, past_nothing}
+use Rattle.seize.specs.Sweeps.{AreOff, KeepsOn, LeavesNothing, IsOff, KeepsElse, LiesHere}
+use Rattle.seize.proofs.Cleared.{all_cleared, all_off, each_of, here_in, keeps_looked, looked_left, looked_off, looked_state, past_nothing, RestsAt, all_rest, below_or, else_looked, here_long, here_or, quiet_at, used_else}
 use Rattle.seize.proofs.Placed.{still_for}
-use Rattle.seize.proofs.Swept.{keeps_then, still_sole}
+use Rattle.seize.proofs.Swept.{keeps_then, still_sole, else_then}
 use Rattle.seize.proofs.Taken.{AreAllHere, all_here, all_unused, flags_length, here_all, taken_looked, unused_all}
 use Rattle.seize.proofs.numbers.Numbers.sweep.Goals as goal
 
@@ -72,6 +72,17 @@ returns-clause-sweeps g c =
     let long5 : length (used (state_seen p5)) ≡ many = ap (λ (us : List Bool). length us) (flags5 ∙ places3) ∙ long3 in
     each_of (LeavesNothing p5) many (λ t less. looked_left p4 p5 look2.looks.0 sole4 t (give.left.1 t (each.left.1 off2 t less (here_in (flags_of swept.slots.items) t here3 (omega (arith, less, long3))))))
     (λ t past. past_nothing p5 legal5 distinct5 t (omega (arith, past, long5))) in
+    let flags1 = flags_of taken.slots.items in let long1 : length flags1 ≡ length taken.slots.items = length-map taken.slots.items is_none in let flags3 = flags_of swept.slots.items in let long4 : length flags3 ≡ length swept.slots.items = length-map swept.slots.items is_none in
+    let others : KeepsElse flags3 p p5 =
+    else_then flags3 p p0 p5 (else_looked flags3 p p0 look0.looks.0 sole)
+    (else_then flags3 p0 p1 p5 (subst (λ (us : List Bool). KeepsElse us p0 p1) (sym places2) take.others)
+    (else_then flags3 p1 p2 p5 (else_looked flags3 p1 p2 look1.looks.0 sole1)
+    (else_then flags3 p2 p3 p5 each.others
+    (else_then flags3 p3 p4 p5 (subst (λ (us : List Bool). KeepsElse us p3 p4) places3 give.others) (else_looked flags3 p4 p5 look2.looks.0 sole4))))) in
+    let elsewhere : (t : ℕ) → ¬ (LiesHere flags3 t) → (is_some (slot_at (state_seen p) t).call ≡ false) × IsOff p t → RestsAt p5 legal5 distinct5 t = λ t not rest.
+    let kept = others t not in
+    ⊎_elim (λ less. inr (ap (λ (z : Record). is_some z.call) kept.0 ∙ rest.0, kept.1 rest.1, used_else p5 legal5 distinct5 flags3 t (flags5 ∙ places3) less not))
+    (λ past. inl (past_nothing p5 legal5 distinct5 t (let long = ap (λ (us : List Bool). length us) (flags5 ∙ places3) in omega (arith, past, long)))) (below_or t (length flags3)) in
     record {
       same = keeps.0;
       goes_on = record {
@@ -90,4 +101,11 @@ returns-clause-sweeps g c =
       );
       cleared = cleared;
       reclaimed = λ so. all_cleared p5 legal5 distinct5 (cleared so);
+      rests = λ quiet.
+          let off0 : AreOff p0 = λ t. looked_off p p0 look0.looks.0 sole t (quiet_at (state_seen p) quiet t).1 in
+          let off1 : AreOff p1 = λ t. ⊎_elim (λ here. take.off.1 t (let less = here_long flags1 t here in let long = long1 in omega (arith, less, long)) here) (λ not. (take.others t not).1 (off0 t)) (here_or flags1 t) in
+          let off2 : AreOff p2 = λ t. looked_off p1 p2 look1.looks.0 sole1 t (off1 t) in
+          all_rest p5 legal5 distinct5 (λ t. ⊎_elim
+          (λ here. inl (looked_left p4 p5 look2.looks.0 sole4 t (give.left.1 t (each.left.1 off2 t (let less = here_long flags3 t here in let long = long4 in omega (arith, less, long)) here))))
+          (λ not. elsewhere t not (quiet_at (state_seen p) quiet t)) (here_or flags3 t));
     }

@@ -4,7 +4,7 @@ use Rattle.seize_book.specs.declared.book.pass.Pass.{Pass}
 use Rattle.seize.specs.Numbers.{flags_of}
 use Rattle.seize.specs.Sweeps.{LiesHere, KeepsClearedBut, AreClearedBelow, LeavesNothing}
 use Rattle.seize.proofs.Placed.{still_for}
-use Rattle.seize.proofs.Swept.{keeps_then, still_sole}
+use Rattle.seize.proofs.Swept.{keeps_then, still_sole, else_more}
 use Rattle.seize.proofs.Taken.{places_length}
 use Rattle.seize.proofs.numbers.Numbers.sweep_all.Goals as goal
 
@@ -26,4 +26,5 @@ loop-n-preserved g c =
       still_sole was now one.kept.0.0 i.4,
       keeps_then c.args.pass.now was now i.5 one.kept.0,
       λ off. let so = i.6 off in let left = one.left so.0 in (left.0, more_swept c.loop-n.n (flags_of self.slots.items) (flags_of self'.slots.items) was now one.taken.1.1 one.kept.1 so.1 left.1),
+      else_more (flags_of self.slots.items) (flags_of self'.slots.items) c.args.pass.now was now one.taken.1.1 i.7 one.others,
     )

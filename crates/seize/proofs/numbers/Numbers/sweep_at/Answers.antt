@@ -4,8 +4,8 @@ use Rattle.std.specs.Prelude.{slice_set}
 use Rattle.seize_calls.specs.Slots.{IsOfList, its_number}
 use Rattle.seize.specs.Numbers.{IsTakenAt}
 use Rattle.seize.specs.Sweeps.{LeavesNothing}
-use Rattle.seize.proofs.Swept.{keeps_none, keeps_on, kept_left, kept_off}
-use Rattle.seize.proofs.Taken.{none_here, none_there, set_twice, some_there, taken_as, taken_same}
+use Rattle.seize.proofs.Swept.{keeps_none, keeps_on, kept_left, kept_off, else_led, else_none}
+use Rattle.seize.proofs.Taken.{none_here, none_there, set_twice, some_there, taken_as, taken_same, some_flag}
 use Rattle.seize.proofs.numbers.Numbers.sweep_at.Goals as goal
 
 pub sweep-requires : goal.sweep-requires
@@ -58,3 +58,12 @@ returns-in_default-clause-kept g c = (keeps_none c.args.pass.now, λ t differs w
 
 pub returns-in_default-clause-left : goal.returns-in_default-clause-left
 returns-in_default-clause-left g c off = (off, λ here. none_here c.args.self.now.slots.items c.args.n c.take.new.self c.take.ensures.after here)
+
+pub returns-in_default-clause-others : goal.returns-in_default-clause-others
+returns-in_default-clause-others g c = else_none _ c.args.pass.now
+
+pub returns-in-Some-clause-others : goal.returns-in-Some-clause-others
+returns-in-Some-clause-others g c =
+    let self = c.args.self.now in let n = c.args.n in let items = self.slots.items in let numbers = c.requires.taken in let slot = c.in-Some.slot in
+    let is = get_or_default items n None c.index_mut.result.now numbers.2 ∙ sym c.index_mut.ensures.value ∙ sym c.take.ensures.value ∙ c.in-Some.is in
+    else_led _ (its_number slot) n c.args.pass.now c.sweep.new.pass (numbers.0.slots n slot is).number (some_flag items n c.take.new.self (Some c.sweep.new.slot) refl numbers.2) c.sweep.ensures.led

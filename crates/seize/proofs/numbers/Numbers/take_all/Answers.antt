@@ -4,7 +4,7 @@ use Rattle.seize_book.specs.declared.book.pass.Pass.{Pass}
 use Rattle.seize.specs.Numbers.{flags_of}
 use Rattle.seize.specs.Sweeps.{AreOffBelow, IsOff, KeepsOff, LiesHere}
 use Rattle.seize.proofs.Placed.{still_for}
-use Rattle.seize.proofs.Swept.{keeps_then, still_sole}
+use Rattle.seize.proofs.Swept.{keeps_then, still_sole, else_more}
 use Rattle.seize.proofs.Taken.{places_length, taken_as}
 use Rattle.seize.proofs.numbers.Numbers.take_all.Goals as goal
 
@@ -26,6 +26,7 @@ loop-n-preserved g c =
       still_sole was now one.off.0.0 i.4,
       keeps_then c.args.pass.now was now i.5 one.off.0,
       more_off c.loop-n.n (flags_of self.slots.items) (flags_of self'.slots.items) was now one.taken.1.1 one.off.1 i.6 one.off.2,
+      else_more (flags_of self.slots.items) (flags_of self'.slots.items) c.args.pass.now was now one.taken.1.1 i.7 one.others,
     )
 
 pub returns-clause-taken : goal.returns-clause-taken

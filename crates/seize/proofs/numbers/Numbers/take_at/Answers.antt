@@ -9,8 +9,8 @@ use Rattle.seize.specs.Numbers.{IsTakenAt, flags_to}
 use Rattle.seize.specs.Sweeps.{IsLedBy, IsOff}
 use Rattle.seize.proofs.Numbered.{not_used}
 use Rattle.seize.proofs.Placed.{still_for}
-use Rattle.seize.proofs.Swept.{keeps_none, keeps_on, kept_off, led_then, looks, still_sole, takes}
-use Rattle.seize.proofs.Taken.{made_sets, may_take_next, none_here, none_there, other_taken, plus_one, set_twice, some_there, taken_none, taken_one}
+use Rattle.seize.proofs.Swept.{keeps_none, keeps_on, kept_off, led_then, looks, still_sole, takes, else_led, else_none}
+use Rattle.seize.proofs.Taken.{made_sets, may_take_next, none_here, none_there, other_taken, plus_one, set_twice, some_there, taken_none, taken_one, some_flag}
 use Rattle.seize.proofs.numbers.Numbers.take_at.Goals as goal
 
 pub take_again-requires : goal.take_again-requires
@@ -67,3 +67,14 @@ returns-in_default-clause-taken g c =
 
 pub returns-in_default-clause-off : goal.returns-in_default-clause-off
 returns-in_default-clause-off g c = (keeps_none c.args.pass.now, (λ s was. was), λ here. none_here c.args.self.now.slots.items c.args.n c.take.new.self c.take.ensures.after here)
+
+pub returns-in_default-clause-others : goal.returns-in_default-clause-others
+returns-in_default-clause-others g c = else_none _ c.args.pass.now
+
+pub returns-in-Some-clause-others : goal.returns-in-Some-clause-others
+returns-in-Some-clause-others g c =
+    let self = c.args.self.now in let n = c.args.n in let items = self.slots.items in let numbers = c.requires.numbers in let slot = c.in-Some.slot in let one = c.take_again in let looked = c.look in
+    let is = get_or_default items n None c.index_mut.result.now numbers.2 ∙ sym c.index_mut.ensures.value ∙ sym c.take.ensures.value ∙ c.in-Some.is in
+    let p0 = c.args.pass.now in let p1 = one.new.pass in let p2 = looked.new.pass in let sole = c.requires.pass.1 in let led1 = takes slot p0 one.new.self p1 sole one.ensures.takes in
+    let led : IsLedBy (its_number slot) p0 p2 = led_then (its_number slot) p0 p1 p2 led1 (looks one.new.self p1 looked.new.self p2 (still_sole p0 p1 led1.same sole) (its_number slot) looked.ensures.looks) in
+    else_led _ (its_number slot) n p0 p2 (numbers.0.slots n slot is).number (some_flag items n c.take.new.self (Some looked.new.self) refl numbers.2) led
