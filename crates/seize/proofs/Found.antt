@@ -49,7 +49,7 @@ finds_found link a pass pass' v t w is =
 
 -- What a read found, and a won exchange that takes the link to hold it, are one, and the event compared with that.
 pub read_replaced : {T R : Type 0} (code : T → Gv) (a : Activation) (collector : Collector T R) (new : Option (Owned T)) (read : Pass) {held now : Option ℕ} {result : Option (Shared T)} {found : Shared T}
-    {outcome : Result (Option (Unlinked T R)) (Failed T)} {out : Option (Unlinked T R)} → Shows code held result → result ≡ Some found → FoundIn a held read
+    {outcome : Result (Option (Unlinked T)) (Failed T)} {out : Option (Unlinked T)} → Shows code held result → result ≡ Some found → FoundIn a held read
     → IsOutcome code collector new (comparand (shared_name found) now) now outcome → TookFound a (shared_name found) read now outcome → outcome ≡ Ok out
     → (comparand (shared_name found) now ≡ held) × (now ≡ held)
 read_replaced code a collector new read {held} {now} {result} {found} {outcome} {out} shows is there ends took won =

@@ -3,7 +3,7 @@
 --     HasContent code v value   what the list calls v is a block with this content
 --     shared_name shared        what the list calls the value that was found;  shared_value shared     the value
 --     shared_word shared        the word that a link shows for it: its block's number and one more
---     unlinked_name u           what the list calls the value that is in no link;  unlinked_collector u     its collector
+--     unlinked_name u           what the list calls the value that is in no link;  IsUnlinkedOf c u     it is one of this collector
 --     IsNamed code owned o      o is what the list calls the value of this block, or there is neither
 --     Shows code held shared    what was found is what the link held, a block with that value; or there is neither
 --     ComesOut held u           what came out is what the link held, or there is neither
@@ -36,11 +36,11 @@ shared_value shared = shared.value.now
 abbrev pub shared_word : {T : Type 0} → Shared T → ℕ
 shared_word shared = link_word (shared_name shared)
 
-abbrev pub unlinked_name : {T R : Type 0} → Unlinked T R → ℕ
+abbrev pub unlinked_name : {T : Type 0} → Unlinked T → ℕ
 unlinked_name unlinked = its_value unlinked.loose
 
-abbrev pub unlinked_collector : {T R : Type 0} → Unlinked T R → Collector T R
-unlinked_collector unlinked = unlinked.collector.now
+abbrev pub IsUnlinkedOf : {T R : Type 0} → Collector T R → Unlinked T → Type 0
+IsUnlinkedOf collector unlinked = unlinked.words.now ≡ collector.words
 
 abbrev pub IsNamed : {T : Type 0} → (T → Gv) → Option (Owned T) → Option ℕ → Type 0
 IsNamed code (Some owned) (Some v) = HasContent code v (content owned)
@@ -51,6 +51,6 @@ abbrev pub Shows : {T : Type 0} → (T → Gv) → Option ℕ → Option (Shared
 Shows code held (Some shared) = (shared_name shared ≡ held) × IsFoundAs held (code (shared_value shared))
 Shows code held None = held ≡ None
 
-abbrev pub ComesOut : {T R : Type 0} → Option ℕ → Option (Unlinked T R) → Type 0
+abbrev pub ComesOut : {T : Type 0} → Option ℕ → Option (Unlinked T) → Type 0
 ComesOut held (Some unlinked) = held ≡ Some (unlinked_name unlinked)
 ComesOut held None = held ≡ None

@@ -27,7 +27,7 @@ use Rattle.seize_words.specs.Chunks.{IsLiveAt}
 use Rattle.seize_words.specs.LinkWords.{WasFound}
 use Rattle.seize_words.specs.Links.{comparand}
 use Rattle.seize_words.specs.declared.activation.Activation.{Activation}
-use Rattle.seize.specs.Blocks.{ComesOut, IsNamed, Shows, content, shared_name, store_name, unlinked_collector}
+use Rattle.seize.specs.Blocks.{ComesOut, IsNamed, IsUnlinkedOf, Shows, content, shared_name, store_name}
 use Rattle.seize.specs.Laws.{moments_seen}
 use Rattle.seize.specs.Makes.{MakesOne}
 use Rattle.seize.specs.declared.block.failed.Failed.{Failed}
@@ -51,7 +51,7 @@ FoundIn a o pass = (v : ℕ) → o ≡ Some v → WasFound a v pass
 abbrev pub Protects : Activation → Pass → Type 0
 Protects a pass = (v k : ℕ) → FoundIn a (Some v) pass → ¬ (Reclaimed (moments_seen pass) v k)
 
-abbrev pub TookFound : {T R : Type 0} → Activation → Option ℕ → Pass → Option ℕ → Result (Option (Unlinked T R)) (Failed T) → Type 0
+abbrev pub TookFound : {T : Type 0} → Activation → Option ℕ → Pass → Option ℕ → Result (Option (Unlinked T)) (Failed T) → Type 0
 TookFound a current pass held (Ok out) = FoundIn a current pass → held ≡ current
 TookFound a current pass held (Err failed) = Unit {0}
 
@@ -62,14 +62,14 @@ StandsAlone a word pass later =
     × ((v w : ℕ) → IsLiveAt v (word - 1) later → IsLiveAt w (word - 1) later → v ≡ w)
 
 abbrev pub IsOutcome : {T R : Type 0} → (T → Gv) → Collector T R → Option (Owned T) → Option ℕ → Option ℕ
-    → Result (Option (Unlinked T R)) (Failed T) → Type 0
+    → Result (Option (Unlinked T)) (Failed T) → Type 0
 IsOutcome code collector new compare held (Ok out) =
-    (compare ≡ held) × ComesOut held out × IfSome out (λ unlinked. unlinked_collector unlinked ≡ collector)
+    (compare ≡ held) × ComesOut held out × IfSome out (IsUnlinkedOf collector)
 IsOutcome code collector new compare held (Err failed) =
     (compare ≢ held) × Shows code held failed.found × ComesBack new failed.new
 
 pub record MakesExchange {T R : Type 0} (code : T → Gv) (collector : Collector T R) (s : ℕ) (a : Activation) (link : ℕ) (current : Option ℕ)
-    (new : Option (Owned T)) (pass pass' : Pass) (result : Result (Option (Unlinked T R)) (Failed T)) : Type 0 where
+    (new : Option (Owned T)) (pass pass' : Pass) (result : Result (Option (Unlinked T)) (Failed T)) : Type 0 where
   pub put : Option ℕ
   pub held : Option ℕ
   pub named : IsNamed code new put

@@ -33,7 +33,7 @@ impl<'r, 'c, T: Drop, R: Reclaim<T>> LocalGuard<'r, 'c, T, R> {
     ghost use Rattle.seize_machine.specs.declared.machine.event.Answer.TheVariants.{Link};
     ghost use Rattle.seize_machine.specs.declared.machine.event.Exchange.TheVariants.{Swap};
     ghost use Rattle.seize_machine.specs.declared.machine.event.Job.TheVariants.{Flush, Leave, Refresh, Retire};
-    ghost use Rattle.seize.specs.Blocks.{ComesOut, IsNamed, Shows, content, unlinked_collector, unlinked_name};
+    ghost use Rattle.seize.specs.Blocks.{ComesOut, IsNamed, IsUnlinkedOf, Shows, content, unlinked_name};
     ghost use Rattle.seize.specs.Collectors.{IsBlockOf, IsPassOf, its_links};
     ghost use Rattle.seize_table.specs.declared.refusal.Refusal.TheVariants.{NoMemory as no_memory};
     ghost use Rattle.seize.specs.Exchanges.{FoundIn, MakesExchange, Protects, current_name};
@@ -113,10 +113,10 @@ impl<'r, 'c, T: Drop, R: Reclaim<T>> LocalGuard<'r, 'c, T, R> {
         link: usize,
         value: Option<Owned<T>>,
         pass: &mut Pass,
-    ) -> Option<Unlinked<'c, T, R>>
+    ) -> Option<Unlinked<'c, T>>
         requires of { IsPassOf (guard_collector self.now) pass.old × (link < its_links (guard_collector self.now)) }
         requires value { IfSome value (λ owned. IsBlockOf (guard_collector self.now) owned) }
-        ensures of { IfSome result (λ unlinked. unlinked_collector unlinked ≡ guard_collector self.now) }
+        ensures of { IfSome result (IsUnlinkedOf (guard_collector self.now)) }
         ensures made { (new : Option ℕ) × (held : Option ℕ) × IsNamed T.row.coded.code value new × ComesOut held result
             × MakesOne pass.old pass.new (ExchangeLink (guard_slot self.now) link (Swap new)) (Link held) }
     {
@@ -141,7 +141,7 @@ impl<'r, 'c, T: Drop, R: Reclaim<T>> LocalGuard<'r, 'c, T, R> {
         current: Option<&Shared<'_, T>>,
         new: Option<Owned<T>>,
         pass: &mut Pass,
-    ) -> Result<Option<Unlinked<'c, T, R>>, Failed<'_, T>>
+    ) -> Result<Option<Unlinked<'c, T>>, Failed<'_, T>>
         requires of { IsPassOf (guard_collector self.now) pass.old × (link < its_links (guard_collector self.now)) }
         requires value { IfSome new (λ owned. IsBlockOf (guard_collector self.now) owned) }
         ensures { MakesExchange T.row.coded.code (guard_collector self.now) (guard_slot self.now) (guard_activation self.now) link
@@ -157,7 +157,7 @@ impl<'r, 'c, T: Drop, R: Reclaim<T>> LocalGuard<'r, 'c, T, R> {
         current: Option<&Shared<'_, T>>,
         new: Option<Owned<T>>,
         pass: &mut Pass,
-    ) -> Result<Option<Unlinked<'c, T, R>>, Failed<'_, T>>
+    ) -> Result<Option<Unlinked<'c, T>>, Failed<'_, T>>
         requires of { IsPassOf (guard_collector self.now) pass.old × (link < its_links (guard_collector self.now)) }
         requires value { IfSome new (λ owned. IsBlockOf (guard_collector self.now) owned) }
         ensures { MakesExchange T.row.coded.code (guard_collector self.now) (guard_slot self.now) (guard_activation self.now) link
@@ -171,8 +171,8 @@ impl<'r, 'c, T: Drop, R: Reclaim<T>> LocalGuard<'r, 'c, T, R> {
     ///
     /// It takes no memory. An insertion is tried again as often as other threads change the head between a look at it and the try. Within
     /// another call of the same registration it waits for ever.
-    pub fn defer_retire<W: Wait>(&self, rt: &W, pass: &mut Pass, value: Unlinked<'_, T, R>)
-        requires of { IsPassOf (guard_collector self.now) pass.old × (unlinked_collector value ≡ guard_collector self.now) }
+    pub fn defer_retire<W: Wait>(&self, rt: &W, pass: &mut Pass, value: Unlinked<'_, T>)
+        requires of { IsPassOf (guard_collector self.now) pass.old × IsUnlinkedOf (guard_collector self.now) value }
         ensures call { MakesCall (guard_slot self.now) (Retire (unlinked_name value.entry)) pass.old pass.new }
         ensures kind { IsOfKind (unlinked_name value.entry) 0 pass.new }
     {
@@ -184,10 +184,10 @@ impl<'r, 'c, T: Drop, R: Reclaim<T>> LocalGuard<'r, 'c, T, R> {
         &self,
         rt: &W,
         pass: &mut Pass,
-        value: Unlinked<'_, T, R>,
+        value: Unlinked<'_, T>,
         kind: u64,
     )
-        requires of { IsPassOf (guard_collector self.now) pass.old × (unlinked_collector value ≡ guard_collector self.now) }
+        requires of { IsPassOf (guard_collector self.now) pass.old × IsUnlinkedOf (guard_collector self.now) value }
         ensures call { MakesCall (guard_slot self.now) (Retire (unlinked_name value.entry)) pass.old pass.new }
         ensures kind { IsOfKind (unlinked_name value.entry) kind pass.new }
     {

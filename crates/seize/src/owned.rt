@@ -42,7 +42,7 @@ impl<'c, T: Drop, R: Reclaim<T>> OwnedGuard<'c, T, R> {
     ghost use Rattle.seize_machine.specs.declared.machine.event.Job.TheVariants.{Flush, Refresh, Retire};
     ghost use Rattle.seize_table.specs.declared.refusal.Refusal.TheVariants.{NoMemory as no_memory};
     ghost use Rattle.seize_calls.specs.Slots.{IsInactive, its_number};
-    ghost use Rattle.seize.specs.Blocks.{ComesOut, IsNamed, Shows, content, unlinked_collector, unlinked_name};
+    ghost use Rattle.seize.specs.Blocks.{ComesOut, IsNamed, IsUnlinkedOf, Shows, content, unlinked_name};
     ghost use Rattle.seize.specs.Collectors.{IsBlockOf, IsPassOf, IsSlotFor, its_links};
     ghost use Rattle.seize.specs.Exchanges.{FoundIn, MakesExchange, Protects, current_name};
     ghost use Rattle.seize.specs.Makes.{IsOfKind, LeavesAndGives, MakesCall, MakesNone, MakesOne};
@@ -135,10 +135,10 @@ impl<'c, T: Drop, R: Reclaim<T>> OwnedGuard<'c, T, R> {
         link: usize,
         value: Option<Owned<T>>,
         pass: &mut Pass,
-    ) -> Option<Unlinked<'c, T, R>>
+    ) -> Option<Unlinked<'c, T>>
         requires of { IsPassOf (owned_collector self.now) pass.old × (link < its_links (owned_collector self.now)) }
         requires value { IfSome value (λ owned. IsBlockOf (owned_collector self.now) owned) }
-        ensures of { IfSome result (λ unlinked. unlinked_collector unlinked ≡ owned_collector self.now) }
+        ensures of { IfSome result (IsUnlinkedOf (owned_collector self.now)) }
         ensures made { (new : Option ℕ) × (held : Option ℕ) × IsNamed T.row.coded.code value new × ComesOut held result
             × MakesOne pass.old pass.new (ExchangeLink (owned_slot self.now) link (Swap new)) (Link held) }
     {
@@ -163,7 +163,7 @@ impl<'c, T: Drop, R: Reclaim<T>> OwnedGuard<'c, T, R> {
         current: Option<&Shared<'_, T>>,
         new: Option<Owned<T>>,
         pass: &mut Pass,
-    ) -> Result<Option<Unlinked<'c, T, R>>, Failed<'_, T>>
+    ) -> Result<Option<Unlinked<'c, T>>, Failed<'_, T>>
         requires of { IsPassOf (owned_collector self.now) pass.old × (link < its_links (owned_collector self.now)) }
         requires value { IfSome new (λ owned. IsBlockOf (owned_collector self.now) owned) }
         ensures { MakesExchange T.row.coded.code (owned_collector self.now) (owned_slot self.now) (owned_activation self.now) link
@@ -179,7 +179,7 @@ impl<'c, T: Drop, R: Reclaim<T>> OwnedGuard<'c, T, R> {
         current: Option<&Shared<'_, T>>,
         new: Option<Owned<T>>,
         pass: &mut Pass,
-    ) -> Result<Option<Unlinked<'c, T, R>>, Failed<'_, T>>
+    ) -> Result<Option<Unlinked<'c, T>>, Failed<'_, T>>
         requires of { IsPassOf (owned_collector self.now) pass.old × (link < its_links (owned_collector self.now)) }
         requires value { IfSome new (λ owned. IsBlockOf (owned_collector self.now) owned) }
         ensures { MakesExchange T.row.coded.code (owned_collector self.now) (owned_slot self.now) (owned_activation self.now) link
@@ -193,8 +193,8 @@ impl<'c, T: Drop, R: Reclaim<T>> OwnedGuard<'c, T, R> {
     ///
     /// It takes no memory. It waits while another thread has the lock. An insertion is tried again as often as other threads change the
     /// head between a look at it and the try.
-    pub fn defer_retire<W: Wait>(&self, rt: &W, pass: &mut Pass, value: Unlinked<'_, T, R>)
-        requires of { IsPassOf (owned_collector self.now) pass.old × (unlinked_collector value ≡ owned_collector self.now) }
+    pub fn defer_retire<W: Wait>(&self, rt: &W, pass: &mut Pass, value: Unlinked<'_, T>)
+        requires of { IsPassOf (owned_collector self.now) pass.old × IsUnlinkedOf (owned_collector self.now) value }
         ensures call { MakesCall (owned_slot self.now) (Retire (unlinked_name value.entry)) pass.old pass.new }
         ensures kind { IsOfKind (unlinked_name value.entry) 0 pass.new }
     {
@@ -206,10 +206,10 @@ impl<'c, T: Drop, R: Reclaim<T>> OwnedGuard<'c, T, R> {
         &self,
         rt: &W,
         pass: &mut Pass,
-        value: Unlinked<'_, T, R>,
+        value: Unlinked<'_, T>,
         kind: u64,
     )
-        requires of { IsPassOf (owned_collector self.now) pass.old × (unlinked_collector value ≡ owned_collector self.now) }
+        requires of { IsPassOf (owned_collector self.now) pass.old × IsUnlinkedOf (owned_collector self.now) value }
         ensures call { MakesCall (owned_slot self.now) (Retire (unlinked_name value.entry)) pass.old pass.new }
         ensures kind { IsOfKind (unlinked_name value.entry) kind pass.new }
     {

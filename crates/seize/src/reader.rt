@@ -36,7 +36,7 @@ impl<'c, T: Drop, R: Reclaim<T>> Reader<'c, T, R> {
     ghost use Rattle.seize_machine.specs.Machine.Event.{ExchangeLink, ReadLink};
     ghost use Rattle.seize_machine.specs.declared.machine.event.Answer.TheVariants.{Link};
     ghost use Rattle.seize_machine.specs.declared.machine.event.Exchange.TheVariants.{Swap};
-    ghost use Rattle.seize.specs.Blocks.{ComesOut, IsNamed, Shows, unlinked_collector};
+    ghost use Rattle.seize.specs.Blocks.{ComesOut, IsNamed, IsUnlinkedOf, Shows};
     ghost use Rattle.seize.specs.Collectors.{IsBlockOf, IsPassOf, its_links};
     ghost use Rattle.seize.specs.Exchanges.{FoundIn, MakesExchange, Protects, current_name};
     ghost use Rattle.seize.specs.Makes.{MakesNone, MakesOne};
@@ -69,10 +69,10 @@ impl<'c, T: Drop, R: Reclaim<T>> Reader<'c, T, R> {
         link: usize,
         value: Option<Owned<T>>,
         pass: &mut Pass,
-    ) -> Option<Unlinked<'c, T, R>>
+    ) -> Option<Unlinked<'c, T>>
         requires of { IsPassOf self.now.collector.now pass.old × (link < its_links self.now.collector.now) }
         requires value { IfSome value (λ owned. IsBlockOf self.now.collector.now owned) }
-        ensures of { IfSome result (λ unlinked. unlinked_collector unlinked ≡ self.now.collector.now) }
+        ensures of { IfSome result (IsUnlinkedOf self.now.collector.now) }
         ensures made { (new : Option ℕ) × (held : Option ℕ) × IsNamed T.row.coded.code value new × ComesOut held result
             × MakesOne pass.old pass.new (ExchangeLink self.now.number link (Swap new)) (Link held) }
     {
@@ -82,7 +82,7 @@ impl<'c, T: Drop, R: Reclaim<T>> Reader<'c, T, R> {
         let old = collector
             .words
             .swap_link(link, new, &mut key, &self.unit, pass);
-        Unlinked::found(collector, old, key)
+        Unlinked::found(&collector.words, old, key)
     }
 
     /// Exchanges what a link holds, if that is what was found.
@@ -92,7 +92,7 @@ impl<'c, T: Drop, R: Reclaim<T>> Reader<'c, T, R> {
         current: Option<&Shared<'_, T>>,
         new: Option<Owned<T>>,
         pass: &mut Pass,
-    ) -> Result<Option<Unlinked<'c, T, R>>, Failed<'_, T>>
+    ) -> Result<Option<Unlinked<'c, T>>, Failed<'_, T>>
         requires of { IsPassOf self.now.collector.now pass.old × (link < its_links self.now.collector.now) }
         requires value { IfSome new (λ owned. IsBlockOf self.now.collector.now owned) }
         ensures { MakesExchange T.row.coded.code self.now.collector.now self.now.number self.now.unit link
@@ -114,7 +114,7 @@ impl<'c, T: Drop, R: Reclaim<T>> Reader<'c, T, R> {
         );
         if old == expected {
             look_back(&collector.words.blocks, old, &self.unit, pass);
-            return Ok(Unlinked::found(collector, old, key));
+            return Ok(Unlinked::found(&collector.words, old, key));
         }
         let found = shown(&collector.words.blocks, old, glimpse, pass);
         let new = came_back(collector, word, key, pass);

@@ -36,7 +36,7 @@ impl<'c, T: Drop, R: Reclaim<T>> Registration<'c, T, R> {
     ghost use Rattle.seize_machine.specs.declared.machine.event.Job.TheVariants.{Retire};
     ghost use Rattle.seize_table.specs.declared.refusal.Refusal.TheVariants.{NoMemory as no_memory, TooManyGuards as too_many_guards};
     ghost use Rattle.seize_calls.specs.Slots.{IsInactive, its_number};
-    ghost use Rattle.seize.specs.Blocks.{content, unlinked_collector, unlinked_name};
+    ghost use Rattle.seize.specs.Blocks.{IsUnlinkedOf, content, unlinked_name};
     ghost use Rattle.seize.specs.Collectors.{IsBlockOf, IsPassOf, IsSlotFor};
     ghost use Rattle.seize.specs.Guards.{IsGuardOf};
     ghost use Rattle.seize.specs.Makes.{EndsUse, Enters, IsOfKind, MakesCall};
@@ -135,9 +135,9 @@ impl<'c, T: Drop, R: Reclaim<T>> Registration<'c, T, R> {
     ///
     /// But for what that does, it takes no memory. An insertion is tried again as often as other threads change the head between a look at
     /// it and the try. Within another call of the same registration it waits for ever.
-    pub fn retire<W: Wait>(&self, rt: &W, pass: &mut Pass, value: Unlinked<'_, T, R>)
+    pub fn retire<W: Wait>(&self, rt: &W, pass: &mut Pass, value: Unlinked<'_, T>)
         requires pass { IsPassOf (registered_in self.now) pass.old }
-        requires value { unlinked_collector value ≡ registered_in self.now }
+        requires value { IsUnlinkedOf (registered_in self.now) value }
         ensures call { MakesCall (registered_slot self.now) (Retire (unlinked_name value.entry)) pass.old pass.new }
         ensures kind { IsOfKind (unlinked_name value.entry) 0 pass.new }
     {
@@ -146,9 +146,9 @@ impl<'c, T: Drop, R: Reclaim<T>> Registration<'c, T, R> {
 
     /// The same, and says of which kind the value is. Its reclaimer is given the kind, and the list says for good that this is kept of the
     /// value.
-    pub fn retire_as<W: Wait>(&self, rt: &W, pass: &mut Pass, value: Unlinked<'_, T, R>, kind: u64)
+    pub fn retire_as<W: Wait>(&self, rt: &W, pass: &mut Pass, value: Unlinked<'_, T>, kind: u64)
         requires pass { IsPassOf (registered_in self.now) pass.old }
-        requires value { unlinked_collector value ≡ registered_in self.now }
+        requires value { IsUnlinkedOf (registered_in self.now) value }
         ensures call { MakesCall (registered_slot self.now) (Retire (unlinked_name value.entry)) pass.old pass.new }
         ensures kind { IsOfKind (unlinked_name value.entry) kind pass.new }
     {

@@ -1,6 +1,6 @@
 //! Blocks that came out of a link, and are retired by another thread.
 ghost use Rattle.std.specs.Prelude.{◌≡◌, ◌<◌, IfOk, IfSome};
-ghost use Rattle.seize.specs.Blocks.{unlinked_collector};
+ghost use Rattle.seize.specs.Blocks.{IsUnlinkedOf};
 ghost use Rattle.seize.specs.Collectors.{IsBlockOf, IsPassOf, its_links};
 ghost use Rattle.seize.specs.OwnedGuards.{owned_collector};
 ghost use Rattle.seize.specs.Registrations.{registered_in};
@@ -20,7 +20,7 @@ struct Handed<'r, 'c, 'a, R: Wait> {
     rt: &'r R,
     registration: Registration<'c, Marked<'a>>,
     block: Unlinked<'c, Marked<'a>>,
-    ghost its: { unlinked_collector block ≡ registered_in registration },
+    ghost its: { IsUnlinkedOf (registered_in registration) block },
 }
 
 impl<R: Wait> Drop for Handed<'_, '_, '_, R> {
@@ -60,7 +60,7 @@ fn retire_elsewhere<'c, 'a, R: Threads + Wait + Sync>(
     registration: Registration<'c, Marked<'a>>,
     block: Unlinked<'c, Marked<'a>>,
 ) -> (u64, u64)
-    requires { unlinked_collector block ≡ registered_in registration }
+    requires { IsUnlinkedOf (registered_in registration) block }
 {
     let handed = Handed {
         rt,

@@ -33,41 +33,36 @@ fn collectors_of_one_source_have_ids_in_order(rt: HostRuntime) -> Result<(), Fai
     Ok(())
 }
 
-// The ids that a registration, its guard, an owned guard and a block in no link say their collector has, and whether the slots' numbers are
-// 0 for the first two, and 1 for the third.
-fn ask(rt: &(impl Wait + Abort), collector: &Collector<u64>) -> ([u64; 4], bool) {
+// The ids that a registration, its guard and an owned guard say their collector has, and whether the slots' numbers are 0, 0 and 1.
+fn ask(rt: &(impl Wait + Abort), collector: &Collector<u64>) -> ([u64; 3], bool) {
     let mut pass = collector.pass();
     let registration = collector.register(rt, &mut pass).expect(rt, "memory");
     let guard = registration.enter(&mut pass).expect(rt, "a guard");
     let owned = collector.enter_owned(rt, &mut pass).expect(rt, "memory");
-    let block = collector.owned(5).expect(rt, "memory");
-    let unlinked = Unlinked::from_owned(block, collector);
     let ids = [
         registration.collector().id(),
         guard.collector().id(),
         owned.collector().id(),
-        unlinked.collector_id(),
     ];
     let numbers = (
         registration.thread_id(),
         guard.thread_id(),
         owned.thread_id(),
     );
-    guard.defer_retire(rt, &mut pass, unlinked);
     owned.leave(rt, &mut pass);
     guard.leave(rt, &mut pass);
     assert!(rt; registration.end(rt, &mut pass));
     (ids, numbers == (0, 0, 1))
 }
 
-// A registration, its guard, an owned guard and a block say the id of their collector, which is the second of its source.
+// A registration, its guard and an owned guard say the id of their collector, which is the second of its source.
 #[test]
 fn all_say_the_id_of_their_collector(rt: HostRuntime) -> Result<(), Fail> {
     let mut ids = IdSource::new();
     let first: Collector<u64> = Collector::new(rt.alloc(), &mut ids, 1, 0)?;
     let second: Collector<u64> = Collector::new(rt.alloc(), &mut ids, 1, 0)?;
-    assert_eq!(rt; ask(&rt, &first), ([0; 4], true));
-    assert_eq!(rt; ask(&rt, &second), ([1; 4], true));
+    assert_eq!(rt; ask(&rt, &first), ([0; 3], true));
+    assert_eq!(rt; ask(&rt, &second), ([1; 3], true));
     Ok(())
 }
 

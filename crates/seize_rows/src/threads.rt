@@ -26,9 +26,7 @@ fn owned_sends<T: Drop + Send>(owned: Owned<T>) -> Owned<T> {
     is_sent(owned)
 }
 
-fn unlinked_sends<T: Drop + Send + Sync, R: Reclaim<T> + Send + Sync>(
-    unlinked: Unlinked<'_, T, R>,
-) -> Unlinked<'_, T, R> {
+fn unlinked_sends<T: Drop + Send + Sync>(unlinked: Unlinked<'_, T>) -> Unlinked<'_, T> {
     is_sent(unlinked)
 }
 

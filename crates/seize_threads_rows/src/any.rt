@@ -2,19 +2,20 @@
 ghost use Rattle.std.specs.Prelude.{◌≡◌, ◌<◌, IfOk};
 ghost use Rattle.seize.specs.Collectors.{IsPassOf, its_links};
 
-use crate::marked::{ended, ends_of};
-use seize::{Collector, Guard, IdSource, Pass, Reclaim, Refusal};
+use crate::marked::{Marked, ended, ends_of};
+use seize::{Collector, Guard, IdSource, Pass, Refusal};
 use std::alloc::Global;
 use std::process::Abort;
 use std::sync::Wait;
-use std::sync::atomic::{AtomicU64, Ordering};
+use std::sync::atomic::AtomicU64;
 use std::test::*;
 
 // What came of the calls on a guard.
 #[derive(Clone, Copy, PartialEq, Eq, Debug)]
 struct Came {
-    // what it found after its swap, and what its exchange took out
-    found: Option<u64>,
+    // what it read after its swap
+    read: Option<u64>,
+    // what its exchange took out
     out: Option<u64>,
     // how often that had ended after the flush, and after the refresh
     flushed: u64,
@@ -23,35 +24,19 @@ struct Came {
     last: Option<u64>,
 }
 
-// Counts the end of each number among the marks.
-#[derive(Clone, Copy)]
-struct Marking<'a> {
-    marks: &'a [AtomicU64],
-}
-
-impl Reclaim<u64> for Marking<'_> {
-    fn reclaim(self, _kind: u64, value: u64) {
-        if let Some(mark) = self.marks.get(value as usize) {
-            mark.fetch_add(1, Ordering::SeqCst);
-        }
-    }
-}
-
-type Marked<'a> = Collector<u64, Marking<'a>>;
-
 // A collector with one link.
-fn collector<'a>(alloc: Global, marks: &'a [AtomicU64]) -> Result<Marked<'a>, Refusal>
+fn collector<'a>(alloc: Global) -> Result<Collector<Marked<'a>>, Refusal>
     ensures { IfOk result (λ made. 0 < its_links made) }
 {
-    Collector::with_reclaimer(alloc, &mut IdSource::new(), 1, 1, Marking { marks })
+    Collector::new(alloc, &mut IdSource::new(), 1, 1)
 }
 
 // Swaps this value into the link, and retires what came out.
-fn put<G: Guard<u64>, W: Wait>(guard: &G, value: u64, rt: &W, pass: &mut Pass)
+fn put<'a, G: Guard<Marked<'a>>, W: Wait>(guard: &G, value: Marked<'a>, rt: &W, pass: &mut Pass)
     requires of { IsPassOf (G.guarded guard.now) pass.old × (0 < its_links (G.guarded guard.now)) }
     ensures { IsPassOf (G.guarded guard.now) pass.new }
 {
-    if let Ok(block) = guard.owned(value) {
+    if let Ok(block) = guard.collector().owned(value) {
         if let Some(old) = guard.swap(0, Some(block), pass) {
             guard.defer_retire(rt, pass, old);
         }
@@ -59,15 +44,21 @@ fn put<G: Guard<u64>, W: Wait>(guard: &G, value: u64, rt: &W, pass: &mut Pass)
 }
 
 // The number that the link holds.
-fn read<G: Guard<u64>>(guard: &G, pass: &mut Pass) -> Option<u64>
+fn read<'a, G: Guard<Marked<'a>>>(guard: &G, pass: &mut Pass) -> Option<u64>
     requires of { IsPassOf (G.guarded guard.now) pass.old × (0 < its_links (G.guarded guard.now)) }
     ensures { IsPassOf (G.guarded guard.now) pass.new }
 {
-    guard.protect(0, pass).map(|shared| *shared)
+    guard.protect(0, pass).map(|shared| shared.value)
 }
 
-// An exchange that compares with an empty link is lost. The next compares with what was found: it retires that, and says its number.
-fn exchange<G: Guard<u64>, W: Wait>(guard: &G, value: u64, rt: &W, pass: &mut Pass) -> Option<u64>
+// An exchange that compares with an empty link is lost. The next compares with what was found, and is won: it says the number of the
+// value that came out, which is retired.
+fn exchange<'a, G: Guard<Marked<'a>>, W: Wait>(
+    guard: &G,
+    value: Marked<'a>,
+    rt: &W,
+    pass: &mut Pass,
+) -> Option<u64>
     requires of { IsPassOf (G.guarded guard.now) pass.old × (0 < its_links (G.guarded guard.now)) }
     ensures { IsPassOf (G.guarded guard.now) pass.new }
 {
@@ -83,7 +74,7 @@ fn exchange<G: Guard<u64>, W: Wait>(guard: &G, value: u64, rt: &W, pass: &mut Pa
             let new = failed.new?;
             match guard.compare_exchange_weak(0, Some(&found), Some(new), pass) {
                 Ok(Some(old)) => {
-                    let out = *old;
+                    let out = old.value;
                     guard.defer_retire(rt, pass, old);
                     Some(out)
                 }
@@ -95,32 +86,38 @@ fn exchange<G: Guard<u64>, W: Wait>(guard: &G, value: u64, rt: &W, pass: &mut Pa
 }
 
 // Puts the number 0 into the link, exchanges it for 1, flushes and refreshes.
-fn make_calls<G: Guard<u64>, W: Wait>(
+fn make_calls<'a, G: Guard<Marked<'a>>, W: Wait>(
     guard: &mut G,
-    marks: &[AtomicU64],
+    marks: &'a [AtomicU64],
     rt: &W,
     pass: &mut Pass,
 ) -> Came
     requires of { IsPassOf (G.guarded guard.old) pass.old × (0 < its_links (G.guarded guard.old)) }
     ensures { IsPassOf (G.guarded guard.new) pass.new × (G.guarded guard.new ≡ G.guarded guard.old) }
 {
-    put(guard, 0, rt, pass);
-    let found = read(guard, pass);
-    let out = exchange(guard, 1, rt, pass);
+    put(guard, Marked { value: 0, marks }, rt, pass);
+    let read_first = read(guard, pass);
+    let out = exchange(guard, Marked { value: 1, marks }, rt, pass);
     guard.flush(rt, pass);
     let flushed = ends_of(marks, 0);
     guard.refresh(rt, pass);
+    let refreshed = ends_of(marks, 0);
+    let last = read(guard, pass);
     Came {
-        found,
+        read: read_first,
         out,
         flushed,
-        refreshed: ends_of(marks, 0),
-        last: read(guard, pass),
+        refreshed,
+        last,
     }
 }
 
 // The calls on a local guard.
-fn by_local<'a>(rt: &(impl Wait + Abort), collector: &Marked<'a>, marks: &'a [AtomicU64]) -> Came
+fn by_local<'a>(
+    rt: &(impl Wait + Abort),
+    collector: &Collector<Marked<'a>>,
+    marks: &'a [AtomicU64],
+) -> Came
     requires { 0 < its_links collector.now }
 {
     let mut pass = collector.pass();
@@ -133,7 +130,11 @@ fn by_local<'a>(rt: &(impl Wait + Abort), collector: &Marked<'a>, marks: &'a [At
 }
 
 // The calls on an owned guard.
-fn by_owned<'a>(rt: &(impl Wait + Abort), collector: &Marked<'a>, marks: &'a [AtomicU64]) -> Came
+fn by_owned<'a>(
+    rt: &(impl Wait + Abort),
+    collector: &Collector<Marked<'a>>,
+    marks: &'a [AtomicU64],
+) -> Came
     requires { 0 < its_links collector.now }
 {
     let mut pass = collector.pass();
@@ -147,19 +148,19 @@ fn by_owned<'a>(rt: &(impl Wait + Abort), collector: &Marked<'a>, marks: &'a [At
 #[test]
 fn guards_of_both_kinds_do_the_same(rt: HostRuntime) -> Result<(), Fail> {
     let came = Came {
-        found: Some(0),
+        read: Some(0),
         out: Some(0),
         flushed: 0,
         refreshed: 1,
         last: Some(1),
     };
     let local = [AtomicU64::new(0), AtomicU64::new(0)];
-    let one = collector(rt.alloc(), &local)?;
+    let one = collector(rt.alloc())?;
     assert_eq!(rt; by_local(&rt, &one, &local), came);
     drop(one);
     assert_eq!(rt; ended(&local), (2, 0));
     let owned = [AtomicU64::new(0), AtomicU64::new(0)];
-    let other = collector(rt.alloc(), &owned)?;
+    let other = collector(rt.alloc())?;
     assert_eq!(rt; by_owned(&rt, &other, &owned), came);
     drop(other);
     assert_eq!(rt; ended(&owned), (2, 0));

@@ -1,7 +1,7 @@
 //! A block in the place of the one that was read: how a structure without locks changes a link.
 ghost use base.Stored.{gnum};
 ghost use Rattle.std.specs.Prelude.{◌≡◌, ◌<◌, ℕ, Option, Some, [], ◌∷◌, IfOk, IfSome};
-ghost use Rattle.seize.specs.Blocks.{IsNamed, unlinked_collector};
+ghost use Rattle.seize.specs.Blocks.{IsNamed, IsUnlinkedOf};
 ghost use Rattle.seize.specs.Collectors.{IsBlockOf, IsPassOf, its_links};
 ghost use Rattle.seize.specs.Guards.{guard_collector};
 ghost use Rattle.seize.specs.Machine.Event.{ExchangeLink, ReadLink};
@@ -20,11 +20,11 @@ pub fn replace_read<'g, G: Guard<u64>>(
     guard: &'g G,
     new: Owned<u64>,
     pass: &mut Pass,
-) -> Result<Option<Unlinked<'g, u64, G::Reclaimer>>, Option<Owned<u64>>>
+) -> Result<Option<Unlinked<'g, u64>>, Option<Owned<u64>>>
     requires of { IsPassOf (G.guarded guard.now) pass.old × (0 < its_links (G.guarded guard.now)) }
     requires value { IsBlockOf (G.guarded guard.now) new }
     ensures pass { IsPassOf (G.guarded guard.now) pass.new }
-    ensures of { IfOk result (λ out. IfSome out (λ old. unlinked_collector old ≡ G.guarded guard.now)) }
+    ensures of { IfOk result (λ out. IfSome out (IsUnlinkedOf (G.guarded guard.now))) }
     ensures took { IfOk result (λ _. (held : Option ℕ) × (v : Option ℕ) × IsNamed gnum (Some new) v × Makes pass.old pass.new
         ((ReadLink (G.number guard.now) 0, Link held) ∷ (ExchangeLink (G.number guard.now) 0 (Compare held v), Link held) ∷ [])) }
 {

@@ -1,7 +1,7 @@
 //! A number that threads share: each reads and replaces it, by a registration of its own.
 ghost use base.Stored.{gnum};
 ghost use Rattle.std.specs.Prelude.{◌≡◌, ◌<◌, ◌≤◌, ℕ, length, IfSome};
-ghost use Rattle.seize.specs.Blocks.{HasContent, unlinked_collector, unlinked_name};
+ghost use Rattle.seize.specs.Blocks.{HasContent, IsUnlinkedOf, unlinked_name};
 ghost use Rattle.seize.specs.Collectors.{IsPassOf, its_links};
 ghost use Rattle.seize.specs.Guards.{guard_collector, guard_slot};
 ghost use Rattle.seize.specs.Laws.{moments_seen, opening_of};
@@ -81,7 +81,7 @@ pub fn retire_and_audit<W: Wait>(
     rt: &W,
     pass: &mut Pass,
 )
-    requires of { IsPassOf (guard_collector guard.now) pass.old × (unlinked_collector value ≡ guard_collector guard.now) }
+    requires of { IsPassOf (guard_collector guard.now) pass.old × IsUnlinkedOf (guard_collector guard.now) value }
     ensures pass { IsPassOf (guard_collector guard.now) pass.new }
     ensures retired { let v = unlinked_name value.entry in let ms = moments_seen pass.new in (q : ℕ) × Retired ms v q
         × ((c : ℕ) → Reclaimed ms v c → (q < c) × ((s : ℕ) → IsActiveAt ms s q → HasParted ms s q c)) }

@@ -5,7 +5,7 @@ ghost use Rattle.seize_machine.specs.declared.machine.event.Answer.TheVariants.{
 ghost use Rattle.seize_machine.specs.declared.machine.event.Exchange.TheVariants.{Swap};
 ghost use Rattle.seize_machine.specs.declared.machine.event.Job.TheVariants.{Flush, Refresh, Retire};
 ghost use Rattle.seize_table.specs.declared.refusal.Refusal.TheVariants.{NoMemory as no_memory};
-ghost use Rattle.seize.specs.Blocks.{ComesOut, IsNamed, Shows, content, unlinked_collector, unlinked_name};
+ghost use Rattle.seize.specs.Blocks.{ComesOut, IsNamed, IsUnlinkedOf, Shows, content, unlinked_name};
 ghost use Rattle.seize.specs.Collectors.{IsBlockOf, IsPassOf, its_links};
 ghost use Rattle.seize.specs.Exchanges.{FoundIn, MakesExchange, current_name};
 ghost use Rattle.seize.specs.Makes.{IsOfKind, MakesCall, MakesOne, StaysActive};
@@ -58,15 +58,10 @@ pub trait Guard<T: Drop> {
             × Shows T.row.coded.code held result × FoundIn (activation self.now) held pass.new };
 
     /// Exchanges what a link holds for this block, or for none: the event `ExchangeLink`. It gives what the link held.
-    fn swap(
-        &self,
-        link: usize,
-        value: Option<Owned<T>>,
-        pass: &mut Pass,
-    ) -> Option<Unlinked<'_, T, Self::Reclaimer>>
+    fn swap(&self, link: usize, value: Option<Owned<T>>, pass: &mut Pass) -> Option<Unlinked<'_, T>>
         requires of { IsPassOf (guarded self.now) pass.old × (link < its_links (guarded self.now)) }
         requires value { IfSome value (λ owned. IsBlockOf (guarded self.now) owned) }
-        ensures of { IfSome result (λ unlinked. unlinked_collector unlinked ≡ guarded self.now) }
+        ensures of { IfSome result (IsUnlinkedOf (guarded self.now)) }
         ensures made { (new : Option ℕ) × (held : Option ℕ) × IsNamed T.row.coded.code value new × ComesOut held result
             × MakesOne pass.old pass.new (ExchangeLink (number self.now) link (Swap new)) (Link held) };
 
@@ -82,7 +77,7 @@ pub trait Guard<T: Drop> {
         current: Option<&Shared<'_, T>>,
         new: Option<Owned<T>>,
         pass: &mut Pass,
-    ) -> Result<Option<Unlinked<'_, T, Self::Reclaimer>>, Failed<'_, T>>
+    ) -> Result<Option<Unlinked<'_, T>>, Failed<'_, T>>
         requires of { IsPassOf (guarded self.now) pass.old × (link < its_links (guarded self.now)) }
         requires value { IfSome new (λ owned. IsBlockOf (guarded self.now) owned) }
         ensures { MakesExchange T.row.coded.code (guarded self.now) (number self.now) (activation self.now) link
@@ -95,32 +90,21 @@ pub trait Guard<T: Drop> {
         current: Option<&Shared<'_, T>>,
         new: Option<Owned<T>>,
         pass: &mut Pass,
-    ) -> Result<Option<Unlinked<'_, T, Self::Reclaimer>>, Failed<'_, T>>
+    ) -> Result<Option<Unlinked<'_, T>>, Failed<'_, T>>
         requires of { IsPassOf (guarded self.now) pass.old × (link < its_links (guarded self.now)) }
         requires value { IfSome new (λ owned. IsBlockOf (guarded self.now) owned) }
         ensures { MakesExchange T.row.coded.code (guarded self.now) (number self.now) (activation self.now) link
             (current_name current.entry) new pass.old pass.new result };
 
     /// Retires what came out of a link: a whole call of the slot.
-    fn defer_retire<W: Wait>(
-        &self,
-        rt: &W,
-        pass: &mut Pass,
-        value: Unlinked<'_, T, Self::Reclaimer>,
-    )
-        requires of { IsPassOf (guarded self.now) pass.old × (unlinked_collector value ≡ guarded self.now) }
+    fn defer_retire<W: Wait>(&self, rt: &W, pass: &mut Pass, value: Unlinked<'_, T>)
+        requires of { IsPassOf (guarded self.now) pass.old × IsUnlinkedOf (guarded self.now) value }
         ensures call { MakesCall (number self.now) (Retire (unlinked_name value.entry)) pass.old pass.new }
         ensures kind { IsOfKind (unlinked_name value.entry) 0 pass.new };
 
     /// The same, and says of which kind the value is: see `Registration::retire_as`.
-    fn defer_retire_as<W: Wait>(
-        &self,
-        rt: &W,
-        pass: &mut Pass,
-        value: Unlinked<'_, T, Self::Reclaimer>,
-        kind: u64,
-    )
-        requires of { IsPassOf (guarded self.now) pass.old × (unlinked_collector value ≡ guarded self.now) }
+    fn defer_retire_as<W: Wait>(&self, rt: &W, pass: &mut Pass, value: Unlinked<'_, T>, kind: u64)
+        requires of { IsPassOf (guarded self.now) pass.old × IsUnlinkedOf (guarded self.now) value }
         ensures call { MakesCall (number self.now) (Retire (unlinked_name value.entry)) pass.old pass.new }
         ensures kind { IsOfKind (unlinked_name value.entry) kind pass.new };
 

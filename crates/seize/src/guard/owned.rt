@@ -4,7 +4,7 @@ ghost use Rattle.seize_machine.specs.Machine.Event.{ExchangeLink};
 ghost use Rattle.seize_machine.specs.declared.machine.event.Answer.TheVariants.{Link};
 ghost use Rattle.seize_machine.specs.declared.machine.event.Exchange.TheVariants.{Swap};
 ghost use Rattle.seize_machine.specs.declared.machine.event.Job.TheVariants.{Retire};
-ghost use Rattle.seize.specs.Blocks.{ComesOut, IsNamed, unlinked_collector, unlinked_name};
+ghost use Rattle.seize.specs.Blocks.{ComesOut, IsNamed, IsUnlinkedOf, unlinked_name};
 ghost use Rattle.seize.specs.Collectors.{IsBlockOf, IsPassOf, its_links};
 ghost use Rattle.seize.specs.Exchanges.{MakesExchange, current_name};
 ghost use Rattle.seize.specs.Makes.{IsOfKind, MakesCall, MakesOne};
@@ -44,15 +44,10 @@ impl<T: Drop, R: Reclaim<T>> Guard<T> for OwnedGuard<'_, T, R> {
         OwnedGuard::protect(self, link, pass)
     }
 
-    fn swap(
-        &self,
-        link: usize,
-        value: Option<Owned<T>>,
-        pass: &mut Pass,
-    ) -> Option<Unlinked<'_, T, R>>
+    fn swap(&self, link: usize, value: Option<Owned<T>>, pass: &mut Pass) -> Option<Unlinked<'_, T>>
         requires of { IsPassOf (owned_collector self.now) pass.old × (link < its_links (owned_collector self.now)) }
         requires value { IfSome value (λ owned. IsBlockOf (owned_collector self.now) owned) }
-        ensures of { IfSome result (λ unlinked. unlinked_collector unlinked ≡ owned_collector self.now) }
+        ensures of { IfSome result (IsUnlinkedOf (owned_collector self.now)) }
         ensures made { (new : Option ℕ) × (held : Option ℕ) × IsNamed T.row.coded.code value new × ComesOut held result
             × MakesOne pass.old pass.new (ExchangeLink (owned_slot self.now) link (Swap new)) (Link held) }
     {
@@ -65,7 +60,7 @@ impl<T: Drop, R: Reclaim<T>> Guard<T> for OwnedGuard<'_, T, R> {
         current: Option<&Shared<'_, T>>,
         new: Option<Owned<T>>,
         pass: &mut Pass,
-    ) -> Result<Option<Unlinked<'_, T, R>>, Failed<'_, T>>
+    ) -> Result<Option<Unlinked<'_, T>>, Failed<'_, T>>
         requires of { IsPassOf (owned_collector self.now) pass.old × (link < its_links (owned_collector self.now)) }
         requires value { IfSome new (λ owned. IsBlockOf (owned_collector self.now) owned) }
         ensures { MakesExchange T.row.coded.code (owned_collector self.now) (owned_slot self.now) (owned_activation self.now) link
@@ -80,7 +75,7 @@ impl<T: Drop, R: Reclaim<T>> Guard<T> for OwnedGuard<'_, T, R> {
         current: Option<&Shared<'_, T>>,
         new: Option<Owned<T>>,
         pass: &mut Pass,
-    ) -> Result<Option<Unlinked<'_, T, R>>, Failed<'_, T>>
+    ) -> Result<Option<Unlinked<'_, T>>, Failed<'_, T>>
         requires of { IsPassOf (owned_collector self.now) pass.old × (link < its_links (owned_collector self.now)) }
         requires value { IfSome new (λ owned. IsBlockOf (owned_collector self.now) owned) }
         ensures { MakesExchange T.row.coded.code (owned_collector self.now) (owned_slot self.now) (owned_activation self.now) link
@@ -89,22 +84,16 @@ impl<T: Drop, R: Reclaim<T>> Guard<T> for OwnedGuard<'_, T, R> {
         OwnedGuard::compare_exchange_weak(self, link, current, new, pass)
     }
 
-    fn defer_retire<W: Wait>(&self, rt: &W, pass: &mut Pass, value: Unlinked<'_, T, R>)
-        requires of { IsPassOf (owned_collector self.now) pass.old × (unlinked_collector value ≡ owned_collector self.now) }
+    fn defer_retire<W: Wait>(&self, rt: &W, pass: &mut Pass, value: Unlinked<'_, T>)
+        requires of { IsPassOf (owned_collector self.now) pass.old × IsUnlinkedOf (owned_collector self.now) value }
         ensures call { MakesCall (owned_slot self.now) (Retire (unlinked_name value.entry)) pass.old pass.new }
         ensures kind { IsOfKind (unlinked_name value.entry) 0 pass.new }
     {
         OwnedGuard::defer_retire(self, rt, pass, value);
     }
 
-    fn defer_retire_as<W: Wait>(
-        &self,
-        rt: &W,
-        pass: &mut Pass,
-        value: Unlinked<'_, T, R>,
-        kind: u64,
-    )
-        requires of { IsPassOf (owned_collector self.now) pass.old × (unlinked_collector value ≡ owned_collector self.now) }
+    fn defer_retire_as<W: Wait>(&self, rt: &W, pass: &mut Pass, value: Unlinked<'_, T>, kind: u64)
+        requires of { IsPassOf (owned_collector self.now) pass.old × IsUnlinkedOf (owned_collector self.now) value }
         ensures call { MakesCall (owned_slot self.now) (Retire (unlinked_name value.entry)) pass.old pass.new }
         ensures kind { IsOfKind (unlinked_name value.entry) kind pass.new }
     {

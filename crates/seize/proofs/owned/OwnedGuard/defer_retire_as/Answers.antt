@@ -1,16 +1,16 @@
 use Rattle.std.proofs.Common.{ℕ, sym, subst, ◌∙◌}
 use Rattle.seize_machine.specs.declared.machine.event.Job.TheVariants.{Retire}
 use Rattle.seize_calls.specs.Slots.{IsLooseOf}
-use Rattle.seize.specs.Collectors.{its_book, its_words}
+use Rattle.seize_words.specs.declared.words.Words.{Words}
+use Rattle.seize.specs.Collectors.{its_book}
 use Rattle.seize.specs.Makes.{IsOfKind, MakesCall}
-use Rattle.seize.specs.declared.collector.Collector.{Collector}
 use Rattle.seize.proofs.Places.{in_place}
 use Rattle.seize.proofs.owned.OwnedGuard.defer_retire_as.Goals as goal
 
 pub with-requires : goal.with-requires
 with-requires g c =
-    let self = c.args.self.now in let T = g.row.T.Denot in let R = g.row.R.Denot in
-    let its = subst (λ (collector : Collector T R). IsLooseOf (its_words collector) c.into_loose-loose.result) c.requires.of.1 c.into_loose-loose.ensures.1 in
+    let self = c.args.self.now in let T = g.row.T.Denot in
+    let its = subst (λ (words : Words T). IsLooseOf words c.into_loose-loose.result) c.requires.of.1 c.into_loose-loose.ensures.1 in
     λ r keeps. ((in_place (its_book self.reader.collector.now) self.reader.number 1 r (keeps.0 ∙ self.at)).0, (sym c.requires.of.0.0, sym c.requires.of.0.1), its)
 
 pub returns-clause-call : goal.returns-clause-call
