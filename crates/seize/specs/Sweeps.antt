@@ -13,8 +13,9 @@
 --     StandsInUse st v         v stands in the batch of a slot whose number is in use
 --     Sweeps pass pass' all    it is the same pass. The list goes on with entries of this pass alone, where that is alone. The links, and
 --                              which numbers are in use, are as they were. It says `all` just where no number is in use; then each slot
---                              leaves nothing, and each value that was ever retired is reclaimed
---                              If no slot had a call or was active, each retired value is reclaimed, or stands in use (`rests`)
+--                              leaves nothing, and each value that was ever retired is reclaimed.
+--                              If no slot had a call or was active, each retired value is reclaimed, or stands in the batch of a slot whose
+--                              number is in use
 use Rattle.std.specs.Prelude.{◌≡◌, ◌⊎◌, ◌↔◌, ◌<◌, ℕ, Bool, true, false, List, [], get_or, is_some}
 use Rattle.seize_machine.specs.Machine.Frames.{used}
 use Rattle.std.specs.List.{Contains}

@@ -338,7 +338,8 @@ impl<T: Drop, R: Reclaim<T>> Collector<T, R> {
     /// What the links hold stays, and the collector may be shared again.
     ///
     /// It answers false for good where a registration or a guard was forgotten. The batch of a forgotten registration's slot stays then;
-    /// and what waits for the slot of a forgotten guard, or is attempted later, stays as well.
+    /// and what waits for the slot of a forgotten guard, or is attempted later, stays as well. Where no slot had a call or was active, each
+    /// other retired value was reclaimed all the same.
     ///
     /// The slots go in order of their numbers. It takes no memory and waits for nobody, but for what the reclaimer does. Each slot
     /// makes two atomic swaps and an attempt of its batch, which looks at the heads of all slots.
