@@ -126,24 +126,27 @@ module _ (pass : Pass) (legal : IsLegalList (start pass.name) pass.seen) (distin
   abbrev pub RestsAt : ℕ → Type 0
   RestsAt t = LeavesNothing pass t ⊎ ((is_some (slot_at st t).call ≡ false) × IsOff pass t × ((slot_at st t).used ≡ true))
 
+  no_call : (t : ℕ) → RestsAt t → is_some (slot_at st t).call ≡ false
+  no_call t (inl left) = left.call
+  no_call t (inr rests) = rests.0
+
+  not_active : (t : ℕ) → RestsAt t → IsOff pass t
+  not_active t (inl left) = left.off
+  not_active t (inr rests) = rests.1
+
+  pub quiet_rests : ((t : ℕ) → RestsAt t) → is_quiet st ≡ true
+  quiet_rests each = λ i.
+      all_by (λ slot. not (is_some slot.call)) st.slots no_slot (λ t. ap not (no_call t (each t))) i
+      && all_by (λ head. not (is_active head)) st.heads Inactive (λ t. ap not (not_active t (each t))) i
+
   pub all_rest : ((t : ℕ) → RestsAt t) → (v q : ℕ) → Retired (moments_seen pass) v q → ((k : ℕ) × Reclaimed (moments_seen pass) v k) ⊎ StandsInUse st v
   all_rest each v q retired =
       let n = pass.name in
       ⊎_elim (λ back. inl back) (λ batched. stands batched.0 batched.1 (each batched.0))
       (law_quiet n.slots n.links (events_of pass.seen) (answers_of (moments (start n) pass.seen)) (after (start n) pass.seen) distinct (as_legal (start n) pass.seen legal) quiet v q retired)
     where
-      no_call : (t : ℕ) → RestsAt t → is_some (slot_at st t).call ≡ false
-      no_call t (inl left) = left.call
-      no_call t (inr rests) = rests.0
-
-      not_active : (t : ℕ) → RestsAt t → IsOff pass t
-      not_active t (inl left) = left.off
-      not_active t (inr rests) = rests.1
-
       quiet : is_quiet st ≡ true
-      quiet = λ i.
-          all_by (λ slot. not (is_some slot.call)) st.slots no_slot (λ t. ap not (no_call t (each t))) i
-          && all_by (λ head. not (is_active head)) st.heads Inactive (λ t. ap not (not_active t (each t))) i
+      quiet = quiet_rests each
 
       stands : (s : ℕ) → Contains (slot_at st s).batch v → RestsAt s → ((k : ℕ) × Reclaimed (moments_seen pass) v k) ⊎ StandsInUse st v
       stands s there (inl left) = absurd (let less : there.0 < length {A = ℕ} [] = subst (λ (vs : List ℕ). there.0 < length vs) left.batch there.1 in omega (arith, less))

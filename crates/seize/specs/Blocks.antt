@@ -3,7 +3,7 @@
 --     HasContent code v value   what the list calls v is a block with this content
 --     shared_name shared        what the list calls the value that was found;  shared_value shared     the value
 --     shared_word shared        the word that a link shows for it: its block's number and one more
---     unlinked_name u           what the list calls the value that is in no link;  IsUnlinkedOf c u     it keeps the words of this collector
+--     unlinked_name u           what the list calls the value that is in no link;  IsUnlinkedOf c u   it keeps the words of this collector
 --     IsNamed code owned o      o is what the list calls the value of this block, or there is neither
 --     Shows code held shared    what was found is what the link held, a block with that value; or there is neither
 --     ComesOut held u           what came out is what the link held, or there is neither

@@ -10,9 +10,9 @@
 --     ReclaimsAll c c' all     the same collector has seen a longer list. At the call the list was this: the collector had added nothing to
 --                              what it had seen, and all that comes after was made with its own pass. Links, and which numbers are in use,
 --                              are as they were then. It says `all` just where no number is in use; then no slot has a call, is active or
---                              has a batch (IsCleared), and each value that was ever retired is reclaimed. Where no slot had a call or was
---                              active at the call, each value that was ever retired is reclaimed, or stands in the batch of a slot whose
---                              number is in use (StandsInUse), whatever it says
+--                              has a batch (IsCleared), and each value that was ever retired is reclaimed. For either answer: where no
+--                              slot had a call or was active at the call, so it is afterwards, and each value that was ever retired is
+--                              reclaimed, or stands in the batch of a slot whose number is in use (StandsInUse)
 use Rattle.std.specs.Prelude.{◌≡◌, ◌⊎◌, ◌↔◌, ℕ, Bool, true, false, List, ◌++◌}
 use mathlib.Core.List.{IsPrefix}
 use Rattle.seize_machine.specs.Machine.Frames.{used}
@@ -69,5 +69,6 @@ module _ {T R : Type 0} where
     pub none_in_use : (all ≡ true) ↔ NoneInUse c'
     pub cleared : all ≡ true → (s : ℕ) → IsCleared (its_state c') s
     pub reclaimed : all ≡ true → AllReclaimed c'
+    pub quiet : is_quiet (after (start (its_book c)) at_call) ≡ true → is_quiet (its_state c') ≡ true
     pub rests : is_quiet (after (start (its_book c)) at_call) ≡ true → (v q : ℕ) → Retired (moments_of c') v q
         → ((k : ℕ) × Reclaimed (moments_of c') v k) ⊎ StandsInUse (its_state c') v

@@ -14,8 +14,8 @@
 --     Sweeps pass pass' all    it is the same pass. The list goes on with entries of this pass alone, where that is alone. The links, and
 --                              which numbers are in use, are as they were. It says `all` just where no number is in use; then each slot
 --                              leaves nothing, and each value that was ever retired is reclaimed.
---                              If no slot had a call or was active, each retired value is reclaimed, or stands in the batch of a slot whose
---                              number is in use
+--                              If no slot had a call or was active, so it is afterwards, and each retired value is reclaimed, or stands in
+--                              the batch of a slot whose number is in use
 use Rattle.std.specs.Prelude.{◌≡◌, ◌⊎◌, ◌↔◌, ◌<◌, ℕ, Bool, true, false, List, [], get_or, is_some}
 use Rattle.seize_machine.specs.Machine.Frames.{used}
 use Rattle.std.specs.List.{Contains}
@@ -106,5 +106,6 @@ pub record Sweeps (pass pass' : Pass) (all : Bool) : Type 0 where
   pub none_in_use : (all ≡ true) ↔ ((s : ℕ) → (slot_at (state_seen pass') s).used ≡ false)
   pub cleared : all ≡ true → (s : ℕ) → LeavesNothing pass' s
   pub reclaimed : all ≡ true → (v q : ℕ) → Retired (moments_seen pass') v q → (k : ℕ) × Reclaimed (moments_seen pass') v k
+  pub quiet : is_quiet (state_seen pass) ≡ true → is_quiet (state_seen pass') ≡ true
   pub rests : is_quiet (state_seen pass) ≡ true → (v q : ℕ) → Retired (moments_seen pass') v q
       → ((k : ℕ) × Reclaimed (moments_seen pass') v k) ⊎ StandsInUse (state_seen pass') v

@@ -36,6 +36,8 @@ returns g c =
       none_in_use = subst (λ (t : Name × List Entry). (c.stay-all.result ≡ true) ↔ ((s : ℕ) → (slot_at (after (start t.0) t.1) s).used ≡ false)) (λ j. (back_name j, back_seen j)) sweeps.none_in_use;
       cleared = λ so. subst (λ (t : Name × List Entry). (s : ℕ) → IsCleared (after (start t.0) t.1) s) (λ j. (back_name j, back_seen j)) (sweeps.cleared so);
       reclaimed = λ so. subst (λ (t : Name × List Entry). (v q : ℕ) → Retired (moments (start t.0) t.1) v q → (k : ℕ) × Reclaimed (moments (start t.0) t.1) v k) (λ j. (back_name j, back_seen j)) (sweeps.reclaimed so);
+      quiet = λ quiet. subst (λ (t : Name × List Entry). is_quiet (after (start t.0) t.1) ≡ true) (λ j. (back_name j, back_seen j))
+          (sweeps.quiet (ap (λ (n : Name). is_quiet (after (start n) lent.seen)) lent_name ∙ quiet));
       rests = λ quiet. subst (λ (t : Name × List Entry). (v q : ℕ) → Retired (moments (start t.0) t.1) v q → ((k : ℕ) × Reclaimed (moments (start t.0) t.1) v k) ⊎ StandsInUse (after (start t.0) t.1) v)
           (λ j. (back_name j, back_seen j)) (sweeps.rests (ap (λ (n : Name). is_quiet (after (start n) lent.seen)) lent_name ∙ quiet));
     }

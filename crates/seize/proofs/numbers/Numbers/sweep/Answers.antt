@@ -2,6 +2,7 @@ use Rattle.std.specs.Option.{is_none}
 use Rattle.std.proofs.lemmas.List.{length-map}
 use Rattle.std.proofs.Common.{◌≡◌, ℕ, Bool, List, true, length, refl, sym, ap, subst, ◌∙◌, arith, false, is_some, inl, inr, ⊎_elim}
 use Rattle.seize_machine.specs.Machine.Frames.{used}
+use Rattle.seize_machine.specs.Machine.Laws.{is_quiet}
 use Rattle.seize_machine.specs.Machine.State.{Slot as Record, are_distinct, linked_values, slot_at}
 use Rattle.seize_book.specs.Book.{IsLegalList, after}
 use Rattle.seize_book.specs.Homes.{IsSound}
@@ -10,7 +11,7 @@ use Rattle.seize_book.specs.Loans.{AllCarryOne}
 use Rattle.seize_book.specs.Tokens.{Name, start}
 use Rattle.seize.specs.Numbers.{flags_of, flags_to}
 use Rattle.seize.specs.Sweeps.{AreOff, KeepsOn, LeavesNothing, IsOff, KeepsElse, LiesHere}
-use Rattle.seize.proofs.Cleared.{all_cleared, all_off, each_of, here_in, keeps_looked, looked_left, looked_off, looked_state, past_nothing, RestsAt, all_rest, below_or, else_looked, here_long, here_or, quiet_at, used_else}
+use Rattle.seize.proofs.Cleared.{all_cleared, all_off, each_of, here_in, keeps_looked, looked_left, looked_off, looked_state, past_nothing, RestsAt, all_rest, below_or, else_looked, here_long, here_or, quiet_at, quiet_rests, used_else}
 use Rattle.seize.proofs.Placed.{still_for}
 use Rattle.seize.proofs.Swept.{keeps_then, still_sole, else_then}
 use Rattle.seize.proofs.Taken.{AreAllHere, all_here, all_unused, flags_length, here_all, taken_looked, unused_all}
@@ -83,6 +84,13 @@ returns-clause-sweeps g c =
     let kept = others t not in
     ⊎_elim (λ less. inr (ap (λ (z : Record). is_some z.call) kept.0 ∙ rest.0, kept.1 rest.1, used_else p5 legal5 distinct5 flags3 t (flags5 ∙ places3) less not))
     (λ past. inl (past_nothing p5 legal5 distinct5 t (let long = ap (λ (us : List Bool). length us) (flags5 ∙ places3) in omega (arith, past, long)))) (below_or t (length flags3)) in
+    let all_at : is_quiet (state_seen p) ≡ true → (t : ℕ) → RestsAt p5 legal5 distinct5 t = λ quiet.
+    let off0 : AreOff p0 = λ t. looked_off p p0 look0.looks.0 sole t (quiet_at (state_seen p) quiet t).1 in
+    let off1 : AreOff p1 = λ t. ⊎_elim (λ here. take.off.1 t (let less = here_long flags1 t here in let long = long1 in omega (arith, less, long)) here) (λ not. (take.others t not).1 (off0 t)) (here_or flags1 t) in
+    let off2 : AreOff p2 = λ t. looked_off p1 p2 look1.looks.0 sole1 t (off1 t) in
+    λ t. ⊎_elim
+    (λ here. inl (looked_left p4 p5 look2.looks.0 sole4 t (give.left.1 t (each.left.1 off2 t (let less = here_long flags3 t here in let long = long4 in omega (arith, less, long)) here))))
+    (λ not. elsewhere t not (quiet_at (state_seen p) quiet t)) (here_or flags3 t) in
     record {
       same = keeps.0;
       goes_on = record {
@@ -101,11 +109,6 @@ returns-clause-sweeps g c =
       );
       cleared = cleared;
       reclaimed = λ so. all_cleared p5 legal5 distinct5 (cleared so);
-      rests = λ quiet.
-          let off0 : AreOff p0 = λ t. looked_off p p0 look0.looks.0 sole t (quiet_at (state_seen p) quiet t).1 in
-          let off1 : AreOff p1 = λ t. ⊎_elim (λ here. take.off.1 t (let less = here_long flags1 t here in let long = long1 in omega (arith, less, long)) here) (λ not. (take.others t not).1 (off0 t)) (here_or flags1 t) in
-          let off2 : AreOff p2 = λ t. looked_off p1 p2 look1.looks.0 sole1 t (off1 t) in
-          all_rest p5 legal5 distinct5 (λ t. ⊎_elim
-          (λ here. inl (looked_left p4 p5 look2.looks.0 sole4 t (give.left.1 t (each.left.1 off2 t (let less = here_long flags3 t here in let long = long4 in omega (arith, less, long)) here))))
-          (λ not. elsewhere t not (quiet_at (state_seen p) quiet t)) (here_or flags3 t));
+      quiet = λ quiet. quiet_rests p5 legal5 distinct5 (all_at quiet);
+      rests = λ quiet. all_rest p5 legal5 distinct5 (all_at quiet);
     }
