@@ -13,44 +13,54 @@ use std::test::*;
 
 const SECOND: u64 = 0x1_0000_0001;
 
-// Adds each value to the sum of its kind: 0, `SECOND` or `u64::MAX`.
+// The sums of the values of kind 0, of `SECOND`, of `u64::MAX`, and of others.
+#[derive(Drop)]
+struct Totals {
+    first: AtomicU64,
+    second: AtomicU64,
+    third: AtomicU64,
+    others: AtomicU64,
+}
+
+// Adds each value to the sum of its kind.
 #[derive(Clone, Copy)]
 struct Sums<'a> {
-    sums: &'a [AtomicU64; 3],
+    sums: &'a Totals,
 }
 
 impl Reclaim<u64> for Sums<'_> {
     fn reclaim(self, kind: u64, value: u64) {
-        let place = match kind {
-            0 => 0,
-            SECOND => 1,
-            u64::MAX => 2,
-            _ => return,
+        let sum = match kind {
+            0 => &self.sums.first,
+            SECOND => &self.sums.second,
+            u64::MAX => &self.sums.third,
+            _ => &self.sums.others,
         };
-        self.sums[place].fetch_add(value, Ordering::SeqCst);
+        sum.fetch_add(value, Ordering::SeqCst);
     }
 }
 
 type Summing<'a> = Collector<u64, Sums<'a>>;
 
 // A collector with one link, whose batches have this many values.
-fn collector<'a>(
-    alloc: Global,
-    size: usize,
-    sums: &'a [AtomicU64; 3],
-) -> Result<Summing<'a>, Refusal>
+fn collector<'a>(alloc: Global, size: usize, sums: &'a Totals) -> Result<Summing<'a>, Refusal>
     ensures { IfOk result (λ made. its_links made ≡ 1) }
 {
     let collector = Collector::with_reclaimer(alloc, &mut IdSource::new(), 1, 1, Sums { sums })?;
     Ok(collector.batch_size(size))
 }
 
-fn sums_of(sums: &[AtomicU64; 3]) -> (u64, u64, u64) {
-    (ended(&sums[0]), ended(&sums[1]), ended(&sums[2]))
+fn sums_of(sums: &Totals) -> (u64, u64, u64) {
+    (ended(&sums.first), ended(&sums.second), ended(&sums.third))
 }
 
-fn no_sums() -> [AtomicU64; 3] {
-    [AtomicU64::new(0), AtomicU64::new(0), AtomicU64::new(0)]
+fn no_sums() -> Totals {
+    Totals {
+        first: AtomicU64::new(0),
+        second: AtomicU64::new(0),
+        third: AtomicU64::new(0),
+        others: AtomicU64::new(0),
+    }
 }
 
 fn retire<'a>(
