@@ -1,5 +1,5 @@
 //! A lock over a value that stays in its place. Threads share it by `&`, and one of them at a time has work done on the value.
-ghost use Rattle.std.specs.Prelude.{◌≡◌, ℕ};
+ghost use Rattle.std.specs.Prelude.{◌≡◌, ℕ, IfErr, IfOk};
 ghost use base.Stored.{coded_ℕ};
 ghost use Rattle.seize_content.specs.Steady.{keeps};
 ghost use Rattle.seize_cells.specs.Locks.{HadLock, MayLock};
@@ -55,6 +55,20 @@ impl<M: Steady> Lock<M> {
         let result = work_in(&self.cell, &mut token, work, with);
         self.token.give(token);
         result
+    }
+
+    /// The same where nobody has the lock: one swap, and it waits for nobody. Else the work is not done, and comes back.
+    pub fn try_with<W: LockWork<M, A, R>, A, R>(&self, work: W, with: &mut A) -> Result<R, W>
+        requires { MayLock M.label M.sound self.now (λ x. W.may work x with.old) }
+        ensures done { IfOk result (λ r. HadLock M.label M.sound self.now (λ x y. W.gives work x y with.old with.new r)) }
+        ensures taken { IfErr result (λ back. (back ≡ work) × (with.new ≡ with.old)) }
+    {
+        let Some(mut token) = self.token.try_take() else {
+            return Err(work);
+        };
+        let result = work_in(&self.cell, &mut token, work, with);
+        self.token.give(token);
+        Ok(result)
     }
 
     /// The same for a caller who has the lock alone. It takes no lock: nobody else can have it, whatever became of a work.

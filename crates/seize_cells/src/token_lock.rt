@@ -1,6 +1,6 @@
 //! A latch for which threads wait asleep: some attempts with yields between them, and then a bell, which is rung at each give while someone
 //! waits.
-ghost use Rattle.std.specs.Prelude.{◌≡◌};
+ghost use Rattle.std.specs.Prelude.{◌≡◌, IfSome};
 
 use crate::latch::Latch;
 use seize_content::CellToken;
@@ -47,7 +47,14 @@ impl TokenLock {
         self.wait(rt)
     }
 
-    // The same, asleep. What rings between the look at the bell and the attempt is not missed: the thread then does not fall asleep.
+    /// The token, if nobody has it.
+    pub(crate) fn try_take(&self) -> Option<CellToken>
+        ensures { IfSome result (λ token. token.name ≡ self.now.latch) }
+    {
+        self.latch.try_take()
+    }
+
+    // The same as `take`, asleep. What rings between the look at the bell and the attempt is not missed: the thread then does not fall asleep.
     fn wait(&self, rt: &impl Wait) -> CellToken
         ensures { result.name ≡ self.now.latch }
     {
