@@ -22,7 +22,7 @@ use Rattle.seize.proofs.Taken.{AreAllHere}
 
 -- Lists of which so much is known at each place.
 
-past_end : {X : Type 0} (xs : List X) (t : ℕ) (d : X) → length xs ≤ t → slice_index_or xs t d ≡ d
+pub past_end : {X : Type 0} (xs : List X) (t : ℕ) (d : X) → length xs ≤ t → slice_index_or xs t d ≡ d
 past_end [] t d past = refl
 past_end (x ∷ xs) zero d past = absurd (omega (arith, past))
 past_end (x ∷ xs) (suc t) d past = past_end xs t d (omega (arith, past))
@@ -46,12 +46,12 @@ below_or (suc t) (suc k) = ⊎_elim (λ less. inl (omega (arith, less))) (λ pas
 pub each_of : (P : ℕ → Type 0) (k : ℕ) → ((t : ℕ) → t < k → P t) → ((t : ℕ) → k ≤ t → P t) → (t : ℕ) → P t
 each_of P k below past t = ⊎_elim (below t) (past t) (below_or t k)
 
-used_at : (slots : List Record) (t : ℕ) → t < length slots → (slice_index_or slots t no_slot).used ≡ get_or (map (λ slot. slot.used) slots) t true
+pub used_at : (slots : List Record) (t : ℕ) → t < length slots → (slice_index_or slots t no_slot).used ≡ get_or (map (λ slot. slot.used) slots) t true
 used_at [] t below = absurd (omega (arith, below))
 used_at (x ∷ slots) zero below = refl
 used_at (x ∷ slots) (suc t) below = used_at slots t (omega (arith, below))
 
-not_false : (b : Bool) → ¬ (b ≡ false) → b ≡ true
+pub not_false : (b : Bool) → ¬ (b ≡ false) → b ≡ true
 not_false true not = refl
 not_false false not = absurd (not refl)
 

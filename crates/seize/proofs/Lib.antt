@@ -22,3 +22,4 @@ mod Swept
 mod Bare
 mod Taken
 mod Cleared
+mod Recovered

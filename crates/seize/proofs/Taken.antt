@@ -6,7 +6,7 @@ use Rattle.std.specs.Prelude.{slice_index_or}
 use Rattle.std.proofs.lemmas.List.{length-map, length-set}
 use Rattle.seize_machine.specs.Machine.State.{Slot as Record, no_slot}
 use Rattle.seize_table.specs.Place.{all_numbers}
-use Rattle.seize_book.specs.Others.{FollowsNumbers, MayTakeNumber, first_false, use_flags}
+use Rattle.seize_book.specs.Others.{MayTakeNumber, first_false, use_flags}
 use Rattle.seize_book.specs.Tokens.{Name}
 use Rattle.seize_book.specs.declared.book.numbers_key.NumbersKey.{NumbersKey}
 use Rattle.seize_book.specs.declared.book.pass.Pass.{Pass}
@@ -206,17 +206,17 @@ plus_one n = omega arith
 pub taken_as : {T : Type 0} (numbers : Numbers T) (k m : ℕ) → k ≡ m → AreTakenTo m numbers → AreTakenTo k numbers
 taken_as numbers k m same are = subst (λ (n : ℕ). AreTakenTo n numbers) (sym same) are
 
--- the key looked at the list, and knows no less
-pub taken_looked : {T : Type 0} (n : ℕ) (numbers numbers' : Numbers T) (pass' : Pass) → AreTakenTo n numbers → FollowsNumbers numbers.key pass' numbers'.key → use_flags numbers'.key ≡ use_flags numbers.key → numbers'.slots ≡ numbers.slots → numbers'.next ≡ numbers.next
+-- the key knows the same, and the same lies here
+pub taken_still : {T : Type 0} (n : ℕ) (numbers numbers' : Numbers T) → AreTakenTo n numbers → numbers_book numbers'.key ≡ numbers_book numbers.key → use_flags numbers'.key ≡ use_flags numbers.key → numbers'.slots ≡ numbers.slots → numbers'.next ≡ numbers.next
     → numbers'.book ≡ numbers.book → AreTakenTo n numbers'
-taken_looked n numbers numbers' pass' are follows flags slots next book =
+taken_still n numbers numbers' are key_book flags slots next book =
     let made : made_of numbers'.key ≡ made_of numbers.key = made_flags numbers'.key ∙ ap (λ (us : List Bool). length us) flags ∙ sym (made_flags numbers.key) in record {
-      book = follows.0 ∙ are.book ∙ ap (λ seen. seen.name) (sym book);
+      book = key_book ∙ are.book ∙ ap (λ seen. seen.name) (sym book);
       flags = flags ∙ are.flags ∙ ap (λ slots. flags_to n slots.items) (sym slots);
       slots = λ i slot is. subst (λ name. IsTakenAt name n i slot) (ap (λ seen. seen.name) (sym book)) (are.slots i slot (ap (λ slots. get_or slots.items i None) (sym slots) ∙ is));
       next = are.next;
       is_there = next ∙ are.is_there;
-      comes = (are.comes.0 ∙ sym made, are.comes.1 ∙ sym follows.0);
+      comes = (are.comes.0 ∙ sym made, are.comes.1 ∙ sym key_book);
     }
 
 pub places_length : {T : Type 0} (numbers numbers' : Numbers T) → KeepsPlaces numbers numbers' → length numbers'.slots.items ≡ length numbers.slots.items

@@ -9,6 +9,7 @@ pub mod Loose
 pub mod Makes
 pub mod Numbers
 pub mod OwnedGuards
+pub mod Places
 pub mod Reclaims
 pub mod Registrations
 pub mod Reservations

@@ -8,14 +8,14 @@
 --     NoneInUse c              no number is in use, as the collector has seen
 --     AllReclaimed c           each value that was ever retired is reclaimed, as the collector has seen
 --     ReclaimsAll c c' all     the same collector has seen a longer list. At the call the list was this: the collector had added nothing to
---                              what it had seen, and all that comes after was made with its own pass. Links, and which numbers are in use,
---                              are as they were then. It says `all` just where no number is in use; then no slot has a call, is active or
---                              has a batch (IsCleared), and each value that was ever retired is reclaimed. For either answer: where no
+--                              what it had seen, and all that comes after was made with its own pass. Links are as they were then, and a
+--                              number that is in use afterwards was so then. It says `all` just where no number is in use; then no slot has
+--                              a call, is active or has a batch (IsCleared), and each value that was ever retired is reclaimed. For either
+--                              answer: where no
 --                              slot had a call or was active at the call, so it is afterwards, and each value that was ever retired is
 --                              reclaimed, or stands in the batch of a slot whose number is in use (StandsInUse)
 use Rattle.std.specs.Prelude.{◌≡◌, ◌⊎◌, ◌↔◌, ℕ, Bool, true, false, List, ◌++◌}
 use mathlib.Core.List.{IsPrefix}
-use Rattle.seize_machine.specs.Machine.Frames.{used}
 use Rattle.seize_machine.specs.Machine.History.{Moment, Reclaimed, Retired}
 use Rattle.seize_machine.specs.Machine.Laws.{is_quiet}
 use Rattle.seize_machine.specs.Machine.State.{State, link_at, slot_at}
@@ -65,7 +65,7 @@ module _ {T R : Type 0} where
     pub grows : GoesOnTo (its_book c) at_call (seen_by c')
     pub by_itself : (added : List Entry) × (seen_by c' ≡ at_call ++ added) × AllBy 0 added
     pub links : (l : ℕ) → link_at (its_state c') l ≡ link_at (after (start (its_book c)) at_call) l
-    pub numbers : used (its_state c') ≡ used (after (start (its_book c)) at_call)
+    pub numbers : (s : ℕ) → (slot_at (its_state c') s).used ≡ true → (slot_at (after (start (its_book c)) at_call) s).used ≡ true
     pub none_in_use : (all ≡ true) ↔ NoneInUse c'
     pub cleared : all ≡ true → (s : ℕ) → IsCleared (its_state c') s
     pub reclaimed : all ≡ true → AllReclaimed c'

@@ -5,19 +5,20 @@
 --     IsOff pass s, AreOff pass     slot s is not active, as the pass has seen, or none is
 --     IsCleared st s           slot s has no call, is not active, and has no batch;  LeavesNothing pass s     so it is as the pass has seen
 --     KeepsPlaces numbers numbers'     the list is the same, and slots lie in the same places
+--     FindsMore numbers numbers'     the list is the same, and what lay in a place lies there still
+--     FindsOff numbers numbers' pass pass'     if no slot that lay there was active, none is that lies there afterwards
 --     LiesHere flags i         a slot lies in place i
 --     AreOffBelow n flags pass, AreClearedBelow n flags pass     each slot below n that lies here is not active, or leaves nothing
 --     KeepsOff pass pass'      each slot that is not active stays so;  KeepsCleared pass pass'     and so each that leaves nothing does;
 --                              KeepsClearedBut n pass pass'     each but slot n
 --     KeepsElse flags pass pass'   the record of each slot that does not lie here is as it was, and none of these is active that was not
 --     StandsInUse st v         v stands in the batch of a slot whose number is in use
---     Sweeps pass pass' all    it is the same pass. The list goes on with entries of this pass alone, where that is alone. The links, and
---                              which numbers are in use, are as they were. It says `all` just where no number is in use; then each slot
---                              leaves nothing, and each value that was ever retired is reclaimed.
+--     Sweeps pass pass' all    it is the same pass. The list goes on with entries of this pass alone, where that is alone. The links are
+--                              as they were, and a number that is in use then was so before. It says `all` just where no number is in use;
+--                              then each slot leaves nothing, and each value that was ever retired is reclaimed.
 --                              If no slot had a call or was active, so it is afterwards, and each retired value is reclaimed, or stands in
 --                              the batch of a slot whose number is in use
-use Rattle.std.specs.Prelude.{◌≡◌, ◌⊎◌, ◌↔◌, ◌<◌, ℕ, Bool, true, false, List, [], get_or, is_some}
-use Rattle.seize_machine.specs.Machine.Frames.{used}
+use Rattle.std.specs.Prelude.{◌≡◌, ◌⊎◌, ◌↔◌, ◌<◌, ℕ, Bool, true, false, List, [], get_or, is_some, length}
 use Rattle.std.specs.List.{Contains}
 use Rattle.seize_machine.specs.Machine.History.{Reclaimed, Retired}
 use Rattle.seize_machine.specs.Machine.Laws.{is_quiet}
@@ -74,12 +75,22 @@ KeepsPlaces numbers numbers' =
 abbrev pub LiesHere : List Bool → ℕ → Type 0
 LiesHere flags i = get_or flags i true ≡ false
 
+abbrev pub FindsMore : {T : Type 0} → Numbers T → Numbers T → Type 0
+FindsMore numbers numbers' =
+    (numbers'.book ≡ numbers.book) × (length numbers'.slots.items ≡ length numbers.slots.items)
+    × ((i : ℕ) → LiesHere (flags_of numbers.slots.items) i → LiesHere (flags_of numbers'.slots.items) i)
+
 -- each slot below n that lies here is not active;  or leaves nothing
 abbrev pub AreOffBelow : ℕ → List Bool → Pass → Type 0
 AreOffBelow n flags pass = (i : ℕ) → i < n → LiesHere flags i → IsOff pass i
 
 abbrev pub AreClearedBelow : ℕ → List Bool → Pass → Type 0
 AreClearedBelow n flags pass = (i : ℕ) → i < n → LiesHere flags i → LeavesNothing pass i
+
+abbrev pub FindsOff : {T : Type 0} → Numbers T → Numbers T → Pass → Pass → Type 0
+FindsOff numbers numbers' pass pass' =
+    AreOffBelow (length numbers.slots.items) (flags_of numbers.slots.items) pass
+    → AreOffBelow (length numbers'.slots.items) (flags_of numbers'.slots.items) pass'
 
 abbrev pub KeepsOff : Pass → Pass → Type 0
 KeepsOff pass pass' = (s : ℕ) → IsOff pass s → IsOff pass' s
@@ -102,7 +113,7 @@ pub record Sweeps (pass pass' : Pass) (all : Bool) : Type 0 where
   pub goes_on : GoesOnTo pass.name pass.seen pass'.seen
   pub adds : AddsAlone pass pass'
   pub links : HasSameLinks pass pass'
-  pub numbers : used (state_seen pass') ≡ used (state_seen pass)
+  pub numbers : (s : ℕ) → (slot_at (state_seen pass') s).used ≡ true → (slot_at (state_seen pass) s).used ≡ true
   pub none_in_use : (all ≡ true) ↔ ((s : ℕ) → (slot_at (state_seen pass') s).used ≡ false)
   pub cleared : all ≡ true → (s : ℕ) → LeavesNothing pass' s
   pub reclaimed : all ≡ true → (v q : ℕ) → Retired (moments_seen pass') v q → (k : ℕ) × Reclaimed (moments_seen pass') v k

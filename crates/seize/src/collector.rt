@@ -228,8 +228,8 @@ impl<T: Drop, R: Reclaim<T>> Collector<T, R> {
             words: &self.words,
             alloc: self.alloc,
         };
-        let slot = self.numbers.with(rt, registering, pass)?;
-        Ok(Registration::of(self, slot))
+        let (slot, place) = self.numbers.with(rt, registering, pass)?;
+        Ok(Registration::of(self, slot, place))
     }
 }
 
@@ -265,8 +265,8 @@ impl<T: Drop, R: Reclaim<T>> Collector<T, R> {
             words: &self.words,
             alloc: self.alloc,
         };
-        let slot = self.numbers.with(rt, registering, pass)?;
-        Ok(OwnedGuard::enter(self, slot, pass))
+        let (slot, place) = self.numbers.with(rt, registering, pass)?;
+        Ok(OwnedGuard::enter(self, slot, place, pass))
     }
 
     /// The pass looks at the list of events. Every law of the machine holds of what it has seen then, which goes on from what it had seen.
@@ -286,7 +286,7 @@ impl<T: Drop, R: Reclaim<T>> Collector<T, R> {
 
 // All slots that nobody has are swept by a pass that is alone.
 #[derive(Drop)]
-struct Sweep<'a, T, R: Copy> {
+struct Sweep<'a, T: Drop, R: Copy> {
     words: &'a Words<T>,
     reclaimer: &'a R,
     numbers: &'a mut Lock<Numbers<T>>,

@@ -11,7 +11,7 @@ use crate::collector::Collector;
 use crate::reader::Reader;
 use crate::reclaim::{Boxed, Reclaim};
 use crate::registration::Registration;
-use crate::works::{Flushing, Leaving, Refreshing, Sparing};
+use crate::works::{Flushing, Leaving, Losing, Refreshing, Sparing};
 pub use any::Guard;
 use seize_table::Refusal;
 use seize_words::book::Pass;
@@ -268,13 +268,28 @@ impl<'r, 'c, T: Drop, R: Reclaim<T>> LocalGuard<'r, 'c, T, R> {
         registration.reservation.with(rt, leaving, pass);
     }
 
-    /// Spends the guard without leaving. Its slot stays active for good, so what is retired from then on may never be reclaimed.
+    /// Spends the guard without leaving. Its slot stays active until `reclaim_all` finds it. Within another call of the same registration,
+    /// as from its reclaimer, the slot stays active for good.
+    ///
+    /// It takes no memory and waits for nobody.
     pub fn forget(self) {
         let LocalGuard {
-            registration: _,
+            registration,
             reader,
         } = self;
-        drop(reader);
+        let Reader {
+            collector,
+            number: _,
+            unit,
+            seen,
+        } = reader;
+        let words = &collector.words;
+        let losing = Losing { words, unit, seen };
+        drop(
+            registration
+                .reservation
+                .try_with(losing, &mut collector.pass()),
+        );
     }
 }
 

@@ -14,6 +14,7 @@ mod ends;
 pub mod guard;
 mod numbers;
 pub mod owned;
+mod place;
 mod reader;
 pub mod reclaim;
 pub mod registration;

@@ -9,11 +9,13 @@ ghost use Rattle.seize_words.specs.Totals.{made_of};
 ghost use Rattle.seize_machine.specs.Machine.Event.{Give};
 ghost use Rattle.seize_machine.specs.declared.machine.event.Answer.TheVariants.{Done};
 ghost use Rattle.seize.specs.Makes.{MakesNone, MakesOne};
-ghost use Rattle.seize.specs.Numbers.{AreNumbers, HasTaken, IsLockFor, MayEnd};
+ghost use Rattle.seize.specs.Places.{IsPlaceFor};
 ghost use Rattle.seize_table.specs.declared.refusal.Refusal.TheVariants.{NoMemory as no_memory};
 
+mod recovering;
 pub(crate) mod sweeping;
 
+use crate::place::{Place, Places};
 use seize_calls::slot::Slot;
 use seize_cells::LockWork;
 use seize_content::Steady;
@@ -25,24 +27,31 @@ use std::alloc::Global;
 
 /// What is needed to hand out slots.
 #[derive(Drop)]
-pub(crate) struct Numbers<T> {
+pub(crate) struct Numbers<T: Drop> {
     /// The right to take numbers and to give them back.
     key: NumbersKey,
     /// The slot that is made next. It is there whenever no work is done.
     next: Option<NextSlot>,
     /// The slots made so far, by their numbers: each whose number is not in use, and none in the place of one that is in use.
     slots: Vec<Option<Slot<T>>>,
+    /// The places of all slots made so far.
+    places: Places<T>,
     /// The list of events.
     book: Seen,
+    ghost placed: { places.book.name.family ≡ book.name.family },
 }
 
-impl<T> Steady for Numbers<T> {
+impl<T: Drop> Steady for Numbers<T> {
+    ghost use Rattle.seize.specs.Numbers.{AreNumbers};
+
     ghost label = { λ numbers. numbers.book.name.family };
 
     ghost sound = { λ numbers. AreNumbers numbers };
 }
 
 impl<T: Drop> Numbers<T> {
+    ghost use Rattle.seize.specs.Numbers.{AreNumbers, HasTaken};
+
     /// Those of a new list of events, which has no slot yet.
     pub(crate) fn new(alloc: Global, key: NumbersKey, next: NextSlot, book: &Seen) -> Numbers<T>
         requires key { (numbers_book key ≡ book.now.name) × (made_of key ≡ 0) }
@@ -53,6 +62,7 @@ impl<T: Drop> Numbers<T> {
             key,
             next: Some(next),
             slots: Vec::new(alloc),
+            places: Places::new(alloc, book),
             book: book.again(),
         }
     }
@@ -64,18 +74,29 @@ impl<T: Drop> Numbers<T> {
         self.slots.iter().position(|slot| slot.is_some())
     }
 
-    // The slot of the least number that is not in use: one that was made before, or a new one.
-    fn take(&mut self, words: &Words<T>, alloc: Global, pass: &mut Pass) -> Result<Slot<T>, Refusal>
+    // The slot of the least number that is not in use, one that was made before or a new one, and its place.
+    fn take(
+        &mut self,
+        words: &Words<T>,
+        alloc: Global,
+        pass: &mut Pass,
+    ) -> Result<(Slot<T>, Place<T>), Refusal>
         requires numbers { AreNumbers self.old × (self.old.book.name ≡ words_book words.now) }
         requires pass { IsPassFor words.now pass.old }
         ensures numbers { AreNumbers self.new × (self.new.book ≡ self.old.book) }
-        ensures made { IfOk result (λ slot. HasTaken words.now pass.old pass.new slot) }
+        ensures made { IfOk result (λ made. HasTaken words.now pass.old pass.new made.0 × IsPlaceFor words.now made.1) }
         ensures refused { IfErr result (λ refusal. MakesNone pass.old pass.new × (refusal ≡ no_memory)) }
     {
-        match self.first() {
-            Some(n) => Ok(self.again(words, n, pass)),
-            None => self.make(words, alloc, pass),
-        }
+        let first = self.first();
+        let Ok(place) = self.places.place(first.unwrap_or(self.slots.len())) else {
+            pass.learn(&self.book);
+            return Err(Refusal::NoMemory);
+        };
+        let slot = match first {
+            Some(n) => self.again(words, n, pass),
+            None => self.make(words, alloc, pass)?,
+        };
+        Ok((slot, place))
     }
 
     // The slot of number n, which is the least one that is not in use: the number is taken again.
@@ -126,6 +147,7 @@ impl<T: Drop> Numbers<T> {
 
 impl<T: Drop> Numbers<T> {
     ghost use Rattle.std.specs.Prelude.{IfSome};
+    ghost use Rattle.seize.specs.Numbers.{AreNumbers, IsLockFor};
     ghost use Rattle.seize_book.specs.Passes.{IsSamePass};
     ghost use Rattle.seize_calls.specs.Slots.{IsInactive, IsSlotOf};
 
@@ -154,15 +176,21 @@ pub(crate) struct Registering<'a, T> {
     pub(crate) alloc: Global,
 }
 
-impl<'a, 'p, T: Drop> LockWork<Numbers<T>, Pass<'p>, Result<Slot<T>, Refusal>>
+impl<'a, 'p, T: Drop> LockWork<Numbers<T>, Pass<'p>, Result<(Slot<T>, Place<T>), Refusal>>
     for Registering<'a, T> {
+    ghost use Rattle.seize.specs.Numbers.{HasTaken, IsLockFor};
+
     ghost may = { λ work numbers pass. IsLockFor work.words.now numbers × IsPassFor work.words.now pass };
 
     ghost gives = { λ work numbers numbers' pass pass' result.
-        IfOk result (λ slot. HasTaken work.words.now pass pass' slot)
+        IfOk result (λ made. HasTaken work.words.now pass pass' made.0 × IsPlaceFor work.words.now made.1)
         × IfErr result (λ refusal. MakesNone pass pass' × (refusal ≡ no_memory)) };
 
-    fn work(self, numbers: &mut Numbers<T>, pass: &mut Pass<'p>) -> Result<Slot<T>, Refusal> {
+    fn work(
+        self,
+        numbers: &mut Numbers<T>,
+        pass: &mut Pass<'p>,
+    ) -> Result<(Slot<T>, Place<T>), Refusal> {
         numbers.book.agree(&self.words.blocks.book);
         numbers.take(self.words, self.alloc, pass)
     }
@@ -178,6 +206,8 @@ pub(crate) struct Ending<'a, T> {
 }
 
 impl<'a, 'p, T: Drop> LockWork<Numbers<T>, Pass<'p>, ()> for Ending<'a, T> {
+    ghost use Rattle.seize.specs.Numbers.{IsLockFor, MayEnd};
+
     ghost may = { λ work numbers pass. IsLockFor work.words.now numbers × IsPassFor work.words.now pass
         × MayEnd work.words.now work.slot };
 

@@ -1,12 +1,14 @@
 //! Owned guards: each has a slot of its own, so it needs no registration, and threads share it. They read links by the guard's own unit of
 //! the slot's activation, each with a pass of its own; what changes the slot is done under the guard's lock.
 ghost use Rattle.std.specs.Prelude.{◌≡◌};
-ghost use Rattle.seize.specs.Collectors.{its_book};
+ghost use Rattle.seize.specs.Collectors.{its_book, its_words};
+ghost use Rattle.seize.specs.Places.{IsPlaceFor};
 ghost use Rattle.seize.specs.Reservations.{IsHeadFor, place_label};
 
 use crate::block::{Failed, Owned, Shared, Unlinked};
 use crate::collector::Collector;
 use crate::numbers::Ending;
+use crate::place::Place;
 use crate::reader::Reader;
 use crate::reclaim::{Boxed, Reclaim};
 use crate::reservation::Reservation;
@@ -30,8 +32,11 @@ pub struct OwnedGuard<'c, T: Drop, R: Reclaim<T> = Boxed> {
     // The slot's head.
     head: &'c Head,
     reservation: Lock<Reservation<T>>,
+    // Where the reservation is laid when the guard is forgotten.
+    place: Place<T>,
     ghost at: { reservation ≡ place_label (its_book reader.collector.now) reader.number 1 },
     ghost headed: { IsHeadFor (its_book reader.collector.now) reader.number head.now },
+    ghost placed: { IsPlaceFor (its_words reader.collector.now) place },
 }
 
 impl<'c, T: Drop, R: Reclaim<T>> OwnedGuard<'c, T, R> {
@@ -48,13 +53,15 @@ impl<'c, T: Drop, R: Reclaim<T>> OwnedGuard<'c, T, R> {
     ghost use Rattle.seize.specs.Makes.{IsOfKind, LeavesAndGives, MakesCall, MakesNone, MakesOne};
     ghost use Rattle.seize.specs.OwnedGuards.{owned_activation, owned_collector, owned_slot};
 
-    // One with this slot, which enters.
+    // One with this slot, which enters, and its place.
     pub(crate) fn enter(
         collector: &'c Collector<T, R>,
         slot: Slot<T>,
+        place: Place<T>,
         pass: &mut Pass,
     ) -> OwnedGuard<'c, T, R>
         requires slot { IsSlotFor collector.now slot × IsInactive slot }
+        requires place { IsPlaceFor (its_words collector.now) place }
         requires pass { IsPassOf collector.now pass.old }
         ensures of { (owned_collector result ≡ collector.now) × (owned_slot result ≡ its_number slot) }
         ensures enters { MakesOne pass.old pass.new (Enter (its_number slot)) Done }
@@ -73,6 +80,7 @@ impl<'c, T: Drop, R: Reclaim<T>> OwnedGuard<'c, T, R> {
             },
             head,
             reservation: Lock::new(reservation),
+            place,
         }
     }
 
@@ -280,6 +288,7 @@ impl<'c, T: Drop, R: Reclaim<T>> OwnedGuard<'c, T, R> {
             reader,
             head,
             reservation,
+            place: _,
         } = self;
         let Reader {
             collector,
@@ -303,16 +312,25 @@ impl<'c, T: Drop, R: Reclaim<T>> OwnedGuard<'c, T, R> {
         collector.numbers.with(rt, Ending { words, slot }, pass);
     }
 
-    /// Spends the guard without leaving. Its slot stays active for good, and its number in use, so what is retired from then on may never
-    /// be reclaimed.
+    /// Spends the guard without leaving. Its slot stays active, and its number in use, until `reclaim_all` finds it.
+    ///
+    /// It takes no memory and waits for nobody.
     pub fn forget(self) {
         let OwnedGuard {
             reader,
             head: _,
             reservation,
+            place,
         } = self;
-        drop(reader);
-        drop(reservation);
+        let Reader {
+            collector,
+            number: _,
+            unit,
+            seen,
+        } = reader;
+        let mut reservation = reservation.into_value();
+        reservation.lose(&collector.words, unit, &seen, &mut collector.pass());
+        place.lay(reservation);
     }
 }
 

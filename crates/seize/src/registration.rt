@@ -1,12 +1,14 @@
 //! A thread's slot, for as long as the thread keeps it.
 ghost use Rattle.std.specs.Prelude.{◌≡◌, ◌-◌, ◌^◌};
-ghost use Rattle.seize.specs.Collectors.{its_book};
+ghost use Rattle.seize.specs.Collectors.{its_book, its_words};
+ghost use Rattle.seize.specs.Places.{IsPlaceFor};
 ghost use Rattle.seize.specs.Reservations.{IsHeadFor, place_label};
 
 use crate::block::{Owned, Unlinked};
 use crate::collector::Collector;
 use crate::guard::LocalGuard;
 use crate::numbers::Ending;
+use crate::place::Place;
 use crate::reader::Reader;
 use crate::reclaim::{Boxed, Reclaim};
 use crate::reservation::Reservation;
@@ -27,8 +29,11 @@ pub struct Registration<'c, T: Drop, R: Reclaim<T> = Boxed> {
     // The slot's head.
     pub(crate) head: &'c Head,
     pub(crate) reservation: LocalLock<Reservation<T>>,
+    // Where the reservation is laid when the registration is forgotten.
+    place: Place<T>,
     ghost at: { reservation ≡ place_label (its_book collector.now) number (2 ^ 64 - 1) },
     ghost headed: { IsHeadFor (its_book collector.now) number head.now },
+    ghost placed: { IsPlaceFor (its_words collector.now) place },
 }
 
 impl<'c, T: Drop, R: Reclaim<T>> Registration<'c, T, R> {
@@ -42,9 +47,14 @@ impl<'c, T: Drop, R: Reclaim<T>> Registration<'c, T, R> {
     ghost use Rattle.seize.specs.Makes.{EndsUse, Enters, IsOfKind, MakesCall};
     ghost use Rattle.seize.specs.Registrations.{registered_in, registered_slot};
 
-    // One with this slot.
-    pub(crate) fn of(collector: &'c Collector<T, R>, slot: Slot<T>) -> Registration<'c, T, R>
+    // One with this slot, and its place.
+    pub(crate) fn of(
+        collector: &'c Collector<T, R>,
+        slot: Slot<T>,
+        place: Place<T>,
+    ) -> Registration<'c, T, R>
         requires slot { IsSlotFor collector.now slot × IsInactive slot }
+        requires place { IsPlaceFor (its_words collector.now) place }
         ensures { (registered_in result ≡ collector.now) × (registered_slot result ≡ its_number slot) }
     {
         let words = &collector.words;
@@ -56,6 +66,7 @@ impl<'c, T: Drop, R: Reclaim<T>> Registration<'c, T, R> {
             number,
             head,
             reservation: LocalLock::new(reservation),
+            place,
         }
     }
 
@@ -177,11 +188,13 @@ impl<'c, T: Drop, R: Reclaim<T>> Registration<'c, T, R> {
             number: _,
             head: _,
             reservation,
+            place,
         } = self;
         let words = &collector.words;
         let mut reservation = reservation.into_value();
         if reservation.guards > 0 {
             reservation.look(words, pass);
+            place.lay(reservation);
             return false;
         }
         let slot = reservation.slot;
@@ -190,14 +203,17 @@ impl<'c, T: Drop, R: Reclaim<T>> Registration<'c, T, R> {
         true
     }
 
-    /// Spends the registration. The slot stays as it is, and its number in use.
+    /// Spends the registration. The slot stays as it is, and its number in use, until `reclaim_all` finds it.
+    ///
+    /// It takes no memory and waits for nobody.
     pub fn forget(self) {
         let Registration {
             collector: _,
             number: _,
             head: _,
             reservation,
+            place,
         } = self;
-        drop(reservation);
+        place.lay(reservation.into_value());
     }
 }

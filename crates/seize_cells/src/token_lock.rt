@@ -54,7 +54,8 @@ impl TokenLock {
         self.latch.try_take()
     }
 
-    // The same as `take`, asleep. What rings between the look at the bell and the attempt is not missed: the thread then does not fall asleep.
+    // The same as `take`, asleep. What rings between the look at the bell and the attempt is not missed: the thread does not fall asleep
+    // then.
     fn wait(&self, rt: &impl Wait) -> CellToken
         ensures { result.name ≡ self.now.latch }
     {

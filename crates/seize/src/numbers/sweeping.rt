@@ -46,8 +46,8 @@ fn sweep<T: Drop, R: Reclaim<T>>(
 }
 
 impl<T: Drop> Numbers<T> {
-    /// Each slot that nobody has takes its number again; then each enters, attempts its batch and leaves; then the numbers go back. It says
-    /// whether all slots are there, so that no number is in use.
+    /// Each slot that nobody has takes its number again, and what was forgotten is found; then each enters, attempts its batch and leaves;
+    /// then the numbers go back. It says whether all slots are there, so that no number is in use.
     ///
     /// It takes no memory and waits for nobody, but for what the reclaimer does.
     pub(crate) fn sweep<R: Reclaim<T>>(
@@ -63,6 +63,7 @@ impl<T: Drop> Numbers<T> {
     {
         self.key.look(pass);
         self.take_all(words, pass);
+        self.recover_all(words, reclaimer, pass);
         self.key.look(pass);
         self.sweep_all(words, reclaimer, pass);
         self.give_all(words, pass);

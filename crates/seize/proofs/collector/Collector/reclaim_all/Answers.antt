@@ -5,7 +5,6 @@ use Rattle.seize_book.specs.Book.{after, mine, moments}
 use Rattle.seize_book.specs.Entry.{Entry}
 use Rattle.seize_book.specs.Porters.{GoesOnTo}
 use Rattle.seize_book.specs.Tokens.{Name, start}
-use Rattle.seize_machine.specs.Machine.Frames.{used}
 use Rattle.seize_calls.specs.Alone.{AllBy}
 use Rattle.seize_machine.specs.Machine.Laws.{is_quiet}
 use Rattle.seize.specs.Sweeps.{IsCleared, StandsInUse}
@@ -32,7 +31,8 @@ returns g c =
       grows = subst (λ (t : Name × List Entry). GoesOnTo t.0 lent.seen t.1) (λ j. (lent_name j, back_seen j)) sweeps.goes_on;
       by_itself = (added.0, sym back_seen ∙ added.1, subst (λ (p : ℕ). AllBy p added.0) stay.shut.alone added.2);
       links = λ l. ap (λ (t : Name × List Entry). link_at (after (start t.0) t.1) l) (λ j. (sym back_name j, sym back_seen j)) ∙ sweeps.links l ∙ ap (λ (n : Name). link_at (after (start n) lent.seen) l) lent_name;
-      numbers = ap (λ (t : Name × List Entry). used (after (start t.0) t.1)) (λ j. (sym back_name j, sym back_seen j)) ∙ sweeps.numbers ∙ ap (λ (n : Name). used (after (start n) lent.seen)) lent_name;
+      numbers = λ s is. ap (λ (n : Name). (slot_at (after (start n) lent.seen) s).used) (sym lent_name)
+          ∙ sweeps.numbers s (ap (λ (t : Name × List Entry). (slot_at (after (start t.0) t.1) s).used) (λ j. (back_name j, back_seen j)) ∙ is);
       none_in_use = subst (λ (t : Name × List Entry). (c.stay-all.result ≡ true) ↔ ((s : ℕ) → (slot_at (after (start t.0) t.1) s).used ≡ false)) (λ j. (back_name j, back_seen j)) sweeps.none_in_use;
       cleared = λ so. subst (λ (t : Name × List Entry). (s : ℕ) → IsCleared (after (start t.0) t.1) s) (λ j. (back_name j, back_seen j)) (sweeps.cleared so);
       reclaimed = λ so. subst (λ (t : Name × List Entry). (v q : ℕ) → Retired (moments (start t.0) t.1) v q → (k : ℕ) × Reclaimed (moments (start t.0) t.1) v k) (λ j. (back_name j, back_seen j)) (sweeps.reclaimed so);

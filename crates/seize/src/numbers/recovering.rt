@@ -1,0 +1,60 @@
+//! What is done with slots whose holders were forgotten, where nobody shares the collector. Each that can leave does, and lies with the
+//! others then. It comes while the numbers of all that lie here are taken, before these are swept.
+ghost use Rattle.std.specs.Prelude.{◌≡◌, length};
+ghost use Rattle.seize_book.specs.Tokens.{IsSole};
+ghost use Rattle.seize_words.specs.Joined.{words_book};
+ghost use Rattle.seize_calls.specs.Slots.{IsPassFor};
+ghost use Rattle.seize.specs.Numbers.{AreTakenTo, flags_of};
+ghost use Rattle.seize.specs.Sweeps.{FindsMore, FindsOff, KeepsElse, KeepsOff, KeepsOn};
+
+use crate::numbers::Numbers;
+use crate::reclaim::Reclaim;
+use seize_words::book::Pass;
+use seize_words::words::Words;
+
+impl<T: Drop> Numbers<T> {
+    // Each slot whose holder was forgotten leaves where it is active, and lies here then.
+    pub(super) fn recover_all<R: Reclaim<T>>(
+        &mut self,
+        words: &Words<T>,
+        reclaimer: R,
+        pass: &mut Pass,
+    )
+        requires taken { AreTakenTo (length self.old.slots.items) self.old × (self.old.book.name ≡ words_book words.now) }
+        requires pass { IsPassFor words.now pass.old × IsSole pass.old.id }
+        ensures taken { AreTakenTo (length self.new.slots.items) self.new × FindsMore self.old self.new }
+        ensures off { KeepsOn pass.old pass.new × KeepsOff pass.old pass.new × FindsOff self.old self.new pass.old pass.new }
+        ensures others { KeepsElse (flags_of self.new.slots.items) pass.old pass.new }
+    {
+        for n in 0..self.places.len() {
+            self.recover_at(words, reclaimer, n, pass);
+        }
+    }
+
+    // So does the slot that lies in this place, if one does. Its key and the numbers' have seen the same then, by which its number is one
+    // of those here.
+    fn recover_at<R: Reclaim<T>>(
+        &mut self,
+        words: &Words<T>,
+        reclaimer: R,
+        n: usize,
+        pass: &mut Pass,
+    )
+        requires taken { AreTakenTo (length self.old.slots.items) self.old × (self.old.book.name ≡ words_book words.now) }
+        requires pass { IsPassFor words.now pass.old × IsSole pass.old.id }
+        ensures taken { AreTakenTo (length self.new.slots.items) self.new × FindsMore self.old self.new }
+        ensures off { KeepsOn pass.old pass.new × KeepsOff pass.old pass.new × FindsOff self.old self.new pass.old pass.new }
+        ensures others { KeepsElse (flags_of self.new.slots.items) pass.old pass.new }
+    {
+        let Some(reservation) = self.places.take(n) else {
+            return;
+        };
+        if let Some(slot) = reservation.into_slot(words, reclaimer, pass) {
+            let mut slot = slot;
+            self.key.look(pass);
+            slot.look(words, pass);
+            let n = slot.number();
+            self.slots[n] = Some(slot);
+        }
+    }
+}
