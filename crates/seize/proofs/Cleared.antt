@@ -175,4 +175,4 @@ pub looked_off : (pass pass' : Pass) → LooksOn pass pass' → IsSole pass.id �
 looked_off pass pass' looks sole t was = ap (λ (st : State). is_active (head_at st t)) (looked_state pass pass' looks sole) ∙ was
 
 pub else_looked : (flags : List Bool) (pass pass' : Pass) → LooksOn pass pass' → IsSole pass.id → KeepsElse flags pass pass'
-else_looked flags pass pass' looks sole t not = let same = looked_state pass pass' looks sole in (ap (λ (st : State). slot_at st t) same, looked_off pass pass' looks sole t)
+else_looked flags pass pass' looks sole t not = let same = looked_state pass pass' looks sole in (ap (λ (st : State). slot_at st t) same, ap (λ (st : State). is_active (head_at st t)) same)

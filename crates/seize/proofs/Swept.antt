@@ -287,15 +287,15 @@ module _ {T : Type 0} (slot : Slot T) (pass : Pass) (slot' : Slot T) (pass' : Pa
 -- The slots that do not lie here.
 
 pub else_none : (flags : List Bool) (pass : Pass) → KeepsElse flags pass pass
-else_none flags pass t not = (refl, λ was. was)
+else_none flags pass t not = (refl, refl)
 
 pub else_then : (flags : List Bool) (a b c : Pass) → KeepsElse flags a b → KeepsElse flags b c → KeepsElse flags a c
-else_then flags a b c one two t not = let first = one t not in let second = two t not in (second.0 ∙ first.0, λ was. second.1 (first.1 was))
+else_then flags a b c one two t not = let first = one t not in let second = two t not in (second.0 ∙ first.0, second.1 ∙ first.1)
 
 -- what a slot that lies here does leaves them as they were
 pub else_led : (flags : List Bool) (s n : ℕ) (pass pass' : Pass) → s ≡ n → LiesHere flags n → IsLedBy s pass pass' → KeepsElse flags pass pass'
 else_led flags s n pass pass' same here led t not =
-    let apart : ¬ (t ≡ s) = λ e. not (subst (LiesHere flags) (sym (e ∙ same)) here) in (led.leads.slots t apart, λ was. led.leads.active t apart ∙ was)
+    let apart : ¬ (t ≡ s) = λ e. not (subst (LiesHere flags) (sym (e ∙ same)) here) in (led.leads.slots t apart, led.leads.active t apart)
 
 -- in the places as they were before
 pub else_more : (flags flags' : List Bool) (a b c : Pass) → flags' ≡ flags → KeepsElse flags a b → KeepsElse flags' b c → KeepsElse flags' a c

@@ -11,9 +11,9 @@
 --                              what it had seen, and all that comes after was made with its own pass. Links are as they were then, and a
 --                              number that is in use afterwards was so then. It says `all` just where no number is in use; then no slot has
 --                              a call, is active or has a batch (IsCleared), and each value that was ever retired is reclaimed. For either
---                              answer: where no
---                              slot had a call or was active at the call, so it is afterwards, and each value that was ever retired is
---                              reclaimed, or stands in the batch of a slot whose number is in use (StandsInUse)
+--                              answer: where no slot had a call or was active at the call, so it is afterwards. And where no slot has a
+--                              call or is active afterwards, each value that was ever retired is reclaimed, or stands in the batch of a
+--                              slot whose number is in use (StandsInUse)
 use Rattle.std.specs.Prelude.{◌≡◌, ◌⊎◌, ◌↔◌, ℕ, Bool, true, false, List, ◌++◌}
 use mathlib.Core.List.{IsPrefix}
 use Rattle.seize_machine.specs.Machine.History.{Moment, Reclaimed, Retired}
@@ -70,5 +70,5 @@ module _ {T R : Type 0} where
     pub cleared : all ≡ true → (s : ℕ) → IsCleared (its_state c') s
     pub reclaimed : all ≡ true → AllReclaimed c'
     pub quiet : is_quiet (after (start (its_book c)) at_call) ≡ true → is_quiet (its_state c') ≡ true
-    pub rests : is_quiet (after (start (its_book c)) at_call) ≡ true → (v q : ℕ) → Retired (moments_of c') v q
+    pub rests : is_quiet (its_state c') ≡ true → (v q : ℕ) → Retired (moments_of c') v q
         → ((k : ℕ) × Reclaimed (moments_of c') v k) ⊎ StandsInUse (its_state c') v

@@ -11,13 +11,13 @@
 --     AreOffBelow n flags pass, AreClearedBelow n flags pass     each slot below n that lies here is not active, or leaves nothing
 --     KeepsOff pass pass'      each slot that is not active stays so;  KeepsCleared pass pass'     and so each that leaves nothing does;
 --                              KeepsClearedBut n pass pass'     each but slot n
---     KeepsElse flags pass pass'   the record of each slot that does not lie here is as it was, and none of these is active that was not
+--     KeepsElse flags pass pass'   the record of each slot that does not lie here is as it was, and it is active if it was
 --     StandsInUse st v         v stands in the batch of a slot whose number is in use
 --     Sweeps pass pass' all    it is the same pass. The list goes on with entries of this pass alone, where that is alone. The links are
 --                              as they were, and a number that is in use then was so before. It says `all` just where no number is in use;
 --                              then each slot leaves nothing, and each value that was ever retired is reclaimed.
---                              If no slot had a call or was active, so it is afterwards, and each retired value is reclaimed, or stands in
---                              the batch of a slot whose number is in use
+--                              If no slot had a call or was active, so it is afterwards. If no slot has or is, each retired value is
+--                              reclaimed, or stands in the batch of a slot whose number is in use
 use Rattle.std.specs.Prelude.{◌≡◌, ◌⊎◌, ◌↔◌, ◌<◌, ℕ, Bool, true, false, List, [], get_or, is_some, length}
 use Rattle.std.specs.List.{Contains}
 use Rattle.seize_machine.specs.Machine.History.{Reclaimed, Retired}
@@ -103,7 +103,8 @@ KeepsClearedBut n pass pass' = (s : ℕ) → ¬ (s ≡ n) → LeavesNothing pass
 
 abbrev pub KeepsElse : List Bool → Pass → Pass → Type 0
 KeepsElse flags pass pass' =
-    (t : ℕ) → ¬ (LiesHere flags t) → (slot_at (state_seen pass') t ≡ slot_at (state_seen pass) t) × (IsOff pass t → IsOff pass' t)
+    (t : ℕ) → ¬ (LiesHere flags t) → (slot_at (state_seen pass') t ≡ slot_at (state_seen pass) t)
+    × (is_active (head_at (state_seen pass') t) ≡ is_active (head_at (state_seen pass) t))
 
 abbrev pub StandsInUse : State → ℕ → Type 0
 StandsInUse st v = (s : ℕ) × ((slot_at st s).used ≡ true) × Contains (slot_at st s).batch v
@@ -118,5 +119,5 @@ pub record Sweeps (pass pass' : Pass) (all : Bool) : Type 0 where
   pub cleared : all ≡ true → (s : ℕ) → LeavesNothing pass' s
   pub reclaimed : all ≡ true → (v q : ℕ) → Retired (moments_seen pass') v q → (k : ℕ) × Reclaimed (moments_seen pass') v k
   pub quiet : is_quiet (state_seen pass) ≡ true → is_quiet (state_seen pass') ≡ true
-  pub rests : is_quiet (state_seen pass) ≡ true → (v q : ℕ) → Retired (moments_seen pass') v q
+  pub rests : is_quiet (state_seen pass') ≡ true → (v q : ℕ) → Retired (moments_seen pass') v q
       → ((k : ℕ) × Reclaimed (moments_seen pass') v k) ⊎ StandsInUse (state_seen pass') v

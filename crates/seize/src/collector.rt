@@ -30,13 +30,13 @@ const MOST_PROCESSORS: usize = 0x8000_0000_0000_0000;
 /// It has numbered links, which hold a block each or nothing, and slots, which threads have by their registrations. It follows the Hyaline
 /// scheme with one list of waiting batches for each slot.
 ///
-/// Where nobody shares it, `reclaim_all` reclaims what waits in the batches of slots. Where it is dropped that is done, and then each value
-/// in a link goes to the reclaimer. It reaches the batch of each slot whose number went back: its registration ended with the answer true,
-/// or its owned guard left. That takes no memory and waits for nobody, but for what the reclaimer does. Where something was forgotten,
-/// values leak, with the memory of their rows of the store:
+/// Where nobody shares it, `reclaim_all` reclaims what waits in the batches of slots, also of those that were forgotten. Where it is
+/// dropped that is done, and then each value in a link goes to the reclaimer. That takes no memory and waits for nobody, but for what the
+/// reclaimer does. Values leak, with the memory of their rows of the store, where what held a registration or a guard was given to
+/// `mem::forget`, or a guard was forgotten within another call of its registration:
 ///
-/// - where a registration was forgotten, those in its slot's batch, and where no number went back, those in the links too;
-/// - where a guard was forgotten, all of them: its slot is active for good, and what is retired waits for it.
+/// - where a registration is gone so, those in its slot's batch, and if all are, those in the links too;
+/// - where a guard is gone so, all of them: its slot is active for good, and what is retired waits for it.
 pub struct Collector<T: Drop, R: Reclaim<T> = Boxed> {
     pub(crate) words: Words<T>,
     porter: Porter,
@@ -333,13 +333,15 @@ impl<T: Drop, R: Reclaim<T>> Collector<T, R> {
         porter.leave_home();
     }
 
-    /// Reclaims what waits in the batches of all slots that nobody has. It answers true where no number is in use: each registration ended
-    /// with the answer true, and each owned guard left. Then each value that was ever retired was reclaimed, and went to the reclaimer.
-    /// What the links hold stays, and the collector may be shared again.
+    /// Reclaims all that was retired. Slots that were forgotten leave first: those of registrations and guards that `forget` spent, and of
+    /// registrations that ended with the answer false. Then each slot attempts its batch, and the numbers go back. What the links hold
+    /// stays, and the collector may be shared again. It answers true where no number is in use then; so each value that was ever retired
+    /// was reclaimed, and went to the reclaimer.
     ///
-    /// It answers false for good where a registration or a guard was forgotten. The batch of a forgotten registration's slot stays then;
-    /// and what waits for the slot of a forgotten guard, or is attempted later, stays as well. Where no slot had a call or was active, each
-    /// other retired value was reclaimed all the same.
+    /// It answers false for good where a guard or a registration is gone otherwise: what held it was given to `mem::forget`, or `forget`
+    /// was called on a guard within another call of its registration. What waits in the batch of that slot stays then; and if the slot is
+    /// active, so does what waits for it, or is attempted later. Where no slot had a call or was active, each other retired value was
+    /// reclaimed all the same.
     ///
     /// The slots go in order of their numbers. It takes no memory and waits for nobody, but for what the reclaimer does. Each slot
     /// makes two atomic swaps and an attempt of its batch, which looks at the heads of all slots.

@@ -20,7 +20,7 @@ use std::{fmt, mem};
 
 /// A guard of a registration, for the registration's thread alone.
 ///
-/// It has no `Drop`: it is spent by `leave`, or by `forget`, after which the slot stays active.
+/// It has no `Drop`: it is spent by `leave`, or by `forget`, after which the slot stays active until the collector is had alone.
 pub struct LocalGuard<'r, 'c, T: Drop, R: Reclaim<T> = Boxed> {
     registration: &'r Registration<'c, T, R>,
     reader: Reader<'c, T, R>,
@@ -268,8 +268,8 @@ impl<'r, 'c, T: Drop, R: Reclaim<T>> LocalGuard<'r, 'c, T, R> {
         registration.reservation.with(rt, leaving, pass);
     }
 
-    /// Spends the guard without leaving. Its slot stays active until `reclaim_all` finds it. Within another call of the same registration,
-    /// as from its reclaimer, the slot stays active for good.
+    /// Spends the guard without leaving. Its slot stays active until `Collector::reclaim_all`, or the collector's drop, finds it. Within
+    /// another call of the same registration, as from a reclaimer, the slot stays active for good.
     ///
     /// It takes no memory and waits for nobody.
     pub fn forget(self) {

@@ -176,7 +176,7 @@ impl<'c, T: Drop, R: Reclaim<T>> Registration<'c, T, R> {
     }
 
     /// Gives the slot's number back: the event `Give`, and the answer true. Where a guard was forgotten the slot is active still; then the
-    /// answer is false, no event is made, and the number stays in use.
+    /// answer is false, no event is made, and the number stays in use, as where the registration is forgotten.
     ///
     /// It takes no memory, and waits for other threads that register or end. The slot's batch stays for the next one who has the number.
     pub fn end<W: Wait>(self, rt: &W, pass: &mut Pass) -> bool
@@ -203,7 +203,8 @@ impl<'c, T: Drop, R: Reclaim<T>> Registration<'c, T, R> {
         true
     }
 
-    /// Spends the registration. The slot stays as it is, and its number in use, until `reclaim_all` finds it.
+    /// Spends the registration. The slot stays as it is, and its number in use, until `Collector::reclaim_all`, or the collector's drop,
+    /// finds it.
     ///
     /// It takes no memory and waits for nobody.
     pub fn forget(self) {

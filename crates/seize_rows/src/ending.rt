@@ -1,4 +1,4 @@
-//! What ends with its collector: each value that links or batches hold, once; and what does not, where something was forgotten.
+//! What ends with its collector: each value that links or batches hold, once.
 ghost use Rattle.std.specs.Prelude.{◌≡◌, ◌<◌, IfOk, IfSome};
 ghost use Rattle.seize.specs.Collectors.{IsBlockOf, IsPassOf, its_links};
 ghost use Rattle.seize.specs.Registrations.{registered_in};
@@ -171,53 +171,6 @@ fn retire_while_active<'a>(
     };
     registration.end(rt, &mut pass);
     answer
-}
-
-// A registration that retired two values is forgotten.
-pub(crate) fn forget_registration<'a>(
-    rt: &impl Wait,
-    collector: &Counting<'a>,
-    ends: &'a AtomicU64,
-) -> Result<(), Refusal> {
-    let mut pass = collector.pass();
-    let registration = collector.register(rt, &mut pass)?;
-    retire(rt, collector, &registration, 2, ends, &mut pass);
-    registration.forget();
-    Ok(())
-}
-
-#[test]
-fn a_forgotten_registration_keeps_its_batch_alone(rt: HostRuntime) -> Result<(), Fail> {
-    let ends = AtomicU64::new(0);
-    let collector = collector(rt.alloc())?;
-    forget_registration(&rt, &collector, &ends)?;
-    put_in_all(&rt, &collector, &ends)?;
-    retire_by_two(&rt, &collector, &ends)?;
-    drop(collector);
-    assert_eq!(rt; ended(&ends), 11);
-    Ok(())
-}
-
-// A guard is forgotten, and then its registration ends.
-pub(crate) fn forget_guard<'a>(rt: &impl Wait, collector: &Counting<'a>) -> Result<bool, Refusal> {
-    let mut pass = collector.pass();
-    let registration = collector.register(rt, &mut pass)?;
-    if let Ok(guard) = registration.enter(&mut pass) {
-        guard.forget();
-    }
-    Ok(registration.end(rt, &mut pass))
-}
-
-#[test]
-fn a_forgotten_guard_keeps_all_that_is_left(rt: HostRuntime) -> Result<(), Fail> {
-    let ends = AtomicU64::new(0);
-    let collector = collector(rt.alloc())?;
-    put_in_all(&rt, &collector, &ends)?;
-    assert_eq!(rt; forget_guard(&rt, &collector)?, false);
-    retire_by_two(&rt, &collector, &ends)?;
-    drop(collector);
-    assert_eq!(rt; ended(&ends), 0);
-    Ok(())
 }
 
 // Two threads put values into the same links, and retire others.

@@ -1,95 +1,239 @@
-//! Registrations and guards that many threads forget: the collector can be dropped all the same, and what ends then.
+//! What was forgotten comes back once the collector is had alone: its slots leave, what waited for them ends, and their numbers go back.
+//! So it is with the collector's drop. What is gone in another way stays.
 ghost use Rattle.std.specs.Prelude.{◌≡◌};
+ghost use Rattle.seize.specs.Collectors.{IsPassOf};
+ghost use Rattle.seize.specs.Registrations.{registered_in};
 
-use crate::ending::{Counting, collector, forget_guard, put_in_all, retire};
-use crate::values::ended;
+use crate::ending::{Counting, collector, put_in_all};
+use crate::values::{Counted, ended};
+use seize::{Collector, IdSource, LocalGuard, Pass, Refusal, Registration, Unlinked};
 use std::alloc::{AllocError, Global};
+use std::ops::Range;
 use std::sync::Wait;
-use std::sync::atomic::AtomicU64;
+use std::sync::atomic::{AtomicU64, Ordering};
 use std::test::*;
-use std::thread;
 use std::thread::Threads;
+use std::{mem, thread};
 
-// How many threads there are.
-const MANY: usize = 8;
+// A value that tells its end by a digit, behind those of all that ended before.
+struct Digit<'a> {
+    digit: u64,
+    told: &'a AtomicU64,
+}
 
-// Registers and retires two values. Then the registration is forgotten, or it ends; it says whether memory was there, and that went well.
-fn retire_two<'a>(
+impl Drop for Digit<'_> {
+    fn drop(self) {
+        let Digit { digit, told } = self;
+        let before = told.load(Ordering::SeqCst).wrapping_mul(10);
+        told.store(before.wrapping_add(digit), Ordering::SeqCst);
+    }
+}
+
+type Telling<'a> = Collector<Digit<'a>>;
+
+// A collector with no link, and batches of this many values.
+fn telling<'a>(alloc: Global, size: usize) -> Result<Telling<'a>, Refusal> {
+    let made: Telling<'a> = Collector::new(alloc, &mut IdSource::new(), 1, 0)?;
+    Ok(made.batch_size(size))
+}
+
+// Retires a value for each digit.
+fn retire<'c, 'a>(
     rt: &impl Wait,
-    collector: &Counting<'a>,
-    forgets: bool,
-    ends: &'a AtomicU64,
-) -> bool {
+    collector: &'c Telling<'a>,
+    registration: &Registration<'c, Digit<'a>>,
+    digits: Range<u64>,
+    told: &'a AtomicU64,
+    pass: &mut Pass,
+)
+    requires its { registered_in registration.now ≡ collector.now }
+    requires pass { IsPassOf collector.now pass.old }
+    ensures { IsPassOf collector.now pass.new }
+{
+    for digit in digits {
+        if let Ok(owned) = collector.owned(Digit { digit, told }) {
+            registration.retire(rt, pass, Unlinked::from_owned(owned, collector));
+        }
+    }
+}
+
+// Registers, and ends. It gives the number, and whether it went back.
+fn register<T: Drop>(rt: &impl Wait, collector: &Collector<T>) -> Result<(usize, bool), Refusal> {
+    let mut pass = collector.pass();
+    let registration = collector.register(rt, &mut pass)?;
+    Ok((registration.thread_id(), registration.end(rt, &mut pass)))
+}
+
+// A guard is forgotten.
+fn forget_guard<T: Drop>(registration: &Registration<'_, T>, pass: &mut Pass) -> Result<(), Refusal>
+    requires { IsPassOf (registered_in registration.now) pass.old }
+    ensures { IsPassOf (registered_in registration.now) pass.new }
+{
+    registration.enter(pass)?.forget();
+    Ok(())
+}
+
+// An owned guard is forgotten. Then a registration retires three values and ends.
+fn forget_owned<'a>(
+    rt: &impl Wait,
+    collector: &Telling<'a>,
+    told: &'a AtomicU64,
+) -> Result<bool, Refusal> {
+    let mut pass = collector.pass();
+    collector.enter_owned(rt, &mut pass)?.forget();
+    let registration = collector.register(rt, &mut pass)?;
+    retire(rt, collector, &registration, 1..4, told, &mut pass);
+    Ok(registration.end(rt, &mut pass))
+}
+
+#[test]
+fn what_waits_for_a_forgotten_owned_guard_ends(rt: HostRuntime) -> Result<(), Fail> {
+    let told = AtomicU64::new(0);
+    let mut collector = telling(rt.alloc(), 1)?;
+    for ends in [321, 321321] {
+        assert!(rt; forget_owned(&rt, &collector, &told)?);
+        assert_eq!(rt; register(&rt, &collector)?, (1, true));
+        assert!(rt; collector.reclaim_all());
+        assert_eq!(rt; told.load(Ordering::SeqCst), ends);
+        assert_eq!(rt; register(&rt, &collector)?, (0, true));
+    }
+    Ok(())
+}
+
+// One registration retires a value behind three guards, two of which are forgotten. Another one retires three. Both are forgotten.
+fn forget_both<'a>(
+    rt: &impl Wait,
+    collector: &Telling<'a>,
+    told: &'a AtomicU64,
+) -> Result<(), Refusal> {
+    let mut pass = collector.pass();
+    let first = collector.register(rt, &mut pass)?;
+    let second = collector.register(rt, &mut pass);
+    let one = forget_guard(&first, &mut pass);
+    if let Ok(guard) = first.enter(&mut pass) {
+        guard.leave(rt, &mut pass);
+    }
+    let other = forget_guard(&first, &mut pass);
+    retire(rt, collector, &first, 4..5, told, &mut pass);
+    first.forget();
+    let second = second?;
+    retire(rt, collector, &second, 1..4, told, &mut pass);
+    second.forget();
+    one?;
+    other
+}
+
+#[test]
+fn what_forgotten_registrations_retired_ends(rt: HostRuntime) -> Result<(), Fail> {
+    let told = AtomicU64::new(0);
+    let mut collector = telling(rt.alloc(), 2)?;
+    forget_both(&rt, &collector, &told)?;
+    assert_eq!(rt; register(&rt, &collector)?, (2, true));
+    assert_eq!(rt; told.load(Ordering::SeqCst), 0);
+    assert!(rt; collector.reclaim_all());
+    assert_eq!(rt; told.load(Ordering::SeqCst), 1243);
+    assert_eq!(rt; register(&rt, &collector)?, (0, true));
+    Ok(())
+}
+
+// A guard that can be lost.
+struct Held<'r, 'c, 'a>(LocalGuard<'r, 'c, Counted<'a>>);
+
+impl Drop for Held<'_, '_, '_> {
+    fn drop(self) {
+        let Held(guard) = self;
+        guard.forget();
+    }
+}
+
+// How a thread leaves its registration.
+#[derive(Clone, Copy)]
+enum Way {
+    Ends,
+    Forgets,
+    ForgetsAGuard,
+    LosesAGuard,
+}
+
+// Retires two values. It says whether memory was there, and whether the number went back just where the registration ends.
+fn retire_two<'a>(rt: &impl Wait, collector: &Counting<'a>, way: Way, ends: &'a AtomicU64) -> bool {
     let mut pass = collector.pass();
     let Ok(registration) = collector.register(rt, &mut pass) else {
         return false;
     };
-    retire(rt, collector, &registration, 2, ends, &mut pass);
-    if forgets {
+    crate::ending::retire(rt, collector, &registration, 2, ends, &mut pass);
+    if let Way::Forgets = way {
         registration.forget();
         return true;
     }
-    registration.end(rt, &mut pass)
+    let entered = match way {
+        Way::Ends | Way::Forgets => true,
+        Way::ForgetsAGuard => forget_guard(&registration, &mut pass).is_ok(),
+        Way::LosesAGuard => match registration.enter(&mut pass) {
+            Ok(guard) => {
+                mem::forget(Held(guard));
+                true
+            }
+            Err(_) => false,
+        },
+    };
+    let ended = registration.end(rt, &mut pass);
+    entered && ended == matches!(way, Way::Ends)
 }
 
-// Many threads do so, in the same way. It says how many of them went well.
+// Eight threads do so, in the same way. It says whether all went well.
 fn retire_by_many<'a, R: Threads + Wait + Sync>(
     rt: &R,
     alloc: Global,
     collector: &Counting<'a>,
-    forgets: bool,
+    way: Way,
     ends: &'a AtomicU64,
-) -> Result<usize, AllocError> {
-    let all = thread::map_indices(
-        rt,
-        alloc,
-        MANY,
-        &|_| retire_two(rt, collector, forgets, ends),
-    )?;
-    Ok(all.iter().filter(|well| **well).count())
+) -> Result<bool, AllocError> {
+    let all = thread::map_indices(rt, alloc, 8, &|_| retire_two(rt, collector, way, ends))?;
+    Ok(all.iter().all(|well| *well))
 }
 
-// Many threads forget a guard each. It says of how many the registration kept its number then.
-fn forget_many<'a, R: Threads + Wait + Sync>(
-    rt: &R,
-    alloc: Global,
-    collector: &Counting<'a>,
-) -> Result<usize, AllocError> {
-    let all = thread::map_indices(rt, alloc, MANY, &|_| forget_guard(rt, collector).ok())?;
-    Ok(all.iter().filter(|ended| **ended == Some(false)).count())
-}
-
-// Threads forget their registrations, and others end theirs: with the collector all ends but what the forgotten ones retired.
 #[test]
-fn forgotten_registrations_keep_their_batches_alone(rt: HostRuntime) -> Result<(), Fail> {
+fn what_threads_forget_ends_when_all_is_reclaimed(rt: HostRuntime) -> Result<(), Fail> {
     let ends = AtomicU64::new(0);
-    let collector = collector(rt.alloc())?;
-    assert_eq!(rt;
-        retire_by_many(&rt, rt.alloc(), &collector, true, &ends)?,
-        MANY
-    );
-    assert_eq!(rt;
-        retire_by_many(&rt, rt.alloc(), &collector, false, &ends)?,
-        MANY
-    );
+    let mut collector = collector(rt.alloc())?;
     put_in_all(&rt, &collector, &ends)?;
-    assert_eq!(rt; ended(&ends), 0);
+    for (way, many) in [
+        (Way::ForgetsAGuard, 19),
+        (Way::Forgets, 35),
+        (Way::Ends, 51),
+    ] {
+        assert!(rt; retire_by_many(&rt, rt.alloc(), &collector, way, &ends)?);
+        assert!(rt; collector.reclaim_all());
+        assert_eq!(rt; ended(&ends), many);
+    }
+    assert_eq!(rt; register(&rt, &collector)?, (0, true));
     drop(collector);
-    assert_eq!(rt; ended(&ends), 22);
+    assert_eq!(rt; ended(&ends), 54);
     Ok(())
 }
 
-// Threads forget guards, whose slots keep their numbers: nothing ends with the collector, and it is dropped all the same.
 #[test]
-fn forgotten_guards_keep_all_that_is_left(rt: HostRuntime) -> Result<(), Fail> {
+fn what_threads_forget_ends_with_the_collector(rt: HostRuntime) -> Result<(), Fail> {
     let ends = AtomicU64::new(0);
     let collector = collector(rt.alloc())?;
     put_in_all(&rt, &collector, &ends)?;
-    assert_eq!(rt; forget_many(&rt, rt.alloc(), &collector)?, MANY);
-    assert_eq!(rt;
-        retire_by_many(&rt, rt.alloc(), &collector, false, &ends)?,
-        MANY
-    );
+    assert!(rt; retire_by_many(&rt, rt.alloc(), &collector, Way::ForgetsAGuard, &ends)?);
+    assert!(rt; retire_by_many(&rt, rt.alloc(), &collector, Way::Forgets, &ends)?);
+    assert_eq!(rt; ended(&ends), 0);
+    drop(collector);
+    assert_eq!(rt; ended(&ends), 38);
+    Ok(())
+}
+
+// A guard that is gone by `mem::forget` keeps its slot active: what is retired later waits for ever, and the answer says so.
+#[test]
+fn what_waits_for_lost_guards_does_not_end(rt: HostRuntime) -> Result<(), Fail> {
+    let ends = AtomicU64::new(0);
+    let mut collector = collector(rt.alloc())?;
+    assert!(rt; retire_by_many(&rt, rt.alloc(), &collector, Way::LosesAGuard, &ends)?);
+    put_in_all(&rt, &collector, &ends)?;
+    assert!(rt; !collector.reclaim_all());
     drop(collector);
     assert_eq!(rt; ended(&ends), 0);
     Ok(())

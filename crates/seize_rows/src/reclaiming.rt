@@ -1,13 +1,11 @@
-//! What an exclusive call reclaims: all that was retired, where nothing was forgotten, and it says so. The links keep what they hold, and
+//! What an exclusive call reclaims: all that was retired, and it says so. The links keep what they hold, and
 //! the collector is shared again.
 
 ghost use Rattle.std.specs.Prelude.{◌≡◌, ◌<◌, IfOk};
 ghost use Rattle.seize.specs.Collectors.{IsPassOf, its_links};
 ghost use Rattle.seize.specs.Registrations.{registered_in};
 
-use crate::ending::{
-    TIMES, collector, forget_guard, forget_registration, put_by_two, put_in_all, retire_by_two,
-};
+use crate::ending::{TIMES, collector, put_by_two, put_in_all, retire_by_two};
 use crate::values::ended;
 use seize::{Collector, IdSource, Pass, Refusal, Registration};
 use seize_threads_rows::marked::{Marked, ended as ended_marks, marks};
@@ -42,28 +40,6 @@ fn batches_of_two_slots_end_at_once(rt: HostRuntime) -> Result<(), Fail> {
         assert!(rt; collector.reclaim_all());
         assert_eq!(rt; ended(&ends), 5 * times);
     }
-    Ok(())
-}
-
-#[test]
-fn a_forgotten_registration_keeps_its_batch(rt: HostRuntime) -> Result<(), Fail> {
-    let ends = AtomicU64::new(0);
-    let mut collector = collector(rt.alloc())?;
-    forget_registration(&rt, &collector, &ends)?;
-    retire_by_two(&rt, &collector, &ends)?;
-    assert!(rt; !collector.reclaim_all());
-    assert_eq!(rt; ended(&ends), 5);
-    Ok(())
-}
-
-#[test]
-fn a_forgotten_guard_keeps_what_was_retired(rt: HostRuntime) -> Result<(), Fail> {
-    let ends = AtomicU64::new(0);
-    let mut collector = collector(rt.alloc())?;
-    assert_eq!(rt; forget_guard(&rt, &collector)?, false);
-    retire_by_two(&rt, &collector, &ends)?;
-    assert!(rt; !collector.reclaim_all());
-    assert_eq!(rt; ended(&ends), 0);
     Ok(())
 }
 

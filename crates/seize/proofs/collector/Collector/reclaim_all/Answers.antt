@@ -39,5 +39,5 @@ returns g c =
       quiet = λ quiet. subst (λ (t : Name × List Entry). is_quiet (after (start t.0) t.1) ≡ true) (λ j. (back_name j, back_seen j))
           (sweeps.quiet (ap (λ (n : Name). is_quiet (after (start n) lent.seen)) lent_name ∙ quiet));
       rests = λ quiet. subst (λ (t : Name × List Entry). (v q : ℕ) → Retired (moments (start t.0) t.1) v q → ((k : ℕ) × Reclaimed (moments (start t.0) t.1) v k) ⊎ StandsInUse (after (start t.0) t.1) v)
-          (λ j. (back_name j, back_seen j)) (sweeps.rests (ap (λ (n : Name). is_quiet (after (start n) lent.seen)) lent_name ∙ quiet));
+          (λ j. (back_name j, back_seen j)) (sweeps.rests (ap (λ (t : Name × List Entry). is_quiet (after (start t.0) t.1)) (λ j. (back_name j, back_seen j)) ∙ quiet));
     }

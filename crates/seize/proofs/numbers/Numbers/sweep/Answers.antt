@@ -96,16 +96,26 @@ returns-clause-sweeps g c =
     (else_then flags3 p3 p4 p5 (subst (λ (us : List Bool). KeepsElse us p3 p4) places3 give.others) (else_looked flags3 p4 p5 look2.looks.0 sole4)))))) in
     let elsewhere : (t : ℕ) → ¬ (LiesHere flags3 t) → (is_some (slot_at (state_seen p) t).call ≡ false) × IsOff p t → RestsAt p5 legal5 distinct5 t = λ t not rest.
     let kept = others t not in
-    ⊎_elim (λ less. inr (ap (λ (z : Record). is_some z.call) kept.0 ∙ rest.0, kept.1 rest.1, used_else p5 legal5 distinct5 flags3 t (flags5 ∙ places3) less not))
+    ⊎_elim (λ less. inr (ap (λ (z : Record). is_some z.call) kept.0 ∙ rest.0, kept.1 ∙ rest.1, used_else p5 legal5 distinct5 flags3 t (flags5 ∙ places3) less not))
     (λ past. inl (past_nothing p5 legal5 distinct5 t (let long = ap (λ (us : List Bool). length us) (flags5 ∙ places3) in omega (arith, past, long)))) (below_or t (length flags3)) in
     let all_at : is_quiet (state_seen p) ≡ true → (t : ℕ) → RestsAt p5 legal5 distinct5 t = λ quiet.
     let off0 : AreOff p0 = λ t. looked_off p p0 look0.looks.0 sole t (quiet_at (state_seen p) quiet t).1 in
-    let offt : AreOff pt = λ t. ⊎_elim (λ here. take.off.1 t (let less = here_long flags1 t here in let long = long1 in omega (arith, less, long)) here) (λ not. (take.others t not).1 (off0 t)) (here_or flags1 t) in
+    let offt : AreOff pt = λ t. ⊎_elim (λ here. take.off.1 t (let less = here_long flags1 t here in let long = long1 in omega (arith, less, long)) here) (λ not. (take.others t not).1 ∙ off0 t) (here_or flags1 t) in
     let off1 : AreOff p1 = λ t. find.off.1 t (offt t) in
     let off2 : AreOff p2 = λ t. looked_off p1 p2 look1.looks.0 sole1 t (off1 t) in
     λ t. ⊎_elim
     (λ here. inl (looked_left p4 p5 look2.looks.0 sole4 t (give.left.1 t (each.left.1 off2 t (let less = here_long flags3 t here in let long = long4 in omega (arith, less, long)) here))))
     (λ not. elsewhere t not (quiet_at (state_seen p) quiet t)) (here_or flags3 t) in
+    let later : KeepsElse flags3 p2 p5 = else_then flags3 p2 p3 p5 each.others (else_then flags3 p3 p4 p5 (subst (λ (us : List Bool). KeepsElse us p3 p4) places3 give.others) (else_looked flags3 p4 p5 look2.looks.0 sole4)) in
+    let rest_at : is_quiet (state_seen p5) ≡ true → (t : ℕ) → RestsAt p5 legal5 distinct5 t = λ quiet.
+    let off2 : AreOff p2 = λ t. ⊎_elim
+    (λ here. looked_off p1 p2 look1.looks.0 sole1 t (find.off.2 take.off.1 t (let less = here_long flags3 t here in let long = length-map found.slots.items is_none in let same = ap (λ (us : List Bool). length us) places2 in omega (arith, less, long, same)) (subst (λ (us : List Bool). LiesHere us t) places2 here)))
+    (λ not. sym (later t not).1 ∙ (quiet_at (state_seen p5) quiet t).1) (here_or flags3 t) in
+    λ t. ⊎_elim
+    (λ here. inl (looked_left p4 p5 look2.looks.0 sole4 t (give.left.1 t (each.left.1 off2 t (let less = here_long flags3 t here in let long = long4 in omega (arith, less, long)) here))))
+    (λ not. ⊎_elim
+    (λ less. let at = quiet_at (state_seen p5) quiet t in inr (at.0, at.1, used_else p5 legal5 distinct5 flags3 t (flags5 ∙ places3) less not))
+    (λ past. inl (past_nothing p5 legal5 distinct5 t (let long = ap (λ (us : List Bool). length us) (flags5 ∙ places3) in omega (arith, past, long)))) (below_or t (length flags3))) (here_or flags3 t) in
     let many_then : length (state_seen p).slots ≡ length taken.slots.items = sym (length-map (state_seen p).slots (λ slot. slot.used)) ∙ ap (λ (us : List Bool). length us) (sym (ap used (looked_state p p0 look0.looks.0 sole)) ∙ look0.used.0 ∙ c.requires.numbers.0.flags ∙ sym take.taken.1.1) ∙ long1 in
     let many_now : length (state_seen p5).slots ≡ length taken.slots.items = sym (length-map (state_seen p5).slots (λ slot. slot.used)) ∙ ap (λ (us : List Bool). length us) (flags5 ∙ places3 ∙ places2) ∙ length-map found.slots.items is_none ∙ find.taken.1.1 in
     record {
@@ -128,5 +138,5 @@ returns-clause-sweeps g c =
       cleared = cleared;
       reclaimed = λ so. all_cleared p5 legal5 distinct5 (cleared so);
       quiet = λ quiet. quiet_rests p5 legal5 distinct5 (all_at quiet);
-      rests = λ quiet. all_rest p5 legal5 distinct5 (all_at quiet);
+      rests = λ quiet. all_rest p5 legal5 distinct5 (rest_at quiet);
     }
