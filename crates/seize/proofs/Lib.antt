@@ -23,3 +23,4 @@ mod Bare
 mod Taken
 mod Cleared
 mod Recovered
+mod OneLife

@@ -1,6 +1,5 @@
 -- What lies in the place of a slot, by its label: it is of that slot, and a call leaves it so.
-use Rattle.std.proofs.Common.{◌≡◌, ℕ, suc, zero, Option, ◌+◌, ◌-◌, ◌<◌, ◌≤◌, arith, refl, sym, ap, subst, ◌∙◌}
-use Rattle.std.specs.Prelude.{IfSome}
+use Rattle.std.proofs.Common.{◌≡◌, ℕ, suc, zero, ◌+◌, ◌-◌, ◌<◌, ◌≤◌, arith, refl, sym, ap, subst, ◌∙◌}
 use Rattle.std.proofs.lemmas.Bool.{false≢true}
 use mathlib.Core.List.{IsPrefix}
 use Rattle.seize_table.specs.Pairs.{left_of, pair, right_of}
@@ -24,9 +23,8 @@ use Rattle.seize_calls.specs.declared.slot.Slot.{Slot}
 use Rattle.seize_calls.proofs.Slots.{begun_later, longer_right}
 use Rattle.seize.specs.Collectors.{IsPassOf, its_words}
 use Rattle.seize.specs.Makes.{IsActiveIn, MakesNone}
-use Rattle.seize.specs.Reservations.{IsAt, IsOfLife, IsReservation, IsUnit, place_label}
+use Rattle.seize.specs.Reservations.{IsAt, IsReservation, IsUnit, place_label}
 use Rattle.seize.specs.declared.collector.Collector.{Collector}
-use Rattle.seize.specs.declared.reservation.lost.Lost.{Lost}
 use Rattle.seize.specs.declared.reservation.Reservation.{Reservation}
 use Rattle.seize.proofs.Current.{looks_active, slot_looks}
 use Rattle.seize.proofs.Made.{none_prepared, none_then}
@@ -56,14 +54,9 @@ pub placed_slot : {T : Type 0} (words : Words T) (r : Reservation T) → IsReser
 placed_slot words r is same = (record { book = same; knows = is.its.knows; told = is.its.told }, is.in_use)
 
 -- and such a slot may lie there
-pub placed : {T : Type 0} (words : Words T) (slot : Slot T) (rest : Activation) (guards most : ℕ) (lost : Option Lost) → IsSlotOf words slot → IsAt slot rest guards → rest.units + guards ≡ all_units → guards ≤ most
-    → (0 < guards → IfSome lost (IsOfLife rest)) → IsReservation (record { slot = slot; rest = rest; guards = guards; most = most; lost = lost })
-placed words slot rest guards most lost of at units fits life =
-    record { its = record { book = refl; knows = of.0.knows; told = of.0.told }; in_use = of.1; at = at; units = units; fits = fits; lost = life }
-
--- what is lost is of the same activation, whatever units the rest has
-pub lost_still : (rest rest' : Activation) (n : ℕ) (lost : Option Lost) → rest' ≡ with_units rest n → IfSome lost (IsOfLife rest) → IfSome lost (IsOfLife rest')
-lost_still rest rest' n lost same of = subst (λ (a : Activation). IfSome lost (IsOfLife a)) (sym same) of
+pub placed : {T : Type 0} (words : Words T) (slot : Slot T) (rest : Activation) (guards most : ℕ) → IsSlotOf words slot → IsAt slot rest guards → rest.units + guards ≡ all_units → guards ≤ most
+    → IsReservation (record { slot = slot; rest = rest; guards = guards; most = most })
+placed words slot rest guards most of at units fits = record { its = record { book = refl; knows = of.0.knows; told = of.0.told }; in_use = of.1; at = at; units = units; fits = fits }
 
 -- without a guard it may enter
 pub at_none : {T : Type 0} (slot : Slot T) (rest : Activation) (guards : ℕ) → guards ≡ 0 → IsAt slot rest guards → MayEnterWith slot rest

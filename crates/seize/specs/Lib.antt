@@ -9,10 +9,10 @@ pub mod Loose
 pub mod Makes
 pub mod Numbers
 pub mod OwnedGuards
-pub mod Places
 pub mod Reclaims
 pub mod Registrations
 pub mod Reservations
+pub mod Shelves
 pub mod Sweeps
 pub use Rattle.seize_machine.specs.Machine
 pub use Rattle.seize_table.specs.Free

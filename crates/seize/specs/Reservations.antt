@@ -3,15 +3,13 @@
 --     its_label r            that of a reservation
 --     IsAt slot rest guards  without a guard the slot is inactive, and the rest is an activation of it that may begin; else the slot is in
 --                            the activation of which this is the rest
---     IsOfLife rest lost     what is lost are units of this activation
---     IsReservation r        its slot is one of its list, in use, and so; the activation's units are with the guards and with the rest, and
---                            those of forgotten guards are of the same activation
+--     IsReservation r        its slot is one of its list, in use, and so; the activation's units are with the guards and with the rest
 --     IsReservationOf words r     its slot is of the list of these words, by the list's family
 --     KeepsPlace r r'           it is a reservation under the same label
 --     IsHeadFor n s head     it is the head of slot s of the list n
 --     IsUnitIn n s unit seen     it is one unit of an activation of slot s of the list n, which was active with what it began with
 --     IsUnit n s unit seen   and that was seen
-use Rattle.std.specs.Prelude.{◌≡◌, ℕ, suc, zero, ◌+◌, ◌<◌, ◌≤◌, true, IfSome}
+use Rattle.std.specs.Prelude.{◌≡◌, ℕ, suc, zero, ◌+◌, ◌≤◌, true}
 use mathlib.Core.List.{IsPrefix}
 use Rattle.seize_table.specs.Pairs.{pair}
 use Rattle.seize_machine.specs.Machine.State.{head_at, is_active}
@@ -28,7 +26,6 @@ use Rattle.seize_words.specs.declared.reservation.Head.{Head}
 use Rattle.seize_words.specs.declared.words.Words.{Words}
 use Rattle.seize_calls.specs.Slots.{InActivation, IsInUse, IsOfList, MayEnterWith, its_book, its_number}
 use Rattle.seize_calls.specs.declared.slot.Slot.{Slot}
-use Rattle.seize.specs.declared.reservation.lost.Lost.{Lost}
 use Rattle.seize.specs.declared.reservation.Reservation.{Reservation}
 
 abbrev pub place_label : Name → ℕ → ℕ → ℕ
@@ -41,16 +38,12 @@ abbrev pub IsAt : {T : Type 0} → Slot T → Activation → ℕ → Type 0
 IsAt slot rest zero = MayEnterWith slot rest
 IsAt slot rest (suc n) = InActivation slot rest
 
-abbrev pub IsOfLife : Activation → Lost → Type 0
-IsOfLife rest lost = lost.units.life ≡ rest.life
-
 pub record IsReservation {T : Type 0} (r : Reservation T) : Type 0 where
   pub its : IsOfList (its_book r.slot) r.slot
   pub in_use : IsInUse r.slot
   pub at : IsAt r.slot r.rest r.guards
   pub units : r.rest.units + r.guards ≡ all_units
   pub fits : r.guards ≤ r.most
-  pub lost : 0 < r.guards → IfSome r.lost (IsOfLife r.rest)
 
 abbrev pub IsReservationOf : {T : Type 0} → Words T → Reservation T → Type 0
 IsReservationOf words r = (its_book r.slot).family ≡ (words_book words).family

@@ -228,8 +228,8 @@ impl<T: Drop, R: Reclaim<T>> Collector<T, R> {
             words: &self.words,
             alloc: self.alloc,
         };
-        let (slot, place) = self.numbers.with(rt, registering, pass)?;
-        Ok(Registration::of(self, slot, place))
+        let (slot, shelf) = self.numbers.with(rt, registering, pass)?;
+        Ok(Registration::of(self, slot, shelf))
     }
 }
 
@@ -265,8 +265,8 @@ impl<T: Drop, R: Reclaim<T>> Collector<T, R> {
             words: &self.words,
             alloc: self.alloc,
         };
-        let (slot, place) = self.numbers.with(rt, registering, pass)?;
-        Ok(OwnedGuard::enter(self, slot, place, pass))
+        let (slot, shelf) = self.numbers.with(rt, registering, pass)?;
+        Ok(OwnedGuard::enter(self, slot, shelf, pass))
     }
 
     /// The pass looks at the list of events. Every law of the machine holds of what it has seen then, which goes on from what it had seen.

@@ -11,7 +11,7 @@ use crate::collector::Collector;
 use crate::reader::Reader;
 use crate::reclaim::{Boxed, Reclaim};
 use crate::registration::Registration;
-use crate::works::{Flushing, Leaving, Losing, Refreshing, Sparing};
+use crate::works::{Flushing, Leaving, Refreshing, Sparing};
 pub use any::Guard;
 use seize_table::Refusal;
 use seize_words::book::Pass;
@@ -268,8 +268,9 @@ impl<'r, 'c, T: Drop, R: Reclaim<T>> LocalGuard<'r, 'c, T, R> {
         registration.reservation.with(rt, leaving, pass);
     }
 
-    /// Spends the guard without leaving. Its slot stays active until `Collector::reclaim_all`, or the collector's drop, finds it. Within
-    /// another call of the same registration, as from a reclaimer, the slot stays active for good.
+    /// Spends the guard without leaving. Its slot stays active until `Collector::reclaim_all`, or the collector's drop, finds it: what is
+    /// retired meanwhile may wait so long, other guards of the registration don't leave or refresh the slot, and `Registration::end`
+    /// answers false.
     ///
     /// It takes no memory and waits for nobody.
     pub fn forget(self) {
@@ -279,17 +280,13 @@ impl<'r, 'c, T: Drop, R: Reclaim<T>> LocalGuard<'r, 'c, T, R> {
         } = self;
         let Reader {
             collector,
-            number: _,
+            number,
             unit,
             seen,
         } = reader;
-        let words = &collector.words;
-        let losing = Losing { words, unit, seen };
-        drop(
-            registration
-                .reservation
-                .try_with(losing, &mut collector.pass()),
-        );
+        registration
+            .shelf
+            .forget(number, unit, seen, &mut collector.pass());
     }
 }
 

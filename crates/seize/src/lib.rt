@@ -14,11 +14,11 @@ mod ends;
 pub mod guard;
 mod numbers;
 pub mod owned;
-mod place;
 mod reader;
 pub mod reclaim;
 pub mod registration;
 mod reservation;
+mod shelf;
 mod works;
 
 pub use block::{Failed, Owned, Shared, Unlinked};

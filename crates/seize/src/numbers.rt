@@ -9,13 +9,13 @@ ghost use Rattle.seize_words.specs.Totals.{made_of};
 ghost use Rattle.seize_machine.specs.Machine.Event.{Give};
 ghost use Rattle.seize_machine.specs.declared.machine.event.Answer.TheVariants.{Done};
 ghost use Rattle.seize.specs.Makes.{MakesNone, MakesOne};
-ghost use Rattle.seize.specs.Places.{IsPlaceFor};
+ghost use Rattle.seize.specs.Shelves.{IsShelfFor};
 ghost use Rattle.seize_table.specs.declared.refusal.Refusal.TheVariants.{NoMemory as no_memory};
 
 mod recovering;
 pub(crate) mod sweeping;
 
-use crate::place::{Place, Places};
+use crate::shelf::{Shelf, Shelves};
 use seize_calls::slot::Slot;
 use seize_cells::LockWork;
 use seize_content::Steady;
@@ -34,11 +34,11 @@ pub(crate) struct Numbers<T: Drop> {
     next: Option<NextSlot>,
     /// The slots made so far, by their numbers: each whose number is not in use, and none in the place of one that is in use.
     slots: Vec<Option<Slot<T>>>,
-    /// The places of all slots made so far.
-    places: Places<T>,
+    /// The shelves of all slots made so far, and perhaps that of the next one.
+    shelves: Shelves<T>,
     /// The list of events.
     book: Seen,
-    ghost placed: { places.book.name.family ≡ book.name.family },
+    ghost shelved: { shelves.book.name.family ≡ book.name.family },
 }
 
 impl<T: Drop> Steady for Numbers<T> {
@@ -62,7 +62,7 @@ impl<T: Drop> Numbers<T> {
             key,
             next: Some(next),
             slots: Vec::new(alloc),
-            places: Places::new(alloc, book),
+            shelves: Shelves::new(alloc, book),
             book: book.again(),
         }
     }
@@ -74,21 +74,21 @@ impl<T: Drop> Numbers<T> {
         self.slots.iter().position(|slot| slot.is_some())
     }
 
-    // The slot of the least number that is not in use, one that was made before or a new one, and its place.
+    // The slot of the least number that is not in use, one that was made before or a new one, and its shelf.
     fn take(
         &mut self,
         words: &Words<T>,
         alloc: Global,
         pass: &mut Pass,
-    ) -> Result<(Slot<T>, Place<T>), Refusal>
+    ) -> Result<(Slot<T>, Shelf<T>), Refusal>
         requires numbers { AreNumbers self.old × (self.old.book.name ≡ words_book words.now) }
         requires pass { IsPassFor words.now pass.old }
         ensures numbers { AreNumbers self.new × (self.new.book ≡ self.old.book) }
-        ensures made { IfOk result (λ made. HasTaken words.now pass.old pass.new made.0 × IsPlaceFor words.now made.1) }
+        ensures made { IfOk result (λ made. HasTaken words.now pass.old pass.new made.0 × IsShelfFor words.now made.1) }
         ensures refused { IfErr result (λ refusal. MakesNone pass.old pass.new × (refusal ≡ no_memory)) }
     {
         let first = self.first();
-        let Ok(place) = self.places.place(first.unwrap_or(self.slots.len())) else {
+        let Ok(shelf) = self.shelves.shelf(first.unwrap_or(self.slots.len())) else {
             pass.learn(&self.book);
             return Err(Refusal::NoMemory);
         };
@@ -96,7 +96,7 @@ impl<T: Drop> Numbers<T> {
             Some(n) => self.again(words, n, pass),
             None => self.make(words, alloc, pass)?,
         };
-        Ok((slot, place))
+        Ok((slot, shelf))
     }
 
     // The slot of number n, which is the least one that is not in use: the number is taken again.
@@ -176,21 +176,21 @@ pub(crate) struct Registering<'a, T> {
     pub(crate) alloc: Global,
 }
 
-impl<'a, 'p, T: Drop> LockWork<Numbers<T>, Pass<'p>, Result<(Slot<T>, Place<T>), Refusal>>
+impl<'a, 'p, T: Drop> LockWork<Numbers<T>, Pass<'p>, Result<(Slot<T>, Shelf<T>), Refusal>>
     for Registering<'a, T> {
     ghost use Rattle.seize.specs.Numbers.{HasTaken, IsLockFor};
 
     ghost may = { λ work numbers pass. IsLockFor work.words.now numbers × IsPassFor work.words.now pass };
 
     ghost gives = { λ work numbers numbers' pass pass' result.
-        IfOk result (λ made. HasTaken work.words.now pass pass' made.0 × IsPlaceFor work.words.now made.1)
+        IfOk result (λ made. HasTaken work.words.now pass pass' made.0 × IsShelfFor work.words.now made.1)
         × IfErr result (λ refusal. MakesNone pass pass' × (refusal ≡ no_memory)) };
 
     fn work(
         self,
         numbers: &mut Numbers<T>,
         pass: &mut Pass<'p>,
-    ) -> Result<(Slot<T>, Place<T>), Refusal> {
+    ) -> Result<(Slot<T>, Shelf<T>), Refusal> {
         numbers.book.agree(&self.words.blocks.book);
         numbers.take(self.words, self.alloc, pass)
     }

@@ -2,16 +2,16 @@
 //! the slot's activation, each with a pass of its own; what changes the slot is done under the guard's lock.
 ghost use Rattle.std.specs.Prelude.{◌≡◌};
 ghost use Rattle.seize.specs.Collectors.{its_book, its_words};
-ghost use Rattle.seize.specs.Places.{IsPlaceFor};
+ghost use Rattle.seize.specs.Shelves.{IsShelfFor};
 ghost use Rattle.seize.specs.Reservations.{IsHeadFor, place_label};
 
 use crate::block::{Failed, Owned, Shared, Unlinked};
 use crate::collector::Collector;
 use crate::numbers::Ending;
-use crate::place::Place;
 use crate::reader::Reader;
 use crate::reclaim::{Boxed, Reclaim};
 use crate::reservation::Reservation;
+use crate::shelf::Shelf;
 use crate::works::{Flushing, Leaving, Refreshing, Retiring, Sparing};
 use seize_calls::slot::Slot;
 use seize_cells::{Lock, LockWork};
@@ -32,11 +32,11 @@ pub struct OwnedGuard<'c, T: Drop, R: Reclaim<T> = Boxed> {
     // The slot's head.
     head: &'c Head,
     reservation: Lock<Reservation<T>>,
-    // Where the reservation is laid when the guard is forgotten.
-    place: Place<T>,
+    // Where its slot is laid when it is forgotten.
+    shelf: Shelf<T>,
     ghost at: { reservation ≡ place_label (its_book reader.collector.now) reader.number 1 },
     ghost headed: { IsHeadFor (its_book reader.collector.now) reader.number head.now },
-    ghost placed: { IsPlaceFor (its_words reader.collector.now) place },
+    ghost shelved: { IsShelfFor (its_words reader.collector.now) shelf },
 }
 
 impl<'c, T: Drop, R: Reclaim<T>> OwnedGuard<'c, T, R> {
@@ -53,15 +53,15 @@ impl<'c, T: Drop, R: Reclaim<T>> OwnedGuard<'c, T, R> {
     ghost use Rattle.seize.specs.Makes.{IsOfKind, LeavesAndGives, MakesCall, MakesNone, MakesOne};
     ghost use Rattle.seize.specs.OwnedGuards.{owned_activation, owned_collector, owned_slot};
 
-    // One with this slot, which enters, and its place.
+    // One with this slot, which enters, and its shelf.
     pub(crate) fn enter(
         collector: &'c Collector<T, R>,
         slot: Slot<T>,
-        place: Place<T>,
+        shelf: Shelf<T>,
         pass: &mut Pass,
     ) -> OwnedGuard<'c, T, R>
         requires slot { IsSlotFor collector.now slot × IsInactive slot }
-        requires place { IsPlaceFor (its_words collector.now) place }
+        requires shelf { IsShelfFor (its_words collector.now) shelf }
         requires pass { IsPassOf collector.now pass.old }
         ensures of { (owned_collector result ≡ collector.now) × (owned_slot result ≡ its_number slot) }
         ensures enters { MakesOne pass.old pass.new (Enter (its_number slot)) Done }
@@ -80,7 +80,7 @@ impl<'c, T: Drop, R: Reclaim<T>> OwnedGuard<'c, T, R> {
             },
             head,
             reservation: Lock::new(reservation),
-            place,
+            shelf,
         }
     }
 
@@ -288,7 +288,7 @@ impl<'c, T: Drop, R: Reclaim<T>> OwnedGuard<'c, T, R> {
             reader,
             head,
             reservation,
-            place: _,
+            shelf: _,
         } = self;
         let Reader {
             collector,
@@ -321,17 +321,16 @@ impl<'c, T: Drop, R: Reclaim<T>> OwnedGuard<'c, T, R> {
             reader,
             head: _,
             reservation,
-            place,
+            shelf,
         } = self;
         let Reader {
             collector,
-            number: _,
+            number,
             unit,
             seen,
         } = reader;
-        let mut reservation = reservation.into_value();
-        reservation.lose(&collector.words, unit, &seen, &mut collector.pass());
-        place.lay(reservation);
+        shelf.forget(number, unit, seen, &mut collector.pass());
+        shelf.lay(reservation.into_value());
     }
 }
 

@@ -1,17 +1,17 @@
 //! A thread's slot, for as long as the thread keeps it.
 ghost use Rattle.std.specs.Prelude.{◌≡◌, ◌-◌, ◌^◌};
 ghost use Rattle.seize.specs.Collectors.{its_book, its_words};
-ghost use Rattle.seize.specs.Places.{IsPlaceFor};
+ghost use Rattle.seize.specs.Shelves.{IsShelfFor};
 ghost use Rattle.seize.specs.Reservations.{IsHeadFor, place_label};
 
 use crate::block::{Owned, Unlinked};
 use crate::collector::Collector;
 use crate::guard::LocalGuard;
 use crate::numbers::Ending;
-use crate::place::Place;
 use crate::reader::Reader;
 use crate::reclaim::{Boxed, Reclaim};
 use crate::reservation::Reservation;
+use crate::shelf::Shelf;
 use crate::works::{Adding, Entering, Retiring};
 use seize_calls::slot::Slot;
 use seize_cells::LocalLock;
@@ -29,11 +29,11 @@ pub struct Registration<'c, T: Drop, R: Reclaim<T> = Boxed> {
     // The slot's head.
     pub(crate) head: &'c Head,
     pub(crate) reservation: LocalLock<Reservation<T>>,
-    // Where the reservation is laid when the registration is forgotten.
-    place: Place<T>,
+    // Where its slot is laid when it is forgotten, and units of forgotten guards.
+    pub(crate) shelf: Shelf<T>,
     ghost at: { reservation ≡ place_label (its_book collector.now) number (2 ^ 64 - 1) },
     ghost headed: { IsHeadFor (its_book collector.now) number head.now },
-    ghost placed: { IsPlaceFor (its_words collector.now) place },
+    ghost shelved: { IsShelfFor (its_words collector.now) shelf },
 }
 
 impl<'c, T: Drop, R: Reclaim<T>> Registration<'c, T, R> {
@@ -47,14 +47,14 @@ impl<'c, T: Drop, R: Reclaim<T>> Registration<'c, T, R> {
     ghost use Rattle.seize.specs.Makes.{EndsUse, Enters, IsOfKind, MakesCall};
     ghost use Rattle.seize.specs.Registrations.{registered_in, registered_slot};
 
-    // One with this slot, and its place.
+    // One with this slot, and its shelf.
     pub(crate) fn of(
         collector: &'c Collector<T, R>,
         slot: Slot<T>,
-        place: Place<T>,
+        shelf: Shelf<T>,
     ) -> Registration<'c, T, R>
         requires slot { IsSlotFor collector.now slot × IsInactive slot }
-        requires place { IsPlaceFor (its_words collector.now) place }
+        requires shelf { IsShelfFor (its_words collector.now) shelf }
         ensures { (registered_in result ≡ collector.now) × (registered_slot result ≡ its_number slot) }
     {
         let words = &collector.words;
@@ -66,7 +66,7 @@ impl<'c, T: Drop, R: Reclaim<T>> Registration<'c, T, R> {
             number,
             head,
             reservation: LocalLock::new(reservation),
-            place,
+            shelf,
         }
     }
 
@@ -188,13 +188,13 @@ impl<'c, T: Drop, R: Reclaim<T>> Registration<'c, T, R> {
             number: _,
             head: _,
             reservation,
-            place,
+            shelf,
         } = self;
         let words = &collector.words;
         let mut reservation = reservation.into_value();
         if reservation.guards > 0 {
             reservation.look(words, pass);
-            place.lay(reservation);
+            shelf.lay(reservation);
             return false;
         }
         let slot = reservation.slot;
@@ -213,8 +213,8 @@ impl<'c, T: Drop, R: Reclaim<T>> Registration<'c, T, R> {
             number: _,
             head: _,
             reservation,
-            place,
+            shelf,
         } = self;
-        place.lay(reservation.into_value());
+        shelf.lay(reservation.into_value());
     }
 }

@@ -3,11 +3,9 @@
 ghost use Rattle.std.specs.Prelude.{◌≡◌};
 ghost use Rattle.seize.specs.Reservations.{IsReservation, its_label};
 
-mod lost;
-
 use crate::ends::Forwards;
 use crate::reclaim::Reclaim;
-pub(crate) use lost::Lost;
+use crate::shelf::Forgotten;
 use seize_calls::manner::Alone;
 use seize_calls::slot::Slot;
 use seize_content::Steady;
@@ -23,12 +21,10 @@ pub(crate) struct Reservation<T> {
     pub(crate) slot: Slot<T>,
     /// All units of its activation but one for each guard. Where there is no guard, the activation has still to begin.
     pub(crate) rest: Activation,
-    /// How many guards there are. One that was forgotten is among them.
+    /// How many guards there are. Those that were forgotten are among them.
     pub(crate) guards: u64,
     /// How many there may be.
     pub(crate) most: u64,
-    /// The units of those that were forgotten in the slot's activation.
-    pub(crate) lost: Option<Lost>,
 }
 
 impl<T> Steady for Reservation<T> {
@@ -46,6 +42,7 @@ impl<T: Drop> Reservation<T> {
     ghost use Rattle.seize_book.specs.Tokens.{IsSole};
     ghost use Rattle.seize.specs.Makes.{MakesOne, StaysActive};
     ghost use Rattle.seize.specs.Reservations.{IsHeadFor, IsReservationOf, IsUnit, KeepsPlace, place_label};
+    ghost use Rattle.seize.specs.Shelves.{IsForgottenOf};
     ghost use Rattle.seize.specs.Sweeps.{IsLedBy};
 
     /// That of a slot with no guard, which may have so many.
@@ -60,7 +57,6 @@ impl<T: Drop> Reservation<T> {
             rest,
             guards: 0,
             most,
-            lost: None,
         }
     }
 
@@ -80,7 +76,6 @@ impl<T: Drop> Reservation<T> {
     {
         self.slot.seen().agree(&words.blocks.book);
         self.slot.enter(words, head, &mut self.rest, pass);
-        self.lost = None;
         self.guards = 1;
         let unit = self.rest.split();
         (unit, self.slot.seen())
@@ -134,29 +129,18 @@ impl<T: Drop> Reservation<T> {
         self.slot.current(words, unit, pass);
     }
 
-    /// A guard is forgotten: its unit is kept here. No event is made.
-    pub(crate) fn lose(&mut self, words: &Words<T>, unit: Activation, seen: &Seen, pass: &mut Pass)
-        requires of { IsReservation self.old × IsReservationOf words.now self.old × IsPassFor words.now pass.old }
-        requires unit { IsUnit (words_book words.now) (its_number self.old.slot) unit seen.now }
-        ensures follows { KeepsPlace self.old self.new }
-    {
-        self.current(words, &unit, seen, pass);
-        let lost = match self.lost.take() {
-            Some(lost) => lost.and(unit),
-            None => Lost::one(unit),
-        };
-        self.lost = Some(lost);
-    }
-
-    /// The slot of a reservation that was forgotten, for a caller who has the collector alone. Where it has guards it leaves first, since
-    /// each was forgotten; what waited for the slot is counted down. Where a guard is gone otherwise there is no answer, and no event.
+    /// The slot of a reservation that was forgotten, for a caller who has the collector alone. Where it has guards, and each of them was
+    /// forgotten too, the slot leaves with their units; what waited for it is counted down. Else, where it has guards, there is no slot,
+    /// and no event.
     pub(crate) fn into_slot<R: Reclaim<T>>(
         self,
         words: &Words<T>,
         reclaimer: R,
+        forgotten: Option<Forgotten>,
         pass: &mut Pass,
     ) -> Option<Slot<T>>
         requires of { IsReservation self × IsReservationOf words.now self }
+        requires forgotten { IfSome forgotten (IsForgottenOf (words_book words.now).family) }
         requires pass { IsPassFor words.now pass.old × IsSole pass.old.id }
         ensures led { IsLedBy (its_number self.slot) pass.old pass.new }
         ensures slot { IfSome result (λ slot. IsSlotOf words.now slot × IsInactive slot × (its_number slot ≡ its_number self.slot)) }
@@ -167,16 +151,23 @@ impl<T: Drop> Reservation<T> {
             mut rest,
             guards,
             most: _,
-            lost,
         } = self;
         slot.seen().agree(&words.blocks.book);
         if guards == 0 {
             return Some(slot);
         }
-        let Lost { units, count } = lost?;
-        if count != guards {
+        let Forgotten {
+            number,
+            units,
+            count,
+            seen,
+        } = forgotten?;
+        if count != guards || number != slot.number() {
             return None;
         }
+        pass.agree(&seen);
+        pass.learn(&seen);
+        slot.current(words, &units, pass);
         rest.join(units);
         let head = slot.head(words, pass);
         slot.leave(

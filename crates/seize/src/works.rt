@@ -228,32 +228,8 @@ impl<'a, 'p, T: Drop, R: Reclaim<T>, W: Wait> LockWork<Reservation<T>, Pass<'p>,
             pass,
             &Beside { rt },
         );
-        r.lost = None;
         let unit = r.rest.split();
         (unit, r.slot.seen())
-    }
-}
-
-/// A guard is forgotten.
-#[derive(Drop)]
-pub(crate) struct Losing<'a, T> {
-    /// The words of the collector.
-    pub(crate) words: &'a Words<T>,
-    /// The guard's unit.
-    pub(crate) unit: Activation,
-    /// What was seen when its activation had begun.
-    pub(crate) seen: Seen,
-}
-
-impl<'a, 'p, T: Drop> LockWork<Reservation<T>, Pass<'p>, ()> for Losing<'a, T> {
-    ghost may = { λ work r pass. IsReservationOf work.words.now r × IsPassFor work.words.now pass
-        × IsUnit (words_book work.words.now) (its_number r.slot) work.unit work.seen };
-
-    ghost gives = { λ _ _ _ _ _ _. Unit {0} };
-
-    fn work(self, r: &mut Reservation<T>, pass: &mut Pass<'p>) {
-        let Losing { words, unit, seen } = self;
-        r.lose(words, unit, &seen, pass);
     }
 }
 

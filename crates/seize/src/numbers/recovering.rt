@@ -1,5 +1,5 @@
-//! What is done with slots whose holders were forgotten, where nobody shares the collector. Each that can leave does, and lies with the
-//! others then. It comes while the numbers of all that lie here are taken, before these are swept.
+//! What is done with slots whose holders were forgotten, where nobody shares the collector. Each leaves, if its guards were all forgotten,
+//! and lies with the others then. This is done when the numbers of all that lie here are taken, and before these are swept.
 ghost use Rattle.std.specs.Prelude.{◌≡◌, length};
 ghost use Rattle.seize_book.specs.Tokens.{IsSole};
 ghost use Rattle.seize_words.specs.Joined.{words_book};
@@ -26,13 +26,13 @@ impl<T: Drop> Numbers<T> {
         ensures off { KeepsOn pass.old pass.new × KeepsOff pass.old pass.new × FindsOff self.old self.new pass.old pass.new }
         ensures others { KeepsElse (flags_of self.new.slots.items) pass.old pass.new }
     {
-        for n in 0..self.places.len() {
+        for n in 0..self.shelves.len() {
             self.recover_at(words, reclaimer, n, pass);
         }
     }
 
-    // So does the slot that lies in this place, if one does. Its key and the numbers' have seen the same then, by which its number is one
-    // of those here.
+    // So does the slot on this shelf, if there is one. Its key and that of the numbers then know the same list, so its number is one of
+    // those here.
     fn recover_at<R: Reclaim<T>>(
         &mut self,
         words: &Words<T>,
@@ -46,10 +46,11 @@ impl<T: Drop> Numbers<T> {
         ensures off { KeepsOn pass.old pass.new × KeepsOff pass.old pass.new × FindsOff self.old self.new pass.old pass.new }
         ensures others { KeepsElse (flags_of self.new.slots.items) pass.old pass.new }
     {
-        let Some(reservation) = self.places.take(n) else {
+        let (reservation, forgotten) = self.shelves.take(n);
+        let Some(reservation) = reservation else {
             return;
         };
-        if let Some(slot) = reservation.into_slot(words, reclaimer, pass) {
+        if let Some(slot) = reservation.into_slot(words, reclaimer, forgotten, pass) {
             let mut slot = slot;
             self.key.look(pass);
             slot.look(words, pass);

@@ -29,5 +29,5 @@ returns-clause-made g c = (
     | in-Some w ↦ subst (λ (t : Pass × Slot g.row.T.Denot). HasTaken c.args.words.now c.args.pass.now t.0 t.1) (λ j. (sym w.pass-is j, sym w.slot-is j)) w.again-slot.ensures.made
     | in-None+in_ok-slot-in-None w ↦ subst (λ (t : Pass × Slot g.row.T.Denot). HasTaken c.args.words.now c.args.pass.now t.0 t.1) (λ j. (sym w.pass-is j, sym w.slot-is j)) w.in_ok-slot-in-None.ensures.made
   ],
-  c.in-Ok.ensures.place ∙ c.args.self.now.placed ∙ ap (λ n. n.family) c.requires.numbers.1,
+  c.in-Ok.ensures.shelf ∙ c.args.self.now.shelved ∙ ap (λ n. n.family) c.requires.numbers.1,
 )

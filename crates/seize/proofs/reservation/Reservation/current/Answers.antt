@@ -26,7 +26,7 @@ returns-clause-follows g c =
     let some = active_some r.slot r.rest r.guards current.within.0 is.at in (
       (
         label_same r.slot slot' r.most current.looks.0.same,
-        placed words slot' r.rest r.guards r.most r.lost current.of.0 (some_at slot' r.rest r.guards some (current.of.1 r.rest (at_some r.slot r.rest r.guards some is.at))) is.units is.fits is.lost,
+        placed words slot' r.rest r.guards r.most current.of.0 (some_at slot' r.rest r.guards some (current.of.1 r.rest (at_some r.slot r.rest r.guards some is.at))) is.units is.fits,
       ),
       refl,
       refl,

@@ -1,4 +1,4 @@
-use Rattle.std.proofs.Common.{None, ap, arith, refl, sym, ◌∙◌}
+use Rattle.std.proofs.Common.{ap, arith, refl, sym, ◌∙◌}
 use Rattle.seize_book.specs.Tokens.{Name}
 use Rattle.seize_calls.specs.Slots.{its_number}
 use Rattle.seize_words.specs.Joined.{words_book}
@@ -21,7 +21,7 @@ returns-clause-follows g c =
     let words = c.args.words.now in let r = c.args.self.now in let slot' = c.enter.new.self in let rest = c.enter.new.activation in let rest' = c.split-unit.new.self in
     let enters = c.enter.ensures in let split = c.split-unit.ensures in (
       label_same r.slot slot' r.most enters.enters.same,
-      placed words slot' rest' 1 r.most None enters.of (some_at slot' rest' 1 (omega arith) (units_within slot' rest rest' rest'.units split.1 enters.activation.0)) (split.2 ∙ enters.activation.1) c.requires.first.1 (λ _. tt),
+      placed words slot' rest' 1 r.most enters.of (some_at slot' rest' 1 (omega arith) (units_within slot' rest rest' rest'.units split.1 enters.activation.0)) (split.2 ∙ enters.activation.1) c.requires.first.1,
     )
 
 pub returns-clause-unit : goal.returns-clause-unit

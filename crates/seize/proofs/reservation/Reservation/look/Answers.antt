@@ -22,7 +22,7 @@ current-requires g c =
 pub returns-clause-follows : goal.returns-clause-follows
 returns-clause-follows g c =
     let words = c.args.words.now in let r = c.args.self.now in let is = c.requires.of.0 in let current = c.current.ensures in let slot' = c.current.new.self in (
-      (label_same r.slot slot' r.most current.looks.0.same, placed words slot' r.rest r.guards r.most r.lost current.of.0 (some_at slot' r.rest r.guards c.requires.some current.within.1) is.units is.fits is.lost),
+      (label_same r.slot slot' r.most current.looks.0.same, placed words slot' r.rest r.guards r.most current.of.0 (some_at slot' r.rest r.guards c.requires.some current.within.1) is.units is.fits),
       refl,
       refl,
     )

@@ -18,7 +18,7 @@ returns g c =
     let slot' = c.flush.new.self in let pass' = c.flush.new.pass in let flush = c.flush.ensures in let ended = c.flush.new.reclaimer.ends.ended in let some : 0 < at.guards = omega (arith, current.active.0, current.follows.1) in (
       (
         label_same at.slot slot' at.most flush.flushes.same ∙ current.follows.0.0,
-        placed words slot' at.rest at.guards at.most at.lost flush.of.0 (some_at slot' at.rest at.guards some (flush.of.1 at.rest (at_some at.slot at.rest at.guards some is.at))) is.units is.fits is.lost,
+        placed words slot' at.rest at.guards at.most flush.of.0 (some_at slot' at.rest at.guards some (flush.of.1 at.rest (at_some at.slot at.rest at.guards some is.at))) is.units is.fits,
       ),
       call_after (its_number at.slot) (its_number r.slot) Flush c.args.pass.now ready pass' current.same current.active_still.0
           (slot_flushes words at.slot ready slot' pass' flush.of.0.0 (still_for words c.args.pass.now ready c.requires.1.1 current.active_still.0.same) (had_of c.new.result.ends.ended) (had_of ended) ended refl c.flush.result flush.flushes),

@@ -4,7 +4,7 @@ use Rattle.seize_machine.specs.declared.machine.event.Job.TheVariants.{Leave}
 use Rattle.seize_words.specs.Joined.{words_book}
 use Rattle.seize.specs.Ends.{had_of}
 use Rattle.seize.proofs.Guarded.{call_after}
-use Rattle.seize.proofs.Placed.{at_some, label_same, lost_still, none_at, placed, some_at, still_for, units_joined, units_within}
+use Rattle.seize.proofs.Placed.{at_some, label_same, none_at, placed, some_at, still_for, units_joined, units_within}
 use Rattle.seize.proofs.Places.{own_head}
 use Rattle.seize.proofs.Wholly.{slot_leaves}
 use Rattle.seize.proofs.works.LeavingLockWorkReservationPassUnit.work.Goals as goal
@@ -30,8 +30,7 @@ returns-then-r-gt0 g c =
     let left : ℕ = at.guards - 1 in (
       (
         current.follows.0.0,
-        placed words at.slot c.join.new.self left at.most at.lost current.active.1 (some_at at.slot c.join.new.self left (omega (arith, c.if-r-gt0.true)) (units_within at.slot at.rest c.join.new.self _ c.join.ensures (at_some at.slot at.rest at.guards some is.at))) units (omega (arith, is.fits))
-            (λ _. lost_still at.rest c.join.new.self _ at.lost c.join.ensures (is.lost some)),
+        placed words at.slot c.join.new.self left at.most current.active.1 (some_at at.slot c.join.new.self left (omega (arith, c.if-r-gt0.true)) (units_within at.slot at.rest c.join.new.self _ c.join.ensures (at_some at.slot at.rest at.guards some is.at))) units (omega (arith, is.fits)),
       ),
       (inr (omega (arith, c.if-r-gt0.true, current.follows.1), current.active_still), omega (arith, some, current.follows.1)),
     )
@@ -44,8 +43,7 @@ returns g c =
     let some : 0 < at.guards = omega (arith, current.active.0, current.follows.1) in let one : at.guards ≡ 1 = omega (arith, c.if-r-gt0.false, some) in let left : ℕ = at.guards - 1 in (
       (
         label_same at.slot slot' at.most leave.leaves.same ∙ current.follows.0.0,
-        placed words slot' rest left at.most at.lost leave.of.0 (none_at slot' rest left (omega (arith, one)) leave.of.1) (omega (arith, leave.of.1.1.2, one)) (omega (arith, is.fits))
-            (λ more. absurd (omega (arith, more, one))),
+        placed words slot' rest left at.most leave.of.0 (none_at slot' rest left (omega (arith, one)) leave.of.1) (omega (arith, leave.of.1.1.2, one)) (omega (arith, is.fits)),
       ),
       (
         inl (

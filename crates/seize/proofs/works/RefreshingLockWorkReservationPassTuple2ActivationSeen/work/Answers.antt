@@ -1,4 +1,4 @@
-use Rattle.std.proofs.Common.{◌<◌, ◌≡◌, None, arith, inl, refl, sym, ◌∙◌}
+use Rattle.std.proofs.Common.{◌<◌, ◌≡◌, arith, inl, refl, sym, ◌∙◌}
 use Rattle.seize_calls.specs.Slots.{its_number}
 use Rattle.seize_machine.specs.declared.machine.event.Job.TheVariants.{Refresh}
 use Rattle.seize_words.specs.Joined.{words_book}
@@ -31,7 +31,7 @@ returns g c =
     let some : 0 < at.guards = omega (arith, current.active.0, current.follows.1) in let one : at.guards ≡ 1 = omega (arith, c.if-r-gt1.false, some) in (
       (
         label_same at.slot slot' at.most refresh.refreshes.same ∙ current.follows.0.0,
-        placed words slot' rest' at.guards at.most None refresh.of (some_at slot' rest' at.guards some (units_within slot' rest rest' rest'.units split.1 refresh.inside.0)) (omega (arith, split.2, refresh.inside.1, one)) is.fits (λ _. tt),
+        placed words slot' rest' at.guards at.most refresh.of (some_at slot' rest' at.guards some (units_within slot' rest rest' rest'.units split.1 refresh.inside.0)) (omega (arith, split.2, refresh.inside.1, one)) is.fits,
       ),
       (
         inl (
