@@ -30,13 +30,14 @@ const MOST_PROCESSORS: usize = 0x8000_0000_0000_0000;
 /// It has numbered links, which hold a block each or nothing, and slots, which threads have by their registrations. It follows the Hyaline
 /// scheme with one list of waiting batches for each slot.
 ///
-/// Where nobody shares it, `reclaim_all` reclaims what waits in the batches of slots, also of those that were forgotten. Where it is
-/// dropped that is done, and then each value in a link goes to the reclaimer. That takes no memory and waits for nobody, but for what the
-/// reclaimer does. Values leak, with the memory of their rows of the store, where what held a registration or a guard was given to
-/// `mem::forget`, or a guard was forgotten within another call of its registration:
+/// Where nobody shares it, `reclaim_all` reclaims what waits in the batches of slots, also of those that were forgotten. The drop does
+/// that too, and then each value in a link goes to the reclaimer. It takes no memory and waits for nobody, but for what the reclaimer does.
 ///
-/// - where a registration is gone so, those in its slot's batch, and if all are, those in the links too;
-/// - where a guard is gone so, all of them: its slot is active for good, and what is retired waits for it.
+/// A registration or a guard is lost where a type that holds it is given to `mem::forget`. Then values leak, with the memory of their
+/// rows of the store and of the slot's shelf:
+///
+/// - those in the batch of a lost registration's slot, and if no other slot was made, those in the links too;
+/// - where a guard is lost, or a registration with a guard, what waits for the slot or is attempted later: the slot is active for good.
 pub struct Collector<T: Drop, R: Reclaim<T> = Boxed> {
     pub(crate) words: Words<T>,
     porter: Porter,
@@ -333,18 +334,18 @@ impl<T: Drop, R: Reclaim<T>> Collector<T, R> {
         porter.leave_home();
     }
 
-    /// Reclaims all that was retired. Slots that were forgotten leave first: those of registrations and guards that `forget` spent, and of
-    /// registrations that ended with the answer false. Then each slot attempts its batch, and the numbers go back. What the links hold
-    /// stays, and the collector may be shared again. It answers true where no number is in use then; so each value that was ever retired
-    /// was reclaimed, and went to the reclaimer.
+    /// Reclaims what was retired, and answers whether that is all. The answer is true where no number is in use afterwards: then each value
+    /// that was ever retired was reclaimed, and went to the reclaimer. What the links hold stays, and the collector may be shared again.
     ///
-    /// It answers false for good where a guard or a registration is gone otherwise: what held it was given to `mem::forget`, or `forget`
-    /// was called on a guard within another call of its registration. What waits in the batch of that slot stays then; and if the slot is
-    /// active, so does what waits for it, or is attempted later. Where no slot had a call or was active, each other retired value was
-    /// reclaimed all the same.
+    /// Slots that were forgotten leave first: those of registrations and guards that `forget` spent, and of registrations that ended with
+    /// the answer false. Then each slot attempts its batch, and the numbers go back.
     ///
-    /// The slots go in order of their numbers. It takes no memory and waits for nobody, but for what the reclaimer does. Each slot
-    /// makes two atomic swaps and an attempt of its batch, which looks at the heads of all slots.
+    /// The answer is false, then and later, where a registration or a guard is lost: a type that holds it was given to `mem::forget`. What
+    /// is in that slot's batch stays. If the slot has a guard, what waits for it or is attempted later stays as well.
+    ///
+    /// The slots go in order of their numbers. It takes no memory and waits for nobody, but for what the reclaimer does. Each slot takes
+    /// the lock of its shelf and makes two atomic swaps and an attempt of its batch, which looks at the heads of all slots. One that was
+    /// forgotten with a guard makes one swap more.
     pub fn reclaim_all(&mut self) -> bool
         ensures { ReclaimsAll self.old self.new result }
     {

@@ -28,9 +28,9 @@ impl<T: Drop, R: Reclaim<T>> Lightens<T> for Forwards<R> {
 }
 
 /// Reclaims what waits in the batch of each slot, and then what the links hold, as of kind 0. A slot that was forgotten leaves first. Where
-/// none was made, or none came back, it does nothing.
+/// none was made, or each was lost, it does nothing.
 ///
-/// Where a guard is gone otherwise its slot is active still. Then what is retired here waits for that slot, and does not end.
+/// Where a guard was lost its slot is active still. Then what is retired here waits for that slot, and does not end.
 ///
 /// It takes no memory and waits for nobody, but for what the reclaimer does.
 pub(crate) fn end_all<T: Drop, R: Reclaim<T>>(

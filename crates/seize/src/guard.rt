@@ -20,7 +20,7 @@ use std::{fmt, mem};
 
 /// A guard of a registration, for the registration's thread alone.
 ///
-/// It has no `Drop`: it is spent by `leave`, or by `forget`, after which the slot stays active until the collector is had alone.
+/// It has no `Drop`: it is spent by `leave`, or by `forget`, after which the slot stays active until `reclaim_all` or the drop.
 pub struct LocalGuard<'r, 'c, T: Drop, R: Reclaim<T> = Boxed> {
     registration: &'r Registration<'c, T, R>,
     reader: Reader<'c, T, R>,

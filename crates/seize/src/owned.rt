@@ -23,7 +23,7 @@ use std::{fmt, mem};
 
 /// A guard with a slot of its own, which threads share by `&`, and which may go to another thread. While it stands, its slot is active.
 ///
-/// It has no `Drop`: it is spent by `leave`, or by `forget`, after which the slot stays active until the collector is had alone.
+/// It has no `Drop`: it is spent by `leave`, or by `forget`, after which the slot stays active until `reclaim_all` or the drop.
 ///
 /// `defer_retire` and `flush` are done under the guard's lock: each waits while another thread is within one of them. No value ends there,
 /// since the guard's slot is active.
@@ -313,7 +313,7 @@ impl<'c, T: Drop, R: Reclaim<T>> OwnedGuard<'c, T, R> {
     }
 
     /// Spends the guard without leaving. Its slot stays active, and its number in use, until `Collector::reclaim_all`, or the collector's
-    /// drop, finds it.
+    /// drop, finds it. What is retired meanwhile may wait so long.
     ///
     /// It takes no memory and waits for nobody.
     pub fn forget(self) {

@@ -175,10 +175,12 @@ impl<'c, T: Drop, R: Reclaim<T>> Registration<'c, T, R> {
         self.reservation.with(rt, retiring, pass);
     }
 
-    /// Gives the slot's number back: the event `Give`, and the answer true. Where a guard was forgotten the slot is active still; then the
-    /// answer is false, no event is made, and the number stays in use, as where the registration is forgotten.
+    /// Gives the slot's number back: the event `Give`, and the answer true. The slot's batch stays for the next one who has the number.
     ///
-    /// It takes no memory, and waits for other threads that register or end. The slot's batch stays for the next one who has the number.
+    /// Where a guard was forgotten the slot is active still. Then the answer is false, and no event is made: number and batch wait for
+    /// `Collector::reclaim_all`, or for the collector's drop.
+    ///
+    /// It takes no memory, and waits for other threads that register or end.
     pub fn end<W: Wait>(self, rt: &W, pass: &mut Pass) -> bool
         requires pass { IsPassOf (registered_in self) pass.old }
         ensures { EndsUse (registered_slot self.entry) pass.old pass.new result }

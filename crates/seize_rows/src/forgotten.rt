@@ -100,7 +100,7 @@ fn what_waits_for_a_forgotten_owned_guard_ends(rt: HostRuntime) -> Result<(), Fa
     Ok(())
 }
 
-// One registration retires a value behind three guards, two of which are forgotten. Another one retires three. Both are forgotten.
+// One registration retires a value under a guard, and another one retires three. All are forgotten.
 fn forget_both<'a>(
     rt: &impl Wait,
     collector: &Telling<'a>,
@@ -109,18 +109,13 @@ fn forget_both<'a>(
     let mut pass = collector.pass();
     let first = collector.register(rt, &mut pass)?;
     let second = collector.register(rt, &mut pass);
-    let one = forget_guard(&first, &mut pass);
-    if let Ok(guard) = first.enter(&mut pass) {
-        guard.leave(rt, &mut pass);
-    }
-    let other = forget_guard(&first, &mut pass);
+    let entered = forget_guard(&first, &mut pass);
     retire(rt, collector, &first, 4..5, told, &mut pass);
     first.forget();
     let second = second?;
     retire(rt, collector, &second, 1..4, told, &mut pass);
     second.forget();
-    one?;
-    other
+    entered
 }
 
 #[test]
@@ -136,6 +131,59 @@ fn what_forgotten_registrations_retired_ends(rt: HostRuntime) -> Result<(), Fail
     Ok(())
 }
 
+// A guard beside forgotten ones makes all its calls.
+fn call_beside<'c, 'a>(
+    rt: &impl Wait,
+    registration: &Registration<'c, Digit<'a>>,
+    told: &'a AtomicU64,
+    pass: &mut Pass,
+) -> Result<(), Refusal>
+    requires { IsPassOf (registered_in registration.now) pass.old }
+    ensures { IsPassOf (registered_in registration.now) pass.new }
+{
+    let mut guard = registration.enter(pass)?;
+    drop(guard.owned(Digit { digit: 7, told }));
+    guard.flush(rt, pass);
+    guard.refresh(rt, pass);
+    guard.leave(rt, pass);
+    Ok(())
+}
+
+// Slots 0 and 1 are active by forgotten guards: slot 0 by three, with a guard beside them. Of what is retired then, the first value waits
+// for slot 0 alone, and the two others for both.
+fn forget_in_turn<'a>(
+    rt: &impl Wait,
+    collector: &Telling<'a>,
+    told: &'a AtomicU64,
+) -> Result<[usize; 2], Refusal> {
+    let mut pass = collector.pass();
+    let first = collector.register(rt, &mut pass)?;
+    for _ in 0..3u64 {
+        drop(forget_guard(&first, &mut pass));
+        drop(call_beside(rt, &first, told, &mut pass));
+    }
+    retire(rt, collector, &first, 1..2, told, &mut pass);
+    let numbers = [first.thread_id(), 0];
+    first.forget();
+    let second = collector.register(rt, &mut pass)?;
+    drop(forget_guard(&second, &mut pass));
+    retire(rt, collector, &second, 2..4, told, &mut pass);
+    let numbers = [numbers[0], second.thread_id()];
+    second.forget();
+    Ok(numbers)
+}
+
+#[test]
+fn forgotten_slots_leave_in_order(rt: HostRuntime) -> Result<(), Fail> {
+    let told = AtomicU64::new(0);
+    let mut collector = telling(rt.alloc(), 1)?;
+    assert_eq!(rt; forget_in_turn(&rt, &collector, &told)?, [0, 1]);
+    assert_eq!(rt; told.load(Ordering::SeqCst), 777);
+    assert!(rt; collector.reclaim_all());
+    assert_eq!(rt; told.load(Ordering::SeqCst), 777123);
+    Ok(())
+}
+
 // A guard that can be lost.
 struct Held<'r, 'c, 'a>(LocalGuard<'r, 'c, Counted<'a>>);
 
@@ -146,11 +194,22 @@ impl Drop for Held<'_, '_, '_> {
     }
 }
 
+// So can a registration.
+struct HeldToo<'c, 'a>(Registration<'c, Counted<'a>>);
+
+impl Drop for HeldToo<'_, '_> {
+    fn drop(self) {
+        let HeldToo(registration) = self;
+        registration.forget();
+    }
+}
+
 // How a thread leaves its registration.
 #[derive(Clone, Copy)]
 enum Way {
     Ends,
     Forgets,
+    Loses,
     ForgetsAGuard,
     LosesAGuard,
 }
@@ -162,12 +221,19 @@ fn retire_two<'a>(rt: &impl Wait, collector: &Counting<'a>, way: Way, ends: &'a 
         return false;
     };
     crate::ending::retire(rt, collector, &registration, 2, ends, &mut pass);
-    if let Way::Forgets = way {
-        registration.forget();
-        return true;
+    match way {
+        Way::Forgets => {
+            registration.forget();
+            return true;
+        }
+        Way::Loses => {
+            mem::forget(HeldToo(registration));
+            return true;
+        }
+        _ => {}
     }
     let entered = match way {
-        Way::Ends | Way::Forgets => true,
+        Way::Ends | Way::Forgets | Way::Loses => true,
         Way::ForgetsAGuard => forget_guard(&registration, &mut pass).is_ok(),
         Way::LosesAGuard => match registration.enter(&mut pass) {
             Ok(guard) => {
@@ -226,7 +292,24 @@ fn what_threads_forget_ends_with_the_collector(rt: HostRuntime) -> Result<(), Fa
     Ok(())
 }
 
-// A guard that is gone by `mem::forget` keeps its slot active: what is retired later waits for ever, and the answer says so.
+// What a lost registration retired never ends, and the answer says so each time. All else ends.
+#[test]
+fn what_lost_registrations_retired_does_not_end(rt: HostRuntime) -> Result<(), Fail> {
+    let ends = AtomicU64::new(0);
+    let mut collector = collector(rt.alloc())?;
+    for many in [16, 32] {
+        assert!(rt; retire_by_many(&rt, rt.alloc(), &collector, Way::Loses, &ends)?);
+        assert!(rt; retire_by_many(&rt, rt.alloc(), &collector, Way::Forgets, &ends)?);
+        assert!(rt; !collector.reclaim_all());
+        assert_eq!(rt; ended(&ends), many);
+    }
+    put_in_all(&rt, &collector, &ends)?;
+    drop(collector);
+    assert_eq!(rt; ended(&ends), 38);
+    Ok(())
+}
+
+// A guard that is lost by `mem::forget` keeps its slot active: what is retired later waits for ever, and the answer says so.
 #[test]
 fn what_waits_for_lost_guards_does_not_end(rt: HostRuntime) -> Result<(), Fail> {
     let ends = AtomicU64::new(0);
