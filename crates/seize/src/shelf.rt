@@ -31,7 +31,8 @@ struct Laid<T> {
 impl<T> Steady for Laid<T> {
     ghost label = { λ laid. laid.book.name.family };
 
-    ghost sound = { λ laid. IfSome laid.reservation (IsLaidFor laid.book.name.family) × IfSome laid.forgotten (IsForgottenOf laid.book.name.family) };
+    ghost sound = { λ laid. IfSome laid.reservation (IsLaidFor laid.book.name.family)
+        × IfSome laid.forgotten (IsForgottenOf laid.book.name.family) };
 }
 
 /// The shelf of one slot. In a clause it is the family of its list of events.
