@@ -126,7 +126,7 @@ fn make_calls<'a>(
     Ok(([put_in, flushed, refreshed, ended(ends)], taken))
 }
 
-// The same, and whether the registration ended.
+// The same, and whether the registration ended. Its slot is registered again, and forgotten with a guard.
 fn make_all<'a>(
     rt: &impl Wait,
     alloc: Global,
@@ -140,11 +140,16 @@ fn make_all<'a>(
     let made = make_calls(rt, alloc, &registration, ends, &mut pass);
     let well = registration.end(rt, &mut pass);
     let (ends, taken) = made?;
+    let again = collector.register(rt, &mut pass)?;
+    if let Ok(guard) = again.enter(&mut pass) {
+        guard.forget();
+    }
+    again.forget();
     Ok((ends, taken, well))
 }
 
-// A slot enters, swaps, retires 30 of 40 values, flushes, refreshes, reads, exchanges, leaves and ends. Its collector reclaims all, and is
-// dropped. Where each request for memory after the making of the blocks is refused, each of these calls goes well too, and values end as
+// A slot enters, swaps, retires 30 of 40 values, flushes, refreshes, reads, exchanges, leaves and ends; it is registered again, and
+// forgotten. Its collector reclaims all, and is dropped. Where each request for memory after the making of the blocks is refused, each of these calls goes well too, and values end as
 // they do with it.
 #[test]
 fn calls_that_ask_for_no_memory(rt: HostRuntime) -> Result<(), Fail> {
