@@ -1,5 +1,5 @@
 -- What other crates may build on. All else in `proofs` is no interface, and may change.
-use Rattle.std.proofs.Common.{◌≡◌, ◌≢◌, ℕ, ◌+◌, ◌-◌, ◌<◌, ◌≤◌, Bool, true, false, if◌then◌else◌, List, [], ◌∷◌, ◌++◌, Option, None, Some, is_some, refl, sym, ap, ◌∙◌, subst, append-nil, length, unwrap_or, arith}
+use Rattle.std.proofs.Common.{◌≡◌, ◌≢◌, ℕ, ◌+◌, ◌-◌, ◌<◌, ◌≤◌, Bool, true, false, if◌then◌else◌, List, [], ◌∷◌, ◌++◌, Option, None, Some, refl, sym, ap, ◌∙◌, subst, append-nil, length, unwrap_or, arith}
 use Rattle.std.specs.Prelude.{slice_index_or}
 use base.Growing.{prefix_trans}
 use mathlib.Core.List.{IsPrefix}
@@ -23,8 +23,7 @@ use Rattle.seize_words.specs.Heads.{IsTrying}
 use Rattle.seize_book.specs.Homes.{home_of}
 use Rattle.seize_book.specs.Homesteads.{state_seen}
 use Rattle.seize_book.specs.Laws.{life, starts}
-use Rattle.seize_words.specs.LinkWords.{ActsOnLink, IsLinkFor, held_before, link_number}
-use Rattle.seize_words.specs.Links.{IsWithin}
+use Rattle.seize_words.specs.LinkWords.{ActsOnLink, held_before, link_number}
 use Rattle.seize_book.specs.Passes.{IsSamePass, LooksOn, events_by, events_in, mine_of}
 use Rattle.seize_book.specs.Slots.{AddsDeed, IsKeyOfBook, Moves, life_of, own_list, slot_number, slot_of, start_of}
 use Rattle.seize_book.specs.Loans.{CarriesOne}

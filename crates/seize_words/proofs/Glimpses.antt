@@ -9,7 +9,7 @@ use types.Logic.{Logic, sem}
 use denote.SharingLaws.{nothing_shr_laws}
 use denote.Steps.{nothing}
 use Rattle.seize_content.specs.Contents.{sight_owns}
-use Rattle.seize_content.specs.Readers.{escrow, reader_share, ready}
+use Rattle.seize_content.specs.Readers.{escrow, ready}
 use Rattle.seize_content.proofs.Readers.{left_empty, settled}
 use Rattle.seize_machine.specs.Machine.State.{link_at}
 use Rattle.seize_words.specs.Atomic.{FindsFor}

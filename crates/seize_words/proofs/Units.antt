@@ -7,15 +7,15 @@ use mathlib.Mathlib.Data.Part.{◌∈◌}
 use seplogic.Ra.Ura.{Ura}
 use base.Share
 use base.Fraction.{full_share}
-use base.FractionLaws.{Counts, counts_some, Counts-op, Counts-all}
+use base.FractionLaws.{counts_some, Counts-op, Counts-all}
 use base.Logic.{SProp, ent, sep, wand, apply∗, id⊢, upd_i}
-use base.Fml.{Lft, Share, Fml, ftrue, fsep, fseps, fex, fwand, fupd, flft, fdead, fbor, fshr_bor}
+use base.Fml.{Lft, Share, Fml, ftrue, fsep, fseps, fwand, fupd, flft, fdead, fbor, fshr_bor}
 use denote.Sharing.{one}
 use denote.Steps.{nothing}
 use denote.Struct.Lending.{Lends}
 use ghost.Rules.{span, thinned}
 use types.Logic.{Logic, sem, lfts}
-use types.Kit.{‵, raw, ◌⊛◌, some, later, ◌$◌, ◌∵◌, !, qed, by, move, keep, drop, use1, use2, split, split3, fjoin, fpick, fpack, pick, assume, suffices, await, updating, now, done}
+use types.Kit.{‵, raw, ◌⊛◌, some, later, ◌$◌, ◌∵◌, !, qed, by, move, keep, use1, use2, split, split3, fjoin, fpick, fpack, pick, assume, suffices, await, updating, now, done}
 use types.Tokens.{bor_open, obor_alter, bor_fracture, one_token}
 use Rattle.seize_words.specs.Units.{AreUnits, all_units, has_units, share_of}
 

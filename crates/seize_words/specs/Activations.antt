@@ -6,7 +6,7 @@
 --     Ends a a' lives next     its lifetime is over, and it is another one of the same slot, with the next
 --     SplitsUnit a a' unit     one unit was split off: a' and the unit are the same activation as a
 --     JoinsUnits a units a'    units came back
-use Rattle.std.specs.Prelude.{◌≡◌, ℕ, ◌+◌, ◌^◌, List, [], ◌∷◌}
+use Rattle.std.specs.Prelude.{◌≡◌, ℕ, ◌+◌, List, [], ◌∷◌}
 use Rattle.seize_book.specs.Laws.{IsAmong, ended_lives}
 use Rattle.seize_book.specs.Private.{key_of, own_of}
 use Rattle.seize_words.specs.Units.{all_units}

@@ -3,35 +3,24 @@
 --     OpensWords words porter numbers next links size     a new book with no slot yet, with so many links, which are empty; the porter of
 --                                    its passes, which is at home, with this batch size; and what its slots are made with
 --     IsHolder key pass slot         the key is that of this slot, which is there, as the pass has seen
---     MayReadAt key pass slot        the slot's call reads this slot's head next, and that is there, as the pass has seen
 --     IsInAt activation pass link    the activation has begun, as the pass has seen, and the link is one of the book's: see IsLinkFor
---     TriesAtSlot key slot seen block     the slot's call is about to insert its batch at this slot: see TriesAt
---     IsAddingAt key block won, IsCountingAt key block     the slot's call is about to add so many insertions won to the count of a batch,
---                                    or to count down the next batch of its walk, whose first value lies in the block with this number
---     MayCountUpAt key block won values   it is about to add, and the keys are those of the batch's values, closed: see MayCountUpWith
 --     IsNewTo n key new              the key is that of a value that may go into a link of book n, or none, and this is its word: see
 --                                    IsNewFor
 --     IsStoreOf store book           the blocks of the book lie in the store, and are of one family
---     OnHead n slot P, OnLink n link P     P is so of the head of this slot of book n, and of this link
-use Rattle.std.specs.Prelude.{◌≡◌, ℕ, ◌+◌, ◌<◌, ◌^◌, List, [], ◌∷◌, Some, true}
-use Rattle.seize_machine.specs.Machine.State.{Add, Rest}
+--     OnLink n link P                P is so of this link of book n
+use Rattle.std.specs.Prelude.{◌≡◌, ℕ, ◌<◌, []}
 use Rattle.seize_store.specs.RowTokens.{family_in}
 use Rattle.seize_store.specs.Named.{store_name}
 use Rattle.seize_store.specs.declared.store.Store.{Store}
 use Rattle.seize_table.specs.declared.labelled.Labelled.{Ghosts}
 use Rattle.seize_book.specs.Begin.{BeganWith}
 use Rattle.seize_book.specs.Blocks.{link_word}
-use Rattle.seize_words.specs.Counts.{values_in}
-use Rattle.seize_words.specs.Headers.{HasWritten, IsFrontBlock}
-use Rattle.seize_words.specs.Heads.{IsTrying, reads}
 use Rattle.seize_words.specs.LinkRows.{IsLinkAt}
 use Rattle.seize_words.specs.LinkWords.{value_held}
 use Rattle.seize_words.specs.Links.{IsNewIn, IsWithin}
-use Rattle.seize_words.specs.Reservations.{slot}
 use Rattle.seize_words.specs.Reserved.{HasNextSlot}
-use Rattle.seize_book.specs.Slots.{IsKeyOfBook, own_list, slot_number, slot_of, start_of}
+use Rattle.seize_book.specs.Slots.{IsKeyOfBook, slot_number}
 use Rattle.seize_book.specs.Tokens.{Name}
-use Rattle.seize_book.specs.Values.{AreClosed, values_of}
 use Rattle.seize_book.specs.Porters.{IsFirstPorter}
 use Rattle.seize_words.specs.Totals.{made_of, slots_seen}
 use Rattle.seize_words.specs.declared.activation.Activation.{Activation}
@@ -40,10 +29,8 @@ use Rattle.seize_book.specs.declared.book.pass.Pass.{Pass}
 use Rattle.seize_book.specs.declared.book.porter.Porter.{Porter}
 use Rattle.seize_book.specs.declared.book.slot_key.SlotKey.{SlotKey}
 use Rattle.seize_book.specs.declared.book.seen.Seen.{Seen}
-use Rattle.seize_book.specs.declared.book.value_keys.ValueKeys.{ValueKeys}
 use Rattle.seize_words.specs.declared.link.Link.{Link}
 use Rattle.seize_words.specs.declared.link.MaybeKey.{MaybeKey}
-use Rattle.seize_words.specs.declared.reservation.Head.{Head}
 use Rattle.seize_words.specs.declared.slots.next.NextSlot.{NextSlot}
 use Rattle.seize_words.specs.declared.words.Words.{Words}
 
@@ -66,38 +53,12 @@ OpensWords words porter numbers next many size =
 abbrev pub IsHolder : SlotKey → Pass → ℕ → Type 0
 IsHolder key pass s = IsKeyOfBook key pass × (slot_number key ≡ s) × (s < slots_seen pass)
 
-abbrev pub MayReadAt : SlotKey → Pass → ℕ → Type 0
-MayReadAt key pass s = IsKeyOfBook key pass × (reads (slot_of key) s ≡ true) × (s < slots_seen pass)
-
 abbrev pub IsInAt : Activation → Pass → ℕ → Type 0
 IsInAt activation pass l =
     (activation.name ≡ pass.name) × IsWithin pass.name activation.slot activation.life activation.since pass.seen l
 
-abbrev pub OnHead : Name → ℕ → (Head → Type 0) → Type 0
-OnHead n s P = (head : Head) × ((head.word.name ≡ n) × (slot head ≡ s)) × P head
-
 abbrev pub OnLink : Name → ℕ → (Link → Type 0) → Type 0
 OnLink n l P = (link : Link) × IsLinkAt n l link × P link
-
-abbrev pub TriesAtSlot : SlotKey → ℕ → ℕ → ℕ → Type 0
-TriesAtSlot key s seen block =
-    (t : IsTrying (start_of key) (slot_number key) (own_list key) s seen block) × HasWritten key seen t.batch × (block + 2 < 2 ^ 64)
-
-pub record IsAddingAt (key : SlotKey) (block won : ℕ) : Type 0 where
-  pub batch : ℕ
-  pub queue : List ℕ
-  pub adding : (slot_of key).call ≡ Some (record { place = Add batch won; queue = queue })
-  pub front : IsFrontBlock key batch block
-
-pub record IsCountingAt (key : SlotKey) (block : ℕ) : Type 0 where
-  pub batch : ℕ
-  pub walk : List ℕ
-  pub queue : List ℕ
-  pub walking : (slot_of key).call ≡ Some (record { place = Rest [] (batch ∷ walk); queue = queue })
-  pub front : IsFrontBlock key batch block
-
-abbrev pub MayCountUpAt : SlotKey → ℕ → ℕ → ValueKeys → Type 0
-MayCountUpAt key block won values = (a : IsAddingAt key block won) × (values_of values ≡ values_in key a.batch) × AreClosed values
 
 abbrev pub IsNewTo : Name → MaybeKey → ℕ → Type 0
 IsNewTo n key new = (key.keys.name ≡ n) × IsNewIn n (value_held key) key.keys.held × (new ≡ link_word (value_held key))

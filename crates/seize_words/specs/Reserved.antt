@@ -10,7 +10,7 @@
 --     IsSlotCount pass pass' count     there were so many slots in what the pass saw between the two
 --     comes_to heads, heads_end heads    the slot whose head comes next in a walk, and the number before which the walk ends;  heads_book
 --                                      its book;  GoesOn heads head heads'   a step of it gives the next slot's head, or nothing at the end
-use Rattle.std.specs.Prelude.{◌≡◌, ℕ, ◌+◌, ◌<◌, length, IfSome, IfNone, Some}
+use Rattle.std.specs.Prelude.{◌≡◌, ℕ, ◌+◌, ◌<◌, length, IfSome, IfNone}
 use Rattle.std.specs.declared.option.Option.{Option}
 use Rattle.crossbeam_utils.specs.Padded.{padded_value}
 use denote.Bor.{Bor}

@@ -213,21 +213,8 @@ impl<T: Drop> Blocks<T> {
         self.store.back(number as usize, &row, ticket, pool)
     }
 
-    /// The value of a block whose values were all reclaimed. Its chunk is in again, with the block's key, by one swap; where the store is
-    /// gone, the chunk's memory goes back.
-    pub fn take_back(&self, key: ValueKey, block: Bare<Header, Part, T>) -> T
-        requires book { book_of key ≡ blocks_book self.now }
-        requires vacant { IsVacated key }
-        requires lies { LiesIn key block }
-        ensures { result ≡ bare_value block }
-    {
-        let (value, hollow) = block.take();
-        self.lay_back(key, hollow);
-        value
-    }
-
-    /// The same where the value was taken out before (`Bare::take`), as by a reclaimer that has it before it names further ones: when all
-    /// values of the block were reclaimed, its chunk is in again with the block's key.
+    /// A block goes back whose values were all reclaimed, and the last one taken out (`Bare::take`). Its chunk is in again, with the block's
+    /// key, by one swap; where the store is gone, the chunk's memory goes back.
     pub fn lay_back(&self, key: ValueKey, hollow: Hollow<Header, Part, T>)
         requires book { book_of key ≡ blocks_book self.now }
         requires vacant { IsVacated key }
@@ -308,31 +295,6 @@ impl<T: Drop> Blocks<T> {
         let place = self.store.place(number as usize, &row);
         let header = place.header();
         &header.note
-    }
-
-    /// What is noted of the block with this number, whose value this key is for, whether one was ever named or not. No event is made, and
-    /// the list is not looked at.
-    ///
-    /// It takes no memory: a look-up, as `header`, and a plain read.
-    pub fn note(&self, number: u64, key: &mut ValueKey) -> Note
-        requires book { book_of key.old ≡ blocks_book self.now }
-        requires number { block_number (value_of key.old) ≡ number }
-        ensures same { IsUnchanged key.old key.new }
-        ensures note { IsNoted result key.old }
-    {
-        key.note(self.cell(number, key))
-    }
-
-    /// Notes this of the block with this number, in the place of what was noted before. Whoever may see the block's value meanwhile sees
-    /// nothing of it. No event is made, and the list is not looked at.
-    ///
-    /// It takes no memory: a look-up, as `header`, and a plain write.
-    pub fn set_note(&self, number: u64, note: Note, key: &mut ValueKey)
-        requires book { book_of key.old ≡ blocks_book self.now }
-        requires number { block_number (value_of key.old) ≡ number }
-        ensures noted { HasNoted (note_code note) key.old key.new }
-    {
-        key.set_note(self.cell(number, key), note);
     }
 
     /// Counts down the next batch of a walk, to which this word leads: that of the slot's head as it came out, or what the step before

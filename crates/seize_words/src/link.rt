@@ -72,7 +72,7 @@ impl Expects for Brand {
 }
 
 impl Link {
-    ghost use Rattle.seize_words.specs.LinkWords.{CompareExchanges, HasNextLink, IsLinkFor, IsNext, IsNewFor, Reads, Sees, Swaps};
+    ghost use Rattle.seize_words.specs.LinkWords.{CompareExchanges, HasNextLink, IsLinkFor, IsNext, IsNewFor, Sees, Swaps};
 
     /// The first of the links that were not made yet. It is empty.
     pub fn next(left: &mut LinkKeys) -> Link
@@ -96,14 +96,6 @@ impl Link {
     {
         let mut keys = Keys::empty(pass);
         self.word.see_in::<Brand>(&mut keys, activation, pass)
-    }
-
-    /// The same, and the word alone.
-    pub fn read(&self, activation: &Activation, pass: &mut Pass) -> u64
-        requires within { IsLinkFor self.now activation.now pass.old }
-        ensures reads { Reads self.now activation.now pass.old pass.new result }
-    {
-        self.see(activation, pass).0
     }
 
     /// Puts a value that was never named into the link, or none: the event `ExchangeLink` of the activation's slot. All values that lay in

@@ -1,5 +1,6 @@
 //! Words: all that threads change of one book. The links lie in a row, the heads of the slots in a table, and the counts and fields of the
-//! blocks in a store. Each call makes one event by one atomic step, through `&self`. It joins `link`, `slots` and `blocks`.
+//! blocks in a store. It joins `link`, `slots` and `blocks`, and has the calls on links, each of which makes one event by one atomic step,
+//! through `&self`.
 ghost use Rattle.std.specs.Prelude.{◌≡◌};
 ghost use Rattle.seize_words.specs.Chunks.{blocks_book};
 ghost use Rattle.seize_words.specs.Named.{links_name};
@@ -11,9 +12,7 @@ use crate::chunk::{Header, Part};
 use crate::glimpse::{Found, Glimpse};
 use crate::link::{Expects, Links, MaybeKey};
 use crate::slots::{NextSlot, Reservation, Slots};
-use seize_book::book::{
-    BookKeys, FutureBook, NumbersKey, Pass, Porter, Seen, SlotKey, Storage, ValueKeys,
-};
+use seize_book::book::{BookKeys, FutureBook, NumbersKey, Pass, Porter, Seen, SlotKey, Storage};
 use seize_store::Store;
 use seize_table::Refusal;
 use seize_table::thread_id::MAX_INDEX;
@@ -37,28 +36,18 @@ pub struct Words<T> {
 }
 
 impl<T: Drop> Words<T> {
-    ghost use Rattle.std.specs.Prelude.{[], ◌<◌, ◌⊎◌, ◌↔◌, Err, IfErr, IfOk, IfSome, Some, false, is_some, true};
-    ghost use Rattle.seize_machine.specs.Machine.Event.{AddCount, Enter, Insert, ReadHead, SubCount, SwapOut};
-    ghost use Rattle.seize_machine.specs.Machine.State.{is_idle};
+    ghost use Rattle.std.specs.Prelude.{◌<◌, ◌⊎◌, ◌↔◌, Err, IfErr, IfOk, IfSome, is_some};
     ghost use Rattle.seize_store.specs.Named.{store_name};
     ghost use Rattle.seize_table.specs.Named.{name_of};
     ghost use Rattle.seize_table.specs.declared.refusal.Refusal.TheVariants.{NoMemory, NoNumbers};
     ghost use Rattle.seize_book.specs.Blocks.{link_word};
     ghost use Rattle.seize_book.specs.Books.{HasKeys};
-    ghost use Rattle.seize_words.specs.Counts.{Counts, GivesUp, LeavesKeys, TakesKeys};
-    ghost use Rattle.seize_words.specs.Heads.{found_end};
-    ghost use Rattle.seize_words.specs.Joined.{IsAddingAt, IsCountingAt, IsHolder, IsInAt, IsNewTo, IsStoreOf, MayCountUpAt, MayReadAt, OnHead, OnLink, OpensWords, TriesAtSlot, with_size, words_book};
+    ghost use Rattle.seize_words.specs.Joined.{IsInAt, IsNewTo, IsStoreOf, OnLink, OpensWords, with_size, words_book};
     ghost use Rattle.seize_book.specs.Porters.{Opens, Resizes};
     ghost use Rattle.seize_words.specs.Chunks.{IsFoundAs};
     ghost use Rattle.seize_words.specs.LinkWords.{CompareExchanges, Finds, Sees, Swaps, held_before};
-    ghost use Rattle.seize_words.specs.Reservations.{FoundBefore, IsActivationOf, IsLastOf, IsOfSlot, IsOut, ShowsHead, WalksFrom, beginning};
     ghost use Rattle.seize_words.specs.Reserved.{HasNextSlot, IsSameNext, MakesNextSlot};
-    ghost use Rattle.seize_book.specs.Slots.{AddsDeed, AddsEvent, IsKeyOfBook, active_of, slot_number, slot_of};
-    ghost use Rattle.seize_words.specs.Totals.{slots_seen};
     ghost use Rattle.seize_book.specs.Others.{AreNumbersOf};
-    ghost use Rattle.seize_words.specs.Walks.{Knows};
-    ghost use Rattle.seize_book.specs.Kept.{AreTold};
-    ghost use Rattle.seize_book.specs.Values.{AreOfBook, IsEmpty};
 
     /// The words of a new book, with so many links, which are empty, and no slot; the porter of its passes, which is at home; and the keys
     /// with which its slots are made. A slot attempts its batch when that has `size` values, and at least one; `set_size` sets another
@@ -165,127 +154,6 @@ impl<T: Drop> Words<T> {
         ensures unchanged { IfErr result (λ e. (numbers.new ≡ numbers.old) × (pass.new ≡ pass.old)) }
     {
         self.slots.make(next, numbers, pass)
-    }
-
-    /// The slot becomes active: the event `Enter`, which begins the activation. See `Head::enter`.
-    ///
-    /// It takes no memory and waits for nobody: the look-up of the head, as `Slots::head`, and one atomic swap.
-    pub fn enter_head(
-        &self,
-        slot: usize,
-        activation: &mut Activation,
-        key: &mut SlotKey,
-        pass: &mut Pass,
-    )
-        requires book { words_book self.now ≡ pass.old.name }
-        requires holder { IsHolder key.old pass.old slot × IsOfSlot key.old activation.old }
-        requires outside { (is_idle (slot_of key.old) ≡ true) × (active_of key.old ≡ false) }
-        ensures noted { AddsDeed key.old pass.old key.new pass.new (beginning pass.old activation.new.life (Enter slot)) }
-        ensures activation { IsActivationOf key.new activation.new }
-    {
-        self.slots.head(slot, pass).enter(activation, key, pass);
-    }
-
-    /// Reads a slot's head: the event `ReadHead`. See `Head::read`.
-    ///
-    /// It takes no memory and waits for nobody: the look-up of the head, as `Slots::head`, and one atomic load.
-    pub fn read_head(&self, slot: usize, key: &mut SlotKey, pass: &mut Pass) -> u64
-        requires book { words_book self.now ≡ pass.old.name }
-        requires reads { MayReadAt key.old pass.old slot }
-        ensures noted { AddsEvent key.old pass.old key.new pass.new (ReadHead (slot_number key.old) slot) }
-        ensures shows { OnHead (words_book self.now) slot (λ head. ShowsHead head pass.new.seen result) }
-    {
-        self.slots.head(slot, pass).read(key, pass)
-    }
-
-    /// Inserts the slot's batch at a slot's head, with this block, if the head's word is still what was seen: the event `Insert`. It gives
-    /// the word that it found. See `Head::insert`.
-    ///
-    /// It takes no memory and waits for nobody: the look-up of the head, as `Slots::head`, and one atomic compare and exchange.
-    pub fn insert(
-        &self,
-        slot: usize,
-        seen: u64,
-        block: u64,
-        key: &mut SlotKey,
-        pass: &mut Pass,
-    ) -> u64
-        requires book { (words_book self.now ≡ pass.old.name) × IsKeyOfBook key.old pass.old × (slot < slots_seen pass.old) }
-        requires tries { TriesAtSlot key.old slot seen block }
-        ensures noted { AddsEvent key.old pass.old key.new pass.new (Insert (slot_number key.old) slot (found_end seen result)) }
-        ensures found { OnHead (words_book self.now) slot (λ head. FoundBefore head pass.new result) }
-    {
-        self.slots.head(slot, pass).insert(seen, block, key, pass)
-    }
-
-    /// The slot leaves: the event `SwapOut` of a leave, which ends the activation. It gives the word of the head that comes out. See
-    /// `Head::leave`.
-    ///
-    /// It takes no memory and waits for nobody: the look-up of the head, as `Slots::head`, and one atomic swap.
-    pub fn swap_out(
-        &self,
-        slot: usize,
-        activation: &mut Activation,
-        key: &mut SlotKey,
-        pass: &mut Pass,
-    ) -> u64
-        requires book { words_book self.now ≡ pass.old.name }
-        requires holder { IsHolder key.old pass.old slot }
-        requires leaving { IsOut key.old false × IsLastOf key.old activation.old }
-        ensures noted { AddsEvent key.old pass.old key.new pass.new (SwapOut slot) }
-        ensures slot { IsOfSlot key.new activation.new }
-        ensures found { OnHead (words_book self.now) slot (λ head. FoundBefore head pass.new result) }
-        ensures walks { (out : IsOut key.old false) → OnHead (words_book self.now) slot (λ head. WalksFrom head key.new result out.0) }
-    {
-        self.slots.head(slot, pass).leave(activation, key, pass)
-    }
-
-    /// Adds the insertions won to the count of the slot's batch, whose first value lies in the block with this number: the event
-    /// `AddCount`. It says whether the count is 0 then. See `Count::add`.
-    ///
-    /// It takes no memory and waits for nobody: a look-up, as `Blocks::header`, and one atomic addition.
-    pub fn add(
-        &self,
-        block: u64,
-        won: u64,
-        key: &mut SlotKey,
-        values: &mut ValueKeys,
-        pass: &mut Pass,
-    ) -> bool
-        requires book { IsKeyOfBook key.old pass.old × (words_book self.now ≡ pass.old.name) × AreOfBook values.old pass.old }
-        requires knows { Knows key.old pass.old }
-        requires adds { MayCountUpAt key.old block won values.old }
-        requires told { AreTold values.old pass.old }
-        ensures counts { Counts key.old pass.old key.new pass.new (AddCount (slot_number key.old)) result }
-        ensures gives { (adds : IsAddingAt key.old block won) → GivesUp key.old key.new adds.batch [] adds.queue result }
-        ensures keys { LeavesKeys values.old pass.new values.new result }
-        ensures knows { Knows key.new pass.new }
-    {
-        let header = self.blocks.header(block, pass);
-        header.count.add(won, key, values, pass)
-    }
-
-    /// Counts down the batch that the slot's walk comes to, whose first value lies in the block with this number: the event `SubCount`. It
-    /// says whether the count is 0 then. See `Count::subtract`; `Blocks::count_down` finds the number too.
-    ///
-    /// It takes no memory and waits for nobody: a look-up, as `Blocks::header`, and one atomic subtraction.
-    pub fn subtract(
-        &self,
-        block: u64,
-        key: &mut SlotKey,
-        values: &mut ValueKeys,
-        pass: &mut Pass,
-    ) -> bool
-        requires book { IsKeyOfBook key.old pass.old × (words_book self.now ≡ pass.old.name) × IsEmpty values.old pass.old }
-        requires knows { Knows key.old pass.old }
-        requires counts { IsCountingAt key.old block }
-        ensures counts { Counts key.old pass.old key.new pass.new (SubCount (slot_number key.old)) result }
-        ensures gives { (at : IsCountingAt key.old block) → GivesUp key.old key.new at.batch at.walk at.queue result }
-        ensures keys { (at : IsCountingAt key.old block) → TakesKeys key.old at.batch pass.new values.new result }
-        ensures knows { Knows key.new pass.new }
-    {
-        let header = self.blocks.header(block, pass);
-        header.count.subtract(key, values, pass)
     }
 
     /// Reads a link: the event `ReadLink`. It gives the link's word and a glimpse of what the link holds. See `Link::see`.

@@ -1,38 +1,44 @@
 -- The steps of the worked run by numbers.
-use Rattle.std.proofs.Common.{◌≡◌, ℕ, ◌+◌, ◌-◌, ◌<◌, ◌^◌, ◌==◌, pos, negsuc, ◌+ℤ◌, Bool, if◌then◌else◌, true, List, [], ◌∷◌, Some, length, unwrap_or, refl, sym, ap, ◌∙◌, subst, arith}
+use Rattle.std.proofs.Common.{◌≡◌, ℕ, ◌+◌, ◌-◌, ◌<◌, ◌^◌, ◌==◌, pos, negsuc, ◌+ℤ◌, Bool, if◌then◌else◌, true, false, List, [], ◌∷◌, Some, length, unwrap_or, refl, sym, ap, ◌∙◌, subst, arith}
 use Rattle.std.specs.Prelude.{slice_index_or}
 use mathlib.Core.List.{IsPrefix}
 use base.Growing.{prefix_refl}
 use Rattle.seize_machine.specs.Machine.State.{Slot, State, are_distinct, has, linked_values}
-use Rattle.seize_machine.specs.Machine.Event.{Take}
+use Rattle.seize_machine.specs.Machine.Event.{Event, Take}
 use Rattle.seize_machine.specs.Machine.History.{first_or_none}
+use Rattle.seize_machine.specs.declared.machine.event.Answer.{Answer}
 use Rattle.seize_machine.specs.declared.machine.event.Answer.TheVariants.{Done}
 use Rattle.seize_book.specs.Adding.{private}
 use Rattle.seize_book.specs.Blocks.{Plan, block_in, block_number, count_word, no_plan}
 use Rattle.seize_book.specs.Book.{IsLegalList, after}
 use Rattle.seize_book.specs.Chains.{insertion_value}
-use Rattle.seize_book.specs.Entry.{Entry}
+use Rattle.seize_book.specs.Entry.{Deed, Entry}
 use Rattle.seize_book.specs.Homes.{count_in, home_of}
 use Rattle.seize_book.specs.Homesteads.{state_seen}
+use Rattle.seize_book.specs.Laws.{starts}
 use Rattle.seize_book.specs.Passes.{LooksOn}
-use Rattle.seize_book.specs.Slots.{IsKeyOfBook, LooksWithSlotKey, slot_number, written_of}
+use Rattle.seize_book.specs.Slots.{AddsDeed, IsKeyOfBook, LooksWithSlotKey, own_list, slot_number, start_of, written_of}
 use Rattle.seize_book.specs.Tokens.{Name, start}
 use Rattle.seize_book.specs.declared.book.numbers_key.NumbersKey.{NumbersKey}
 use Rattle.seize_book.specs.declared.book.pass.Pass.{Pass}
 use Rattle.seize_book.specs.declared.book.slot_key.SlotKey.{SlotKey}
 use Rattle.seize_words.specs.Chunks.{IsHeaderOf, header_home}
-use Rattle.seize_words.specs.Counts.{count_seen, home}
-use Rattle.seize_words.specs.Headers.{Stores}
-use Rattle.seize_words.specs.Joined.{IsAddingAt, IsHolder, TriesAtSlot}
-use Rattle.seize_words.specs.Reserved.{MakesNextSlot, next_key}
+use Rattle.seize_words.specs.Counts.{MayCountDown, MayCountUp, count_seen, home}
+use Rattle.seize_words.specs.Headers.{HasWritten, Stores}
+use Rattle.seize_words.specs.Heads.{IsMade, IsTrying}
+use Rattle.seize_words.specs.Reservations.{IsLastOf, TriesAt, beginning, slot}
+use Rattle.seize_words.specs.Reserved.{IsHeadAt, MakesNextSlot, next_key}
 use Rattle.seize_words.specs.Totals.{made_of, slots_seen}
 use Rattle.seize_words.specs.Walks as walks
+use Rattle.seize_words.specs.declared.activation.Activation.{Activation}
 use Rattle.seize_words.specs.declared.batch.Count.{Count}
 use Rattle.seize_words.specs.declared.chunk.Header.{Header}
+use Rattle.seize_words.specs.declared.reservation.Head.{Head}
 use Rattle.seize_words.specs.declared.slots.next.NextSlot.{NextSlot}
-use Rattle.seize_words_rows.specs.Runs.{counted_down, looked, reader_over}
+use Rattle.seize_words.proofs.Facts.{life_kept}
+use Rattle.seize_words_rows.specs.Runs.{counted_down, left, looked, reader_over}
 use Rattle.seize_words_rows.specs.Stages.{Goes, IsAt, Knows, Leads, Sees, Stage}
-use Rattle.seize_words_rows.proofs.Stages.{front_is, looks_on, passes, planned_is, record_is, sees_on}
+use Rattle.seize_words_rows.proofs.Stages.{front_is, looks_on, passes, planned_is, record_is, sees_on, steps}
 
 -- a slot is made, whose head lies in the table
 pub makes_slot : (n : Name) (numbers numbers' : NumbersKey) (next next' : NextSlot) (pass pass' : Pass) (key : SlotKey) (s : ℕ) (from to : Stage) → MakesNextSlot numbers next pass numbers' key next' pass' → made_of numbers ≡ s → (next_key next).keys.name ≡ n
@@ -51,8 +57,21 @@ pub is_there : (n : Name) (pass : Pass) (now : Stage) (m : ℕ) → Sees n pass 
 is_there n pass now m sees less =
     subst (λ (k : ℕ). m < k) (sym (ap (λ (z : Name). length (after (start z) pass.seen).slots) sees.book ∙ ap (λ (st : State). length st.slots) sees.leads.state)) less
 
-pub holder : (n : Name) (key : SlotKey) (pass : Pass) (s : ℕ) (now known : Stage) → Sees n pass now → Knows n key s known → s < length now.state.slots → IsHolder key pass s
-holder n key pass s now known sees knows less = (is_of n key pass s now known sees knows, knows.number, is_there n pass now s sees less)
+-- the slot's head that is found is there, as the pass has seen then
+pub made_at : (n : Name) (pass : Pass) (now : Stage) (m : ℕ) (head : Head) → Sees n pass now → IsHeadAt pass m head → m < length now.state.slots → IsMade head.word pass.seen
+made_at n pass now m head sees its less =
+    subst (λ (t : Name × ℕ). t.1 < length (after (start t.0) pass.seen).slots) (λ j. (sym its.0 j, sym its.1 j)) (is_there n pass now m sees less)
+
+-- and after the look for it, an event of the slot takes the machine on
+pub at_head : (n : Name) (key key' : SlotKey) (pass mid pass' : Pass) (head : Head) (s m life : ℕ) (event : ℕ → ℕ → Event) (from known to : Stage) (answer : Answer) → LooksOn pass mid → IsHeadAt mid m head
+    → AddsDeed key mid key' pass' (beginning mid life (event (slot_number key) (slot head))) → Sees n pass from → Knows n key s known → Goes from (event s m) to answer → Leads n pass' key' s to
+at_head n key key' pass mid pass' head s m life event from known to answer looks its notes sees knows goes =
+    steps n key key' mid pass' s life (λ k. event k (slot head)) from known to answer notes (sees_on n pass mid from looks sees) knows
+    (subst (λ (j : ℕ). Goes from (event s j) to answer) (sym its.1) goes)
+
+-- an entry that begins no activation leaves the slot's last one
+pub last_still : (key key' : SlotKey) (pass pass' : Pass) (a : Activation) (d : Deed) → AddsDeed key pass key' pass' d → starts (slot_number key) d.event ≡ false → IsLastOf key a → IsLastOf key' a
+last_still key key' pass pass' a d noted none last = ((last.0.0 ∙ sym noted.1.0, last.0.1 ∙ sym noted.1.1, last.0.2), last.1 ∙ sym (life_kept key key' pass pass' d noted none))
 
 -- the slot's call is about to store in the block's fields, and to insert its batch with the block
 module _ (n : Name) (key : SlotKey) (v : ℕ) (knows : Knows n key 1 (looked v)) where
@@ -68,8 +87,8 @@ module _ (n : Name) (key : SlotKey) (v : ℕ) (knows : Knows n key 1 (looked v))
     its = its ∙ ap which (sym (ap (λ (plans : List Plan). home_of (insertion_value plans 0 0)) (planned_is n key 1 (looked v) knows)));
   }
 
-  pub tries : (block : ℕ) → block_number v ≡ block → block + 2 < 2 ^ 64 → written_of key ≡ Some (1, block) → TriesAtSlot key 0 1 block
-  tries block is fits written = (
+  pub tries : (block : ℕ) → block_number v ≡ block → block + 2 < 2 ^ 64 → written_of key ≡ Some (1, block) → (head : Head) → slot head ≡ 0 → TriesAt key head 1 block
+  tries block is fits written head its = subst (λ (m : ℕ). (t : IsTrying (start_of key) (slot_number key) (own_list key) m 1 block) × HasWritten key 1 t.batch × (block + 2 < 2 ^ 64)) (sym its) (
     record {
       batch = 0;
       won = 0;
@@ -96,13 +115,26 @@ looked_at n key key' pass pass' s now known looks sees knows =
       },
     )
 
--- the batch's first value lies in the block, and the slot's call is about to add
-abbrev pub adds_at : (n : Name) (key : SlotKey) (v block : ℕ) → Knows n key 1 (reader_over v) → block_number v ≡ block → IsAddingAt key block 1
-adds_at n key v block knows is = record {
+-- the slot's call is about to add to the batch's count, or to count it down
+abbrev pub adds_at : (n : Name) (key : SlotKey) (v : ℕ) (count : Count) → Knows n key 1 (reader_over v) → home_of v ≡ home count → MayCountUp key count 1
+adds_at n key v count knows its = record {
   batch = 0;
+  front = v;
   queue = [];
   adding = ap (λ (r : Slot). r.call) (record_is n key 1 (reader_over v) knows);
-  front = (v, front_is n key 1 0 v (reader_over v) knows refl, sym is);
+  its_front = front_is n key 1 0 v (reader_over v) knows refl;
+  its_home = its;
+}
+
+abbrev pub counts_at : (n : Name) (key : SlotKey) (v : ℕ) (count : Count) → Knows n key 0 (left v) → home_of v ≡ home count → MayCountDown key count
+counts_at n key v count knows its = record {
+  batch = 0;
+  front = v;
+  walk = [];
+  queue = [];
+  walking = ap (λ (r : Slot). r.call) (record_is n key 0 (left v) knows);
+  its_front = front_is n key 0 0 v (left v) knows refl;
+  its_home = its;
 }
 
 -- the value was named, as the pass has seen

@@ -11,8 +11,7 @@ use Rattle.seize_book.specs.Others.{value_of}
 use Rattle.seize_book.specs.Passes.{LooksOn}
 use Rattle.seize_book.specs.Private.{is_one, label_of, note_of}
 use Rattle.seize_book.specs.Slots.{AddsDeed}
-use Rattle.seize_book.specs.Tokens.{Name}
-use Rattle.seize_book.specs.Values.{Pushes, book_in}
+use Rattle.seize_book.specs.Values.{Pushes}
 use Rattle.seize_book.specs.declared.book.pass.Pass.{Pass}
 use Rattle.seize_book.specs.declared.book.slot_key.SlotKey.{SlotKey}
 use Rattle.seize_book.specs.declared.book.value_key.ValueKey.{ValueKey}

@@ -13,7 +13,7 @@ use Rattle.seize_book.specs.declared.book.slot_key.SlotKey.{SlotKey}
 use Rattle.seize_words.specs.Headers.{Uses}
 use Rattle.seize_words.specs.Joined.{words_book}
 use Rattle.seize_words.specs.Named.{first_value}
-use Rattle.seize_words_rows.specs.Entrants.{Shared}
+use Rattle.seize_words_rows.specs.Making.{Shared}
 use Rattle.seize_words_rows.specs.Lending.{IsIn}
 use Rattle.seize_words_rows.specs.Stages.{Knows, Sees, Stage}
 use Rattle.seize_words_rows.specs.declared.numbered_run.Retired.{Retired}

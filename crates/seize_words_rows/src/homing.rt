@@ -1,6 +1,6 @@
 //! A porter that comes home. While it is there nobody adds to the list, which is what the porter has seen: so is that of the gate when it
 //! is shut from there or lent to a visit, and of the next porter. Passes that it lent meanwhile keep it from nothing.
-ghost use Rattle.std.specs.Prelude.{◌≡◌, IfSome, true};
+ghost use Rattle.std.specs.Prelude.{◌≡◌, IfSome, false, true};
 ghost use Rattle.seize_words_rows.specs.Homing.{IsAtHome, IsSameList};
 
 use seize_words::book::{Pass, Porter, Stay};
@@ -18,16 +18,17 @@ pub fn begin(alloc: Global) -> Option<Porter>
     }
 }
 
-/// Two passes are lent and forgotten, and the porter comes home.
-pub fn lend_two(porter: &mut Porter)
-    requires home { IsAtHome porter.old }
-    ensures home { IsAtHome porter.new × (porter.new.name ≡ porter.old.name) }
+/// Passes are lent, two at a time, so often. The two meet, and are forgotten.
+pub fn forget_passes(porter: &Porter, count: u64)
+    requires away { porter.now.home ≡ false }
 {
-    porter.leave_home();
-    mem::forget(porter.pass());
-    let last = porter.pass();
-    mem::forget(last);
-    porter.come_home();
+    for _ in 0..count {
+        let mut one = porter.pass();
+        let mut other = porter.pass();
+        one.meet(&mut other);
+        mem::forget(one);
+        mem::forget(other);
+    }
 }
 
 /// Shuts the gate from home, and opens it again: the list is the same all the time.

@@ -40,7 +40,9 @@ pub fn give_back(blocks: &Blocks<u64>, key: ValueKey, lent: Lent, pass: &mut Pas
 {
     let mut key = key;
     let block = blocks.withdraw(lent.number, &mut key, pass);
-    blocks.take_back(key, block)
+    let (value, hollow) = block.take();
+    blocks.lay_back(key, hollow);
+    value
 }
 
 /// What is lent in the block, by the key of the value there.
@@ -86,7 +88,7 @@ pub fn lend_and_note(
         return None;
     };
     let lent = lend(blocks, &mut key, block);
-    blocks.set_note(lent.number, note, &mut key);
-    let noted = blocks.note(lent.number, &mut key);
+    key.set_note(blocks.cell(lent.number, &key), note);
+    let noted = key.note(blocks.cell(lent.number, &key));
     Some((lent.value, noted))
 }

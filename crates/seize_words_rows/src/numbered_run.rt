@@ -78,7 +78,7 @@ pub fn enter(words: &Words<u64>, activation: &mut Activation, reader: &mut SlotK
     ensures leads { Leads (words_book words.now) pass.new reader.new 0 entered }
     ensures last { IsLastOf reader.new activation.new }
 {
-    words.enter_head(0, activation, reader, pass);
+    words.slots.head(0, pass).enter(activation, reader, pass);
 }
 
 /// The other slot retires the value from a block of the store, which is lent. Its batch is full with that, so its call is to read the
@@ -104,7 +104,7 @@ pub fn retire(
         slot: 0,
         kept: 0,
     };
-    words.blocks.set_note(lent.number, last, &mut key);
+    key.set_note(words.blocks.cell(lent.number, &key), last);
     let mut values = ValueKeys::new(pass);
     values.push(key);
     Some(Retired { lent, values })
@@ -121,8 +121,8 @@ pub fn mark(
     ensures found { (result.0 ≡ 1) × (result.1 ≡ 0) }
     ensures stands { IsAtStages words.now retired.now pass.new marked retirer.new 1 marked }
 {
-    let reader = words.read_head(0, retirer, pass);
-    (reader, words.read_head(1, retirer, pass))
+    let reader = words.slots.head(0, pass).read(retirer, pass);
+    (reader, words.slots.head(1, pass).read(retirer, pass))
 }
 
 /// It detaches its batch, and looks at the reader's head again.
@@ -132,7 +132,7 @@ pub fn detach(words: &Words<u64>, retired: &Retired, retirer: &mut SlotKey, pass
     ensures stands { IsAtStages words.now retired.now pass.new looked retirer.new 1 looked }
 {
     retirer.detach(pass);
-    words.read_head(0, retirer, pass)
+    words.slots.head(0, pass).read(retirer, pass)
 }
 
 // Stores in the block's next field what was seen of the head, and in its first field the number of the batch's first block. An insertion
@@ -157,7 +157,7 @@ pub fn insert(words: &Words<u64>, retired: &Retired, retirer: &mut SlotKey, pass
     let block = retired.lent.number;
     let header = words.blocks.header(block, pass);
     prepare(&header.next, &header.first, 1, block, retirer, pass);
-    words.insert(0, 1, block, retirer, pass)
+    words.slots.head(0, pass).insert(1, block, retirer, pass)
 }
 
 /// The reader leaves. The word that comes out is that of a list with the batch alone.
@@ -174,7 +174,7 @@ pub fn leave(
     ensures stands { IsAtStages words.now retired.now pass.new left reader.new 0 left }
 {
     reader.begin_leave(pass);
-    words.swap_out(0, activation, reader, pass)
+    words.slots.head(0, pass).leave(activation, reader, pass)
 }
 
 /// It counts the batch down to -1, and its call is over. It gives nothing up. It gives the count's word too, which is -1 modulo 2^64.
@@ -191,8 +191,8 @@ pub fn count_down(
 {
     reader.look(pass);
     let mut values = ValueKeys::new(pass);
-    let zero = words.subtract(retired.lent.number, reader, &mut values, pass);
     let header = words.blocks.header(retired.lent.number, pass);
+    let zero = header.count.subtract(reader, &mut values, pass);
     let word = header.count.load(pass);
     reader.finish(pass);
     (zero, word)
@@ -209,5 +209,6 @@ pub fn count_up(
     ensures zero { result ≡ true }
 {
     retirer.look(pass);
-    words.add(retired.lent.number, 1, retirer, &mut retired.values, pass)
+    let header = words.blocks.header(retired.lent.number, pass);
+    header.count.add(1, retirer, &mut retired.values, pass)
 }

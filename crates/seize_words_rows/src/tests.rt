@@ -1,13 +1,11 @@
-//! Tokens and words by their sizes; and words of one book, found by their numbers: by one caller, and by threads that share them.
-ghost use Rattle.seize_words_rows.specs.Entrants.{CanMake, HasLinks, IsPorterOf, MayEnter, MayRead, MayReadAll, MayShare, made_by};
-ghost use Rattle.seize_words_rows.specs.Guests.{IsGuestOf};
-ghost use Rattle.std.specs.Prelude.{◌≡◌, IfSome};
+//! Tokens and words by their sizes; words of one book, found by their numbers; and a porter that threads share.
+ghost use Rattle.seize_words_rows.specs.Homing.{IsAtHome};
+ghost use Rattle.seize_words_rows.specs.Making.{CanMake, IsPorterOf, made_by};
+ghost use Rattle.std.specs.Prelude.{◌≡◌, false};
 
-use crate::entrants::{
-    Entered, Entrant, meet, open, read_under, share_and_find, share_and_swap, walk_heads,
-};
-use crate::guests::{Guest, welcome};
+use crate::homing::{begin, forget_passes, shut_and_open, stay_home};
 use crate::lending::{lend_and_give_back, lend_and_note};
+use crate::making::{open, walk_heads};
 use crate::numbered_run;
 use seize_words::activation::Activation;
 use seize_words::batch::Count;
@@ -22,7 +20,6 @@ use seize_words::note::Note;
 use seize_words::reservation::Head;
 use seize_words::slots::Reservation;
 use seize_words::total::Total;
-use seize_words::words::Words;
 use std::mem::size_of;
 use std::sync::Wait;
 use std::sync::atomic::AtomicU64;
@@ -33,8 +30,8 @@ use std::thread::Threads;
 // How many slots a thread makes.
 const MADE: usize = 100;
 
-// How often each thread swaps.
-const SWAPS: u64 = 5_000;
+// How many passes each thread forgets.
+const FORGOTTEN: u64 = 10_000;
 
 #[test]
 fn tokens_have_no_bytes(rt: HostRuntime) {
@@ -154,208 +151,35 @@ fn heads_are_found_while_slots_are_made(rt: HostRuntime) {
     assert_eq!(rt; (made, walked), (MADE, Some((0, MADE))));
 }
 
-// Each of two threads swaps a value into one link, and then waits for that of the other and sees it: it holds only where both run.
-#[test]
-fn each_thread_sees_what_the_other_put_in(rt: HostRuntime) {
-    let Some((words, porter, source)) = open(rt.alloc()) else {
-        panic!(rt; "no memory");
-    };
-    let Some((one, source)) = source.make(&words, &porter) else {
-        panic!(rt; "no memory");
-    };
-    let Some((two, _)) = source.make(&words, &porter) else {
-        panic!(rt; "no memory");
-    };
-    let words = &words;
-    let (saw_1, saw_2) = thread::join(
-        &rt,
-        move || -> Option<u64>
-            requires { MayEnter words.now one }
-        { one.swap_and_wait(words, 0, 1, 70) },
-        move || -> Option<u64>
-            requires { MayEnter words.now two }
-        { two.swap_and_wait(words, 1, 0, 71) },
-    );
-    assert_eq!(rt; (saw_1, saw_2), (Some(71), Some(70)));
-}
-
-// An exchange that takes a link to hold nothing is lost where it holds something, and that is seen.
-#[test]
-fn what_a_lost_exchange_found_is_seen(rt: HostRuntime) {
-    let Some((words, porter, source)) = open(rt.alloc()) else {
-        panic!(rt; "no memory");
-    };
-    let Some((one, _)) = source.make(&words, &porter) else {
-        panic!(rt; "no memory");
-    };
-    assert_eq!(rt; one.put_and_lose(&words, 0, 70), Some(70));
-}
-
-// Two threads enter, and put a value into a link each. It gives the words too.
-fn enter_both<'p, R: Threads + Wait + Sync>(
-    rt: &R,
-    words: &Words<u64>,
-    a: Entrant<'p>,
-    b: Entrant<'p>,
-) -> ((Entered<'p>, u64), (Entered<'p>, u64))
-    requires { MayEnter words.now a × MayEnter words.now b }
-    ensures { MayReadAll words.now result.0.0 × MayReadAll words.now result.1.0 }
+// The porter leaves home, and two threads share it, whose passes are forgotten. It comes home then.
+fn lend_to_both<R: Threads + Wait + Sync>(rt: &R, porter: &mut Porter)
+    requires home { IsAtHome porter.old }
+    ensures home { IsAtHome porter.new }
 {
-    thread::join(
-        rt,
-        move || -> (Entered, u64)
-            requires { MayEnter words.now a }
-            ensures { MayReadAll words.entry.now result.0 }
-        { a.enter_and_put(words, 0) },
-        move || -> (Entered, u64)
-            requires { MayEnter words.now b }
-            ensures { MayReadAll words.entry.now result.0 }
-        { b.enter_and_put(words, 1) },
-    )
-}
-
-// Their passes meet, and then each of two threads reads with the pass of one of them, under the activation of the other, what that put in.
-fn read_both<R: Threads + Wait + Sync>(
-    rt: &R,
-    words: &Words<u64>,
-    one: Entered,
-    two: Entered,
-) -> (u64, u64)
-    requires { MayReadAll words.now one × MayReadAll words.now two }
-{
-    let (mut one, mut two) = (one, two);
-    meet(&mut one, &mut two);
-    let Entered {
-        activation: first,
-        pass,
-    } = one;
-    let Entered {
-        activation: second,
-        pass: other,
-    } = two;
-    let (first, second) = (&first, &second);
-    thread::join(
-        rt,
-        move || -> u64
-            requires { HasLinks words.now × MayRead words.now second.now pass }
-        { read_under(words, 1, second, pass) },
-        move || -> u64
-            requires { HasLinks words.now × MayRead words.now first.now other }
-        { read_under(words, 0, first, other) },
-    )
-}
-
-// Passes come back from two threads, meet, and go to two threads again.
-#[test]
-fn passes_that_met_know_both_activations(rt: HostRuntime) {
-    let Some((words, porter, source)) = open(rt.alloc()) else {
-        panic!(rt; "no memory");
-    };
-    let Some((a, source)) = source.make(&words, &porter) else {
-        panic!(rt; "no memory");
-    };
-    let Some((b, _)) = source.make(&words, &porter) else {
-        panic!(rt; "no memory");
-    };
-    let ((one, put_1), (two, put_2)) = enter_both(&rt, &words, a, b);
-    assert!(rt; put_1 != put_2);
-    assert_eq!(rt; read_both(&rt, &words, one, two), (put_2, put_1));
-}
-
-// A link is read with a unit of an activation and with the rest of it, and the slot leaves with all.
-#[test]
-fn units_of_one_activation_read(rt: HostRuntime) {
-    let Some((words, porter, source)) = open(rt.alloc()) else {
-        panic!(rt; "no memory");
-    };
-    let Some((one, _)) = source.make(&words, &porter) else {
-        panic!(rt; "no memory");
-    };
-    let Some((put, read)) = one.put_and_read(&words, 5, 40) else {
-        panic!(rt; "no memory");
-    };
-    assert_eq!(rt; read, (put, put));
-}
-
-// Two threads share one slot's activation by `&`, and a book that has seen it begin; each has a pass of its own. One swaps greater and
-// greater values in, and the other finds what is there meanwhile: no value is less than the one before.
-#[test]
-fn threads_share_one_activation(rt: HostRuntime) {
-    let Some((words, porter, source)) = open(rt.alloc()) else {
-        panic!(rt; "no memory");
-    };
-    let Some((one, source)) = source.make(&words, &porter) else {
-        panic!(rt; "no memory");
-    };
-    let Some((last, _)) = source.make(&words, &porter) else {
-        panic!(rt; "no memory");
-    };
-    let (entered, put) = one.enter_and_put(&words, 0);
-    let (activation, book) = entered.share(&words);
-    let (words, porter, book, held) = (&words, &porter, &book, &activation);
-    let (left, rises) = thread::join(
-        &rt,
-        move || -> Option<u64>
-            requires { MayShare words.now porter.now book.now held.now }
-        { share_and_swap(words, porter, book, held, 0, SWAPS) },
-        move || -> u64
-            requires { MayShare words.now porter.now book.now held.now }
-        { share_and_find(words, porter, book, held, 0, SWAPS) },
-    );
-    assert_eq!(rt; rises, SWAPS);
-    assert_eq!(rt;
-        Some(last.empty_links(words)),
-        left.map(|left| (left.wrapping_add(put), 1))
-    );
-}
-
-// Two guests visit, on a thread each, with passes that one porter lends, which both share.
-fn visit_both<R: Threads + Wait + Sync>(
-    rt: &R,
-    words: &Words<u64>,
-    porter: &Porter,
-    a: Guest,
-    b: Guest,
-) -> Option<(Guest, Guest)>
-    requires { IsPorterOf words.now porter.now × IsGuestOf words.now a × IsGuestOf words.now b }
-    ensures { IfSome result (λ both. IsGuestOf words.now both.0 × IsGuestOf words.now both.1) }
-{
-    let (one, two) = thread::join(
-        rt,
-        move || -> Option<Guest>
-            requires { IsPorterOf words.now porter.now × IsGuestOf words.now a }
-            ensures { IfSome result (λ guest. IsGuestOf words.entry.now guest) }
-        { a.visit(words, porter, 10_000) },
-        move || -> Option<Guest>
-            requires { IsPorterOf words.now porter.now × IsGuestOf words.now b }
-            ensures { IfSome result (λ guest. IsGuestOf words.entry.now guest) }
-        { b.visit(words, porter, 10_000) },
-    );
-    Some((one?, two?))
-}
-
-// Each pass is forgotten where it was used; still the porter comes home, and has seen what each thread kept of the list. It leaves and
-// lends passes again, comes home again, and the gate is shut.
-#[test]
-fn threads_share_a_porter(rt: HostRuntime) {
-    let Some((words, mut porter, source)) = open(rt.alloc()) else {
-        panic!(rt; "no memory");
-    };
-    let Some((a, source)) = source.make(&words, &porter) else {
-        panic!(rt; "no memory");
-    };
-    let Some((b, _)) = source.make(&words, &porter) else {
-        panic!(rt; "no memory");
-    };
-    let (a, b) = (a.guest(&words), b.guest(&words));
-    let Some((a, b)) = visit_both(&rt, &words, &porter, a, b) else {
-        panic!(rt; "something waited");
-    };
-    welcome(&mut porter, &a, &b);
     porter.leave_home();
-    let Some((a, b)) = visit_both(&rt, &words, &porter, a, b) else {
-        panic!(rt; "something waited");
+    let lent = &*porter;
+    thread::join(
+        rt,
+        move ||
+            requires { lent.now.home ≡ false }
+        { forget_passes(lent, FORGOTTEN) },
+        move ||
+            requires { lent.now.home ≡ false }
+        { forget_passes(lent, FORGOTTEN) },
+    );
+    porter.come_home();
+}
+
+// Each pass that a thread had is forgotten; still the porter comes home. It lends one to a visit, and is there with the gate shut and open
+// again; then it leaves and comes home once more.
+#[test]
+fn a_porter_comes_home_after_threads_forgot_its_passes(rt: HostRuntime) {
+    let Some(mut porter) = begin(rt.alloc()) else {
+        panic!(rt; "no memory");
     };
-    welcome(&mut porter, &a, &b);
+    lend_to_both(&rt, &mut porter);
+    assert!(rt; stay_home(&mut porter));
+    let mut porter = shut_and_open(porter);
+    lend_to_both(&rt, &mut porter);
     drop(porter.shut());
 }

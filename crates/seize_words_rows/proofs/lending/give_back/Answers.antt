@@ -6,4 +6,4 @@ use Rattle.seize_words_rows.proofs.lending.give_back.Goals as goal
 
 pub returns-clause-value : goal.returns-clause-value
 returns-clause-value c =
-    let back = c.withdraw-block in c.take_back.ensures ∙ same_lent (value_of c.args.key) (bare_value back.result) c.args.lent.value back.ensures.code c.requires.new.its.code
+    let back = c.withdraw-block in c.take-value.ensures.value ∙ same_lent (value_of c.args.key) (bare_value back.result) c.args.lent.value back.ensures.code c.requires.new.its.code

@@ -1,5 +1,5 @@
 -- `lasts` tells what is known: the lifetimes that have ended are over, and a share of this one's token is at hand.
-use Rattle.seize_book.proofs.Kit.{join, Lfts, NamedLft, named_lft, use0, ◌++◌, ℕ, List, [], ◌∷◌, refl, proved, named, Val, vptr, vunit, SProp, wand, emp, apply∗, Lft, Share, Fml, ftrue, fsep, flft, ‵, raw, ◌⊛◌, some, given, later, ◌$◌, ◌∵◌, !, qed, by, move, keep, drop, split, fsplit, fsplit3, fjoin, fjoin3, pick, learn, use2, await, feq_i, unit_lit, of_opd, Lends-one, returns, enter, alloc_all, pass_all, free_all, look_at, sets, fact_i, tables, RefOf, yes, unhide, owns, types_at, plain, mut_vals, mut_Tells, shr_vals, shr_Tells, nothing, opens, closes, Stays, stay_ref, stay_dropped, walk_of, Goes-ref, Goes-dropped}
+use Rattle.seize_book.proofs.Kit.{join, Lfts, NamedLft, named_lft, use0, ◌++◌, ℕ, List, [], ◌∷◌, refl, proved, named, Val, vptr, vunit, SProp, wand, emp, apply∗, Lft, Share, Fml, ftrue, fsep, flft, ‵, raw, ◌⊛◌, some, given, later, ◌$◌, ◌∵◌, !, qed, by, move, keep, drop, split, fsplit, fsplit3, fjoin, fjoin3, pick, learn, use2, await, feq_i, unit_lit, of_opd, Lends-one, returns, enter, alloc_all, pass_all, free_all, look_at, sets, fact_i, tables, RefOf, yes, unhide, owns, types_at, plain, mut_vals, mut_Tells, shr_vals, shr_Tells, nothing, Stays, stay_ref, stay_dropped, walk_of, Goes-ref, Goes-dropped}
 use base.Before.{before}
 use contract.BorrowLft.{meet_⊑_left}
 use types.Na.{before-Incl, before_lent}

@@ -1,5 +1,5 @@
 -- `of` makes a lifetime, and has all its units.
-use Rattle.seize_book.proofs.Kit.{some, later, await, pick, use1, ℕ, List, [], ◌∷◌, refl, proved, named, Val, vptr, SProp, emp, Fml, ftrue, fsep, flft, ‵, raw, ◌⊛◌, ◌$◌, ◌∵◌, !, qed, by, keep, split, fjoin, use0, no_more, and_then, returns, enter, alloc_all, pass_all, free_all, look_at, get, sets, agg, fact_i, tables, RefOf, yes, owns, types_at, plain, shr_vals, shr_Tells, nothing, Stays, stay_dropped, walk_of, Goes-dropped}
+use Rattle.seize_book.proofs.Kit.{some, later, await, pick, use1, ℕ, [], ◌∷◌, refl, proved, named, Val, vptr, SProp, emp, Fml, ftrue, fsep, flft, ‵, raw, ◌⊛◌, ◌$◌, ◌∵◌, !, qed, by, keep, split, fjoin, use0, no_more, and_then, returns, enter, alloc_all, pass_all, free_all, look_at, get, sets, agg, fact_i, tables, RefOf, yes, owns, types_at, plain, shr_vals, shr_Tells, nothing, Stays, stay_dropped, walk_of, Goes-dropped}
 use Rattle.seize_book.specs.Private.{key_of}
 use Rattle.seize_book.specs.contracts.book.keys.Keys as Keys
 use Rattle.seize_words.specs.Units.{all_units, has_units}

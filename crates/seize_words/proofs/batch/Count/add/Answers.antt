@@ -11,7 +11,6 @@ use Rattle.seize_book.specs.declared.book.slot_key.SlotKey.{SlotKey}
 use Rattle.seize_words.proofs.Counting.{may_add_count}
 use Rattle.seize_book.specs.Entry.{Entry}
 use Rattle.seize_book.specs.Ledger.{HeldKey}
-use Rattle.seize_book.specs.Kept.{AreToldIn}
 use Rattle.seize_book.specs.Linked.{are_joined, are_linked}
 use Rattle.seize_words.proofs.Counted.{closed_still, still_linked, added, adding_in, all_last, counts_so, gives_so, in_pass, joined_may, joined_step, labels_stay, left_with, of_those, still_blocks}
 use Rattle.seize_words.proofs.batch.Count.add.Goals as goal

@@ -101,6 +101,8 @@ returns-clause-counts g c at =
       leads = c.load-rest.ensures.shows.0 passes ∙ word_stays key key' pass at.batch at.walk at.queue book knows counts.0.1.0 counts.0.1.1 grows (rest_walks key pass word book knows at);
     }
 
+-- The number of the batch's first block is read before the step.
+
 pub returns-clause-front : goal.returns-clause-front
 returns-clause-front g c at =
     let key = c.args.key.now in let pass = c.args.pass.now in let header = c.header-header.result.now in

@@ -1,5 +1,4 @@
-use Rattle.std.proofs.Common.{◌≡◌, ℕ, ◌+◌, ◌<◌, ◌^◌, Some, refl, sym, ap, ◌∙◌, subst, arith}
-use Rattle.seize_machine.proofs.Facts.{some_is}
+use Rattle.std.proofs.Common.{◌≡◌, ℕ, ◌+◌, ◌<◌, ◌^◌, refl, sym, ap, ◌∙◌, subst, arith}
 use Rattle.seize_store.specs.RowTokens.{content_in, entry_of, label_in}
 use Rattle.seize_store.specs.Named.{bare_known, bare_number}
 use Rattle.seize_store.specs.declared.row_token.RowToken.{RowToken}

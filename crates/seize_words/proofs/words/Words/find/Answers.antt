@@ -1,6 +1,5 @@
 use Rattle.std.proofs.Common.{ℕ, ◌-◌, Option, sym, ap, subst, ◌∙◌, arith, is_some}
 use Rattle.seize_words.specs.Chunks.{IsFoundAt}
-use Rattle.seize_book.specs.Tokens.{Name}
 use Rattle.seize_machine.specs.Machine.Event.{ReadLink}
 use Rattle.seize_words.specs.LinkWords.{Finds, held_before, link_number}
 use Rattle.seize_words.specs.declared.glimpse.Glimpse.{Glimpse}
