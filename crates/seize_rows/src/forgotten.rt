@@ -292,20 +292,21 @@ fn what_threads_forget_ends_with_the_collector(rt: HostRuntime) -> Result<(), Fa
     Ok(())
 }
 
-// What a lost registration retired never ends, and the answer says so each time. All else ends.
+// What is in the batch of a lost registration's slot never ends, and the answer says so each time. All else ends. The first one lost has
+// the slot that put values into the links before.
 #[test]
 fn what_lost_registrations_retired_does_not_end(rt: HostRuntime) -> Result<(), Fail> {
     let ends = AtomicU64::new(0);
     let mut collector = collector(rt.alloc())?;
+    put_in_all(&rt, &collector, &ends)?;
     for many in [16, 32] {
         assert!(rt; retire_by_many(&rt, rt.alloc(), &collector, Way::Loses, &ends)?);
         assert!(rt; retire_by_many(&rt, rt.alloc(), &collector, Way::Forgets, &ends)?);
         assert!(rt; !collector.reclaim_all());
         assert_eq!(rt; ended(&ends), many);
     }
-    put_in_all(&rt, &collector, &ends)?;
     drop(collector);
-    assert_eq!(rt; ended(&ends), 38);
+    assert_eq!(rt; ended(&ends), 35);
     Ok(())
 }
 
