@@ -149,8 +149,8 @@ fn make_all<'a>(
 }
 
 // A slot enters, swaps, retires 30 of 40 values, flushes, refreshes, reads, exchanges, leaves and ends; it is registered again, and
-// forgotten. Its collector reclaims all, and is dropped. Where each request for memory after the making of the blocks is refused, each of these calls goes well too, and values end as
-// they do with it.
+// forgotten. Its collector reclaims all, and is dropped. Where each request for memory after the making of the blocks is refused, each of
+// these calls goes well too, and values end as they do with it.
 #[test]
 fn calls_that_ask_for_no_memory(rt: HostRuntime) -> Result<(), Fail> {
     let ends = AtomicU64::new(0);

@@ -213,8 +213,8 @@ impl<T: Drop> Blocks<T> {
         self.store.back(number as usize, &row, ticket, pool)
     }
 
-    /// A block goes back whose values were all reclaimed, and the last one taken out (`Bare::take`). Its chunk is in again, with the block's
-    /// key, by one swap; where the store is gone, the chunk's memory goes back.
+    /// A block goes back whose values were all reclaimed, and the last one taken out (`Bare::take`). Its chunk is in again, with the
+    /// block's key, by one swap; where the store is gone, the chunk's memory goes back.
     pub fn lay_back(&self, key: ValueKey, hollow: Hollow<Header, Part, T>)
         requires book { book_of key ≡ blocks_book self.now }
         requires vacant { IsVacated key }
