@@ -24,7 +24,7 @@ use Rattle.seize_book.specs.Homesteads.{HasNumber, state_seen}
 use Rattle.seize_book.specs.Ledger.{HeldKey}
 use Rattle.seize_book.specs.Private.{labels_of}
 use Rattle.seize_book.specs.Passes.{IsSamePass, LooksOn, events_by}
-use Rattle.seize_book.specs.Slots.{AddsEvent, IsKeyOfBook, own_list, slot_number, slot_of, start_of}
+use Rattle.seize_book.specs.Slots.{active_of, AddsEvent, IsKeyOfBook, own_list, slot_number, slot_of, start_of}
 use Rattle.seize_book.specs.Tokens.{Name, start}
 use Rattle.seize_words.specs.Totals.{slots_seen}
 use Rattle.seize_words.specs.Walks.{Knows}
@@ -324,13 +324,17 @@ module _ (key0 : SlotKey) (at : BeginsToMark key0) (pass0 : Pass) (key : SlotKey
               ∙ ap (λ (x : Deed × Answer). ((events ++ (private pass0 (Detach s), Done) ∷ []) ++ all_insert_events pass0 s marks all.turns) ++ x ∷ [])
               (one_deed AddCount key2 pass3 (Counted counts.1.0) same_three (all.keeps.its.1 ∙ its_one.1))
 
-          pub retires : Retires at pass0 before key' pass' values' zero'
-          retires = record {
+          active_two : active_of key2 ≡ active_of key0
+          active_two = all.keeps.active ∙ notes.2.1.is_now_active ∙ ap (λ (hs : List Head). is_active (get_or hs (slot_number key) Inactive)) done.3 ∙ notes.2.1.was_active ∙ ends.active
+
+          pub retires : (active_of key2 ≡ true → zero' ≡ false) → Retires at pass0 before key' pass' values' zero'
+          retires above = record {
             finds = ends.finds;
             turns = all.turns;
             each = all.each ∙ sym (many_slots first) ∙ ap (λ (ms : List ℕ). length ms) ends.stands.3;
             count = counts.1.0;
             is_count = counts.1.2;
+            under_guard = λ active. above (active_two ∙ active);
             grows =
                 prefix_trans pass0.seen pass.seen pass'.seen ends.grows
                 (prefix_trans pass.seen pass1.seen pass'.seen (seen_grows pass.name pass.id pass.seen pass1.seen _ notes.2.0)
@@ -344,9 +348,7 @@ module _ (key0 : SlotKey) (at : BeginsToMark key0) (pass0 : Pass) (key : SlotKey
             used =
                 ap (λ (z : Slot). z.used) added.2.1.is ∙ kept.1 ∙ ap (λ (z : Slot). z.used) added.2.1.was ∙ all.keeps.used ∙ ap (λ (z : Slot). z.used) notes.2.1.is ∙ done.2 ∙ ap (λ (z : Slot). z.used) notes.2.1.was
                 ∙ ends.used;
-            active =
-                added.2.1.is_now_active ∙ ap (λ (hs : List Head). is_active (get_or hs (slot_number key2) Inactive)) kept.2 ∙ added.2.1.was_active ∙ all.keeps.active
-                ∙ notes.2.1.is_now_active ∙ ap (λ (hs : List Head). is_active (get_or hs (slot_number key) Inactive)) done.3 ∙ notes.2.1.was_active ∙ ends.active;
+            active = added.2.1.is_now_active ∙ ap (λ (hs : List Head). is_active (get_or hs (slot_number key2) Inactive)) kept.2 ∙ added.2.1.was_active ∙ active_two;
             life =
                 life_kept key2 key' pass3 pass' (private pass3 (AddCount (slot_number key2))) added refl ∙ all.keeps.life ∙ life_kept key key1 pass pass1 (private pass (Detach (slot_number key))) notes refl ∙ ends.life;
             stands = gives ∙ ap (λ (vs : List ℕ). Some (record { place = Rest (if zero' then vs else []) []; queue = at.queue })) values_are;

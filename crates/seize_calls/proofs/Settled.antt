@@ -1,5 +1,6 @@
 -- Where a call has come to that attempted, and handed what was given up.
 use Rattle.std.proofs.Common.{◌≡◌, ℕ, ◌≤◌, Bool, true, false, if◌then◌else◌, List, [], ◌∷◌, ◌++◌, length, Some, refl, sym, ap, subst, ◌∙◌, append-nil, inr}
+use Rattle.std.proofs.lemmas.Bool.{false≢true}
 use base.Growing.{prefix_trans}
 use Rattle.seize_machine.specs.Machine.State.{Rest}
 use Rattle.seize_machine.specs.Machine.Event.{AddCount, Detach}
@@ -86,6 +87,7 @@ module _ (a : CallState) (m : IsToMark a.key a.queue) where
           count = r.count;
           handed = [];
           which = sym (ap (λ (z : Bool). if z then batch else []) none);
+          under_guard = λ active. refl;
           made = r.made ∙ sym (append-nil before);
           none = (r.keys.0, r.keys.1 ∙ ap (λ (z : Bool). with_list (if z then r.marked.keys.held else []) pass1.seen) off);
           queued = queues_none a.queue;
@@ -154,6 +156,7 @@ module _ (a : CallState) (m : IsToMark a.key a.queue) where
             each = r.each;
             count = r.count;
             handed = handed.handed;
+            under_guard = λ active. absurd (false≢true (sym (r.under_guard active) ∙ on));
             which = handed.which ∙ (same_values ∙ ap (λ (z : Bool). if z then batch else []) (sym all));
             made = handed.made ∙ ap (λ (log : List (Deed × Answer)). log ++ hands pass1 (slot_number key1) handed.handed) r.made
                 ∙ ap (λ (log : List (Deed × Answer)). before ++ log) (same_hands a.pass pass1 same (slot_number key1) handed.handed ∙ ap (λ (k : ℕ). hands a.pass k handed.handed) its.1);

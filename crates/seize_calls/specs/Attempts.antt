@@ -5,8 +5,8 @@
 --                        batch, took a turn at each slot whose head was active (`all_insert_events`), and added the insertions won; the
 --                        count is 0
 --                        then or isn't. Where it is 0 the batch's values are given up to the call, with their keys. Nothing else of the
---                        slot has changed but its batch, which is empty. What was added where the pass is alone was made with it
---                        (AddsAlone)
+--                        slot has changed but its batch, which is empty. Where the slot is active the count is not 0. What was added
+--                        where the pass is alone was made with it (AddsAlone)
 use Rattle.std.specs.Prelude.{◌≡◌, ℤ, Bool, true, false, if◌then◌else◌, List, [], ◌∷◌, ◌++◌, length, Some}
 use mathlib.Core.List.{IsPrefix}
 use Rattle.seize_machine.specs.Machine.Event.{AddCount, Detach}
@@ -35,6 +35,7 @@ pub record Retires {key : SlotKey} (at : BeginsToMark key) (pass : Pass) (values
   pub each : length turns ≡ length (actives 0 finds)
   pub count : ℤ
   pub is_count : zero ≡ is_zero count
+  pub under_guard : active_of key ≡ true → zero ≡ false
   pub grows : IsPrefix pass.seen pass'.seen
   pub alone : AddsAlone pass pass'
   pub made : let s = slot_number key in

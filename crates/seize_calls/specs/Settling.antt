@@ -14,7 +14,7 @@
 --                            reclaimer had nothing more
 --     RetiresBatch a b       the batch was retired: an attempt with these events, and each value of the batch handed if the count came
 --                            to 0, which the reclaimer had, each with what was kept of it (HasHad), as the list says; what was put came
---                            to the queue, last
+--                            to the queue, last. Where the slot is active none was handed
 --     Settles least a b retired    one or the other: it was attempted, if it has `least` values or more
 --     PutsValue key pass v key' pass'     the call put v to the slot's batch
 --     DrainsOne a v kept b retired   it put v, of which this is kept, and then it settled with v as the last: a full batch was attempted,
@@ -113,6 +113,7 @@ pub record RetiresBatch (a b : CallState) : Type 0 where
   pub count : ℤ
   pub handed : Handings
   pub which : values_handed handed ≡ (if is_zero count then (slot_of a.key).batch else [])
+  pub under_guard : active_of a.key ≡ true → handed ≡ []
   pub made : let s = slot_number a.key in let before = events_by a.pass in
       events_by b.pass
       ≡ ((((before ++ readings a.pass s 0 finds) ++ done_event a.pass (Detach s)) ++ all_insert_events a.pass s (actives 0 finds) turns)

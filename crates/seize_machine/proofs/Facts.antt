@@ -6,14 +6,14 @@ pub use Rattle.seize_machine.proofs.Steps.Forced.{Forced}
 -- on tests, and on how often a value stands in a list
 pub use Rattle.seize_machine.proofs.Steps.Relation.{if_some, and_true, not_true, is_true, eq_true, lt_true, some_is}
 pub use Rattle.seize_machine.proofs.Counting.Sums.{one, occ, has_none, has_some, distinct_once}
-use Rattle.std.proofs.Common.{◌≡◌, ◌≢◌, ℕ, ◌+◌, ◌<◌, ◌≤◌, pos, neg_ℤ, ◌≤ℤ◌, Bool, true, false, List, [], ◌∷◌, ◌++◌, length, take, drop, Option, Some, ◌⊎◌, arith, subst}
+use Rattle.std.proofs.Common.{◌≡◌, ◌≢◌, ℕ, ◌+◌, ◌<◌, ◌≤◌, pos, neg_ℤ, ◌+ℤ◌, ◌≤ℤ◌, Bool, true, false, List, [], ◌∷◌, ◌++◌, length, take, drop, Option, Some, ◌⊎◌, arith, subst}
 use Rattle.std.specs.Prelude.{◌↔◌}
 use Rattle.std.specs.List.{Contains, slice_get}
 use Rattle.seize_machine.specs.Machine.State.{State, Mark, Look, Try, Add, Out, slot_at, head_at, link_at, batch_at, is_active, has, linked_values, are_distinct, opening, Place, Append, Rest}
 use Rattle.seize_machine.specs.Machine.Event.{Event, Put, SwapOut, event_slot}
-use Rattle.seize_machine.specs.Machine.Next.{next, set_slot, can_link}
+use Rattle.seize_machine.specs.Machine.Next.{next, set_slot, can_link, is_zero}
 use Rattle.seize_machine.specs.Machine.History.{Timed, is_legal, Legal, IsReached, handed_value, is_link_event, history}
-use Rattle.seize_machine.specs.Machine.Laws.{HoldsOfAll, AtMostOnce, After, Quiet, Protection, places, Whereabouts, Gone, Holders, NoLaterHolders, Tries, detached_by, Lists, Walks, IsHeld}
+use Rattle.seize_machine.specs.Machine.Laws.{HoldsOfAll, AtMostOnce, After, Quiet, Protection, places, Whereabouts, Gone, Holders, NoLaterHolders, UnderGuard, Tries, detached_by, Lists, Walks, IsHeld}
 use Rattle.seize_machine.specs.Machine.Frames.{changes_slot, used, changes_used, changes_head_of, changes_link, changes_batch, changes_value, slots_added, batches_added, begins_retiring}
 use Rattle.seize_machine.specs.Machine.Kept.{KeptIn}
 use Rattle.seize_machine.specs.declared.machine.event.Answer.{Answer}
@@ -38,6 +38,7 @@ use Rattle.seize_machine.proofs.Laws.Whereabouts as whereabouts
 use Rattle.seize_machine.proofs.Laws.Gone as gone
 use Rattle.seize_machine.proofs.Laws.Holders as holders
 use Rattle.seize_machine.proofs.Laws.LaterHolders as later_holders
+use Rattle.seize_machine.proofs.Laws.UnderGuard as under_guard
 use Rattle.seize_machine.proofs.Laws.Tries as tries
 
 -- Steps. `Step size st event d` has one constructor for each row of the table, with all that the row asks: these are exactly the
@@ -154,6 +155,9 @@ law_holders = lists.of_all Holders holders.law_holders
 pub law_no_later_holders : HoldsOfAll NoLaterHolders
 law_no_later_holders = lists.of_all NoLaterHolders later_holders.law_no_later_holders
 
+pub law_under_guard : HoldsOfAll UnderGuard
+law_under_guard = lists.of_all UnderGuard under_guard.law_under_guard
+
 pub law_tries : HoldsOfAll Tries
 law_tries = lists.of_all Tries tries.law_tries
 
@@ -252,6 +256,10 @@ pub tried_unheld : (st : State) (s b won m : ℕ) (later saw queue : List ℕ) �
 tried_unheld = tried.tried_unheld
 
 -- Counts in a reached state.
+
+-- the add of an active slot does not bring the count of its batch to 0
+pub adds_above_zero : (st : State) (s b won : ℕ) (queue : List ℕ) → IsReached st → Stands st s (Add b won) queue → is_active (head_at st s) ≡ true → is_zero ((batch_at st b).count +ℤ pos won) ≡ false
+adds_above_zero = under_guard.reached_above_zero
 
 -- each lies between minus and plus the number of slots
 pub counts_near : (st : State) → IsReached st → (b : ℕ) → (neg_ℤ (pos (length st.slots)) ≤ℤ (batch_at st b).count) × ((batch_at st b).count ≤ℤ pos (length st.slots))

@@ -5,6 +5,7 @@ pub mod Gone
 pub mod Whereabouts
 pub mod Holders
 pub mod LaterHolders
+pub mod UnderGuard
 pub mod Quiet
 pub mod Protection
 pub mod Tries

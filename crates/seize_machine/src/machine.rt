@@ -5,7 +5,7 @@ ghost use Rattle.std.specs.Prelude.{◌≡◌, ℕ, ◌<◌, List, [], ◌∷◌
 ghost use Rattle.seize_machine.specs.Machine.State.{State, opening, head_at, is_active};
 ghost use Rattle.seize_machine.specs.Machine.Next.{next};
 ghost use Rattle.seize_machine.specs.Machine.History.{Timed, Legal, IsReached};
-ghost use Rattle.seize_machine.specs.Machine.Laws.{is_quiet, HoldsOfAll, AtMostOnce, After, Quiet, Protection, Whereabouts, Gone, Holders, NoLaterHolders, Tries};
+ghost use Rattle.seize_machine.specs.Machine.Laws.{is_quiet, HoldsOfAll, AtMostOnce, After, Quiet, Protection, Whereabouts, Gone, Holders, NoLaterHolders, UnderGuard, Tries};
 ghost use Rattle.seize_machine.specs.Machine.Event.{Event as Occurrence};
 ghost use Rattle.seize_machine.specs.Machine.Code.{Sized, event_of, HasDone, HasRun, HasRunLegally};
 ghost use Rattle.seize_machine.specs.declared.machine.event.Answer.{Answer as Told};
@@ -160,6 +160,7 @@ pub fn laws()
     ensures gone { HoldsOfAll Gone }
     ensures holders { HoldsOfAll Holders }
     ensures no_later_holders { HoldsOfAll NoLaterHolders }
+    ensures under_guard { HoldsOfAll UnderGuard }
     ensures tries { HoldsOfAll Tries }
 {}
 

@@ -1,15 +1,15 @@
 -- What is known after a step on a count's word by a slot's holder.
-use Rattle.std.proofs.Common.{◌≡◌, ℕ, zero, suc, ◌^◌, ◌<◌, arith, ℤ, pos, ◌-ℤ◌, Bool, true, false, not, ◌==◌, if◌then◌else◌, List, [], ◌∷◌, ◌++◌, take, Some, refl, sym, ◌∙◌, ap, subst, ◌⊎◌, inl, inr}
+use Rattle.std.proofs.Common.{◌≡◌, ℕ, zero, suc, ◌^◌, ◌<◌, arith, ℤ, pos, ◌+ℤ◌, ◌-ℤ◌, Bool, true, false, not, ◌==◌, if◌then◌else◌, List, [], ◌∷◌, ◌++◌, take, Some, refl, sym, ◌∙◌, ap, subst, ◌⊎◌, inl, inr}
 use Rattle.std.specs.Prelude.{drop, slice_index_or}
 use Rattle.std.specs.List.{Contains}
 use Rattle.std.proofs.lemmas.List.{get_or-set_same}
 use Rattle.seize_machine.specs.Machine.Frames.{changes_slot}
-use Rattle.seize_machine.specs.Machine.State.{State, Slot, Add, Rest, has, no_slot, slot_at, batch_at}
+use Rattle.seize_machine.specs.Machine.State.{State, Slot, Add, Rest, has, no_slot, slot_at, head_at, batch_at, is_active}
 use Rattle.seize_machine.specs.Machine.Event.{AddCount, Event, SubCount}
 use Rattle.seize_machine.specs.Machine.History.{IsReached}
 use Rattle.seize_machine.specs.Machine.Next.{is_zero, next}
 use Rattle.seize_machine.specs.declared.machine.event.Answer.{Answer}
-use Rattle.seize_machine.proofs.Facts.{Stands, batched_named, is_true, some_is}
+use Rattle.seize_machine.proofs.Facts.{Stands, adds_above_zero, batched_named, is_true, some_is}
 use Rattle.seize_book.specs.Adding.{private}
 use Rattle.seize_words.specs.Atomic.{deed, entries, minus, plus}
 use Rattle.seize_book.specs.Blocks.{Plan, count_word, front_of, no_plan, plans}
@@ -22,7 +22,7 @@ use Rattle.seize_book.specs.Ledger.{HeldKey, HoldersKnow, with_list}
 use Rattle.seize_book.specs.Others.{IsLastIn}
 use Rattle.seize_book.specs.Passes.{IsSamePass}
 use Rattle.seize_book.specs.Private.{is_one, key_of, own_of, AreKeysOf, are_of_blocks, labels_of}
-use Rattle.seize_book.specs.Slots.{IsAfter, IsKeyOfBook, Moves, own_list, slot_number}
+use Rattle.seize_book.specs.Slots.{IsAfter, IsKeyOfBook, Moves, active_of, own_list, slot_number}
 use Rattle.seize_words.specs.Stepping.{HasStepped, MayStep, held_then}
 use Rattle.seize_book.specs.Tokens.{Name, start}
 use Rattle.seize_words.specs.Words.{Site}
@@ -30,7 +30,7 @@ use Rattle.seize_book.specs.declared.book.pass.Pass.{Pass}
 use Rattle.seize_book.specs.declared.book.slot_key.SlotKey.{SlotKey}
 use mathlib.Core.List.{IsPrefix}
 use Rattle.seize_book.specs.Kept.{AreToldIn}
-use Rattle.seize_book.proofs.Facts.{all_told_later, all_told_renewed, count_alone, count_subtracted, word_zero, deposit_added, deposit_subtracted, held_values, after_push, equal, reached_after, unequal, moves, plan_stays, after_one, only, only_is, blocks_later, keys_later, labels_later, none_of, are_later, still_closed}
+use Rattle.seize_book.proofs.Facts.{all_told_later, all_told_renewed, count_added, count_alone, count_subtracted, word_zero, deposit_added, deposit_subtracted, held_values, after_push, equal, reached_after, unequal, moves, plan_stays, after_one, only, only_is, blocks_later, keys_later, labels_later, none_of, are_later, still_closed}
 use Rattle.seize_words.proofs.Counting.{Counting, adding, at_count, come, deposited, kept_past, same, subtracting, told_then}
 use Rattle.seize_book.specs.Linked.{are_joined, are_linked}
 
@@ -207,6 +207,20 @@ module _ (k : ℕ) (key key' : SlotKey) (more held' : List (HeldKey Entry)) (pas
       go : (has w later.gone ≡ true) ⊎ (has w later.gone ≡ false) → has w later.gone ≡ true
       go (inl gone) = gone
       go (inr not_gone) = absurd (other (step.noted.sound.one w u home named stays.0 not_gone stays.1))
+
+-- the add of an active slot does not bring the count to 0
+pub above_zero : (k won : ℕ) (key : SlotKey) (more held' : List (HeldKey Entry)) (pass pass' : Pass) (v : ℕ) (trades : ℕ → Bool) (step : Steps k key more held' pass pass' (plus won) v (AddCount (slot_number key)) trades)
+    → (a : IsAdding (start pass.name) (slot_number key) (own_list key) k won) → IsKeyOfBook key pass → active_of key ≡ true → (plus won v == 0) ≡ false
+above_zero k won key more held' pass pass' v trades step a book active =
+    let s = slot_number key in let b = a.batch in let found = step.found in let now : State = after (start pass.name) step.log in
+    let r : IsReached now = reached_after pass.name step.log found.distinct found.before.legal in
+    let c : Counting pass.name k s (own_list key) step.log (private pass (AddCount s)) (plus won) v b [] a.queue = added k won key more held' pass pass' v trades step a in
+    let kept = kept_then k key more held' pass pass' (plus won) v (AddCount s) trades step in
+    let stands : Stands now s (Add b won) a.queue = ap (λ slot. slot.call) (sym kept.1.1) ∙ a.adding in
+    let so = count_added pass.size now s b won a.queue _ k r found.before.sound.one stands c.does c.in_it in
+    let count_is : c.count ≡ (batch_at now b).count +ℤ pos won = sym c.is_count ∙ so.1 ∙ ap (λ (x : ℤ). x +ℤ pos won) so.0 in
+    let on : is_active (head_at now s) ≡ true = sym kept.1.2 ∙ ap (λ (n : Name). is_active (head_at (after (start n) (own_list key)) s)) (sym book) ∙ active in
+    ap (λ (w : ℕ). w == 0) c.word ∙ word_zero c.count c.near ∙ ap is_zero count_is ∙ adds_above_zero now s b won a.queue r stands on
 
 -- The keys of the batch's values.
 

@@ -1,6 +1,6 @@
 //! Batches: what counts them. Each block has a word for the count of the batch whose first value lies in it. It uses words and the book's
 //! keys.
-ghost use Rattle.std.specs.Prelude.{◌≡◌, [], pos};
+ghost use Rattle.std.specs.Prelude.{◌≡◌, [], false, pos, true};
 ghost use Rattle.seize_machine.specs.Machine.Event.{AddCount, SubCount};
 ghost use Rattle.seize_words.specs.Words.{IsCount};
 
@@ -24,7 +24,7 @@ impl Count {
     ghost use Rattle.seize_book.specs.Values.{AreOfBook, IsEmpty};
     ghost use Rattle.seize_book.specs.Blocks.{IsNear, count_word};
     ghost use Rattle.seize_book.specs.Books.{count_known, deposit_known};
-    ghost use Rattle.seize_book.specs.Slots.{IsKeyOfBook, slot_number};
+    ghost use Rattle.seize_book.specs.Slots.{IsKeyOfBook, active_of, slot_number};
 
     /// The word of a block's count, which is 0.
     pub fn new(key: CountKey) -> Count
@@ -56,6 +56,8 @@ impl Count {
     /// is 0 then. If it is, nobody holds the batch, its values are given up to the slot's call, and their keys stay with the caller. If it
     /// isn't, the keys go to whoever gives the batch up. Of each value the list says what is noted to be kept of it.
     ///
+    /// Where the slot is active the count is not 0: the slot has the batch in its own list.
+    ///
     /// It takes no memory and waits for nobody: one atomic addition.
     pub fn add(&self, won: u64, key: &mut SlotKey, values: &mut ValueKeys, pass: &mut Pass) -> bool
         requires book { IsKeyOfBook key.old pass.old × IsCountOfBook self.now pass.old × AreOfBook values.old pass.old }
@@ -63,6 +65,7 @@ impl Count {
         requires told { AreTold values.old pass.old }
         ensures counts { Counts key.old pass.old key.new pass.new (AddCount (slot_number key.old)) result }
         ensures gives { (adds : MayCountUp key.old self.now won) → GivesUp key.old key.new adds.batch [] adds.queue result }
+        ensures under_guard { active_of key.old ≡ true → result ≡ false }
         ensures keys { LeavesKeys values.old pass.new values.new result }
     {
         let both = &mut key.keys;

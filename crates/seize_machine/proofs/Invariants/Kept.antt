@@ -98,7 +98,7 @@ one_same : (a b : ℕ) → b ≡ a → one (a == b) ≡ 1
 one_same a b e = grind arith
 
 -- reading a head keeps the promise to mark s
-marked_marks : (s n next note : ℕ) (heads : List Head) (marks batch : List ℕ) → is_active (get_or heads s Inactive) ≡ true → (n ≡ next) ⊎ ((note ≤ next) × (next < n))
+pub marked_marks : (s n next note : ℕ) (heads : List Head) (marks batch : List ℕ) → is_active (get_or heads s Inactive) ≡ true → (n ≡ next) ⊎ ((note ≤ next) × (next < n))
     → (s < note) × (s < next → 1 ≤ occ s marks) → WillMark s (marked_place (is_active (get_or heads n Inactive)) n note marks batch)
 marked_marks s n next note heads marks batch on at_next will = go (is_active (get_or heads n Inactive)) refl
   where

@@ -1,15 +1,14 @@
 -- The states that a legal list of events reaches: they stay so, and what the code counts with fits.
-use Rattle.std.proofs.Common.{◌≡◌, ℕ, zero, suc, ◌+◌, ◌<◌, ◌≤◌, max, pos, ◌+ℤ◌, Bool, true, false, not, ◌&&◌, ◌||◌, ◌==◌, if◌then◌else◌, nat_lt, nat_le, List, [], ◌∷◌, ◌++◌, length, get_or, replicate, Option, Some, None, Result, Ok, Err, IfOk, OnErr, refl, sym, ◌∙◌, ap, subst, ◌⊎◌, inl, inr, arith}
+use Rattle.std.proofs.Common.{◌≡◌, ℕ, zero, suc, ◌+◌, ◌<◌, ◌≤◌, max, pos, ◌+ℤ◌, Bool, true, false, not, ◌||◌, ◌==◌, if◌then◌else◌, nat_lt, nat_le, List, [], ◌∷◌, ◌++◌, length, get_or, replicate, Option, Some, None, Result, Ok, Err, IfOk, OnErr, refl, sym, ◌∙◌, ap, subst, ◌⊎◌, inl, inr, arith}
 use Rattle.std.proofs.lemmas.Int.{ints}
 use Rattle.std.proofs.lemmas.List.{get_or_past}
 use Rattle.std.proofs.lemmas.List.Sums.{get_or-le-sum_by}
 use Rattle.seize_machine.specs.Machine.State.{no_slot, State, Slot, Call, Place, Append, Mark, Look, Try, Add, Out, Rest, slot_at, batch_at, linked_values, are_distinct, opening}
 use Rattle.seize_machine.specs.Machine.Next.{Outcome, next}
-use Rattle.seize_machine.specs.Machine.History.{Timed, or_illegal, done_by, end_of, is_legal, IsReached}
+use Rattle.seize_machine.specs.Machine.History.{Timed, or_illegal, done_by, end_of, IsReached}
 use Rattle.seize_machine.specs.Machine.Laws.{is_put, PutsWithin}
-use Rattle.seize_machine.specs.Machine.Code.{Sized, event_of, timed_event, HasDone, HasOutcome, WinsFit, AddFits, SubFits, CountFits, CallCountsFit, CountsFit}
+use Rattle.seize_machine.specs.Machine.Code.{HasOutcome, WinsFit, AddFits, SubFits, CountFits, CallCountsFit, CountsFit}
 use Rattle.seize_machine.specs.declared.machine.event.Answer.{Answer}
-use Rattle.seize_machine.specs.declared.machine.event.Event.{Event as Written}
 use Rattle.seize_machine.proofs.Steps.Relation.{Stands, is_true, lt_true}
 use Rattle.seize_machine.proofs.Counting.Sums.{one, occ, sum_nothing, sum_alone}
 use Rattle.seize_machine.proofs.Counting.Occurrences.{some_part}

@@ -4,10 +4,10 @@ use Rattle.seize_machine.specs.Machine.State.{State, opening}
 use Rattle.seize_machine.specs.Machine.Event.{Event}
 use Rattle.seize_machine.specs.Machine.Next.{Transition}
 use Rattle.seize_machine.specs.Machine.History.{Moment, at_size, history}
-use Rattle.seize_machine.specs.Machine.Laws.{AtMostOnce, After, Quiet, Protection, Whereabouts, Gone, Holders, NoLaterHolders, Tries, Breaks}
+use Rattle.seize_machine.specs.Machine.Laws.{AtMostOnce, After, Quiet, Protection, Whereabouts, Gone, Holders, NoLaterHolders, UnderGuard, Tries, Breaks}
 use Rattle.seize_machine.specs.Machine.Rows.{added_beside_active}
-use Rattle.seize_machine.specs.Machine.Counterexamples.{nothing_given_up, retired_alone, given_up_unless_active, given_up_below_zero, counted_down_early, given_up_and_kept, counted_alone, handed_twice, given_up_and_forgotten, skipped_and_counted, skipped_and_added, one_value_more, retired_at_a_smaller_size, rest_passed_over, retired_beside_two, number_passed_over, read_last_alone, given_up_when_full, found_and_retired, fixed_note, made_before_put, retired_again, retired_twice, given_up_unretired, begun_alone, handed_alone, lost_at_any_time, lost_alone, left_in_the_link, found_after_its_retirement, taken_out, out_and_forgotten, another_stored, joined_at_entry, entered_after_add, left_after_add, kept_by_a_refresh, refreshed_after_add, recorded_in_front, handed_in_order}
-use Rattle.seize_machine.proofs.Laws.Refuting.{not_once, not_after, not_before, not_just_once, not_protection, not_retired_since, not_quiet, not_distinct, not_forgotten, not_unretired, not_lost, not_unnamed, not_gone, not_holders, not_listed, not_unparted, not_held, not_tries}
+use Rattle.seize_machine.specs.Machine.Counterexamples.{nothing_given_up, retired_alone, given_up_unless_active, given_up_below_zero, counted_down_early, given_up_and_kept, counted_alone, handed_twice, given_up_and_forgotten, skipped_and_counted, skipped_and_added, one_value_more, retired_at_a_smaller_size, rest_passed_over, retired_beside_two, number_passed_over, read_last_alone, read_other_alone, given_up_when_full, found_and_retired, fixed_note, made_before_put, retired_again, retired_twice, given_up_unretired, begun_alone, handed_alone, lost_at_any_time, lost_alone, left_in_the_link, found_after_its_retirement, taken_out, out_and_forgotten, another_stored, joined_at_entry, entered_after_add, left_after_add, kept_by_a_refresh, refreshed_after_add, recorded_in_front, handed_in_order}
+use Rattle.seize_machine.proofs.Laws.Refuting.{not_once, not_after, not_before, not_just_once, not_protection, not_retired_since, not_quiet, not_distinct, not_forgotten, not_unretired, not_lost, not_unnamed, not_gone, not_holders, not_listed, not_unparted, not_held, not_kept, not_tries}
 
 abbrev start : List (Option ℕ) → State
 start links = opening 0 links
@@ -47,6 +47,9 @@ rest_passed_over_breaks_after = (refl, refl, not_after (start []) (moments rest_
 
 pub number_passed_over_breaks_after : Breaks number_passed_over [] (at_size 1 read_last_alone) After
 number_passed_over_breaks_after = (refl, refl, not_after (start []) (moments number_passed_over [] 1 read_last_alone) 7 5 9 1 (_, refl, refl) (_, refl, refl) (_, refl, refl) refl)
+
+pub number_passed_over_breaks_under_guard : Breaks number_passed_over [] (at_size 1 read_other_alone) UnderGuard
+number_passed_over_breaks_under_guard = (refl, refl, not_kept (start []) (moments number_passed_over [] 1 read_other_alone) 7 0 _ refl refl refl refl)
 
 pub given_up_when_full_breaks_protection : Breaks given_up_when_full (Some 7 ∷ []) (at_size 1 found_and_retired) Protection
 given_up_when_full_breaks_protection = (refl, refl, not_protection (start (Some 7 ∷ [])) (moments given_up_when_full (Some 7 ∷ []) 1 found_and_retired) 1 7 4 8 (_, refl, refl, refl) (_, refl, refl) refl)

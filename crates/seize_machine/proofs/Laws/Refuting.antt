@@ -1,12 +1,13 @@
 -- What breaks a law, as tests of a list's moments that compute.
-use Rattle.std.proofs.Common.{◌≡◌, ℕ, ◌+◌, ◌<◌, ◌≤◌, Bool, true, false, ◌==◌, ◌&&◌, ◌||◌, nat_lt, List, [], ◌∷◌, ◌++◌, length, get_or, Option, Some, None, refl, sym, ◌∙◌, subst, ◌⊎◌, inl, inr, arith}
+use Rattle.std.proofs.Common.{◌≡◌, ℕ, ◌+◌, ◌<◌, ◌≤◌, Bool, true, false, ◌==◌, ◌&&◌, ◌||◌, nat_lt, List, [], ◌∷◌, ◌++◌, length, get_or, Option, Some, None, refl, sym, ◌∙◌, ap, subst, ◌⊎◌, inl, inr, arith}
 use Rattle.std.specs.Prelude.{take, drop, slice_get, zero, suc}
 use Rattle.std.specs.List.{Contains, list_any, count_by}
 use Rattle.std.proofs.lemmas.List.{get_or_past}
 use Rattle.std.proofs.lemmas.List.Folds.{list_any_at}
-use Rattle.seize_machine.specs.Machine.State.{State, Slot, no_slot, Inactive, slot_at, head_at, batch_at, waiting_at, has, linked_values, are_distinct}
+use Rattle.seize_machine.specs.Machine.State.{State, Slot, no_slot, Inactive, slot_at, head_at, batch_at, is_active, waiting_at, has, linked_values, are_distinct}
 use Rattle.seize_machine.specs.Machine.History.{Moment, end_of, answers_of, named_by, WasNamed, retired_value, handed_value, handed, is_swap_out, Reclaimed, Retired, Found, IsActiveAt, HasParted}
-use Rattle.seize_machine.specs.Machine.Laws.{AtMostOnce, After, Quiet, is_quiet, bound, PutsWithin, IsBatched, Protection, Whereabouts, places, from_retirement, Gone, Holders, Lists, Walks, added_by, NoLaterHolders, walk_of, detached_by, IsHeld, begins, during, changes_head, is_lost, Tries}
+use Rattle.seize_machine.specs.Machine.Laws.{AtMostOnce, After, Quiet, is_quiet, bound, PutsWithin, IsBatched, Protection, Whereabouts, places, from_retirement, Gone, Holders, Lists, Walks, added_by, NoLaterHolders, given_up, UnderGuard, walk_of, detached_by, IsHeld, begins, during, changes_head, is_lost, Tries}
+use Rattle.seize_machine.specs.Machine.Event.{AddCount}
 use Rattle.seize_machine.specs.Machine.Next.{same_list}
 use Rattle.seize_machine.proofs.Steps.Relation.{is_true, some_is, same_list-refl}
 use Rattle.seize_machine.proofs.Lists.Histories.{some_moment, none_in}
@@ -208,6 +209,11 @@ not_holders st ms b v stays none law = not_both (is_held b (end_of st ms)) (go (
     go (inl h) = first _ _ (some_at (λ head. has b (waiting_at head)) end.heads Inactive h.0 refl (contained _ b h.1))
     go (inr (inl h)) = second _ _ (first _ _ (some_at (λ slot. has b (walk_of slot.call)) end.slots no_slot h.0 refl (contained _ b h.1)))
     go (inr (inr h)) = second _ _ (second _ _ (some_at (λ slot. is_value b (detached_by slot.call)) end.slots no_slot h.0 refl (value_found b _ h.1)))
+
+-- an active slot adds, and something is given up to it
+pub not_kept : (st : State) (ms : List Moment) (a s : ℕ) (add : Moment) → slice_get ms a ≡ Some add → add.timed.event ≡ AddCount s → is_active (head_at add.before s) ≡ true
+    → same_list (given_up (slot_at add.after s).call) [] ≡ false → ¬ (UnderGuard st ms)
+not_kept st ms a s add at is on some law = not_both (same_list (given_up (slot_at add.after s).call) []) (ap (λ (l : List ℕ). same_list l []) (law a add at s is on)) some
 
 -- after the beginning of a call of s at place k, s loses more insertions at n than others change its head
 pub not_tries : (st : State) (ms : List Moment) (s n k : ℕ) (begin : Moment) → ms ≡ take k ms ++ begin ∷ drop (k + 1) ms → begins s begin.timed.event ≡ true

@@ -114,6 +114,10 @@ abbrev pub read_last_alone : List Event
 read_last_alone =
     Take 0 ∷ Take 1 ∷ Take 2 ∷ Enter 1 ∷ Begin 0 (Retire 7) ∷ Put 0 ∷ ReadHead 0 2 ∷ Detach 0 ∷ AddCount 0 ∷ Hand 0 [] ∷ []
 
+-- Slot 0 is active, retires 7 and reads the head of slot 1 alone, which is not active. Its count is 0, and 7 is given up to it.
+abbrev pub read_other_alone : List Event
+read_other_alone = Take 0 ∷ Take 1 ∷ Enter 0 ∷ Begin 0 (Retire 7) ∷ Put 0 ∷ ReadHead 0 1 ∷ Detach 0 ∷ AddCount 0 ∷ []
+
 -- Wrong retirements
 
 -- **Given up when full.** A full batch is given up at once, whichever slots are active.

@@ -125,6 +125,13 @@ NoLaterHolders st ms =
     → (Lists (end_of st ms) s b → Lists add.after s b × ¬ (HasParted ms s a (length ms)))
     × (Walks (end_of st ms) s b → (p : ℕ) (m : Moment) → a ≤ p → slice_get ms p ≡ Some m → Lists m.after s b ⊎ Walks m.after s b)
 
+-- **Under a guard.** Where an active slot adds to a batch's count, nothing is given up to its call: the batch is in the slot's own list.
+-- So an active slot hands none of the values that it retires before it leaves or refreshes.
+abbrev pub UnderGuard : State → List Moment → Type 0
+UnderGuard st ms =
+    (a : ℕ) (add : Moment) → slice_get ms a ≡ Some add → (s : ℕ) → add.timed.event ≡ AddCount s → is_active (head_at add.before s) ≡ true
+    → given_up (slot_at add.after s).call ≡ []
+
 -- **Tries.** The insertions that a call lost at one head are at most the events of other slots that changed that head
 -- during the call.
 abbrev pub begins : ℕ → Event → Bool

@@ -4,10 +4,10 @@ ghost use Rattle.std.specs.Prelude.{◌≡◌, Some, [], ◌∷◌, true};
 ghost use Rattle.seize_machine.specs.Machine.State.{opening, head_at, is_active};
 ghost use Rattle.seize_machine.specs.Machine.Event.{Give};
 ghost use Rattle.seize_machine.specs.Machine.History.{at_size, end_of, answers_of};
-ghost use Rattle.seize_machine.specs.Machine.Laws.{AtMostOnce, After, Quiet, Protection, Whereabouts, Gone, Holders, NoLaterHolders, Tries, Breaks};
+ghost use Rattle.seize_machine.specs.Machine.Laws.{AtMostOnce, After, Quiet, Protection, Whereabouts, Gone, Holders, NoLaterHolders, UnderGuard, Tries, Breaks};
 ghost use Rattle.seize_machine.specs.Machine.Rows.{history_of, walker_first, walker_first_answers, left_before_insertion, left_before_insertion_answers, back_before_insertion, back_before_insertion_answers, two_insertions, two_insertions_answers, added_beside_active, entered_before_add, entered_before_add_answers, is_illegal_throughout};
 ghost use Rattle.seize_machine.specs.Machine.Schedules.{retire_first, retire_first_answers, left_before_put, left_before_put_answers, left_before_attempt, left_before_attempt_answers, second_finishes_first, second_finishes_first_answers, left_before_both, left_before_both_answers};
-ghost use Rattle.seize_machine.specs.Machine.Counterexamples.{nothing_given_up, retired_alone, given_up_unless_active, given_up_below_zero, counted_down_early, given_up_and_kept, counted_alone, handed_twice, given_up_and_forgotten, skipped_and_counted, skipped_and_added, one_value_more, retired_at_a_smaller_size, rest_passed_over, retired_beside_two, number_passed_over, read_last_alone, given_up_when_full, found_and_retired, fixed_note, made_before_put, retired_again, retired_twice, given_up_unretired, begun_alone, handed_alone, lost_at_any_time, lost_alone, left_in_the_link, found_after_its_retirement, taken_out, out_and_forgotten, another_stored, joined_at_entry, entered_after_add, left_after_add, kept_by_a_refresh, refreshed_after_add, recorded_in_front, handed_in_order};
+ghost use Rattle.seize_machine.specs.Machine.Counterexamples.{nothing_given_up, retired_alone, given_up_unless_active, given_up_below_zero, counted_down_early, given_up_and_kept, counted_alone, handed_twice, given_up_and_forgotten, skipped_and_counted, skipped_and_added, one_value_more, retired_at_a_smaller_size, rest_passed_over, retired_beside_two, number_passed_over, read_last_alone, read_other_alone, given_up_when_full, found_and_retired, fixed_note, made_before_put, retired_again, retired_twice, given_up_unretired, begun_alone, handed_alone, lost_at_any_time, lost_alone, left_in_the_link, found_after_its_retirement, taken_out, out_and_forgotten, another_stored, joined_at_entry, entered_after_add, left_after_add, kept_by_a_refresh, refreshed_after_add, recorded_in_front, handed_in_order};
 
 /// Worked runs at size 1, from the opening with no slot made: the answers to their events.
 ///
@@ -52,6 +52,7 @@ pub fn counterexamples()
     ensures one_value_more_breaks_quiet { Breaks one_value_more [] retired_at_a_smaller_size Quiet }
     ensures rest_passed_over_breaks_after { Breaks rest_passed_over [] (at_size 1 retired_beside_two) After }
     ensures number_passed_over_breaks_after { Breaks number_passed_over [] (at_size 1 read_last_alone) After }
+    ensures number_passed_over_breaks_under_guard { Breaks number_passed_over [] (at_size 1 read_other_alone) UnderGuard }
     ensures given_up_when_full_breaks_protection { Breaks given_up_when_full (Some 7 ∷ []) (at_size 1 found_and_retired) Protection }
     ensures given_up_when_full_breaks_after { Breaks given_up_when_full (Some 7 ∷ []) (at_size 1 found_and_retired) After }
     ensures fixed_note_breaks_after { Breaks fixed_note [] (at_size 1 made_before_put) After }

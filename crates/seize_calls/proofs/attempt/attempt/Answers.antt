@@ -109,7 +109,7 @@ returns-then-add-clause-ends g c = λ at.
     let key = c.mark.new.key in let pass = c.mark.new.pass in let ready = c.in-Ready in let held = c.mark.new.batch.values.keys.held in let front = c.mark.new.batch.first in
     let are = remarked_labels held c.args.batch.now.values.keys.held ready.ensures.batch.1 ∙ c.requires.batch.1 in
     let remarked : AreRemarked (keys_in c.args.batch.now) c.insert_each-won.new.batch.values = (c.insert_each-won.ensures.batch.0 ∙ ready.ensures.batch.0, ap without_slots c.insert_each-won.ensures.batch.1 ∙ ready.ensures.batch.1) in
-    retires c.args.key.now at c.args.pass.now key pass held front ready.marked (ready.ensures.marks at) ready.ensures.book.0 ready.ensures.knows ready.ensures.book.1 (ready.ensures.book.0 ∙ ready.ensures.book.1.0 ∙ sym c.requires.book.0, ready.ensures.book.2) are c.mark.new.batch.front c.detach.new.self c.detach.new.pass c.detach.ensures.noted c.detach.ensures.batch c.insert_each-won.new.key c.insert_each-won.new.pass c.insert_each-won.result (c.insert_each-won.ensures.all (inserts c.args.key.now at c.args.pass.now key pass held front ready.marked (ready.ensures.marks at) ready.ensures.book.0 ready.ensures.knows ready.ensures.book.1 (ready.ensures.book.0 ∙ ready.ensures.book.1.0 ∙ sym c.requires.book.0, ready.ensures.book.2) are c.mark.new.batch.front c.detach.new.self c.detach.new.pass c.detach.ensures.noted c.detach.ensures.batch)) c.insert_each-won.ensures.knows c.header-header.new.pass c.header-header.result.now c.header-header.ensures.looks c.header-header.ensures.header (keys_in c.args.batch.now) c.insert_each-won.new.batch.values remarked c.add.new.values c.add.new.key c.add.new.pass true c.if-add.ensures.counts (c.if-add.ensures.gives (adds c.args.key.now at c.args.pass.now key pass held front ready.marked (ready.ensures.marks at) ready.ensures.book.0 ready.ensures.knows ready.ensures.book.1 (ready.ensures.book.0 ∙ ready.ensures.book.1.0 ∙ sym c.requires.book.0, ready.ensures.book.2) are c.mark.new.batch.front c.detach.new.self c.detach.new.pass c.detach.ensures.noted c.detach.ensures.batch c.insert_each-won.new.key c.insert_each-won.new.pass c.insert_each-won.result (c.insert_each-won.ensures.all (inserts c.args.key.now at c.args.pass.now key pass held front ready.marked (ready.ensures.marks at) ready.ensures.book.0 ready.ensures.knows ready.ensures.book.1 (ready.ensures.book.0 ∙ ready.ensures.book.1.0 ∙ sym c.requires.book.0, ready.ensures.book.2) are c.mark.new.batch.front c.detach.new.self c.detach.new.pass c.detach.ensures.noted c.detach.ensures.batch)) c.insert_each-won.ensures.knows c.header-header.new.pass c.header-header.result.now c.header-header.ensures.looks c.header-header.ensures.header)) c.if-add.ensures.keys
+    retires c.args.key.now at c.args.pass.now key pass held front ready.marked (ready.ensures.marks at) ready.ensures.book.0 ready.ensures.knows ready.ensures.book.1 (ready.ensures.book.0 ∙ ready.ensures.book.1.0 ∙ sym c.requires.book.0, ready.ensures.book.2) are c.mark.new.batch.front c.detach.new.self c.detach.new.pass c.detach.ensures.noted c.detach.ensures.batch c.insert_each-won.new.key c.insert_each-won.new.pass c.insert_each-won.result (c.insert_each-won.ensures.all (inserts c.args.key.now at c.args.pass.now key pass held front ready.marked (ready.ensures.marks at) ready.ensures.book.0 ready.ensures.knows ready.ensures.book.1 (ready.ensures.book.0 ∙ ready.ensures.book.1.0 ∙ sym c.requires.book.0, ready.ensures.book.2) are c.mark.new.batch.front c.detach.new.self c.detach.new.pass c.detach.ensures.noted c.detach.ensures.batch)) c.insert_each-won.ensures.knows c.header-header.new.pass c.header-header.result.now c.header-header.ensures.looks c.header-header.ensures.header (keys_in c.args.batch.now) c.insert_each-won.new.batch.values remarked c.add.new.values c.add.new.key c.add.new.pass true c.if-add.ensures.counts (c.if-add.ensures.gives (adds c.args.key.now at c.args.pass.now key pass held front ready.marked (ready.ensures.marks at) ready.ensures.book.0 ready.ensures.knows ready.ensures.book.1 (ready.ensures.book.0 ∙ ready.ensures.book.1.0 ∙ sym c.requires.book.0, ready.ensures.book.2) are c.mark.new.batch.front c.detach.new.self c.detach.new.pass c.detach.ensures.noted c.detach.ensures.batch c.insert_each-won.new.key c.insert_each-won.new.pass c.insert_each-won.result (c.insert_each-won.ensures.all (inserts c.args.key.now at c.args.pass.now key pass held front ready.marked (ready.ensures.marks at) ready.ensures.book.0 ready.ensures.knows ready.ensures.book.1 (ready.ensures.book.0 ∙ ready.ensures.book.1.0 ∙ sym c.requires.book.0, ready.ensures.book.2) are c.mark.new.batch.front c.detach.new.self c.detach.new.pass c.detach.ensures.noted c.detach.ensures.batch)) c.insert_each-won.ensures.knows c.header-header.new.pass c.header-header.result.now c.header-header.ensures.looks c.header-header.ensures.header)) c.if-add.ensures.keys c.if-add.ensures.under_guard
 
 pub returns-else-add-clause-book : goal.returns-else-add-clause-book
 returns-else-add-clause-book g c =
@@ -130,4 +130,4 @@ returns-else-add-clause-ends g c = λ at.
     let key = c.mark.new.key in let pass = c.mark.new.pass in let ready = c.in-Ready in let held = c.mark.new.batch.values.keys.held in let front = c.mark.new.batch.first in
     let are = remarked_labels held c.args.batch.now.values.keys.held ready.ensures.batch.1 ∙ c.requires.batch.1 in
     let remarked : AreRemarked (keys_in c.args.batch.now) c.insert_each-won.new.batch.values = (c.insert_each-won.ensures.batch.0 ∙ ready.ensures.batch.0, ap without_slots c.insert_each-won.ensures.batch.1 ∙ ready.ensures.batch.1) in
-    retires c.args.key.now at c.args.pass.now key pass held front ready.marked (ready.ensures.marks at) ready.ensures.book.0 ready.ensures.knows ready.ensures.book.1 (ready.ensures.book.0 ∙ ready.ensures.book.1.0 ∙ sym c.requires.book.0, ready.ensures.book.2) are c.mark.new.batch.front c.detach.new.self c.detach.new.pass c.detach.ensures.noted c.detach.ensures.batch c.insert_each-won.new.key c.insert_each-won.new.pass c.insert_each-won.result (c.insert_each-won.ensures.all (inserts c.args.key.now at c.args.pass.now key pass held front ready.marked (ready.ensures.marks at) ready.ensures.book.0 ready.ensures.knows ready.ensures.book.1 (ready.ensures.book.0 ∙ ready.ensures.book.1.0 ∙ sym c.requires.book.0, ready.ensures.book.2) are c.mark.new.batch.front c.detach.new.self c.detach.new.pass c.detach.ensures.noted c.detach.ensures.batch)) c.insert_each-won.ensures.knows c.header-header.new.pass c.header-header.result.now c.header-header.ensures.looks c.header-header.ensures.header (keys_in c.args.batch.now) c.insert_each-won.new.batch.values remarked c.add.new.values c.add.new.key c.add.new.pass false c.if-add.ensures.counts (c.if-add.ensures.gives (adds c.args.key.now at c.args.pass.now key pass held front ready.marked (ready.ensures.marks at) ready.ensures.book.0 ready.ensures.knows ready.ensures.book.1 (ready.ensures.book.0 ∙ ready.ensures.book.1.0 ∙ sym c.requires.book.0, ready.ensures.book.2) are c.mark.new.batch.front c.detach.new.self c.detach.new.pass c.detach.ensures.noted c.detach.ensures.batch c.insert_each-won.new.key c.insert_each-won.new.pass c.insert_each-won.result (c.insert_each-won.ensures.all (inserts c.args.key.now at c.args.pass.now key pass held front ready.marked (ready.ensures.marks at) ready.ensures.book.0 ready.ensures.knows ready.ensures.book.1 (ready.ensures.book.0 ∙ ready.ensures.book.1.0 ∙ sym c.requires.book.0, ready.ensures.book.2) are c.mark.new.batch.front c.detach.new.self c.detach.new.pass c.detach.ensures.noted c.detach.ensures.batch)) c.insert_each-won.ensures.knows c.header-header.new.pass c.header-header.result.now c.header-header.ensures.looks c.header-header.ensures.header)) c.if-add.ensures.keys
+    retires c.args.key.now at c.args.pass.now key pass held front ready.marked (ready.ensures.marks at) ready.ensures.book.0 ready.ensures.knows ready.ensures.book.1 (ready.ensures.book.0 ∙ ready.ensures.book.1.0 ∙ sym c.requires.book.0, ready.ensures.book.2) are c.mark.new.batch.front c.detach.new.self c.detach.new.pass c.detach.ensures.noted c.detach.ensures.batch c.insert_each-won.new.key c.insert_each-won.new.pass c.insert_each-won.result (c.insert_each-won.ensures.all (inserts c.args.key.now at c.args.pass.now key pass held front ready.marked (ready.ensures.marks at) ready.ensures.book.0 ready.ensures.knows ready.ensures.book.1 (ready.ensures.book.0 ∙ ready.ensures.book.1.0 ∙ sym c.requires.book.0, ready.ensures.book.2) are c.mark.new.batch.front c.detach.new.self c.detach.new.pass c.detach.ensures.noted c.detach.ensures.batch)) c.insert_each-won.ensures.knows c.header-header.new.pass c.header-header.result.now c.header-header.ensures.looks c.header-header.ensures.header (keys_in c.args.batch.now) c.insert_each-won.new.batch.values remarked c.add.new.values c.add.new.key c.add.new.pass false c.if-add.ensures.counts (c.if-add.ensures.gives (adds c.args.key.now at c.args.pass.now key pass held front ready.marked (ready.ensures.marks at) ready.ensures.book.0 ready.ensures.knows ready.ensures.book.1 (ready.ensures.book.0 ∙ ready.ensures.book.1.0 ∙ sym c.requires.book.0, ready.ensures.book.2) are c.mark.new.batch.front c.detach.new.self c.detach.new.pass c.detach.ensures.noted c.detach.ensures.batch c.insert_each-won.new.key c.insert_each-won.new.pass c.insert_each-won.result (c.insert_each-won.ensures.all (inserts c.args.key.now at c.args.pass.now key pass held front ready.marked (ready.ensures.marks at) ready.ensures.book.0 ready.ensures.knows ready.ensures.book.1 (ready.ensures.book.0 ∙ ready.ensures.book.1.0 ∙ sym c.requires.book.0, ready.ensures.book.2) are c.mark.new.batch.front c.detach.new.self c.detach.new.pass c.detach.ensures.noted c.detach.ensures.batch)) c.insert_each-won.ensures.knows c.header-header.new.pass c.header-header.result.now c.header-header.ensures.looks c.header-header.ensures.header)) c.if-add.ensures.keys c.if-add.ensures.under_guard

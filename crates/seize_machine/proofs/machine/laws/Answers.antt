@@ -1,4 +1,4 @@
-use Rattle.seize_machine.proofs.Facts.{law_at_most_once, law_after, law_quiet, law_protection, law_whereabouts, law_gone, law_holders, law_no_later_holders, law_tries}
+use Rattle.seize_machine.proofs.Facts.{law_at_most_once, law_after, law_quiet, law_protection, law_whereabouts, law_gone, law_holders, law_no_later_holders, law_under_guard, law_tries}
 use Rattle.seize_machine.proofs.machine.laws.Goals as goal
 
 pub returns-clause-at_most_once : goal.returns-clause-at_most_once
@@ -24,6 +24,9 @@ returns-clause-holders c = law_holders
 
 pub returns-clause-no_later_holders : goal.returns-clause-no_later_holders
 returns-clause-no_later_holders c = law_no_later_holders
+
+pub returns-clause-under_guard : goal.returns-clause-under_guard
+returns-clause-under_guard c = law_under_guard
 
 pub returns-clause-tries : goal.returns-clause-tries
 returns-clause-tries c = law_tries

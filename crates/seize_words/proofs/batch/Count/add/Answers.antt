@@ -12,7 +12,7 @@ use Rattle.seize_words.proofs.Counting.{may_add_count}
 use Rattle.seize_book.specs.Entry.{Entry}
 use Rattle.seize_book.specs.Ledger.{HeldKey}
 use Rattle.seize_book.specs.Linked.{are_joined, are_linked}
-use Rattle.seize_words.proofs.Counted.{closed_still, still_linked, added, adding_in, all_last, counts_so, gives_so, in_pass, joined_may, joined_step, labels_stay, left_with, of_those, still_blocks}
+use Rattle.seize_words.proofs.Counted.{above_zero, closed_still, still_linked, added, adding_in, all_last, counts_so, gives_so, in_pass, joined_may, joined_step, labels_stay, left_with, of_those, still_blocks}
 use Rattle.seize_words.proofs.batch.Count.add.Goals as goal
 
 pub add-old-requires : goal.add-old-requires
@@ -56,6 +56,13 @@ returns-clause-gives c adds_ =
     let adds = adding_in key.keys.name pass.name (key_of key.keys.held) (own_of key.keys.held) k won c.requires.book.0 adds_ in
     gives_so k key (record { keys = c.part.new.self; one = c.key-1.given.0 }) values.keys.held keys'.held pass pass' (plus won) v (AddCount (key_of key.keys.held)) (λ v. not (plus won v == 0)) adds.batch [] adds.queue step c.add-old.ensures.0
     (c.part.ensures.0 ∙ c.add-old.ensures.1 ∙ c.join.ensures.0) c.part.ensures.2 c.requires.book.0 (added k won key values.keys.held keys'.held pass pass' v (λ v. not (plus won v == 0)) step adds) (equal (key_of key.keys.held) (key_of key.keys.held) refl) _ refl
+
+pub returns-clause-under_guard : goal.returns-clause-under_guard
+returns-clause-under_guard c active =
+    let count = c.args.self.now in let key = c.args.key.now in let pass = c.args.pass.now in let pass' = c.add-old.new.pass in let keys' = c.add-old.new.keys in let v = c.add-old.result in let values = c.args.values.now in let won = c.args.won in
+    let step = joined_step count.word key values.keys.held c.join.new.self.held keys'.held pass pass' (plus won) v (λ s. AddCount s) (λ v. not (plus won v == 0)) c.requires.book.1 count.count c.join.ensures.2 c.add-old.ensures.2 in
+    let adds = adding_in key.keys.name pass.name (key_of key.keys.held) (own_of key.keys.held) (home count) won c.requires.book.0 c.requires.adds.0 in
+    above_zero (home count) won key values.keys.held keys'.held pass pass' v (λ v. not (plus won v == 0)) step adds c.requires.book.0 active
 
 pub returns-clause-keys : goal.returns-clause-keys
 returns-clause-keys c =
