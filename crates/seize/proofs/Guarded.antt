@@ -18,7 +18,7 @@ use Rattle.seize_words.specs.declared.glimpse.Glimpse.{Glimpse}
 use Rattle.seize_words.specs.declared.link.Link.{Link}
 use Rattle.seize_words.specs.declared.link.MaybeKey.{MaybeKey}
 use Rattle.seize.specs.Blocks.{Shows, shared_name, shared_value}
-use Rattle.seize.specs.Makes.{MakesCall, MakesNone, MakesOne}
+use Rattle.seize.specs.Makes.{Defers, MakesCall, MakesNone, MakesOne}
 use Rattle.seize.specs.Reservations.{IsUnit}
 use Rattle.seize.specs.declared.block.shared.Shared.{Shared}
 use Rattle.seize_book.specs.Tokens.{Name}
@@ -29,6 +29,10 @@ use Rattle.seize.proofs.Made.{none_learned, none_then}
 pub call_after : (s t : ℕ) (job : Job) (pass ready pass' : Pass) → s ≡ t → MakesNone pass ready → MakesCall s job ready pass' → MakesCall t job pass pass'
 call_after s t job pass ready pass' same none call =
     subst (λ (k : ℕ). MakesCall k job pass pass') same (record { steps = call.steps; its = call.its; made = none_then none call.made })
+
+pub defers_after : (s t : ℕ) (job : Job) (pass ready pass' : Pass) → s ≡ t → MakesNone pass ready → Defers s job ready pass' → Defers t job pass pass'
+defers_after s t job pass ready pass' same none defers =
+    let call = defers.0 in subst (λ (k : ℕ). Defers k job pass pass') same (record { steps = call.steps; its = call.its; made = none_then none call.made }, defers.1)
 
 module _ (n : Name) (s : ℕ) (unit : Activation) (seen : Seen) (its : IsUnit n s unit seen) (number : ℕ) (link : Link) (at : link_number link ≡ number) (pass learned : Pass) (learns : Learns pass seen learned) where
   -- a read of a link, once the pass has learned that the activation began

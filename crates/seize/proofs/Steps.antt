@@ -6,7 +6,7 @@ use Rattle.seize_machine.specs.declared.machine.event.Answer.TheVariants.{Count}
 use Rattle.seize_book.specs.Adding.{private}
 use Rattle.seize_book.specs.Entry.{Deed}
 use Rattle.seize_book.specs.Passes.{events_by}
-use Rattle.seize_book.specs.Slots.{slot_number}
+use Rattle.seize_book.specs.Slots.{active_of, slot_number}
 use Rattle.seize_book.specs.declared.book.pass.Pass.{Pass}
 use Rattle.seize_calls.specs.Handing.{AreTheirs, Had, Handings, HasHad}
 use Rattle.seize_calls.specs.Inserts.{InsertTries, all_insert_events, insert_events, losses}
@@ -14,7 +14,7 @@ use Rattle.seize_calls.specs.Marks.{actives, readings}
 use Rattle.seize_calls.specs.Settling.{CallState, Drains, DrainsOne, Settles, done_event}
 use Rattle.seize_calls.specs.Walking.{handed_in, hands, steps}
 use Rattle.seize.specs.Ends.{Ended, had_of}
-use Rattle.seize.specs.Makes.{AreStepsOf, made_with}
+use Rattle.seize.specs.Makes.{AreStepsOf, HandsNone, made_with}
 use Rattle.seize.proofs.Made.{as_made, made_grew}
 
 -- What a reclaimer had that put nothing.
@@ -94,34 +94,69 @@ walk_steps pass s (step ∷ walked) none =
     let parts = hand_apart step.1 (handed_in walked) none in
     (refl, steps_append s (hands pass s step.1) (steps pass s walked) (hands_steps pass s step.1 parts.0) (walk_steps pass s walked parts.1))
 
+-- What hands nothing.
+
+abbrev HandNothing : List (Deed × Answer) → Type 0
+HandNothing es = HandsNone (map as_made es)
+
+hand_append : (a b : List (Deed × Answer)) → HandNothing a → HandNothing b → HandNothing (a ++ b)
+hand_append [] b one two = two
+hand_append (x ∷ a) b one two = (one.0, hand_append a b one.1 two)
+
+pub hands_none_append : (a b : List (Event × Answer)) → HandsNone a → HandsNone b → HandsNone (a ++ b)
+hands_none_append [] b one two = two
+hands_none_append (x ∷ a) b one two = (one.0, hands_none_append a b one.1 two)
+
+readings_hand : (pass : Pass) (s n : ℕ) (finds : List Bool) → HandNothing (readings pass s n finds)
+readings_hand pass s n [] = tt
+readings_hand pass s n (found ∷ finds) = (refl, readings_hand pass s (suc n) finds)
+
+losses_hand : (pass : Pass) (s m lost : ℕ) → HandNothing (losses pass s m lost)
+losses_hand pass s m zero = tt
+losses_hand pass s m (suc lost) = hand_append (losses pass s m lost) _ (losses_hand pass s m lost) (refl, (refl, tt))
+
+turn_hands : (pass : Pass) (s m lost : ℕ) (won : Bool) → HandNothing (insert_events pass s m (record { lost = lost; won = won }))
+turn_hands pass s m lost true = hand_append (losses pass s m lost) _ (losses_hand pass s m lost) (refl, (refl, tt))
+turn_hands pass s m lost false = hand_append (losses pass s m lost) _ (losses_hand pass s m lost) (refl, tt)
+
+turns_hand : (pass : Pass) (s : ℕ) (ms : List ℕ) (turns : List InsertTries) → HandNothing (all_insert_events pass s ms turns)
+turns_hand pass s [] turns = tt
+turns_hand pass s (m ∷ ms) [] = tt
+turns_hand pass s (m ∷ ms) (turn ∷ turns) =
+    hand_append (insert_events pass s m turn) (all_insert_events pass s ms turns) (turn_hands pass s m turn.lost turn.won) (turns_hand pass s ms turns)
+
 -- The parts.
 
--- slot s made steps with the pass, and nothing else was made with it
-pub record Runs (s : ℕ) (pass pass' : Pass) : Type 0 where
+-- slot s made steps with the pass, and nothing else was made with it; an active slot handed nothing
+pub record Runs (active : Bool) (s : ℕ) (pass pass' : Pass) : Type 0 where
   pub steps : List (Event × Answer)
   pub its : AreStepsOf s steps
+  pub under_guard : active ≡ true → HandsNone steps
   pub made : made_with pass' ≡ made_with pass ++ steps
 
-pub runs_by : (s : ℕ) (pass pass' : Pass) (es : List (Deed × Answer)) → events_by pass' ≡ events_by pass ++ es → AreSteps s es → Runs s pass pass'
-runs_by s pass pass' es grew are = record { steps = map as_made es; its = are; made = made_grew pass pass' es grew }
+pub runs_by : (active : Bool) (s : ℕ) (pass pass' : Pass) (es : List (Deed × Answer)) → events_by pass' ≡ events_by pass ++ es → AreSteps s es → (active ≡ true → HandNothing es) → Runs active s pass pass'
+runs_by active s pass pass' es grew are none = record { steps = map as_made es; its = are; under_guard = none; made = made_grew pass pass' es grew }
 
-pub runs_then : {s : ℕ} {p q r : Pass} → Runs s p q → Runs s q r → Runs s p r
-runs_then {s} {p} {q} {r} one two = record {
+pub runs_then : {active : Bool} {s : ℕ} {p q r : Pass} → Runs active s p q → Runs active s q r → Runs active s p r
+runs_then {active} {s} {p} {q} {r} one two = record {
   steps = one.steps ++ two.steps;
   its = steps_of_append s one.steps two.steps one.its two.its;
+  under_guard = λ on. hands_none_append one.steps two.steps (one.under_guard on) (two.under_guard on);
   made = two.made ∙ ap (λ (made : List (Event × Answer)). made ++ two.steps) one.made ∙ append_assoc (made_with p) one.steps two.steps;
 }
 
 -- between where a call stands first and where it stands then its slot made steps, and before them its reclaimer had put nothing
 pub record Goes (a b : CallState) : Type 0 where
   pub its : slot_number b.key ≡ slot_number a.key
-  pub runs : Runs (slot_number a.key) a.pass b.pass
+  pub active : active_of b.key ≡ active_of a.key
+  pub runs : Runs (active_of a.key) (slot_number a.key) a.pass b.pass
   pub none : PutNone a.had
 
 pub goes_then : {a b c : CallState} → Goes a b → Goes b c → Goes a c
 goes_then {a} {b} {c} one two = record {
   its = two.its ∙ one.its;
-  runs = runs_then one.runs (subst (λ (s : ℕ). Runs s b.pass c.pass) one.its two.runs);
+  active = two.active ∙ one.active;
+  runs = runs_then one.runs (subst (λ (t : Bool × ℕ). Runs t.0 t.1 b.pass c.pass) (λ j. (one.active j, one.its j)) two.runs);
   none = one.none;
 }
 
@@ -129,15 +164,20 @@ goes_then {a} {b} {c} one two = record {
 pub goes_settled : (least : ℕ) (a b : CallState) (retired : Bool) → Settles least a b retired → PutNone b.had → Goes a b
 goes_settled least a b false stays none = record {
   its = stays.on.its.1;
-  runs = runs_by (slot_number a.key) a.pass b.pass (readings a.pass (slot_number a.key) 0 stays.finds) stays.made (readings_steps a.pass (slot_number a.key) 0 stays.finds);
+  active = stays.on.active;
+  runs =
+      runs_by (active_of a.key) (slot_number a.key) a.pass b.pass (readings a.pass (slot_number a.key) 0 stays.finds) stays.made (readings_steps a.pass (slot_number a.key) 0 stays.finds)
+      (λ on. readings_hand a.pass (slot_number a.key) 0 stays.finds);
   none = subst PutNone stays.had_none none;
 }
 goes_settled least a b true retires none = record {
   its = retires.on.its.1;
-  runs = runs_by s a.pass b.pass (found ++ (detach ++ (turns ++ (add ++ given))))
+  active = retires.on.active;
+  runs = runs_by (active_of a.key) s a.pass b.pass (found ++ (detach ++ (turns ++ (add ++ given))))
       (retires.made ∙ append_assoc (((events_by a.pass ++ found) ++ detach) ++ turns) add given ∙ append_assoc ((events_by a.pass ++ found) ++ detach) turns (add ++ given)
       ∙ append_assoc (events_by a.pass ++ found) detach (turns ++ (add ++ given)) ∙ append_assoc (events_by a.pass) found (detach ++ (turns ++ (add ++ given))))
-      (steps_append s found _ (readings_steps a.pass s 0 retires.finds) (refl, steps_append s turns _ (turns_steps a.pass s ms retires.turns) (refl, hands_steps a.pass s retires.handed had.0)));
+      (steps_append s found _ (readings_steps a.pass s 0 retires.finds) (refl, steps_append s turns _ (turns_steps a.pass s ms retires.turns) (refl, hands_steps a.pass s retires.handed had.0)))
+      (λ on. hand_append found _ (readings_hand a.pass s 0 retires.finds) (refl, hand_append turns _ (turns_hand a.pass s ms retires.turns) (refl, subst (λ (l : Handings). HandNothing (hands a.pass s l)) (sym (retires.under_guard on)) tt)));
   none = had.1;
 }
   where
@@ -175,14 +215,15 @@ goes_round a v kept b retired round none = goes_then puts settles
     puts : Goes a round.full
     puts = record {
       its = round.puts.on.its.1;
-      runs = runs_by (slot_number a.key) a.pass round.full.pass (done_event a.pass (Put (slot_number a.key))) round.puts.made (refl, tt);
+      active = round.puts.on.active;
+      runs = runs_by (active_of a.key) (slot_number a.key) a.pass round.full.pass (done_event a.pass (Put (slot_number a.key))) round.puts.made (refl, tt) (λ on. (refl, tt));
       none = subst PutNone round.same.1 settles.none;
     }
 
 -- the queue drains
 pub goes_drained : (a b : CallState) → Drains a b → PutNone b.had → Goes a b
 goes_drained a _ Drains.over none =
-    record { its = refl; runs = runs_by (slot_number a.key) a.pass a.pass [] (sym (append-nil (events_by a.pass))) tt; none = none }
+    record { its = refl; active = refl; runs = runs_by (active_of a.key) (slot_number a.key) a.pass a.pass [] (sym (append-nil (events_by a.pass))) tt (λ on. tt); none = none }
 goes_drained a _ (Drains.goes_on b c queue v kept retired drains takes round) none =
     let last = goes_round (record { key = b.key; pass = b.pass; batch = b.batch; queue = queue; had = b.had }) v kept c retired round none in
-    let on : Goes b c = record { its = last.its; runs = last.runs; none = last.none } in goes_then (goes_drained a b drains on.none) on
+    let on : Goes b c = record { its = last.its; active = last.active; runs = last.runs; none = last.none } in goes_then (goes_drained a b drains on.none) on

@@ -220,7 +220,7 @@ module _ {T : Type 0} (slot : Slot T) (pass : Pass) (slot' : Slot T) (pass' : Pa
   module _ (words : Words T) (of : IsOfWords words slot') (for : IsPassFor words pass) (before ended : Ended) where
     pub flushes : (retired : Bool) → SlotFlushes slot pass (had_of before) slot' pass' (had_of ended) retired → IsLedBy (its_number slot) pass pass'
     flushes retired e =
-        led_call slot pass e.ready e.prepares sole (its_number slot) Flush pass' (slot_flushes words slot pass slot' pass' of for (had_of before) (had_of ended) ended refl retired e) e.does.rests.alone
+        led_call slot pass e.ready e.prepares sole (its_number slot) Flush pass' (slot_flushes words slot pass slot' pass' of for (had_of before) (had_of ended) ended refl retired e).0 e.does.rests.alone
 
     pub leaves : SlotLeaves slot pass (had_of before) slot' pass' (had_of ended) → IsLedBy (its_number slot) pass pass'
     leaves e = led_call slot pass e.ready e.prepares sole (its_number slot) Leave pass' (slot_leaves words slot pass slot' pass' of for (had_of before) (had_of ended) ended refl e) e.does.rests.alone

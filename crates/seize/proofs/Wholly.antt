@@ -1,5 +1,6 @@
 -- A whole call of a slot whose reclaimer put nothing, as users see it: it began, made steps, and returned.
 use Rattle.std.proofs.Common.{◌≡◌, ℕ, Bool, true, false, List, [], ◌∷◌, ◌++◌, map, refl, sym, ap, subst, ◌∙◌, append_assoc}
+use Rattle.std.proofs.lemmas.Bool.{false≢true}
 use mathlib.Core.List.{IsPrefix}
 use Rattle.seize_machine.specs.Machine.Event.{Begin, Event, Return, SwapOut}
 use Rattle.seize_machine.specs.declared.machine.event.Answer.{Answer}
@@ -10,7 +11,7 @@ use Rattle.seize_book.specs.Adding.{deed_with_words, private}
 use Rattle.seize_book.specs.Book.{IsLegalList}
 use Rattle.seize_book.specs.Entry.{Deed, Entry}
 use Rattle.seize_book.specs.Passes.{IsSamePass, events_by}
-use Rattle.seize_book.specs.Slots.{slot_number}
+use Rattle.seize_book.specs.Slots.{active_of, slot_number}
 use Rattle.seize_book.specs.Tokens.{Name, start}
 use Rattle.seize_book.specs.declared.book.pass.Pass.{Pass}
 use Rattle.seize_book.specs.declared.book.slot_key.SlotKey.{SlotKey}
@@ -27,36 +28,52 @@ use Rattle.seize_calls.specs.Walking.{steps}
 use Rattle.seize_calls.specs.declared.slot.Loose.{Loose}
 use Rattle.seize_calls.specs.declared.slot.Slot.{Slot}
 use Rattle.seize.specs.Ends.{Ended, had_of}
-use Rattle.seize.specs.Makes.{AreStepsOf, MakesCall, made_with}
+use Rattle.seize.specs.Makes.{AreStepsOf, HandsNone, MakesCall, made_with}
 use Rattle.seize.proofs.Made.{as_made, made_grew, none_prepared, none_then}
-use Rattle.seize.proofs.Steps.{Goes, PutNone, Runs, ended_none, goes_drained, goes_round, goes_settled, goes_then, had_none, steps_of_append, walk_steps}
+use Rattle.seize.proofs.Steps.{Goes, PutNone, Runs, ended_none, goes_drained, goes_round, goes_settled, goes_then, had_none, hands_none_append, steps_of_append, walk_steps}
 
--- a call has begun, and made these steps
-record Opened (s : ℕ) (job : Job) (pass pass' : Pass) : Type 0 where
+-- a call has begun, and made these steps; an active slot handed nothing
+record Opened (active : Bool) (s : ℕ) (job : Job) (pass pass' : Pass) : Type 0 where
   pub steps : List (Event × Answer)
   pub its : AreStepsOf s steps
+  pub under_guard : active ≡ true → HandsNone steps
   pub made : made_with pass' ≡ made_with pass ++ (Begin s job, Done) ∷ steps
 
-opened_then : {s : ℕ} {job : Job} {p q r : Pass} → Opened s job p q → Runs s q r → Opened s job p r
-opened_then {s} {job} {p} {q} {r} one two = record {
+opened_then : {active : Bool} {s : ℕ} {job : Job} {p q r : Pass} → Opened active s job p q → Runs active s q r → Opened active s job p r
+opened_then {active} {s} {job} {p} {q} {r} one two = record {
   steps = one.steps ++ two.steps;
   its = steps_of_append s one.steps two.steps one.its two.its;
+  under_guard = λ on. hands_none_append one.steps two.steps (one.under_guard on) (two.under_guard on);
   made = two.made ∙ ap (λ (made : List (Event × Answer)). made ++ two.steps) one.made ∙ append_assoc (made_with p) ((Begin s job, Done) ∷ one.steps) two.steps;
 }
 
+-- a whole call, in which an active slot handed nothing
+abbrev pub Whole : Bool → ℕ → Job → Pass → Pass → Type 0
+Whole active s job pass pass' = (call : MakesCall s job pass pass') × (active ≡ true → HandsNone call.steps)
+
 -- and returns
-closed : (s : ℕ) (job : Job) (pass two pass' : Pass) → Opened s job pass two → made_with pass' ≡ made_with two ++ (Return s, Done) ∷ [] → IsSamePass pass pass' → IsPrefix pass.seen pass'.seen
-    → IsLegalList (start pass'.name) pass'.seen → MakesCall s job pass pass'
-closed s job pass two pass' opened ended same grows legal = record {
-  steps = opened.steps;
-  its = opened.its;
-  made = record {
-    same = same;
-    grows = grows;
-    legal = legal;
-    made = ended ∙ ap (λ (made : List (Event × Answer)). made ++ (Return s, Done) ∷ []) opened.made ∙ append_assoc (made_with pass) ((Begin s job, Done) ∷ opened.steps) ((Return s, Done) ∷ []);
-  };
-}
+closed : (active : Bool) (s : ℕ) (job : Job) (pass two pass' : Pass) → Opened active s job pass two → made_with pass' ≡ made_with two ++ (Return s, Done) ∷ [] → IsSamePass pass pass' → IsPrefix pass.seen pass'.seen
+    → IsLegalList (start pass'.name) pass'.seen → Whole active s job pass pass'
+closed active s job pass two pass' opened ended same grows legal = (
+  record {
+    steps = opened.steps;
+    its = opened.its;
+    made = record {
+      same = same;
+      grows = grows;
+      legal = legal;
+      made = ended ∙ ap (λ (made : List (Event × Answer)). made ++ (Return s, Done) ∷ []) opened.made ∙ append_assoc (made_with pass) ((Begin s job, Done) ∷ opened.steps) ((Return s, Done) ∷ []);
+    };
+  },
+  opened.under_guard,
+)
+
+-- where it is not said that the slot is active, nothing is said of what was handed
+any_slot : {active : Bool} {s : ℕ} {p q : Pass} → Runs active s p q → Runs false s p q
+any_slot runs = record { steps = runs.steps; its = runs.its; under_guard = λ on. absurd (false≢true on); made = runs.made }
+
+any_call : {s : ℕ} {job : Job} {p q : Pass} → MakesCall s job p q → Whole false s job p q
+any_call call = (call, λ on. absurd (false≢true on))
 
 -- The calls of a slot, by its key. What the pass has seen is a legal list then.
 
@@ -64,33 +81,36 @@ module _ (key : SlotKey) (pass : Pass) (values : ValueKeys) (had : Had) (key' : 
   abbrev s : ℕ
   s = slot_number key
 
-  began : (job : Job) (kepts : List ℕ) (a : CallState) → BeginsSo key pass job kepts values had a → Opened s job pass a.pass
-  began job kepts a begins = record { steps = []; its = tt; made = made_grew pass a.pass ((deed_with_words pass (Begin s job) kepts, Done) ∷ []) begins.begins.made }
+  abbrev active : Bool
+  active = active_of key
 
-  returned : (job : Job) (a : CallState) → Opened s job pass a.pass → slot_number a.key ≡ s → Returns a key' pass' values' had' → Rests key pass key' pass' values' → MakesCall s job pass pass'
-  returned job a opened its returns rests =
-      closed s job pass a.pass pass' opened
+  began : (job : Job) (kepts : List ℕ) (a : CallState) → BeginsSo key pass job kepts values had a → Opened active s job pass a.pass
+  began job kepts a begins = record { steps = []; its = tt; under_guard = λ on. tt; made = made_grew pass a.pass ((deed_with_words pass (Begin s job) kepts, Done) ∷ []) begins.begins.made }
+
+  returned : (on : Bool) (job : Job) (a : CallState) → Opened on s job pass a.pass → slot_number a.key ≡ s → Returns a key' pass' values' had' → Rests key pass key' pass' values' → Whole on s job pass pass'
+  returned on job a opened its returns rests =
+      closed on s job pass a.pass pass' opened
       (made_grew a.pass pass' (done_event a.pass (Return (slot_number a.key))) returns.made ∙ ap (λ (k : ℕ). made_with a.pass ++ (Return k, Done) ∷ []) its)
       rests.same rests.grows legal
 
   -- what goes on from where the call began
-  goes_on : (job : Job) (kepts : List ℕ) (a b : CallState) → BeginsSo key pass job kepts values had a → Goes a b → Returns b key' pass' values' had' → Rests key pass key' pass' values' → MakesCall s job pass pass'
+  goes_on : (job : Job) (kepts : List ℕ) (a b : CallState) → BeginsSo key pass job kepts values had a → Goes a b → Returns b key' pass' values' had' → Rests key pass key' pass' values' → Whole active s job pass pass'
   goes_on job kepts a b begins goes returns rests =
       let its = begins.begins.keeps.its.1 in
-      returned job b (opened_then (began job kepts a begins) (subst (λ (k : ℕ). Runs k a.pass b.pass) its goes.runs)) (goes.its ∙ its) returns rests
+      returned active job b (opened_then (began job kepts a begins) (subst (λ (t : Bool × ℕ). Runs t.0 t.1 a.pass b.pass) (λ j. (begins.begins.keeps.active j, its j)) goes.runs)) (goes.its ∙ its) returns rests
 
-  pub key_retires : (v kept : ℕ) (retired : Bool) → RetiresOne key pass v kept values had key' pass' values' had' retired → MakesCall s (Retire v) pass pass'
+  pub key_retires : (v kept : ℕ) (retired : Bool) → RetiresOne key pass v kept values had key' pass' values' had' retired → Whole active s (Retire v) pass pass'
   key_retires v kept retired r =
       let drains = goes_drained r.settled r.drained r.drains (subst PutNone r.returns.had_none none) in
       goes_on (Retire v) (kept ∷ []) r.begun r.drained r.begins (goes_then (goes_round r.begun v kept r.settled retired r.drains_one drains.none) drains) r.returns r.rests
 
-  pub key_flushes : (retired : Bool) → Flushes key pass values had key' pass' values' had' retired → MakesCall s Flush pass pass'
+  pub key_flushes : (retired : Bool) → Flushes key pass values had key' pass' values' had' retired → Whole active s Flush pass pass'
   key_flushes retired r =
       let drains = goes_drained r.settled r.drained r.drains (subst PutNone r.returns.had_none none) in
       goes_on Flush [] r.begun r.drained r.begins (goes_then (goes_settled 1 r.begun r.settled retired r.settles drains.none) drains) r.returns r.rests
 
   pub key_leaves : (job : Job) (stays : Bool) (swap : Deed) → swap.event ≡ SwapOut s → Leaves job stays swap key pass values had key' pass' values' had' → MakesCall s job pass pass'
-  key_leaves job stays swap swaps r = returned job r.drained (opened_then opened (subst (λ (k : ℕ). Runs k r.behind.pass r.drained.pass) behind drains.runs)) drained r.returns r.rests
+  key_leaves job stays swap swaps r = (returned false job r.drained (opened_then opened (subst (λ (k : ℕ). Runs false k r.behind.pass r.drained.pass) behind (any_slot drains.runs))) drained r.returns r.rests).0
     where
       drains : Goes r.behind r.drained
       drains = goes_drained r.behind r.drained r.drains (subst PutNone r.returns.had_none none)
@@ -107,8 +127,9 @@ module _ (key : SlotKey) (pass : Pass) (values : ValueKeys) (had : Had) (key' : 
       walk : List (Deed × Answer)
       walk = steps pass s r.walked
 
-      opened : Opened s job pass r.behind.pass
+      opened : Opened false s job pass r.behind.pass
       opened = record {
+        under_guard = λ on. absurd (false≢true on);
         steps = (SwapOut s, Done) ∷ map as_made walk;
         its = (refl, walk_steps pass s r.walked (had_none _ r.kepts had r.behind.had r.has_had drains.none).0);
         made = made_grew pass r.behind.pass (begin ++ ((swap, Done) ∷ walk)) (r.made ∙ append_assoc (events_by pass ++ begin) ((swap, Done) ∷ []) walk ∙ append_assoc (events_by pass) begin ((swap, Done) ∷ walk))
@@ -123,30 +144,32 @@ module _ {T : Type 0} (words : Words T) (slot : Slot T) (pass : Pass) (slot' : S
   seen_legal Does calls same =
       subst (λ (t : Name × List Entry). IsLegalList (start t.0) t.1) (λ j. ((of.book ∙ for.0 ∙ sym calls.prepares.same.0 ∙ sym same.0) j, calls.seen j)) of.knows.legal
 
-  whole : (job : Job) (Does : Pass → Type 0) (calls : CallsWith slot pass slot' pass' Does) → MakesCall (slot_number slot.key) job calls.ready pass' → MakesCall (its_number slot) job pass pass'
-  whole job Does calls makes = subst (λ (k : ℕ). MakesCall k job pass pass') slot.together.numbered (record { steps = makes.steps; its = makes.its; made = none_then (none_prepared slot pass calls.ready calls.prepares) makes.made })
+  whole : (active : Bool) (job : Job) (Does : Pass → Type 0) (calls : CallsWith slot pass slot' pass' Does) → Whole active (slot_number slot.key) job calls.ready pass' → Whole active (its_number slot) job pass pass'
+  whole active job Does calls makes =
+      let call = makes.0 in
+      subst (λ (k : ℕ). Whole active k job pass pass') slot.together.numbered (record { steps = call.steps; its = call.its; made = none_then (none_prepared slot pass calls.ready calls.prepares) call.made }, makes.1)
 
   module _ (had : Had) (had' : Had) (ended : Ended) (is : had' ≡ had_of ended) where
     none : PutNone had'
     none = subst PutNone (sym is) (ended_none ended)
 
-    pub slot_retires : (loose : Loose) (kept : ℕ) (retired : Bool) → SlotRetires slot pass loose kept had slot' pass' had' retired → MakesCall (its_number slot) (Retire (its_value loose)) pass pass'
+    pub slot_retires : (loose : Loose) (kept : ℕ) (retired : Bool) → SlotRetires slot pass loose kept had slot' pass' had' retired → Whole (active_of slot.key) (its_number slot) (Retire (its_value loose)) pass pass'
     slot_retires loose kept retired calls =
-        whole (Retire (its_value loose)) _ calls
+        whole (active_of slot.key) (Retire (its_value loose)) _ calls
         (key_retires slot.key calls.ready (keys_in slot.batch) had slot'.key pass' (keys_in slot'.batch) had' none (seen_legal _ calls calls.does.rests.same) (its_value loose) kept retired calls.does)
 
-    pub slot_flushes : (retired : Bool) → SlotFlushes slot pass had slot' pass' had' retired → MakesCall (its_number slot) Flush pass pass'
+    pub slot_flushes : (retired : Bool) → SlotFlushes slot pass had slot' pass' had' retired → Whole (active_of slot.key) (its_number slot) Flush pass pass'
     slot_flushes retired calls =
-        whole Flush _ calls (key_flushes slot.key calls.ready (keys_in slot.batch) had slot'.key pass' (keys_in slot'.batch) had' none (seen_legal _ calls calls.does.rests.same) retired calls.does)
+        whole (active_of slot.key) Flush _ calls (key_flushes slot.key calls.ready (keys_in slot.batch) had slot'.key pass' (keys_in slot'.batch) had' none (seen_legal _ calls calls.does.rests.same) retired calls.does)
 
     pub slot_leaves : SlotLeaves slot pass had slot' pass' had' → MakesCall (its_number slot) Leave pass pass'
     slot_leaves calls =
-        whole Leave _ calls
-        (key_leaves slot.key calls.ready (keys_in slot.batch) had slot'.key pass' (keys_in slot'.batch) had' none (seen_legal _ calls calls.does.rests.same) Leave false
-        (private calls.ready (SwapOut (slot_number slot.key))) refl calls.does)
+        (whole false Leave _ calls
+        (any_call (key_leaves slot.key calls.ready (keys_in slot.batch) had slot'.key pass' (keys_in slot'.batch) had' none (seen_legal _ calls calls.does.rests.same) Leave false
+        (private calls.ready (SwapOut (slot_number slot.key))) refl calls.does))).0
 
     pub slot_refreshes : (a : Activation) → SlotRefreshes slot pass a had slot' pass' had' → MakesCall (its_number slot) Refresh pass pass'
     slot_refreshes a calls =
-        whole Refresh _ calls
-        (key_leaves slot.key calls.ready (keys_in slot.batch) had slot'.key pass' (keys_in slot'.batch) had' none (seen_legal _ calls calls.does.rests.same) Refresh true
-        (beginning calls.ready a.life (SwapOut (slot_number slot.key))) refl calls.does)
+        (whole false Refresh _ calls
+        (any_call (key_leaves slot.key calls.ready (keys_in slot.batch) had slot'.key pass' (keys_in slot'.batch) had' none (seen_legal _ calls calls.does.rests.same) Refresh true
+        (beginning calls.ready a.life (SwapOut (slot_number slot.key))) refl calls.does))).0

@@ -4,7 +4,7 @@
 --     LawsHold pass           each law of `machine::laws` holds of them
 use Rattle.std.specs.Prelude.{List}
 use Rattle.seize_machine.specs.Machine.History.{Moment}
-use Rattle.seize_machine.specs.Machine.Laws.{After, AtMostOnce, Gone, Holders, NoLaterHolders, Protection, Quiet, Tries, Whereabouts}
+use Rattle.seize_machine.specs.Machine.Laws.{After, AtMostOnce, Gone, Holders, NoLaterHolders, Protection, Quiet, Tries, UnderGuard, Whereabouts}
 use Rattle.seize_machine.specs.Machine.State.{State}
 use Rattle.seize_book.specs.Book.{moments}
 use Rattle.seize_book.specs.Tokens.{start}
@@ -25,4 +25,5 @@ pub record LawsHold (pass : Pass) : Type 0 where
   pub gone : Gone (opening_of pass) (moments_seen pass)
   pub holders : Holders (opening_of pass) (moments_seen pass)
   pub no_later_holders : NoLaterHolders (opening_of pass) (moments_seen pass)
+  pub under_guard : UnderGuard (opening_of pass) (moments_seen pass)
   pub tries : Tries (opening_of pass) (moments_seen pass)

@@ -11,7 +11,7 @@ use crate::collector::Collector;
 use crate::reader::Reader;
 use crate::reclaim::{Boxed, Reclaim};
 use crate::registration::Registration;
-use crate::works::{Flushing, Leaving, Refreshing, Sparing};
+use crate::works::{Deferring, Flushing, Leaving, Refreshing, Sparing};
 pub use any::Guard;
 use seize_table::Refusal;
 use seize_words::book::Pass;
@@ -38,7 +38,7 @@ impl<'r, 'c, T: Drop, R: Reclaim<T>> LocalGuard<'r, 'c, T, R> {
     ghost use Rattle.seize_table.specs.declared.refusal.Refusal.TheVariants.{NoMemory as no_memory};
     ghost use Rattle.seize.specs.Exchanges.{FoundIn, MakesExchange, Protects, current_name};
     ghost use Rattle.seize.specs.Guards.{IsGuardOf, guard_activation, guard_collector, guard_slot};
-    ghost use Rattle.seize.specs.Makes.{IsOfKind, MakesCall, MakesNone, MakesOne, StaysActive};
+    ghost use Rattle.seize.specs.Makes.{Defers, IsOfKind, MakesCall, MakesNone, MakesOne, StaysActive};
 
     // One of this registration, which reads so.
     pub(crate) fn of(
@@ -173,10 +173,10 @@ impl<'r, 'c, T: Drop, R: Reclaim<T>> LocalGuard<'r, 'c, T, R> {
     /// another call of the same registration it waits for ever.
     pub fn defer_retire<W: Wait>(&self, rt: &W, pass: &mut Pass, value: Unlinked<'_, T>)
         requires of { IsPassOf (guard_collector self.now) pass.old × IsUnlinkedOf (guard_collector self.now) value }
-        ensures call { MakesCall (guard_slot self.now) (Retire (unlinked_name value.entry)) pass.old pass.new }
+        ensures call { Defers (guard_slot self.now) (Retire (unlinked_name value.entry)) pass.old pass.new }
         ensures kind { IsOfKind (unlinked_name value.entry) 0 pass.new }
     {
-        self.registration.retire(rt, pass, value);
+        self.defer_retire_as(rt, pass, value, 0);
     }
 
     /// The same, and says of which kind the value is: see `Registration::retire_as`.
@@ -188,18 +188,29 @@ impl<'r, 'c, T: Drop, R: Reclaim<T>> LocalGuard<'r, 'c, T, R> {
         kind: u64,
     )
         requires of { IsPassOf (guard_collector self.now) pass.old × IsUnlinkedOf (guard_collector self.now) value }
-        ensures call { MakesCall (guard_slot self.now) (Retire (unlinked_name value.entry)) pass.old pass.new }
+        ensures call { Defers (guard_slot self.now) (Retire (unlinked_name value.entry)) pass.old pass.new }
         ensures kind { IsOfKind (unlinked_name value.entry) kind pass.new }
     {
-        self.registration.retire_as(rt, pass, value, kind);
+        let reader = &self.reader;
+        let collector = reader.collector;
+        let deferring = Deferring {
+            words: &collector.words,
+            reclaimer: *collector.reclaimer,
+            unit: &reader.unit,
+            seen: &reader.seen,
+            loose: value.into_loose(),
+            kind,
+            rt,
+        };
+        self.registration.reservation.with(rt, deferring, pass);
     }
 
-    /// Attempts the slot's batch at any length.
+    /// Attempts the slot's batch at any length. No value ends in the call, as in `defer_retire`.
     ///
     /// It takes no memory and waits as `defer_retire` does.
     pub fn flush<W: Wait>(&self, rt: &W, pass: &mut Pass)
         requires of { IsPassOf (guard_collector self.now) pass.old }
-        ensures { MakesCall (guard_slot self.now) Flush pass.old pass.new }
+        ensures { Defers (guard_slot self.now) Flush pass.old pass.new }
     {
         let flushing = Flushing {
             words: &self.reader.collector.words,

@@ -12,7 +12,7 @@ use crate::reader::Reader;
 use crate::reclaim::{Boxed, Reclaim};
 use crate::reservation::Reservation;
 use crate::shelf::Shelf;
-use crate::works::{Flushing, Leaving, Refreshing, Retiring, Sparing};
+use crate::works::{Deferring, Flushing, Leaving, Refreshing, Sparing};
 use seize_calls::slot::Slot;
 use seize_cells::{Lock, LockWork};
 use seize_table::Refusal;
@@ -50,7 +50,7 @@ impl<'c, T: Drop, R: Reclaim<T>> OwnedGuard<'c, T, R> {
     ghost use Rattle.seize.specs.Blocks.{ComesOut, IsNamed, IsUnlinkedOf, Shows, content, unlinked_name};
     ghost use Rattle.seize.specs.Collectors.{IsBlockOf, IsPassOf, IsSlotFor, its_links};
     ghost use Rattle.seize.specs.Exchanges.{FoundIn, MakesExchange, Protects, current_name};
-    ghost use Rattle.seize.specs.Makes.{IsOfKind, LeavesAndGives, MakesCall, MakesNone, MakesOne};
+    ghost use Rattle.seize.specs.Makes.{Defers, IsOfKind, LeavesAndGives, MakesCall, MakesNone, MakesOne};
     ghost use Rattle.seize.specs.OwnedGuards.{owned_activation, owned_collector, owned_slot};
 
     // One with this slot, which enters, and its shelf.
@@ -203,7 +203,7 @@ impl<'c, T: Drop, R: Reclaim<T>> OwnedGuard<'c, T, R> {
     /// head between a look at it and the try.
     pub fn defer_retire<W: Wait>(&self, rt: &W, pass: &mut Pass, value: Unlinked<'_, T>)
         requires of { IsPassOf (owned_collector self.now) pass.old × IsUnlinkedOf (owned_collector self.now) value }
-        ensures call { MakesCall (owned_slot self.now) (Retire (unlinked_name value.entry)) pass.old pass.new }
+        ensures call { Defers (owned_slot self.now) (Retire (unlinked_name value.entry)) pass.old pass.new }
         ensures kind { IsOfKind (unlinked_name value.entry) 0 pass.new }
     {
         self.defer_retire_as(rt, pass, value, 0);
@@ -218,27 +218,29 @@ impl<'c, T: Drop, R: Reclaim<T>> OwnedGuard<'c, T, R> {
         kind: u64,
     )
         requires of { IsPassOf (owned_collector self.now) pass.old × IsUnlinkedOf (owned_collector self.now) value }
-        ensures call { MakesCall (owned_slot self.now) (Retire (unlinked_name value.entry)) pass.old pass.new }
+        ensures call { Defers (owned_slot self.now) (Retire (unlinked_name value.entry)) pass.old pass.new }
         ensures kind { IsOfKind (unlinked_name value.entry) kind pass.new }
     {
-        let collector = self.reader.collector;
-        let loose = value.into_loose();
-        let retiring = Retiring {
+        let reader = &self.reader;
+        let collector = reader.collector;
+        let deferring = Deferring {
             words: &collector.words,
             reclaimer: *collector.reclaimer,
-            loose,
+            unit: &reader.unit,
+            seen: &reader.seen,
+            loose: value.into_loose(),
             kind,
             rt,
         };
-        self.reservation.with(rt, retiring, pass);
+        self.reservation.with(rt, deferring, pass);
     }
 
-    /// Attempts the slot's batch at any length.
+    /// Attempts the slot's batch at any length. No value ends in the call, as in `defer_retire`.
     ///
     /// It takes no memory and waits as `defer_retire` does.
     pub fn flush<W: Wait>(&self, rt: &W, pass: &mut Pass)
         requires of { IsPassOf (owned_collector self.now) pass.old }
-        ensures { MakesCall (owned_slot self.now) Flush pass.old pass.new }
+        ensures { Defers (owned_slot self.now) Flush pass.old pass.new }
     {
         let flushing = Flushing {
             words: &self.reader.collector.words,

@@ -5,7 +5,7 @@ ghost use Rattle.seize_words.specs.Chunks.{IsBlockIn};
 ghost use Rattle.seize_words.specs.Joined.{words_book};
 ghost use Rattle.seize_machine.specs.declared.machine.event.Job.TheVariants.{Flush, Leave, Refresh, Retire};
 ghost use Rattle.seize_table.specs.declared.refusal.Refusal.TheVariants.{NoMemory as no_memory, TooManyGuards as too_many_guards};
-ghost use Rattle.seize.specs.Makes.{Enters, IsOfKind, MakesCall, StaysActive};
+ghost use Rattle.seize.specs.Makes.{Defers, Enters, IsOfKind, MakesCall, StaysActive};
 ghost use Rattle.seize.specs.Reservations.{IsHeadFor, IsReservationOf, IsUnit};
 
 use crate::ends::Forwards;
@@ -128,6 +128,54 @@ impl<'a, 'p, T: Drop, R: Reclaim<T>, W: Wait> LockWork<Reservation<T>, Pass<'p>,
     }
 }
 
+/// A value is retired under a guard.
+pub(crate) struct Deferring<'a, T, R: Copy, W> {
+    /// The words of the collector.
+    pub(crate) words: &'a Words<T>,
+    /// Its reclaimer.
+    pub(crate) reclaimer: R,
+    /// The guard's unit.
+    pub(crate) unit: &'a Activation,
+    /// What was seen when its activation had begun.
+    pub(crate) seen: &'a Seen,
+    /// The value.
+    pub(crate) loose: Loose,
+    /// Its kind.
+    pub(crate) kind: u64,
+    /// The runtime by whose leave it may wait.
+    pub(crate) rt: &'a W,
+}
+
+impl<'a, 'p, T: Drop, R: Reclaim<T>, W: Wait> LockWork<Reservation<T>, Pass<'p>, ()>
+    for Deferring<'a, T, R, W> {
+    ghost may = { λ work r pass. IsReservationOf work.words.now r × IsPassFor work.words.now pass × IsLooseOf work.words.now work.loose
+        × IsUnit (words_book work.words.now) (its_number r.slot) work.unit.now work.seen.now };
+
+    ghost gives = { λ work r r' pass pass' _. Defers (its_number r.slot) (Retire (its_value work.loose)) pass pass'
+        × IsOfKind (its_value work.loose) work.kind pass' };
+
+    fn work(self, r: &mut Reservation<T>, pass: &mut Pass<'p>) {
+        let Deferring {
+            words,
+            reclaimer,
+            unit,
+            seen,
+            loose,
+            kind,
+            rt,
+        } = self;
+        r.current(words, unit, seen, pass);
+        r.slot.retire(
+            words,
+            loose,
+            kind,
+            &mut Forwards::new(reclaimer),
+            pass,
+            &Beside { rt },
+        );
+    }
+}
+
 /// The slot's batch is attempted.
 #[derive(Drop)]
 pub(crate) struct Flushing<'a, T, R: Copy, W> {
@@ -148,7 +196,7 @@ impl<'a, 'p, T: Drop, R: Reclaim<T>, W: Wait> LockWork<Reservation<T>, Pass<'p>,
     ghost may = { λ work r pass. IsReservationOf work.words.now r × IsPassFor work.words.now pass
         × IsUnit (words_book work.words.now) (its_number r.slot) work.unit.now work.seen.now };
 
-    ghost gives = { λ work r r' pass pass' _. MakesCall (its_number r.slot) Flush pass pass' };
+    ghost gives = { λ work r r' pass pass' _. Defers (its_number r.slot) Flush pass pass' };
 
     fn work(self, r: &mut Reservation<T>, pass: &mut Pass<'p>) {
         let Flushing {

@@ -11,7 +11,7 @@ use Rattle.seize_machine.specs.Machine.Frames.{changes_batch}
 use Rattle.seize_machine.specs.Machine.Kept.{KeptIn}
 use Rattle.seize_machine.specs.declared.machine.event.Answer.{Answer}
 use Rattle.seize_machine.specs.declared.machine.event.Answer.TheVariants.{Count, Handed}
-use Rattle.seize_machine.proofs.Facts.{Step, and_true, not_true, eq_true, is_true, step_of, next_of, no_event, one_event, one_more, joined, taken_apart, first_event, legal_unique, moment_of_event, legal_answer, opening_reached, reached_next, law_at_most_once, law_after, law_quiet, law_protection, law_whereabouts, law_gone, law_holders, law_no_later_holders, law_tries, slot_frame, active_frame, head_frame, batch_frame, link_frame, used_frame, value_frame, slots_length, heads_length, batches_length, links_length, named_grows, loose_stays, out_active, marks_tidy, looks_tidy, tries_tidy, adds_tidy, counts_near, one_owner, zero_unheld, arrives_unheld, values_kept, gone_grows, named_placed, marking_full, note_within, held_full, empty_zero, batched_named, batched_once, linked_named, linked_not_loose, loose_named, gone_named, kept_from_link, kept_step, kept_not_handed, reached_by, reached_holds}
+use Rattle.seize_machine.proofs.Facts.{Step, and_true, not_true, eq_true, is_true, step_of, next_of, no_event, one_event, one_more, joined, taken_apart, first_event, legal_unique, moment_of_event, legal_answer, opening_reached, reached_next, law_at_most_once, law_after, law_quiet, law_protection, law_whereabouts, law_gone, law_holders, law_no_later_holders, law_under_guard, law_tries, slot_frame, active_frame, head_frame, batch_frame, link_frame, used_frame, value_frame, slots_length, heads_length, batches_length, links_length, named_grows, loose_stays, out_active, marks_tidy, looks_tidy, tries_tidy, adds_above_zero, adds_tidy, counts_near, one_owner, zero_unheld, arrives_unheld, values_kept, gone_grows, named_placed, marking_full, note_within, held_full, empty_zero, batched_named, batched_once, linked_named, linked_not_loose, loose_named, gone_named, kept_from_link, kept_step, kept_not_handed, reached_by, reached_holds}
 use Rattle.seize_machine_rows.specs.Interface.{Unmoved, CallsTidy, ValuesStand, Obeys, Handing}
 
 stays_in : (s : ℕ) (event : Event) → not (is_swap_out s event) ≡ true → event ≢ SwapOut s
@@ -84,6 +84,7 @@ tidy st r =
       looks = λ s b won m later queue e. looks_tidy st s b won m later queue r e;
       tries = λ s b won m later saw queue e. tries_tidy st s b won m later saw queue r e;
       adds = λ s b won queue e. adds_tidy st s b won queue r e;
+      above_zero = λ s b won queue e on. adds_above_zero st s b won queue r e on;
       counts = counts_near st r;
       owners = λ b i s e k. one_owner b i s st r e k;
       unheld = λ b none owners s. zero_unheld st r b none owners s;
@@ -124,6 +125,7 @@ obeys slots links events answers now later t answer distinct legal e =
       gone = law_gone slots links (events ++ t ∷ []) _ later distinct all;
       holders = law_holders slots links (events ++ t ∷ []) _ later distinct all;
       no_later_holders = law_no_later_holders slots links (events ++ t ∷ []) _ later distinct whole;
+      under_guard = law_under_guard slots links (events ++ t ∷ []) _ later distinct whole;
       tries = law_tries slots links (events ++ t ∷ []) _ later distinct whole;
     }
 

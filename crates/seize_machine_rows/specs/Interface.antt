@@ -3,14 +3,14 @@ use Rattle.std.specs.Prelude.{◌≡◌, ◌≢◌, ◌⊎◌, ◌↔◌, ℕ, �
 use Rattle.std.specs.List.{Contains}
 use Rattle.seize_machine.specs.Machine.State.{State, Place, Active, Append, Mark, Look, Try, Add, Out, slot_at, is_idle, head_at, link_at, batch_at, is_active, has, are_distinct, opening}
 use Rattle.seize_machine.specs.Machine.Event.{Event, Begin, Put, Insert, AddCount, ExchangeLink, event_slot}
-use Rattle.seize_machine.specs.Machine.Next.{next, can_link, is_none_or_fresh, new_link, is_stored}
+use Rattle.seize_machine.specs.Machine.Next.{next, can_link, is_none_or_fresh, is_zero, new_link, is_stored}
 use Rattle.seize_machine.specs.declared.machine.event.Answer.{Answer}
 use Rattle.seize_machine.specs.declared.machine.event.Answer.TheVariants.{Done, Count, Handed, Link}
 use Rattle.seize_machine.specs.declared.machine.event.Exchange.{Exchange}
 use Rattle.seize_machine.specs.declared.machine.event.Try.TheVariants.{Lost}
 use Rattle.seize_machine.specs.declared.machine.event.Job.TheVariants.{Leave}
 use Rattle.seize_machine.specs.Machine.History.{Timed, history, Legal, is_link_event}
-use Rattle.seize_machine.specs.Machine.Laws.{AtMostOnce, After, Quiet, Protection, places, Whereabouts, Gone, Holders, NoLaterHolders, Tries, detached_by, Lists, Walks, IsHeld}
+use Rattle.seize_machine.specs.Machine.Laws.{AtMostOnce, After, Quiet, Protection, places, Whereabouts, Gone, Holders, NoLaterHolders, UnderGuard, Tries, detached_by, Lists, Walks, IsHeld}
 use Rattle.seize_machine.specs.Machine.Frames.{changes_slot, used, changes_used, changes_head_of, changes_link, changes_batch, changes_value, slots_added, batches_added, begins_retiring}
 
 -- what an event leaves as it was
@@ -52,6 +52,8 @@ pub record CallsTidy (st : State) : Type 0 where
   pub tries : (s b won m : ℕ) (later saw queue : List ℕ) → StandsAt st s (Try b won m later saw) queue
       → (are_distinct (m ∷ later) ≡ true) × (won + length (m ∷ later) ≤ length (batch_at st b).values)
   pub adds : (s b won : ℕ) (queue : List ℕ) → StandsAt st s (Add b won) queue → won ≤ length (batch_at st b).values
+  pub above_zero : (s b won : ℕ) (queue : List ℕ) → StandsAt st s (Add b won) queue → is_active (head_at st s) ≡ true
+      → is_zero ((batch_at st b).count +ℤ pos won) ≡ false
   pub counts : (b : ℕ) → (neg_ℤ (pos (length st.slots)) ≤ℤ (batch_at st b).count) × ((batch_at st b).count ≤ℤ pos (length st.slots))
   pub owners : (b i s : ℕ) → detached_by (slot_at st i).call ≡ Some b → detached_by (slot_at st s).call ≡ Some b → i ≡ s
   pub unheld : (b : ℕ) → (batch_at st b).count ≡ pos 0 → ((s : ℕ) → detached_by (slot_at st s).call ≢ Some b)
@@ -95,6 +97,7 @@ pub record Obeys (st : State) (events : List Timed) : Type 0 where
   pub gone : Gone st (history next st events)
   pub holders : Holders st (history next st events)
   pub no_later_holders : NoLaterHolders st (history next st events)
+  pub under_guard : UnderGuard st (history next st events)
   pub tries : Tries st (history next st events)
 
 -- after these events, from an opening, the event hands v

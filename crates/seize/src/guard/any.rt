@@ -8,7 +8,7 @@ ghost use Rattle.seize_table.specs.declared.refusal.Refusal.TheVariants.{NoMemor
 ghost use Rattle.seize.specs.Blocks.{ComesOut, IsNamed, IsUnlinkedOf, Shows, content, unlinked_name};
 ghost use Rattle.seize.specs.Collectors.{IsBlockOf, IsPassOf, its_links};
 ghost use Rattle.seize.specs.Exchanges.{FoundIn, MakesExchange, current_name};
-ghost use Rattle.seize.specs.Makes.{IsOfKind, MakesCall, MakesOne, StaysActive};
+ghost use Rattle.seize.specs.Makes.{Defers, IsOfKind, MakesCall, MakesOne, StaysActive};
 ghost use Rattle.seize_words.specs.declared.activation.Activation.{Activation};
 ghost use Rattle.seize.specs.declared.collector.Collector.{Collector};
 
@@ -96,22 +96,22 @@ pub trait Guard<T: Drop> {
         ensures { MakesExchange T.row.coded.code (guarded self.now) (number self.now) (activation self.now) link
             (current_name current.entry) new pass.old pass.new result };
 
-    /// Retires what came out of a link: a whole call of the slot.
+    /// Retires what came out of a link: a whole call of the slot, in which nothing is handed to the reclaimer.
     fn defer_retire<W: Wait>(&self, rt: &W, pass: &mut Pass, value: Unlinked<'_, T>)
         requires of { IsPassOf (guarded self.now) pass.old × IsUnlinkedOf (guarded self.now) value }
-        ensures call { MakesCall (number self.now) (Retire (unlinked_name value.entry)) pass.old pass.new }
+        ensures call { Defers (number self.now) (Retire (unlinked_name value.entry)) pass.old pass.new }
         ensures kind { IsOfKind (unlinked_name value.entry) 0 pass.new };
 
     /// The same, and says of which kind the value is: see `Registration::retire_as`.
     fn defer_retire_as<W: Wait>(&self, rt: &W, pass: &mut Pass, value: Unlinked<'_, T>, kind: u64)
         requires of { IsPassOf (guarded self.now) pass.old × IsUnlinkedOf (guarded self.now) value }
-        ensures call { MakesCall (number self.now) (Retire (unlinked_name value.entry)) pass.old pass.new }
+        ensures call { Defers (number self.now) (Retire (unlinked_name value.entry)) pass.old pass.new }
         ensures kind { IsOfKind (unlinked_name value.entry) kind pass.new };
 
-    /// Attempts the slot's batch at any length: a whole call of the slot.
+    /// Attempts the slot's batch at any length: a whole call of the slot, in which nothing is handed to the reclaimer.
     fn flush<W: Wait>(&self, rt: &W, pass: &mut Pass)
         requires of { IsPassOf (guarded self.now) pass.old }
-        ensures { MakesCall (number self.now) Flush pass.old pass.new };
+        ensures { Defers (number self.now) Flush pass.old pass.new };
 
     /// Ends the slot's activation and begins another, where this is the slot's only guard; beside others it does nothing.
     fn refresh<W: Wait>(&mut self, rt: &W, pass: &mut Pass)

@@ -8,7 +8,7 @@ ghost use Rattle.seize.specs.Blocks.{ComesOut, IsNamed, IsUnlinkedOf, unlinked_n
 ghost use Rattle.seize.specs.Collectors.{IsBlockOf, IsPassOf, its_links};
 ghost use Rattle.seize.specs.Exchanges.{MakesExchange, current_name};
 ghost use Rattle.seize.specs.Guards.{guard_activation, guard_collector, guard_slot};
-ghost use Rattle.seize.specs.Makes.{IsOfKind, MakesCall, MakesOne};
+ghost use Rattle.seize.specs.Makes.{Defers, IsOfKind, MakesOne};
 
 use crate::block::{Failed, Owned, Shared, Unlinked};
 use crate::collector::Collector;
@@ -85,7 +85,7 @@ impl<T: Drop, R: Reclaim<T>> Guard<T> for LocalGuard<'_, '_, T, R> {
 
     fn defer_retire<W: Wait>(&self, rt: &W, pass: &mut Pass, value: Unlinked<'_, T>)
         requires of { IsPassOf (guard_collector self.now) pass.old × IsUnlinkedOf (guard_collector self.now) value }
-        ensures call { MakesCall (guard_slot self.now) (Retire (unlinked_name value.entry)) pass.old pass.new }
+        ensures call { Defers (guard_slot self.now) (Retire (unlinked_name value.entry)) pass.old pass.new }
         ensures kind { IsOfKind (unlinked_name value.entry) 0 pass.new }
     {
         LocalGuard::defer_retire(self, rt, pass, value);
@@ -93,7 +93,7 @@ impl<T: Drop, R: Reclaim<T>> Guard<T> for LocalGuard<'_, '_, T, R> {
 
     fn defer_retire_as<W: Wait>(&self, rt: &W, pass: &mut Pass, value: Unlinked<'_, T>, kind: u64)
         requires of { IsPassOf (guard_collector self.now) pass.old × IsUnlinkedOf (guard_collector self.now) value }
-        ensures call { MakesCall (guard_slot self.now) (Retire (unlinked_name value.entry)) pass.old pass.new }
+        ensures call { Defers (guard_slot self.now) (Retire (unlinked_name value.entry)) pass.old pass.new }
         ensures kind { IsOfKind (unlinked_name value.entry) kind pass.new }
     {
         LocalGuard::defer_retire_as(self, rt, pass, value, kind);

@@ -7,7 +7,7 @@ ghost use Rattle.seize_machine.specs.declared.machine.event.Job.TheVariants.{Ret
 ghost use Rattle.seize.specs.Blocks.{ComesOut, IsNamed, IsUnlinkedOf, unlinked_name};
 ghost use Rattle.seize.specs.Collectors.{IsBlockOf, IsPassOf, its_links};
 ghost use Rattle.seize.specs.Exchanges.{MakesExchange, current_name};
-ghost use Rattle.seize.specs.Makes.{IsOfKind, MakesCall, MakesOne};
+ghost use Rattle.seize.specs.Makes.{Defers, IsOfKind, MakesOne};
 ghost use Rattle.seize.specs.OwnedGuards.{owned_activation, owned_collector, owned_slot};
 
 use crate::block::{Failed, Owned, Shared, Unlinked};
@@ -86,7 +86,7 @@ impl<T: Drop, R: Reclaim<T>> Guard<T> for OwnedGuard<'_, T, R> {
 
     fn defer_retire<W: Wait>(&self, rt: &W, pass: &mut Pass, value: Unlinked<'_, T>)
         requires of { IsPassOf (owned_collector self.now) pass.old × IsUnlinkedOf (owned_collector self.now) value }
-        ensures call { MakesCall (owned_slot self.now) (Retire (unlinked_name value.entry)) pass.old pass.new }
+        ensures call { Defers (owned_slot self.now) (Retire (unlinked_name value.entry)) pass.old pass.new }
         ensures kind { IsOfKind (unlinked_name value.entry) 0 pass.new }
     {
         OwnedGuard::defer_retire(self, rt, pass, value);
@@ -94,7 +94,7 @@ impl<T: Drop, R: Reclaim<T>> Guard<T> for OwnedGuard<'_, T, R> {
 
     fn defer_retire_as<W: Wait>(&self, rt: &W, pass: &mut Pass, value: Unlinked<'_, T>, kind: u64)
         requires of { IsPassOf (owned_collector self.now) pass.old × IsUnlinkedOf (owned_collector self.now) value }
-        ensures call { MakesCall (owned_slot self.now) (Retire (unlinked_name value.entry)) pass.old pass.new }
+        ensures call { Defers (owned_slot self.now) (Retire (unlinked_name value.entry)) pass.old pass.new }
         ensures kind { IsOfKind (unlinked_name value.entry) kind pass.new }
     {
         OwnedGuard::defer_retire_as(self, rt, pass, value, kind);

@@ -1,6 +1,6 @@
 use Rattle.std.proofs.Common.{List, sym, subst}
 use Rattle.seize_machine.specs.Machine.History.{Moment}
-use Rattle.seize_machine.specs.Machine.Laws.{After, AtMostOnce, Gone, Holders, HoldsOfAll, NoLaterHolders, Protection, Quiet, Tries, Whereabouts}
+use Rattle.seize_machine.specs.Machine.Laws.{After, AtMostOnce, Gone, Holders, HoldsOfAll, NoLaterHolders, Protection, Quiet, Tries, UnderGuard, Whereabouts}
 use Rattle.seize_machine.specs.Machine.State.{State}
 use Rattle.seize_book.specs.Book.{moments}
 use Rattle.seize_book.specs.Entry.{events_of}
@@ -28,5 +28,6 @@ returns-clause-laws g c =
       gone = of Gone all.gone;
       holders = of Holders all.holders;
       no_later_holders = of NoLaterHolders all.no_later_holders;
+      under_guard = of UnderGuard all.under_guard;
       tries = of Tries all.tries;
     }

@@ -3,7 +3,7 @@ use Rattle.seize_machine.specs.declared.machine.event.Job.TheVariants.{Flush}
 use Rattle.seize_calls.specs.Slots.{its_number}
 use Rattle.seize.specs.Collectors.{its_book}
 use Rattle.seize.specs.Guards.{guard_collector, guard_slot}
-use Rattle.seize.specs.Makes.{MakesCall}
+use Rattle.seize.specs.Makes.{Defers}
 use Rattle.seize.proofs.Placed.{unit_as}
 use Rattle.seize.proofs.Places.{guard_place, in_place}
 use Rattle.seize.proofs.guard.LocalGuard.flush.Goals as goal
@@ -17,4 +17,4 @@ with-requires g c =
 pub returns : goal.returns
 returns g c =
     let guard = c.args.self.now in let at = in_place (its_book (guard_collector guard)) (guard_slot guard) (2 ^ 64 - 1) c.with.ensures.before (c.with.ensures.was.0 ∙ guard_place guard) in
-    subst (λ (s : ℕ). MakesCall s Flush c.args.pass.now c.with.new.with) at.1 c.with.ensures.gives
+    subst (λ (s : ℕ). Defers s Flush c.args.pass.now c.with.new.with) at.1 c.with.ensures.gives

@@ -2,7 +2,7 @@ use Rattle.std.proofs.Common.{ℕ, refl, sym, subst, ◌∙◌}
 use Rattle.seize_machine.specs.declared.machine.event.Job.TheVariants.{Flush}
 use Rattle.seize_calls.specs.Slots.{its_number}
 use Rattle.seize.specs.Collectors.{its_book}
-use Rattle.seize.specs.Makes.{MakesCall}
+use Rattle.seize.specs.Makes.{Defers}
 use Rattle.seize.proofs.Placed.{unit_as}
 use Rattle.seize.proofs.Places.{in_place}
 use Rattle.seize.proofs.owned.OwnedGuard.flush.Goals as goal
@@ -16,4 +16,4 @@ with-requires g c =
 pub returns : goal.returns
 returns g c =
     let self = c.args.self.now in let at = in_place (its_book self.reader.collector.now) self.reader.number 1 c.with.ensures.before (c.with.ensures.was.0 ∙ self.at) in
-    subst (λ (s : ℕ). MakesCall s Flush c.args.pass.now c.with.new.with) at.1 c.with.ensures.gives
+    subst (λ (s : ℕ). Defers s Flush c.args.pass.now c.with.new.with) at.1 c.with.ensures.gives

@@ -18,7 +18,7 @@ returns g c =
         placed words slot' r.rest r.guards r.most retire.of.0 (at_kept r.slot slot' r.rest r.guards (may_still r.slot slot' r.rest does.rests.its does.active) (retire.of.1 r.rest) is.at) is.units is.fits,
       ),
       (
-        slot_retires words r.slot pass slot' pass' retire.of.0.0 c.requires.1.1 (had_of c.new.result.ends.ended) (had_of ended) ended refl c.args.self.loose c.args.self.kind c.retire.result retire.retires,
+        (slot_retires words r.slot pass slot' pass' retire.of.0.0 c.requires.1.1 (had_of c.new.result.ends.ended) (had_of ended) ended refl c.args.self.loose c.args.self.kind c.retire.result retire.retires).0,
         kind_told _ _ _ _ _ _ _ _ _ _ _ does,
       ),
     )
