@@ -40,9 +40,9 @@ pub content_once : {T : Type 0} (coded : Coded T) (v : ℕ) (x y : T) → HasCon
 content_once coded v x y one two = coded.inj x y (same_content v (place_of v) (place_of v) (coded.code x) (coded.code y) (refl, one) (refl, two)).1
 
 -- So what was found in a link is the content of what the link held.
-pub found_content : {T : Type 0} (coded : Coded T) (held : Option ℕ) (shared : Shared T) (v : ℕ) (x : T)
-    → Shows coded.code held (Some shared) → held ≡ Some v → HasContent coded.code v x → shared_value shared ≡ x
-found_content coded held shared v x shows is has =
+pub found_content : {T R : Type 0} (collector : Collector T R) (coded : Coded T) (held : Option ℕ) (shared : Shared T) (v : ℕ) (x : T)
+    → Shows collector coded.code held (Some shared) → held ≡ Some v → HasContent coded.code v x → shared_value shared ≡ x
+found_content collector coded held shared v x shows is has =
     content_once coded v (shared_value shared) x
     (subst (λ (w : ℕ). IsLentAs w (coded.code (shared_value shared))) (some_is shows.1.0 v (sym shows.1.1 ∙ is)) shows.1.2) has
 

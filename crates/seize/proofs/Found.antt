@@ -49,11 +49,11 @@ finds_found link a pass pass' v t w is =
 
 -- What a read found, and a won exchange that takes the link to hold it, are one, and the event compared with that.
 pub read_replaced : {T R : Type 0} (code : T → Gv) (a : Activation) (collector : Collector T R) (new : Option (Owned T)) (read : Pass) {held now : Option ℕ} {result : Option (Shared T)} {found : Shared T}
-    {outcome : Result (Option (Unlinked T)) (Failed T)} {out : Option (Unlinked T)} → Shows code held result → result ≡ Some found → FoundIn a held read
+    {outcome : Result (Option (Unlinked T)) (Failed T)} {out : Option (Unlinked T)} → Shows collector code held result → result ≡ Some found → FoundIn a held read
     → IsOutcome code collector new (comparand (shared_name found) now) now outcome → TookFound a (shared_name found) read now outcome → outcome ≡ Ok out
     → (comparand (shared_name found) now ≡ held) × (now ≡ held)
 read_replaced code a collector new read {held} {now} {result} {found} {outcome} {out} shows is there ends took won =
-    let name : shared_name found ≡ held = (subst (Shows code held) is shows).0 in
+    let name : shared_name found ≡ held = (subst (Shows collector code held) is shows).0 in
     let compared : comparand (shared_name found) now ≡ now = (subst (IsOutcome code collector new (comparand (shared_name found) now) now) won ends).0 in
     let same : now ≡ held = subst (TookFound a (shared_name found) read now) won took (subst (λ (o : Option ℕ). FoundIn a o read) (sym name) there) ∙ name in
     (compared ∙ same, same)

@@ -5,13 +5,16 @@
 --     shared_word shared        the word that a link shows for it: its block's number and one more
 --     unlinked_name u           what the list calls the value that is in no link;  IsUnlinkedOf c u   it keeps the words of this collector
 --     IsNamed code owned o      o is what the list calls the value of this block, or there is neither
---     Shows code held shared    what was found is what the link held, a block with that value; or there is neither
+--     shared_book shared        the list of its collector;  IsSharedOf c shared     it is of this collector
+--     Shows c code held shared  what was found is what the link held, a block of this collector with that value; or there is neither
 --     ComesOut held u           what came out is what the link held, or there is neither
 use Rattle.std.specs.Prelude.{◌≡◌, ℕ, Option, None, Some, List}
 use base.Stored.{Gv}
 use Rattle.seize_store.specs.Named as store
 use Rattle.seize_book.specs.Blocks.{link_word}
+use Rattle.seize_book.specs.Tokens.{Name}
 use Rattle.seize_words.specs.Chunks.{IsFoundAs, IsLentAs}
+use Rattle.seize_words.specs.Joined.{words_book}
 use Rattle.seize_calls.specs.Slots.{its_value}
 use Rattle.seize.specs.declared.block.owned.Owned.{Owned}
 use Rattle.seize.specs.declared.block.shared.Shared.{Shared}
@@ -36,6 +39,12 @@ shared_value shared = shared.value.now
 abbrev pub shared_word : {T : Type 0} → Shared T → ℕ
 shared_word shared = link_word (shared_name shared)
 
+abbrev pub shared_book : {T : Type 0} → Shared T → Name
+shared_book shared = shared.origin.name
+
+abbrev pub IsSharedOf : {T R : Type 0} → Collector T R → Shared T → Type 0
+IsSharedOf collector shared = shared_book shared ≡ words_book collector.words
+
 abbrev pub unlinked_name : {T : Type 0} → Unlinked T → ℕ
 unlinked_name unlinked = its_value unlinked.loose
 
@@ -47,9 +56,10 @@ IsNamed code (Some owned) (Some v) = HasContent code v (content owned)
 IsNamed code None None = Unit {0}
 IsNamed code _ _ = ⊥
 
-abbrev pub Shows : {T : Type 0} → (T → Gv) → Option ℕ → Option (Shared T) → Type 0
-Shows code held (Some shared) = (shared_name shared ≡ held) × IsFoundAs held (code (shared_value shared))
-Shows code held None = held ≡ None
+abbrev pub Shows : {T R : Type 0} → Collector T R → (T → Gv) → Option ℕ → Option (Shared T) → Type 0
+Shows collector code held (Some shared) =
+    (shared_name shared ≡ held) × IsFoundAs held (code (shared_value shared)) × IsSharedOf collector shared
+Shows collector code held None = held ≡ None
 
 abbrev pub ComesOut : {T : Type 0} → Option ℕ → Option (Unlinked T) → Type 0
 ComesOut held (Some unlinked) = held ≡ Some (unlinked_name unlinked)

@@ -66,7 +66,7 @@ abbrev pub IsOutcome : {T R : Type 0} → (T → Gv) → Collector T R → Optio
 IsOutcome code collector new compare held (Ok out) =
     (compare ≡ held) × ComesOut held out × IfSome out (IsUnlinkedOf collector)
 IsOutcome code collector new compare held (Err failed) =
-    (compare ≢ held) × Shows code held failed.found × ComesBack new failed.new
+    (compare ≢ held) × Shows collector code held failed.found × ComesBack new failed.new
 
 pub record MakesExchange {T R : Type 0} (code : T → Gv) (collector : Collector T R) (s : ℕ) (a : Activation) (link : ℕ) (current : Option ℕ)
     (new : Option (Owned T)) (pass pass' : Pass) (result : Result (Option (Unlinked T)) (Failed T)) : Type 0 where

@@ -33,7 +33,7 @@ impl<'r, 'c, T: Drop, R: Reclaim<T>> LocalGuard<'r, 'c, T, R> {
     ghost use Rattle.seize_machine.specs.declared.machine.event.Answer.TheVariants.{Link};
     ghost use Rattle.seize_machine.specs.declared.machine.event.Exchange.TheVariants.{Swap};
     ghost use Rattle.seize_machine.specs.declared.machine.event.Job.TheVariants.{Flush, Leave, Refresh, Retire};
-    ghost use Rattle.seize.specs.Blocks.{ComesOut, IsNamed, IsUnlinkedOf, Shows, content, unlinked_name};
+    ghost use Rattle.seize.specs.Blocks.{ComesOut, IsNamed, IsSharedOf, IsUnlinkedOf, Shows, content, unlinked_name};
     ghost use Rattle.seize.specs.Collectors.{IsBlockOf, IsPassOf, its_links};
     ghost use Rattle.seize_table.specs.declared.refusal.Refusal.TheVariants.{NoMemory as no_memory};
     ghost use Rattle.seize.specs.Exchanges.{FoundIn, MakesExchange, Protects, current_name};
@@ -87,7 +87,7 @@ impl<'r, 'c, T: Drop, R: Reclaim<T>> LocalGuard<'r, 'c, T, R> {
     pub fn protect(&self, link: usize, pass: &mut Pass) -> Option<Shared<'_, T>>
         requires of { IsPassOf (guard_collector self.now) pass.old × (link < its_links (guard_collector self.now)) }
         ensures { (held : Option ℕ) × MakesOne pass.old pass.new (ReadLink (guard_slot self.now) link) (Link held)
-            × Shows T.row.coded.code held result × FoundIn (guard_activation self.now) held pass.new }
+            × Shows (guard_collector self.now) T.row.coded.code held result × FoundIn (guard_activation self.now) held pass.new }
     {
         self.reader.protect(link, pass)
     }
@@ -144,6 +144,7 @@ impl<'r, 'c, T: Drop, R: Reclaim<T>> LocalGuard<'r, 'c, T, R> {
     ) -> Result<Option<Unlinked<'c, T>>, Failed<'_, T>>
         requires of { IsPassOf (guard_collector self.now) pass.old × (link < its_links (guard_collector self.now)) }
         requires value { IfSome new (λ owned. IsBlockOf (guard_collector self.now) owned) }
+        requires current { IfSome current (λ shared. IsSharedOf (guard_collector self.now) shared.now) }
         ensures { MakesExchange T.row.coded.code (guard_collector self.now) (guard_slot self.now) (guard_activation self.now) link
             (current_name current.entry) new pass.old pass.new result }
     {
@@ -160,6 +161,7 @@ impl<'r, 'c, T: Drop, R: Reclaim<T>> LocalGuard<'r, 'c, T, R> {
     ) -> Result<Option<Unlinked<'c, T>>, Failed<'_, T>>
         requires of { IsPassOf (guard_collector self.now) pass.old × (link < its_links (guard_collector self.now)) }
         requires value { IfSome new (λ owned. IsBlockOf (guard_collector self.now) owned) }
+        requires current { IfSome current (λ shared. IsSharedOf (guard_collector self.now) shared.now) }
         ensures { MakesExchange T.row.coded.code (guard_collector self.now) (guard_slot self.now) (guard_activation self.now) link
             (current_name current.entry) new pass.old pass.new result }
     {

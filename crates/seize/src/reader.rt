@@ -36,7 +36,7 @@ impl<'c, T: Drop, R: Reclaim<T>> Reader<'c, T, R> {
     ghost use Rattle.seize_machine.specs.Machine.Event.{ExchangeLink, ReadLink};
     ghost use Rattle.seize_machine.specs.declared.machine.event.Answer.TheVariants.{Link};
     ghost use Rattle.seize_machine.specs.declared.machine.event.Exchange.TheVariants.{Swap};
-    ghost use Rattle.seize.specs.Blocks.{ComesOut, IsNamed, IsUnlinkedOf, Shows};
+    ghost use Rattle.seize.specs.Blocks.{ComesOut, IsNamed, IsSharedOf, IsUnlinkedOf, Shows};
     ghost use Rattle.seize.specs.Collectors.{IsBlockOf, IsPassOf, its_links};
     ghost use Rattle.seize.specs.Exchanges.{FoundIn, MakesExchange, Protects, current_name};
     ghost use Rattle.seize.specs.Makes.{MakesNone, MakesOne};
@@ -45,12 +45,13 @@ impl<'c, T: Drop, R: Reclaim<T>> Reader<'c, T, R> {
     pub(crate) fn protect(&self, link: usize, pass: &mut Pass) -> Option<Shared<'_, T>>
         requires of { IsPassOf self.now.collector.now pass.old × (link < its_links self.now.collector.now) }
         ensures { (held : Option ℕ) × MakesOne pass.old pass.new (ReadLink self.now.number link) (Link held)
-            × Shows T.row.coded.code held result × FoundIn self.now.unit held pass.new }
+            × Shows self.now.collector.now T.row.coded.code held result × FoundIn self.now.unit held pass.new }
     {
         pass.learn(&self.seen);
         let (word, found) = self.collector.words.find(link, &self.unit, pass);
         let found = found?;
-        Some(Shared::of(found.value, word, found.glimpse))
+        let book = &self.collector.words.blocks.book;
+        Some(Shared::of(found.value, word, found.glimpse, book))
     }
 
     /// The pass looks at the list, in which the guard's activation has not ended.
@@ -95,6 +96,7 @@ impl<'c, T: Drop, R: Reclaim<T>> Reader<'c, T, R> {
     ) -> Result<Option<Unlinked<'c, T>>, Failed<'_, T>>
         requires of { IsPassOf self.now.collector.now pass.old × (link < its_links self.now.collector.now) }
         requires value { IfSome new (λ owned. IsBlockOf self.now.collector.now owned) }
+        requires current { IfSome current (λ shared. IsSharedOf self.now.collector.now shared.now) }
         ensures { MakesExchange T.row.coded.code self.now.collector.now self.now.number self.now.unit link
             (current_name current.entry) new pass.old pass.new result }
     {
@@ -116,7 +118,7 @@ impl<'c, T: Drop, R: Reclaim<T>> Reader<'c, T, R> {
             look_back(&collector.words.blocks, old, &self.unit, pass);
             return Ok(Unlinked::found(&collector.words, old, key));
         }
-        let found = shown(&collector.words.blocks, old, glimpse, pass);
+        let found = shown(collector, old, glimpse, pass);
         let new = came_back(collector, word, key, pass);
         Err(Failed { found, new })
     }

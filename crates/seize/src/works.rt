@@ -39,7 +39,7 @@ impl<'a, 'p, T: Drop> LockWork<Reservation<T>, Pass<'p>, Result<(Activation, See
 
     ghost gives = { λ work r r' pass pass' result. let s = its_number r.slot in
         IfOk result (λ made. Enters s pass pass' × IsUnit (words_book work.words.now) s made.0 made.1)
-        × IfErr result (λ refusal. (refusal ≡ too_many_guards) × (pass' ≡ pass)) };
+        × IfErr result (λ refusal. (refusal ≡ too_many_guards) × (r.guards ≡ r.most) × (pass' ≡ pass)) };
 
     fn work(
         self,

@@ -1,9 +1,36 @@
 //! Blocks as a guard found them in a link.
 ghost use Rattle.std.specs.Prelude.{◌≡◌};
+ghost use base.Fml.{ftrue};
 ghost use Rattle.seize_book.specs.Blocks.{link_word};
+ghost use Rattle.seize_book.specs.Tokens.{Name, name_coded};
 
+use seize_words::book::Seen;
 use seize_words::glimpse::Glimpse;
+use std::marker::{Model, PhantomData};
 use std::ops::Deref;
+
+/// The list of a block's collector. It has no bytes.
+#[derive(Drop)]
+pub(crate) struct Origin {
+    marker: PhantomData<()>,
+    /// The list.
+    pub(crate) ghost name: { Name } by { name_coded },
+}
+
+impl Model for Origin {
+    ghost also_owns = { λ _. ftrue };
+}
+
+impl Origin {
+    // This list.
+    fn of(_book: &Seen) -> Origin
+        ensures { result.name ≡ _book.now.name }
+    {
+        Origin {
+            marker: PhantomData,
+        }
+    }
+}
 
 /// What a guard found in a link. It reads as its value, for as long as the guard is borrowed: until then the value is not reclaimed.
 #[derive(Drop)]
@@ -12,27 +39,30 @@ pub struct Shared<'g, T> {
     // as the link's word showed it
     pub(crate) word: u64,
     pub(crate) glimpse: Glimpse<'g>,
+    pub(crate) origin: Origin,
     ghost worded: { word ≡ link_word glimpse.value },
 }
 
 impl<'g, T> Shared<'g, T> {
     ghost use Rattle.std.specs.Prelude.{◌==◌};
-    ghost use Rattle.seize.specs.Blocks.{shared_name, shared_value, shared_word};
+    ghost use Rattle.seize.specs.Blocks.{shared_book, shared_name, shared_value, shared_word};
 
-    // The value that was found where the link showed this word.
-    pub(crate) fn of(value: &'g T, word: u64, glimpse: Glimpse<'g>) -> Shared<'g, T>
+    // The value that was found where a link of this list showed this word.
+    pub(crate) fn of(value: &'g T, word: u64, glimpse: Glimpse<'g>, book: &Seen) -> Shared<'g, T>
         requires { word ≡ link_word glimpse.value }
-        ensures { (shared_name result ≡ glimpse.entry.value) × (shared_value result ≡ value.now) }
+        ensures { (shared_name result ≡ glimpse.entry.value) × (shared_value result ≡ value.now) × (shared_book result ≡ book.now.name) }
     {
         Shared {
             value,
             word,
             glimpse,
+            origin: Origin::of(book),
         }
     }
 
-    /// Whether both are of one block, where they are of one collector. Else it compares the numbers of two blocks alone.
+    /// Whether both are of one block. They are of one collector.
     pub fn same(&self, other: &Shared<'_, T>) -> bool
+        requires { shared_book self.now ≡ shared_book other.now }
         ensures { result ≡ (shared_word self.now == shared_word other.now) }
     {
         self.word == other.word

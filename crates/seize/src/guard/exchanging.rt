@@ -69,24 +69,25 @@ pub(crate) fn look_back<T: Drop>(blocks: &Blocks<T>, word: u64, unit: &Activatio
 }
 
 // What the link held, whose word was this.
-pub(crate) fn shown<'g, T: Drop>(
-    blocks: &'g Blocks<T>,
+pub(crate) fn shown<'g, T: Drop, R: Reclaim<T>>(
+    collector: &'g Collector<T, R>,
     word: u64,
     glimpse: Glimpse<'g>,
     pass: &mut Pass,
 ) -> Option<Shared<'g, T>>
-    requires book { blocks_book blocks.now ≡ pass.old.name }
+    requires book { its_book collector.now ≡ pass.old.name }
     requires word { word ≡ link_word glimpse.value }
     requires found { word ≢ 0 → IsFoundAt glimpse.value (word - 1) pass.old }
     ensures looks { (pass.new ≡ pass.old) ⊎ LooksOn pass.old pass.new }
-    ensures shows { Shows T.row.coded.code glimpse.entry.value result }
+    ensures shows { Shows collector.now T.row.coded.code glimpse.entry.value result }
 {
     if word == 0 {
         return None;
     }
+    let blocks = &collector.words.blocks;
     let mut glimpse = glimpse;
     let value = blocks.see(word - 1, glimpse.again(), pass);
-    Some(Shared::of(value, word, glimpse))
+    Some(Shared::of(value, word, glimpse, &blocks.book))
 }
 
 // The block that was to go into the link, whose word was this.

@@ -4,7 +4,7 @@ ghost use Rattle.seize_machine.specs.Machine.Event.{ExchangeLink};
 ghost use Rattle.seize_machine.specs.declared.machine.event.Answer.TheVariants.{Link};
 ghost use Rattle.seize_machine.specs.declared.machine.event.Exchange.TheVariants.{Swap};
 ghost use Rattle.seize_machine.specs.declared.machine.event.Job.TheVariants.{Retire};
-ghost use Rattle.seize.specs.Blocks.{ComesOut, IsNamed, IsUnlinkedOf, unlinked_name};
+ghost use Rattle.seize.specs.Blocks.{ComesOut, IsNamed, IsSharedOf, IsUnlinkedOf, unlinked_name};
 ghost use Rattle.seize.specs.Collectors.{IsBlockOf, IsPassOf, its_links};
 ghost use Rattle.seize.specs.Exchanges.{MakesExchange, current_name};
 ghost use Rattle.seize.specs.Makes.{Defers, IsOfKind, MakesOne};
@@ -63,6 +63,7 @@ impl<T: Drop, R: Reclaim<T>> Guard<T> for OwnedGuard<'_, T, R> {
     ) -> Result<Option<Unlinked<'_, T>>, Failed<'_, T>>
         requires of { IsPassOf (owned_collector self.now) pass.old × (link < its_links (owned_collector self.now)) }
         requires value { IfSome new (λ owned. IsBlockOf (owned_collector self.now) owned) }
+        requires current { IfSome current (λ shared. IsSharedOf (owned_collector self.now) shared.now) }
         ensures { MakesExchange T.row.coded.code (owned_collector self.now) (owned_slot self.now) (owned_activation self.now) link
             (current_name current.entry) new pass.old pass.new result }
     {
@@ -78,6 +79,7 @@ impl<T: Drop, R: Reclaim<T>> Guard<T> for OwnedGuard<'_, T, R> {
     ) -> Result<Option<Unlinked<'_, T>>, Failed<'_, T>>
         requires of { IsPassOf (owned_collector self.now) pass.old × (link < its_links (owned_collector self.now)) }
         requires value { IfSome new (λ owned. IsBlockOf (owned_collector self.now) owned) }
+        requires current { IfSome current (λ shared. IsSharedOf (owned_collector self.now) shared.now) }
         ensures { MakesExchange T.row.coded.code (owned_collector self.now) (owned_slot self.now) (owned_activation self.now) link
             (current_name current.entry) new pass.old pass.new result }
     {

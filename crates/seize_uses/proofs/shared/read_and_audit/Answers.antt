@@ -2,7 +2,7 @@ use Rattle.std.proofs.Common.{ℕ, Option, ap, inl, subst, sym}
 use base.Stored.{gnum}
 use Rattle.seize.specs.Blocks.{HasContent, Shows}
 use Rattle.seize.specs.Exchanges.{FoundIn}
-use Rattle.seize.specs.Guards.{guard_activation, guard_slot}
+use Rattle.seize.specs.Guards.{guard_activation, guard_collector, guard_slot}
 use Rattle.seize.specs.Machine.Event.{ReadLink}
 use Rattle.seize.proofs.Facts.{found_still, read_found, then_none}
 use Rattle.seize_machine.specs.declared.machine.event.Answer.TheVariants.{Link}
@@ -12,7 +12,7 @@ use Rattle.seize_uses.proofs.shared.read_and_audit.Goals as goal
 pub returns-clause-found : goal.returns-clause-found
 returns-clause-found c =
     let guard = c.args.guard.now in let s = guard_slot guard in let reads = c.protect.ensures in let pass = c.protected.new.pass in let none = c.protected.ensures.none in
-    let held = (subst (Shows gnum reads.0) c.in_ok-found.was reads.2).1 in let v = held.0 in (
+    let held = (subst (Shows (guard_collector guard) gnum reads.0) c.in_ok-found.was reads.2).1 in let v = held.0 in (
       v,
       subst (HasContent gnum v) (sym c.deref.ensures) held.2,
       read_found s 0 v (then_none reads.1 none) (inl (ap (λ (o : Option ℕ). (ReadLink s 0, Link o)) held.1)),

@@ -87,7 +87,7 @@ returns g c =
       made = subst (λ (p : Pass). Makes c.args.pass.now p ((ExchangeLink reader.number c.args.link (Compare (comparand current (held_before t.0)) (value_held key)), Held (held_before t.0)) ∷ [])) (sym back.pass) looked;
       outcome = (
         lost_compare current (held_before t.0) (λ same. lost (t.0.found ∙ same)),
-        subst (λ (o : Option ℕ). Shows g.row.T.coded.code o c.shown-found.result) left.2 c.shown-found.ensures.shows,
+        subst (λ (o : Option ℕ). Shows reader.collector.now g.row.T.coded.code o c.shown-found.result) left.2 c.shown-found.ensures.shows,
         comes_back g.row.T.coded reader.collector.now (value_held key) c.args.new c.came_back-new.result c.name-word.ensures.named
             (subst (λ (o : Option ℕ). IsNamed g.row.T.coded.code c.came_back-new.result o) left.0 back.named) c.requires.value back.of,
       );
