@@ -10,7 +10,8 @@ ghost use Rattle.seize.specs.Registrations.{registered_in};
 ghost use Rattle.seize.specs.Machine.History.{Found, HasParted, IsActiveAt, Reclaimed, Retired};
 ghost use Rattle.seize.specs.Machine.Laws.{After};
 
-use seize::{LocalGuard, Pass, Refusal, Registration, Unlinked};
+use seize::{Collector, IdSource, LocalGuard, Pass, Refusal, Registration, Unlinked};
+use std::alloc::Global;
 use std::sync::Wait;
 
 /// The number in link 0, if there is one.
@@ -47,6 +48,18 @@ pub fn replace<W: Wait>(
     }
     guard.leave(rt, pass);
     Ok(())
+}
+
+/// Puts a number into the one link of a new collector, and reads it there.
+pub fn put_and_read<W: Wait>(alloc: Global, value: u64, rt: &W) -> Result<Option<u64>, Refusal> {
+    let collector: Collector<u64> = Collector::new(alloc, &mut IdSource::new(), 4, 1)?;
+    let mut pass = collector.pass();
+    let registration = collector.register(rt, &mut pass)?;
+    let put = replace(&registration, value, rt, &mut pass);
+    let found = read(&registration, rt, &mut pass);
+    registration.end(rt, &mut pass);
+    put?;
+    found
 }
 
 /// In the list that the pass sees then, each value that was reclaimed was retired before, once, and each slot that was active at that

@@ -10,7 +10,7 @@ use crate::machine::with_active_slot;
 use crate::reclaimers::{Counting, Counts, collector, put, remove};
 use crate::reclaiming::{reclaim, retire};
 use crate::replacing::{add, exchange};
-use crate::shared::{audit, read, replace};
+use crate::shared::{audit, put_and_read, read, replace};
 use crate::table::loaded_twice;
 use crate::watched::{Newest, retire_under_guard};
 use seize::thread_id::{Numbers, Thread};
@@ -112,6 +112,7 @@ fn a_shared_number_is_replaced_and_read(rt: HostRuntime) -> Result<(), Fail> {
     assert!(rt; first.is_ok() && second.is_ok());
     assert_eq!(rt; (third?, none?, fourth?), (true, false, true));
     assert_eq!(rt; (before?, after?), (None, Some(14)));
+    assert_eq!(rt; put_and_read(rt.alloc(), 3, &rt)?, Some(3));
     Ok(())
 }
 
