@@ -10,17 +10,16 @@
 --     IsStepOf s step         it is a step of a call of slot s between its begin and its return, in which a reclaimer put nothing;
 --                             AreStepsOf s steps     so is each of these
 --     MakesCall s job pass pass'     a whole call of slot s: from its begin with this job to its return, and between them its steps
---     HandsNone steps         no value was handed to its reclaimer in these steps
---     Defers s job pass pass'     a whole call of slot s in which no value was handed to its reclaimer
+--     HandsNone steps         none of these steps hands a value to its reclaimer (`is_hand`)
+--     Defers s job pass pass'     a whole call of slot s, and none of its steps hands a value to its reclaimer
 --     LeavesAndGives s pass pass'    a whole call of slot s to leave, and then its number went back
 --     EndsUse s pass pass' gave     the use of slot s ended: its number went back; or no event was made, and it is active (`StaysActive`)
 --     Enters s pass pass'     slot s entered; or no event was made, and it is active
 --     IsOfKind v kind pass    the retirement of v said that it is of this kind, in what the pass has seen
-use Rattle.std.specs.Prelude.{◌≡◌, ◌⊎◌, ℕ, Bool, true, false, map, List, [], ◌∷◌, ◌++◌, None}
+use Rattle.std.specs.Prelude.{◌≡◌, ◌⊎◌, ℕ, Bool, true, false, map, List, [], ◌∷◌, ◌++◌}
 use mathlib.Core.List.{IsPrefix}
 use Rattle.seize_machine.specs.Machine.Event.{AddCount, Begin, Detach, Enter, Event, Give, Hand, Insert, Put, ReadHead, Return}
 use Rattle.seize_machine.specs.Machine.Event.{SubCount, SwapOut}
-use Rattle.seize_machine.specs.Machine.History.{handed_value}
 use Rattle.seize_machine.specs.Machine.State.{head_at, is_active}
 use Rattle.seize_machine.specs.declared.machine.event.Answer.{Answer}
 use Rattle.seize_machine.specs.declared.machine.event.Answer.TheVariants.{Done}
@@ -84,9 +83,13 @@ pub record MakesCall (s : ℕ) (job : Job) (pass pass' : Pass) : Type 0 where
   pub its : AreStepsOf s steps
   pub made : Makes pass pass' ((Begin s job, Done) ∷ steps ++ (Return s, Done) ∷ [])
 
+abbrev pub is_hand : Event → Bool
+is_hand (Hand s puts) = true
+is_hand _ = false
+
 abbrev pub HandsNone : List (Event × Answer) → Type 0
 HandsNone [] = Unit {0}
-HandsNone (step ∷ steps) = (handed_value step.1 ≡ None) × HandsNone steps
+HandsNone (step ∷ steps) = (is_hand step.0 ≡ false) × HandsNone steps
 
 abbrev pub Defers : ℕ → Job → Pass → Pass → Type 0
 Defers s job pass pass' = (call : MakesCall s job pass pass') × HandsNone call.steps

@@ -124,7 +124,8 @@ impl<'r, 'c, T: Drop, R: Reclaim<T>> LocalGuard<'r, 'c, T, R> {
     }
 
     /// Exchanges what a link holds for this block, or for none, if the link holds what was found, or nothing where that is `None`: the
-    /// event `ExchangeLink`. It gives what the link held, which may outlive the guard, and is to be retired.
+    /// event `ExchangeLink`. It gives what the link held, which may outlive the guard, and is to be retired. What was found is of this
+    /// collector.
     ///
     /// Whether it holds that is decided by the number of its block. Where the exchange is won, the event compares with what the link held.
     /// A value that this guard found since it entered or refreshed is not reclaimed while it stands. So where `current` is such a one, as
@@ -169,7 +170,7 @@ impl<'r, 'c, T: Drop, R: Reclaim<T>> LocalGuard<'r, 'c, T, R> {
     }
 
     /// Retires what came out of a link: it joins the slot's batch, which is attempted where it has the batch size or more. The slot is
-    /// active, so no value ends in the call.
+    /// active, so no value goes to the reclaimer in the call.
     ///
     /// It takes no memory. An insertion is tried again as often as other threads change the head between a look at it and the try. Within
     /// another call of the same registration it waits for ever.
@@ -207,18 +208,20 @@ impl<'r, 'c, T: Drop, R: Reclaim<T>> LocalGuard<'r, 'c, T, R> {
         self.registration.reservation.with(rt, deferring, pass);
     }
 
-    /// Attempts the slot's batch at any length. No value ends in the call, as in `defer_retire`.
+    /// Attempts the slot's batch at any length. No value goes to the reclaimer in the call, as in `defer_retire`.
     ///
     /// It takes no memory and waits as `defer_retire` does.
     pub fn flush<W: Wait>(&self, rt: &W, pass: &mut Pass)
         requires of { IsPassOf (guard_collector self.now) pass.old }
         ensures { Defers (guard_slot self.now) Flush pass.old pass.new }
     {
+        let reader = &self.reader;
+        let collector = reader.collector;
         let flushing = Flushing {
-            words: &self.reader.collector.words,
-            reclaimer: *self.reader.collector.reclaimer,
-            unit: &self.reader.unit,
-            seen: &self.reader.seen,
+            words: &collector.words,
+            reclaimer: *collector.reclaimer,
+            unit: &reader.unit,
+            seen: &reader.seen,
             rt,
         };
         self.registration.reservation.with(rt, flushing, pass);
@@ -231,7 +234,8 @@ impl<'r, 'c, T: Drop, R: Reclaim<T>> LocalGuard<'r, 'c, T, R> {
     pub fn refresh<W: Wait>(&mut self, rt: &W, pass: &mut Pass)
         requires of { IsPassOf (guard_collector self.old) pass.old }
         ensures same { (guard_collector self.new ≡ guard_collector self.old) × (guard_slot self.new ≡ guard_slot self.old) }
-        ensures refreshes { let s = guard_slot self.old in MakesCall s Refresh pass.old pass.new ⊎ StaysActive s pass.old pass.new }
+        ensures refreshes { MakesCall (guard_slot self.old) Refresh pass.old pass.new
+            ⊎ (StaysActive (guard_slot self.old) pass.old pass.new × (guard_activation self.new ≡ guard_activation self.old)) }
     {
         let registration = self.registration;
         let reservation = &registration.reservation;

@@ -25,8 +25,8 @@ use std::{fmt, mem};
 ///
 /// It has no `Drop`: it is spent by `leave`, or by `forget`, after which the slot stays active until `reclaim_all` or the drop.
 ///
-/// `defer_retire` and `flush` are done under the guard's lock: each waits while another thread is within one of them. No value ends there,
-/// since the guard's slot is active.
+/// `defer_retire` and `flush` are done under the guard's lock: each waits while another thread is within one of them. No value goes
+/// to the reclaimer there, since the guard's slot is active.
 pub struct OwnedGuard<'c, T: Drop, R: Reclaim<T> = Boxed> {
     reader: Reader<'c, T, R>,
     // The slot's head.
@@ -199,7 +199,7 @@ impl<'c, T: Drop, R: Reclaim<T>> OwnedGuard<'c, T, R> {
     }
 
     /// Retires what came out of a link: it joins the slot's batch, which is attempted where it has the batch size or more. This is done
-    /// under the guard's lock. The slot is active, so no value ends in the call.
+    /// under the guard's lock. The slot is active, so no value goes to the reclaimer in the call.
     ///
     /// It takes no memory. It waits while another thread has the lock. An insertion is tried again as often as other threads change the
     /// head between a look at it and the try.
@@ -237,18 +237,20 @@ impl<'c, T: Drop, R: Reclaim<T>> OwnedGuard<'c, T, R> {
         self.reservation.with(rt, deferring, pass);
     }
 
-    /// Attempts the slot's batch at any length. No value ends in the call, as in `defer_retire`.
+    /// Attempts the slot's batch at any length. No value goes to the reclaimer in the call, as in `defer_retire`.
     ///
     /// It takes no memory and waits as `defer_retire` does.
     pub fn flush<W: Wait>(&self, rt: &W, pass: &mut Pass)
         requires of { IsPassOf (owned_collector self.now) pass.old }
         ensures { Defers (owned_slot self.now) Flush pass.old pass.new }
     {
+        let reader = &self.reader;
+        let collector = reader.collector;
         let flushing = Flushing {
-            words: &self.reader.collector.words,
-            reclaimer: *self.reader.collector.reclaimer,
-            unit: &self.reader.unit,
-            seen: &self.reader.seen,
+            words: &collector.words,
+            reclaimer: *collector.reclaimer,
+            unit: &reader.unit,
+            seen: &reader.seen,
             rt,
         };
         self.reservation.with(rt, flushing, pass);

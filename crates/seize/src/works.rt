@@ -1,4 +1,4 @@
-//! Each call of a guard, as a work on the slot's reservation.
+//! Each call of a guard or a registration, as a work on the slot's reservation.
 ghost use Rattle.std.specs.Prelude.{◌≡◌, ◌+◌, ◌⊎◌, ◌<◌, IfErr, IfOk};
 ghost use Rattle.seize_calls.specs.Slots.{IsLooseOf, IsPassFor, its_number, its_value};
 ghost use Rattle.seize_words.specs.Chunks.{IsBlockIn};
@@ -251,7 +251,7 @@ impl<'a, 'p, T: Drop, R: Reclaim<T>, W: Wait> LockWork<Reservation<T>, Pass<'p>,
         × IsHeadFor (words_book work.words.now) (its_number r.slot) work.head.now };
 
     ghost gives = { λ work r r' pass pass' result. let s = its_number r.slot in
-        (((r.guards ≡ 1) × MakesCall s Refresh pass pass') ⊎ ((1 < r.guards) × StaysActive s pass pass'))
+        (((r.guards ≡ 1) × MakesCall s Refresh pass pass') ⊎ ((1 < r.guards) × (StaysActive s pass pass' × (result.0 ≡ work.unit))))
         × IsUnit (words_book work.words.now) s result.0 result.1 };
 
     fn work(self, r: &mut Reservation<T>, pass: &mut Pass<'p>) -> (Activation, Seen) {

@@ -47,7 +47,7 @@ impl<'g, T> Shared<'g, T> {
     ghost use Rattle.std.specs.Prelude.{◌==◌};
     ghost use Rattle.seize.specs.Blocks.{shared_book, shared_name, shared_value, shared_word};
 
-    // The value that was found where a link of this list showed this word.
+    // The value that was found where a link showed this word. Its label says the list of the collector that has the link.
     pub(crate) fn of(value: &'g T, word: u64, glimpse: Glimpse<'g>, book: &Seen) -> Shared<'g, T>
         requires { word ≡ link_word glimpse.value }
         ensures { (shared_name result ≡ glimpse.entry.value) × (shared_value result ≡ value.now) × (shared_book result ≡ book.now.name) }
@@ -60,7 +60,7 @@ impl<'g, T> Shared<'g, T> {
         }
     }
 
-    /// Whether both are of one block. They are of one collector.
+    /// Whether both are of one block. Both must be of one collector.
     pub fn same(&self, other: &Shared<'_, T>) -> bool
         requires { shared_book self.now ≡ shared_book other.now }
         ensures { result ≡ (shared_word self.now == shared_word other.now) }

@@ -7,8 +7,8 @@ ghost use Rattle.seize_machine.specs.declared.machine.event.Job.TheVariants.{Flu
 ghost use Rattle.seize_table.specs.declared.refusal.Refusal.TheVariants.{NoMemory as no_memory};
 ghost use Rattle.seize.specs.Blocks.{ComesOut, IsNamed, IsSharedOf, IsUnlinkedOf, Shows, content, unlinked_name};
 ghost use Rattle.seize.specs.Collectors.{IsBlockOf, IsPassOf, its_links};
-ghost use Rattle.seize.specs.Exchanges.{FoundIn, MakesExchange, current_name};
-ghost use Rattle.seize.specs.Makes.{Defers, IsOfKind, MakesCall, MakesOne, StaysActive};
+ghost use Rattle.seize.specs.Exchanges.{FoundIn, MakesExchange, Protects, current_name};
+ghost use Rattle.seize.specs.Makes.{Defers, IsOfKind, MakesCall, MakesNone, MakesOne, StaysActive};
 ghost use Rattle.seize_words.specs.declared.activation.Activation.{Activation};
 ghost use Rattle.seize.specs.declared.collector.Collector.{Collector};
 
@@ -31,7 +31,7 @@ pub trait Guard<T: Drop> {
     /// The number of the slot that is active while the guard stands.
     ghost number: { Self → ℕ };
 
-    /// Its part of the slot's activation, with which it reads. After a refresh it is of another one.
+    /// Its part of the slot's activation, with which it reads. It is of another one after a refresh that makes its call.
     ghost activation: { Self → Activation };
 
     /// The collector.
@@ -56,6 +56,13 @@ pub trait Guard<T: Drop> {
         requires of { IsPassOf (guarded self.now) pass.old × (link < its_links (guarded self.now)) }
         ensures { (held : Option ℕ) × MakesOne pass.old pass.new (ReadLink (number self.now) link) (Link held)
             × Shows (guarded self.now) T.row.coded.code held result × FoundIn (activation self.now) held pass.new };
+
+    /// The pass looks at the list of events. No value that this guard found since it entered or refreshed, as the pass has seen, is
+    /// reclaimed in what it sees then. It makes no event, and does nothing when the program runs: its contract is the law.
+    fn protected(&self, pass: &mut Pass)
+        requires of { IsPassOf (guarded self.now) pass.old }
+        ensures none { MakesNone pass.old pass.new }
+        ensures protects { Protects (activation self.now) pass.new };
 
     /// Exchanges what a link holds for this block, or for none: the event `ExchangeLink`. It gives what the link held.
     fn swap(&self, link: usize, value: Option<Owned<T>>, pass: &mut Pass) -> Option<Unlinked<'_, T>>
@@ -119,5 +126,6 @@ pub trait Guard<T: Drop> {
     fn refresh<W: Wait>(&mut self, rt: &W, pass: &mut Pass)
         requires of { IsPassOf (guarded self.old) pass.old }
         ensures same { (guarded self.new ≡ guarded self.old) × (number self.new ≡ number self.old) }
-        ensures refreshes { MakesCall (number self.old) Refresh pass.old pass.new ⊎ StaysActive (number self.old) pass.old pass.new };
+        ensures refreshes { MakesCall (number self.old) Refresh pass.old pass.new
+            ⊎ (StaysActive (number self.old) pass.old pass.new × (activation self.new ≡ activation self.old)) };
 }

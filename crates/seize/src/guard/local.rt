@@ -43,6 +43,10 @@ impl<T: Drop, R: Reclaim<T>> Guard<T> for LocalGuard<'_, '_, T, R> {
         LocalGuard::protect(self, link, pass)
     }
 
+    fn protected(&self, pass: &mut Pass) {
+        LocalGuard::protected(self, pass);
+    }
+
     fn swap(&self, link: usize, value: Option<Owned<T>>, pass: &mut Pass) -> Option<Unlinked<'_, T>>
         requires of { IsPassOf (guard_collector self.now) pass.old × (link < its_links (guard_collector self.now)) }
         requires value { IfSome value (λ owned. IsBlockOf (guard_collector self.now) owned) }

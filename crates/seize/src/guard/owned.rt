@@ -44,6 +44,10 @@ impl<T: Drop, R: Reclaim<T>> Guard<T> for OwnedGuard<'_, T, R> {
         OwnedGuard::protect(self, link, pass)
     }
 
+    fn protected(&self, pass: &mut Pass) {
+        OwnedGuard::protected(self, pass);
+    }
+
     fn swap(&self, link: usize, value: Option<Owned<T>>, pass: &mut Pass) -> Option<Unlinked<'_, T>>
         requires of { IsPassOf (owned_collector self.now) pass.old × (link < its_links (owned_collector self.now)) }
         requires value { IfSome value (λ owned. IsBlockOf (owned_collector self.now) owned) }

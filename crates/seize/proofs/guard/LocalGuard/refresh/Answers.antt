@@ -1,6 +1,7 @@
-use Rattle.std.proofs.Common.{ℕ, ◌⊎◌, ◌-◌, ◌^◌, subst, ◌∙◌}
+use Rattle.std.proofs.Common.{◌≡◌, ℕ, ◌⊎◌, ◌-◌, ◌^◌, subst, ◌∙◌}
 use Rattle.seize_machine.specs.declared.machine.event.Job.TheVariants.{Refresh}
 use Rattle.seize_book.specs.declared.book.pass.Pass.{Pass}
+use Rattle.seize_words.specs.declared.activation.Activation.{Activation}
 use Rattle.seize_calls.specs.Slots.{its_number}
 use Rattle.seize.specs.Collectors.{its_book}
 use Rattle.seize.specs.Guards.{guard_collector, guard_slot}
@@ -26,4 +27,6 @@ pub returns-clause-refreshes : goal.returns-clause-refreshes
 returns-clause-refreshes g c =
     let guard = c.args.self.now in let gives = c.with-unit.ensures.gives in let pass = c.args.pass.now in let pass' = c.with-unit.new.with in
     let at = in_place (its_book (guard_collector guard)) (guard_slot guard) (2 ^ 64 - 1) c.with-unit.ensures.before (c.with-unit.ensures.was.0 ∙ guard_place guard) in
-    subst (λ (t : ℕ × Pass). MakesCall t.0 Refresh t.1 pass' ⊎ StaysActive t.0 t.1 pass') (λ j. (at.1 j, c.with-spare.ensures.gives j)) (one_of_two gives.0)
+    let same : c.replace-unit.result ≡ guard.reader.unit = c.replace-unit.ensures.value in
+    subst (λ (t : ℕ × Pass × Activation). MakesCall t.0 Refresh t.1 pass' ⊎ (StaysActive t.0 t.1 pass' × (c.with-unit.result.0 ≡ t.2)))
+    (λ j. (at.1 j, c.with-spare.ensures.gives j, same j)) (one_of_two gives.0)
