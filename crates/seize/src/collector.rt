@@ -335,13 +335,14 @@ impl<T: Drop, R: Reclaim<T>> Collector<T, R> {
     }
 
     /// Reclaims what was retired, and answers whether that is all. The answer is true where no number is in use afterwards: then each value
-    /// that was ever retired was reclaimed, and went to the reclaimer. What the links hold stays, and the collector may be shared again.
+    /// that was ever retired was reclaimed, as the list says; tests show that it went to the reclaimer. What the links hold stays, and the
+    /// collector may be shared again.
     ///
     /// Slots that were forgotten leave first: those of registrations and guards that `forget` spent, and of registrations that ended with
     /// the answer false. Then each slot attempts its batch, and the numbers go back.
     ///
-    /// The answer is false, then and later, where a registration or a guard is lost: a type that holds it was given to `mem::forget`. What
-    /// is in that slot's batch stays. If the slot has a guard, what waits for it or is attempted later stays as well.
+    /// The answer is false, then and later, as tests show, where a registration or a guard is lost: a type that holds it was given to
+    /// `mem::forget`. What is in that slot's batch stays. If the slot has a guard, what waits for it or is attempted later stays as well.
     ///
     /// The slots go in order of their numbers. It takes no memory and waits for nobody, but for what the reclaimer does. Each slot takes
     /// the lock of its shelf and makes two atomic swaps and an attempt of its batch, which looks at the heads of all slots. One that was
