@@ -32,6 +32,8 @@ mod passed_on;
 mod places;
 #[cfg(test)]
 mod reclaiming;
+#[cfg(test)]
+mod refused;
 mod threads;
 #[cfg(test)]
 mod values;
