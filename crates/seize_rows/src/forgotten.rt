@@ -5,7 +5,7 @@ ghost use Rattle.seize.specs.Collectors.{IsPassOf};
 ghost use Rattle.seize.specs.Registrations.{registered_in};
 
 use crate::ending::{Counting, collector, put_in_all};
-use crate::values::{Counted, ended};
+use crate::values::{Counted, Digit, ended};
 use seize::{Collector, IdSource, LocalGuard, Pass, Refusal, Registration, Unlinked};
 use std::alloc::{AllocError, Global};
 use std::ops::Range;
@@ -14,20 +14,6 @@ use std::sync::atomic::{AtomicU64, Ordering};
 use std::test::*;
 use std::thread::Threads;
 use std::{mem, thread};
-
-// A value that tells its end by a digit, behind those of all that ended before.
-struct Digit<'a> {
-    digit: u64,
-    told: &'a AtomicU64,
-}
-
-impl Drop for Digit<'_> {
-    fn drop(self) {
-        let Digit { digit, told } = self;
-        let before = told.load(Ordering::SeqCst).wrapping_mul(10);
-        told.store(before.wrapping_add(digit), Ordering::SeqCst);
-    }
-}
 
 type Telling<'a> = Collector<Digit<'a>>;
 

@@ -11,10 +11,10 @@ use std::sync::Wait;
 use std::sync::atomic::AtomicU64;
 use std::test::*;
 
-type Counting<'a> = Collector<Counted<'a>>;
+pub(crate) type Counting<'a> = Collector<Counted<'a>>;
 
 // A collector with one link, and batches of this many values.
-fn collector<'a>(alloc: Global, size: usize) -> Result<Counting<'a>, Refusal>
+pub(crate) fn collector<'a>(alloc: Global, size: usize) -> Result<Counting<'a>, Refusal>
     ensures { IfOk result (λ made. 0 < its_links made) }
 {
     let made: Counting<'a> = Collector::new(alloc, &mut IdSource::new(), 1, 1)?;
@@ -29,7 +29,7 @@ fn block<'a>(collector: &Counting<'a>, ends: &'a AtomicU64) -> Option<Owned<Coun
 }
 
 // Puts so many values into link 0, one after the other, and retires what was there: all but the last one, and what the link held before.
-fn retire<'a>(
+pub(crate) fn retire<'a>(
     rt: &impl Wait,
     guard: &LocalGuard<'_, '_, Counted<'a>>,
     count: u64,

@@ -37,3 +37,5 @@ mod refused;
 mod threads;
 #[cfg(test)]
 mod values;
+#[cfg(test)]
+mod worked;

@@ -15,14 +15,14 @@ use std::thread::Threads;
 const MOST: u64 = 10_000_000;
 
 // A collector of numbers with one link.
-fn collector(alloc: Global) -> Result<Collector<u64>, Refusal>
+pub(crate) fn collector(alloc: Global) -> Result<Collector<u64>, Refusal>
     ensures { IfOk result (λ made. 0 < its_links made) }
 {
     Collector::new(alloc, &mut IdSource::new(), 1, 1)
 }
 
 // Swaps this number into the link, and retires what came out. It says what that was.
-fn put(
+pub(crate) fn put(
     rt: &impl Wait,
     guard: &LocalGuard<'_, '_, u64>,
     number: u64,

@@ -1,4 +1,4 @@
-//! Values that count their ends.
+//! Values that count their ends, or tell them.
 use std::sync::atomic::{AtomicU64, Ordering};
 
 /// A value that counts its end.
@@ -17,4 +17,20 @@ impl Drop for Counted<'_> {
 /// How many ended.
 pub(crate) fn ended(ends: &AtomicU64) -> u64 {
     ends.load(Ordering::SeqCst)
+}
+
+/// A value that tells its end by a digit, behind those of all that ended before.
+pub(crate) struct Digit<'a> {
+    /// The digit.
+    pub(crate) digit: u64,
+    /// What was told.
+    pub(crate) told: &'a AtomicU64,
+}
+
+impl Drop for Digit<'_> {
+    fn drop(self) {
+        let Digit { digit, told } = self;
+        let before = told.load(Ordering::SeqCst).wrapping_mul(10);
+        told.store(before.wrapping_add(digit), Ordering::SeqCst);
+    }
 }
