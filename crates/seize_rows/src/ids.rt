@@ -66,6 +66,31 @@ fn all_say_the_id_of_their_collector(rt: HostRuntime) -> Result<(), Fail> {
     Ok(())
 }
 
+// Whether a guard of the first collector says that its collector is the first, and whether it is the second.
+fn is_of(
+    rt: &(impl Wait + Abort),
+    first: &Collector<u64>,
+    second: &Collector<u64>,
+) -> (bool, bool) {
+    let mut pass = first.pass();
+    let registration = first.register(rt, &mut pass).expect(rt, "memory");
+    let guard = registration.enter(&mut pass).expect(rt, "a guard");
+    let of = (guard.collector() == first, guard.collector() == second);
+    guard.leave(rt, &mut pass);
+    assert!(rt; registration.end(rt, &mut pass));
+    of
+}
+
+#[test]
+fn the_collector_of_a_guard_equals_its_own_alone(rt: HostRuntime) -> Result<(), Fail> {
+    let mut ids = IdSource::new();
+    let first: Collector<u64> = Collector::new(rt.alloc(), &mut ids, 1, 0)?;
+    let second: Collector<u64> = Collector::new(rt.alloc(), &mut ids, 1, 0)?;
+    assert_eq!(rt; is_of(&rt, &first, &second), (true, false));
+    assert_eq!(rt; is_of(&rt, &second, &first), (true, false));
+    Ok(())
+}
+
 // Retires a value, which was in no link, under a guard that leaves then. It says how often it had ended before that, and after.
 fn retire_one<'a>(
     rt: &(impl Wait + Abort),

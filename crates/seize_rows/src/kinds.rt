@@ -7,6 +7,7 @@ ghost use Rattle.seize.specs.Registrations.{registered_in};
 use crate::values::ended;
 use seize::{Collector, IdSource, OwnedGuard, Pass, Reclaim, Refusal, Registration, Unlinked};
 use std::alloc::Global;
+use std::process::Abort;
 use std::sync::Wait;
 use std::sync::atomic::{AtomicU64, Ordering};
 use std::test::*;
@@ -149,5 +150,49 @@ fn leaves_and_drops_call_the_reclaimer(rt: HostRuntime) -> Result<(), Fail> {
     assert_eq!(rt; sums_of(&all), (0, 0, 16));
     drop(collector);
     assert_eq!(rt; sums_of(&all), (32, 0, 16));
+    Ok(())
+}
+
+// A slot's guard puts six values of 1 into the link, of which it retires five, and leaves.
+fn retire_five<'a>(rt: &impl Wait, collector: &Summing<'a>) -> Result<(), Refusal>
+    requires { its_links collector.now ≡ 1 }
+{
+    let mut pass = collector.pass();
+    let guard = collector.enter_owned(rt, &mut pass)?;
+    for _ in 0..6u64 {
+        put(rt, &guard, 1, &mut pass);
+    }
+    guard.leave(rt, &mut pass);
+    Ok(())
+}
+
+// Three guards of another slot leave one after another.
+fn leave_thrice<'a>(
+    rt: &(impl Wait + Abort),
+    collector: &Summing<'a>,
+    sums: &Totals,
+)
+    requires { its_links collector.now ≡ 1 }
+{
+    let mut pass = collector.pass();
+    let registration = collector.register(rt, &mut pass).expect(rt, "memory");
+    let first = registration.enter(&mut pass).expect(rt, "a guard");
+    let second = registration.enter(&mut pass).expect(rt, "a guard");
+    let third = registration.enter(&mut pass).expect(rt, "a guard");
+    assert_eq!(rt; retire_five(rt, collector), Ok(()));
+    first.leave(rt, &mut pass);
+    second.leave(rt, &mut pass);
+    assert_eq!(rt; sums_of(sums), (0, 0, 0));
+    third.leave(rt, &mut pass);
+    assert_eq!(rt; sums_of(sums), (0, 0, 5));
+    assert!(rt; registration.end(rt, &mut pass));
+}
+
+// The sum of values of 1 says how often the reclaimer was called.
+#[test]
+fn the_third_leave_calls_the_reclaimer_for_each(rt: HostRuntime) -> Result<(), Fail> {
+    let all = no_sums();
+    let collector = collector(rt.alloc(), 5, &all)?;
+    leave_thrice(&rt, &collector, &all);
     Ok(())
 }

@@ -2,7 +2,9 @@
 ghost use Rattle.std.specs.Prelude.{◌≡◌};
 ghost use Rattle.seize.specs.OwnedGuards.{owned_collector};
 
+use crate::guards::collector as linked;
 use crate::values::{Counted, ended};
+use crate::worked::retire_elsewhere;
 use seize::{Collector, IdSource, OwnedGuard, Refusal, Unlinked};
 use std::alloc::Global;
 use std::sync::Wait;
@@ -121,30 +123,16 @@ fn leave_elsewhere<R: Threads + Wait + Sync>(rt: &R, handed: Handed<'_, '_>) {
     thread::join(rt, move || handed.leave(rt), || {});
 }
 
-// Retires four values by a guard that leaves then. It says whether memory was there for them.
-fn retire_four<'a>(rt: &impl Wait, collector: &Counting<'a>, ends: &'a AtomicU64) -> bool {
-    let mut pass = collector.pass();
-    let Ok(guard) = collector.enter_owned(rt, &mut pass) else {
-        return false;
-    };
-    let mut all = true;
-    for _ in 0..4u64 {
-        all = retire(rt, collector, &guard, ends) && all;
-    }
-    guard.leave(rt, &mut pass);
-    all
-}
-
-// A guard goes to another thread, and leaves there: what was retired meanwhile, two values in each batch, ends with that.
+// A guard goes to another thread, and leaves there: what a third thread retired meanwhile ends with that.
 #[test]
 fn a_guard_leaves_on_another_thread(rt: HostRuntime) -> Result<(), Fail> {
     let ends = AtomicU64::new(0);
-    let collector = collector(rt.alloc(), 5)?;
+    let collector = linked(rt.alloc(), 5)?;
     let mut pass = collector.pass();
     let reader = collector.enter_owned(&rt, &mut pass).expect(&rt, "memory");
-    assert!(rt; retire_four(&rt, &collector, &ends));
+    assert_eq!(rt; retire_elsewhere(&rt, &collector, &ends), Some(1));
     assert_eq!(rt; ended(&ends), 0);
     leave_elsewhere(&rt, Handed(reader));
-    assert_eq!(rt; ended(&ends), 4);
+    assert_eq!(rt; ended(&ends), 5);
     Ok(())
 }

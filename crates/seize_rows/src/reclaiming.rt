@@ -5,7 +5,9 @@ ghost use Rattle.std.specs.Prelude.{◌≡◌, ◌<◌, IfOk};
 ghost use Rattle.seize.specs.Collectors.{IsPassOf, its_links};
 ghost use Rattle.seize.specs.Registrations.{registered_in};
 
-use crate::ending::{TIMES, collector, put_by_two, put_in_all, retire_by_two};
+use crate::ending::{
+    Counting, TIMES, collector, put_by_two, put_in_all, retire, retire_by_two,
+};
 use crate::values::ended;
 use seize::{Collector, IdSource, Pass, Refusal, Registration};
 use seize_threads_rows::marked::{Marked, ended as ended_marks, marks};
@@ -13,6 +15,8 @@ use std::alloc::Global;
 use std::sync::Wait;
 use std::sync::atomic::AtomicU64;
 use std::test::*;
+use std::thread::Threads;
+use std::{mem, thread};
 
 #[test]
 fn what_was_retired_ends_and_links_stay(rt: HostRuntime) -> Result<(), Fail> {
@@ -143,5 +147,42 @@ fn a_link_keeps_its_number_and_each_other_ends_once(rt: HostRuntime) -> Result<(
     let made = reclaim(&rt, rt.alloc(), marks.as_slice())?;
     assert_eq!(rt; made, (Some(9), true, (9, 0), Some(9)));
     assert_eq!(rt; ended_marks(marks.as_slice()), (10, 0));
+    Ok(())
+}
+
+// A slot retires two values. The pass of these calls is forgotten.
+fn forget_pass<'a>(
+    rt: &impl Wait,
+    collector: &Counting<'a>,
+    ends: &'a AtomicU64,
+) -> Result<(), Refusal> {
+    let mut pass = collector.pass();
+    let registration = collector.register(rt, &mut pass)?;
+    retire(rt, collector, &registration, 2, ends, &mut pass);
+    registration.end(rt, &mut pass);
+    mem::forget(pass);
+    Ok(())
+}
+
+// A thread does so, which ends then.
+fn forget_elsewhere<'a, R: Threads + Wait + Sync>(
+    rt: &R,
+    collector: &Counting<'a>,
+    ends: &'a AtomicU64,
+) -> Result<(), Refusal> {
+    let (done, ()) = thread::join(rt, move || forget_pass(rt, collector, ends), || {});
+    done
+}
+
+// A forgotten pass keeps nobody from having the collector alone.
+#[test]
+fn forgotten_passes_keep_nobody_out(rt: HostRuntime) -> Result<(), Fail> {
+    let ends = AtomicU64::new(0);
+    let mut collector = collector(rt.alloc())?;
+    forget_pass(&rt, &collector, &ends)?;
+    forget_elsewhere(&rt, &collector, &ends)?;
+    assert_eq!(rt; ended(&ends), 0);
+    assert!(rt; collector.reclaim_all());
+    assert_eq!(rt; ended(&ends), 4);
     Ok(())
 }

@@ -36,7 +36,7 @@ fn retire_five<'a>(
 }
 
 // A slot of another thread does so, which ends then.
-fn retire_elsewhere<'a, R: Threads + Wait + Sync>(
+pub(crate) fn retire_elsewhere<'a, R: Threads + Wait + Sync>(
     rt: &R,
     collector: &Counting<'a>,
     ends: &'a AtomicU64,
