@@ -167,11 +167,7 @@ fn retire_five<'a>(rt: &impl Wait, collector: &Summing<'a>) -> Result<(), Refusa
 }
 
 // Three guards of another slot leave one after another.
-fn leave_thrice<'a>(
-    rt: &(impl Wait + Abort),
-    collector: &Summing<'a>,
-    sums: &Totals,
-)
+fn leave_thrice<'a>(rt: &(impl Wait + Abort), collector: &Summing<'a>, sums: &Totals)
     requires { its_links collector.now ≡ 1 }
 {
     let mut pass = collector.pass();

@@ -6,7 +6,7 @@ ghost use Rattle.seize.specs.Registrations.{registered_in};
 
 use crate::guards::{Counting, collector, retire};
 use crate::meeting;
-use crate::values::{Digit, ended};
+use crate::values::{Counted, Digit, ended};
 use seize::{Collector, IdSource, LocalGuard, Pass, Refusal, Registration, Unlinked};
 use std::alloc::Global;
 use std::process::Abort;
@@ -17,11 +17,7 @@ use std::thread;
 use std::thread::Threads;
 
 // A slot enters, retires five values and leaves. It says its number.
-fn retire_five<'a>(
-    rt: &impl Wait,
-    collector: &Counting<'a>,
-    ends: &'a AtomicU64,
-) -> Option<usize>
+fn retire_five<'a>(rt: &impl Wait, collector: &Counting<'a>, ends: &'a AtomicU64) -> Option<usize>
     requires { 0 < its_links collector.now }
 {
     let mut pass = collector.pass();
@@ -85,7 +81,24 @@ fn what_another_thread_retired_ends_with_the_third_leave(rt: HostRuntime) -> Res
     Ok(())
 }
 
-// The same, but one of the guards refreshes before each leave of the two others, and when they have left.
+// The guard refreshes and leaves. It says how many values had ended between.
+fn refresh_and_leave<'a>(
+    rt: &impl Wait,
+    guard: LocalGuard<'_, '_, Counted<'a>>,
+    ends: &'a AtomicU64,
+    pass: &mut Pass,
+) -> u64
+    requires { IsPassOf (guard_collector guard) pass.old }
+    ensures { IsPassOf (guard_collector guard.entry) pass.new }
+{
+    let mut guard = guard;
+    guard.refresh(rt, pass);
+    let between = ended(ends);
+    guard.leave(rt, pass);
+    between
+}
+
+// The same as before, but each guard refreshes before it leaves: beside others it ends nothing by that.
 fn refresh_thrice<'a, R: Threads + Wait + Sync + Abort>(
     rt: &R,
     collector: &Counting<'a>,
@@ -95,18 +108,14 @@ fn refresh_thrice<'a, R: Threads + Wait + Sync + Abort>(
 {
     let mut pass = collector.pass();
     let registration = collector.register(rt, &mut pass).expect(rt, "memory");
-    let mut first = registration.enter(&mut pass).expect(rt, "a guard");
+    let first = registration.enter(&mut pass).expect(rt, "a guard");
     let second = registration.enter(&mut pass).expect(rt, "a guard");
     let third = registration.enter(&mut pass).expect(rt, "a guard");
     assert_eq!(rt; retire_elsewhere(rt, collector, ends), Some(1));
-    first.refresh(rt, &mut pass);
-    second.leave(rt, &mut pass);
-    first.refresh(rt, &mut pass);
-    third.leave(rt, &mut pass);
+    assert_eq!(rt; refresh_and_leave(rt, first, ends, &mut pass), 0);
+    assert_eq!(rt; refresh_and_leave(rt, second, ends, &mut pass), 0);
     assert_eq!(rt; ended(ends), 0);
-    first.refresh(rt, &mut pass);
-    assert_eq!(rt; ended(ends), 5);
-    first.leave(rt, &mut pass);
+    assert_eq!(rt; refresh_and_leave(rt, third, ends, &mut pass), 5);
     assert!(rt; registration.end(rt, &mut pass));
 }
 
