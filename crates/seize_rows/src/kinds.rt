@@ -184,11 +184,13 @@ fn leave_thrice<'a>(rt: &(impl Wait + Abort), collector: &Summing<'a>, sums: &To
     assert!(rt; registration.end(rt, &mut pass));
 }
 
-// The sum of values of 1 says how often the reclaimer was called.
+// The sum of values of 1 says how often the reclaimer was called. The value in the link goes to it with the collector.
 #[test]
 fn the_third_leave_calls_the_reclaimer_for_each(rt: HostRuntime) -> Result<(), Fail> {
     let all = no_sums();
     let collector = collector(rt.alloc(), 5, &all)?;
     leave_thrice(&rt, &collector, &all);
+    drop(collector);
+    assert_eq!(rt; sums_of(&all), (1, 0, 5));
     Ok(())
 }

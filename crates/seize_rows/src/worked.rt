@@ -78,6 +78,8 @@ fn what_another_thread_retired_ends_with_the_third_leave(rt: HostRuntime) -> Res
     let ends = AtomicU64::new(0);
     let collector = collector(rt.alloc(), 5)?;
     leave_thrice(&rt, &collector, &ends);
+    drop(collector);
+    assert_eq!(rt; ended(&ends), 6);
     Ok(())
 }
 
@@ -124,7 +126,8 @@ fn what_another_thread_retired_ends_with_the_lone_refresh(rt: HostRuntime) -> Re
     let ends = AtomicU64::new(0);
     let collector = collector(rt.alloc(), 5)?;
     refresh_thrice(&rt, &collector, &ends);
-    assert_eq!(rt; ended(&ends), 5);
+    drop(collector);
+    assert_eq!(rt; ended(&ends), 6);
     Ok(())
 }
 
@@ -248,8 +251,8 @@ fn lose_once<'a>(rt: &(impl Wait + Abort), collector: &Telling<'a>, told: &'a At
     assert!(rt; registration.end(rt, &mut pass));
 }
 
-// A guard's exchange is lost to its own swap. The block that came back ends at once, the value that was swapped out as the guard leaves, and
-// the one in the link with the collector.
+// A guard's exchange is lost to its own swap. The block that came back ends at once, and the value that was swapped out as the guard leaves.
+// The one in the link ends with the collector.
 #[test]
 fn an_exchange_is_lost_to_a_swap(rt: HostRuntime) -> Result<(), Fail> {
     let told = AtomicU64::new(0);
@@ -260,21 +263,29 @@ fn an_exchange_is_lost_to_a_swap(rt: HostRuntime) -> Result<(), Fail> {
     Ok(())
 }
 
-// Puts 1 and then 2 into the link by one pass, which reads it then. So does another one that meets it.
+// Another pass meets this one. It says what the guard reads by the other one then.
+fn read_by_another(guard: &LocalGuard<'_, '_, u64>, pass: &mut Pass) -> Option<u64>
+    requires of { IsPassOf (guard_collector guard.now) pass.old × (0 < its_links (guard_collector guard.now)) }
+    ensures { IsPassOf (guard_collector guard.now) pass.new }
+{
+    let mut other = guard.collector().pass();
+    pass.meet(&mut other);
+    guard.protect(0, &mut other).map(|shared| *shared)
+}
+
+// Puts 1 and then 2 into the link by one pass, and reads it by that, and by another one that meets it.
 fn read_by_two(rt: &(impl Wait + Abort), collector: &Collector<u64>)
     requires { 0 < its_links collector.now }
 {
     let mut pass = collector.pass();
-    let mut other = collector.pass();
     let registration = collector.register(rt, &mut pass).expect(rt, "memory");
     let guard = registration.enter(&mut pass).expect(rt, "a guard");
     assert_eq!(rt; meeting::put(rt, &guard, 1, &mut pass), Ok(None));
     assert_eq!(rt; meeting::put(rt, &guard, 2, &mut pass), Ok(Some(1)));
     let found = guard.protect(0, &mut pass).map(|shared| *shared);
-    pass.meet(&mut other);
-    let again = guard.protect(0, &mut other).map(|shared| *shared);
-    assert_eq!(rt; (found, again), (Some(2), Some(2)));
-    guard.leave(rt, &mut other);
+    assert_eq!(rt; found, Some(2));
+    assert_eq!(rt; read_by_another(&guard, &mut pass), Some(2));
+    guard.leave(rt, &mut pass);
     assert!(rt; registration.end(rt, &mut pass));
 }
 
