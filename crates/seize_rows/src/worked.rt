@@ -251,8 +251,8 @@ fn lose_once<'a>(rt: &(impl Wait + Abort), collector: &Telling<'a>, told: &'a At
     assert!(rt; registration.end(rt, &mut pass));
 }
 
-// A guard's exchange is lost to its own swap. The block that came back ends at once, and what was swapped out as the guard leaves. The value
-// in the link ends with the collector.
+// A guard's exchange is lost to its own swap. The block that came back ends at once, and what was swapped out ends as the guard leaves.
+// The value in the link ends with the collector.
 #[test]
 fn an_exchange_is_lost_to_a_swap(rt: HostRuntime) -> Result<(), Fail> {
     let told = AtomicU64::new(0);
