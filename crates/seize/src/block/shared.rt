@@ -21,6 +21,11 @@ impl Model for Origin {
     ghost also_owns = { λ _. ftrue };
 }
 
+// It owns nothing, so any thread may have it.
+unsafe impl Send for Origin {}
+
+unsafe impl Sync for Origin {}
+
 impl Origin {
     // This list.
     fn of(_book: &Seen) -> Origin
