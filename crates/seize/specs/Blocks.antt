@@ -2,7 +2,7 @@
 --     content owned             the value of a block in hand;  store_name owned     the store where it lies
 --     HasContent code v value   what the list calls v is a block with this content
 --     shared_name shared        what the list calls the value that was found;  shared_value shared     the value
---     shared_word shared        the word that a link shows for it: its block's number and one more
+--     shared_block shared       which block it is: the list of its collector, and the word that a link shows for it
 --     unlinked_name u           what the list calls the value that is in no link;  IsUnlinkedOf c u   it keeps the words of this collector
 --     IsNamed code owned o      o is what the list calls the value of this block, or there is neither
 --     shared_book shared        the list of its collector;  IsSharedOf c shared     it is of this collector
@@ -36,11 +36,11 @@ shared_name shared = shared.glimpse.value
 abbrev pub shared_value : {T : Type 0} → Shared T → T
 shared_value shared = shared.value.now
 
-abbrev pub shared_word : {T : Type 0} → Shared T → ℕ
-shared_word shared = link_word (shared_name shared)
-
 abbrev pub shared_book : {T : Type 0} → Shared T → Name
 shared_book shared = shared.origin.name
+
+abbrev pub shared_block : {T : Type 0} → Shared T → Name × ℕ
+shared_block shared = (shared_book shared, link_word (shared_name shared))
 
 abbrev pub IsSharedOf : {T R : Type 0} → Collector T R → Shared T → Type 0
 IsSharedOf collector shared = shared_book shared ≡ words_book collector.words

@@ -240,7 +240,7 @@ impl<T: Drop, R: Reclaim<T>> Collector<T, R> {
     ghost use Rattle.seize_machine.specs.declared.machine.event.Answer.TheVariants.{Done};
     ghost use Rattle.seize_table.specs.declared.refusal.Refusal.TheVariants.{NoMemory as no_memory};
     ghost use Rattle.seize.specs.Collectors.{IsPassOf};
-    ghost use Rattle.seize.specs.Laws.{LawsHold};
+    ghost use Rattle.seize.specs.Laws.{HaveContents, LawsHold};
     ghost use Rattle.seize.specs.Makes.{Makes, MakesNone};
     ghost use Rattle.seize.specs.OwnedGuards.{owned_collector, owned_slot};
 
@@ -272,16 +272,17 @@ impl<T: Drop, R: Reclaim<T>> Collector<T, R> {
 
     /// The pass looks at the list of events. Every law of the machine holds of what it has seen then, which goes on from what it had seen.
     /// So each value, whoever retired it, is reclaimed there at most once, and only after each slot that was active at its retirement has
-    /// left or refreshed.
+    /// left or refreshed. And each name in it that was ever in a link, or retired, is that of a block with a content of type `T`.
     ///
     /// It makes no event, and does nothing when the program runs: its contract is the laws.
     pub fn laws(&self, pass: &mut Pass)
         requires pass { IsPassOf self.now pass.old }
         ensures none { MakesNone pass.old pass.new }
         ensures laws { LawsHold pass.new }
+        ensures contents { HaveContents T.row.coded.code pass.new }
     {
         machine::laws();
-        pass.slots();
+        self.words.blocks.codes(pass);
     }
 }
 

@@ -1,6 +1,5 @@
 -- The step of the list, once for all events. Assumes `Logic`.
 use Rattle.std.proofs.Common.{◌≡◌, ℕ, zero, suc, ◌+◌, ◌-◌, ◌<◌, ◌≤◌, Bool, true, false, ◌==◌, if◌then◌else◌, List, [], ◌∷◌, ◌++◌, length, get_or, set, length-set, sym, refl, ap, ◌∙◌, subst, ◌⊎◌, inl, inr, ⊎_elim, Some, slice_get, arith}
-use Rattle.std.specs.Prelude.{take, drop as past}
 use mathlib.Core.List.{IsPrefix}
 use mathlib.Core.Path.{fun_ext}
 use seplogic.Ra.Ura.{Ura}

@@ -22,7 +22,7 @@ use Rattle.seize_book.specs.Entry.{Entry, entry_coded}
 use Rattle.seize_book.specs.Book.{HolderKnows, IsKeyCount, mine, kind_of, rules, passes, numbers, slots, heads, links, totals, kinds}
 use Rattle.seize_book.specs.Homes.{IsSound}
 use Rattle.seize_book.specs.Loans.{AllCarryOne}
-use Rattle.seize_book.specs.Tokens.{Name, Gate, all_but, gate_share, IsSole, rows, start, inside, beside, has_family, free_family, name_coded, gate_keeps, gate_gives, all_lead, all_lie, rights_own, keys_own, pass_at, pass_holds}
+use Rattle.seize_book.specs.Tokens.{Name, Gate, all_but, gate_share, rows, start, inside, beside, has_family, free_family, name_coded, gate_keeps, gate_gives, all_lead, all_lie, rights_own, keys_own, pass_at, pass_holds}
 use Rattle.seize_book.specs.Begin.{BeganWith, new_key, first_links, first_keys, book_owns}
 use Rattle.seize_book.proofs.Append.{grown, borns, has_grown, shut, sizes, grown_sizes}
 use Rattle.seize_book.specs.Chains.{field_value}
@@ -145,9 +145,9 @@ module _ {M : Type 1} {𝓤 : Ura M} (𝓛 : Logic 𝓤) where
   fresh : emp 𝓤 ⊢ H.⇛ (ex 𝓤 (λ (δ : ℕ). ⟦ roster entry_coded δ 0 [] ⟧))
   fresh = via 𝓤 _ (entries_new (halved entry_coded) 𝓛 0 (λ _. (full_share, []))) (basic 𝓛 _)
 
-  module _ (n : ℕ) (store table : List ℕ) where
+  module _ (n : ℕ) (store table : List ℕ) (permits : ℕ) where
     abbrev pub Begun : ℕ → Name → Pr
-    Begun f m = guard 𝓤 ((m.family ≡ f) × BeganWith m n store table) (⟦ book_owns m [] ⟧ ∗ ⟦ pass_holds m 0 [] ⟧ ∗ ⟦ keys_own m (first_keys n) ⟧)
+    Begun f m = guard 𝓤 ((m.family ≡ f) × (m.permits ≡ permits) × BeganWith m n store table) (⟦ book_owns m [] ⟧ ∗ ⟦ pass_holds m 0 [] ⟧ ∗ ⟦ keys_own m (first_keys n) ⟧)
 
     pub begins : (f : ℕ) → ⟦ free_family f ⟧ ⊢ H.⇛ (ex 𝓤 (Begun f))
     begins f = qed 𝓛 (‵ (free_family f) ∷ []) ∵ updating ! $ fsplit ! $
@@ -179,6 +179,7 @@ module _ {M : Type 1} {𝓤 : Ura M} (𝓛 : Logic 𝓤) where
           gate = g;
           store = store;
           table = table;
+          permits = permits;
           slots = 0;
           links = empty n;
         } in let st : State = start n₀ in let bs : List (ℕ × ℕ) = firsts n in
@@ -201,7 +202,7 @@ module _ {M : Type 1} {𝓤 : Ura M} (𝓛 : Logic 𝓤) where
         move ! (4 ∷ 0 ∷ []) $ fjoin ! $ move ! (4 ∷ 0 ∷ []) $ fjoin ! $ move ! (1 ∷ 0 ∷ []) $ fjoin ! $ fpack ! (List Entry) (pass_at m 0 []) [] $
         rewrite ! 1 (λ (hs : List (HeldKey Entry)). ‵ (rights_own m (new_key numbers 0 ∷ new_key totals 0 ∷ new_key slots 0 ∷ new_key heads 0 ∷ hs))) (born_links 0 n) refl $
         move ! (1 ∷ []) $ use1 𝓛 (‵ (keys_own m (first_keys n))) (free_own 𝓛 m (first_keys n) (refl, (refl, (refl, (refl, no_links m 0 n))))) $
-        now ! $ show ! (Begun f) m $ check ! (refl, (refl, refl, refl, refl)) $ move ! (2 ∷ 1 ∷ 0 ∷ []) $ done !)))))))))))))
+        now ! $ show ! (Begun f) m $ check ! (refl, refl, (refl, refl, refl, refl)) $ move ! (2 ∷ 1 ∷ 0 ∷ []) $ done !)))))))))))))
 
   -- a family that no book has
   pub new_family : emp 𝓤 ⊢ H.⇛ (ex 𝓤 (λ (f : ℕ). ⟦ free_family f ⟧))

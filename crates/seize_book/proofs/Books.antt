@@ -7,13 +7,12 @@ use base.Fml.{Fml, ftrue, fres}
 use contract.Monad.{fact, conj_i}
 use types.Logic.{Logic, sem}
 use types.Growing.{at_least_dup}
-use types.Kit.{‵, raw, rewrite, drop, ◌⊛◌, some, given, ◌$◌, ◌∵◌, !, qed, by, move, keep, split, split3, fsplit, fjoin, pick, learn, show, check, done, use1, use2, use3, updating, await, now}
+use types.Kit.{‵, raw, rewrite, drop, ◌⊛◌, some, given, ◌$◌, ◌∵◌, !, qed, move, keep, split, split3, fsplit, fjoin, pick, learn, show, check, done, use1, use2, use3, updating, await, now}
 use denote.Steps.{nothing, heard}
-use mathlib.Core.List.{IsPrefix}
 use Rattle.seize_machine.specs.Machine.State.{State, has}
 use Rattle.seize_book.specs.Ledger.{HeldKey, logs, reached}
 use Rattle.seize_book.specs.Entry.{Entry, entry_coded}
-use Rattle.seize_book.specs.Book.{after, mine, rules, counts, blocks, fields}
+use Rattle.seize_book.specs.Book.{after, rules, counts, blocks, fields}
 use Rattle.seize_book.specs.Chains.{field_value, first_field, next_field}
 use Rattle.seize_book.specs.Deposits.{deposit}
 use Rattle.seize_book.specs.Homes.{count_in, home_of}

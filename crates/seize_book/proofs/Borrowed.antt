@@ -3,12 +3,12 @@
 --     opened, closed     a pass is one with its ticket in hand while its borrow is open
 --     opens_pass, closes_pass      a `&mut` to a pass is opened in a walk, and closed. The tokens of both borrows are one entry
 --     two_out, two_in    that entry out of the tokens of a walk, and back
-use Rattle.std.proofs.Common.{◌≡◌, ℕ, zero, suc, List, [], ◌∷◌, refl, sym, subst, ap}
+use Rattle.std.proofs.Common.{◌≡◌, ℕ, zero, suc, List, [], ◌∷◌, refl}
 use seplogic.Ra.Ura.{Ura}
 use base.Fraction.{full_share}
 use base.Logic.{SProp, ent, sep, emp}
 use base.Stored.{Gv}
-use base.Fml.{Lft, GName, Share, Fml, fsep, fex, fobs, fauth, flft, fbor, fobor}
+use base.Fml.{Lft, GName, Share, Fml, fsep, fobs, fauth, flft, fbor, fobor}
 use mir.Val.{Val, vstruct, vnil}
 use types.Logic.{Logic, sem}
 use types.Kit.{Goal, Soaks, Step, Seq, Item, step, ‵, ◌⊛◌, later, ◌$◌, ◌∵◌, !, qed, move, split, join, fsplit, fsplit3, fjoin, fjoin3, fpick, fpack, rewrite, use2, await, updating, now, done}
@@ -23,7 +23,7 @@ use denote.Steps.{opens, closes}
 use denote.Struct.Struct.{Struct}
 use Rattle.core.specs.contracts.marker.PhantomData as marker
 use Rattle.seize_book.specs.Entry.{Entry}
-use Rattle.seize_book.specs.Tokens.{Gate, Name, gate_gives, gate_lends, knows, lent_at, lent_pass, one_out, pass_at, pass_owns, stands}
+use Rattle.seize_book.specs.Tokens.{Gate, Name, gate_gives, gate_lends, lent_at, lent_pass, one_out, pass_at, pass_owns}
 use Rattle.seize_book.specs.contracts.book.pass.Pass as Pass
 use Rattle.seize_book.proofs.Fields.{token}
 

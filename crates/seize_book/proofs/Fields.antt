@@ -11,6 +11,7 @@ use mir.Val.{of_list}
 use Rattle.core.specs.contracts.marker.PhantomData as marker
 use Rattle.seize_book.specs.contracts.book.key_without_note.KeyWithoutNote as opened
 use Rattle.seize_book.specs.contracts.book.pass.Pass as pass
+use Rattle.seize_book.specs.contracts.book.permit.Permit as permit
 use Rattle.seize_book.specs.contracts.book.porter.Porter as porter
 use Rattle.seize_book.specs.contracts.book.future_book.FutureBook as unopened
 
@@ -34,6 +35,9 @@ opened_tells d vs is = is.0.1.0 ∙ (λ i. vstruct (of_list (is.0.1.1.0.1.0 i ++
 
 pub pass_tells : Tells (pass.the_row static_lft) (Is (pass.the_row static_lft)) no_bytes
 pass_tells d vs is = is.0.1.0 ∙ (λ i. vstruct (of_list (is.0.1.1.0.1.0 i ++ [])) ∷ [])
+
+pub permit_tells : Tells permit.the_row (Is permit.the_row) no_bytes
+permit_tells d vs is = is.0.1.0 ∙ (λ i. vstruct (of_list (is.0.1.1.0.1.0 i ++ [])) ∷ [])
 
 pub porter_tells : Tells porter.the_row (Is porter.the_row) no_bytes
 porter_tells d vs is = is.0.1.0 ∙ (λ i. vstruct (of_list (is.0.1.1.0.1.0 i ++ [])) ∷ [])

@@ -1,5 +1,5 @@
 -- The first of some keys, apart from the others; and keys of one value of whose block something is noted, or is as it was.
-use Rattle.std.proofs.Common.{◌≡◌, ℕ, true, List, [], ◌∷◌, ◌++◌, refl, sym, ap, subst}
+use Rattle.std.proofs.Common.{◌≡◌, true, List, [], ◌∷◌, ◌++◌, refl, sym, ap, subst}
 use base.Stored.{Gv}
 use Rattle.seize_book.specs.Book.{after, blocks}
 use Rattle.seize_book.specs.Entry.{Entry}

@@ -14,7 +14,7 @@ use types.Growing.{latest_agrees, latest_glue, latest_grows, latest_cut}
 use types.Owned.{own_sum}
 use types.Kit.{‵, raw, ◌⊛◌, given, ◌$◌, ◌∵◌, !, qed, by, move, drop, split, fsplit, fjoin, fpick, fpack, learn, check, suffices, settle, done, use1, use2, rewrite}
 use denote.Steps.{nothing}
-use Rattle.seize_book.specs.Ledger.{fact, logs}
+use Rattle.seize_book.specs.Ledger.{logs}
 use Rattle.seize_book.specs.Entry.{Entry, entry_coded}
 use Rattle.seize_book.specs.Tokens.{Gate, IsSole, all_but, gate_keeps, gate_gives, gate_leaves, one_out, gate_share}
 use Rattle.seize_book.proofs.Tickets.{all_once, comes_back, goes_out, none_back}

@@ -9,8 +9,7 @@ use Rattle.seize_book.specs.Kept.{AllTold, AreTold, AreToldIn, IsTold, Says, kep
 use Rattle.seize_book.specs.Ledger.{HeldKey, with_list}
 use Rattle.seize_book.specs.Private.{labels_of}
 use Rattle.seize_book.specs.Slots.{AddsDeed, slot_number}
-use Rattle.seize_book.specs.Tokens.{Name}
-use Rattle.seize_book.specs.Values.{FollowsValues, book_in, values_of}
+use Rattle.seize_book.specs.Values.{FollowsValues, values_of}
 use Rattle.seize_book.specs.declared.book.pass.Pass.{Pass}
 use Rattle.seize_book.specs.declared.book.slot_key.SlotKey.{SlotKey}
 use Rattle.seize_book.specs.declared.book.value_keys.ValueKeys.{ValueKeys}

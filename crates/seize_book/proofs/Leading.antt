@@ -9,7 +9,7 @@ use Rattle.seize_book.specs.Linked.{are_joined, are_linked, leads_first, next_in
 use Rattle.seize_book.specs.Notes.{HasNoted, note_in}
 use Rattle.seize_book.specs.Others.{value_of}
 use Rattle.seize_book.specs.Private.{is_one, label_of, labels_of, note_of}
-use Rattle.seize_book.specs.Values.{AreClosed, IsKeyOfOne, LeadsTo, Nexts, Pushes, book_in, values_of}
+use Rattle.seize_book.specs.Values.{AreClosed, IsKeyOfOne, LeadsTo, Nexts, Pushes, values_of}
 use Rattle.seize_book.specs.declared.book.value_key.ValueKey.{ValueKey}
 use Rattle.seize_book.specs.declared.book.value_keys.ValueKeys.{ValueKeys}
 use Rattle.seize_book.proofs.Firsts.{noted_one}

@@ -1,5 +1,5 @@
 -- A content goes with the key of a block, and comes back when its value is about to be handed, or where that was never named. Assumes `Logic`.
-use Rattle.std.proofs.Common.{◌≡◌, ℕ, zero, suc, ◌<◌, true, false, List, [], ◌∷◌, None, Some, ◌⊎◌, refl, sym, ap, subst, ◌∙◌, arith}
+use Rattle.std.proofs.Common.{◌≡◌, ℕ, zero, suc, ◌<◌, true, false, List, [], ◌∷◌, Some, refl, sym, ap, subst, ◌∙◌, arith}
 use seplogic.Ra.Ura.{Ura}
 use base.Fml.{Lft, Fml, ftrue, fdead, finv}
 use base.Logic.{SProp, ent, ex, guard, sep, upd_i}
@@ -21,11 +21,12 @@ use Rattle.seize_book.specs.Homes.{home_of}
 use Rattle.seize_book.specs.Laws.{IsAmong, ended_lives}
 use Rattle.seize_book.specs.Ledger.{HeldKey, HoldersKnow, Known, reached}
 use Rattle.seize_book.specs.Lending.{IsHandedBy}
-use Rattle.seize_book.specs.Loans.{Carries, CarriesNone, cell_of, IsReader, Loan, lent_as, loan, loan_if, loan_number, loan_of, place_of, reader, readers}
+use Rattle.seize_book.specs.Loans.{Carries, CarriesNone, cell_of, code_number, IsReader, Loan, lent_as, loan, loan_if, loan_number, loan_of, place_of, reader, readers}
 use Rattle.seize_book.specs.Others.{with_label}
 use Rattle.seize_book.specs.Private.{is_one, key_of, label_of, own_of}
 use Rattle.seize_book.specs.Slots.{hands_next}
-use Rattle.seize_book.specs.Tokens.{Name, beside, inside, keys_own, knows, over, pass_holds, pass_owns, rights_own, rows, start, way}
+use Rattle.seize_book.specs.Permits.{permit}
+use Rattle.seize_book.specs.Tokens.{Name, beside, inside, keys_own, knows, leads, over, pass_holds, pass_owns, rights_own, rows, start, way}
 use Rattle.seize_book.proofs.Append.{looks, looks_beside}
 use Rattle.seize_book.proofs.Hands.{hands_soon}
 use Rattle.seize_book.proofs.Lives.{over_one}
@@ -33,7 +34,7 @@ use Rattle.seize_book.proofs.Loans.{reader_later, unnamed_unread}
 use Rattle.seize_book.proofs.Notes.{distinct_links, knows_twice, opens}
 use Rattle.seize_book.proofs.Passes.{IsDistinct}
 use Rattle.seize_book.proofs.Private.{one_kept, one_within, only_is}
-use Rattle.seize_book.proofs.Renames.{same_lead}
+use Rattle.seize_book.proofs.Renames.{leads_freed, leads_lent}
 use Rattle.seize_book.proofs.Ways.{bare_way, block_ways, keys_apart, keys_whole, way_closes, way_opens, ways}
 
 module _ {M : Type 1} {𝓤 : Ura M} (𝓛 : Logic 𝓤) (n : Name) where
@@ -70,16 +71,15 @@ module _ {M : Type 1} {𝓤 : Ura M} (𝓛 : Logic 𝓤) (n : Name) where
       nothing ! $ move ! (2 ∷ 0 ∷ []) $ fjoin ! $ move ! (1 ∷ 0 ∷ []) $ fjoin ! $ nothing ! $ fpack ! (Carries v c g) (λ _. ftrue) carries $ move ! (0 ∷ 1 ∷ []) $ fjoin ! $ fpack ! Loan (lent_as st n.log v) l $ done !
 
   pub lends_key : (held : List (HeldKey Entry)) (v a : ℕ) (c : ℕ) (g : Gv) → is_one blocks held ≡ true → home_of (label_of held) ≡ home_of v → block_number (label_of held) ≡ block_number v → place_of (label_of held) ≡ place_of v → Carries v c g → cell_of (label_of held) ≡ cell_of v
-      → ⟦ keys_own n held ⟧ ∗ ⟦ ticket_owns c (lent a g) ⟧ ∗ ⟦ pool_owns c a g ⟧ ⊢ ⟦ keys_own n (with_label v held) ⟧
+      → ⟦ keys_own n held ⟧ ∗ ⟦ ticket_owns c (lent a g) ⟧ ∗ ⟦ pool_owns c a g ⟧ ∗ ⟦ permit n.permits (loan_number g) ⟧ ⊢ ⟦ keys_own n (with_label v held) ⟧
   lends_key [] v a c g one home block place carries cell = absurd (cc)
   lends_key (x ∷ y ∷ held) v a c g one home block place carries cell = absurd (cc)
   lends_key (h ∷ []) v a c g one home block place carries cell = let h' : HeldKey Entry = record { kind = h.kind; key = h.key; own = h.own; label = v; note = h.note } in
-      qed 𝓛 (‵ (keys_own n (h ∷ [])) ∷ ‵ (ticket_owns c (lent a g)) ∷ ‵ (pool_owns c a g) ∷ []) ∵ move ! (1 ∷ 2 ∷ []) $ use2 𝓛 (‵ (loan st n.log v)) (lent_new (loan_of v) v a c g carries.1 carries) $
-      -- [the loan; the key]
-      move ! (1 ∷ []) $ fsplit ! $ fsplit ! $ move ! (1 ∷ []) $ use1 𝓛 (‵ (block_ways 𝓛 n h.label h.note)) (way_opens 𝓛 n h one) $ fsplit ! $ fsplit ! $ rewrite ! 0 (λ (F : Fml). ‵ F) (same_lead 𝓛 n h.label v home block place cell) refl $
-      rewrite ! 2 (λ (c : ℕ). ‵ (cell_token c h.note)) cell refl $
-      -- [where it leads; what was lent; the note; the right; nothing; the loan]
-      move ! (0 ∷ 5 ∷ []) $ fjoin ! $ move ! (0 ∷ 2 ∷ []) $ fjoin ! $ use1 𝓛 (‵ (way n h')) (way_closes 𝓛 n h' one) $ move ! (2 ∷ 0 ∷ []) $ fjoin ! $ move ! (0 ∷ 2 ∷ []) $ fjoin ! $ keep ! (0 ∷ []) $ done !
+      qed 𝓛 (‵ (keys_own n (h ∷ [])) ∷ ‵ (ticket_owns c (lent a g)) ∷ ‵ (pool_owns c a g) ∷ ‵ (permit n.permits (loan_number g)) ∷ []) ∵ move ! (1 ∷ 2 ∷ []) $ use2 𝓛 (‵ (loan st n.log v)) (lent_new (loan_of v) v a c g carries.1 carries) $
+      -- [the loan; the key; the permit]
+      move ! (1 ∷ []) $ fsplit ! $ fsplit ! $ move ! (1 ∷ []) $ use1 𝓛 (‵ (block_ways 𝓛 n h.label h.note)) (way_opens 𝓛 n h one) $ fsplit ! $ fsplit ! $ rewrite ! 2 (λ (c : ℕ). ‵ (cell_token c h.note)) cell refl $
+      -- [where it leads; what was lent; the note; the right; nothing; the loan; the permit]
+      move ! (0 ∷ 6 ∷ []) $ use2 𝓛 (‵ (leads n v)) (leads_lent 𝓛 n h.label v (code_number g) home block place carries.1 cell) $ move ! (0 ∷ 5 ∷ []) $ fjoin ! $ move ! (0 ∷ 2 ∷ []) $ fjoin ! $ use1 𝓛 (‵ (way n h')) (way_closes 𝓛 n h' one) $ move ! (2 ∷ 0 ∷ []) $ fjoin ! $ move ! (0 ∷ 2 ∷ []) $ fjoin ! $ keep ! (0 ∷ []) $ done !
 
   -- ---- and comes back, when the call of a slot, whose key is at hand, is about to hand its value
 
@@ -156,7 +156,7 @@ module _ {M : Type 1} {𝓤 : Ura M} (𝓛 : Logic 𝓤) (n : Name) where
       use3 𝓛 (later (some (λ (t : ℕ × (ℕ × Gv)). given (Carries v t.0 t.1.1) (‵ (knows n) ⊛ ‵ (rights_own n (k ∷ [])) ⊛ ‵ (ticket_owns t.0 (lent t.1.0 t.1.1)) ⊛ ‵ (pool_owns t.0 t.1.0 t.1.1))))) (loan_back (rights_own n (k ∷ [])) v (readers_dead k v by_.1 by_.3) (loan_of v) by_.2) $ await ! tt $ pick ! (λ t. learn ! (λ carries. split ! $ move ! (1 ∷ []) $ split3 ! $
       -- [the slot's right; the ticket; the pool; the book; its way; where it leads; the right; the pass; the note]
       move ! (0 ∷ 4 ∷ []) $ use2 𝓛 (‵ (keys_own n (k ∷ []))) (keys_whole 𝓛 n (k ∷ [])) $
-      move ! (4 ∷ 7 ∷ []) $ rewrite ! 0 (λ (F : Fml). ‵ F) (same_lead 𝓛 n h.label w home block place cell) refl $ use2 𝓛 (‵ (way n h')) (bare_way 𝓛 n h' none by_.0) $
+      move ! (4 ∷ 7 ∷ []) $ use1 𝓛 (‵ (leads n w)) (leads_freed 𝓛 n h.label w home block place none cell) $ use2 𝓛 (‵ (way n h')) (bare_way 𝓛 n h' none by_.0) $
       -- [its way; the slot's key; the ticket; the pool; the book; the right; the pass]
       move ! (5 ∷ 0 ∷ []) $ fjoin ! $ move ! (0 ∷ 1 ∷ []) $ fjoin ! $ move ! (3 ∷ 4 ∷ []) $ fjoin ! $ now ! $ show ! (Redeemed p seen v (with_label w (h ∷ k ∷ []))) t $ check ! carries $ move ! (0 ∷ 1 ∷ 2 ∷ 3 ∷ []) $ done !))
 
@@ -209,7 +209,7 @@ module _ {M : Type 1} {𝓤 : Ura M} (𝓛 : Logic 𝓤) (n : Name) where
       -- [the book; the right; the loan; where it leads; the note; nothing; the pass]
       use3 𝓛 (later (some (λ (t : ℕ × (ℕ × Gv)). given (Carries v t.0 t.1.1) (‵ (knows n) ⊛ ‵ (rights_own n (h ∷ [])) ⊛ ‵ (ticket_owns t.0 (lent t.1.0 t.1.1)) ⊛ ‵ (pool_owns t.0 t.1.0 t.1.1))))) (loan_back (rights_own n (h ∷ [])) v (of_unnamed h v one its unnamed) (loan_of v) lent_) $ await ! tt $ pick ! (λ t. learn ! (λ carries. split ! $ move ! (1 ∷ []) $ split3 ! $
       -- [the right; the ticket; the pool; the book; where it leads; the note; nothing; the pass]
-      move ! (4 ∷ 5 ∷ []) $ rewrite ! 0 (λ (F : Fml). ‵ F) (same_lead 𝓛 n h.label w home block place cell) refl $ use2 𝓛 (‵ (way n h')) (bare_way 𝓛 n h' none one) $
+      move ! (4 ∷ 5 ∷ []) $ use1 𝓛 (‵ (leads n w)) (leads_freed 𝓛 n h.label w home block place none cell) $ use2 𝓛 (‵ (way n h')) (bare_way 𝓛 n h' none one) $
       -- [its way; the right; the ticket; the pool; the book; nothing; the pass]
       move ! (0 ∷ 5 ∷ []) $ fjoin ! $ move ! (1 ∷ 0 ∷ []) $ use2 𝓛 (‵ (keys_own n (with_label w (h ∷ [])))) (keys_whole 𝓛 n (h' ∷ [])) $
       -- [the key; the ticket; the pool; the book; the pass]

@@ -14,6 +14,7 @@ pub mod Standing
 pub mod Tickets
 pub mod Gates
 pub mod Tables
+pub mod Permits
 pub mod Ways
 pub mod Passes
 pub mod Peeks

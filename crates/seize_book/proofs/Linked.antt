@@ -1,5 +1,5 @@
 -- Keys that lead on from block to block.
-use Rattle.std.proofs.Common.{◌≡◌, ℕ, Bool, true, ◌&&◌, List, [], ◌∷◌, ◌++◌, refl, ◌∙◌, ap}
+use Rattle.std.proofs.Common.{◌≡◌, Bool, true, ◌&&◌, List, [], ◌∷◌, ◌++◌, refl, ◌∙◌, ap}
 use base.Stored.{Gv}
 use Rattle.seize_machine.proofs.Facts.{and_true}
 use Rattle.seize_book.specs.Entry.{Entry}

@@ -1,5 +1,5 @@
 -- The book, with one entry more.
-use Rattle.std.proofs.Common.{◌≢◌, arith, ◌≡◌, ℕ, Bool, true, false, cond, ◌==◌, List, [], ◌∷◌, ◌++◌, filter, map, Option, Some, None, is_some, refl, sym, ◌∙◌, ap, subst, append_assoc, append-nil}
+use Rattle.std.proofs.Common.{◌≢◌, arith, ◌≡◌, ℕ, Bool, true, false, cond, ◌==◌, List, [], ◌∷◌, ◌++◌, filter, map, refl, sym, ◌∙◌, ap, subst, append_assoc, append-nil}
 use mathlib.Core.List.{IsPrefix, append_cancel_left, cons≢nil}
 use Rattle.std.proofs.lemmas.List.{map-append}
 use Rattle.std.proofs.lemmas.List.Elements.{filter-append}

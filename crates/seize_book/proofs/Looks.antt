@@ -1,5 +1,5 @@
 -- The holder of a pass, and of keys, looks at the list with no event. Assumes `Logic`.
-use Rattle.std.proofs.Common.{◌≡◌, ℕ, List, [], ◌∷◌, length, refl, sym, ◌∙◌, append-nil, Option, Some, true, inl, arith}
+use Rattle.std.proofs.Common.{◌≡◌, ℕ, List, [], ◌∷◌, length, map, refl, sym, ◌∙◌, append-nil, true, inl, arith}
 use mathlib.Core.List.{IsPrefix}
 use seplogic.Ra.Ura.{Ura}
 use base.Logic.{SProp, ent, sep, ex, guard, upd, upd_i}
@@ -12,16 +12,15 @@ use Rattle.seize_machine.specs.Machine.State.{State, has, linked_values, are_dis
 use Rattle.seize_book.specs.Ledger.{HeldKey, WithKinds, Known, logs, reached, with_list}
 use Rattle.seize_book.specs.Entry.{Entry, entry_coded}
 use denote.RawPtr.{Ptr}
-use Rattle.seize_store.specs.RowTokens.{IsRowIn, known_row, tells as chunk_tells}
-use Rattle.seize_book.specs.Blocks.{block_number}
+use Rattle.seize_store.specs.RowTokens.{IsRowIn, known_row}
 use Rattle.seize_book.proofs.Sound.{named_later}
 use Rattle.seize_book.specs.Book.{after, IsLegalList, mine, rules, kinds}
 use Rattle.seize_book.specs.Fair.{Before, pass_key}
 use Rattle.seize_book.specs.Laws.{ended_lives, IsAmong}
 use Rattle.seize_book.specs.Passes.{LooksOn}
-use Rattle.seize_table.specs.Filled.{all_filled}
-use Rattle.seize_book.specs.Loans.{AllCarryOne}
-use Rattle.seize_book.specs.Tokens.{leads, chunk_tag, Name, rows, start, beside, inside, knows, all_lead, all_lie, slot_labels, places_known, keys_own, rights_own, over, IsSole, gate_keeps, gate_gives, pass_at, pass_holds, pass_owns}
+use Rattle.seize_book.specs.Loans.{AllCarryOne, loan_of}
+use Rattle.seize_book.specs.Permits.{all_permitted}
+use Rattle.seize_book.specs.Tokens.{leads, Name, rows, start, beside, inside, knows, all_lead, all_lie, places_known, keys_own, rights_own, over, IsSole, gate_keeps, gate_gives, pass_at, pass_holds, pass_owns}
 use Rattle.seize_book.proofs.Append.{Renewed, looks_beside, renews}
 use Rattle.seize_book.proofs.Gates.{agrees, gives_as}
 use Rattle.seize_book.proofs.Goes.{kept_now}
@@ -29,7 +28,7 @@ use Rattle.seize_book.proofs.Notes.{distinct_links, knows_twice, opens}
 use Rattle.seize_book.proofs.Passes.{IsDistinct}
 use Rattle.seize_book.proofs.Lives.{ended_grows, living, none_over, over_one}
 use Rattle.seize_book.proofs.Tables.{all_lie_twice}
-use Rattle.seize_book.proofs.Ways.{AreIn, found_lent, all_in, all_twice, one_leads, keys_apart, keys_whole, ways, ways_renewed}
+use Rattle.seize_book.proofs.Ways.{AreIn, found_lent, all_in, all_permit, all_twice, one_leads, keys_apart, keys_whole, ways, ways_renewed}
 
 -- the pass has seen more, and nothing was made with it
 pub looked : {size : ℕ} (n : Name) (p : ℕ) (seen log : List Entry) → Before n p seen [] log → are_distinct (linked_values n.links) ≡ true → LooksOn (record { marker = record {}; name = n; id = p; size = size; seen = seen }) (record { marker = record {}; name = n; id = p; size = size; seen = log })
@@ -231,6 +230,24 @@ module _ {M : Type 1} {𝓤 : Ura M} (𝓛 : Logic 𝓤) (n : Name) (p : ℕ) wh
       leads_there log grows legal = let vs : List ℕ = (after st log).named in qed 𝓛 (‵ (all_lead n vs) ∷ ‵ ftrue ∷ []) ∵ keep ! (0 ∷ []) $
           use1 𝓛 (‵ (all_lead n vs) ⊛ ‵ (all_lead n vs)) (all_twice 𝓛 n vs) $ split ! $
           use1 𝓛 (‵ (leads n v)) (one_leads 𝓛 n vs v (named_later st seen log v grows legal named)) $
+          check ! tt $ move ! (1 ∷ 0 ∷ []) $ done !
+
+  -- that what is lent with each value that was named may be lent
+  abbrev pub FoundPermits : List Entry → List Entry → Pr
+  FoundPermits seen log = guard 𝓤 (Before n p seen [] log × IsDistinct 𝓛 n) (⟦ pass_owns n p log ⟧ ∗ ⟦ all_permitted n.permits (map loan_of (after st log).named) ⟧)
+
+  pub finds_permits : (seen : List Entry) → ⟦ pass_owns n p seen ⟧ ⊢ H.⇛ (ex 𝓤 (FoundPermits seen))
+  finds_permits seen = let Told : List Entry → Fml = λ log. all_permitted n.permits (map loan_of (after st log).named) in qed 𝓛 ((‵ (knows n) ⊛ ‵ (pass_holds n p seen)) ∷ []) ∵ updating ! $ split ! $
+      use1 𝓛 (given (IsDistinct 𝓛 n) (‵ (knows n))) (distinct_links 𝓛 n) $ learn ! (λ distinct. fjoin ! $ nothing ! $ nothing ! $ move ! (2 ∷ 0 ∷ 1 ∷ []) $
+      use3 𝓛 (later (some (λ (log : List Entry). given (Before n p seen [] log × Unit {0}) (‵ (pass_owns n p log) ⊛ ‵ ftrue ⊛ ‵ (Told log)))))
+      (looks_with seen [] (λ _. Unit {0}) ⟦ ftrue ⟧ (λ log. ⟦ Told log ⟧) (of_values seen [] (λ _. Unit {0}) ⟦ ftrue ⟧ (λ log. ⟦ Told log ⟧) permitted_there) tt) $
+      await ! tt $ pick ! (λ log. learn ! (λ so. split3 ! $ now ! $ show ! (FoundPermits seen) log $ check ! (so.0, distinct) $ keep ! (0 ∷ 2 ∷ []) $ done !)))
+    where
+      permitted_there : (log : List Entry) → IsPrefix seen log → IsLegalList st log
+          → ⟦ all_lead n (after st log).named ⟧ ∗ ⟦ ftrue ⟧ ⊢ guard 𝓤 (Unit {0}) (⟦ all_lead n (after st log).named ⟧ ∗ ⟦ all_permitted n.permits (map loan_of (after st log).named) ⟧)
+      permitted_there log grows legal = let vs : List ℕ = (after st log).named in qed 𝓛 (‵ (all_lead n vs) ∷ ‵ ftrue ∷ []) ∵ keep ! (0 ∷ []) $
+          use1 𝓛 (‵ (all_lead n vs) ⊛ ‵ (all_lead n vs)) (all_twice 𝓛 n vs) $ split ! $
+          use1 𝓛 (‵ (all_permitted n.permits (map loan_of vs))) (all_permit 𝓛 n vs) $
           check ! tt $ move ! (1 ∷ 0 ∷ []) $ done !
 
   -- where the heads lie of all slots that there are

@@ -1,5 +1,5 @@
 -- Events that no step of the code makes: the invariant is opened and closed beside the code. Assumes `Logic`.
-use Rattle.std.proofs.Common.{◌≡◌, ℕ, List, [], ◌∷◌, ◌++◌, refl, sym, append-nil, arith}
+use Rattle.std.proofs.Common.{◌≡◌, ℕ, List, [], ◌∷◌, ◌++◌}
 use mathlib.Core.List.{IsPrefix}
 use seplogic.Ra.Ura.{Ura}
 use base.Logic.{SProp, ent, sep, ex, guard, upd, upd_i}
@@ -11,8 +11,8 @@ use denote.Steps.{nothing}
 use Rattle.seize_machine.specs.Machine.State.{State, linked_values, are_distinct}
 use Rattle.seize_book.specs.Ledger.{fact, HeldKey, reached, WithKinds, keys_made}
 use Rattle.seize_book.specs.Entry.{Entry, entry_coded}
-use Rattle.seize_book.specs.Book.{mine, rules, passes, kinds}
-use Rattle.seize_book.specs.Tokens.{Name, rows, start, beside, inside, has_family, knows, Gate, gate_gives, rights_own, pass_at, pass_holds, pass_owns}
+use Rattle.seize_book.specs.Book.{rules, kinds}
+use Rattle.seize_book.specs.Tokens.{Name, rows, start, beside, inside, has_family, knows, rights_own, pass_holds, pass_owns}
 use Rattle.seize_book.proofs.Append.{MayMint, mint, Minted}
 use Rattle.seize_book.proofs.Goes.{kept_now}
 use Rattle.seize_book.proofs.Passes.{IsDistinct, keys, by_pass, MayMake, Tells, Trades, keys_after, Made}

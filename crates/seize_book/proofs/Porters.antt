@@ -1,6 +1,6 @@
 -- A porter that has all tickets comes home: nobody may add then, until it goes off, or gives the first pass in its place, which is alone.
 -- A new key is given a ticket of a porter that is off. Assumes `Logic`.
-use Rattle.std.proofs.Common.{◌≡◌, ℕ, zero, suc, Bool, true, false, List, [], ◌∷◌, refl, sym, ◌∙◌, arith}
+use Rattle.std.proofs.Common.{◌≡◌, ℕ, suc, Bool, true, false, List, [], ◌∷◌, refl, sym, ◌∙◌, arith}
 use seplogic.Ra.Ura.{Ura}
 use base.Growing.{prefix_trans}
 use base.Logic.{SProp, ent, sep, ex, guard, upd_i}

@@ -1,12 +1,12 @@
 -- The key of a block is for another of its values then. Assumes `Logic`.
-use Rattle.std.proofs.Common.{◌≡◌, ℕ, suc, ◌+◌, ◌^◌, ◌<◌, ◌≤◌, Bool, true, false, ◌==◌, List, [], ◌∷◌, ◌++◌, take, Option, None, Some, ◌⊎◌, inl, inr, refl, sym, ◌∙◌, ap, subst, arith}
+use Rattle.std.proofs.Common.{◌≡◌, ℕ, suc, ◌+◌, ◌^◌, ◌<◌, ◌≤◌, Bool, true, false, ◌==◌, List, [], ◌∷◌, ◌++◌, take, Some, refl, sym, ◌∙◌, ap, subst, arith}
 use Rattle.std.specs.Prelude.{drop as past_first}
 use Rattle.std.proofs.lemmas.Bool.{or_from}
 use seplogic.Ra.Ura.{Ura}
-use base.Logic.{ent}
+use base.Logic.{ent, sep}
 use base.Fml.{Fml}
 use types.Logic.{Logic, sem}
-use types.Kit.{‵, ◌$◌, ◌∵◌, !, qed, move, drop, fsplit, fjoin, rewrite, use1, use2, done}
+use types.Kit.{‵, ◌$◌, ◌∵◌, !, qed, by, keep, move, drop, fsplit, fjoin, rewrite, use1, use2, done}
 use native.Mathlib.Decide.{ℕ_discrete}
 use base.Stored.{Gv}
 use Rattle.seize_content.specs.Cells.{cell_token}
@@ -29,7 +29,8 @@ use Rattle.seize_book.specs.Books.{IsNextIn, MaySettle}
 use Rattle.seize_book.specs.Others.{FollowsValue, IsLast, IsLastIn, Renames, state_of, value_of, with_label}
 use Rattle.seize_book.specs.Private.{is_one, key_of, label_of, own_of}
 use Rattle.seize_book.specs.Slots.{hands_next, own_list, slot_number, slot_of}
-use Rattle.seize_book.specs.Tokens.{Name, chunk_label, leads, chunk_tag, rights_own, keys_own, start, way}
+use Rattle.seize_book.specs.Permits.{permit, permit_if}
+use Rattle.seize_book.specs.Tokens.{Name, chunk_label, leads, lies_in, keys_own, start, way}
 use Rattle.seize_book.specs.declared.book.keys.Keys.{Keys}
 use Rattle.seize_book.specs.declared.book.pass.Pass.{Pass}
 use Rattle.seize_book.specs.declared.book.slot_key.SlotKey.{SlotKey}
@@ -38,7 +39,7 @@ use Rattle.seize_book.proofs.Homes.{another_with}
 use Rattle.seize_book.proofs.Lists.{unequal}
 use Rattle.seize_book.proofs.Private.{after_one, only_is, renewed_label}
 use Rattle.seize_book.proofs.Sound.{gone_later}
-use Rattle.seize_book.proofs.Ways.{bare_way, block_ways, way_opens}
+use Rattle.seize_book.proofs.Ways.{bare_way, block_ways, leads_free, way_opens}
 
 -- past all that are in a list
 past : (xs : List ℕ) → (bound : ℕ) × ((v : ℕ) → bound ≤ v → has v xs ≡ false)
@@ -122,8 +123,18 @@ label_one [] v one = absurd (cc)
 label_one (h ∷ held) v one = refl
 
 module _ {M : Type 1} {𝓤 : Ura M} (𝓛 : Logic 𝓤) (n : Name) where
-  pub same_lead : (v w : ℕ) → home_of v ≡ home_of w → block_number v ≡ block_number w → place_of v ≡ place_of w → cell_of v ≡ cell_of w → leads n v ≡ leads n w
-  same_lead v w home block place cell = ap (λ (t : (ℕ × ℕ) × (ℕ × ℕ)). tells n.store t.0.0 (chunk_label n t.1.0 t.0.1, t.1.1)) (λ j. ((block j, cell j), (home j, place j)))
+  pub same_place : (v w : ℕ) → home_of v ≡ home_of w → block_number v ≡ block_number w → place_of v ≡ place_of w → cell_of v ≡ cell_of w → lies_in n v ≡ lies_in n w
+  same_place v w home block place cell = ap (λ (t : (ℕ × ℕ) × (ℕ × ℕ)). tells n.store t.0.0 (chunk_label n t.1.0 t.0.1, t.1.1)) (λ j. ((block j, cell j), (home j, place j)))
+
+  -- a value of the same block, with which nothing is lent
+  pub leads_freed : (v w : ℕ) → home_of v ≡ home_of w → block_number v ≡ block_number w → place_of v ≡ place_of w → CarriesNone w → cell_of v ≡ cell_of w → ent 𝓤 (sem 𝓛 (leads n v)) (sem 𝓛 (leads n w))
+  leads_freed v w home block place none cell = qed 𝓛 (‵ (leads n v) ∷ []) ∵ fsplit ! $ keep ! (0 ∷ []) $ rewrite ! 0 (λ (F : Fml). ‵ F) (same_place v w home block place cell) refl $ by ! (leads_free 𝓛 n w none)
+
+  -- and one with which something is lent whose code may be
+  pub leads_lent : (v w l : ℕ) → home_of v ≡ home_of w → block_number v ≡ block_number w → place_of v ≡ place_of w → loan_of w ≡ suc l → cell_of v ≡ cell_of w
+      → ent 𝓤 (sep 𝓤 (sem 𝓛 (leads n v)) (sem 𝓛 (permit n.permits (suc l)))) (sem 𝓛 (leads n w))
+  leads_lent v w l home block place lent cell = qed 𝓛 (‵ (leads n v) ∷ ‵ (permit_if n.permits (suc l)) ∷ []) ∵ fsplit ! $ keep ! (0 ∷ 2 ∷ []) $ rewrite ! 0 (λ (F : Fml). ‵ F) (same_place v w home block place cell) refl $
+      rewrite ! 1 (λ (k : ℕ). ‵ (permit_if n.permits k)) (sym lent) refl $ fjoin ! $ done !
 
   -- a label is no part of the right, and its number leads to the same home
   pub relabels : (held : List (HeldKey Entry)) (v : ℕ) → is_one blocks held ≡ true → home_of (label_of held) ≡ home_of v → block_number (label_of held) ≡ block_number v → place_of (label_of held) ≡ place_of v → CarriesNone v → cell_of (label_of held) ≡ cell_of v
@@ -133,7 +144,7 @@ module _ {M : Type 1} {𝓤 : Ura M} (𝓛 : Logic 𝓤) (n : Name) where
   relabels (h ∷ []) v one home block place none cell = let h' : HeldKey Entry = record { kind = h.kind; key = h.key; own = h.own; label = v; note = h.note } in let L : Fml = leads n h.label in
       qed 𝓛 (‵ (keys_own n (h ∷ [])) ∷ []) ∵ fsplit ! $ fsplit ! $ move ! (1 ∷ []) $ use1 𝓛 (‵ (block_ways 𝓛 n h.label h.note)) (way_opens 𝓛 n h one) $ fsplit ! $ fsplit ! $ move ! (1 ∷ []) $ drop ! $
       -- [where it leads; the note; the right; nothing], for what was lent is let go
-      rewrite ! 0 (λ (F : Fml). ‵ F) (same_lead h.label v home block place cell) refl $ rewrite ! 1 (λ (c : ℕ). ‵ (cell_token c h.note)) cell refl $ use2 𝓛 (‵ (way n h')) (bare_way 𝓛 n h' none one) $ move ! (1 ∷ 0 ∷ []) $ fjoin ! $ fjoin ! $ done !
+      use1 𝓛 (‵ (leads n v)) (leads_freed h.label v home block place none cell) $ rewrite ! 1 (λ (c : ℕ). ‵ (cell_token c h.note)) cell refl $ use2 𝓛 (‵ (way n h')) (bare_way 𝓛 n h' none one) $ move ! (1 ∷ 0 ∷ []) $ fjoin ! $ fjoin ! $ done !
 
 -- the first of several keys, which is a block's: it is renamed by itself
 pub first_labelled : (held more : List (HeldKey Entry)) (v : ℕ) → is_one blocks held ≡ true

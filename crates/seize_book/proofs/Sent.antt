@@ -17,6 +17,7 @@ use Rattle.seize_machine.specs.Machine.State.{State}
 use Rattle.seize_book.specs.Laws.{ended_lives}
 use Rattle.seize_book.specs.Loans.{cell_of, loan_if, loan_of, readers}
 use Rattle.seize_book.specs.Peeks.{keys_show, show_if, sight_if}
+use Rattle.seize_book.specs.Permits.{all_permitted, knows_permits, permit_if}
 use Rattle.seize_book.specs.Shared.{period, porter_has, porter_shares, row_has, rows_have, side}
 use Rattle.seize_book.specs.Tokens.{Gate, Name, all_but, all_lead, gate_gives, gate_leaves, gate_lends, gate_share, inside, is_placed, keys_own, knows, lent_pass, lies_if, note_if, notes_own, over, porter_owns, rights_own, rows, slot_labels, start, tickets, way_if}
 use Rattle.seize_book.specs.Begin.{book_owns}
@@ -55,9 +56,22 @@ unfolding latest
 leaves_keyless g true out seen = (tt, λ _. tt)
 leaves_keyless g false out seen = all_but_keyless g.tickets out
 
+permit_keyless : (γ l : ℕ) → Keyless (permit_if γ l)
+unfolding at_least
+permit_keyless γ zero = tt
+permit_keyless γ (suc l) = λ ks. (tt, λ _. tt)
+
+pub permitted_keyless : (γ : ℕ) (ls : List ℕ) → Keyless (all_permitted γ ls)
+permitted_keyless γ [] = tt
+permitted_keyless γ (l ∷ ls) = (permit_keyless γ l, permitted_keyless γ ls)
+
+pub list_keyless : (holds : Gv → Type 0) (γ : ℕ) → Keyless (knows_permits holds γ)
+unfolding latest
+list_keyless holds γ = λ j ks. (tt, λ _. tt)
+
 leads_keyless : (n : Name) (vs : List ℕ) → Keyless (all_lead n vs)
 leads_keyless n [] = tt
-leads_keyless n (v ∷ vs) = ((λ way. tt), leads_keyless n vs)
+leads_keyless n (v ∷ vs) = (((λ way. tt), permit_keyless n.permits (loan_of v)), leads_keyless n vs)
 
 readers_keyless : (st : State) (η v : ℕ) (ds : List (Lft × ℕ)) → Keyless (readers st η v ds)
 unfolding at_least
@@ -69,7 +83,7 @@ loan_keyless zero st η v = tt
 loan_keyless (suc k) st η v = λ l. ((λ _. tt), (ticket_sent l.content (lent l.life l.code), (lent_sent l.content l.life l.code l.readers, readers_keyless st η v l.readers)))
 
 way_keyless : (b : Bool) (n : Name) (v : ℕ) → Keyless (way_if b n v)
-way_keyless true n v = ((λ way. tt), loan_keyless (loan_of v) (start n) n.log v)
+way_keyless true n v = (((λ way. tt), permit_keyless n.permits (loan_of v)), loan_keyless (loan_of v) (start n) n.log v)
 way_keyless false n v = tt
 
 filled_keyless : (table : List ℕ) (from : ℕ) (labels : List ℕ) → Keyless (all_from table from labels)
@@ -155,7 +169,7 @@ sight_keyless zero κ v = tt
 sight_keyless (suc k) κ v = λ t. ((λ _. tt), sight_sent κ t.0 t.1.0 t.1.1)
 
 show_keyless : (b : Bool) (n : Name) (v : ℕ) (κ : Lft) → Keyless (show_if b n v κ)
-show_keyless true n v κ = ((λ way. tt), sight_keyless (loan_of v) κ v)
+show_keyless true n v κ = (((λ way. tt), permit_keyless n.permits (loan_of v)), sight_keyless (loan_of v) κ v)
 show_keyless false n v κ = tt
 
 pub keys_shown : (n : Name) (held : List (HeldKey Entry)) (κ : Lft) → Keyless (keys_show n held κ)

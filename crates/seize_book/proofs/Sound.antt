@@ -13,7 +13,6 @@ use Rattle.seize_book.specs.Entry.{Entry, Made, Used, timed_deed}
 use Rattle.seize_book.specs.Book.{IsLegalList, Does, HolderKnows, TheBlock, after}
 use Rattle.seize_book.specs.Ledger.{HeldKey}
 use Rattle.seize_book.specs.Fair.{NamesLabels}
-use Rattle.seize_book.specs.Tokens.{Name}
 use Rattle.seize_book.specs.Homes.{HasOne, IsSound, IsVacant, changes_home, home_of}
 use Rattle.seize_book.proofs.Homes.{home_value}
 use Rattle.seize_book.proofs.Lists.{after_push}

@@ -5,7 +5,7 @@ use base.Logic.{SProp, ent, sep, emp}
 use base.Fml.{Fml}
 use seplogic.Ra.Ura.{Ura}
 use types.Logic.{Logic, sem}
-use types.Kit.{‵, ◌$◌, ◌∵◌, !, qed, done}
+use types.Kit.{◌$◌, ◌∵◌, !, qed, done}
 use denote.Steps.{nothing}
 use Rattle.seize_table.proofs.AllEntries.{all_twice, first_more}
 use Rattle.seize_table.proofs.Entries.{filled_twice}

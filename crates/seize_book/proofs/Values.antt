@@ -1,5 +1,5 @@
 -- Keys of several values.
-use Rattle.std.proofs.Common.{◌≡◌, ℕ, Bool, true, ◌&&◌, ◌==◌, List, [], ◌∷◌, ◌++◌, Option, refl, ◌∙◌, ap, arith}
+use Rattle.std.proofs.Common.{◌≡◌, ℕ, Bool, true, ◌&&◌, ◌==◌, List, [], ◌∷◌, ◌++◌, refl, ◌∙◌, ap, arith}
 use mathlib.Core.List.{cons≢nil}
 use Rattle.seize_machine.proofs.Facts.{and_true, eq_true}
 use Rattle.seize_book.specs.Book.{blocks, kinds}

@@ -2,7 +2,7 @@
 -- of all slots. Assumes `Logic`.
 use Rattle.std.proofs.Common.{◌≡◌, ℕ, zero, suc, Bool, true, false, ◌||◌, ◌&&◌, ◌==◌, List, [], ◌∷◌, ◌++◌, length, take, ◌⊎◌, inl, inr, ⊎_elim, refl, sym, ◌∙◌, ap, subst, nat_lt, ◌+◌, ◌^◌, ◌<◌, arith}
 use base.Stored.{Gv, gnil}
-use Rattle.std.specs.Prelude.{drop as past}
+use Rattle.std.specs.Prelude.{drop as past, map}
 use seplogic.Ra.Ura.{Ura}
 use base.Logic.{SProp, ent, sep, guard}
 use base.Fml.{Fml, ftrue, fsep}
@@ -31,9 +31,11 @@ use Rattle.seize_book.specs.Others.{with_label}
 use Rattle.seize_book.specs.Notes.{with_note}
 use Rattle.seize_book.specs.Private.{is_one, key_of, label_of, note_of}
 use Rattle.seize_book.specs.Loans.{CarriesNone, cell_of, loan, loan_if, loan_of, place_of, AllCarryOne, CarriesOne}
-use Rattle.seize_book.specs.Tokens.{Name, start, leads, label_at, chunk_label, chunk_tag, all_lead, lies, lies_if, all_lie, places_known, is_placed, rights_own, keys_own, one_key, key, way, way_if, key_without_note_owns, key_note, note_if, note_at, notes_own}
+use Rattle.seize_book.specs.Permits.{all_permitted, permit_if}
+use Rattle.seize_book.specs.Tokens.{Name, start, leads, lies_in, label_at, chunk_label, chunk_tag, all_lead, lies, lies_if, all_lie, places_known, is_placed, rights_own, keys_own, one_key, key, way, way_if, key_without_note_owns, key_note, note_if, note_at, notes_own}
 use Rattle.seize_book.proofs.Goes.{AllFree}
 use Rattle.seize_book.proofs.Lists.{equal}
+use Rattle.seize_book.proofs.Permits.{permit_if_twice}
 use Rattle.seize_book.proofs.Tables.{lies_twice, one_more}
 
 or_true : (b : Bool) → (b || true) ≡ true
@@ -131,7 +133,14 @@ module _ {M : Type 1} {𝓤 : Ura M} (𝓛 : Logic 𝓤) (n : Name) where
   first_parted (suc m) (x ∷ held) = qed 𝓛 ((‵ (one_key n x) ⊛ ‵ (keys_own n held)) ∷ []) ∵ split ! $ move ! (1 ∷ []) $ use1 𝓛 (‵ (keys_own n (take m held)) ⊛ ‵ (keys_own n (past m held))) (first_parted m held) $ split ! $ move ! (2 ∷ 0 ∷ []) $ fjoin ! $ done !
 
   pub lead_twice : (v : ℕ) → ⟦ leads n v ⟧ ⊢ ⟦ leads n v ⟧ ∗ ⟦ leads n v ⟧
-  lead_twice v = tells_twice 𝓛 n.store (block_number v) (chunk_tag n v)
+  lead_twice v = let A : Fml = lies_in n v in let B : Fml = permit_if n.permits (loan_of v) in qed 𝓛 (‵ (leads n v) ∷ []) ∵ fsplit ! $
+      use1 𝓛 (‵ A ⊛ ‵ A) (tells_twice 𝓛 n.store (block_number v) (chunk_tag n v)) $ split ! $ move ! (2 ∷ []) $ use1 𝓛 (‵ B ⊛ ‵ B) (permit_if_twice 𝓛 n.permits (loan_of v)) $ split ! $
+      -- [the permit, twice; where it lies, twice]
+      move ! (2 ∷ 0 ∷ []) $ fjoin ! $ move ! (2 ∷ 1 ∷ []) $ fjoin ! $ done !
+
+  -- of a value with which nothing is lent it says no more than where that lies
+  pub leads_free : (v : ℕ) → CarriesNone v → ⟦ lies_in n v ⟧ ⊢ ⟦ leads n v ⟧
+  leads_free v none = qed 𝓛 (‵ (lies_in n v) ∷ []) ∵ nothing ! $ rewrite ! 0 (λ (l : ℕ). ‵ (permit_if n.permits l)) (sym none) refl $ move ! (1 ∷ 0 ∷ []) $ fjoin ! $ done !
 
   -- of what goes with a key, what lasts for good: where the number leads of the value that it is labelled with, and that a slot's head lies in
   -- the table
@@ -340,7 +349,7 @@ module _ {M : Type 1} {𝓤 : Ura M} (𝓛 : Logic 𝓤) (n : Name) where
   placed store row chunks (h ∷ []) v one is made place there free cell = let b : ℕ = block_number v in let h' : HeldKey Entry = record { kind = h.kind; key = h.key; own = h.own; label = v; note = h.note } in
       let t : ℕ × ℕ = (label_in chunks (entry_of row b), content_in chunks (entry_of row b)) in let same : t ≡ chunk_tag n v = λ j. (there.0 j, there.1 j) in
       qed 𝓛 (‵ (rights_own n (h ∷ [])) ∷ ‵ (notes_own (h ∷ [])) ∷ ‵ (known_row store row chunks) ∷ []) ∵ move ! (2 ∷ []) $ use1 𝓛 (‵ (tells store b t)) (known_tells 𝓛 store b row chunks made place) $
-      rewrite ! 0 (λ (u : ℕ × ℕ). ‵ (tells store b u)) same refl $ rewrite ! 0 (λ (s : List ℕ). ‵ (tells s b (chunk_tag n v))) (sym is) refl $
+      rewrite ! 0 (λ (u : ℕ × ℕ). ‵ (tells store b u)) same refl $ rewrite ! 0 (λ (s : List ℕ). ‵ (tells s b (chunk_tag n v))) (sym is) refl $ use1 𝓛 (‵ (leads n v)) (leads_free v free) $
       -- [where it leads; the right; the note]
       move ! (2 ∷ []) $ use1 𝓛 (‵ (note_at v h.note)) (one_note h v one cell) $ move ! (2 ∷ []) $ fsplit ! $ keep ! (0 ∷ 3 ∷ 2 ∷ []) $ by ! (way_placed h' one free)
 
@@ -362,7 +371,7 @@ module _ {M : Type 1} {𝓤 : Ura M} (𝓛 : Logic 𝓤) (n : Name) where
       go : Dec (IsPlace (block_number v) row (entry_of row (block_number v))) → ⟦ leads n v ⟧ ∗ ⟦ known_row store row chunks ⟧ ⊢ guard 𝓤 (IsIn n row chunks v) (⟦ leads n v ⟧ ∗ ⟦ known_row store row chunks ⟧)
       go (no out) = qed 𝓛 (‵ (leads n v) ∷ ‵ (known_row store row chunks) ∷ []) ∵ check ! (λ place. absurd (out place)) $ done !
       go (yes place) = let b : ℕ = block_number v in let K : Fml = known_row store row chunks in let t : ℕ × ℕ = (label_in chunks (entry_of row b), content_in chunks (entry_of row b)) in let Same : Type 0 = t ≡ chunk_tag n v in
-          qed 𝓛 (‵ (leads n v) ∷ ‵ K ∷ []) ∵ use1 𝓛 (‵ (leads n v) ⊛ ‵ (leads n v)) (lead_twice v) $ split ! $ rewrite ! 0 (λ (s : List ℕ). ‵ (tells s b (chunk_tag n v))) is refl $
+          qed 𝓛 (‵ (leads n v) ∷ ‵ K ∷ []) ∵ use1 𝓛 (‵ (leads n v) ⊛ ‵ (leads n v)) (lead_twice v) $ split ! $ fsplit ! $ move ! (1 ∷ []) $ drop ! $ rewrite ! 0 (λ (s : List ℕ). ‵ (tells s b (chunk_tag n v))) is refl $
           move ! (2 ∷ []) $ use1 𝓛 (‵ K ⊛ ‵ K) (row_twice 𝓛 store row chunks) $ split ! $ use1 𝓛 (‵ (tells store b t)) (known_tells 𝓛 store b row chunks made place) $
           -- [where the number leads by the row; the row; where it leads by the book; that once more]
           move ! (0 ∷ 2 ∷ []) $ use2 𝓛 (raw (fact 𝓤 Same)) (tells_agree 𝓛 store b t (chunk_tag n v)) $ heard ! Same (λ same. check ! (λ _. (ap (λ (u : ℕ × ℕ). u.0) same, ap (λ (u : ℕ × ℕ). u.1) same)) $ move ! (1 ∷ 0 ∷ []) $ done !)
@@ -387,6 +396,11 @@ module _ {M : Type 1} {𝓤 : Ura M} (𝓛 : Logic 𝓤) (n : Name) where
 
   lent_more : (vs : List ℕ) (held : Keys) (us : List ℕ) → Among vs held us → AllCarryOne vs → AllCarryOne us
   lent_more vs held us among lent v named = ⊎_elim (λ was. lent v was) (λ is. is.1) (among v named)
+
+  -- what is lent with them may be lent
+  pub all_permit : (vs : List ℕ) → ⟦ all_lead n vs ⟧ ⊢ ⟦ all_permitted n.permits (map loan_of vs) ⟧
+  all_permit [] = qed 𝓛 (‵ ftrue ∷ []) ∵ done !
+  all_permit (v ∷ vs) = qed 𝓛 (‵ (all_lead n (v ∷ vs)) ∷ []) ∵ fsplit ! $ move ! (1 ∷ []) $ use1 𝓛 (‵ (all_permitted n.permits (map loan_of vs))) (all_permit vs) $ move ! (1 ∷ []) $ fsplit ! $ drop ! $ fjoin ! $ done !
 
   from_either : (vs : List ℕ) (held : Keys) (v : ℕ) → (has v vs ≡ true) ⊎ (IsLabel held v × CarriesOne v) → ⟦ all_lead n vs ⟧ ∗ ⟦ paths held ⟧ ⊢ ⟦ leads n v ⟧
   from_either vs held v (inl named) = qed 𝓛 (‵ (all_lead n vs) ∷ ‵ (paths held) ∷ []) ∵ keep ! (0 ∷ []) $ by ! (one_leads vs v named)

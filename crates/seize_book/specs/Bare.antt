@@ -9,7 +9,7 @@
 --     IsNewChunk cell g rights keys  the key of a block of which no value was ever named, with this cell, in which g is noted; and those
 --                                    of its count and of its fields
 --     IsChunkOf book cell keys       they are the keys of a new block of the book with this cell
-use Rattle.std.specs.Prelude.{◌≡◌, ℕ, pos, true, false, List, [], ◌∷◌, Some}
+use Rattle.std.specs.Prelude.{◌≡◌, ℕ, pos, true, false, List, [], ◌∷◌}
 use base.Stored.{Gv, gnil}
 use Rattle.seize_machine.specs.Machine.State.{State, has}
 use Rattle.seize_store.specs.RowTokens.{content_in, entry_of, label_in}

@@ -22,7 +22,7 @@ use Rattle.seize_book.specs.Deposits.{deposit}
 use Rattle.seize_book.specs.Homes.{IsVacant, count_in, home_of}
 use Rattle.seize_book.specs.Loans.{cell_of}
 use Rattle.seize_book.specs.Book.{IsLegalList, after}
-use Rattle.seize_book.specs.Others.{IsLastIn, book_of, is_named, state_of, value_of}
+use Rattle.seize_book.specs.Others.{IsLastIn, is_named, state_of, value_of}
 use Rattle.seize_book.specs.Tokens.{IsSole, start}
 use Rattle.seize_book.specs.Private.{key_of, own_of}
 use Rattle.seize_book.specs.Begin.{BeganWith, first_keys, first_links}

@@ -1,6 +1,8 @@
 -- The words in which contracts speak of contents that are lent with values: before a value is named, when it was reclaimed, and where it
 -- was never named and is not to be.
---     MayLend keys ticket pool          there is one key of a block, with whose value nothing is lent; and the ticket is that of the pool
+--     MayBeLent n pool permit           the permit is for the code of what is in the pool, in the list of book n
+--     MayLend keys ticket pool permit   there is one key of a block, with whose value nothing is lent; the ticket is that of the pool, and
+--                                       the permit for it
 --     IsOfPlace v ticket                the ticket is of the content that the block of the value v has in the store
 --     Lends keys pool keys'             the first key's label is another value of its block, which was never named, as it knows, and with
 --                                       which the pool's content is lent
@@ -27,22 +29,26 @@ use Rattle.seize_book.specs.Book.{after, blocks, slots}
 use Rattle.seize_book.specs.Entry.{Entry}
 use Rattle.seize_book.specs.Homes.{home_of}
 use Rattle.seize_book.specs.Ledger.{HeldKey}
-use Rattle.seize_book.specs.Loans.{Carries, CarriesNone, cell_of, place_of, CarriesOne}
+use Rattle.seize_book.specs.Loans.{Carries, CarriesNone, cell_of, loan_number, place_of, CarriesOne}
 use Rattle.seize_book.specs.Others.{Renames, book_of, state_of, value_of, with_label}
 use Rattle.seize_book.specs.Private.{is_one, key_of, label_of}
 use Rattle.seize_book.specs.Slots.{hands_next}
 use Rattle.seize_book.specs.Tokens.{Name, chunk_label, start}
 use Rattle.seize_book.specs.declared.book.keys.Keys.{Keys}
 use Rattle.seize_book.specs.declared.book.pass.Pass.{Pass}
+use Rattle.seize_book.specs.declared.book.permit.Permit.{Permit}
 use Rattle.seize_book.specs.declared.book.value_key.ValueKey.{ValueKey}
 
 abbrev pub IsOfPlace : ℕ → Ticket → Type 0
 IsOfPlace v ticket = place_of v ≡ ticket.name
 
-abbrev pub MayLend : Keys → Ticket → Pool → Type 0
-MayLend keys ticket pool =
+abbrev pub MayBeLent : Name → Pool → Permit → Type 0
+MayBeLent n pool permit = (permit.list ≡ n.permits) × (permit.codes ≡ loan_number pool.value ∷ [])
+
+abbrev pub MayLend : Keys → Ticket → Pool → Permit → Type 0
+MayLend keys ticket pool permit =
     (is_one blocks keys.held ≡ true) × CarriesNone (label_of keys.held) × IsLent ticket pool
-    × IsOfPlace (label_of keys.held) ticket
+    × IsOfPlace (label_of keys.held) ticket × MayBeLent keys.name pool permit
 
 pub record Lends (keys : Keys) (pool : Pool) (keys' : Keys) : Type 0 where
   pub value : ℕ

@@ -6,6 +6,7 @@ pub mod After
 pub mod Book
 pub mod Laws
 pub mod Loans
+pub mod Permits
 pub mod Tokens
 pub mod Shared
 pub mod Begin
@@ -19,6 +20,7 @@ pub mod Adding
 pub mod Slots
 pub mod Others
 pub mod Lending
+pub mod Permitted
 pub mod Notes
 pub mod Chains
 pub mod Deposits

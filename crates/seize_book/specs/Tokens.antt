@@ -11,10 +11,11 @@
 --     porter_owns   a porter: the key of the first pass, a beginning of the list that it has seen, and all tickets but those of so many
 --                   passes; or, where it is at home, the copy of the whole list, which is what it has seen
 --     IsSole p      pass p alone may append, for as long as it lasts: it is the first one, which nobody has while the gate is open
---     leads n v     the value's number leads to the label of its home and cell, in the store where the book's blocks lie
+--     lies_in n v   the value's number leads to the label of its home and cell, in the store where the book's blocks lie
+--     leads n v     and the code of what is lent with it is one that may be lent
 --     note_at v g   the token of the cell where the holder of the value's key makes notes, in which g is noted.  notes_own    those of some
 --                   keys
---     all_lead n vs     so do the numbers of all these values
+--     all_lead n vs     so it is with all these values
 --     lies n s      the entry of slot s, in the table where the heads of the book lie, has the slot's label for good
 --     all_lie n m   so do those of the first m slots, in their order;  slot_labels n m   their labels
 --     places_known n st    both, of all that were ever named and of all slots that there are; and with each that was named something is
@@ -24,7 +25,7 @@
 --                   what is lent with the value, and what is noted; and with that of a slot whose head lies in the table, that it does
 --     key_without_note_owns   a key of a block without what is noted
 --     AddsEntry     one entry was appended with a pass
-use Rattle.std.specs.Prelude.{◌≡◌, ℕ, zero, suc, ◌+◌, Bool, true, false, ◌&&◌, ◌==◌, ◌⊎◌, List, [], ◌∷◌, ◌++◌, length, map, Option, None, slice_index_or}
+use Rattle.std.specs.Prelude.{◌≡◌, ℕ, zero, suc, ◌+◌, Bool, true, false, ◌&&◌, ◌==◌, List, [], ◌∷◌, ◌++◌, length, map, Option, slice_index_or}
 use Rattle.std.specs.List.{range_with_len}
 use Rattle.std.specs.Coded.{Coded, code_by, coded_ℕ, coded×, coded_list, coded_option}
 use mathlib.Core.Path.{refl}
@@ -37,7 +38,7 @@ use base.Fml.{Lft, Fml, ffalse, ftrue, fsep, fex, fbor, fdead, fnamed, fobs, fau
 use types.Keyed.{ticket, tickets_from}
 use denote.Struct.Codes.{itself}
 use Rattle.seize_content.specs.Cells.{cell_token}
-use Rattle.seize_machine.specs.Machine.State.{State, opening, linked_values, are_distinct, has}
+use Rattle.seize_machine.specs.Machine.State.{State, opening, linked_values, are_distinct}
 use Rattle.seize_machine.specs.declared.machine.event.Answer.{Answer}
 use Rattle.seize_store.specs.RowTokens.{tells}
 use Rattle.seize_table.specs.Filled.{all_filled, filled_at}
@@ -49,7 +50,8 @@ use Rattle.seize_book.specs.Blocks.{block_number, plans}
 use Rattle.seize_book.specs.Chains.{HasChains, field_value}
 use Rattle.seize_book.specs.Homes.{IsSound, home_of}
 use Rattle.seize_book.specs.Laws.{ended_lives}
-use Rattle.seize_book.specs.Loans.{AllCarryOne, cell_of, loan, place_of}
+use Rattle.seize_book.specs.Loans.{AllCarryOne, cell_of, loan, loan_of, place_of}
+use Rattle.seize_book.specs.Permits.{permit_if}
 
 -- Who may append: at the open gate each pass that the porter lent, at the shut gate the first pass alone, and at home none. The copy of
 -- the list by which the first pass is alone has one name, and the tickets that the others are given have another.
@@ -79,6 +81,8 @@ pub record Name : Type 0 where
   pub store : List ℕ
   -- the table where the heads of its slots lie
   pub table : List ℕ
+  -- the list of the codes that may be lent with its values
+  pub permits : ℕ
   -- the opening
   pub slots : ℕ
   pub links : List (Option ℕ)
@@ -94,22 +98,23 @@ abbrev pub name_coded : Coded Name
 name_coded =
     code_by (List ℕ × (List (Option ℕ) × (List ℕ × List ℕ)))
     (coded× (coded_list coded_ℕ) (coded× (coded_list (coded_option coded_ℕ)) (coded× (coded_list coded_ℕ) (coded_list coded_ℕ))))
-    (λ n. (n.number ∷ n.log ∷ n.family ∷ n.slots ∷ n.gate.copy ∷ n.gate.tickets ∷ rows n, (n.links, (n.store, n.table))))
+    (λ n. (n.number ∷ n.log ∷ n.family ∷ n.slots ∷ n.gate.copy ∷ n.gate.tickets ∷ n.permits ∷ rows n, (n.links, (n.store, n.table))))
     (λ t. record {
       number = nth t.0 0;
       log = nth t.0 1;
       family = nth t.0 2;
       slots = nth t.0 3;
       gate = record { copy = nth t.0 4; tickets = nth t.0 5 };
-      pass_keys = nth t.0 6;
-      number_keys = nth t.0 7;
-      slot_keys = nth t.0 8;
-      head_keys = nth t.0 9;
-      link_keys = nth t.0 10;
-      count_keys = nth t.0 11;
-      block_keys = nth t.0 12;
-      field_keys = nth t.0 13;
-      total_keys = nth t.0 14;
+      permits = nth t.0 6;
+      pass_keys = nth t.0 7;
+      number_keys = nth t.0 8;
+      slot_keys = nth t.0 9;
+      head_keys = nth t.0 10;
+      link_keys = nth t.0 11;
+      count_keys = nth t.0 12;
+      block_keys = nth t.0 13;
+      field_keys = nth t.0 14;
+      total_keys = nth t.0 15;
       links = t.1.0;
       store = t.1.1.0;
       table = t.1.1.1;
@@ -178,8 +183,11 @@ gate_leaves g false out seen = all_but g.tickets out
 abbrev pub chunk_tag : Name → ℕ → ℕ × ℕ
 chunk_tag n v = (chunk_label n (home_of v) (cell_of v), place_of v)
 
+abbrev pub lies_in : Name → ℕ → Fml
+lies_in n v = tells n.store (block_number v) (chunk_tag n v)
+
 abbrev pub leads : Name → ℕ → Fml
-leads n v = tells n.store (block_number v) (chunk_tag n v)
+leads n v = fsep (lies_in n v) (permit_if n.permits (loan_of v))
 
 abbrev pub all_lead : Name → List ℕ → Fml
 all_lead n [] = ftrue

@@ -195,11 +195,6 @@ impl<T: Drop> Slot<T> {
         self.batch.len()
     }
 
-    /// How many chunks it keeps for its next blocks.
-    pub fn spare(&self) -> usize {
-        self.spots.len()
-    }
-
     /// Looks at the list with no event: the pass knows of the slot then what its own key says. It does nothing else.
     pub fn look(&mut self, _words: &Words<T>, pass: &mut Pass)
         requires of { IsSlotOf _words.now self.old × IsPassFor _words.now pass.old }

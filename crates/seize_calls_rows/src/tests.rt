@@ -99,10 +99,9 @@ fn a_full_batch_waits_for_its_own_slot(rt: HostRuntime) -> Result<(), Fail> {
     );
     assert_eq!(rt; counting.weighed, 5 * 70 + 6 * 7);
     assert_eq!(rt; told(marks.as_slice()), (8, 0));
-    assert_eq!(rt; visitor.slot.spare(), 2);
     visitor.enter(&hall);
     visitor.replace(&hall, 1, 8, &mut counting, &rt)?;
-    assert_eq!(rt; (visitor.slot.len(), visitor.slot.spare()), (0, 1));
+    assert_eq!(rt; visitor.slot.len(), 0);
     Ok(())
 }
 
@@ -154,8 +153,7 @@ fn a_short_batch_stays_while_more_slots_are_active(rt: HostRuntime) -> Result<()
 // How many values stand in a chain.
 const CHAIN: u64 = 10_000;
 
-// Each value of a chain is put by the reclaimer of the one before. A batch has one value, and no slot is active: all go in one call. Their
-// blocks go to the slot's list, of which 64 go back into the store whenever it has 128.
+// Each value of a chain is put by the reclaimer of the one before. A batch has one value, and no slot is active: all go in one call.
 #[test]
 fn a_chain_of_values_ends_in_one_call(rt: HostRuntime) -> Result<(), Fail> {
     let marks = marks(rt.alloc(), CHAIN)?;
@@ -165,7 +163,7 @@ fn a_chain_of_values_ends_in_one_call(rt: HostRuntime) -> Result<(), Fail> {
     let mut putting = Putting::new(rt.alloc(), &hall, marks.as_slice(), false, CHAIN - 1)?;
     let first = Fresh::new(&hall, CHAIN - 1)?.loose(&hall);
     assert!(rt; slot.retire(&hall.words, first, 7, &mut putting, &mut pass, &beside));
-    assert_eq!(rt; (slot.len(), slot.spare(), putting.ready.len()), (0, 80, 0));
+    assert_eq!(rt; (slot.len(), putting.ready.len()), (0, 0));
     let counting = &putting.counting;
     assert_eq!(rt;
         (counting.count, counting.last, counting.kept),

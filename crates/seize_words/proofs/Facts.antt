@@ -264,18 +264,6 @@ glimpse_found link a pass pass' event v glimpse t its some = go (held_before t) 
       lent = glimpse_lent link a pass pass' event v w glimpse t its (its ∙ is);
     }
 
--- An activation that has just begun may step on each link, and so may each unit of it.
-pub begun_in : (key : SlotKey) (a : Activation) (pass : Pass) (l : ℕ) → IsActivationOf key a → key.keys.name ≡ pass.name → own_list key ≡ pass.seen → l < length pass.name.links → IsInAt a pass l
-begun_in key a pass l begun book own is =
-    let its : a.name ≡ pass.name = begun.of_slot.0 ∙ book in (
-      its,
-      record {
-        active = subst (λ (m : Name). is_active (head_at (after (start m) a.since) a.slot) ≡ true) its begun.active;
-        its = begun.its;
-        known = ([], append-nil a.since ∙ (begun.since ∙ own));
-        is_link = is;
-      },
-    )
-
+-- What an activation may step on, each unit of it may.
 pub unit_in : (a unit : Activation) (pass : Pass) (l n : ℕ) → unit ≡ with_units a n → IsInAt a pass l → IsInAt unit pass l
 unit_in a unit pass l n is in_ = subst (λ (b : Activation). IsInAt b pass l) (sym is) in_

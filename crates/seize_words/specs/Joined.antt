@@ -6,13 +6,8 @@
 --     IsInAt activation pass link    the activation has begun, as the pass has seen, and the link is one of the book's: see IsLinkFor
 --     IsNewTo n key new              the key is that of a value that may go into a link of book n, or none, and this is its word: see
 --                                    IsNewFor
---     IsStoreOf store book           the blocks of the book lie in the store, and are of one family
 --     OnLink n link P                P is so of this link of book n
 use Rattle.std.specs.Prelude.{◌≡◌, ℕ, ◌<◌, []}
-use Rattle.seize_store.specs.RowTokens.{family_in}
-use Rattle.seize_store.specs.Named.{store_name}
-use Rattle.seize_store.specs.declared.store.Store.{Store}
-use Rattle.seize_table.specs.declared.labelled.Labelled.{Ghosts}
 use Rattle.seize_book.specs.Begin.{BeganWith}
 use Rattle.seize_book.specs.Blocks.{link_word}
 use Rattle.seize_words.specs.LinkRows.{IsLinkAt}
@@ -62,6 +57,3 @@ OnLink n l P = (link : Link) × IsLinkAt n l link × P link
 
 abbrev pub IsNewTo : Name → MaybeKey → ℕ → Type 0
 IsNewTo n key new = (key.keys.name ≡ n) × IsNewIn n (value_held key) key.keys.held × (new ≡ link_word (value_held key))
-
-abbrev pub IsStoreOf : {H P T : Type 0} {g : Ghosts H} → Store H P T g → Seen → Type 0
-IsStoreOf store book = (book.name.store ≡ store_name store) × (family_in (store_name store) ≡ book.name.family)

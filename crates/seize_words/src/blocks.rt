@@ -4,9 +4,10 @@ ghost use Rattle.seize_store.specs.RowTokens.{family_in};
 ghost use Rattle.seize_store.specs.Named.{store_name};
 
 use crate::chunk::{Header, Part};
+use crate::codes::CodesOf;
 use crate::glimpse::Glimpse;
 use crate::note::Note;
-use seize_book::book::{Pass, Seen, SlotKey, ValueKey, ValueKeys};
+use seize_book::book::{Pass, Permits, Seen, SlotKey, ValueKey, ValueKeys};
 use seize_content::TokenCell;
 use seize_store::{Bare, Hollow, Owned, Spots, Store};
 use seize_table::Refusal;
@@ -18,6 +19,8 @@ pub struct Blocks<T> {
     store: Store<Header, Part, T>,
     /// The book.
     pub book: Seen,
+    permits: Permits<CodesOf<T>>,
+    ghost permitted: { permits.list ≡ book.name.permits },
     ghost stands: { book.name.store ≡ store_name store },
     ghost kin: { family_in (store_name store) ≡ book.name.family },
 }
@@ -26,7 +29,7 @@ impl<T: Drop> Blocks<T> {
     ghost use Rattle.seize_book.specs.Books.{IsNextIn};
     ghost use Rattle.seize_store.specs.Named.{bare_number, bare_title, bare_value, hollow_store, hollow_title, is_empty_list, owned_value, store_of, title_of, titles_of, titles_with};
     ghost use Rattle.seize_table.specs.declared.refusal.Refusal.TheVariants.{NoMemory};
-    ghost use Rattle.seize_words.specs.Chunks.{AreSpotsIn, IsBlockAfter, IsBlockIn, IsFoundAs, IsFoundAt, IsHeaderOf, IsLentAs, IsLiveAt, IsPartOf, LayIn, LendsIn, LiesIn, blocks_book};
+    ghost use Rattle.seize_words.specs.Chunks.{AreSpotsIn, HaveCodesOf, IsBlockAfter, IsBlockIn, IsFoundAs, IsFoundAt, IsHeaderOf, IsLentAs, IsLiveAt, IsPartOf, LayIn, LendsIn, LiesIn, blocks_book};
     ghost use Rattle.seize_book.specs.Others.{IsLast, IsVacated, IsValueOf, book_of, value_of};
     ghost use Rattle.seize_book.specs.Blocks.{block_number};
     ghost use Rattle.seize_book.specs.Notes.{HasNoted, IsUnchanged, cell_in};
@@ -40,12 +43,21 @@ impl<T: Drop> Blocks<T> {
     ghost use Rattle.seize_words.specs.Walks.{CountsDown, IsAtBatch, Knows};
 
     /// Those of a book whose blocks lie in this store.
-    pub(crate) fn of(store: Store<Header, Part, T>, book: Seen) -> Blocks<T>
+    pub(crate) fn of(
+        store: Store<Header, Part, T>,
+        book: Seen,
+        permits: Permits<CodesOf<T>>,
+    ) -> Blocks<T>
         requires lies { book.name.store ≡ store_name store }
+        requires permits { permits.list ≡ book.name.permits }
         requires kin { family_in (store_name store) ≡ book.name.family }
         ensures { result.book ≡ book }
     {
-        Blocks { store, book }
+        Blocks {
+            store,
+            book,
+            permits,
+        }
     }
 
     /// A block of the value, and the key for that value, by the number that the block has in the store. Where no chunk is in, it asks for
@@ -132,8 +144,20 @@ impl<T: Drop> Blocks<T> {
         ensures block { IsInBlockOf key.old key.new }
         ensures lent { LendsIn self.now key.new (bare_number block) (T.row.coded.code (bare_value block)) }
     {
+        let permit = self.permits.permit(&*block);
         let (ticket, pool) = self.store.lend(block);
-        key.lend(ticket, pool);
+        key.lend(ticket, pool, permit);
+    }
+
+    /// With each value that was ever named, as the pass has seen then, a value of the type of these blocks is lent, or was. The pass looks at
+    /// the list. It does nothing when the program runs: its contract is the law.
+    pub fn codes(&self, pass: &mut Pass)
+        requires book { blocks_book self.now ≡ pass.old.name }
+        ensures looks { LooksOn pass.old pass.new }
+        ensures codes { HaveCodesOf T.row.coded.code (state_seen pass.new).named }
+    {
+        let permit = pass.permits();
+        self.permits.check(&permit);
     }
 
     /// What is lent with the value that was found in a link, for as long as the store and the reader's activation are borrowed: a value of
@@ -213,18 +237,8 @@ impl<T: Drop> Blocks<T> {
         self.store.back(number as usize, &row, ticket, pool)
     }
 
-    /// A block goes back whose values were all reclaimed, and the last one taken out (`Bare::take`). Its chunk is in again, with the
-    /// block's key, by one swap; where the store is gone, the chunk's memory goes back.
-    pub fn lay_back(&self, key: ValueKey, hollow: Hollow<Header, Part, T>)
-        requires book { book_of key ≡ blocks_book self.now }
-        requires vacant { IsVacated key }
-        requires lay { LayIn key hollow }
-    {
-        hollow.give_back(self.part(key));
-    }
-
-    /// The same, but that the chunk stays claimed, with the block's key, and its spot goes to the list; where that is full, half of it goes
-    /// back into the store first. It takes no memory, and no atomic step else.
+    /// A block goes into the list whose values were all reclaimed, and the last one taken out (`Bare::take`). Its chunk stays claimed, with
+    /// the block's key. Where the list is full, half of it goes back into the store first, by one swap each. It takes no memory.
     pub fn lay_into(
         &self,
         key: ValueKey,

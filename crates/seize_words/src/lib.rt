@@ -10,6 +10,7 @@ pub mod activation;
 pub mod batch;
 pub mod blocks;
 pub mod chunk;
+mod codes;
 pub mod glimpse;
 pub mod header;
 pub mod link;

@@ -9,10 +9,13 @@ ghost use Rattle.seize_words.specs.Reserved.{slots_book};
 use crate::activation::Activation;
 use crate::blocks::Blocks;
 use crate::chunk::{Header, Part};
+use crate::codes::CodesOf;
 use crate::glimpse::{Found, Glimpse};
 use crate::link::{Expects, Links, MaybeKey};
 use crate::slots::{NextSlot, Reservation, Slots};
-use seize_book::book::{BookKeys, FutureBook, NumbersKey, Pass, Porter, Seen, SlotKey, Storage};
+use seize_book::book::{
+    BookKeys, FutureBook, NumbersKey, Pass, Permits, Porter, Seen, SlotKey, Storage,
+};
 use seize_store::Store;
 use seize_table::Refusal;
 use seize_table::thread_id::MAX_INDEX;
@@ -42,7 +45,7 @@ impl<T: Drop> Words<T> {
     ghost use Rattle.seize_table.specs.declared.refusal.Refusal.TheVariants.{NoMemory, NoNumbers};
     ghost use Rattle.seize_book.specs.Blocks.{link_word};
     ghost use Rattle.seize_book.specs.Books.{HasKeys};
-    ghost use Rattle.seize_words.specs.Joined.{IsInAt, IsNewTo, IsStoreOf, OnLink, OpensWords, with_size, words_book};
+    ghost use Rattle.seize_words.specs.Joined.{IsInAt, IsNewTo, OnLink, OpensWords, with_size, words_book};
     ghost use Rattle.seize_book.specs.Porters.{Opens, Resizes};
     ghost use Rattle.seize_words.specs.Chunks.{IsFoundAs};
     ghost use Rattle.seize_words.specs.LinkWords.{CompareExchanges, Finds, Sees, Swaps, held_before};
@@ -70,40 +73,43 @@ impl<T: Drop> Words<T> {
         let table = ThreadLocal::with_capacity(alloc, capacity)?;
         let (unopened, family) = FutureBook::new();
         let store = Store::new(alloc, &family);
-        let (book, porter, keys) = Words::open::<Brand>(&store, &table, unopened, links, size);
-        let (words, numbers, next) = Words::of(alloc, store, table, book, keys, links, size)?;
+        let permits = Permits::new(&family);
+        let (book, porter, keys) = Words::open::<Brand>(
+            &store, &table, &permits, unopened, links, size,
+        );
+        let blocks = Blocks::of(store, book, permits);
+        let (words, numbers, next) = Words::of(alloc, blocks, table, keys, links, size)?;
         Ok((words, porter, numbers, next))
     }
 
-    // A book whose blocks lie in this store, and whose heads lie in this table.
+    // A book whose blocks lie in this store, and whose heads lie in this table; what may be lent is in this list.
     fn open<K: Storage>(
         _store: &Store<Header, Part, T>,
         _table: &ThreadLocal<Reservation>,
+        _permits: &Permits<CodesOf<T>>,
         unopened: FutureBook,
         links: usize,
         size: usize,
     ) -> (Seen, Porter, BookKeys)
-        requires { (K.store ≡ store_name _store.now) × (K.table ≡ name_of _table.now) }
+        requires { (K.store ≡ store_name _store.now) × (K.table ≡ name_of _table.now) × (K.permits ≡ _permits.now.list) }
         ensures book { Opens result.0 result.1 result.2 links size (store_name _store.now) (name_of _table.now) }
-        ensures family { result.0.name.family ≡ unopened.family }
+        ensures its { (result.0.name.family ≡ unopened.family) × (result.0.name.permits ≡ _permits.now.list) }
     {
         unopened.open::<K>(links, size)
     }
 
-    // The words of a book that has just begun, whose blocks lie in this store, and whose heads lie in this table; and what its slots are
-    // made with.
+    // The words of a book that has just begun, with its blocks, and whose heads lie in this table; and what its slots are made with.
     fn of(
         alloc: Global,
-        store: Store<Header, Part, T>,
+        blocks: Blocks<T>,
         table: ThreadLocal<Reservation>,
-        book: Seen,
         keys: BookKeys,
         links: usize,
         size: usize,
     ) -> Result<(Words<T>, NumbersKey, NextSlot), Refusal>
-        requires lie { IsStoreOf store book × (book.name.table ≡ name_of table) }
-        requires keys { HasKeys book keys links book.name.store book.name.table }
-        ensures made { IfOk result (λ made. (made.0.blocks.book ≡ book) × (made.1 ≡ keys.numbers) × HasNextSlot made.1 made.2) }
+        requires lie { blocks.book.name.table ≡ name_of table }
+        requires keys { HasKeys blocks.book keys links blocks.book.name.store blocks.book.name.table }
+        ensures made { IfOk result (λ made. (made.0.blocks.book ≡ blocks.book) × (made.1 ≡ keys.numbers) × HasNextSlot made.1 made.2) }
         ensures size { IfOk result (λ made. made.0.size ≡ size) }
         ensures refused { IfErr result (λ e. e ≡ NoMemory) }
     {
@@ -113,13 +119,14 @@ impl<T: Drop> Words<T> {
             next,
             links: left,
         } = keys;
+        let book = &blocks.book;
         let links = Links::new(alloc, links, left, book.again())?;
-        let next = NextSlot::new(next, 0, &book);
+        let next = NextSlot::new(next, 0, book);
         let slots = Slots::of(table, total, book.again());
         let words = Words {
             links,
             slots,
-            blocks: Blocks::of(store, book),
+            blocks,
             size,
         };
         Ok((words, numbers, next))

@@ -1,4 +1,4 @@
-//! Callers of the words of one book: slots that are made while others walk their heads, blocks that are lent and had back, a porter that
+//! Callers of the words of one book: slots that are made while others walk their heads, blocks that are lent, a porter that
 //! comes home, and a worked run. They show that the contracts below, with the exported lemmas, suffice for a caller.
 #![tactic(auto)]
 

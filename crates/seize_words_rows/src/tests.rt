@@ -4,7 +4,7 @@ ghost use Rattle.seize_words_rows.specs.Making.{CanMake, IsPorterOf, made_by};
 ghost use Rattle.std.specs.Prelude.{◌≡◌, false};
 
 use crate::homing::{begin, forget_passes, shut_and_open, stay_home};
-use crate::lending::{lend_and_give_back, lend_and_note};
+use crate::lending::lend_and_note;
 use crate::making::{open, walk_heads};
 use crate::numbered_run;
 use seize_words::activation::Activation;
@@ -73,21 +73,6 @@ fn words_have_eight_bytes(rt: HostRuntime) {
 #[test]
 fn a_header_has_three_words_and_a_note(rt: HostRuntime) {
     assert_eq!(rt; size_of::<Header>(), 48);
-}
-
-// A block is lent, read by its key, and had back, since its value was never named; then the store finds it again.
-#[test]
-fn a_block_that_is_lent_is_had_back(rt: HostRuntime) {
-    let Some((words, porter, _)) = open(rt.alloc()) else {
-        panic!(rt; "no memory");
-    };
-    let mut pass = porter.pass();
-    let Some((number, seen, back)) = lend_and_give_back(&words.blocks, 70, &mut pass) else {
-        panic!(rt; "no memory");
-    };
-    assert_eq!(rt; (seen, back), (70, 70));
-    let again = lend_and_give_back(&words.blocks, 71, &mut pass);
-    assert_eq!(rt; again, Some((number, 71, 71)));
 }
 
 // A block whose value was never named is noted while it is lent.

@@ -49,8 +49,8 @@ pub struct Shared<'g, T> {
 }
 
 impl<'g, T> Shared<'g, T> {
-    ghost use Rattle.std.specs.Prelude.{◌==◌};
-    ghost use Rattle.seize.specs.Blocks.{shared_book, shared_name, shared_value, shared_word};
+    ghost use Rattle.std.specs.Prelude.{◌↔◌, true};
+    ghost use Rattle.seize.specs.Blocks.{shared_block, shared_book, shared_name, shared_value};
 
     // The value that was found where a link showed this word. Its label says the list of the collector that has the link.
     pub(crate) fn of(value: &'g T, word: u64, glimpse: Glimpse<'g>, book: &Seen) -> Shared<'g, T>
@@ -68,7 +68,7 @@ impl<'g, T> Shared<'g, T> {
     /// Whether both are of one block. Both must be of one collector.
     pub fn same(&self, other: &Shared<'_, T>) -> bool
         requires { shared_book self.now ≡ shared_book other.now }
-        ensures { result ≡ (shared_word self.now == shared_word other.now) }
+        ensures { (result ≡ true) ↔ (shared_block self.now ≡ shared_block other.now) }
     {
         self.word == other.word
     }

@@ -38,9 +38,11 @@ impl FutureBook {
     }
 
     /// The book begins, with its keys and its porter, which is at home. It has no slot yet, and so many links, which are empty. Its blocks
-    /// lie in the store that `K` says, and its heads in the table. The batch size is `size` values, until [`Porter::set_size`] changes it.
+    /// lie in the store that `K` says, and its heads in the table, and the codes that may be lent are those of its list. The batch size is
+    /// `size` values, until [`Porter::set_size`] changes it.
     pub fn open<K: Storage>(self, links: usize, size: usize) -> (Seen, Porter, BookKeys)
-        ensures { Opens result.0 result.1 result.2 links size K.store K.table × (result.0.name.family ≡ self.family) }
+        ensures book { Opens result.0 result.1 result.2 links size K.store K.table }
+        ensures its { (result.0.name.family ≡ self.family) × (result.0.name.permits ≡ K.permits) }
     {
         let (book, pass, keys) = Seen::open::<K>(self, links, size);
         (book, Porter::again(pass), BookKeys::apart(keys))

@@ -11,6 +11,7 @@ ghost use Rattle.seize_book.specs.Tokens.{Name, held_coded, keys_own, name_coded
 
 use crate::book::key_without_note::KeyWithoutNote;
 use crate::book::pass::Pass;
+use crate::book::permit::Permit;
 use crate::book::rights::Rights;
 use seize_content::{CellToken, Pool, Sight, Ticket};
 use seize_store::RowToken;
@@ -55,6 +56,7 @@ impl Keys {
     ghost use Rattle.seize_book.specs.Notes.{MayOpen, OpensNote};
     ghost use Rattle.seize_book.specs.Others.{Renames};
     ghost use Rattle.seize_book.specs.Peeking.{MaySee, SightBy};
+    ghost use Rattle.seize_book.specs.Permitted.{IsPermitOf};
     ghost use Rattle.seize_book.specs.Tables.{GetsPlace, LiesAt};
 
     /// Adds the event with the pass.
@@ -81,13 +83,14 @@ impl Keys {
         ensures { GetsPlace self.old self.new }
     {}
 
-    /// The content goes with the first key, whose label is another value of its block then, which was never named.
-    pub(crate) fn lend(&mut self, ticket: Ticket, pool: Pool)
-        requires { MayLend self.old ticket pool }
+    /// The content, whose code may be lent, goes with the first key, whose label is another value of its block then, which was never named.
+    pub(crate) fn lend(&mut self, ticket: Ticket, pool: Pool, permit: Permit)
+        requires { MayLend self.old ticket pool permit }
         ensures { Lends self.old pool self.new }
     {
         let Ticket { marker: _ } = ticket;
         let Pool { marker: _ } = pool;
+        let Permit { marker: _ } = permit;
     }
 
     /// What went with the first key comes back, whole. The call of the slot whose key is the second is about to hand its value, so nobody
@@ -125,6 +128,16 @@ impl Keys {
         ensures { IsRowAt self.now.name (label_of self.now.held) result }
     {
         RowToken {
+            marker: PhantomData,
+        }
+    }
+
+    /// The permit for what went with the first key.
+    pub(crate) fn permit(&self) -> Permit
+        requires { is_one blocks self.now.held ≡ true }
+        ensures { IsPermitOf self.now result }
+    {
+        Permit {
             marker: PhantomData,
         }
     }

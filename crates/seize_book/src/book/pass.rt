@@ -5,6 +5,7 @@ ghost use Rattle.seize_book.specs.Entry.{Entry, entry_coded};
 ghost use Rattle.seize_store.specs.Named.{IsRowOf};
 ghost use Rattle.seize_book.specs.Tokens.{Name, lent_pass, name_coded};
 
+use crate::book::permit::Permit;
 use crate::book::porter::Porter;
 use crate::book::seen::Seen;
 use seize_store::RowToken;
@@ -35,6 +36,7 @@ impl<'p> Pass<'p> {
     ghost use Rattle.seize_book.specs.Books.{Learns};
     ghost use Rattle.seize_book.specs.Homesteads.{AreAt, HasNumber, state_seen};
     ghost use Rattle.seize_book.specs.Passes.{LooksOn, Meets};
+    ghost use Rattle.seize_book.specs.Permitted.{IsPermitForAll};
     ghost use Rattle.seize_book.specs.Tables.{AreSlotsOf};
 
     /// Two passes of one book tell each other what they have seen: afterwards both have seen the longer of their two beginnings. No event
@@ -87,6 +89,15 @@ impl<'p> Pass<'p> {
         ensures { LooksOn self.old self.new × AreSlotsOf self.new result }
     {
         AllFilled {
+            marker: PhantomData,
+        }
+    }
+
+    /// Looks at the list, and adds nothing. It gives the permit for what is lent with each value that was ever named.
+    pub fn permits(&mut self) -> Permit
+        ensures { LooksOn self.old self.new × IsPermitForAll self.new result }
+    {
+        Permit {
             marker: PhantomData,
         }
     }

@@ -190,20 +190,6 @@ impl SlotKey {
         self.add_with::<Brand>(&mut further.keys, 0, pass);
     }
 
-    /// The event `Hand` of a value whose reclaimer puts none: the value that the slot's call is about to hand to its reclaimer goes there.
-    ///
-    /// It goes there for the first time, and was retired before. Each slot that was active then, and each that found it in a link, has left
-    /// or refreshed since, and the activations in which they found it are over.
-    pub fn hand(&mut self, pass: &mut Pass)
-        requires book { IsKeyOfBook self.old pass.old }
-        requires next { is_some (hands_next (slot_of self.old)) ≡ true }
-        ensures noted { AddsEvent self.old pass.old self.new pass.new (Hand (slot_number self.old) []) }
-        ensures once { IfSome (hands_next (slot_of self.old)) (HandsOnce self.old pass.new) }
-    {
-        let mut none = ValueKeys::new(pass);
-        self.hand_with(&mut none, pass);
-    }
-
     /// The event `Return`: the slot's call is over.
     pub fn finish(&mut self, pass: &mut Pass)
         requires book { IsKeyOfBook self.old pass.old }

@@ -8,6 +8,7 @@ ghost use Rattle.seize_book.specs.Private.{is_one, key_of, label_of};
 use crate::book::bare_key::BareKey;
 use crate::book::keys::Keys;
 use crate::book::pass::Pass;
+use crate::book::permit::Permit;
 use crate::book::slot_key::SlotKey;
 use seize_content::{Pool, Sight, Ticket, TokenCell};
 use seize_store::RowToken;
@@ -29,11 +30,12 @@ impl ValueKey {
     ghost use Rattle.seize_book.specs.Books.{IsNextAfter, IsNextIn, MakesNextValue, MaySettle};
     ghost use Rattle.seize_content.specs.Loans.{IsLent};
     ghost use Rattle.seize_book.specs.Loans.{place_of};
-    ghost use Rattle.seize_book.specs.Lending.{GoesWith, IsFreeKey, IsInBlockOf, IsLentKey, IsOfPlace, IsRowAt};
+    ghost use Rattle.seize_book.specs.Lending.{GoesWith, MayBeLent, IsFreeKey, IsInBlockOf, IsLentKey, IsOfPlace, IsRowAt};
     ghost use Rattle.seize_book.specs.Notes.{HasNoted, IsUnchanged, cell_in, note_in};
     ghost use Rattle.seize_book.specs.Others.{FollowsValue, HasGone, IsLast, IsVacated, IsValueOf, book_of, value_of};
     ghost use Rattle.seize_book.specs.Passes.{LooksOn};
     ghost use Rattle.seize_book.specs.Peeking.{SightWith};
+    ghost use Rattle.seize_book.specs.Permitted.{IsPermitOf};
     ghost use Rattle.seize_book.specs.Slots.{IsKeyOfBook, IsStill, hands_next, slot_of};
 
     /// The key is for the next value of its block then, which words hold by the same number. The last one was reclaimed, as the pass has
@@ -53,15 +55,16 @@ impl ValueKey {
 
     /// A content that is lent goes with the key from then on, into a link and out of it, and whoever finds the value in a link can see the
     /// content (`Link::see`). The key is for another value of its block then, which stands for this content. The value before was never
-    /// named, and nothing is lent with it. It is the content of this block in the store.
-    pub fn lend(&mut self, ticket: Ticket, pool: Pool)
+    /// named, and nothing is lent with it. It is the content of this block in the store, and the permit is for its code.
+    pub fn lend(&mut self, ticket: Ticket, pool: Pool, permit: Permit)
         requires lent { IsLent ticket pool }
+        requires permit { MayBeLent (book_of self.old) pool permit }
         requires place { IsOfPlace (value_of self.old) ticket }
         requires next { IsNextIn self.old (block_number (value_of self.old)) × IsFreeKey self.old }
         ensures next { IsNextIn self.new (block_number (value_of self.old)) × IsInBlockOf self.old self.new }
         ensures goes { GoesWith self.new pool }
     {
-        self.keys.lend(ticket, pool);
+        self.keys.lend(ticket, pool, permit);
     }
 
     /// The content that is lent with the value comes back, when the slot's call is about to hand the value to its reclaimer: whoever found
@@ -117,6 +120,13 @@ impl ValueKey {
         ensures row { IsRowAt (book_of self.now) (value_of self.now) result }
     {
         self.keys.row()
+    }
+
+    /// The permit for what is lent with the value.
+    pub fn permit(&self) -> Permit
+        ensures { IsPermitOf self.now.keys result }
+    {
+        self.keys.permit()
     }
 
     /// Sees the content that is lent with the value, for as long as the key is borrowed, whether the value was ever named or not, and while

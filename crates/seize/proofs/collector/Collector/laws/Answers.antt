@@ -11,11 +11,11 @@ use Rattle.seize.proofs.Made.{none_looked}
 use Rattle.seize.proofs.collector.Collector.laws.Goals as goal
 
 pub returns-clause-none : goal.returns-clause-none
-returns-clause-none g c = none_looked c.args.pass.now c.slots.new.self c.slots.ensures.0
+returns-clause-none g c = none_looked c.args.pass.now c.codes.new.pass c.codes.ensures.looks
 
 pub returns-clause-laws : goal.returns-clause-laws
 returns-clause-laws g c =
-    let n = c.args.pass.now.name in let pass' = c.slots.new.self in let looks = c.slots.ensures.0 in let log = pass'.seen in let all = c.laws.ensures in
+    let n = c.args.pass.now.name in let pass' = c.codes.new.pass in let looks = c.codes.ensures.looks in let log = pass'.seen in let all = c.laws.ensures in
     let of : (law : State → List Moment → Type 0) → HoldsOfAll law → law (opening_of pass') (moments_seen pass')
     = λ law holds. subst (λ (m : Name). law (start m) (moments (start m) log)) (sym looks.same.0)
     (holds n.slots n.links (events_of log) _ _ looks.distinct (as_legal (start n) log looks.legal)) in

@@ -3,4 +3,4 @@ use Rattle.seize_table.specs.Named.{name_of}
 use Rattle.seize_words.proofs.words.Words.new.Given as goal
 
 abbrev pub ghosts-open : goal.ghosts-open
-ghosts-open g a = record { store = store_name a._store.now; table = name_of a._table.now }
+ghosts-open g a = record { store = store_name a._store.now; table = name_of a._table.now; permits = a._permits.now.list }

@@ -1,20 +1,18 @@
 -- `row` gives what goes with the key of where its value's number leads.
-use Rattle.seize_book.proofs.Kit.{◌≡◌, ℕ, List, [], ◌∷◌, refl, sym, ap, proved, Val, vptr, SProp, emp, Lft, Fml, ftrue, fsep, flft, ‵, raw, ◌⊛◌, ◌$◌, ◌∵◌, !, qed, by, move, keep, drop, split, fsplit, fjoin, fpick, use0, use1, rewrite, no_more, and_then, returns, enter, alloc_all, pass_all, free_all, look_at, get, sets, agg, fact, fact_i, heard, tables, yes, RattleType, owns, types_at, plain, RefOf, shr_vals, shr_Tells, unhide, nothing, Stays, stay_dropped, walk_of, Goes-dropped, named}
-use Rattle.std.specs.Prelude.{Option, is_some, true}
+use Rattle.seize_book.proofs.Kit.{◌≡◌, ℕ, [], ◌∷◌, refl, ap, proved, Val, vptr, SProp, emp, Lft, ftrue, fsep, flft, ‵, raw, ◌⊛◌, ◌$◌, ◌∵◌, !, qed, by, move, keep, drop, split, fsplit, fjoin, fpick, use0, use1, no_more, and_then, returns, enter, alloc_all, pass_all, free_all, look_at, get, sets, agg, fact, fact_i, heard, tables, yes, RattleType, owns, types_at, plain, RefOf, shr_vals, shr_Tells, unhide, nothing, Stays, stay_dropped, walk_of, Goes-dropped, named}
+use Rattle.std.specs.Prelude.{true}
 use base.Fml.{fhide}
 use denote.Builtin.{unit}
 use denote.Memory.{hidden_shr}
 use denote.Struct.Lending.{lent_out}
 use Rattle.core.specs.contracts.marker.PhantomData as marker
 use Rattle.seize_content.proofs.Fields.{Marked}
-use Rattle.seize_store.specs.RowTokens.{tells}
 use Rattle.seize_store.specs.contracts.row_token.RowToken as RowToken
-use Rattle.seize_book.specs.Blocks.{block_number}
 use Rattle.seize_book.specs.Book.{blocks}
 use Rattle.seize_book.specs.Loans.{loan_of}
 use Rattle.seize_book.specs.Peeks.{keys_show, sight_if}
 use Rattle.seize_book.specs.Private.{is_one, label_of}
-use Rattle.seize_book.specs.Tokens.{chunk_tag, leads}
+use Rattle.seize_book.specs.Tokens.{leads}
 use Rattle.seize_book.specs.contracts.book.keys.Keys as Keys
 use Rattle.seize_book.proofs.Fields.{Token, token, token_made, ends}
 use Rattle.seize_book.proofs.Peeks.{shows}
@@ -35,7 +33,7 @@ row_spec 𝓤 𝓛 𝓜 𝓡 wired =
     keep ! (1 ∷ 3 ∷ []) $
     enter ! 𝓣.C 𝓣.Λ fn (vptr rb ro ∷ []) Post $ alloc_all ! (λ l. pass_all ! refl ((tt, tt), tt) $
     use1 𝓛 (‵ (hidden_shr (Marked unit) κ (record {}, tt) rb ro) ⊛ ‵ (fhide (keys_show d.name d.held κ))) (lent_out 𝓛 Keys.struct (Keys.the_codes (marker.the_row unit).coded) Keys.the_heap Keys.the_lent κ d rb ro) $ split ! $ move ! (1 ∷ []) $ unhide ! $
-    use1 𝓛 (‵ (leads d.name v) ⊛ ‵ (sight_if (loan_of v) κ v)) (shows 𝓛 d.name κ d.held asked) $ split ! $ move ! (1 ∷ []) $ drop ! $
+    use1 𝓛 (‵ (leads d.name v) ⊛ ‵ (sight_if (loan_of v) κ v)) (shows 𝓛 d.name κ d.held asked) $ split ! $ fsplit ! $ move ! (1 ∷ []) $ drop ! $ move ! (1 ∷ []) $ drop ! $
     -- [where the number leads; its marker; the token]
     fpick ! (λ way. let r : RowToken.the_row.Denot = record { marker = record {}; store = d.name.store; row = way.row; chunks = way.chunks; made = way.made } in
     sets ! (agg ! (no_more !)) refl (tt, tt) $ sets ! (agg ! (and_then ! (get ! refl) (no_more !))) refl (tt, (tt, tt)) $

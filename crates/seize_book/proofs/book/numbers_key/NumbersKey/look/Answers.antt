@@ -1,4 +1,4 @@
-use Rattle.std.proofs.Common.{sym, ap, ◌∙◌}
+use Rattle.std.proofs.Common.{ap, ◌∙◌}
 use Rattle.seize_machine.specs.Machine.Frames.{used}
 use Rattle.seize_book.specs.Book.{after}
 use Rattle.seize_book.specs.Tokens.{Name, start}

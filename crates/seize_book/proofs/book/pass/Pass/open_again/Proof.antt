@@ -1,5 +1,5 @@
 -- `open_again` gives the porter what the pass has of the gate: it is at home.
-use Rattle.seize_book.proofs.Kit.{Fml, static_lft, ℕ, [], ◌∷◌, refl, proved, Val, SProp, emp, ftrue, ‵, raw, ◌⊛◌, ◌$◌, ◌∵◌, !, qed, by, move, keep, split, fsplit, fjoin, use0, use1, rewrite, no_more, and_then, returns, enter, alloc_all, pass_all, free_all, look_at, get, sets, agg, fact, fact_i, heard, tables, owns, types_at, plain, nothing, Stays, stay_dropped, walk_of, Goes-dropped}
+use Rattle.seize_book.proofs.Kit.{static_lft, ℕ, [], ◌∷◌, refl, proved, Val, SProp, emp, ftrue, ‵, raw, ◌⊛◌, ◌$◌, ◌∵◌, !, qed, by, move, keep, split, fsplit, fjoin, use0, use1, rewrite, no_more, and_then, returns, enter, alloc_all, pass_all, free_all, look_at, get, sets, agg, fact, fact_i, heard, tables, owns, types_at, plain, nothing, Stays, stay_dropped, walk_of, Goes-dropped}
 use denote.Exit.{no}
 use Rattle.std.proofs.Common.{true}
 use Rattle.seize_book.specs.Tokens.{lent_pass, porter_owns, IsSole}

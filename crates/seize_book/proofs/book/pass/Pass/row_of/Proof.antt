@@ -1,15 +1,12 @@
 -- `row_of` gives what the book keeps of where the number leads.
-use Rattle.seize_book.proofs.Kit.{join, Lfts, NamedLft, named_lft, ℕ, List, [], ◌∷◌, ◌≡◌, refl, sym, subst, proved, named, w64, u64, vint, uint_vals, uint_Tells, Val, vptr, SProp, emp, Fml, ftrue, fsep, flft, ‵, raw, ◌⊛◌, some, given, later, await, ◌$◌, ◌∵◌, !, qed, by, move, keep, split, fsplit, fsplit3, fjoin, fjoin3, fpick, pick, learn, use0, use1, feq_i, no_more, and_then, get, agg, returns, enter, alloc_all, pass_all, free_all, look_at, sets, fact, fact_i, heard, tables, yes, owns, types_at, plain, mut_vals, mut_Tells, nothing, Stays, stay_ref, stay_dropped, walk_of, Goes-ref, Goes-dropped}
-use Rattle.std.specs.Prelude.{is_some, true}
-use Rattle.seize_store.specs.RowTokens.{tells}
+use Rattle.seize_book.proofs.Kit.{join, Lfts, NamedLft, named_lft, ℕ, List, [], ◌∷◌, refl, subst, proved, named, w64, u64, vint, uint_vals, uint_Tells, Val, vptr, SProp, emp, Fml, ftrue, fsep, flft, ‵, raw, ◌⊛◌, some, given, later, await, ◌$◌, ◌∵◌, !, qed, by, move, keep, drop, split, fsplit, fsplit3, fjoin, fjoin3, fpick, pick, learn, use0, use1, feq_i, no_more, and_then, get, agg, returns, enter, alloc_all, pass_all, free_all, look_at, sets, fact, fact_i, heard, tables, yes, owns, types_at, plain, mut_vals, mut_Tells, nothing, Stays, stay_ref, stay_dropped, walk_of, Goes-ref, Goes-dropped}
 use Rattle.seize_store.specs.Named.{IsRowOf}
 use Rattle.seize_store.specs.contracts.row_token.RowToken as RowToken
 use Rattle.seize_book.proofs.Borrowed.{opens_pass, closes_pass, two_out, two_in}
-use Rattle.seize_book.specs.Blocks.{block_number}
 use Rattle.seize_book.specs.Entry.{Entry}
 use Rattle.seize_book.specs.Fair.{Before}
 use Rattle.seize_book.specs.Homesteads.{HasNumber, state_seen}
-use Rattle.seize_book.specs.Tokens.{pass_owns, chunk_tag, leads}
+use Rattle.seize_book.specs.Tokens.{pass_owns, leads}
 use Rattle.seize_book.specs.contracts.book.pass.Pass as Pass
 use Rattle.seize_book.proofs.Fields.{Token, token, token_made, ends}
 use Rattle.seize_book.proofs.Looks.{finds_row, looked}
@@ -38,7 +35,7 @@ row_of_spec 𝓤 𝓛 𝓜 𝓡 wired =
     let v : ℕ = asked.0 in let L : Fml = leads b.name v in
     use1 𝓛 (later (some (λ (log : List Entry). given (Before b.name b.id b.seen [] log × IsDistinct 𝓛 b.name) (‵ (pass_owns b.name b.id log) ⊛ ‵ L)))) (finds_row 𝓛 b.name b.id b.seen v asked.1) $ await ! tt $ pick ! (λ log. learn ! (λ so. split ! $
     -- [what the pass owns; where the number leads; the pass; its cell, in four entries]
-    move ! (1 ∷ []) $ fpick ! (λ way. let b' : (Pass.the_row ℓ).Denot = record b { seen = log } in let r : RowToken.the_row.Denot = record { marker = record {}; store = b.name.store; row = way.row; chunks = way.chunks; made = way.made } in
+    move ! (1 ∷ []) $ fsplit ! $ move ! (1 ∷ []) $ drop ! $ fpick ! (λ way. let b' : (Pass.the_row ℓ).Denot = record b { seen = log } in let r : RowToken.the_row.Denot = record { marker = record {}; store = b.name.store; row = way.row; chunks = way.chunks; made = way.made } in
     move ! (2 ∷ 1 ∷ []) $ join ! $ move ! (2 ∷ 0 ∷ 3 ∷ 4 ∷ 5 ∷ []) $ closes_pass ! tt ℓ b' refl vs pb po $
     -- [the pass, in two; its token; what is known of the row]
     sets ! (agg ! (no_more !)) refl (tt, tt) $ sets ! (agg ! (and_then ! (get ! refl) (no_more !))) refl (tt, (tt, tt)) $

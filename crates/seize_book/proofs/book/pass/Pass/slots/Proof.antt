@@ -1,6 +1,6 @@
 -- `slots` gives what the book keeps of the table where its heads lie.
-use Rattle.seize_book.proofs.Kit.{join, Lfts, NamedLft, named_lft, ℕ, List, [], ◌∷◌, ◌≡◌, refl, sym, proved, named, Val, vptr, SProp, emp, Fml, ftrue, fsep, flft, ‵, raw, ◌⊛◌, some, given, later, await, ◌$◌, ◌∵◌, !, qed, by, move, keep, split, fsplit, fsplit3, fjoin, fjoin3, pick, learn, use0, use1, feq_i, no_more, and_then, get, agg, returns, enter, alloc_all, pass_all, free_all, look_at, sets, fact, fact_i, heard, tables, owns, types_at, plain, mut_vals, mut_Tells, nothing, Stays, stay_ref, walk_of, Goes-ref}
-use Rattle.std.specs.Prelude.{Option, Some, None, is_some, length, true}
+use Rattle.seize_book.proofs.Kit.{join, Lfts, NamedLft, named_lft, ℕ, List, [], ◌∷◌, refl, proved, named, Val, vptr, SProp, emp, Fml, ftrue, fsep, flft, ‵, raw, ◌⊛◌, some, given, later, await, ◌$◌, ◌∵◌, !, qed, by, move, keep, split, fsplit, fsplit3, fjoin, fjoin3, pick, learn, use0, use1, feq_i, no_more, and_then, get, agg, returns, enter, alloc_all, pass_all, free_all, look_at, sets, fact_i, tables, owns, types_at, plain, mut_vals, mut_Tells, nothing, Stays, stay_ref, walk_of, Goes-ref}
+use Rattle.std.specs.Prelude.{length}
 use Rattle.seize_table.specs.contracts.tls.all_filled.AllFilled as All
 use Rattle.seize_book.proofs.Borrowed.{opens_pass, closes_pass, two_out, two_in}
 use Rattle.seize_book.specs.Book.{after}

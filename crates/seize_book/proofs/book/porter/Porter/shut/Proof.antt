@@ -1,5 +1,5 @@
 -- `shut` comes home, and gives the first pass what it has there.
-use Rattle.seize_book.proofs.Kit.{Fml, sym, static_lft, List, [], ◌∷◌, refl, proved, Val, SProp, emp, ftrue, ‵, raw, ◌⊛◌, some, given, later, await, ◌$◌, ◌∵◌, !, qed, by, move, keep, split, fsplit, fjoin, pick, learn, use0, use1, rewrite, no_more, and_then, returns, enter, alloc_all, pass_all, free_all, look_at, get, sets, agg, fact_i, tables, yes, owns, types_at, plain, nothing, Stays, stay_dropped, walk_of, Goes-dropped}
+use Rattle.seize_book.proofs.Kit.{static_lft, List, [], ◌∷◌, refl, proved, Val, SProp, emp, ftrue, ‵, raw, ◌⊛◌, some, given, later, await, ◌$◌, ◌∵◌, !, qed, by, move, keep, split, fsplit, fjoin, pick, learn, use0, use1, no_more, and_then, returns, enter, alloc_all, pass_all, free_all, look_at, get, sets, agg, fact_i, tables, yes, owns, types_at, plain, nothing, Stays, stay_dropped, walk_of, Goes-dropped}
 use Rattle.std.proofs.Common.{true}
 use Rattle.seize_book.proofs.Borrowed.{Mark, mark_made}
 use Rattle.seize_book.proofs.Shares.{goes_home}

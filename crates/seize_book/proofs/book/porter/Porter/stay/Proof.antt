@@ -1,7 +1,7 @@
 -- `stay` comes home, and makes the first pass of what the porter owns there. The work has this pass where it lies, by a loan; when the loan
 -- is over, the porter is made of the pass again. A token of the book is kept meanwhile, which has seen what the pass had: the porter at home
 -- has seen that too.
-use Rattle.seize_book.proofs.Kit.{◌≡◌, ℕ, List, [], ◌∷◌, ◌++◌, refl, sym, subst, leaves, named, fm, Val, vptr, SProp, ent, emp, Lft, Share, Fml, ftrue, flft, ‵, raw, ◌⊛◌, some, given, later, at_ret, ◌$◌, ◌∵◌, !, qed, by, move, keep, drop, split, split3, join, fsplit, fjoin, pick, learn, use0, use1, use2, use3, await, rewrite, stop, addr, of_opd, no_more, and_then, first, blocks, exec, returns, enter, alloc_all, pass_all, free_all, look_at, get, through, sets, env, agg, fact, fact_i, tables, RattleType, owns, types_at, plain, feq_i, fjoin3, fsplit3, mut_Tells, nothing, opens, closes, heard, Stays, stay_ref, walk_of, Goes-ref, static_lft}
+use Rattle.seize_book.proofs.Kit.{◌≡◌, ℕ, List, [], ◌∷◌, ◌++◌, refl, sym, subst, leaves, named, fm, Val, vptr, SProp, ent, emp, Lft, Share, ftrue, flft, ‵, raw, ◌⊛◌, some, given, later, at_ret, ◌$◌, ◌∵◌, !, qed, by, move, keep, drop, split, split3, join, fsplit, fjoin, pick, learn, use0, use1, use2, use3, await, rewrite, stop, addr, of_opd, no_more, and_then, first, blocks, exec, returns, enter, alloc_all, pass_all, free_all, look_at, get, through, sets, env, agg, fact, fact_i, tables, RattleType, owns, types_at, plain, feq_i, fjoin3, fsplit3, mut_Tells, nothing, opens, closes, heard, Stays, stay_ref, walk_of, Goes-ref, static_lft}
 use Rattle.std.proofs.Common.{true}
 use Rattle.std.proofs.raw_atomic.Walks.{proved_at}
 use mir.Syntax.{Ty, a_type, dcons, dnil}

@@ -1,4 +1,4 @@
-use Rattle.std.proofs.Common.{◌≡◌, refl, ap, subst, sym, ◌∙◌, true}
+use Rattle.std.proofs.Common.{◌≡◌, ap, subst, sym, ◌∙◌, true}
 use Rattle.std.specs.Prelude.{take, drop}
 use Rattle.seize_book.specs.Ledger.{HoldersKnow}
 use Rattle.seize_book.specs.Book.{rules}

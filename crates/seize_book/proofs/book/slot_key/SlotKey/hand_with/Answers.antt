@@ -1,4 +1,4 @@
-use Rattle.std.proofs.Common.{sym, ◌∙◌, ap, subst, List}
+use Rattle.std.proofs.Common.{sym, ◌∙◌, ap, subst}
 use Rattle.seize_machine.specs.Machine.Event.{Hand}
 use Rattle.seize_book.specs.Ledger.{with_list}
 use Rattle.seize_book.specs.Adding.{deed_with_words}
@@ -10,10 +10,7 @@ use Rattle.seize_book.specs.declared.book.keys.Keys.{Keys}
 use Rattle.seize_book.proofs.Further.{known_then, may_hand_with}
 use Rattle.seize_book.proofs.Hands.{hands_once, if_some}
 use Rattle.seize_book.proofs.Values.{blocks_later, labels_later}
-use Rattle.seize_book.specs.Entry.{Entry}
-use Rattle.seize_book.specs.Ledger.{HeldKey}
 use Rattle.seize_book.specs.Linked.{are_linked}
-use Rattle.seize_book.specs.Tokens.{Name}
 use Rattle.seize_book.proofs.Linked.{are_later}
 use Rattle.seize_book.proofs.book.slot_key.SlotKey.hand_with.Goals as goal
 

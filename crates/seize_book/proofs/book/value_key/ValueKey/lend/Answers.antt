@@ -2,7 +2,7 @@ use Rattle.seize_book.proofs.Renames.{lent_goes, lent_cell, lent_home, lent_next
 use Rattle.seize_book.proofs.book.value_key.ValueKey.lend.Goals as goal
 
 pub lend-requires : goal.lend-requires
-lend-requires c = (c.args.self.now.one, c.requires.next.1, c.requires.lent, c.requires.place)
+lend-requires c = (c.args.self.now.one, c.requires.next.1, c.requires.lent, c.requires.place, c.requires.permit)
 
 pub returns-clause-next : goal.returns-clause-next
 returns-clause-next c =

@@ -1,9 +1,6 @@
-use Rattle.std.proofs.Common.{List, sym, ap, ◌∙◌}
-use Rattle.seize_book.specs.Entry.{Entry}
-use Rattle.seize_book.specs.Ledger.{HeldKey}
+use Rattle.std.proofs.Common.{sym, ap, ◌∙◌}
 use Rattle.seize_book.specs.Linked.{are_linked}
 use Rattle.seize_book.specs.Private.{are_of_blocks}
-use Rattle.seize_book.specs.Tokens.{Name}
 use Rattle.seize_book.proofs.Linked.{append_linked}
 use Rattle.seize_book.proofs.Values.{blocks_append, labels_append}
 use Rattle.seize_book.specs.Private.{labels_of}

@@ -7,7 +7,6 @@ use Rattle.seize_book.specs.Homes.{home_of}
 use Rattle.seize_book.specs.Ledger.{HeldKey}
 use Rattle.seize_book.specs.Linked.{are_linked}
 use Rattle.seize_book.specs.Private.{are_of_blocks, is_one, key_of, label_of, labels_of}
-use Rattle.seize_book.specs.Tokens.{Name}
 use Rattle.seize_book.specs.declared.book.keys.Keys.{Keys}
 use Rattle.seize_book.proofs.Lasts.{apart_at, last_one}
 use Rattle.seize_book.proofs.Linked.{parted_linked}

@@ -1,9 +1,6 @@
-use Rattle.std.proofs.Common.{List, ap, ◌∙◌}
-use Rattle.seize_book.specs.Entry.{Entry}
-use Rattle.seize_book.specs.Ledger.{HeldKey}
+use Rattle.std.proofs.Common.{ap, ◌∙◌}
 use Rattle.seize_book.specs.Linked.{are_linked}
 use Rattle.seize_book.specs.Private.{are_of_blocks}
-use Rattle.seize_book.specs.Tokens.{Name}
 use Rattle.seize_book.proofs.Linked.{append_linked, value_linked}
 use Rattle.seize_book.proofs.Values.{blocks_append, value_blocks}
 use Rattle.seize_book.proofs.book.value_keys.ValueKeys.push.Goals as goal

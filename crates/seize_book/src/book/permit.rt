@@ -1,0 +1,89 @@
+//! Permits: which codes may be lent with the values of a book, and what holds of each of these. Nothing here has bytes.
+ghost use Rattle.std.specs.Prelude.{◌≡◌, ℕ, List};
+ghost use base.Stored.{Gv, coded_list, coded_ℕ};
+ghost use denote.Sharing.{said};
+ghost use Rattle.seize_book.specs.Permits.{all_permitted, knows_permits};
+
+use seize_store::Family;
+use std::marker::{Model, PhantomData};
+
+/// What holds of each code that may be lent with the values of a book of this family.
+pub trait Condition {
+    ghost holds: { ℕ → Gv → Type 0 };
+}
+
+/// These codes may be lent, for good. It doesn't know what holds of them: `Permits::check` says it.
+#[derive(Drop)]
+pub struct Permit {
+    pub(crate) marker: PhantomData<()>,
+    /// The list in which they stand.
+    pub ghost list: { ℕ },
+    /// The numbers of the codes.
+    pub ghost codes: { List ℕ } by { coded_list coded_ℕ },
+}
+
+impl Model for Permit {
+    ghost also_owns = { λ p. all_permitted p.list p.codes };
+
+    ghost also_shares = { λ p _ κ. said (all_permitted p.list p.codes) κ };
+}
+
+/// The list of the codes that may be lent. The condition holds of each of them. The list is there for good, and only grows.
+pub struct Permits<C: Condition> {
+    marker: PhantomData<C>,
+    /// The list.
+    pub ghost list: { ℕ },
+    /// The family of the book.
+    pub ghost family: { ℕ },
+}
+
+impl<C: Condition> Model for Permits<C> {
+    ghost also_owns = { λ p. knows_permits (C.holds p.family) p.list };
+
+    ghost also_shares = { λ p _ κ. said (knows_permits (C.holds p.family) p.list) κ };
+}
+
+impl<C: Condition> Permits<C> {
+    ghost use Rattle.std.specs.Prelude.{[], ◌∷◌};
+    ghost use Rattle.seize_book.specs.Loans.{loan_number};
+    ghost use Rattle.seize_book.specs.Permits.{AllAre};
+
+    /// An empty list, for the book of this family.
+    pub fn new(_family: &Family) -> Permits<C>
+        ensures { result.family ≡ _family.now.number }
+    {
+        Permits {
+            marker: PhantomData,
+        }
+    }
+
+    /// The code of this value comes into the list.
+    pub fn permit<T>(&self, _value: &T) -> Permit
+        requires { C.holds self.now.family (T.row.coded.code _value.now) }
+        ensures { (result.list ≡ self.now.list) × (result.codes ≡ loan_number (T.row.coded.code _value.now) ∷ []) }
+    {
+        Permit {
+            marker: PhantomData,
+        }
+    }
+
+    /// The condition holds of the codes that a permit is for. It does nothing when the program runs: its contract is the law.
+    pub fn check(&self, permit: &Permit)
+        requires { permit.now.list ≡ self.now.list }
+        ensures { AllAre (C.holds self.now.family) permit.now.codes }
+    {}
+}
+
+unsafe impl Send for Permit {}
+
+unsafe impl Sync for Permit {}
+
+impl<C: Condition> Drop for Permits<C> {
+    fn drop(self) {
+        let Self { marker: _ } = self;
+    }
+}
+
+unsafe impl<C: Condition> Send for Permits<C> {}
+
+unsafe impl<C: Condition> Sync for Permits<C> {}

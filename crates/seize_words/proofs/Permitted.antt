@@ -1,0 +1,24 @@
+-- Each value that was named is one of those with which something is lent whose code may be.
+use Rattle.std.proofs.Common.{◌≡◌, ℕ, zero, suc, Bool, true, false, ◌||◌, ◌==◌, List, [], ◌∷◌, map, refl, sym, ◌∙◌, ap, subst}
+use base.Stored.{Gv}
+use Rattle.seize_machine.specs.Machine.State.{has}
+use Rattle.seize_machine.proofs.Facts.{eq_true}
+use Rattle.seize_book.specs.Loans.{AllCarryOne, CarriesOne, loan_number, loan_of}
+use Rattle.seize_book.specs.Permits.{AllAre, IsOf}
+use Rattle.seize_words.specs.Chunks.{HaveCodesOf}
+
+permitted : (holds : Gv → Type 0) (vs : List ℕ) (v : ℕ) → has v vs ≡ true → CarriesOne v → AllAre holds (map loan_of vs) → IsOf holds (loan_of v)
+permitted holds [] v named lent all = absurd (cc)
+permitted holds (u ∷ vs) v named lent all = go (u == v) refl (loan_of u) refl all named (permitted holds vs v)
+  where
+    go : (b : Bool) → (u == v) ≡ b → (l : ℕ) → loan_of u ≡ l → AllAre holds (l ∷ map loan_of vs) → (b || has v vs) ≡ true
+        → (has v vs ≡ true → CarriesOne v → AllAre holds (map loan_of vs) → IsOf holds (loan_of v)) → IsOf holds (loan_of v)
+    go true e zero is all h others = absurd (lent (ap loan_of (sym (eq_true u v e)) ∙ is))
+    go true e (suc l) is all h others = subst (IsOf holds) (sym is ∙ ap loan_of (eq_true u v e)) all.0
+    go false e zero is all h others = others h lent all
+    go false e (suc l) is all h others = others h lent all.1
+
+pub have_codes : {T : Type 0} (code : T → Gv) (vs ls : List ℕ) → AllCarryOne vs → ls ≡ map loan_of vs → AllAre (λ g. (x : T) × (code x ≡ g)) ls → HaveCodesOf code vs
+have_codes {T} code vs ls lent are all v named =
+    let is = permitted (λ g. (x : T) × (code x ≡ g)) vs v named (lent v named) (subst (AllAre (λ g. (x : T) × (code x ≡ g))) are all) in
+    (is.2.0, sym is.1 ∙ ap loan_number (sym is.2.1))
