@@ -35,12 +35,12 @@ pub use Rattle.seize_book.proofs.Numbers.{may_take_by}
 pub use Rattle.seize_book.proofs.Values.{blocks_later, blocks_within, keys_later, labels_append, labels_later, none_of}
 -- keys of one value, and what they know of its block
 pub use Rattle.seize_book.proofs.Firsts.{noted_one, one_label, others_closed, others_know, own_is, unchanged_last, unchanged_value}
--- the keys of values that were never named, put together, and what the key of one knows that was put
-pub use Rattle.seize_book.proofs.Further.{first_new, next_known, none_new, pushed_new}
+-- no values were never named
+pub use Rattle.seize_book.proofs.Further.{none_new}
 -- keys of several values, put together or apart
 pub use Rattle.seize_book.proofs.Linked.{are_later, closed_after, parted_joined, still_closed}
 -- and how they lead on
-pub use Rattle.seize_book.proofs.Leading.{has_noted, last_closes, last_leads, leads_next, none_closed, one_leads}
+pub use Rattle.seize_book.proofs.Leading.{has_noted, last_closes, none_closed, one_leads}
 -- what the list says is kept of values
 pub use Rattle.seize_book.proofs.Kept.{alike_told, all_of_told, all_told_append, all_told_grow, all_told_later, all_told_renewed, both_told}
 pub use Rattle.seize_book.proofs.Kept.{first_told, joined_told, pushed_told, put_told, retired_told, told_apart, told_later}
@@ -49,7 +49,7 @@ pub use Rattle.seize_book.proofs.Once.{told_once}
 -- what is known of a value that a slot's call is about to hand, and when it was handed
 pub use Rattle.seize_book.proofs.Hands.{hands_gone, hands_soon, settles_after, soon_named}
 -- with a value that was named something is lent
-pub use Rattle.seize_book.proofs.LentValues.{gone_lent, named_lent}
+pub use Rattle.seize_book.proofs.LentValues.{named_lent}
 -- a value that was found in an activation which has not ended was not reclaimed
 pub use Rattle.seize_book.proofs.Standing.{found_stands, gone_over}
 -- of two beginnings one is the longer, and has seen what the other has

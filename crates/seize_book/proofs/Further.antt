@@ -2,33 +2,28 @@
 use Rattle.std.proofs.Common.{◌≡◌, ℕ, zero, suc, ◌<◌, ◌≤◌, Bool, true, false, not, ◌||◌, ◌==◌, if◌then◌else◌, List, [], ◌∷◌, ◌++◌, map, Option, Some, None, is_some, refl, sym, ◌∙◌, ap, subst, ◌⊎◌, inl, inr, ⊎_elim, arith}
 use Rattle.std.specs.Prelude.{slice_set}
 use Rattle.std.specs.List.{Contains, list_all, list_any}
-use mathlib.Core.List.{cons≢nil}
 use Rattle.std.proofs.lemmas.Bool.{and_from, or_from, or_left, or_right}
-use Rattle.seize_book.specs.Lending.{IsLentKey}
 use Rattle.seize_machine.specs.Machine.State.{State, are_distinct, has, linked_values, slot_at}
 use Rattle.seize_machine.specs.Machine.Event.{Hand}
 use Rattle.seize_machine.specs.Machine.Next.{are_fresh, hand, handing_at, next, of_call, scheme, slot_handed}
 use Rattle.seize_machine.specs.declared.machine.event.Answer.{Answer}
 use Rattle.seize_machine.specs.declared.machine.event.Answer.TheVariants.{Handed}
 use Rattle.seize_machine.proofs.Facts.{Step, and_true, eq_true, gone_grows, is_true, loose_named, not_true, step_of}
-use Rattle.seize_book.specs.Ledger.{AllThere, Beside, HeldKey, HoldersKnow, with_list}
+use Rattle.seize_book.specs.Ledger.{AllThere, Beside, HeldKey, HoldersKnow}
 use Rattle.seize_book.specs.Adding.{deed_with_words}
 use Rattle.seize_book.specs.Entry.{Deed, Entry, Made}
 use Rattle.seize_book.specs.Kept.{kepts_of}
 use Rattle.seize_book.specs.Book.{HolderKnows, IsLegalList, TheBlock, after, blocks, kind_of, rules, slots}
 use Rattle.seize_book.specs.Fair.{Before, Covers, Fair, IsLabel, MayAdd, pass_key}
 use Rattle.seize_book.specs.Homes.{HasOne, IsVacant, home_of}
-use Rattle.seize_book.specs.Books.{IsNextIn}
-use Rattle.seize_book.specs.Values.{AreLast, AreOfBook, AllNew, AreNew, AreSpent, IsEmpty, IsKeyOfOne, LieApart, Nexts, Pushes, book_in, values_of}
-use Rattle.seize_book.specs.Others.{CannotRetire, IsLast, IsLastIn, IsSpent, IsWith, Knew, book_of, state_of, value_of}
-use Rattle.seize_book.specs.Private.{is_one, key_of, label_of, own_of, are_of_blocks, labels_of}
+use Rattle.seize_book.specs.Values.{AreOfBook, AllNew, AreNew, IsEmpty, LieApart, book_in, values_of}
+use Rattle.seize_book.specs.Others.{IsLastIn, IsSpent, IsWith, Knew}
+use Rattle.seize_book.specs.Private.{is_one, key_of, own_of, are_of_blocks, labels_of}
 use Rattle.seize_book.specs.Slots.{IsKeyOfBook, hands_next, slot_number, slot_of}
 use Rattle.seize_book.specs.Loans.{CarriesOne}
 use Rattle.seize_book.specs.Tokens.{Name, start}
-use Rattle.seize_book.specs.declared.book.keys.Keys.{Keys}
 use Rattle.seize_book.specs.declared.book.pass.Pass.{Pass}
 use Rattle.seize_book.specs.declared.book.slot_key.SlotKey.{SlotKey}
-use Rattle.seize_book.specs.declared.book.value_key.ValueKey.{ValueKey}
 use Rattle.seize_book.specs.declared.book.value_keys.ValueKeys.{ValueKeys}
 use Rattle.seize_book.proofs.Lists.{after_push, equal, reached_after}
 use Rattle.seize_book.proofs.Private.{differ, only, only_is}
@@ -306,45 +301,5 @@ module _ (key : SlotKey) (further : ValueKeys) (pass : Pass) (apart : LieApart (
         (λ v c. subst (λ (n : Name). IsLastIn v (after (start n) pass'.seen)) (sym name) (known.1 v (subst (λ (vs : List ℕ). Contains vs v) same c))),
       )
 
--- How keys of new values are put together.
-
-append_new : (n : Name) (held more : List (HeldKey Entry)) → AllNew n held → AllNew n more → AllNew n (held ++ more)
-append_new n [] more all new = new
-append_new n (h ∷ held) more all new = (all.0, append_new n held more all.1 new)
-
--- the key of one value alone
-one_new : (n : Name) (held : List (HeldKey Entry)) → is_one blocks held ≡ true → has (label_of held) (after (start n) (own_of held)).named ≡ false → IsVacant (after (start n) (own_of held)) (home_of (label_of held)) → CarriesOne (label_of held) → AllNew n held
-one_new n [] one unnamed vacant lent = absurd (cc)
-one_new n (h ∷ g ∷ held) one unnamed vacant lent = absurd (cc)
-one_new n (h ∷ []) one unnamed vacant lent = ((unnamed, vacant, lent), tt)
-
 pub none_new : (keys : ValueKeys) (pass : Pass) → IsEmpty keys pass → AreNew keys
 none_new keys pass none = subst (AllNew (book_in keys)) (sym none.1) tt
-
-pub first_new : (value : ValueKey) (keys : ValueKeys) (number : ℕ) → IsKeyOfOne value keys → IsNextIn value number → IsLentKey value → AreNew keys
-first_new value keys number is new lent =
-    subst (λ (ks : Keys). AllNew ks.name ks.held) (sym is.0) (one_new (book_of value) value.keys.held value.one new.0 new.1 lent)
-
--- and of one more
-pub pushed_new : (keys : ValueKeys) (value : ValueKey) (keys' : ValueKeys) (number : ℕ) → Pushes keys value keys' → book_of value ≡ book_in keys → AreNew keys → IsNextIn value number → IsLentKey value → AreNew keys'
-pushed_new keys value keys' number pushes book all new lent =
-    subst (λ (t : Name × List (HeldKey Entry)). AllNew t.0 t.1) (λ j. (sym pushes.0 j, sym pushes.2 j))
-    (append_new (book_in keys) keys.keys.held value.keys.held all
-    (subst (λ (n : Name). AllNew n value.keys.held) book (one_new (book_of value) value.keys.held value.one new.0 new.1 lent)))
-
--- The key of the first of some values that were put knows what they all know.
-
-first_own : (a b held : List (HeldKey Entry)) (seen : List Entry) → is_one blocks a ≡ true → a ++ b ≡ with_list held seen → own_of a ≡ seen
-first_own [] b held seen one e = absurd (cc)
-first_own (x ∷ y ∷ a) b held seen one e = absurd (cc)
-first_own (x ∷ []) b [] seen one e = absurd (cons≢nil e)
-first_own (x ∷ []) b (h ∷ held) seen one e = ap own_of e
-
-pub next_known : (keys : ValueKeys) (value : ValueKey) (keys' : ValueKeys) (pass : Pass) (held : List (HeldKey Entry)) → Nexts keys value keys' → book_in keys ≡ pass.name → keys.keys.held ≡ with_list held pass.seen → AreSpent keys pass → AreLast keys pass
-    → CannotRetire value × IsLast value
-next_known keys value keys' pass held nexts book own spent last =
-    let v : ℕ = value_of value in
-    let first : Contains (values_of keys) v = subst (λ (vs : List ℕ). Contains vs v) (sym nexts.2) (0, omega arith, refl) in
-    let knows : state_of value.keys ≡ after (start pass.name) pass.seen =
-    ap (λ (t : Name × List Entry). after (start t.0) t.1) (λ j. ((nexts.1 ∙ book) j, first_own value.keys.held keys'.keys.held held pass.seen value.one (sym nexts.3 ∙ own) j)) in
-    (subst (IsSpent v) (sym knows) (spent v first), subst (IsLastIn v) (sym knows) (last v first))

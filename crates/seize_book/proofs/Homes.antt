@@ -31,10 +31,6 @@ another_with k place carried cell p bound small =
       ap (λ (r : ℕ). left_of (right_of (right_of r))) its_rest ∙ (ap (λ (r : ℕ). left_of (right_of r)) (right_pair place turn) ∙ (ap left_of (right_pair carried inner) ∙ left_pair cell bound)),
     )
 
--- with which nothing is lent
-pub another_of : (k p bound : ℕ) → p < 2 ^ 64 → (v : ℕ) × (home_of v ≡ k) × (block_number v ≡ p) × (bound ≤ v)
-another_of k p bound small = let v = another_with k 0 0 0 p bound small in (v.0, v.1, v.2, v.3)
-
 -- what changes nothing of a home changes nothing of its values
 
 other : (v w : ℕ) → (home_of w == home_of v) ≡ false → (w == v) ≡ false

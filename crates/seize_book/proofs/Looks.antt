@@ -215,51 +215,34 @@ module _ {M : Type 1} {𝓤 : Ura M} (𝓛 : Logic 𝓤) (n : Name) (p : ℕ) wh
       learn ! (λ so. check ! so $ nothing ! $ move ! (1 ∷ 0 ∷ []) $ done !))) tt) $
       await ! tt $ pick ! (λ log. learn ! (λ so. split3 ! $ now ! $ show ! (FoundHomes seen row chunks) log $ check ! (so.0, so.1, distinct) $ keep ! (0 ∷ []) $ done !)))
 
-  -- where the number of a value leads that was named
-  abbrev pub FoundRow : List Entry → ℕ → List Entry → Pr
-  FoundRow seen v log = guard 𝓤 (Before n p seen [] log × IsDistinct 𝓛 n) (⟦ pass_owns n p log ⟧ ∗ ⟦ leads n v ⟧)
+  -- what the book says of all that was named or made is looked up, and more of it is had afterwards
+  abbrev Had : List Entry → (List Entry → Fml) → List Entry → Pr
+  Had seen Y log = guard 𝓤 (Before n p seen [] log × IsDistinct 𝓛 n) (⟦ pass_owns n p log ⟧ ∗ ⟦ Y log ⟧)
 
-  pub finds_row : (seen : List Entry) (v : ℕ) → has v (after st seen).named ≡ true → ⟦ pass_owns n p seen ⟧ ⊢ H.⇛ (ex 𝓤 (FoundRow seen v))
-  finds_row seen v named = let L : Fml = leads n v in qed 𝓛 ((‵ (knows n) ⊛ ‵ (pass_holds n p seen)) ∷ []) ∵ updating ! $ split ! $
+  looks_up : (seen : List Entry) (Y : List Entry → Fml)
+      → ((log : List Entry) → IsPrefix seen log → IsLegalList st log → ⟦ places_known n (after st log) ⟧ ∗ ⟦ ftrue ⟧ ⊢ guard 𝓤 (Unit {0}) (⟦ places_known n (after st log) ⟧ ∗ ⟦ Y log ⟧))
+      → ⟦ pass_owns n p seen ⟧ ⊢ H.⇛ (ex 𝓤 (Had seen Y))
+  looks_up seen Y there = qed 𝓛 ((‵ (knows n) ⊛ ‵ (pass_holds n p seen)) ∷ []) ∵ updating ! $ split ! $
       use1 𝓛 (given (IsDistinct 𝓛 n) (‵ (knows n))) (distinct_links 𝓛 n) $ learn ! (λ distinct. fjoin ! $ nothing ! $ nothing ! $ move ! (2 ∷ 0 ∷ 1 ∷ []) $
-      use3 𝓛 (later (some (λ (log : List Entry). given (Before n p seen [] log × Unit {0}) (‵ (pass_owns n p log) ⊛ ‵ ftrue ⊛ ‵ L))))
-      (looks_with seen [] (λ _. Unit {0}) ⟦ ftrue ⟧ (λ _. ⟦ L ⟧) (of_values seen [] (λ _. Unit {0}) ⟦ ftrue ⟧ (λ _. ⟦ L ⟧) leads_there) tt) $
-      await ! tt $ pick ! (λ log. learn ! (λ so. split3 ! $ now ! $ show ! (FoundRow seen v) log $ check ! (so.0, distinct) $ keep ! (0 ∷ 2 ∷ []) $ done !)))
-    where
-      leads_there : (log : List Entry) → IsPrefix seen log → IsLegalList st log → ⟦ all_lead n (after st log).named ⟧ ∗ ⟦ ftrue ⟧ ⊢ guard 𝓤 (Unit {0}) (⟦ all_lead n (after st log).named ⟧ ∗ ⟦ leads n v ⟧)
-      leads_there log grows legal = let vs : List ℕ = (after st log).named in qed 𝓛 (‵ (all_lead n vs) ∷ ‵ ftrue ∷ []) ∵ keep ! (0 ∷ []) $
-          use1 𝓛 (‵ (all_lead n vs) ⊛ ‵ (all_lead n vs)) (all_twice 𝓛 n vs) $ split ! $
-          use1 𝓛 (‵ (leads n v)) (one_leads 𝓛 n vs v (named_later st seen log v grows legal named)) $
-          check ! tt $ move ! (1 ∷ 0 ∷ []) $ done !
+      use3 𝓛 (later (some (λ (log : List Entry). given (Before n p seen [] log × Unit {0}) (‵ (pass_owns n p log) ⊛ ‵ ftrue ⊛ ‵ (Y log))))) (looks_with seen [] (λ _. Unit {0}) ⟦ ftrue ⟧ (λ log. ⟦ Y log ⟧) there tt) $
+      await ! tt $ pick ! (λ log. learn ! (λ so. split3 ! $ now ! $ show ! (Had seen Y) log $ check ! (so.0, distinct) $ keep ! (0 ∷ 2 ∷ []) $ done !)))
+
+  looks_up_values : (seen : List Entry) (Y : List Entry → Fml) → ((log : List Entry) → IsPrefix seen log → IsLegalList st log → ⟦ all_lead n (after st log).named ⟧ ⊢ ⟦ Y log ⟧)
+      → ⟦ pass_owns n p seen ⟧ ⊢ H.⇛ (ex 𝓤 (Had seen Y))
+  looks_up_values seen Y tells = looks_up seen Y (of_values seen [] (λ _. Unit {0}) ⟦ ftrue ⟧ (λ log. ⟦ Y log ⟧) (λ log grows legal. let A : Fml = all_lead n (after st log).named in
+      qed 𝓛 (‵ A ∷ ‵ ftrue ∷ []) ∵ keep ! (0 ∷ []) $ use1 𝓛 (‵ A ⊛ ‵ A) (all_twice 𝓛 n (after st log).named) $ split ! $ use1 𝓛 (‵ (Y log)) (tells log grows legal) $ check ! tt $ move ! (1 ∷ 0 ∷ []) $ done !))
+
+  -- where the number of a value leads that was named
+  pub finds_row : (seen : List Entry) (v : ℕ) → has v (after st seen).named ≡ true → ⟦ pass_owns n p seen ⟧ ⊢ H.⇛ (ex 𝓤 (Had seen (λ _. leads n v)))
+  finds_row seen v named = looks_up_values seen (λ _. leads n v) (λ log grows legal. one_leads 𝓛 n (after st log).named v (named_later st seen log v grows legal named))
 
   -- that what is lent with each value that was named may be lent
-  abbrev pub FoundPermits : List Entry → List Entry → Pr
-  FoundPermits seen log = guard 𝓤 (Before n p seen [] log × IsDistinct 𝓛 n) (⟦ pass_owns n p log ⟧ ∗ ⟦ all_permitted n.permits (map loan_of (after st log).named) ⟧)
-
-  pub finds_permits : (seen : List Entry) → ⟦ pass_owns n p seen ⟧ ⊢ H.⇛ (ex 𝓤 (FoundPermits seen))
-  finds_permits seen = let Told : List Entry → Fml = λ log. all_permitted n.permits (map loan_of (after st log).named) in qed 𝓛 ((‵ (knows n) ⊛ ‵ (pass_holds n p seen)) ∷ []) ∵ updating ! $ split ! $
-      use1 𝓛 (given (IsDistinct 𝓛 n) (‵ (knows n))) (distinct_links 𝓛 n) $ learn ! (λ distinct. fjoin ! $ nothing ! $ nothing ! $ move ! (2 ∷ 0 ∷ 1 ∷ []) $
-      use3 𝓛 (later (some (λ (log : List Entry). given (Before n p seen [] log × Unit {0}) (‵ (pass_owns n p log) ⊛ ‵ ftrue ⊛ ‵ (Told log)))))
-      (looks_with seen [] (λ _. Unit {0}) ⟦ ftrue ⟧ (λ log. ⟦ Told log ⟧) (of_values seen [] (λ _. Unit {0}) ⟦ ftrue ⟧ (λ log. ⟦ Told log ⟧) permitted_there) tt) $
-      await ! tt $ pick ! (λ log. learn ! (λ so. split3 ! $ now ! $ show ! (FoundPermits seen) log $ check ! (so.0, distinct) $ keep ! (0 ∷ 2 ∷ []) $ done !)))
-    where
-      permitted_there : (log : List Entry) → IsPrefix seen log → IsLegalList st log
-          → ⟦ all_lead n (after st log).named ⟧ ∗ ⟦ ftrue ⟧ ⊢ guard 𝓤 (Unit {0}) (⟦ all_lead n (after st log).named ⟧ ∗ ⟦ all_permitted n.permits (map loan_of (after st log).named) ⟧)
-      permitted_there log grows legal = let vs : List ℕ = (after st log).named in qed 𝓛 (‵ (all_lead n vs) ∷ ‵ ftrue ∷ []) ∵ keep ! (0 ∷ []) $
-          use1 𝓛 (‵ (all_lead n vs) ⊛ ‵ (all_lead n vs)) (all_twice 𝓛 n vs) $ split ! $
-          use1 𝓛 (‵ (all_permitted n.permits (map loan_of vs))) (all_permit 𝓛 n vs) $
-          check ! tt $ move ! (1 ∷ 0 ∷ []) $ done !
+  pub finds_permits : (seen : List Entry) → ⟦ pass_owns n p seen ⟧ ⊢ H.⇛ (ex 𝓤 (Had seen (λ log. all_permitted n.permits (map loan_of (after st log).named))))
+  finds_permits seen = looks_up_values seen (λ log. all_permitted n.permits (map loan_of (after st log).named)) (λ log grows legal. all_permit 𝓛 n (after st log).named)
 
   -- where the heads lie of all slots that there are
-  abbrev pub FoundSlots : List Entry → List Entry → Pr
-  FoundSlots seen log = guard 𝓤 (Before n p seen [] log × IsDistinct 𝓛 n) (⟦ pass_owns n p log ⟧ ∗ ⟦ all_lie n (length (after st log).slots) ⟧)
-
-  pub finds_slots : (seen : List Entry) → ⟦ pass_owns n p seen ⟧ ⊢ H.⇛ (ex 𝓤 (FoundSlots seen))
-  finds_slots seen = qed 𝓛 ((‵ (knows n) ⊛ ‵ (pass_holds n p seen)) ∷ []) ∵ updating ! $ split ! $
-      use1 𝓛 (given (IsDistinct 𝓛 n) (‵ (knows n))) (distinct_links 𝓛 n) $ learn ! (λ distinct. fjoin ! $ nothing ! $ nothing ! $ move ! (2 ∷ 0 ∷ 1 ∷ []) $
-      use3 𝓛 (later (some (λ (log : List Entry). given (Before n p seen [] log × Unit {0}) (‵ (pass_owns n p log) ⊛ ‵ ftrue ⊛ ‵ (all_lie n (length (after st log).slots))))))
-      (looks_with seen [] (λ _. Unit {0}) ⟦ ftrue ⟧ (λ log. ⟦ all_lie n (length (after st log).slots) ⟧) lie_there tt) $
-      await ! tt $ pick ! (λ log. learn ! (λ so. split3 ! $ now ! $ show ! (FoundSlots seen) log $ check ! (so.0, distinct) $ keep ! (0 ∷ 2 ∷ []) $ done !)))
+  pub finds_slots : (seen : List Entry) → ⟦ pass_owns n p seen ⟧ ⊢ H.⇛ (ex 𝓤 (Had seen (λ log. all_lie n (length (after st log).slots))))
+  finds_slots seen = looks_up seen (λ log. all_lie n (length (after st log).slots)) lie_there
     where
       lie_there : (log : List Entry) → IsPrefix seen log → IsLegalList st log
           → ⟦ places_known n (after st log) ⟧ ∗ ⟦ ftrue ⟧ ⊢ guard 𝓤 (Unit {0}) (⟦ places_known n (after st log) ⟧ ∗ ⟦ all_lie n (length (after st log).slots) ⟧)

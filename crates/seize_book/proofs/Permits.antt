@@ -62,13 +62,6 @@ module _ {M : Type 1} {𝓤 : Ura M} (𝓛 : Logic 𝓤) where
   permit_if_twice γ zero = qed 𝓛 (‵ ftrue ∷ []) ∵ nothing ! $ done !
   permit_if_twice γ (suc l) = permit_twice γ (suc l)
 
-  pub permitted_twice : (γ : ℕ) (ls : List ℕ) → ⟦ all_permitted γ ls ⟧ ⊢ ⟦ all_permitted γ ls ⟧ ∗ ⟦ all_permitted γ ls ⟧
-  permitted_twice γ [] = qed 𝓛 (‵ ftrue ∷ []) ∵ nothing ! $ done !
-  permitted_twice γ (l ∷ ls) = let A : Fml = permit_if γ l in let B : Fml = all_permitted γ ls in qed 𝓛 (‵ (all_permitted γ (l ∷ ls)) ∷ []) ∵ fsplit ! $
-      use1 𝓛 (‵ A ⊛ ‵ A) (permit_if_twice γ l) $ split ! $ move ! (2 ∷ []) $ use1 𝓛 (‵ B ⊛ ‵ B) (permitted_twice γ ls) $ split ! $
-      -- [the others, twice; the first, twice]
-      move ! (2 ∷ 0 ∷ []) $ fjoin ! $ move ! (2 ∷ 1 ∷ []) $ fjoin ! $ done !
-
   module _ (holds : Gv → Type 0) where
     -- a new list, with no code
     pub begins : emp 𝓤 ⊢ H.⇛ (ex 𝓤 (λ (γ : ℕ). ⟦ knows_permits holds γ ⟧))

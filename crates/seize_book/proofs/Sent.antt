@@ -17,7 +17,7 @@ use Rattle.seize_machine.specs.Machine.State.{State}
 use Rattle.seize_book.specs.Laws.{ended_lives}
 use Rattle.seize_book.specs.Loans.{cell_of, loan_if, loan_of, readers}
 use Rattle.seize_book.specs.Peeks.{keys_show, show_if, sight_if}
-use Rattle.seize_book.specs.Permits.{all_permitted, knows_permits, permit_if}
+use Rattle.seize_book.specs.Permits.{knows_permits, permit_if}
 use Rattle.seize_book.specs.Shared.{period, porter_has, porter_shares, row_has, rows_have, side}
 use Rattle.seize_book.specs.Tokens.{Gate, Name, all_but, all_lead, gate_gives, gate_leaves, gate_lends, gate_share, inside, is_placed, keys_own, knows, lent_pass, lies_if, note_if, notes_own, over, porter_owns, rights_own, rows, slot_labels, start, tickets, way_if}
 use Rattle.seize_book.specs.Begin.{book_owns}
@@ -60,10 +60,6 @@ permit_keyless : (γ l : ℕ) → Keyless (permit_if γ l)
 unfolding at_least
 permit_keyless γ zero = tt
 permit_keyless γ (suc l) = λ ks. (tt, λ _. tt)
-
-pub permitted_keyless : (γ : ℕ) (ls : List ℕ) → Keyless (all_permitted γ ls)
-permitted_keyless γ [] = tt
-permitted_keyless γ (l ∷ ls) = (permit_keyless γ l, permitted_keyless γ ls)
 
 pub list_keyless : (holds : Gv → Type 0) (γ : ℕ) → Keyless (knows_permits holds γ)
 unfolding latest

@@ -20,7 +20,7 @@ use Rattle.seize_machine.specs.Machine.History.{first_or_none}
 use Rattle.seize_machine.specs.Machine.Laws.{added_batch}
 use Rattle.seize_machine.specs.declared.machine.event.Job.TheVariants.{Retire}
 
--- each home has values with each remainder by 2^64, past any bound (`another_of` in `proofs/Homes`)
+-- each home has values with each remainder by 2^64, past any bound (`another_with` in `proofs/Homes`)
 abbrev pub home_of : ℕ → ℕ
 home_of v = left_of (v / 2 ^ 64)
 

@@ -1,6 +1,7 @@
 -- The words in which contracts speak of contents that are lent with values: before a value is named, when it was reclaimed, and where it
 -- was never named and is not to be.
 --     MayBeLent n pool permit           the permit is for the code of what is in the pool, in the list of book n
+--     IsPermitForAll pass permit        it is for what is lent with each value that was ever named, as the pass has seen
 --     MayLend keys ticket pool permit   there is one key of a block, with whose value nothing is lent; the ticket is that of the pool, and
 --                                       the permit for it
 --     IsOfPlace v ticket                the ticket is of the content that the block of the value v has in the store
@@ -16,7 +17,7 @@
 --     IsInBlockOf value value'          it is of a value in the same block of the same book, with the same cell
 --     GoesWith value pool               the pool's content is lent with the value
 --     IsFreeKey value, IsLentKey value  nothing is lent with it;  something is
-use Rattle.std.specs.Prelude.{◌≡◌, ℕ, List, [], ◌∷◌, Some, true, false}
+use Rattle.std.specs.Prelude.{◌≡◌, ℕ, List, [], ◌∷◌, map, Some, true, false}
 use Rattle.seize_content.specs.Loans.{IsLent}
 use Rattle.seize_content.specs.declared.loan.Pool.{Pool}
 use Rattle.seize_content.specs.declared.ticket.Ticket.{Ticket}
@@ -28,8 +29,9 @@ use Rattle.seize_book.specs.Blocks.{block_number}
 use Rattle.seize_book.specs.Book.{after, blocks, slots}
 use Rattle.seize_book.specs.Entry.{Entry}
 use Rattle.seize_book.specs.Homes.{home_of}
+use Rattle.seize_book.specs.Homesteads.{state_seen}
 use Rattle.seize_book.specs.Ledger.{HeldKey}
-use Rattle.seize_book.specs.Loans.{Carries, CarriesNone, cell_of, loan_number, place_of, CarriesOne}
+use Rattle.seize_book.specs.Loans.{Carries, CarriesNone, cell_of, loan_number, loan_of, place_of, CarriesOne}
 use Rattle.seize_book.specs.Others.{Renames, book_of, state_of, value_of, with_label}
 use Rattle.seize_book.specs.Private.{is_one, key_of, label_of}
 use Rattle.seize_book.specs.Slots.{hands_next}
@@ -44,6 +46,9 @@ IsOfPlace v ticket = place_of v ≡ ticket.name
 
 abbrev pub MayBeLent : Name → Pool → Permit → Type 0
 MayBeLent n pool permit = (permit.list ≡ n.permits) × (permit.codes ≡ loan_number pool.value ∷ [])
+
+abbrev pub IsPermitForAll : Pass → Permit → Type 0
+IsPermitForAll pass permit = (permit.list ≡ pass.name.permits) × (permit.codes ≡ map loan_of (state_seen pass).named)
 
 abbrev pub MayLend : Keys → Ticket → Pool → Permit → Type 0
 MayLend keys ticket pool permit =

@@ -20,7 +20,6 @@ pub mod Adding
 pub mod Slots
 pub mod Others
 pub mod Lending
-pub mod Permitted
 pub mod Notes
 pub mod Chains
 pub mod Deposits

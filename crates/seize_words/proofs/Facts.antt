@@ -3,7 +3,7 @@ use Rattle.std.proofs.Common.{◌≡◌, ◌≢◌, ℕ, ◌+◌, ◌-◌, ◌<�
 use Rattle.std.specs.Prelude.{slice_index_or}
 use base.Growing.{prefix_trans}
 use mathlib.Core.List.{IsPrefix}
-use Rattle.seize_machine.specs.Machine.State.{Mark, State, are_distinct, has, head_at, is_active, link_at, linked_values, slot_at}
+use Rattle.seize_machine.specs.Machine.State.{Mark, State, are_distinct, has, link_at, linked_values, slot_at}
 use Rattle.seize_machine.specs.Machine.Event.{Event}
 use Rattle.seize_machine.specs.Machine.History.{IsReached, first_or_none}
 use Rattle.seize_machine.specs.Machine.Next.{next}
@@ -17,7 +17,6 @@ use Rattle.seize_book.specs.Entry.{Deed, Entry, Made, Used}
 use Rattle.seize_words.specs.Activations.{with_units}
 use Rattle.seize_words.specs.Chunks.{IsFoundAt}
 use Rattle.seize_words.specs.Joined.{IsInAt}
-use Rattle.seize_words.specs.Reservations.{IsActivationOf}
 use Rattle.seize_words.specs.Headers.{Stores, Uses, using}
 use Rattle.seize_words.specs.Heads.{IsTrying}
 use Rattle.seize_book.specs.Homes.{home_of}
@@ -33,15 +32,14 @@ use Rattle.seize_book.proofs.Facts.{front_there, legal_front, reached_after, All
 use Rattle.seize_words.proofs.Heads.{slots_grow}
 pub use Rattle.seize_book.proofs.Facts.{after_used}
 -- the keys of values that were never named, put together, and what the key of one knows that was put
-pub use Rattle.seize_book.proofs.Facts.{none_new, first_new, pushed_new, next_known}
+pub use Rattle.seize_book.proofs.Facts.{none_new}
 pub use Rattle.seize_book.proofs.Facts.{plans_used}
 -- a number may be taken again, or the next one, by which are in use
 pub use Rattle.seize_book.proofs.Facts.{may_take_by}
-pub use Rattle.seize_words.proofs.Makes.{is_full_by}
 -- a count's word is 0 just where the count is
 pub use Rattle.seize_book.proofs.Facts.{word_zero}
 -- what a call knows that has still to insert its batch
-pub use Rattle.seize_words.proofs.Inserts.{detached_named, knows_used, looked_named, own_reached}
+pub use Rattle.seize_words.proofs.Inserts.{detached_named, looked_named, own_reached}
 -- what a sight shows by a value's name is what was lent with the value
 pub use Rattle.seize_words.proofs.Contents.{is_lent, same_content}
 -- what is known of a value that a slot's call is about to hand, and when it was handed: what was lent with it comes back in between, and then
@@ -51,7 +49,7 @@ pub use Rattle.seize_book.proofs.Renames.{follows_value}
 pub use Rattle.seize_words.proofs.Chunked.{named_seen, settles_block, settles_hollow, takes_block}
 -- keys lead on: where there are none, and where the last one's note says the next one's word; so the next block is found, and the keys are
 -- closed where it says none
-pub use Rattle.seize_book.proofs.Facts.{has_noted, last_closes, last_leads, leads_next, none_closed, one_leads}
+pub use Rattle.seize_book.proofs.Facts.{has_noted, last_closes, none_closed, one_leads}
 pub use Rattle.seize_book.proofs.Facts.{closed_after, parted_joined}
 pub use Rattle.seize_book.proofs.Facts.{noted_one, one_label, others_closed, others_know, own_is, unchanged_last, unchanged_value}
 pub use Rattle.seize_book.proofs.Facts.{labels_append}
@@ -62,13 +60,13 @@ pub use Rattle.seize_book.proofs.Facts.{told_once}
 -- the blocks of a store have cells for notes, and what was noted there is what is read
 pub use Rattle.seize_words.proofs.Noted.{noted_back, same_note}
 -- with a value that was named something is lent
-pub use Rattle.seize_book.proofs.Facts.{gone_lent, named_lent}
+pub use Rattle.seize_book.proofs.Facts.{named_lent}
 -- a value that was named stays so, and one that was reclaimed
 pub use Rattle.seize_book.proofs.Facts.{gone_later, named_later}
 -- what was found in a link stands while its activation lasts, and so a won exchange takes out what it takes the link to hold
 pub use Rattle.seize_words.proofs.Standing.{found_later, found_stands, took_current, was_found, word_back}
 -- looks, a slot's key, and the walk of its call, in what the key knows later
-pub use Rattle.seize_words.proofs.Traversals.{batch_next, hand_leaves, handing_named, knows_noted, knows_still, looks_twice, same_key, walk_kept, word_stays}
+pub use Rattle.seize_words.proofs.Traversals.{hand_leaves, handing_named, knows_noted, knows_still, looks_twice, same_key, walk_kept, word_stays}
 use Rattle.seize_words.proofs.Stepped.{life_push}
 use Rattle.seize_words.specs.declared.activation.Activation.{Activation}
 use Rattle.seize_book.specs.declared.book.pass.Pass.{Pass}

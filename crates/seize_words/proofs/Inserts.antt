@@ -1,16 +1,13 @@
 -- What a slot's call knows that has detached its batch and has still to insert it: the values of the batch were named, so the blocks with
 -- which it is inserted are found by their numbers. These facts are for callers.
-use Rattle.std.proofs.Common.{◌≡◌, ℕ, true, List, ◌∷◌, [], Some, refl, sym, ap, subst, inr, zero, arith, append-nil}
+use Rattle.std.proofs.Common.{◌≡◌, ℕ, true, List, ◌∷◌, Some, refl, sym, ap, subst, inr, zero, arith}
 use Rattle.std.specs.List.{Contains}
-use mathlib.Core.List.{IsPrefix}
 use Rattle.seize_machine.specs.Machine.State.{Look, are_distinct, has, linked_values}
 use Rattle.seize_machine.specs.Machine.History.{IsReached}
 use Rattle.seize_machine.specs.Machine.Laws.{detached_by}
 use Rattle.seize_book.specs.Blocks.{plans}
 use Rattle.seize_book.specs.Book.{IsLegalList, after}
 use Rattle.seize_book.specs.Chains.{insertion_value}
-use Rattle.seize_book.specs.Entry.{Entry}
-use Rattle.seize_words.specs.Headers.{Uses}
 use Rattle.seize_book.specs.Homesteads.{state_seen}
 use Rattle.seize_book.specs.Slots.{IsKeyOfBook, own_list, slot_number, slot_of, start_of}
 use Rattle.seize_book.specs.Tokens.{Name, start}
@@ -19,14 +16,6 @@ use Rattle.seize_book.specs.declared.book.pass.Pass.{Pass}
 use Rattle.seize_book.specs.declared.book.slot_key.SlotKey.{SlotKey}
 use Rattle.seize_words.proofs.Finds.{held_living, values_of}
 use Rattle.seize_book.proofs.Facts.{reached_after, legal_prefix, AtAll, CallMarked, marked_after, serving_in, slots_in, named_later}
-
--- what the key knows after a use, the pass has seen
-pub knows_used : (key key' : SlotKey) (pass pass' : Pass) (f v : ℕ) → Uses key pass key' pass' f v → Knows key' pass'
-knows_used key key' pass pass' f v uses = record {
-  seen = subst (λ (own : List Entry). IsPrefix own pass'.seen) (sym uses.seen_by.2) ([], append-nil pass'.seen);
-  legal = subst (λ (n : Name). IsLegalList (start n) pass'.seen) (sym uses.same.0) uses.noted.legal;
-  distinct = subst (λ (n : Name). are_distinct (linked_values n.links) ≡ true) (sym uses.same.0) uses.noted.distinct;
-}
 
 module _ (key : SlotKey) (pass : Pass) (book : IsKeyOfBook key pass) (knows : Knows key pass) where
   legal : IsLegalList (start_of key) pass.seen

@@ -17,18 +17,12 @@ use Rattle.seize_book.specs.Ledger.{HeldKey, HoldersKnow, with_list, keys_made}
 use Rattle.seize_book.specs.Entry.{Entry, Made, Deed}
 use Rattle.seize_book.specs.Book.{IsLegalList, HolderKnows, TheSlot, after, births, slots, heads, numbers, totals, of_next_slot, of_slot, rules}
 use Rattle.seize_book.specs.Fair.{Covers, pass_key}
-use Rattle.seize_book.specs.Others.{first_false, state_of, use_flags}
-use Rattle.seize_words.specs.Totals.{IsFull, made_of}
-use Rattle.seize_book.specs.declared.book.numbers_key.NumbersKey.{NumbersKey}
+use Rattle.seize_book.specs.Others.{first_false}
 use Rattle.seize_book.specs.Private.{Tag, is_one, key_of, label_of, note_of, tag_of, own_of}
 use Rattle.seize_words.specs.Stepping.{FoundAs, IsStepWith, MayStepWith, in_step}
 use Rattle.seize_book.specs.Tokens.{Name, start}
 use Rattle.seize_words.specs.Words.{Site}
 use Rattle.seize_book.proofs.Facts.{after_push, equal, free_by, the_only, only, only_is, differ}
-
--- all numbers are in use, as the key of the numbers knows
-pub is_full_by : (its : NumbersKey) → first_false (use_flags its) ≡ length (use_flags its) → made_of its < all_numbers → IsFull its
-is_full_by its full few = let st : State = state_of its.keys in (free_by st.slots ∙ full ∙ length-map st.slots (λ slot. slot.used), few)
 
 abbrev pub at_total : Name → Site
 at_total n = record { name = n; kind = totals; number = 0 }

@@ -14,8 +14,8 @@ use Rattle.seize_machine.specs.Machine.Next.{are_fresh, next, set_slot}
 use Rattle.seize_machine.specs.declared.machine.event.Answer.{Answer}
 use Rattle.seize_machine.specs.declared.machine.event.Answer.TheVariants.{Handed}
 use Rattle.seize_machine.proofs.Facts.{Stands, Step, next_of, some_is, step_of}
-use Rattle.seize_book.specs.Adding.{deed_with_words, private}
-use Rattle.seize_machine.specs.Machine.Laws.{IsHeld, Walks, walk_of}
+use Rattle.seize_book.specs.Adding.{deed_with_words}
+use Rattle.seize_machine.specs.Machine.Laws.{Walks, walk_of}
 use Rattle.seize_book.specs.Blocks.{Plan, block_for, block_number, front_of, no_plan, plans}
 use Rattle.seize_book.specs.Book.{IsLegalList, after, slots}
 use Rattle.seize_book.specs.Private.{is_one}
@@ -28,7 +28,7 @@ use Rattle.seize_words.specs.Headers.{IsFrontBlock, Passes}
 use Rattle.seize_book.specs.Homes.{IsSound, home_of}
 use Rattle.seize_book.specs.Homesteads.{HasNumber, state_seen}
 use Rattle.seize_book.specs.Passes.{LooksOn}
-use Rattle.seize_book.specs.Slots.{AddsDeed, AddsEvent, IsKeyOfBook, IsStill, hands_next, own_list, slot_number, slot_of, start_of}
+use Rattle.seize_book.specs.Slots.{AddsDeed, IsKeyOfBook, IsStill, hands_next, own_list, slot_number, slot_of, start_of}
 use Rattle.seize_book.specs.Loans.{AllCarryOne}
 use Rattle.seize_book.specs.Tokens.{IsSole, Name, start}
 use Rattle.seize_words.specs.Walks.{IsAtBatch, Knows, word_for}
@@ -36,7 +36,7 @@ use Rattle.seize_book.specs.declared.book.pass.Pass.{Pass}
 use Rattle.seize_book.specs.declared.book.slot_key.SlotKey.{SlotKey}
 use Rattle.seize_words.specs.declared.chunk.Header.{Header}
 use Rattle.seize_words.proofs.Chunked.{named_seen}
-use Rattle.seize_words.proofs.Finds.{IsLiving, first_contained, front_living, held_living, values_of, walked_living}
+use Rattle.seize_words.proofs.Finds.{IsLiving, front_living, walked_living}
 use Rattle.seize_book.proofs.Facts.{soon_named, block_stays, legal_prefix, marked_after, same_twice, slots_in, walks_marked, named_later}
 
 -- a slot's key is its keys
@@ -104,9 +104,6 @@ module _ (key : SlotKey) (pass : Pass) (book : IsKeyOfBook key pass) (knows : Kn
       (named_later st own pass.seen v knows.seen legal (soon_named key.keys.name own (slot_number key) v distinct its_own soon))
 
   -- so was the first value of a batch that is held
-  pub first_named : (b v : ℕ) → IsHeld (after st own) b → front_of st own b ≡ Some v → has v (state_seen pass).named ≡ true
-  first_named b v held front = living_named v (held_living key.keys.name own distinct its_own b v held (first_contained (values_of st own b) v front))
-
   -- a batch that the slot's call walks
   module _ (b : ℕ) (walks : Walks (after st own) (slot_number key) b) where
     abbrev pub its_value : ℕ
@@ -227,15 +224,3 @@ hand_leaves key key' pass pass' puts kepts given walk queue v notes stands =
     let is : next pass.size st (Hand s puts) ≡ Some d = next_of pass.size st (Hand s puts) d (Step.handed s v puts given walk queue here fresh) in
     ap (λ (z : Slot). z.call)
     (moves.is ∙ ap (λ (x : State × Answer). slot_at x.0 s) (some_is _ _ (sym moves.legal ∙ is)) ∙ get_or-set_same st.slots s slot no_slot (there st s (Rest (v ∷ given) walk) queue here))
-
--- so the slot's call comes to the next batch once no value is left to hand
-pub batch_next : (key key' : SlotKey) (pass pass' : Pass) (puts walk queue : List ℕ) (v batch word : ℕ) → IsKeyOfBook key pass → Knows key pass → AddsEvent key pass key' pass' (Hand (slot_number key) puts)
-    → (slot_of key).call ≡ Some (record { place = Rest (v ∷ []) (batch ∷ walk); queue = queue }) → word ≡ word_for key (batch ∷ walk) → IsAtBatch key' word
-batch_next key key' pass pass' puts walk queue v batch word book knows notes stands leads =
-    record {
-      batch = batch;
-      walk = walk;
-      queue = queue ++ puts;
-      walking = hand_leaves key key' pass pass' puts [] [] (batch ∷ walk) queue v notes stands;
-      leads = leads ∙ walk_kept key key' pass pass' (private pass (Hand (slot_number key) puts)) (v ∷ []) (batch ∷ walk) queue book knows notes stands;
-    }

@@ -149,15 +149,15 @@ impl<T: Drop> Blocks<T> {
         key.lend(ticket, pool, permit);
     }
 
-    /// With each value that was ever named, as the pass has seen then, a value of the type of these blocks is lent, or was. The pass looks at
-    /// the list. It does nothing when the program runs: its contract is the law.
+    /// With each value that was ever named, as the pass has seen then, a value of the type of these blocks is lent, or was. The pass looks
+    /// at the list. It does nothing when the program runs: its contract is the law.
     pub fn codes(&self, pass: &mut Pass)
         requires book { blocks_book self.now ≡ pass.old.name }
         ensures looks { LooksOn pass.old pass.new }
         ensures codes { HaveCodesOf T.row.coded.code (state_seen pass.new).named }
     {
         let permit = pass.permits();
-        self.permits.check(&permit);
+        self.permits.check(permit);
     }
 
     /// What is lent with the value that was found in a link, for as long as the store and the reader's activation are borrowed: a value of

@@ -56,7 +56,6 @@ impl Keys {
     ghost use Rattle.seize_book.specs.Notes.{MayOpen, OpensNote};
     ghost use Rattle.seize_book.specs.Others.{Renames};
     ghost use Rattle.seize_book.specs.Peeking.{MaySee, SightBy};
-    ghost use Rattle.seize_book.specs.Permitted.{IsPermitOf};
     ghost use Rattle.seize_book.specs.Tables.{GetsPlace, LiesAt};
 
     /// Adds the event with the pass.
@@ -128,16 +127,6 @@ impl Keys {
         ensures { IsRowAt self.now.name (label_of self.now.held) result }
     {
         RowToken {
-            marker: PhantomData,
-        }
-    }
-
-    /// The permit for what went with the first key.
-    pub(crate) fn permit(&self) -> Permit
-        requires { is_one blocks self.now.held ≡ true }
-        ensures { IsPermitOf self.now result }
-    {
-        Permit {
             marker: PhantomData,
         }
     }

@@ -35,8 +35,8 @@ impl<'p> Model for Pass<'p> {
 impl<'p> Pass<'p> {
     ghost use Rattle.seize_book.specs.Books.{Learns};
     ghost use Rattle.seize_book.specs.Homesteads.{AreAt, HasNumber, state_seen};
+    ghost use Rattle.seize_book.specs.Lending.{IsPermitForAll};
     ghost use Rattle.seize_book.specs.Passes.{LooksOn, Meets};
-    ghost use Rattle.seize_book.specs.Permitted.{IsPermitForAll};
     ghost use Rattle.seize_book.specs.Tables.{AreSlotsOf};
 
     /// Two passes of one book tell each other what they have seen: afterwards both have seen the longer of their two beginnings. No event

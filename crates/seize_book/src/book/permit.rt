@@ -24,8 +24,6 @@ pub struct Permit {
 
 impl Model for Permit {
     ghost also_owns = { λ p. all_permitted p.list p.codes };
-
-    ghost also_shares = { λ p _ κ. said (all_permitted p.list p.codes) κ };
 }
 
 /// The list of the codes that may be lent. The condition holds of each of them. The list is there for good, and only grows.
@@ -68,15 +66,13 @@ impl<C: Condition> Permits<C> {
     }
 
     /// The condition holds of the codes that a permit is for. It does nothing when the program runs: its contract is the law.
-    pub fn check(&self, permit: &Permit)
-        requires { permit.now.list ≡ self.now.list }
-        ensures { AllAre (C.holds self.now.family) permit.now.codes }
-    {}
+    pub fn check(&self, permit: Permit)
+        requires { permit.list ≡ self.now.list }
+        ensures { AllAre (C.holds self.now.family) permit.codes }
+    {
+        let Permit { marker: _ } = permit;
+    }
 }
-
-unsafe impl Send for Permit {}
-
-unsafe impl Sync for Permit {}
 
 impl<C: Condition> Drop for Permits<C> {
     fn drop(self) {

@@ -32,8 +32,8 @@ impl Model for Seen {
     ghost also_shares = { λ b _ κ. said (book_owns b.name b.seen) κ };
 }
 
-/// The store where the blocks of a book lie, by whose numbers words hold them, the table where its heads lie, and the list of the codes that
-/// may be lent. A caller passes `Brand`, and its proof picks them; those below are of no use, since none of them has this name.
+/// The store where the blocks of a book lie, by whose numbers words hold them, the table where its heads lie, and the list of the codes
+/// that may be lent. A caller passes `Brand`, and its proof picks them; those below are of no use, since none of them has this name.
 pub trait Storage {
     ghost store: { List ℕ };
 

@@ -35,7 +35,6 @@ impl ValueKey {
     ghost use Rattle.seize_book.specs.Others.{FollowsValue, HasGone, IsLast, IsVacated, IsValueOf, book_of, value_of};
     ghost use Rattle.seize_book.specs.Passes.{LooksOn};
     ghost use Rattle.seize_book.specs.Peeking.{SightWith};
-    ghost use Rattle.seize_book.specs.Permitted.{IsPermitOf};
     ghost use Rattle.seize_book.specs.Slots.{IsKeyOfBook, IsStill, hands_next, slot_of};
 
     /// The key is for the next value of its block then, which words hold by the same number. The last one was reclaimed, as the pass has
@@ -120,13 +119,6 @@ impl ValueKey {
         ensures row { IsRowAt (book_of self.now) (value_of self.now) result }
     {
         self.keys.row()
-    }
-
-    /// The permit for what is lent with the value.
-    pub fn permit(&self) -> Permit
-        ensures { IsPermitOf self.now.keys result }
-    {
-        self.keys.permit()
     }
 
     /// Sees the content that is lent with the value, for as long as the key is borrowed, whether the value was ever named or not, and while
