@@ -3,19 +3,12 @@ use Rattle.std.proofs.Common.{zero, suc, ◌+◌, ◌<◌, length, get_or, arith
 use Rattle.seize_table.proofs.Kit.{◌≡◌, fact, ℕ, List, [], ◌∷◌, ◌++◌, sym, refl, subst, Ura, vstruct, vnil, ent, sep, emp, Fml, ftrue, fsep, Logic, sem, ‵, ◌⊛◌, ◌$◌, ◌∵◌, !, qed, by, move, keep, split, fsplit, fjoin, use1, use2, done, RattleType, Struct, shape, makes_shadow, nothing}
 use Rattle.seize_table.specs.Filled.{filled_at, all_filled, all_from}
 use Rattle.seize_table.specs.contracts.tls.all_filled.AllFilled as all_filled_row
-use Rattle.seize_table.proofs.Entries.{filled_agree, filled_twice}
-use Rattle.seize_table.proofs.Meanings.{token}
+use Rattle.seize_table.proofs.Entries.{filled_twice}
 
 abbrev pub AllFilled : RattleType
 AllFilled = all_filled_row.the_row
 
-abbrev pub Data : Fml
-Data = (Struct (shape all_filled_row.the_type)).own_val (tt, tt) (token ∷ [])
-
 module _ {M : Type 1} {𝓤 : Ura M} (𝓛 : Logic 𝓤) where
-  pub all_filled_made : ent 𝓤 (emp 𝓤) (sem 𝓛 Data)
-  all_filled_made = makes_shadow 𝓛 Data (λ vss. (tt, ((λ uss. (tt, tt)), tt))) ((vstruct vnil ∷ [], tt), (refl, ((tt, (refl, tt)), tt)))
-
   module _ (table : List ℕ) where
     pub all_twice : (from : ℕ) (labels : List ℕ) → ent 𝓤 (sem 𝓛 (all_from table from labels)) (sep 𝓤 (sem 𝓛 (all_from table from labels)) (sem 𝓛 (all_from table from labels)))
     all_twice from [] = qed 𝓛 (‵ ftrue ∷ []) ∵ nothing ! $ done !
@@ -44,7 +37,3 @@ module _ {M : Type 1} {𝓤 : Ura M} (𝓛 : Logic 𝓤) where
 
     pub first_more : (labels : List ℕ) (label n : ℕ) → n ≡ length labels → ent 𝓤 (sep 𝓤 (sem 𝓛 (all_filled table labels)) (sem 𝓛 (filled_at table n label))) (sem 𝓛 (all_filled table (labels ++ label ∷ [])))
     first_more labels label n e = one_more 0 labels label n (omega arith)
-
-    pub first_agree : (one other : List ℕ) (k : ℕ) → k < length one → k < length other → ent 𝓤 (sep 𝓤 (sem 𝓛 (all_filled table one)) (sem 𝓛 (all_filled table other))) (fact 𝓤 (get_or one k 0 ≡ get_or other k 0))
-    first_agree one other k h i = qed 𝓛 (‵ (all_filled table one) ∷ ‵ (all_filled table other) ∷ []) ∵ use1 𝓛 (‵ (filled_at table k (get_or one k 0))) (first_of one k h) $ move ! (1 ∷ 0 ∷ []) $
-        use1 𝓛 (‵ (filled_at table k (get_or other k 0))) (first_of other k i) $ move ! (1 ∷ 0 ∷ []) $ by ! (filled_agree 𝓛 table k (get_or one k 0) (get_or other k 0))

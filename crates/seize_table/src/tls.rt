@@ -1,8 +1,6 @@
 //! A table of values that threads share without a lock. It only grows, and a value stays where it was put. It uses
 //! `thread_id` for the places of its entries and `refusal`; the collector keeps its slots in one.
-ghost use Rattle.std.specs.Prelude.{◌≡◌, ◌↔◌, ◌+◌, ◌<◌, ◌≤◌, Err, length, IfOk, IfErr, IfSome, IsOkAnd, IsNone, Some, ◌⊎◌};
-ghost use Rattle.seize_table.specs.declared.tls.filled.Filled.{Filled as Token};
-ghost use Rattle.std.specs.Option.{ForSome};
+ghost use Rattle.std.specs.Prelude.{◌≡◌, ◌↔◌, ◌+◌, ◌<◌, ◌≤◌, Err, length, IfOk, IfErr, IfSome, Some, ◌⊎◌};
 ghost use Rattle.seize_table.specs.Table.{IsBucket, IsCell, IsOf, ShowsEntry};
 ghost use Rattle.seize_table.specs.declared.refusal.Refusal.TheVariants.{NoMemory, NoNumbers};
 
@@ -228,36 +226,6 @@ impl<T: Labelled + Drop> ThreadLocal<T> {
         ensures refusal { IfErr result (λ e. e ≡ NoMemory) }
     {
         self.fill(create, thread)
-    }
-
-    /// As `load_or`, for a caller that may have seen the entry filled and then kept the token. With a token `create` isn't
-    /// called, and need not be callable, and the answer is the value that was seen.
-    ///
-    /// # Errors
-    ///
-    /// As `load_or`, where there is no token. With one it takes no memory, and does not fail.
-    pub fn load_seen<F: Fn() -> T>(
-        &self,
-        create: F,
-        thread: Thread,
-        seen: Option<Filled<T>>,
-    ) -> Result<Loaded<'_, T>, Refusal>
-    where
-        F: Drop,
-        requires callable { IsNone seen → F.IsAlwaysCallable create }
-        requires of_entry { ForSome seen (IsOf T.label (cells_of self.now) thread) }
-        ensures shown { IfOk result (λ found. ShowsEntry T.label (cells_of self.now) thread found.filled found.value.now) }
-        ensures kept { (f : Token T) (x : T) → seen ≡ Some f → ShowsEntry T.label (cells_of self.now) thread f x
-            → IsOkAnd result (λ found. found.value.now ≡ x) }
-        ensures refusal { IfErr result (λ e. e ≡ NoMemory) }
-    {
-        match seen {
-            Some(mut filled) => {
-                let value = self.value(thread, &mut filled);
-                Ok(Loaded { value, filled })
-            }
-            None => self.fill(create, thread),
-        }
     }
 
     /// The value of an entry that was seen filled. It takes no memory and changes nothing.

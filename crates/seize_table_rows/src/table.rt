@@ -145,7 +145,7 @@ fn tokens_show_one_value(rt: HostRuntime) -> Result<(), Fail> {
     let mut again = seen.again();
     assert_eq!(rt; *value, 5);
     assert_eq!(rt; *table.value(thread, &mut seen), 5);
-    let found = table.load_seen(|| 6, thread, Some(seen))?;
+    let found = table.load_or(|| 6, thread)?;
     assert_eq!(rt; *found, 5);
     table.agree(thread, &mut again, found.filled);
     Ok(())

@@ -1,13 +1,10 @@
-//! What shows that the first entries of a table are filled, free of the type of their values. It is made of tokens of `filled_at`, and
-//! `first` walks over the entries by it.
-ghost use Rattle.std.specs.Prelude.{◌≡◌, ℕ, ◌<◌, List, [], ◌∷◌, ◌++◌, length, get_or};
+//! What shows that the first entries of a table are filled, free of the type of their values. A layer above makes it of what it knows of
+//! each of them, and `first` walks over the entries by it.
+ghost use Rattle.std.specs.Prelude.{◌≡◌, ℕ, ◌<◌, List, length, get_or};
 ghost use base.Stored.{coded_list, coded_ℕ};
 ghost use denote.Sharing.{said};
 ghost use Rattle.seize_table.specs.Filled.{all_filled};
-ghost use Rattle.seize_table.specs.Named.{name_of};
 
-use crate::Labelled;
-use crate::tls::ThreadLocal;
 use crate::tls::filled_at::FilledAt;
 use std::marker::{Model, PhantomData};
 
@@ -28,47 +25,12 @@ impl Model for AllFilled {
 }
 
 impl AllFilled {
-    /// None, of any table.
-    pub fn none<T: Labelled>(table: &ThreadLocal<T>) -> AllFilled
-        ensures { (result.table ≡ name_of table.now) × (result.labels ≡ []) }
-    {
-        AllFilled {
-            marker: PhantomData,
-        }
-    }
-
-    /// One more: the entry after them.
-    pub fn push(&mut self, next: &FilledAt)
-        requires { (next.now.table ≡ self.old.table) × (next.now.number ≡ length self.old.labels) }
-        ensures { (self.new.table ≡ self.old.table) × (self.new.labels ≡ self.old.labels ++ next.now.label ∷ []) }
-    {
-        *self = self.with(next);
-    }
-
-    fn with(&self, next: &FilledAt) -> AllFilled
-        requires { (next.now.table ≡ self.now.table) × (next.now.number ≡ length self.now.labels) }
-        ensures { (result.table ≡ self.now.table) × (result.labels ≡ self.now.labels ++ next.now.label ∷ []) }
-    {
-        AllFilled {
-            marker: PhantomData,
-        }
-    }
-
     /// What shows one of them.
     pub fn get(&self, number: usize) -> FilledAt
         requires { number < length self.now.labels }
         ensures entry { (result.table ≡ self.now.table) × (result.number ≡ number) × (result.label ≡ get_or self.now.labels number 0) }
     {
         FilledAt {
-            marker: PhantomData,
-        }
-    }
-
-    /// A copy, as for another thread.
-    pub fn again(&self) -> AllFilled
-        ensures { result ≡ self.now }
-    {
-        AllFilled {
             marker: PhantomData,
         }
     }
