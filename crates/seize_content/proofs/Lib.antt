@@ -1,8 +1,6 @@
 pub mod Kit
 pub mod Fields
 pub mod Tokens
-pub mod Rooms
-pub mod Values
 pub mod Places
 pub mod Sharing
 pub mod Sends

@@ -1,25 +1,24 @@
 -- How a content begins, is lent, and comes back, whatever is lent there. Assumes `Logic`.
-use Rattle.std.proofs.Common.{◌≡◌, ℕ, List, [], ◌∷◌, ◌++◌, refl, sym, subst}
-use mathlib.Core.List.{IsPrefix}
+use Rattle.std.proofs.Common.{◌≡◌, ℕ, List, [], ◌∷◌, refl}
 use seplogic.Ra.Ura.{Ura}
 use base.Fraction.{full_share}
 use base.Share
 use base.Share.{quarter, three_quarters}
 use base.Stored.{Gv}
-use base.Logic.{SProp, emp, ent, sep, ex, guard, never, never_e, id⊢, via}
+use base.Logic.{SProp, emp, ent, sep, ex, guard, via}
 use base.Fml.{Lft, Incl, Share, Fml, ftrue, flft, fdead, fbor, fnamed}
 use base.Growing.{latest, at_least, prefix_refl}
 use types.Logic.{Logic, sem}
 use types.Owned.{basic}
-use types.Growing.{latest_new, latest_shows, latest_bounds, latest_agrees, latest_cut}
+use types.Growing.{latest_new, latest_shows, latest_cut}
 use types.Tokens.{lft_new, lft_end, bor_new, lent_back}
-use types.Kit.{‵, ◌⊛◌, some as exists, given as when, later, ◌$◌, ◌∵◌, !, qed, by, move, keep, drop, split, split3, group, fsplit, fsplit3, fjoin, fjoin3, fpick, fpack, pick, learn, show, check, frame, suffices, done, use0, use1, use2, use3, updating, await, now}
+use types.Kit.{‵, ◌⊛◌, some as exists, given as when, later, ◌$◌, ◌∵◌, !, qed, move, keep, drop, split, split3, group, fsplit, fsplit3, fjoin, fjoin3, fpick, fpack, pick, learn, show, check, frame, done, use0, use1, use2, use3, updating, await, now}
 use contract.BorrowLft.{meet_⊑_left, meet_⊑_right}
 use denote.Steps.{nothing}
 use denote.Struct.Lending.{Lends}
 use Rattle.seize_content.specs.Stages.{Stage, held, lent, stages, last}
 use Rattle.seize_content.specs.Goods.{Goods, Lendable}
-use Rattle.seize_content.specs.Contents.{loan, body, onward, stands, place, named, ticket_at, ticket_owns, stay_at, stay, pool_owns, in_hand}
+use Rattle.seize_content.specs.Contents.{loan, body, stands, place, named, ticket_at, ticket_owns, stay_at, stay, pool_owns, in_hand}
 use Rattle.seize_content.proofs.Places.{turns}
 
 module _ {M : Type 1} {𝓤 : Ura M} (𝓛 : Logic 𝓤) where
@@ -54,24 +53,7 @@ module _ {M : Type 1} {𝓤 : Ura M} (𝓛 : Logic 𝓤) where
     pub lays : (γ : ℕ) (s : Stage) → ⟦ named γ s ⟧ ∗ ⟦ body G s ⟧ ⊢ ⟦ place G γ ⟧
     lays γ s = qed 𝓛 (‵ (named γ s) ∷ ‵ (body G s) ∷ []) ∵ nothing ! $ move ! (0 ∷ 2 ∷ []) $ fjoin ! $ move ! (1 ∷ 0 ∷ []) $ fjoin ! $ fpack ! (List Stage) (stands G γ) (s ∷ []) $ done !
 
-    abbrev Begun : Stage → ℕ → Pr
-    Begun s γ = ⟦ place G γ ⟧ ∗ ⟦ ticket_owns γ s ⟧
-
-    pub begins : (s : Stage) → ⟦ body G s ⟧ ⊢ H.⇛ (ex 𝓤 (Begun s))
-    begins s = qed 𝓛 (‵ (body G s) ∷ []) ∵ updating ! $ use0 𝓛 (later (exists (λ (γ : ℕ). ‵ (named γ s) ⊛ ‵ (ticket_owns γ s)))) (starts s) $ await ! tt $ pick ! (λ γ. split ! $ move ! (0 ∷ 2 ∷ []) $
-        use2 𝓛 (‵ (place G γ)) (lays γ s) $ now ! $ show ! (Begun s) γ $ keep ! (0 ∷ 1 ∷ []) $ done !)
-
     module _ (γ : ℕ) where
-      final : (u s : Stage) (ms : List Stage) → last u ms ≡ s → ⟦ onward G u ms ⟧ ⊢ ⟦ body G s ⟧
-      final u s [] is = subst (λ (v : Stage). ⟦ body G u ⟧ ⊢ ⟦ body G v ⟧) is (id⊢ 𝓤 ⟦ body G u ⟧)
-      final u s (m ∷ ms) is = qed 𝓛 (‵ (onward G u (m ∷ ms)) ∷ []) ∵ fsplit ! $ move ! (1 ∷ []) $ use1 𝓛 (‵ (body G s)) (final m s ms is) $ keep ! (0 ∷ []) $ done !
-
-      -- and is over, with the ticket, at any stage
-      pub closes : (s : Stage) → ⟦ place G γ ⟧ ∗ ⟦ ticket_owns γ s ⟧ ⊢ ⟦ body G s ⟧
-      closes s = qed 𝓛 (‵ (place G γ) ∷ ‵ (ticket_owns γ s) ∷ []) ∵ fpick ! (λ ls. fsplit ! $ move ! (2 ∷ []) $ fpick ! (λ ms. fsplit ! $ fpick ! (λ is. drop ! $
-          move ! (1 ∷ 0 ∷ []) $ use2 𝓛 (when (ls ≡ ms) (‵ (latest stages quarter γ ls) ⊛ ‵ (latest stages three_quarters γ ms))) (latest_agrees stages 𝓛 quarter three_quarters γ ls ms) $ learn ! (λ e. split ! $ move ! (2 ∷ []) $
-          use1 𝓛 (‵ (body G s)) (final held s ls (subst (λ (l : List Stage). last held l ≡ s) (sym e) is)) $ keep ! (0 ∷ []) $ done !))))
-
       -- what a ticket says of a loan is known for good
       pub tells : (a : ℕ) (g : Gv) → ⟦ ticket_owns γ (lent a g) ⟧ ⊢ ⟦ ticket_owns γ (lent a g) ⟧ ∗ ⟦ stay γ a g ⟧
       tells a g = qed 𝓛 (‵ (ticket_owns γ (lent a g)) ∷ []) ∵ fpick ! (λ ms. let Is = last held ms ≡ lent a g in fsplit ! $ fpick ! (λ is. drop ! $
@@ -129,23 +111,3 @@ module _ {M : Type 1} {𝓤 : Ura M} (𝓛 : Logic 𝓤) where
               -- [the ticket; what was lent; the token; it is over; what is known]
               move ! (3 ∷ 1 ∷ []) $ use2 𝓛 (later (exists (λ (x : G.Thing). when (G.code x ≡ g) (‵ (G.own x))))) comes $ await ! tt $ pick ! (λ x. learn ! (λ same.
               move ! (0 ∷ 1 ∷ []) $ fjoin ! $ now ! $ show ! IsBack x $ check ! same $ keep ! (0 ∷ 1 ∷ []) $ done !))
-
-        -- ---- or the place itself, with no ticket: as long as its lifetime lasts, the loan is the last stage
-        stands_alone : (ts : List Stage) (e : Share) → ⟦ onward G (lent a g) ts ⟧ ∗ ⟦ flft (a ∷ []) e ⟧ ⊢ ⟦ body G (lent a g) ⟧ ∗ ⟦ flft (a ∷ []) e ⟧
-        stands_alone [] e = id⊢ 𝓤 _
-        stands_alone (t ∷ ts) e = qed 𝓛 (‵ (onward G (lent a g) (t ∷ ts)) ∷ ‵ (flft (a ∷ []) e) ∷ []) ∵ fsplit ! $ move ! (2 ∷ 0 ∷ []) $
-            suffices ! (never 𝓤) (never_e 𝓤 (⟦ body G (lent a g) ⟧ ∗ ⟦ flft (a ∷ []) e ⟧)) $ keep ! (0 ∷ 1 ∷ []) $ by ! (𝓛.lfts.lft-dead (a ∷ []) e)
-
-        finds : (u : Stage) (ks ts : List Stage) (e : Share) → last u ks ≡ lent a g → ⟦ onward G u (ks ++ ts) ⟧ ∗ ⟦ flft (a ∷ []) e ⟧ ⊢ ⟦ body G (lent a g) ⟧ ∗ ⟦ flft (a ∷ []) e ⟧
-        finds u [] ts e is = subst (λ (v : Stage). ⟦ onward G v ts ⟧ ∗ ⟦ flft (a ∷ []) e ⟧ ⊢ ⟦ body G (lent a g) ⟧ ∗ ⟦ flft (a ∷ []) e ⟧) (sym is) (stands_alone ts e)
-        finds u (k ∷ ks) ts e is = qed 𝓛 (‵ (onward G u (k ∷ (ks ++ ts))) ∷ ‵ (flft (a ∷ []) e) ∷ []) ∵ fsplit ! $ move ! (1 ∷ 2 ∷ []) $
-            use2 𝓛 (‵ (body G (lent a g)) ⊛ ‵ (flft (a ∷ []) e)) (finds k ks ts e is) $ split ! $ frame ! $ keep ! (0 ∷ []) $ done !
-
-        pub regains : ⟦ place G γ ⟧ ∗ ⟦ pool_owns γ a g ⟧ ⊢ H.⇛ (ex 𝓤 Given)
-        regains = qed 𝓛 (‵ (place G γ) ∷ ‵ (pool_owns γ a g) ∷ []) ∵ updating ! $ fpick ! (λ ms. fsplit ! $ move ! (2 ∷ []) $ fsplit ! $ move ! (1 ∷ []) $ fpick ! (λ ks. fsplit ! $ fpick ! (λ is. drop ! $
-            -- [what was told; the loan's token; the name; what stands]
-            move ! (2 ∷ 0 ∷ []) $ use2 𝓛 (when (IsPrefix ks ms) (‵ (latest stages quarter γ ms) ⊛ ‵ (at_least stages γ ks))) (latest_bounds stages 𝓛 quarter γ ms ks) $ learn ! (λ past. split ! $ move ! (3 ∷ 2 ∷ []) $
-            use2 𝓛 (‵ (body G (lent a g)) ⊛ ‵ (flft (a ∷ []) full_share))
-            (subst (λ (ls : List Stage). ⟦ onward G held ls ⟧ ∗ ⟦ flft (a ∷ []) full_share ⟧ ⊢ ⟦ body G (lent a g) ⟧ ∗ ⟦ flft (a ∷ []) full_share ⟧) past.1 (finds held ks past.0 full_share is)) $ split ! $
-            move ! (1 ∷ []) $ lft_end ! tt $ move ! (0 ∷ 1 ∷ []) $ use2 𝓛 (later (exists (λ (x : G.Thing). when (G.code x ≡ g) (‵ (G.own x))))) comes $ await ! tt $ pick ! (λ x. learn ! (λ same.
-            now ! $ show ! Given x $ check ! same $ keep ! (0 ∷ []) $ done !))))))

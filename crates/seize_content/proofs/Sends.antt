@@ -8,27 +8,14 @@ use base.Fml.{Lft, Share}
 use base.Shift.{Keyless}
 use base.Stored.{Gv}
 use denote.RattleType.{RattleType}
-use denote.RawPtr.{Ptr, block_ptr, null_ptr}
-use denote.Param.Send.{IsSend, IsSync, part_keyless}
+use denote.RawPtr.{block_ptr}
+use denote.Param.Send.{IsSend, part_keyless}
 use Rattle.core.proofs.atomic.Sent.{chain-Keyless}
-use Rattle.std.proofs.Crossing.{frees}
-use Rattle.std.specs.declared.alloc.Global.{Global}
-use Rattle.std_alloc.proofs.SendSync.{seen, lies as lies_keyless}
-use mir.Raw.{raw}
-use denote.Memory.{lone}
-use Rattle.seize_content.specs.Goods.{Goods, room, value_at}
-use Rattle.seize_content.specs.Stages.{Stage, empty, held, lent, goes}
-use Rattle.seize_content.specs.Contents.{body, onward, named, place, place_shares, content_owns, content_shares, ticket_owns, held_owns, stay, pool_owns, pool_shares, sight_owns}
+use Rattle.seize_content.specs.Goods.{Goods}
+use Rattle.seize_content.specs.Stages.{Stage, held, lent, goes}
+use Rattle.seize_content.specs.Contents.{body, onward, named, place, place_shares, ticket_owns, stay, pool_owns, pool_shares, sight_owns}
 use Rattle.seize_content.specs.Cells.{CellState, there, away, cell_token, lies, cell_shares}
-use Rattle.seize_content.specs.Memory.{grant_owns}
 use Rattle.seize_content.specs.Readers.{LifeShare, escrow_deposit, holds, lent_pool, pool}
-
-pub room_sent : (R : RattleType) (p : Ptr) → Keyless (room R p)
-room_sent R (block_ptr b o) = tt
-room_sent R null_ptr = tt
-
-pub grant_sent : (R : RattleType) (h : Global) (p : Ptr) → Keyless (grant_owns R h p)
-grant_sent R h p = frees.frees h (raw (lone R.mir)) p
 
 pub ticket_sent : (γ : ℕ) (s : Stage) → Keyless (ticket_owns γ s)
 unfolding latest
@@ -68,18 +55,13 @@ pool_kept a r (d ∷ ds) = (deposit_sent a (Share.right r) d, pool_kept a (Share
 pub lent_sent : (γ : ℕ) (a : ℕ) (g : Gv) (ds : List (Lft × ℕ)) → Keyless (lent_pool γ a g ds)
 lent_sent γ a g ds = (pool_kept a full_share ds, stay_sent γ a g)
 
-pub held_sent : (R : RattleType) → IsSend R → (p : Ptr) (t : Stage) (x : R.Denot) → Keyless (held_owns R p t x)
-held_sent R s p t x = (lies_keyless R s p x, tt)
-
 -- what is lent is seen on other threads, and comes back on any
-module _ (G : Goods) (bare : Keyless G.bare) (owned : (x : G.Thing) → Keyless (G.own x)) (seen : (x : G.Thing) (κ : Lft) → Keyless (G.shr x κ)) where
+module _ (G : Goods) (owned : (x : G.Thing) → Keyless (G.own x)) (seen : (x : G.Thing) (κ : Lft) → Keyless (G.shr x κ)) where
   goes_keyless : (s t : Stage) → Keyless (goes s t)
-  goes_keyless empty t = tt
   goes_keyless held t = tt
   goes_keyless (lent a g) t = tt
 
   body_keyless : (s : Stage) → Keyless (body G s)
-  body_keyless empty = bare
   body_keyless held = tt
   body_keyless (lent a g) = λ x. ((λ _. tt), (seen x (a ∷ []), owned x))
 
@@ -93,13 +75,6 @@ module _ (G : Goods) (bare : Keyless G.bare) (owned : (x : G.Thing) → Keyless 
 
   pub place_seen : (γ : ℕ) (κ : Lft) → Keyless (place_shares G γ κ)
   place_seen γ κ = λ t. ((λ νs. chain-Keyless νs κ t.0), place_sent γ)
-
-module _ (R : RattleType) (send : IsSend R) (sync : IsSync R) where
-  pub content_sent : (γ : ℕ) (p : Ptr) → Keyless (content_owns R γ p)
-  content_sent γ p = place_sent (value_at R p) (room_sent R p) (λ x. lies_keyless R send p x) (λ x κ. seen R sync p x κ) γ
-
-  pub content_seen : (γ : ℕ) (p : Ptr) (κ : Lft) → Keyless (content_shares R γ p κ)
-  content_seen γ p κ = place_seen (value_at R p) (room_sent R p) (λ x. lies_keyless R send p x) (λ x κ'. seen R sync p x κ') γ κ
 
 -- a cell's value passes with its token
 pub token_sent : (γ : ℕ) (g : Gv) → Keyless (cell_token γ g)

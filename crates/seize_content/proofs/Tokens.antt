@@ -1,25 +1,19 @@
 -- What has no bytes is one machine value, whatever it owns. Assumes `Logic`.
-use Rattle.seize_content.proofs.Kit.{List, [], ◌∷◌, ◌++◌, ◌∙◌, Val, vstruct, of_list, RattleType}
+use Rattle.seize_content.proofs.Kit.{List, [], ◌∷◌, ◌++◌, ◌∙◌, Val, vstruct, of_list}
 use denote.Laws.{Is, Tells}
 use denote.Ref.{NamedLft}
 use Rattle.seize_content.specs.contracts.loan.Pool as pool
 use Rattle.seize_content.specs.contracts.loan.Sight as sight
-use Rattle.seize_content.specs.contracts.ticket.Held as held
-use Rattle.seize_content.specs.contracts.ticket.Site as site
-use Rattle.seize_content.specs.contracts.ticket.Space as space
 use Rattle.seize_content.specs.contracts.ticket.Start as start
 use Rattle.seize_content.specs.contracts.ticket.Ticket as ticket
 use Rattle.seize_content.specs.contracts.token_cell.CellToken as right
-use Rattle.seize_content.proofs.Fields.{token, hand}
+use Rattle.seize_content.proofs.Fields.{token}
 
 abbrev pub no_bytes : {D : Type 0} → D → List Val
 no_bytes d = token ∷ []
 
 pub ticket_tells : Tells ticket.the_row (Is ticket.the_row) no_bytes
 ticket_tells d vs is = is.0.1.0 ∙ (λ i. vstruct (of_list (is.0.1.1.0.1.0 i ++ [])) ∷ [])
-
-pub site_tells : Tells site.the_row (Is site.the_row) no_bytes
-site_tells d vs is = is.0.1.0 ∙ (λ i. vstruct (of_list (is.0.1.1.0.1.0 i ++ [])) ∷ [])
 
 pub start_tells : Tells start.the_row (Is start.the_row) no_bytes
 start_tells d vs is = is.0.1.0 ∙ (λ i. vstruct (of_list (is.0.1.1.0.1.0 i ++ [])) ∷ [])
@@ -32,13 +26,3 @@ pool_tells d vs is = is.0.1.0 ∙ (λ i. vstruct (of_list (is.0.1.1.0.1.0 i ++ [
 
 pub sight_tells : (κ : NamedLft) → Tells (sight.the_row κ) (Is (sight.the_row κ)) no_bytes
 sight_tells κ d vs is = is.0.1.0 ∙ (λ i. vstruct (of_list (is.0.1.1.0.1.0 i ++ [])) ∷ [])
-
-module _ (R : RattleType) where
-  abbrev pub in_hand_vals : (held.the_row R).Denot → List Val
-  in_hand_vals d = hand ∷ []
-
-  pub held_tells : Tells (held.the_row R) (Is (held.the_row R)) in_hand_vals
-  held_tells d vs is = is.0.1.0 ∙ (λ i. vstruct (of_list (ticket_tells d.ticket is.0.0.0 is.0.1.1.0 i ++ (site_tells d.site is.0.0.1.0 is.0.1.1.1.0 i ++ (is.0.1.1.1.1.0.1.0 i ++ [])))) ∷ [])
-
-  pub space_tells : Tells (space.the_row R) (Is (space.the_row R)) no_bytes
-  space_tells d vs is = is.0.1.0 ∙ (λ i. vstruct (of_list (is.0.1.1.0.1.0 i ++ [])) ∷ [])

@@ -5,15 +5,13 @@ use base.Stored.{Gv}
 use base.Logic.{SProp, ent, sep, wand, ex, ex_i, guard, guard_i, via, apply∗}
 use base.Fml.{Lft, Incl, Share, Fml, flft, fbor, fnamed}
 use types.Logic.{Logic, sem}
-use types.Kit.{‵, raw, ◌⊛◌, some as exists, given as when, later, ◌$◌, ◌∵◌, !, qed, move, keep, split, split3, group, join, fsplit, fjoin, fpick, pick, learn, use1, use2, use3, updating, await, now, done}
+use types.Kit.{‵, raw, ◌⊛◌, some as exists, given as when, later, ◌$◌, ◌∵◌, !, qed, move, split, split3, group, join, fsplit, fpick, pick, learn, use1, use2, use3, updating, await, now, done}
 use contract.Shared.{Lends-one}
 use contract.Running.{Running}
 use prog.Model.{Model}
-use denote.Steps.{nothing}
 use Rattle.seize_content.specs.Goods.{Goods, Lendable}
-use Rattle.seize_content.specs.Stages.{empty, held, lent}
-use Rattle.seize_content.specs.Contents.{body, place, place_shares, ticket_owns, in_hand, space, pool_owns}
-use Rattle.seize_content.proofs.Places.{turns}
+use Rattle.seize_content.specs.Stages.{lent}
+use Rattle.seize_content.specs.Contents.{place, place_shares, ticket_owns, in_hand, pool_owns}
 use Rattle.seize_content.proofs.Loans.{lends_out, comes_back}
 
 module _ {M : Type 1} {𝓤 : Ura M} (𝓛 : Logic 𝓤) (𝓜 : Model 𝓤 𝓛.H) (𝓡 : Running 𝓤 𝓛.H 𝓜) (G : Goods) (γ : ℕ) (κ : Lft) (q : Share) where
@@ -40,15 +38,6 @@ module _ {M : Type 1} {𝓤 : Ura M} (𝓛 : Logic 𝓤) (𝓜 : Model 𝓤 𝓛
       -- [its token; the way back; the invariant; X]
       move ! (2 ∷ 0 ∷ 3 ∷ []) $ use3 𝓛 (later (raw Y ⊛ ‵ (flft ν r))) (step t.1 ν r) $ await ! tt $ split ! $ move ! (1 ∷ 2 ∷ []) $
       use2 𝓛 (later (‵ (flft κ q))) (apply∗ 𝓤 (A.lft ν r) (H.⇛ (A.lft κ q))) $ await ! tt $ move ! (1 ∷ 0 ∷ []) $ now ! $ join ! $ done !))
-
-  pub claims : ⟦ place_shares G γ κ ⟧ ∗ A.lft κ q ∗ ⟦ ticket_owns γ empty ⟧ ⊢ H.⇛ (⟦ space G γ ⟧ ∗ A.lft κ q)
-  claims = inside ⟦ ticket_owns γ empty ⟧ ⟦ space G γ ⟧ (λ j ν r. qed 𝓛 (‵ (fnamed j (fbor ν (place G γ))) ∷ ‵ (flft ν r) ∷ ‵ (ticket_owns γ empty) ∷ []) ∵ updating ! $ nothing ! $ nothing ! $ move ! (2 ∷ 3 ∷ 4 ∷ 0 ∷ 1 ∷ []) $
-      group ! 5 $ use1 𝓛 (later ((‵ (ticket_owns γ held) ⊛ ‵ (body G empty)) ⊛ ‵ (flft ν r))) (turns 𝓛 G γ empty held j ν r) $ await ! tt $ split ! $ split ! $ move ! (1 ∷ 0 ∷ []) $ fjoin ! $ now ! $ join ! $ done !)
-
-  pub gives_back : ⟦ place_shares G γ κ ⟧ ∗ A.lft κ q ∗ ⟦ space G γ ⟧ ⊢ H.⇛ (⟦ ticket_owns γ empty ⟧ ∗ A.lft κ q)
-  gives_back = inside ⟦ space G γ ⟧ ⟦ ticket_owns γ empty ⟧ (λ j ν r. qed 𝓛 (‵ (fnamed j (fbor ν (place G γ))) ∷ ‵ (flft ν r) ∷ ‵ (space G γ) ∷ []) ∵ updating ! $ nothing ! $ move ! (3 ∷ []) $ fsplit ! $
-      -- [the room; the ticket; nothing; the invariant; its token]
-      move ! (3 ∷ 4 ∷ 1 ∷ 2 ∷ 0 ∷ []) $ group ! 5 $ use1 𝓛 (later ((‵ (ticket_owns γ empty) ⊛ ‵ (body G held)) ⊛ ‵ (flft ν r))) (turns 𝓛 G γ held empty j ν r) $ await ! tt $ split ! $ split ! $ move ! (0 ∷ 2 ∷ []) $ now ! $ join ! $ keep ! (0 ∷ []) $ done !)
 
   module _ (L : Lendable G) (l : Lft) (inc : Incl l G.lives) (x : G.Thing) (r : Share) where
     abbrev IsOut : ℕ → Pr

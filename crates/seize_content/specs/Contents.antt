@@ -2,10 +2,7 @@
 --     place G γ           the content's invariant: a quarter of its list of stages, and what is there at the last of them
 --     named γ s           that quarter, of a list whose only stage is s
 --     ticket_owns γ s     the other three quarters, of a list whose last stage is s. It knows nothing of G
---     in_hand G γ x       a thing in its owner's hands, with the ticket;  space G γ   the same while there is none
---     content_owns R γ p      a content for a value of row R at p, and content_shares by `&`
---     held_owns R p s x       a value in its owner's hands, in its place, beside the ticket, which says s;  held_shares is the same by `&`
---     space_owns R γ p        the place of a value, bare, and the ticket
+--     in_hand G γ x       a thing in its owner's hands, with the ticket
 --     stay γ a g          the content was lent under a with a thing of code g, and has been so since while a lives. It knows nothing of G
 --     pool_owns γ a g     the whole token of that lifetime
 --     sight_owns 'g γ a g     and that 'g ends no later than a
@@ -14,14 +11,11 @@ use base.Fraction.{full_share}
 use base.Share.{quarter, three_quarters}
 use base.Stored.{Gv}
 use base.Growing.{latest, at_least}
-use base.Fml.{Lft, Fml, ftrue, fsep, fex, feq, flft, flent, fbor, fnamed}
+use base.Fml.{Lft, Fml, ftrue, fsep, fex, flft, flent, fbor, fnamed}
 use base.Before.{before}
-use denote.RattleType.{RattleType}
-use denote.RawPtr.{Ptr, lies_at}
 use denote.Sharing.{beside, said, one}
-use denote.Struct.Lending.{lent_at}
-use Rattle.seize_content.specs.Goods.{Goods, value_at}
-use Rattle.seize_content.specs.Stages.{Stage, empty, held, lent, stages, last, goes}
+use Rattle.seize_content.specs.Goods.{Goods}
+use Rattle.seize_content.specs.Stages.{Stage, held, lent, stages, last, goes}
 
 abbrev pub fact : Type 0 → Fml
 fact φ = fex φ (λ _. ftrue)
@@ -31,7 +25,6 @@ module _ (G : Goods) where
   loan a g x = fsep (fact (G.code x ≡ g)) (fsep (G.shr x (a ∷ [])) (flent (a ∷ []) (G.own x)))
 
   abbrev pub body : Stage → Fml
-  body empty = G.bare
   body held = ftrue
   body (lent a g) = fex G.Thing (loan a g)
 
@@ -58,13 +51,6 @@ module _ (G : Goods) where
 abbrev pub named : ℕ → Stage → Fml
 named γ s = latest stages quarter γ (s ∷ [])
 
--- ---- a content of a value, by value and by `&`
-abbrev pub content_owns : RattleType → ℕ → Ptr → Fml
-content_owns R γ p = place (value_at R p) γ
-
-abbrev pub content_shares : RattleType → ℕ → Ptr → Lft → Fml
-content_shares R γ p = place_shares (value_at R p) γ
-
 -- ---- its ticket, and the thing in its owner's hands
 abbrev pub ticket_at : ℕ → Stage → List Stage → Fml
 ticket_at γ s ms = fsep (fact (last held ms ≡ s)) (latest stages three_quarters γ ms)
@@ -74,18 +60,6 @@ ticket_owns γ s = fex (List Stage) (ticket_at γ s)
 
 abbrev pub in_hand : (G : Goods) → ℕ → G.Thing → Fml
 in_hand G γ x = fsep (G.own x) (ticket_owns γ held)
-
-abbrev pub space : Goods → ℕ → Fml
-space G γ = fsep G.bare (ticket_owns γ held)
-
-abbrev pub held_owns : (R : RattleType) → Ptr → Stage → R.Denot → Fml
-held_owns R p s x = fsep (lies_at R full_share p x) (feq Stage s held)
-
-abbrev pub held_shares : (R : RattleType) → Ptr → R.Denot → Lft → Fml
-held_shares R p x κ = lent_at R p x κ
-
-abbrev pub space_owns : RattleType → ℕ → Ptr → Fml
-space_owns R γ p = space (value_at R p) γ
 
 -- ---- a loan: its lifetime, and what is known of it
 abbrev pub stay_at : ℕ → ℕ → Gv → List Stage → Fml

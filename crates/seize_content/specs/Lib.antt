@@ -3,8 +3,5 @@ pub mod Goods
 pub mod Contents
 pub mod Cells
 pub mod Steady
-pub mod Lends
 pub mod Loans
-pub mod Memory
-pub mod Parts
 pub mod Readers

@@ -1,22 +1,18 @@
-//! Contents: values that are lent and not copied. A content lies in its place while its owner has it in hand, while readers see it, and
-//! until it comes back; threads share the place by `&`.
+//! Loans of values that are not copied, and cells that threads share. What is lent lies in its place while its owner has it in hand, while
+//! readers see it, and until it comes back. The place is a *content*, which a crate above keeps, as a store does for each of its chunks.
 //!
-//! `content` is the place, `room` the memory that it lies in. What its holders have has no bytes: `ticket` the right to change a content's
-//! stage and the value in hand, `loan` what is left with the lender and what a reader has.
+//! What the holders of a content have has no bytes: `ticket` is the right to change the content's stage, and `loan` what is left with the
+//! lender and what a reader has.
 //! `token_cell` is a place of another kind: its value lies in it and is never lent, and belongs to whoever has its token. `steady_cell`
 //! is such a place whose value stays what it is known for, also where its token was forgotten.
 #![tactic(auto)]
 
-mod content;
 mod loan;
-mod room;
 mod steady_cell;
 mod ticket;
 mod token_cell;
 
-pub use content::Content;
 pub use loan::{Pool, Sight};
-pub use room::{Grant, Room};
 pub use steady_cell::{Steady, SteadyCell, Work};
-pub use ticket::{Held, Start, Ticket};
+pub use ticket::{Start, Ticket};
 pub use token_cell::{CellToken, TokenCell};

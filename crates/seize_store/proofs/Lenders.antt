@@ -30,10 +30,10 @@ module _ (X U R : RattleType) (f : U.Denot → ℕ) (p : Ptr) (k : ℕ) where
 
   module _ (u : IsSend U) (s : IsSend R) (y : IsSync R) where
     pub lender_sent : Keyless (lender_owns X U R f p k)
-    lender_sent = place_sent (block_at X U R f p k) tt (λ x. lain_owned X U R f u s p k x) (λ x κ. hull_seen X U R f y p x κ) (right_of k)
+    lender_sent = place_sent (block_at X U R f p k) (λ x. lain_owned X U R f u s p k x) (λ x κ. hull_seen X U R f y p x κ) (right_of k)
 
     pub lender_seen : (κ : Lft) → Keyless (lender_shares X U R f p k κ)
-    lender_seen κ = place_seen (block_at X U R f p k) tt (λ x. lain_owned X U R f u s p k x) (λ x κ'. hull_seen X U R f y p x κ') (right_of k) κ
+    lender_seen κ = place_seen (block_at X U R f p k) (λ x. lain_owned X U R f u s p k x) (λ x κ'. hull_seen X U R f y p x κ') (right_of k) κ
 
 -- the machine values of a hull, and of any pointer
 module _ (X U R : RattleType) (g : Ghosts U.Denot) where

@@ -3,7 +3,7 @@
 --                                 whoever they are lent to has a `&` to the value
 --     lender_owns X U R f p k     the content of these blocks, of the name that the tag says, and lender_shares by `&`
 use Rattle.core.specs.Prelude.{ℕ}
-use base.Fml.{Lft, Fml, ftrue}
+use base.Fml.{Lft, Fml}
 use denote.RattleType.{RattleType}
 use denote.RawPtr.{Ptr}
 use Rattle.seize_content.specs.Contents.{place, place_shares}
@@ -19,7 +19,6 @@ module _ (X U R : RattleType) (f : U.Denot → ℕ) (p : Ptr) (k : ℕ) where
     shr = hull_shares X U R f p;
     code = R.coded.code;
     lives = R.lives;
-    bare = ftrue;
   }
 
   abbrev pub lender_owns : Fml

@@ -1,9 +1,0 @@
-use denote.Param.Send.{IsSync, struct_sync, sendable}
-use denote.Builtin.{unit}
-use denote.Struct.Owning.{shape, to}
-use Rattle.core.specs.contracts.marker.PhantomData as marker
-use Rattle.seize_content.specs.contracts.ticket.Site.{the_row, the_type}
-
-pub sync : IsSync the_row
-sync = let my : IsSync (marker.the_field unit).row = search sendable depth 30 in
-    record { shared = λ d b o κ. ((struct_sync (shape the_type) (my, tt)).shared (to the_type d) b o κ, tt) }
