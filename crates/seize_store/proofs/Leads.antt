@@ -10,7 +10,7 @@ use denote.Steps.{heard}
 use Rattle.seize_table.specs.Pairs.{left_of, right_of}
 use Rattle.seize_table.specs.Place.{IsPlace}
 use Rattle.seize_table.proofs.Places.{one_bucket}
-use Rattle.seize_store.specs.RowTokens.{IsRowIn, Way, chunk_in, content_in, entry_of, known_row, label_in, leads_to, leads_where, lends_by, tells}
+use Rattle.seize_store.specs.RowTokens.{IsRowIn, Way, chunk_in, content_in, entry_of, known_row, label_in, leads_where, lends_by, tells}
 use Rattle.seize_store.proofs.Tokens.{row_twice, known_agree}
 
 module _ {M : Type 1} {𝓤 : Ura M} (𝓛 : Logic 𝓤) (store : List ℕ) (n : ℕ) where

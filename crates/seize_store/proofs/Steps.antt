@@ -1,19 +1,15 @@
 -- The ghost side of each step on a chunk's word. Assumes `Logic`.
-use Rattle.std.proofs.Common.{ℕ, zero, suc, ◌+◌, List, [], ◌∷◌, refl}
+use Rattle.std.proofs.Common.{ℕ, zero, suc, ◌+◌, List, [], ◌∷◌}
 use mathlib.Core.List.{Mem, not-mem-nil}
 use seplogic.Ra.Ura.{Ura}
 use base.Logic.{SProp, ent, sep, wand, ex, all, guard, upd, never, via, apply∗, upd_i, ex_i, all_e, never_e}
-use base.Fraction.{full_share}
 use base.Fml.{Share, Fml, ftrue, fsep, flft, fdead, finv, fnamed}
 use base.Stored.{gnum}
 use types.Logic.{Logic, sem}
 use types.Na.{out_once}
 use types.Tokens.{lft_new, lft_end, name_new}
-use types.Kit.{‵, raw, ◌⊛◌, some, later, ◌$◌, ◌∵◌, !, qed, by, move, keep, drop, split, fsplit, fsplit3, fjoin, fpick, fpack, pick, show, check, frame, each, assume, suffices, settle, done, use1, use2, updating, await, now, rewrite, feq_l}
-use mir.Val.{Val}
+use types.Kit.{‵, raw, ◌⊛◌, some, later, ◌$◌, ◌∵◌, !, qed, by, move, keep, split, fsplit, fsplit3, fjoin, fpick, fpack, pick, show, check, frame, each, assume, suffices, settle, done, use1, use2, updating, await, now}
 use denote.RattleType.{RattleType}
-use denote.Builtin.{u64}
-use denote.Memory.{cell_at}
 use denote.RawPtr.{block_ptr}
 use denote.Steps.{nothing}
 use Rattle.core.specs.Sync.RawAtomic.{Shift, rests, enters, leaves, word, along, if_none, back, found, asks, always}

@@ -4,7 +4,6 @@ use Rattle.std.specs.Coded.{Coded-set, coded_ℕ, coded_list, coded×, coded_opt
 use Rattle.std.specs.declared.option.Option.TheVariants.{Some}
 use mathlib.Core.HLevel.{is_prop→PathP}
 use denote.RawPtr.{coded_ptr}
-use Rattle.once_cell.specs.declared.race.note.Note.{Note}
 use Rattle.seize_store.specs.RowTokens.{row_name}
 use Rattle.seize_table.specs.declared.labelled.Labelled.{Ghosts}
 use Rattle.seize_store.specs.declared.look_up.TypedRowToken.{TypedRowToken}

@@ -7,22 +7,20 @@
 --     titles_of spots, titles_with ts t      their titles, in order;  with one more, where a full list gives its last 64 back first
 --     count_with n    how many there are when one was put to n
 --     IsSameBlock o p     the blocks o and p have the same value, number, store and place
---     known_by s      what the token s shows of its row
 --     store_by s, row_by s, chunks_by s     the store and the row of the token s, and where the row's chunks lie, with their labels
 --     row_is s n      the row is that of the number n
 --     place_by s n, label_by s n     where the chunk of the number n lies, and the label of its header
 --     IsRowOf k n     the token k shows the row of the number n
 --     lies_of p, header_of p   where the chunk p lies, and its header
---     owned_place o, owned_label o     where the chunk of the block o lies, and the label of its header
+--     owned_label o   the label of the header of the block o's chunk
 --     bare_value b, bare_title b, bare_store b, bare_number b, bare_label b     the same of a block b without its owner's part
 --     bare_known b, bare_content b     the token of its row, and the name of the content of its chunk
---     hollow_title o, hollow_store o, hollow_number o, hollow_label o, hollow_known o, hollow_content o     the same of what has no value
---                     either
+--     hollow_title o, hollow_store o, hollow_number o, hollow_label o, hollow_content o     the same of what has no value either
 use Rattle.std.specs.Prelude.{◌≡◌, ℕ, ◌+◌, ◌==◌, if◌then◌else◌, List, [], ◌∷◌, ◌++◌, All, map, length, take, vec_len}
 use denote.RawPtr.{Ptr}
 use Rattle.seize_table.specs.Place.{IsPlace}
 use Rattle.seize_store.specs.RowTokens.{entry_of, label_in, place_in}
-use Rattle.seize_store.specs.Titled.{names_of_rows, title_place}
+use Rattle.seize_store.specs.Titled.{names_of_rows}
 use Rattle.seize_store.specs.Titled as titled
 use Rattle.seize_store.specs.declared.bare.Bare.{Bare}
 use Rattle.seize_store.specs.declared.hollow.Hollow.{Hollow}
@@ -71,9 +69,6 @@ count_with count = (if count == 128 then 64 else count) + 1
 abbrev pub IsSameBlock : {H P T : Type 0} → Owned H P T → Owned H P T → Type 0
 IsSameBlock one other = (owned_value one ≡ owned_value other) × (one.block.title ≡ other.block.title)
 
-abbrev pub known_by : {H P T : Type 0} {g : Ghosts H} → TypedRowToken H P T g → RowToken
-known_by seen = seen.known
-
 abbrev pub store_by : {H P T : Type 0} {g : Ghosts H} → TypedRowToken H P T g → List ℕ
 store_by seen = seen.known.store
 
@@ -100,9 +95,6 @@ lies_of place = place.chunk.now.at
 
 abbrev pub header_of : {H P T : Type 0} → Place H P T → H
 header_of place = place.chunk.now.header
-
-abbrev pub owned_place : {H P T : Type 0} → Owned H P T → Ptr
-owned_place owned = title_place owned.block.title
 
 abbrev pub owned_label : {H P T : Type 0} → Owned H P T → ℕ
 owned_label owned = titled.title_label owned.block.title
@@ -139,9 +131,6 @@ hollow_store hollow = hollow.title.known.store
 
 abbrev pub hollow_label : {H P T : Type 0} → Hollow H P T → ℕ
 hollow_label hollow = titled.title_label hollow.title
-
-abbrev pub hollow_known : {H P T : Type 0} → Hollow H P T → RowToken
-hollow_known hollow = hollow.title.known
 
 abbrev pub hollow_content : {H P T : Type 0} → Hollow H P T → ℕ
 hollow_content hollow = titled.content_of hollow.title

@@ -92,13 +92,6 @@ impl<H, P: Labelled, T> Block<H, P, T> {
         unsafe { &mut (*self.at).room }
     }
 
-    /// The owner's part, for as long as the block is borrowed.
-    pub(crate) fn part(&self) -> &P
-        ensures { P.label result.now ≡ left_of (title_tag (block_title self.now)) }
-    {
-        unsafe { &(*self.at).part }
-    }
-
     pub(crate) fn title(&self) -> &Title
         ensures { result.now ≡ block_title self.now }
     {

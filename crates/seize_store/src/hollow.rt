@@ -4,13 +4,13 @@ ghost use Rattle.std.specs.Prelude.{◌≡◌};
 ghost use Rattle.seize_store.specs.Titled.{chunk_of};
 
 use crate::block::Shell;
-use crate::row_token::{RowToken, Title};
+use crate::row_token::Title;
 use crate::spot::{Spot, Spots};
 use seize_table::Labelled;
 
 /// A chunk that is out, with neither value nor the owner's part: what is left of a bare block when its value was taken out.
 ///
-/// Its chunk is in again only with its part, by `give_back` or `put_into`. Where this is dropped instead, the chunk stays out for good, and
+/// Its chunk is in again only with its part, by `put_into`. Where this is dropped instead, the chunk stays out for good, and
 /// its row's memory is never given back, also when the store and the other blocks of the row have ended.
 #[derive(Drop)]
 pub struct Hollow<H, P: Labelled + Drop, T> {
@@ -20,26 +20,8 @@ pub struct Hollow<H, P: Labelled + Drop, T> {
 }
 
 impl<H, P: Labelled + Drop, T> Hollow<H, P, T> {
-    ghost use Rattle.seize_store.specs.RowTokens.{content_in, entry_of, label_in};
-    ghost use Rattle.seize_store.specs.Named.{AreOfStore, IsRowOf, count_of, count_with, hollow_content, hollow_known, hollow_label, hollow_number, hollow_store, hollow_title, titles_of, titles_with};
+    ghost use Rattle.seize_store.specs.Named.{AreOfStore, count_of, count_with, hollow_label, hollow_store, hollow_title, titles_of, titles_with};
     ghost use Rattle.seize_store.specs.Parts.{spot_title};
-
-    /// The chunk's number. No block of its store has it while this stands.
-    pub fn number(&self) -> usize
-        ensures { result ≡ hollow_number self.now }
-    {
-        self.title.number
-    }
-
-    /// What shows the row in which the chunk lies, and that it lies there.
-    pub fn known(&self) -> &RowToken
-        ensures known { result.now ≡ hollow_known self.now }
-        ensures row { (result.now.store ≡ hollow_store self.now) × IsRowOf result.now (hollow_number self.now) }
-        ensures label { hollow_label self.now ≡ label_in result.now.chunks (entry_of result.now.row (hollow_number self.now)) }
-        ensures content { hollow_content self.now ≡ content_in result.now.chunks (entry_of result.now.row (hollow_number self.now)) }
-    {
-        &self.title.known
-    }
 
     // The chunk as a spot, with its owner's part, which may be another one of the same label. It takes no memory and no atomic step.
     pub(crate) fn with(self, part: P) -> Spot<H, P, T>
@@ -49,13 +31,6 @@ impl<H, P: Labelled + Drop, T> Hollow<H, P, T> {
         let Hollow { shell, title } = self;
         let out = shell.with(part);
         Spot { out, title }
-    }
-
-    /// The chunk is in again with this part, by one swap; where the store is gone, the chunk's memory goes back, and the part ends.
-    pub fn give_back(self, part: P)
-        requires { P.label part ≡ hollow_label self }
-    {
-        drop(self.with(part));
     }
 
     /// The chunk stays claimed with this part, and its spot goes to the list; where that is full, half of it goes back first. No atomic

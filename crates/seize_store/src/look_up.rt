@@ -11,7 +11,7 @@ use seize_table::Labelled;
 
 mod find;
 
-/// What shows that a row of a store is made, with all its chunks, for good. It takes no bytes and can be copied.
+/// What shows that a row of a store is made, with all its chunks, for good. It takes no bytes.
 #[derive(Drop)]
 pub struct TypedRowToken<H: Labelled + Drop, P: Labelled + Drop, T> {
     pub(crate) note: NoteOf<Row<H, P, T>>,

@@ -2,8 +2,7 @@
 //! `spot`.
 ghost use Rattle.std.specs.Prelude.{◌≡◌, ◌≢◌};
 ghost use Rattle.std.specs.Borrow.{sem};
-ghost use Rattle.seize_store.specs.Named.{AreOfStore, IsRowOf, bare_title, bare_value, IsSameBlock, count_of, count_with, known_of, owned_label, owned_number, store_of, title_of, titles_of, titles_with, owned_value};
-ghost use Rattle.seize_store.specs.RowTokens.{entry_of, label_in};
+ghost use Rattle.seize_store.specs.Named.{AreOfStore, bare_title, bare_value, IsSameBlock, count_of, count_with, known_of, owned_label, owned_number, store_of, title_of, titles_of, titles_with, owned_value};
 ghost use Rattle.seize_store.specs.Parts.{spot_title};
 
 use crate::bare::Bare;
@@ -29,21 +28,6 @@ impl<H, P: Labelled + Drop, T: Drop> Owned<H, P, T> {
         ensures { result ≡ owned_number self.now }
     {
         self.block.title().number
-    }
-
-    /// What shows the row in which the block's chunk lies, and that it lies there.
-    pub fn known(&self) -> &RowToken
-        ensures row { (result.now ≡ known_of self.now) × IsRowOf result.now (owned_number self.now) }
-        ensures label { owned_label self.now ≡ label_in result.now.chunks (entry_of result.now.row (owned_number self.now)) }
-    {
-        &self.block.title().known
-    }
-
-    /// The owner's part of the chunk. It has the label of the chunk's header.
-    pub fn part(&self) -> &P
-        ensures { P.label result.now ≡ owned_label self.now }
-    {
-        self.block.part()
     }
 
     /// The owner's part by value, and the block without it. It takes no memory and no atomic step.

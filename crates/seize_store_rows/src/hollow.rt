@@ -1,10 +1,10 @@
 //! Chunks whose value was taken out before their part is back: the value ends once, where its taker ends it, and the chunk serves again.
 ghost use Rattle.std.specs.Prelude.{◌≡◌, IfOk};
 ghost use Rattle.seize_store.specs.RowTokens.{family_in};
-ghost use Rattle.seize_store.specs.Named.{AreOfStore, hollow_label, store_name, store_of};
+ghost use Rattle.seize_store.specs.Named.{AreOfStore, hollow_label, is_empty_list, store_name, store_of};
 ghost use Rattle.seize_table.specs.Pairs.{pair};
 
-use crate::taken::{both_taken_out, hollowed, taken_into, taken_out};
+use crate::taken::{hollowed, taken_into};
 use crate::values::{Counted, Pairs};
 use seize_store::{Family, Owned, Spots, Store};
 use seize_table::Refusal;
@@ -79,21 +79,21 @@ fn a_value_ends_with_who_took_it_out(rt: HostRuntime) -> Result<(), Fail> {
     let ends = Ends::new();
     let maker = ends.maker();
     let store = Store::new(rt.alloc(), &Family::new(0));
+    let mut spots = Spots::new(rt.alloc())?;
     let (part, bare) = added(&store, &maker, &ends, 7)?.split();
-    let (value, number, hollow) = hollowed(bare);
-    assert_eq!(rt;
-        (value.name, number, hollow.number(), part.name),
-        (7, 0, 0, 0)
-    );
+    let number = bare.number();
+    let (value, hollow) = bare.take();
+    assert_eq!(rt; (value.name, number, part.name), (7, 0, 0));
     // While it is out, its number is nobody else's.
     let other = added(&store, &maker, &ends, 8)?;
-    assert_eq!(rt; (other.number(), other.part().name), (1, 1));
+    assert_eq!(rt; other.number(), 1);
     drop(value);
     assert_eq!(rt; ends.told(), (0, 0, 1));
-    hollow.give_back(part);
+    hollow.put_into(part, &mut spots);
+    drop(spots);
     assert_eq!(rt; ends.told(), (0, 0, 1));
     let again = added(&store, &maker, &ends, 9)?;
-    assert_eq!(rt; (again.number(), again.part().name, again.name), (0, 0, 9));
+    assert_eq!(rt; (again.number(), again.name), (0, 9));
     drop((again, other));
     assert_eq!(rt; ends.told(), (0, 0, 3));
     drop(store);
@@ -102,36 +102,18 @@ fn a_value_ends_with_who_took_it_out(rt: HostRuntime) -> Result<(), Fail> {
 }
 
 #[test]
-fn one_chunk_serves_time_and_again(rt: HostRuntime) -> Result<(), Fail> {
-    let ends = Ends::new();
-    let maker = ends.maker();
-    let store = Store::new(rt.alloc(), &Family::new(0));
-    for name in 0..1000u64 {
-        let owned = added(&store, &maker, &ends, name)?;
-        assert_eq!(rt; owned.number(), 0);
-        assert_eq!(rt; taken_out(owned).name, name);
-    }
-    let one = added(&store, &maker, &ends, 1)?;
-    let other = added(&store, &maker, &ends, 2)?;
-    let (one, other) = both_taken_out(one, other);
-    assert_eq!(rt; (one.name, other.name, ends.told()), (1, 2, (0, 0, 1000)));
-    drop((one, other));
-    drop(store);
-    assert_eq!(rt; ends.told(), (32, 32, 1002));
-    Ok(())
-}
-
-#[test]
 fn a_chunk_outlives_its_store_without_its_value(rt: HostRuntime) -> Result<(), Fail> {
     let ends = Ends::new();
     let maker = ends.maker();
     let store = Store::new(rt.alloc(), &Family::new(0));
+    let mut spots = Spots::new(rt.alloc())?;
     let (part, bare) = added(&store, &maker, &ends, 7)?.split();
-    let (value, hollow) = bare.take();
+    let (value, hollow) = hollowed(bare);
     drop(store);
     assert_eq!(rt; (value.name, ends.told()), (7, (32, 31, 0)));
+    hollow.put_into(part, &mut spots);
     // The memory of its row goes back with it, and its part ends.
-    hollow.give_back(part);
+    drop(spots);
     assert_eq!(rt; ends.told(), (32, 32, 0));
     drop(value);
     assert_eq!(rt; ends.told(), (32, 32, 1));
@@ -144,21 +126,20 @@ fn used_again<'a>(
     spots: &mut Spots<Counted<'a>, Counted<'a>, Counted<'a>>,
     maker: &Pairs<'a>,
     ends: &'a Ends,
-) -> Result<(usize, usize), Refusal>
+) -> Result<usize, Refusal>
     requires family { family_in (store_name store.now) ≡ 0 }
     requires spots { AreOfStore spots.old (store_name store.now) }
     ensures { AreOfStore spots.new (store_name store.now) }
 {
     let value = taken_into(added(store, maker, ends, 7)?, spots);
-    let count = spots.len();
     match store.add_from(spots, value, maker) {
-        Ok(owned) => Ok((count, owned.number())),
+        Ok(owned) => Ok(owned.number()),
         Err((refusal, _)) => Err(refusal),
     }
 }
 
 // The same, and what has ended once store and list have.
-fn by_list(alloc: Global, ends: &Ends) -> Result<((usize, usize), (u64, u64, u64)), Refusal> {
+fn by_list(alloc: Global, ends: &Ends) -> Result<(usize, (u64, u64, u64)), Refusal> {
     let maker = ends.maker();
     let store = Store::new(alloc, &Family::new(0));
     let mut spots = Spots::new(alloc)?;
@@ -171,7 +152,7 @@ fn by_list(alloc: Global, ends: &Ends) -> Result<((usize, usize), (u64, u64, u64
 #[test]
 fn a_chunk_stays_claimed_in_a_list(rt: HostRuntime) -> Result<(), Fail> {
     let ends = Ends::new();
-    assert_eq!(rt; by_list(rt.alloc(), &ends)?, ((1, 0), (32, 32, 1)));
+    assert_eq!(rt; by_list(rt.alloc(), &ends)?, (0, (32, 32, 1)));
     Ok(())
 }
 
@@ -196,15 +177,25 @@ fn a_hollow_that_is_dropped_stays_out(rt: HostRuntime) -> Result<(), Fail> {
     Ok(())
 }
 
-// A chunk that goes back on one thread, while its value ends on another.
-fn ended_beside<'a, R: Threads + Sync>(rt: &R, owned: Block<'a>) {
+// A chunk that goes back on one thread, with a list of its own, while its value ends on another.
+fn ended_beside<'a, R: Threads + Sync>(
+    rt: &R,
+    owned: Block<'a>,
+    spots: Spots<Counted<'a>, Counted<'a>, Counted<'a>>,
+)
+    requires { is_empty_list spots }
+{
     let (part, bare) = owned.split();
     let (value, hollow) = bare.take();
     thread::join(
         rt,
         move || -> ()
-            requires { pair 0 part.name ≡ hollow_label hollow }
-        { hollow.give_back(part) },
+            requires part { pair 0 part.name ≡ hollow_label hollow }
+            requires spots { is_empty_list spots }
+        {
+            let mut spots = spots;
+            hollow.put_into(part, &mut spots);
+        },
         move || drop(value),
     );
 }
@@ -217,7 +208,7 @@ fn a_chunk_goes_back_on_any_thread(rt: HostRuntime) -> Result<(), Fail> {
     for name in 0..500u64 {
         let owned = added(&store, &maker, &ends, name)?;
         assert_eq!(rt; owned.number(), 0);
-        ended_beside(&rt, owned);
+        ended_beside(&rt, owned, Spots::new(rt.alloc())?);
     }
     assert_eq!(rt; ends.told(), (0, 0, 500));
     drop(store);

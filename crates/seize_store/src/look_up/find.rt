@@ -1,52 +1,14 @@
 //! Look-ups: from a number to its chunk, in a store that made the number's row. `look_up` says what they answer.
-ghost use Rattle.std.specs.Prelude.{◌≡◌, ◌<◌, ◌≤◌, ◌+◌, ◌^◌, length, IfSome};
+ghost use Rattle.std.specs.Prelude.{◌≡◌, ◌<◌, length, IfSome};
 ghost use Rattle.seize_store.specs.RowTokens.{chunk_in, entry_of, label_in, place_in};
-ghost use Rattle.seize_store.specs.Named.{IsRowOf, chunks_by, header_of, known_by, label_by, lies_of, owned_label, owned_number, owned_place, place_by, row_by, row_is, store_by, store_name, store_of};
+ghost use Rattle.seize_store.specs.Named.{IsRowOf, chunks_by, header_of, label_by, lies_of, place_by, row_by, row_is, store_by, store_name};
 
 use super::{Place, TypedRowToken};
-use crate::owned::Owned;
 use crate::row::Row;
 use crate::row_token::RowToken;
 use crate::store::Store;
 use seize_table::Labelled;
 use seize_table::thread_id::Thread;
-
-impl<H: Labelled + Drop, P: Labelled + Drop, T> TypedRowToken<H, P, T> {
-    /// A copy, as for another thread.
-    pub fn again(&mut self) -> TypedRowToken<H, P, T>
-        ensures { (self.new ≡ self.old) × (result ≡ self.old) }
-    {
-        TypedRowToken {
-            note: self.note.again(),
-            known: self.known.again(),
-        }
-    }
-
-    /// What it shows of the row, free of the types that the store is made for.
-    pub fn known(&self) -> RowToken
-        ensures { result ≡ known_by self.now }
-    {
-        self.known.again()
-    }
-
-    /// How many chunks a row that is made has: twice as many as the row before it, and 32 the first. It does nothing: its contract is the
-    /// law.
-    pub fn row_length(&self)
-        ensures { length (chunks_by self.now) ≡ 2 ^ (row_by self.now + 5) }
-    {}
-}
-
-impl<H: Labelled + Drop, P: Labelled + Drop, T: Drop> TypedRowToken<H, P, T> {
-    /// Where a look-up of the block's number leads: to the block's own chunk, and to a header with the block's label. It does nothing: its
-    /// contract is the law.
-    pub fn leads_to(&self, owned: &Owned<H, P, T>)
-        requires { (store_by self.now ≡ store_of owned.now) × row_is self.now (owned_number owned.now) }
-        ensures place { place_by self.now (owned_number owned.now) ≡ owned_place owned.now }
-        ensures label { label_by self.now (owned_number owned.now) ≡ owned_label owned.now }
-    {
-        self.known.agree(&owned.block.title().known);
-    }
-}
 
 impl<'a, H, P: Labelled, T> Place<'a, H, P, T> {
     /// The chunk's header, for as long as the store is borrowed.

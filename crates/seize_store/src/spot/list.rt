@@ -1,5 +1,5 @@
 //! What a list of spots does. The list is that of `spot`; `owned` puts spots into it, and `store` takes them out.
-ghost use Rattle.std.specs.Prelude.{◌≡◌, ◌≤◌, IfOk};
+ghost use Rattle.std.specs.Prelude.{◌≡◌, IfOk};
 ghost use Rattle.seize_store.specs.Named.{AreOfStore, count_of, count_with, is_empty_list, titles_of, titles_with};
 ghost use Rattle.seize_store.specs.Parts.{spot_store, spot_title};
 
@@ -19,20 +19,6 @@ impl<H, P: Labelled + Drop, T> Spots<H, P, T> {
         Ok(Spots {
             list: Vec::with_capacity(alloc, SPOTS)?,
         })
-    }
-
-    /// How many spots are in the list.
-    pub fn len(&self) -> usize
-        ensures { (result ≡ count_of self.now) × (result ≤ SPOTS) }
-    {
-        self.list.len()
-    }
-
-    /// Gives all spots back, each by one swap. The room stays.
-    pub fn clear(&mut self)
-        ensures { is_empty_list self.new }
-    {
-        self.list.clear();
     }
 
     // One more spot. Where the list is full, half of it goes back first.

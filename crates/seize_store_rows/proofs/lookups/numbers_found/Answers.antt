@@ -9,7 +9,4 @@ one_number : (n k label : ℕ) → pair 0 n ≡ label → pair 0 k ≡ label →
 one_number n k label one other = sym (right_pair 0 n) ∙ (ap right_of (one ∙ sym other) ∙ right_pair 0 k)
 
 pub returns : goal.returns
-returns c =
-    let one = ap (λ (t : Tally). pair 0 t.number) c.header.ensures ∙ c.in_ok-one.ensures.label in
-    let other = ap (λ (t : Tally). pair 0 t.number) c.header-2.ensures ∙ c.in_ok-other.ensures.label in
-    (one, one_number c.header.result.now.number c.header-2.result.now.number _ one other)
+returns c = c
