@@ -74,48 +74,60 @@ fn added<'a>(
     }
 }
 
+// A value is taken out, another block is made meanwhile, and a third one once the chunk is in again. The numbers of the three, and what
+// has ended when the first value has, and when its chunk is in again.
+fn taken_and_used_again(
+    alloc: Global,
+    ends: &Ends,
+) -> Result<((usize, usize, usize), (u64, u64, u64), (u64, u64, u64)), Refusal> {
+    let maker = ends.maker();
+    let store = Store::new(alloc, &Family::new(0));
+    let mut spots = Spots::new(alloc)?;
+    let (part, bare) = added(&store, &maker, ends, 7)?.split();
+    let number = bare.number();
+    let (value, hollow) = bare.take();
+    let other = added(&store, &maker, ends, 8)?;
+    drop(value);
+    let taken = ends.told();
+    hollow.put_into(part, &mut spots);
+    drop(spots);
+    let back = ends.told();
+    let again = added(&store, &maker, ends, 9)?;
+    Ok(((number, other.number(), again.number()), taken, back))
+}
+
 #[test]
 fn a_value_ends_with_who_took_it_out(rt: HostRuntime) -> Result<(), Fail> {
     let ends = Ends::new();
-    let maker = ends.maker();
-    let store = Store::new(rt.alloc(), &Family::new(0));
-    let mut spots = Spots::new(rt.alloc())?;
-    let (part, bare) = added(&store, &maker, &ends, 7)?.split();
-    let number = bare.number();
-    let (value, hollow) = bare.take();
-    assert_eq!(rt; (value.name, number, part.name), (7, 0, 0));
-    // While it is out, its number is nobody else's.
-    let other = added(&store, &maker, &ends, 8)?;
-    assert_eq!(rt; other.number(), 1);
-    drop(value);
-    assert_eq!(rt; ends.told(), (0, 0, 1));
-    hollow.put_into(part, &mut spots);
-    drop(spots);
-    assert_eq!(rt; ends.told(), (0, 0, 1));
-    let again = added(&store, &maker, &ends, 9)?;
-    assert_eq!(rt; (again.number(), again.name), (0, 9));
-    drop((again, other));
-    assert_eq!(rt; ends.told(), (0, 0, 3));
-    drop(store);
+    let (numbers, taken, back) = taken_and_used_again(rt.alloc(), &ends)?;
+    // While the value is out, its number is nobody else's.
+    assert_eq!(rt; numbers, (0, 1, 0));
+    assert_eq!(rt; (taken, back), ((0, 0, 1), (0, 0, 1)));
     assert_eq!(rt; ends.told(), (32, 32, 3));
     Ok(())
+}
+
+// A store ends while a value is out. What has ended then, and once the chunk is in again, with which the memory of its row goes back and
+// its part ends.
+fn outlived(alloc: Global, ends: &Ends) -> Result<((u64, u64, u64), (u64, u64, u64)), Refusal> {
+    let maker = ends.maker();
+    let store = Store::new(alloc, &Family::new(0));
+    let mut spots = Spots::new(alloc)?;
+    let (part, bare) = added(&store, &maker, ends, 7)?.split();
+    let (value, hollow) = hollowed(bare);
+    drop(store);
+    let out = ends.told();
+    hollow.put_into(part, &mut spots);
+    drop(spots);
+    let back = ends.told();
+    drop(value);
+    Ok((out, back))
 }
 
 #[test]
 fn a_chunk_outlives_its_store_without_its_value(rt: HostRuntime) -> Result<(), Fail> {
     let ends = Ends::new();
-    let maker = ends.maker();
-    let store = Store::new(rt.alloc(), &Family::new(0));
-    let mut spots = Spots::new(rt.alloc())?;
-    let (part, bare) = added(&store, &maker, &ends, 7)?.split();
-    let (value, hollow) = hollowed(bare);
-    drop(store);
-    assert_eq!(rt; (value.name, ends.told()), (7, (32, 31, 0)));
-    hollow.put_into(part, &mut spots);
-    // The memory of its row goes back with it, and its part ends.
-    drop(spots);
-    assert_eq!(rt; ends.told(), (32, 32, 0));
-    drop(value);
+    assert_eq!(rt; outlived(rt.alloc(), &ends)?, ((32, 31, 0), (32, 32, 0)));
     assert_eq!(rt; ends.told(), (32, 32, 1));
     Ok(())
 }

@@ -1,6 +1,6 @@
 -- What is known of a table's first entries: it can be had twice, has that of each entry, and takes one more. Assumes `Logic`.
 use Rattle.std.proofs.Common.{zero, suc, ◌+◌, ◌<◌, length, get_or, arith}
-use Rattle.seize_table.proofs.Kit.{◌≡◌, fact, ℕ, List, [], ◌∷◌, ◌++◌, sym, refl, subst, Ura, vstruct, vnil, ent, sep, emp, Fml, ftrue, fsep, Logic, sem, ‵, ◌⊛◌, ◌$◌, ◌∵◌, !, qed, by, move, keep, split, fsplit, fjoin, use1, use2, done, RattleType, Struct, shape, makes_shadow, nothing}
+use Rattle.seize_table.proofs.Kit.{◌≡◌, ℕ, List, [], ◌∷◌, ◌++◌, sym, subst, Ura, ent, sep, Fml, ftrue, fsep, Logic, sem, ‵, ◌⊛◌, ◌$◌, ◌∵◌, !, qed, by, move, keep, split, fsplit, fjoin, use1, use2, done, RattleType, nothing}
 use Rattle.seize_table.specs.Filled.{filled_at, all_filled, all_from}
 use Rattle.seize_table.specs.contracts.tls.all_filled.AllFilled as all_filled_row
 use Rattle.seize_table.proofs.Entries.{filled_twice}
