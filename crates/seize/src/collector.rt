@@ -272,7 +272,7 @@ impl<T: Drop, R: Reclaim<T>> Collector<T, R> {
 
     /// The pass looks at the list of events. Every law of the machine holds of what it has seen then, which goes on from what it had seen.
     /// So each value, whoever retired it, is reclaimed there at most once, and only after each slot that was active at its retirement has
-    /// left or refreshed. And each name in it that was ever in a link, or retired, is that of a block with a content of type `T`.
+    /// left or refreshed. And each name in it that was ever in a link, or retired, says a content of type `T`.
     ///
     /// It makes no event, and does nothing when the program runs: its contract is the laws.
     pub fn laws(&self, pass: &mut Pass)

@@ -136,16 +136,6 @@ module _ {M : Type 1} {𝓤 : Ura M} (𝓛 : Logic 𝓤) (n : Name) where
   leads_lent v w l home block place lent cell = qed 𝓛 (‵ (leads n v) ∷ ‵ (permit_if n.permits (suc l)) ∷ []) ∵ fsplit ! $ keep ! (0 ∷ 2 ∷ []) $ rewrite ! 0 (λ (F : Fml). ‵ F) (same_place v w home block place cell) refl $
       rewrite ! 1 (λ (k : ℕ). ‵ (permit_if n.permits k)) (sym lent) refl $ fjoin ! $ done !
 
-  -- a label is no part of the right, and its number leads to the same home
-  pub relabels : (held : List (HeldKey Entry)) (v : ℕ) → is_one blocks held ≡ true → home_of (label_of held) ≡ home_of v → block_number (label_of held) ≡ block_number v → place_of (label_of held) ≡ place_of v → CarriesNone v → cell_of (label_of held) ≡ cell_of v
-      → ent 𝓤 (sem 𝓛 (keys_own n held)) (sem 𝓛 (keys_own n (with_label v held)))
-  relabels [] v one home block place none cell = absurd (cc)
-  relabels (h ∷ g ∷ held) v one home block place none cell = absurd (cc)
-  relabels (h ∷ []) v one home block place none cell = let h' : HeldKey Entry = record { kind = h.kind; key = h.key; own = h.own; label = v; note = h.note } in let L : Fml = leads n h.label in
-      qed 𝓛 (‵ (keys_own n (h ∷ [])) ∷ []) ∵ fsplit ! $ fsplit ! $ move ! (1 ∷ []) $ use1 𝓛 (‵ (block_ways 𝓛 n h.label h.note)) (way_opens 𝓛 n h one) $ fsplit ! $ fsplit ! $ move ! (1 ∷ []) $ drop ! $
-      -- [where it leads; the note; the right; nothing], for what was lent is let go
-      use1 𝓛 (‵ (leads n v)) (leads_freed h.label v home block place none cell) $ rewrite ! 1 (λ (c : ℕ). ‵ (cell_token c h.note)) cell refl $ use2 𝓛 (‵ (way n h')) (bare_way 𝓛 n h' none one) $ move ! (1 ∷ 0 ∷ []) $ fjoin ! $ fjoin ! $ done !
-
 -- the first of several keys, which is a block's: it is renamed by itself
 pub first_labelled : (held more : List (HeldKey Entry)) (v : ℕ) → is_one blocks held ≡ true
     → (label_of (held ++ more) ≡ label_of held) × (own_of (held ++ more) ≡ own_of held)

@@ -9,7 +9,6 @@
 --     IsNextAfter value last number            it was never named, and of all that were ever named in its block this last one alone may not
 --                                              have been reclaimed; words hold the block by this number
 --     MaySettle value pass                     it is so after a value that was reclaimed since, as the pass has seen
---     MakesNextValue value pass value' pass'   it is for the next value of the block, and the pass has looked at the list
 --     home_in count, count_known count         the block whose count it is the key of, and the count, as the key knows
 --     deposit_known count, field_known field   the values whose keys stand beside it;  what was last stored in the field, as its key knows
 --     IsCountAt count home                     it is that of the block with this home, the count is 0, and no keys stand beside it
@@ -89,12 +88,6 @@ IsNextAfter value last number =
 abbrev pub MaySettle : ValueKey → Pass → Type 0
 MaySettle value pass =
     (last : ℕ) × IsNextAfter value last (block_number (value_of value)) × (has last (after (start pass.name) pass.seen).gone ≡ true)
-
--- it is for another value of the same block, and the pass has seen a legal list that goes on
-abbrev pub MakesNextValue : ValueKey → Pass → ValueKey → Pass → Type 0
-MakesNextValue value pass value' pass' =
-    LooksOn pass pass' × (value'.keys.name ≡ value.keys.name) × (home_of (value_of value') ≡ home_of (value_of value))
-    × (cell_of (value_of value') ≡ cell_of (value_of value))
 
 abbrev pub home_in : CountKey → ℕ
 home_in key = key_of key.keys.held

@@ -15,7 +15,6 @@
 --     Knew key other pass pass' d       the event was added where this was known of the list, by the slot's and the other keys
 --     IsLastIn v st                     all other values of its block that were ever named were reclaimed;  IsLast value    so it is, as
 --                                       its key knows
---     HasGone value pass                the value was reclaimed, as the pass has seen
 --     with_label v held                 the first key has this label
 --     Renames keys keys'                the first key's label is another value of its block, which was never named, as it knows; nothing
 --                                       is lent with it
@@ -116,9 +115,6 @@ IsLastIn v st = (w : ℕ) → home_of w ≡ home_of v → w ≢ v → has w st.n
 
 abbrev pub IsLast : ValueKey → Type 0
 IsLast value = IsLastIn (value_of value) (state_of value.keys)
-
-abbrev pub HasGone : ValueKey → Pass → Type 0
-HasGone value pass = has (value_of value) (after (start pass.name) pass.seen).gone ≡ true
 
 abbrev pub with_label : ℕ → List (HeldKey Entry) → List (HeldKey Entry)
 with_label v [] = []

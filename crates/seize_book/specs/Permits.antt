@@ -3,8 +3,8 @@
 --     permit γ k             a code with the number k is in the list γ, for good
 --     permit_if γ l          so it is with l, where that is the number of a loan: 0 is that of none
 --     all_permitted γ ls     so it is with all of these
---     IsOf holds k           k is the number of a code of which this holds;  AllAre holds ls    so is each that is not 0
---     keeps holds γ          the list, of numbers of such codes;  knows_permits    that there is this list, for good
+--     IsCodeOf holds k       k is the number of a code of which this holds;  AllAre holds ls    so is each that is not 0
+--     permits_kept holds γ   the list, of numbers of such codes;  knows_permits    that there is this list, for good
 use Rattle.std.specs.Prelude.{◌≡◌, ℕ, zero, suc, true, List, [], ◌∷◌}
 use base.Fraction.{full_share}
 use base.Growing.{latest}
@@ -29,25 +29,25 @@ all_permitted γ [] = ftrue
 all_permitted γ (l ∷ ls) = fsep (permit_if γ l) (all_permitted γ ls)
 
 module _ (holds : Gv → Type 0) where
-  abbrev pub IsOf : ℕ → Type 0
-  IsOf k = (g : Gv) × (loan_number g ≡ k) × holds g
+  abbrev pub IsCodeOf : ℕ → Type 0
+  IsCodeOf k = (g : Gv) × (loan_number g ≡ k) × holds g
 
   abbrev pub AreOf : List ℕ → Type 0
-  AreOf ks = (k : ℕ) → has k ks ≡ true → IsOf k
+  AreOf ks = (k : ℕ) → has k ks ≡ true → IsCodeOf k
 
   abbrev pub AllAre : List ℕ → Type 0
   AllAre [] = Unit {0}
   AllAre (zero ∷ ls) = AllAre ls
-  AllAre (suc k ∷ ls) = IsOf (suc k) × AllAre ls
+  AllAre (suc k ∷ ls) = IsCodeOf (suc k) × AllAre ls
 
-  abbrev pub kept_at : ℕ → List ℕ → Fml
-  kept_at γ ks = fsep (latest (logs coded_ℕ) full_share γ ks) (fact (AreOf ks))
+  abbrev pub permits_kept_at : ℕ → List ℕ → Fml
+  permits_kept_at γ ks = fsep (latest (logs coded_ℕ) full_share γ ks) (fact (AreOf ks))
 
-  abbrev pub keeps : ℕ → Fml
-  keeps γ = fex (List ℕ) (kept_at γ)
+  abbrev pub permits_kept : ℕ → Fml
+  permits_kept γ = fex (List ℕ) (permits_kept_at γ)
 
   abbrev pub knows_at : ℕ → ℕ → Fml
-  knows_at γ j = fnamed j (keeps γ)
+  knows_at γ j = fnamed j (permits_kept γ)
 
   abbrev pub knows_permits : ℕ → Fml
   knows_permits γ = fex ℕ (knows_at γ)

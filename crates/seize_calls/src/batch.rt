@@ -46,13 +46,6 @@ impl Batch {
         }
     }
 
-    /// How many values it has, or `usize::MAX` where they are more.
-    pub fn len(&self) -> usize
-        ensures { result ≡ min (length (values_of (keys_in self.now))) (2 ^ 64 - 1) }
-    {
-        self.len
-    }
-
     /// One value more comes last, of which this is its block's number and what is kept.
     ///
     /// It takes no memory: two look-ups, a plain read and two plain writes.

@@ -188,13 +188,6 @@ impl<T: Drop> Slot<T> {
         words.blocks.add_from(&mut self.spots, value, pass)
     }
 
-    /// How many values its batch has, or `usize::MAX` where they are more.
-    pub fn len(&self) -> usize
-        ensures { result ≡ min (length (slot_of (its_key self.now)).batch) (2 ^ 64 - 1) }
-    {
-        self.batch.len()
-    }
-
     /// Looks at the list with no event: the pass knows of the slot then what its own key says. It does nothing else.
     pub fn look(&mut self, _words: &Words<T>, pass: &mut Pass)
         requires of { IsSlotOf _words.now self.old × IsPassFor _words.now pass.old }

@@ -18,8 +18,6 @@ pub const LINKS: u64 = 8;
 pub struct Tally {
     /// How many values its reclaimer had.
     pub count: u64,
-    /// How many values its batch has.
-    pub left: u64,
     /// How many of the values that it found had ended before it left.
     pub early: u64,
 }
@@ -76,7 +74,6 @@ impl Visitor {
         visitor.leave(hall, &mut counting, rt);
         let tally = Tally {
             count: counting.count,
-            left: visitor.slot.len() as u64,
             early,
         };
         Ok((visitor, tally))

@@ -84,14 +84,13 @@ fn a_full_batch_waits_for_its_own_slot(rt: HostRuntime) -> Result<(), Fail> {
     let mut counting = Counting::new(marks.as_slice());
     visitor.enter(&hall);
     visitor.replace(&hall, 0, 5, &mut counting, &rt)?;
-    assert_eq!(rt; visitor.slot.len(), 0);
     let first = visitor.swap_in(&hall, 0, 6)?.ok_or("empty")?;
     assert_eq!(rt; visitor.find(&hall, 0), Some(6));
     let retired = visitor.retire(&hall, first, 70, &mut counting, &rt);
-    assert_eq!(rt; (retired, visitor.slot.len()), (false, 1));
+    assert!(rt; !retired);
     let second = visitor.swap_in(&hall, 0, 7)?.ok_or("empty")?;
     let retired = visitor.retire(&hall, second, 7, &mut counting, &rt);
-    assert_eq!(rt; (retired, visitor.slot.len(), counting.count), (true, 0, 0));
+    assert_eq!(rt; (retired, counting.count), (true, 0));
     visitor.leave(&hall, &mut counting, &rt);
     assert_eq!(rt;
         (counting.count, counting.sum, counting.last, counting.kept),
@@ -101,7 +100,6 @@ fn a_full_batch_waits_for_its_own_slot(rt: HostRuntime) -> Result<(), Fail> {
     assert_eq!(rt; told(marks.as_slice()), (8, 0));
     visitor.enter(&hall);
     visitor.replace(&hall, 1, 8, &mut counting, &rt)?;
-    assert_eq!(rt; visitor.slot.len(), 0);
     Ok(())
 }
 
@@ -115,12 +113,12 @@ fn a_batch_is_full_at_a_size_that_was_set_later(rt: HostRuntime) -> Result<(), F
     visitor.enter(&hall);
     visitor.replace(&hall, 0, 5, &mut counting, &rt)?;
     visitor.replace(&hall, 0, 6, &mut counting, &rt)?;
-    assert_eq!(rt; (visitor.slot.len(), counting.count), (1, 0));
+    assert_eq!(rt; counting.count, 0);
     hall.set_size(1);
     let second = visitor.swap_in(&hall, 0, 7)?.ok_or("empty")?;
     assert!(rt; visitor.retire(&hall, second, 0, &mut counting, &rt));
     visitor.leave(&hall, &mut counting, &rt);
-    assert_eq!(rt; (visitor.slot.len(), counting.count), (0, 2));
+    assert_eq!(rt; counting.count, 2);
     assert_eq!(rt; told(marks.as_slice()), (8, 0));
     Ok(())
 }
@@ -138,10 +136,10 @@ fn a_short_batch_stays_while_more_slots_are_active(rt: HostRuntime) -> Result<()
     let out = visitor.swap_in(&hall, 3, 6)?.ok_or("empty")?;
     assert!(rt; !visitor.retire(&hall, out, 70, &mut counting, &rt));
     assert!(rt; !visitor.flush(&hall, &mut counting, &rt));
-    assert_eq!(rt; (visitor.slot.len(), counting.count), (1, 0));
+    assert_eq!(rt; counting.count, 0);
     other.leave(&hall, &mut counting, &rt);
     assert!(rt; visitor.flush(&hall, &mut counting, &rt));
-    assert_eq!(rt; (visitor.slot.len(), counting.count), (0, 0));
+    assert_eq!(rt; counting.count, 0);
     assert_eq!(rt; visitor.find(&hall, 3), Some(6));
     visitor.refresh(&hall, &mut counting, &rt);
     assert_eq!(rt; counting.count, 1);
@@ -163,7 +161,7 @@ fn a_chain_of_values_ends_in_one_call(rt: HostRuntime) -> Result<(), Fail> {
     let mut putting = Putting::new(rt.alloc(), &hall, marks.as_slice(), false, CHAIN - 1)?;
     let first = Fresh::new(&hall, CHAIN - 1)?.loose(&hall);
     assert!(rt; slot.retire(&hall.words, first, 7, &mut putting, &mut pass, &beside));
-    assert_eq!(rt; (slot.len(), putting.ready.len()), (0, 0));
+    assert_eq!(rt; putting.ready.len(), 0);
     let counting = &putting.counting;
     assert_eq!(rt;
         (counting.count, counting.last, counting.kept),
@@ -186,10 +184,10 @@ fn two_values_are_put_at_once(rt: HostRuntime) -> Result<(), Fail> {
     slot.retire(&hall.words, first, 5, &mut putting, &mut pass, &beside);
     let second = Fresh::new(&hall, 19)?.loose(&hall);
     assert!(rt; !slot.retire(&hall.words, second, 5, &mut putting, &mut pass, &beside));
-    assert_eq!(rt; (slot.len(), putting.counting.count), (2, 0));
+    assert_eq!(rt; putting.counting.count, 0);
     let last = Fresh::new(&hall, 20)?.loose(&hall);
     assert!(rt; slot.retire(&hall.words, last, 5, &mut putting, &mut pass, &beside));
-    assert_eq!(rt; (slot.len(), putting.ready.len()), (0, 0));
+    assert_eq!(rt; putting.ready.len(), 0);
     let counting = &putting.counting;
     assert_eq!(rt;
         (counting.count, counting.kept, counting.last),
@@ -211,7 +209,7 @@ fn what_is_put_in_a_leave_goes_in_it(rt: HostRuntime) -> Result<(), Fail> {
     assert!(rt; visitor.retire(&hall, first, 1, &mut putting, &rt));
     assert_eq!(rt; putting.counting.count, 0);
     visitor.leave(&hall, &mut putting, &rt);
-    assert_eq!(rt; (visitor.slot.len(), putting.ready.len()), (0, 0));
+    assert_eq!(rt; putting.ready.len(), 0);
     assert_eq!(rt; (putting.counting.count, putting.counting.sum), (10, 45));
     assert_eq!(rt; told(marks.as_slice()), (0, 0));
     Ok(())
@@ -284,12 +282,14 @@ fn four_threads_end_each_value_at_most_once(rt: HostRuntime) -> Result<(), Fail>
     let (b, source) = source.make(&hall)?;
     let (c, source) = source.make(&hall)?;
     let (d, _) = source.make(&hall)?;
-    let mut left: u64 = 0;
+    let mut handed: u64 = 0;
     for tally in all(&rt, &hall, marks.as_slice(), (a, b), (c, d))? {
-        assert!(rt; tally.left < 32);
         assert_eq!(rt; tally.early, 0);
-        left = left.wrapping_add(tally.left);
+        handed = handed.wrapping_add(tally.count);
     }
-    assert_eq!(rt; told(marks.as_slice()), (left.wrapping_add(LINKS), 0));
+    // (the others lie in the links, or in one of four batches of fewer than 32 values)
+    let left = (4 * TURNS).wrapping_sub(handed);
+    assert!(rt; left < LINKS + 4 * 32);
+    assert_eq!(rt; told(marks.as_slice()), (left, 0));
     Ok(())
 }

@@ -4,17 +4,17 @@ use base.Stored.{Gv}
 use Rattle.seize_machine.specs.Machine.State.{has}
 use Rattle.seize_machine.proofs.Facts.{eq_true}
 use Rattle.seize_book.specs.Loans.{AllCarryOne, CarriesOne, loan_number, loan_of}
-use Rattle.seize_book.specs.Permits.{AllAre, IsOf}
+use Rattle.seize_book.specs.Permits.{AllAre, IsCodeOf}
 use Rattle.seize_words.specs.Chunks.{HaveCodesOf}
 
-permitted : (holds : Gv → Type 0) (vs : List ℕ) (v : ℕ) → has v vs ≡ true → CarriesOne v → AllAre holds (map loan_of vs) → IsOf holds (loan_of v)
+permitted : (holds : Gv → Type 0) (vs : List ℕ) (v : ℕ) → has v vs ≡ true → CarriesOne v → AllAre holds (map loan_of vs) → IsCodeOf holds (loan_of v)
 permitted holds [] v named lent all = absurd (cc)
 permitted holds (u ∷ vs) v named lent all = go (u == v) refl (loan_of u) refl all named (permitted holds vs v)
   where
     go : (b : Bool) → (u == v) ≡ b → (l : ℕ) → loan_of u ≡ l → AllAre holds (l ∷ map loan_of vs) → (b || has v vs) ≡ true
-        → (has v vs ≡ true → CarriesOne v → AllAre holds (map loan_of vs) → IsOf holds (loan_of v)) → IsOf holds (loan_of v)
+        → (has v vs ≡ true → CarriesOne v → AllAre holds (map loan_of vs) → IsCodeOf holds (loan_of v)) → IsCodeOf holds (loan_of v)
     go true e zero is all h others = absurd (lent (ap loan_of (sym (eq_true u v e)) ∙ is))
-    go true e (suc l) is all h others = subst (IsOf holds) (sym is ∙ ap loan_of (eq_true u v e)) all.0
+    go true e (suc l) is all h others = subst (IsCodeOf holds) (sym is ∙ ap loan_of (eq_true u v e)) all.0
     go false e zero is all h others = others h lent all
     go false e (suc l) is all h others = others h lent all.1
 

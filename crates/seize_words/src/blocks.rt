@@ -156,7 +156,7 @@ impl<T: Drop> Blocks<T> {
         ensures looks { LooksOn pass.old pass.new }
         ensures codes { HaveCodesOf T.row.coded.code (state_seen pass.new).named }
     {
-        let permit = pass.permits();
+        let permit = pass.permit_for_named();
         self.permits.check(permit);
     }
 

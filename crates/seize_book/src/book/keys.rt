@@ -54,7 +54,6 @@ impl Keys {
     ghost use Rattle.seize_book.specs.Ledger.{AllApart};
     ghost use Rattle.seize_book.specs.Lending.{IsRowAt, Lends, MayLend, MayRedeem, MayWithdraw, Redeems};
     ghost use Rattle.seize_book.specs.Notes.{MayOpen, OpensNote};
-    ghost use Rattle.seize_book.specs.Others.{Renames};
     ghost use Rattle.seize_book.specs.Peeking.{MaySee, SightBy};
     ghost use Rattle.seize_book.specs.Tables.{GetsPlace, LiesAt};
 
@@ -68,12 +67,6 @@ impl Keys {
     pub(crate) fn look(&mut self, pass: &mut Pass)
         requires { MayLook self.old pass.old }
         ensures { LooksWithKeys self.old pass.old self.new pass.new }
-    {}
-
-    /// The label of a block's key is another value of the block then, which was never named.
-    pub(crate) fn rename(&mut self)
-        requires { is_one blocks self.old.held ≡ true }
-        ensures { Renames self.old self.new }
     {}
 
     /// The head of the slot lies in the table of the book, as the token shows, and its key says so then.

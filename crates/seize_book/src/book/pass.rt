@@ -94,7 +94,7 @@ impl<'p> Pass<'p> {
     }
 
     /// Looks at the list, and adds nothing. It gives the permit for what is lent with each value that was ever named.
-    pub fn permits(&mut self) -> Permit
+    pub fn permit_for_named(&mut self) -> Permit
         ensures { LooksOn self.old self.new × IsPermitForAll self.new result }
     {
         Permit {

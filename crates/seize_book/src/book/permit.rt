@@ -18,7 +18,7 @@ pub struct Permit {
     pub(crate) marker: PhantomData<()>,
     /// The list in which they stand.
     pub ghost list: { ℕ },
-    /// The numbers of the codes.
+    /// The codes, by the numbers of loans: one more than a code's own number, and 0 stands for no code.
     pub ghost codes: { List ℕ } by { coded_list coded_ℕ },
 }
 
@@ -46,7 +46,7 @@ impl<C: Condition> Permits<C> {
     ghost use Rattle.seize_book.specs.Loans.{loan_number};
     ghost use Rattle.seize_book.specs.Permits.{AllAre};
 
-    /// An empty list, for the book of this family.
+    /// A new list, for the book of this family.
     pub fn new(_family: &Family) -> Permits<C>
         ensures { result.family ≡ _family.now.number }
     {
@@ -65,7 +65,8 @@ impl<C: Condition> Permits<C> {
         }
     }
 
-    /// The condition holds of the codes that a permit is for. It does nothing when the program runs: its contract is the law.
+    /// The condition holds of each code that the permit is for. The permit is spent. It does nothing when the program runs: its contract
+    /// is the law.
     pub fn check(&self, permit: Permit)
         requires { permit.list ≡ self.now.list }
         ensures { AllAre (C.holds self.now.family) permit.codes }

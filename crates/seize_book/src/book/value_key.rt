@@ -27,30 +27,15 @@ pub struct ValueKey {
 
 impl ValueKey {
     ghost use Rattle.seize_book.specs.Bare.{IsBareKeyOf};
-    ghost use Rattle.seize_book.specs.Books.{IsNextAfter, IsNextIn, MakesNextValue, MaySettle};
+    ghost use Rattle.seize_book.specs.Books.{IsNextAfter, IsNextIn, MaySettle};
     ghost use Rattle.seize_content.specs.Loans.{IsLent};
     ghost use Rattle.seize_book.specs.Loans.{place_of};
     ghost use Rattle.seize_book.specs.Lending.{GoesWith, MayBeLent, IsFreeKey, IsInBlockOf, IsLentKey, IsOfPlace, IsRowAt};
     ghost use Rattle.seize_book.specs.Notes.{HasNoted, IsUnchanged, cell_in, note_in};
-    ghost use Rattle.seize_book.specs.Others.{FollowsValue, HasGone, IsLast, IsVacated, IsValueOf, book_of, value_of};
+    ghost use Rattle.seize_book.specs.Others.{FollowsValue, IsLast, IsVacated, IsValueOf, book_of, value_of};
     ghost use Rattle.seize_book.specs.Passes.{LooksOn};
     ghost use Rattle.seize_book.specs.Peeking.{SightWith};
     ghost use Rattle.seize_book.specs.Slots.{IsKeyOfBook, IsStill, hands_next, slot_of};
-
-    /// The key is for the next value of its block then, which words hold by the same number. The last one was reclaimed, as the pass has
-    /// seen. Where something is lent with the last one, `redeem` and `settle` do this, and it is lost here. The pass and the key look at
-    /// the list with no event.
-    pub fn next(&mut self, pass: &mut Pass)
-        requires book { IsValueOf self.old pass.old }
-        requires last { IsLast self.old × HasGone self.old pass.old }
-        ensures value { IsNextIn self.new (block_number (value_of self.old)) }
-        ensures free { IsFreeKey self.new }
-        ensures place { place_of (value_of self.new) ≡ place_of (value_of self.old) }
-        ensures next { MakesNextValue self.old pass.old self.new pass.new }
-    {
-        self.keys.rename();
-        self.settle(pass);
-    }
 
     /// A content that is lent goes with the key from then on, into a link and out of it, and whoever finds the value in a link can see the
     /// content (`Link::see`). The key is for another value of its block then, which stands for this content. The value before was never
@@ -87,8 +72,8 @@ impl ValueKey {
         lent
     }
 
-    /// The key's value is the next of its block, as after `next`, when the one before was handed too, as the pass has seen. The pass and
-    /// the key look at the list with no event.
+    /// The key's value is the next of its block then, when the one before was handed, as the pass has seen. The pass and the key look at
+    /// the list with no event.
     pub fn settle(&mut self, pass: &mut Pass)
         requires book { IsValueOf self.old pass.old }
         requires handed { MaySettle self.old pass.old }

@@ -1,4 +1,4 @@
--- `permits` gives what the book keeps of what may be lent.
+-- `permit_for_named` gives what the book keeps of what may be lent.
 use Rattle.seize_book.proofs.Kit.{join, Lfts, NamedLft, named_lft, ℕ, List, [], ◌∷◌, refl, proved, named, Val, vptr, SProp, emp, Fml, ftrue, fsep, flft, ‵, raw, ◌⊛◌, some, given, later, await, ◌$◌, ◌∵◌, !, qed, by, move, keep, split, fsplit, fsplit3, fjoin, fjoin3, pick, learn, use0, use1, feq_i, no_more, and_then, get, agg, returns, enter, alloc_all, pass_all, free_all, look_at, sets, fact_i, tables, owns, types_at, plain, mut_vals, mut_Tells, nothing, Stays, stay_ref, walk_of, Goes-ref}
 use Rattle.std.specs.Prelude.{map}
 use Rattle.seize_book.specs.Loans.{loan_of}
@@ -13,13 +13,13 @@ use Rattle.seize_book.specs.contracts.book.pass.Pass as Pass
 use Rattle.seize_book.proofs.Fields.{Token, token, token_made, ends}
 use Rattle.seize_book.proofs.Looks.{finds_permits, looked}
 use Rattle.seize_book.proofs.Passes.{IsDistinct}
-use Rattle.seize_book.specs.contracts.book.pass.Pass.permits.{ended, clauses}
-use Rattle.seize_book.specs.contracts.book.pass.Pass.permits.Key.{name as #self}
-use Rattle.seize_book.proofs.book.pass.Pass.permits.Statement.{statement}
-use Rattle.seize_book.proofs.book.pass.Pass.permits.Code as code
+use Rattle.seize_book.specs.contracts.book.pass.Pass.permit_for_named.{ended, clauses}
+use Rattle.seize_book.specs.contracts.book.pass.Pass.permit_for_named.Key.{name as #self}
+use Rattle.seize_book.proofs.book.pass.Pass.permit_for_named.Statement.{statement}
+use Rattle.seize_book.proofs.book.pass.Pass.permit_for_named.Code as code
 
-pub permits_spec : {M : Type 1} → statement M
-permits_spec 𝓤 𝓛 𝓜 𝓡 wired =
+pub permit_for_named_spec : {M : Type 1} → statement M
+permit_for_named_spec 𝓤 𝓛 𝓜 𝓡 wired =
     let H = 𝓛.H in let 𝓣 = tables 𝓤 H 𝓜 𝓡 𝓡.env in let fn = code.function in let c = clauses 𝓛 𝓜.mem 𝓡.returns in
     let Pa = plain (λ (κs : Lfts 2). Pass.the_row (named_lft 2 1 tt κs)) in let hs : Stays ended.signature.params ended.kept = (stay_ref (0 ∷ []) tt (Pa), tt) in
     proved 𝓛 ended hs c 𝓜 𝓡 (Goes-ref 𝓛 2 0 tt (Pa), tt) #self fn (code.unfolded 𝓤 H 𝓜 𝓡 wired)
