@@ -2,6 +2,7 @@
 //! a crate of their own, since a crate with tests is proved twice.
 #![tactic(auto)]
 
-pub mod interface;
+#[cfg(test)]
+mod interface;
 #[cfg(test)]
 mod machine;

@@ -1,5 +1,5 @@
 //! What collectors, registrations and guards say of themselves: ids, numbers and texts.
-use crate::values::{Counted, ended};
+use seize_threads_rows::values::{Counted, ended};
 use seize::{Collector, IdSource, Refusal, Unlinked};
 use std::alloc::{AllocError, Global};
 use std::fmt::Debug;

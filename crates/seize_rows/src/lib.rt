@@ -3,17 +3,9 @@
 #![tactic(auto)]
 
 #[cfg(test)]
-mod ending;
-#[cfg(test)]
-mod forgotten;
-#[cfg(test)]
 mod guards;
 #[cfg(test)]
-mod handed;
-#[cfg(test)]
 mod ids;
-#[cfg(test)]
-mod kinds;
 #[cfg(test)]
 mod meeting;
 #[cfg(test)]
@@ -31,11 +23,7 @@ mod passed_on;
 #[cfg(test)]
 mod places;
 #[cfg(test)]
-mod reclaiming;
-#[cfg(test)]
 mod refused;
 mod threads;
-#[cfg(test)]
-mod values;
 #[cfg(test)]
 mod worked;

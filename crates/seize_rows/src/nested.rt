@@ -3,7 +3,7 @@ ghost use Rattle.std.specs.Prelude.{◌≡◌, ◌<◌, IfOk};
 ghost use Rattle.seize.specs.Collectors.{IsPassOf, its_links};
 ghost use Rattle.seize.specs.Guards.{guard_collector};
 
-use crate::values::{Counted, ended};
+use seize_threads_rows::values::{Counted, ended};
 use seize::{Collector, IdSource, LocalGuard, Pass, Refusal};
 use std::alloc::Global;
 use std::process::Abort;

@@ -3,9 +3,9 @@ ghost use Rattle.std.specs.Prelude.{◌≡◌};
 ghost use Rattle.seize.specs.OwnedGuards.{owned_collector};
 
 use crate::guards::collector as linked;
-use crate::values::{Counted, ended};
 use crate::worked::retire_elsewhere;
 use seize::{Collector, IdSource, OwnedGuard, Refusal, Unlinked};
+use seize_threads_rows::values::{Counted, ended};
 use std::alloc::Global;
 use std::sync::Wait;
 use std::sync::atomic::AtomicU64;
@@ -22,16 +22,16 @@ fn collector<'a>(alloc: Global, size: usize) -> Result<Counting<'a>, Refusal> {
 }
 
 // A guard on its way to another thread: a closure holds only what has a `Drop`.
-struct Handed<'c, 'a>(OwnedGuard<'c, Counted<'a>>);
+pub(crate) struct Handed<'c, T: Drop>(pub(crate) OwnedGuard<'c, T>);
 
-impl Drop for Handed<'_, '_> {
+impl<T: Drop> Drop for Handed<'_, T> {
     fn drop(self) {
         let Handed(guard) = self;
         guard.forget();
     }
 }
 
-impl Handed<'_, '_> {
+impl<T: Drop> Handed<'_, T> {
     // The guard leaves.
     fn leave(self, rt: &impl Wait) {
         let Handed(guard) = self;
@@ -119,7 +119,10 @@ fn four_threads_share_a_guard(rt: HostRuntime) -> Result<(), Fail> {
 }
 
 // The guard leaves on another thread.
-fn leave_elsewhere<R: Threads + Wait + Sync>(rt: &R, handed: Handed<'_, '_>) {
+pub(crate) fn leave_elsewhere<T: Drop + Send + Sync, R: Threads + Wait + Sync>(
+    rt: &R,
+    handed: Handed<'_, T>,
+) {
     thread::join(rt, move || handed.leave(rt), || {});
 }
 

@@ -3,7 +3,7 @@ ghost use Rattle.std.specs.Prelude.{◌≡◌, ◌<◌, IfOk};
 ghost use Rattle.seize.specs.Collectors.{IsBlockOf, IsPassOf, its_links};
 ghost use Rattle.seize.specs.Guards.{guard_collector};
 
-use crate::values::{Counted, ended};
+use seize_threads_rows::values::{Counted, ended};
 use seize::{Collector, IdSource, LocalGuard, Owned, Pass, Refusal};
 use std::alloc::{AllocError, Global};
 use std::process::Abort;

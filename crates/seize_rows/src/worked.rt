@@ -6,8 +6,9 @@ ghost use Rattle.seize.specs.Registrations.{registered_in};
 
 use crate::guards::{Counting, collector, retire};
 use crate::meeting;
-use crate::values::{Counted, Digit, ended};
+use crate::owned::{Handed, leave_elsewhere};
 use seize::{Collector, IdSource, LocalGuard, Pass, Refusal, Registration, Unlinked};
+use seize_threads_rows::values::{Counted, Digit, ended};
 use std::alloc::Global;
 use std::process::Abort;
 use std::sync::Wait;
@@ -173,21 +174,23 @@ fn defer_alone<'a>(
     guard.leave(rt, pass);
 }
 
-// Slot 0 retires 1 and 2 while no other slot is active, and 3 while slot 1 is, which leaves first.
-fn fill_a_batch<'a>(rt: &(impl Wait + Abort), collector: &Telling<'a>, told: &'a AtomicU64) {
+// Slot 0 retires 1 and 2 while no other slot is active, and 3 while slot 1 is, whose guard leaves first, on another thread.
+fn fill_a_batch<'a, R: Threads + Wait + Sync + Abort>(
+    rt: &R,
+    collector: &Telling<'a>,
+    told: &'a AtomicU64,
+) {
     let mut pass = collector.pass();
     let writer = collector.register(rt, &mut pass).expect(rt, "memory");
-    let reader = collector.register(rt, &mut pass).expect(rt, "memory");
     defer_alone(rt, &writer, 1, told, &mut pass);
     defer_alone(rt, &writer, 2, told, &mut pass);
-    let other = reader.enter(&mut pass).expect(rt, "a guard");
+    let reader = collector.enter_owned(rt, &mut pass).expect(rt, "memory");
     let guard = writer.enter(&mut pass).expect(rt, "a guard");
     defer(rt, &guard, 3, told, &mut pass);
-    other.leave(rt, &mut pass);
+    leave_elsewhere(rt, Handed(reader));
     assert_eq!(rt; told.load(Ordering::SeqCst), 0);
     guard.leave(rt, &mut pass);
     assert_eq!(rt; told.load(Ordering::SeqCst), 123);
-    assert!(rt; reader.end(rt, &mut pass));
     assert!(rt; writer.end(rt, &mut pass));
 }
 

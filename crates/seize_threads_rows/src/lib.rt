@@ -24,5 +24,6 @@ mod sums;
 #[cfg(test)]
 mod turned;
 pub mod turns;
+pub mod values;
 #[cfg(test)]
 mod winning;

@@ -11,6 +11,4 @@ pub mod reclaiming;
 pub mod replacing;
 pub mod shared;
 pub mod table;
-#[cfg(test)]
-mod tests;
 pub mod watched;

@@ -4,7 +4,7 @@ ghost use Rattle.seize.specs.Collectors.{IsPassOf, its_links};
 ghost use Rattle.seize.specs.OwnedGuards.{owned_collector};
 ghost use Rattle.seize.specs.Registrations.{registered_in};
 
-use crate::values::ended;
+use seize_threads_rows::values::ended;
 use seize::{Collector, IdSource, OwnedGuard, Pass, Reclaim, Refusal, Registration, Unlinked};
 use std::alloc::Global;
 use std::process::Abort;

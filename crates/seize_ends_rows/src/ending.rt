@@ -3,10 +3,8 @@ ghost use Rattle.std.specs.Prelude.{◌≡◌, ◌<◌, IfOk, IfSome};
 ghost use Rattle.seize.specs.Collectors.{IsBlockOf, IsPassOf, its_links};
 ghost use Rattle.seize.specs.Registrations.{registered_in};
 
-use crate::values::{Counted, ended};
-use seize::{Collector, IdSource, Owned, Registration, Unlinked};
-use seize_table::Refusal;
-use seize_words::book::Pass;
+use seize_threads_rows::values::{Counted, ended};
+use seize::{Collector, IdSource, Owned, Pass, Refusal, Registration, Unlinked};
 use std::alloc::Global;
 use std::sync::Wait;
 use std::sync::atomic::AtomicU64;

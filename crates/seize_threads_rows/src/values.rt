@@ -2,9 +2,9 @@
 use std::sync::atomic::{AtomicU64, Ordering};
 
 /// A value that counts its end.
-pub(crate) struct Counted<'a> {
+pub struct Counted<'a> {
     /// How many ended.
-    pub(crate) ends: &'a AtomicU64,
+    pub ends: &'a AtomicU64,
 }
 
 impl Drop for Counted<'_> {
@@ -15,16 +15,16 @@ impl Drop for Counted<'_> {
 }
 
 /// How many ended.
-pub(crate) fn ended(ends: &AtomicU64) -> u64 {
+pub fn ended(ends: &AtomicU64) -> u64 {
     ends.load(Ordering::SeqCst)
 }
 
 /// A value that tells its end by a digit, behind those of all that ended before.
-pub(crate) struct Digit<'a> {
+pub struct Digit<'a> {
     /// The digit.
-    pub(crate) digit: u64,
+    pub digit: u64,
     /// What was told.
-    pub(crate) told: &'a AtomicU64,
+    pub told: &'a AtomicU64,
 }
 
 impl Drop for Digit<'_> {

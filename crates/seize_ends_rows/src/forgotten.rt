@@ -5,7 +5,7 @@ ghost use Rattle.seize.specs.Collectors.{IsPassOf};
 ghost use Rattle.seize.specs.Registrations.{registered_in};
 
 use crate::ending::{Counting, collector, put_in_all};
-use crate::values::{Counted, Digit, ended};
+use seize_threads_rows::values::{Counted, Digit, ended};
 use seize::{Collector, IdSource, LocalGuard, Pass, Refusal, Registration, Unlinked};
 use std::alloc::{AllocError, Global};
 use std::ops::Range;

@@ -1,0 +1,14 @@
+//! Tests of what ends, and of what a reclaimer has: as a collector is dropped, in `reclaim_all`, and where guards, registrations or passes
+//! were forgotten. They stand in a crate of their own, so that they are proved beside the other tests of the collector.
+#![tactic(auto)]
+
+#[cfg(test)]
+mod ending;
+#[cfg(test)]
+mod forgotten;
+#[cfg(test)]
+mod handed;
+#[cfg(test)]
+mod kinds;
+#[cfg(test)]
+mod reclaiming;
