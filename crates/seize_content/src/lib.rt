@@ -13,6 +13,6 @@ mod ticket;
 mod token_cell;
 
 pub use loan::{Pool, Sight};
-pub use steady_cell::{Steady, SteadyCell, Work};
+pub use steady_cell::{Steady, SteadyCell};
 pub use ticket::{Start, Ticket};
 pub use token_cell::{CellToken, TokenCell};

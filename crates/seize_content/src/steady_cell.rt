@@ -1,5 +1,6 @@
-//! A token cell whose value stays what it is known for. Whoever has its token has work done on the value where it lies, and no work changes
-//! the label or leaves the value unsound; so once nobody shares the cell any more the value is so, wherever the token went.
+//! A token cell whose value stays what it is known for. A layer above lets who has the token work on the value where it lies, as the locks
+//! of `seize_cells` do. No work changes the label or leaves the value unsound. So once nobody shares the cell any more the value is so,
+//! wherever the token went.
 ghost use Rattle.std.specs.Prelude.{◌≡◌, ℕ};
 ghost use Rattle.seize_content.specs.Cells.{cell_owns, cell_shares};
 ghost use Rattle.seize_content.specs.Steady.{SteadyName, keeps, steady_name_coded};
@@ -35,20 +36,7 @@ impl<M: Steady> Move for SteadyCell<M> {
     ghost own_val = { λ c vs. cell_owns M.row (keeps M.label M.sound c.label) c.name (λ x. Fields.own_val (record { value = x }) vs) };
 }
 
-/// What is done with a value where it lies. It leaves the label as it was, and the value sound.
-pub trait Work<M: Steady, R> {
-    ghost may: { Self → M → Type 0 };
-
-    ghost gives: { Self → M → M → R → Type 0 };
-
-    fn work(self, value: &mut M) -> R
-        requires { M.sound value.old × may self value.old }
-        ensures { ((M.label value.new ≡ M.label value.old) × M.sound value.new) × gives self value.old value.new result };
-}
-
 impl<M: Steady> SteadyCell<M> {
-    ghost use Rattle.seize_content.specs.Steady.{MayWork, Worked};
-
     /// A cell of a name that nothing else has, and its token.
     pub fn new(value: M) -> (SteadyCell<M>, CellToken)
         requires { M.sound value }
@@ -76,16 +64,6 @@ impl<M: Steady> SteadyCell<M> {
         CellToken {
             marker: PhantomData,
         }
-    }
-
-    /// Has the work done on the value.
-    pub fn work<W: Work<M, R>, R>(&self, token: &mut CellToken, work: W) -> R
-        requires name { token.old.name ≡ self.now.name }
-        requires may { MayWork M.row M.label M.sound (W.may work) self.now token.old }
-        ensures { Worked M.row M.label M.sound (λ x y. W.gives work x y result) self.now token.old token.new }
-    {
-        let at = (self as *const SteadyCell<M>).cast::<M>().cast_mut();
-        work.work(unsafe { &mut *at })
     }
 }
 

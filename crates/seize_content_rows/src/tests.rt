@@ -2,8 +2,6 @@
 ghost use Rattle.std.specs.Prelude.{◌≡◌, ◌≤◌};
 
 use crate::cells::{count, marked_post, turn, two_cells, two_owners};
-use crate::steady;
-use crate::steady::{Purse, filled_and_exchanged, filled_and_forgotten, filled_twice, new_purse};
 use crate::values::{Counted, Fields};
 use seize_content::{CellToken, Pool, Sight, Start, Steady, SteadyCell, Ticket, TokenCell};
 use std::mem::{forget, size_of};
@@ -131,75 +129,6 @@ fn a_cell_ends_its_value_once(rt: HostRuntime) {
     assert_eq!(rt; (name, before, ends.load(Ordering::SeqCst)), (5, 1, 2));
 }
 
-#[test]
-fn a_purse_comes_back_with_its_number(rt: HostRuntime) {
-    assert_eq!(rt; filled_twice(4, 2, 3, 5), (4, 5));
-    let Purse { number, limit, sum } = filled_and_forgotten(4, 2, 5);
-    assert_eq!(rt; (number, limit, sum), (4, 5, 2));
-    let (taken, left) = filled_and_exchanged(4, 2, 5);
-    assert_eq!(rt; (taken.number, taken.limit, taken.sum), (4, 5, 2));
-    assert_eq!(rt; (left.number, left.limit, left.sum), (4, 5, 5));
-}
-
-// Two threads share two purses, and each adds to the one whose token it has, while it fits. Then they change places.
-fn filled_by_two<R: Threads + Sync>(rt: &R) -> (Purse, Purse)
-    ensures { (result.0.number ≡ 1) × (result.1.number ≡ 2) }
-{
-    let (first, token) = new_purse(1, 150_000);
-    let (second, other) = new_purse(2, 250_000);
-    let (one, two) = (&first, &second);
-    let (token, other) = thread::join(
-        rt,
-        move || -> CellToken
-            requires { token.name ≡ one.now.name }
-            ensures { result.name ≡ one.entry.now.name }
-        { steady::count(one, token, TIMES) },
-        move || -> CellToken
-            requires { other.name ≡ two.now.name }
-            ensures { result.name ≡ two.entry.now.name }
-        { steady::count(two, other, TIMES) },
-    );
-    thread::join(
-        rt,
-        move || -> CellToken
-            requires { other.name ≡ two.now.name }
-        { steady::count(two, other, TIMES) },
-        move || -> CellToken
-            requires { token.name ≡ one.now.name }
-        { steady::count(one, token, TIMES) },
-    );
-    (first.into_value(), second.into_value())
-}
-
-#[test]
-fn threads_fill_the_purses_whose_tokens_they_have(rt: HostRuntime) {
-    let (first, second) = filled_by_two(&rt);
-    assert_eq!(rt; (first.number, first.sum), (1, 150_000));
-    assert_eq!(rt; (second.number, second.sum), (2, 200_000));
-}
-
-// A holder on another thread fills the purse, and forgets its token there. The purse comes back here.
-fn forgotten_there<R: Threads + Sync>(rt: &R, number: u64) -> Purse
-    ensures { (result.number ≡ number) × (result.sum ≤ result.limit) }
-{
-    let (cell, token) = new_purse(number, TIMES / 2);
-    let place = &cell;
-    thread::join(
-        rt,
-        move || -> ()
-            requires { token.name ≡ place.now.name }
-        { forget(steady::count(place, token, TIMES)) },
-        || (),
-    );
-    cell.into_value()
-}
-
-#[test]
-fn a_purse_comes_back_from_a_holder_that_forgot_its_token(rt: HostRuntime) {
-    let purse = forgotten_there(&rt, 7);
-    assert_eq!(rt; (purse.number, purse.limit, purse.sum), (7, 50_000, 50_000));
-}
-
 // A cell ends with its value, also where its token was forgotten.
 #[test]
 fn a_steady_cell_ends_its_value_once(rt: HostRuntime) {
@@ -251,5 +180,5 @@ fn rights_have_no_bytes(rt: HostRuntime) {
         (size_of::<CellToken>(), size_of::<TokenCell<[u64; 8]>>()),
         (0, 64)
     );
-    assert_eq!(rt; size_of::<SteadyCell<Purse>>(), size_of::<Purse>());
+    assert_eq!(rt; size_of::<SteadyCell<Counted<'_>>>(), size_of::<Counted<'_>>());
 }

@@ -5,8 +5,8 @@ ghost use Rattle.seize.specs.Collectors.{IsPassOf};
 ghost use Rattle.seize.specs.Registrations.{registered_in};
 
 use crate::ending::{Counting, collector, put_in_all};
-use seize_threads_rows::values::{Counted, Digit, ended};
 use seize::{Collector, IdSource, LocalGuard, Pass, Refusal, Registration, Unlinked};
+use seize_threads_rows::values::{Counted, Digit, ended};
 use std::alloc::{AllocError, Global};
 use std::ops::Range;
 use std::sync::Wait;

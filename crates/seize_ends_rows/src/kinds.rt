@@ -4,8 +4,8 @@ ghost use Rattle.seize.specs.Collectors.{IsPassOf, its_links};
 ghost use Rattle.seize.specs.OwnedGuards.{owned_collector};
 ghost use Rattle.seize.specs.Registrations.{registered_in};
 
-use seize_threads_rows::values::ended;
 use seize::{Collector, IdSource, OwnedGuard, Pass, Reclaim, Refusal, Registration, Unlinked};
+use seize_threads_rows::values::ended;
 use std::alloc::Global;
 use std::process::Abort;
 use std::sync::Wait;

@@ -5,8 +5,8 @@ ghost use Rattle.seize.specs.Collectors.{IsBlockOf, IsPassOf, its_links};
 ghost use Rattle.seize.specs.Guards.{guard_collector};
 ghost use Rattle.seize.specs.Registrations.{registered_in};
 
-use seize_threads_rows::values::{Counted, ended};
 use seize::{Collector, IdSource, LocalGuard, Owned, Pass, Refusal, Registration};
+use seize_threads_rows::values::{Counted, ended};
 use std::alloc::Global;
 use std::sync::Wait;
 use std::sync::atomic::AtomicU64;

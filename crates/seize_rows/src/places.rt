@@ -5,8 +5,8 @@ ghost use Rattle.seize.specs.Guards.{guard_collector};
 ghost use Rattle.seize.specs.Registrations.{registered_in};
 
 use crate::memory::{block, give_sign, put};
-use seize_threads_rows::values::{Counted, ended};
 use seize::{Collector, IdSource, LocalGuard, Pass, Refusal, Registration, Unlinked};
+use seize_threads_rows::values::{Counted, ended};
 use std::alloc::Global;
 use std::sync::Wait;
 use std::sync::atomic::AtomicU64;
