@@ -180,5 +180,8 @@ fn rights_have_no_bytes(rt: HostRuntime) {
         (size_of::<CellToken>(), size_of::<TokenCell<[u64; 8]>>()),
         (0, 64)
     );
-    assert_eq!(rt; size_of::<SteadyCell<Counted<'_>>>(), size_of::<Counted<'_>>());
+    assert_eq!(rt;
+        size_of::<SteadyCell<Counted<'_>>>(),
+        size_of::<Counted<'_>>()
+    );
 }

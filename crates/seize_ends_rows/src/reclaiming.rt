@@ -7,8 +7,8 @@ ghost use Rattle.seize.specs.Registrations.{registered_in};
 
 use crate::ending::{Counting, TIMES, collector, put_by_two, put_in_all, retire, retire_by_two};
 use seize::{Collector, IdSource, Pass, Refusal, Registration};
-use seize_threads_rows::values::ended;
 use seize_threads_rows::marked::{Marked, ended as ended_marks, marks};
+use seize_threads_rows::values::ended;
 use std::alloc::Global;
 use std::sync::Wait;
 use std::sync::atomic::AtomicU64;
