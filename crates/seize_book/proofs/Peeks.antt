@@ -1,5 +1,5 @@
 -- A `&` to keys shows where the numbers of their values lead, and what is lent with these. Assumes `Logic`.
-use Rattle.std.proofs.Common.{◌≡◌, ℕ, zero, suc, Bool, true, false, ◌==◌, List, [], ◌∷◌, ◌++◌, refl}
+use Rattle.std.proofs.Common.{◌≡◌, ℕ, zero, suc, Bool, true, false, ◌==◌, List, [], ◌∷◌, ◌++◌, map, refl}
 use seplogic.Ra.Ura.{Ura}
 use base.Before.{before}
 use base.Fml.{Lft, Share, Fml, ftrue, fsep, fseps, fex, fwand, fupd, fdead, flft, fbor}
@@ -22,12 +22,14 @@ use Rattle.seize_content.specs.Readers.{pool, share_left}
 use Rattle.seize_content.specs.Stages.{lent}
 use Rattle.seize_content.proofs.Places.{stay_twice}
 use Rattle.seize_machine.specs.Machine.State.{State}
+use Rattle.seize_machine.proofs.Facts.{and_true}
 use Rattle.seize_book.specs.Book.{blocks}
 use Rattle.seize_book.specs.Entry.{Entry}
 use Rattle.seize_book.specs.Ledger.{HeldKey}
 use Rattle.seize_book.specs.Loans.{Carries, CarriesNone, Loan, lent_as, loan_if, loan_of, readers}
 use Rattle.seize_book.specs.Peeks.{keys_show, show_if, sight_if, sight_of}
-use Rattle.seize_book.specs.Private.{is_one, label_of}
+use Rattle.seize_book.specs.Permits.{all_permitted, permit_if}
+use Rattle.seize_book.specs.Private.{are_of_blocks, is_one, label_of, labels_of}
 use Rattle.seize_book.specs.Tokens.{Name, key, keys_own, leads, lies_if, is_placed, key_note, start, way, way_if}
 use Rattle.seize_book.proofs.Sharing.{lends_twice}
 use Rattle.seize_book.proofs.Ways.{lead_twice}
@@ -183,3 +185,14 @@ module _ {M : Type 1} {𝓤 : Ura M} (𝓛 : Logic 𝓤) (n : Name) (κ : Lft) w
   shows [] one = absurd (cc)
   shows (x ∷ y ∷ held) one = absurd (cc)
   shows (h ∷ []) one = qed 𝓛 (‵ (keys_show n (h ∷ []) κ) ∷ []) ∵ fsplit ! $ use1 𝓛 (‵ (leads n h.label) ⊛ ‵ (sight_if (loan_of h.label) κ h.label)) (shows_if (h.kind == blocks) h.label one) $ split ! $ keep ! (0 ∷ 1 ∷ []) $ done !
+
+  permit_shown : (b : Bool) (v : ℕ) → b ≡ true → ent 𝓤 (sem 𝓛 (show_if b n v κ)) (sem 𝓛 (permit_if n.permits (loan_of v)))
+  permit_shown true v is = qed 𝓛 (‵ (show_if true n v κ) ∷ []) ∵ fsplit ! $ fsplit ! $ move ! (1 ∷ []) $ keep ! (0 ∷ []) $ done !
+  permit_shown false v is = absurd (cc)
+
+  -- that what is lent may be
+  pub permits_shown : (held : List (HeldKey Entry)) → are_of_blocks held ≡ true → ent 𝓤 (sem 𝓛 (keys_show n held κ)) (sem 𝓛 (all_permitted n.permits (map loan_of (labels_of held))))
+  permits_shown [] are = qed 𝓛 (‵ ftrue ∷ []) ∵ done !
+  permits_shown (h ∷ held) are = let both = and_true _ _ are in qed 𝓛 (‵ (keys_show n (h ∷ held) κ) ∷ []) ∵ fsplit ! $
+      use1 𝓛 (‵ (permit_if n.permits (loan_of h.label))) (permit_shown (h.kind == blocks) h.label (and_true _ _ both.0).0) $ move ! (1 ∷ []) $
+      use1 𝓛 (‵ (all_permitted n.permits (map loan_of (labels_of held)))) (permits_shown held both.1) $ move ! (1 ∷ 0 ∷ []) $ fjoin ! $ done !

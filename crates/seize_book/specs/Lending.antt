@@ -2,6 +2,7 @@
 -- was never named and is not to be.
 --     MayBeLent n pool permit           the permit is for the code of what is in the pool, in the list of book n
 --     IsPermitForAll pass permit        it is for what is lent with each value that was ever named, as the pass has seen
+--     IsPermitOf n vs permit            it is for what is lent with each of these values of book n
 --     MayLend keys ticket pool permit   there is one key of a block, with whose value nothing is lent; the ticket is that of the pool, and
 --                                       the permit for it
 --     IsOfPlace v ticket                the ticket is of the content that the block of the value v has in the store
@@ -47,8 +48,11 @@ IsOfPlace v ticket = place_of v ≡ ticket.name
 abbrev pub MayBeLent : Name → Pool → Permit → Type 0
 MayBeLent n pool permit = (permit.list ≡ n.permits) × (permit.codes ≡ loan_number pool.value ∷ [])
 
+abbrev pub IsPermitOf : Name → List ℕ → Permit → Type 0
+IsPermitOf n vs permit = (permit.list ≡ n.permits) × (permit.codes ≡ map loan_of vs)
+
 abbrev pub IsPermitForAll : Pass → Permit → Type 0
-IsPermitForAll pass permit = (permit.list ≡ pass.name.permits) × (permit.codes ≡ map loan_of (state_seen pass).named)
+IsPermitForAll pass permit = IsPermitOf pass.name (state_seen pass).named permit
 
 abbrev pub MayLend : Keys → Ticket → Pool → Permit → Type 0
 MayLend keys ticket pool permit =

@@ -6,7 +6,7 @@ ghost use Rattle.seize_book.specs.Book.{blocks};
 ghost use Rattle.seize_book.specs.Entry.{Entry};
 ghost use Rattle.seize_book.specs.Ledger.{HeldKey};
 ghost use Rattle.seize_book.specs.Peeks.{keys_show};
-ghost use Rattle.seize_book.specs.Private.{is_one, label_of};
+ghost use Rattle.seize_book.specs.Private.{are_of_blocks, is_one, label_of, labels_of};
 ghost use Rattle.seize_book.specs.Tokens.{Name, held_coded, keys_own, name_coded};
 
 use crate::book::key_without_note::KeyWithoutNote;
@@ -52,7 +52,7 @@ impl Picks for Brand {
 impl Keys {
     ghost use Rattle.seize_book.specs.Adding.{AddsWithKeys, Asks, JoinsKeys, LooksWithKeys, MayLook, Parts, PartsLast, deed_with_words};
     ghost use Rattle.seize_book.specs.Ledger.{AllApart};
-    ghost use Rattle.seize_book.specs.Lending.{IsRowAt, Lends, MayLend, MayRedeem, MayWithdraw, Redeems};
+    ghost use Rattle.seize_book.specs.Lending.{IsPermitOf, IsRowAt, Lends, MayLend, MayRedeem, MayWithdraw, Redeems};
     ghost use Rattle.seize_book.specs.Notes.{MayOpen, OpensNote};
     ghost use Rattle.seize_book.specs.Peeking.{MaySee, SightBy};
     ghost use Rattle.seize_book.specs.Tables.{GetsPlace, LiesAt};
@@ -120,6 +120,16 @@ impl Keys {
         ensures { IsRowAt self.now.name (label_of self.now.held) result }
     {
         RowToken {
+            marker: PhantomData,
+        }
+    }
+
+    /// The permit for what went with them.
+    pub(crate) fn permit(&self) -> Permit
+        requires { are_of_blocks self.now.held ≡ true }
+        ensures { IsPermitOf self.now.name (labels_of self.now.held) result }
+    {
+        Permit {
             marker: PhantomData,
         }
     }

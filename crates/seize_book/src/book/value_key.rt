@@ -1,5 +1,5 @@
 //! The key of a value: that of the block in which it lies. It is `Keys` with one key, whose label is the value's name.
-ghost use Rattle.std.specs.Prelude.{◌≡◌, is_some, true, Some};
+ghost use Rattle.std.specs.Prelude.{◌≡◌, [], ◌∷◌, is_some, true, Some};
 ghost use Rattle.seize_book.specs.Blocks.{block_number};
 ghost use Rattle.seize_book.specs.Book.{blocks};
 ghost use Rattle.seize_book.specs.Homes.{home_of};
@@ -30,7 +30,7 @@ impl ValueKey {
     ghost use Rattle.seize_book.specs.Books.{IsNextAfter, IsNextIn, MaySettle};
     ghost use Rattle.seize_content.specs.Loans.{IsLent};
     ghost use Rattle.seize_book.specs.Loans.{place_of};
-    ghost use Rattle.seize_book.specs.Lending.{GoesWith, MayBeLent, IsFreeKey, IsInBlockOf, IsLentKey, IsOfPlace, IsRowAt};
+    ghost use Rattle.seize_book.specs.Lending.{GoesWith, IsPermitOf, MayBeLent, IsFreeKey, IsInBlockOf, IsLentKey, IsOfPlace, IsRowAt};
     ghost use Rattle.seize_book.specs.Notes.{HasNoted, IsUnchanged, cell_in, note_in};
     ghost use Rattle.seize_book.specs.Others.{FollowsValue, IsLast, IsVacated, IsValueOf, book_of, value_of};
     ghost use Rattle.seize_book.specs.Passes.{LooksOn};
@@ -104,6 +104,13 @@ impl ValueKey {
         ensures row { IsRowAt (book_of self.now) (value_of self.now) result }
     {
         self.keys.row()
+    }
+
+    /// The permit for what is lent with the value.
+    pub fn permit(&self) -> Permit
+        ensures { IsPermitOf (book_of self.now) (value_of self.now ∷ []) result }
+    {
+        self.keys.permit()
     }
 
     /// Sees the content that is lent with the value, for as long as the key is borrowed, whether the value was ever named or not, and while

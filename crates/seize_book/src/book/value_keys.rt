@@ -5,6 +5,7 @@ ghost use Rattle.seize_book.specs.Private.{are_of_blocks};
 
 use crate::book::keys::Keys;
 use crate::book::pass::Pass;
+use crate::book::permit::Permit;
 use crate::book::value_key::ValueKey;
 
 /// The keys of some values, in order, as `ValueKey` is the key of one. What is noted of each block says the number
@@ -18,6 +19,7 @@ pub struct ValueKeys {
 }
 
 impl ValueKeys {
+    ghost use Rattle.seize_book.specs.Lending.{IsPermitOf};
     ghost use Rattle.seize_book.specs.Values.{AreStill, IsEmpty, LeadsOn, LeadsTo, Appends, IsKeyOfOne, IsOfSameBook, LieApart, Nexts, Pops, Pushes, book_in, values_of};
 
     /// No keys, of the pass's book.
@@ -53,6 +55,13 @@ impl ValueKeys {
         ensures { Appends self.old other.old self.new other.new }
     {
         self.keys.join(&mut other.keys);
+    }
+
+    /// The permit for what is lent with the values.
+    pub fn permit(&self) -> Permit
+        ensures { IsPermitOf (book_in self.now) (values_of self.now) result }
+    {
+        self.keys.permit()
     }
 
     /// No two of the values lie in one block: nobody has the key of a block twice.
