@@ -1,6 +1,7 @@
 -- The words in which contracts speak of contents that are lent with values: before a value is named, when it was reclaimed, and where it
 -- was never named and is not to be.
---     MayBeLent n pool permit           the permit is for the code of what is in the pool, in the list of book n
+--     ArePermitsOf n permits            the list of permits is that of book n, and of its family
+--     IsPermitFor n g permit            the permit is for this code, in the list of book n
 --     IsPermitForAll pass permit        it is for what is lent with each value that was ever named, as the pass has seen
 --     IsPermitOf n vs permit            it is for what is lent with each of these values of book n
 --     MayLend keys ticket pool permit   there is one key of a block, with whose value nothing is lent; the ticket is that of the pool, and
@@ -19,6 +20,7 @@
 --     GoesWith value pool               the pool's content is lent with the value
 --     IsFreeKey value, IsLentKey value  nothing is lent with it;  something is
 use Rattle.std.specs.Prelude.{◌≡◌, ℕ, List, [], ◌∷◌, map, Some, true, false}
+use base.Stored.{Gv}
 use Rattle.seize_content.specs.Loans.{IsLent}
 use Rattle.seize_content.specs.declared.loan.Pool.{Pool}
 use Rattle.seize_content.specs.declared.ticket.Ticket.{Ticket}
@@ -40,13 +42,17 @@ use Rattle.seize_book.specs.Tokens.{Name, chunk_label, start}
 use Rattle.seize_book.specs.declared.book.keys.Keys.{Keys}
 use Rattle.seize_book.specs.declared.book.pass.Pass.{Pass}
 use Rattle.seize_book.specs.declared.book.permit.Permit.{Permit}
+use Rattle.seize_book.specs.declared.book.permit.Permits.{Permits}
 use Rattle.seize_book.specs.declared.book.value_key.ValueKey.{ValueKey}
 
 abbrev pub IsOfPlace : ℕ → Ticket → Type 0
 IsOfPlace v ticket = place_of v ≡ ticket.name
 
-abbrev pub MayBeLent : Name → Pool → Permit → Type 0
-MayBeLent n pool permit = (permit.list ≡ n.permits) × (permit.codes ≡ loan_number pool.value ∷ [])
+abbrev pub ArePermitsOf : {C : Type 0} → Name → Permits C → Type 0
+ArePermitsOf n permits = (permits.list ≡ n.permits) × (permits.family ≡ n.family)
+
+abbrev pub IsPermitFor : Name → Gv → Permit → Type 0
+IsPermitFor n g permit = (permit.list ≡ n.permits) × (permit.codes ≡ loan_number g ∷ [])
 
 abbrev pub IsPermitOf : Name → List ℕ → Permit → Type 0
 IsPermitOf n vs permit = (permit.list ≡ n.permits) × (permit.codes ≡ map loan_of vs)
@@ -57,7 +63,7 @@ IsPermitForAll pass permit = IsPermitOf pass.name (state_seen pass).named permit
 abbrev pub MayLend : Keys → Ticket → Pool → Permit → Type 0
 MayLend keys ticket pool permit =
     (is_one blocks keys.held ≡ true) × CarriesNone (label_of keys.held) × IsLent ticket pool
-    × IsOfPlace (label_of keys.held) ticket × MayBeLent keys.name pool permit
+    × IsOfPlace (label_of keys.held) ticket × IsPermitFor keys.name pool.value permit
 
 pub record Lends (keys : Keys) (pool : Pool) (keys' : Keys) : Type 0 where
   pub value : ℕ

@@ -30,7 +30,7 @@ impl ValueKey {
     ghost use Rattle.seize_book.specs.Books.{IsNextAfter, IsNextIn, MaySettle};
     ghost use Rattle.seize_content.specs.Loans.{IsLent};
     ghost use Rattle.seize_book.specs.Loans.{place_of};
-    ghost use Rattle.seize_book.specs.Lending.{GoesWith, IsPermitOf, MayBeLent, IsFreeKey, IsInBlockOf, IsLentKey, IsOfPlace, IsRowAt};
+    ghost use Rattle.seize_book.specs.Lending.{GoesWith, IsFreeKey, IsInBlockOf, IsLentKey, IsOfPlace, IsPermitFor, IsPermitOf, IsRowAt};
     ghost use Rattle.seize_book.specs.Notes.{HasNoted, IsUnchanged, cell_in, note_in};
     ghost use Rattle.seize_book.specs.Others.{FollowsValue, IsLast, IsVacated, IsValueOf, book_of, value_of};
     ghost use Rattle.seize_book.specs.Passes.{LooksOn};
@@ -42,7 +42,7 @@ impl ValueKey {
     /// named, and nothing is lent with it. It is the content of this block in the store, and the permit is for its code.
     pub fn lend(&mut self, ticket: Ticket, pool: Pool, permit: Permit)
         requires lent { IsLent ticket pool }
-        requires permit { MayBeLent (book_of self.old) pool permit }
+        requires permit { IsPermitFor (book_of self.old) pool.value permit }
         requires place { IsOfPlace (value_of self.old) ticket }
         requires next { IsNextIn self.old (block_number (value_of self.old)) × IsFreeKey self.old }
         ensures next { IsNextIn self.new (block_number (value_of self.old)) × IsInBlockOf self.old self.new }
