@@ -6,10 +6,9 @@ use seplogic.Ra.Ura.{Ura}
 use base.Logic.{ent, sep}
 use base.Fml.{Fml}
 use types.Logic.{Logic, sem}
-use types.Kit.{‵, ◌$◌, ◌∵◌, !, qed, by, keep, move, drop, fsplit, fjoin, rewrite, use1, use2, done}
+use types.Kit.{‵, ◌$◌, ◌∵◌, !, qed, by, keep, fsplit, fjoin, rewrite, done}
 use native.Mathlib.Decide.{ℕ_discrete}
 use base.Stored.{Gv}
-use Rattle.seize_content.specs.Cells.{cell_token}
 use Rattle.seize_content.specs.declared.loan.Pool.{Pool}
 use Rattle.seize_store.specs.RowTokens.{content_in, entry_of, tells}
 use Rattle.seize_store.specs.declared.row_token.RowToken.{RowToken}
@@ -30,7 +29,7 @@ use Rattle.seize_book.specs.Others.{FollowsValue, IsLast, IsLastIn, Renames, sta
 use Rattle.seize_book.specs.Private.{is_one, key_of, label_of, own_of}
 use Rattle.seize_book.specs.Slots.{hands_next, own_list, slot_number, slot_of}
 use Rattle.seize_book.specs.Permits.{permit, permit_if}
-use Rattle.seize_book.specs.Tokens.{Name, chunk_label, leads, lies_in, keys_own, start, way}
+use Rattle.seize_book.specs.Tokens.{Name, chunk_label, leads, lies_in, start}
 use Rattle.seize_book.specs.declared.book.keys.Keys.{Keys}
 use Rattle.seize_book.specs.declared.book.pass.Pass.{Pass}
 use Rattle.seize_book.specs.declared.book.slot_key.SlotKey.{SlotKey}
@@ -39,7 +38,7 @@ use Rattle.seize_book.proofs.Homes.{another_with}
 use Rattle.seize_book.proofs.Lists.{unequal}
 use Rattle.seize_book.proofs.Private.{after_one, only_is, renewed_label}
 use Rattle.seize_book.proofs.Sound.{gone_later}
-use Rattle.seize_book.proofs.Ways.{bare_way, block_ways, leads_free, way_opens}
+use Rattle.seize_book.proofs.Ways.{leads_free}
 
 -- past all that are in a list
 past : (xs : List ℕ) → (bound : ℕ) × ((v : ℕ) → bound ≤ v → has v xs ≡ false)

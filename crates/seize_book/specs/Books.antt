@@ -19,13 +19,12 @@ use Rattle.seize_book.specs.Blocks.{block_number}
 use Rattle.seize_book.specs.Chains.{field_value}
 use Rattle.seize_book.specs.Deposits.{deposit}
 use Rattle.seize_book.specs.Homes.{IsVacant, count_in, home_of}
-use Rattle.seize_book.specs.Loans.{cell_of}
 use Rattle.seize_book.specs.Book.{IsLegalList, after}
 use Rattle.seize_book.specs.Others.{IsLastIn, is_named, state_of, value_of}
 use Rattle.seize_book.specs.Tokens.{IsSole, start}
 use Rattle.seize_book.specs.Private.{key_of, own_of}
 use Rattle.seize_book.specs.Begin.{BeganWith, first_keys, first_links}
-use Rattle.seize_book.specs.Passes.{IsSamePass, Longer, LooksOn, MadeNone, mine_of}
+use Rattle.seize_book.specs.Passes.{IsSamePass, Longer, MadeNone, mine_of}
 use Rattle.seize_book.specs.declared.book.book_keys.BookKeys.{BookKeys}
 use Rattle.seize_book.specs.declared.book.count_key.CountKey.{CountKey}
 use Rattle.seize_book.specs.declared.book.field_key.FieldKey.{FieldKey}

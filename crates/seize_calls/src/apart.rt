@@ -10,6 +10,7 @@ use crate::draining::Lightens;
 use crate::further::Further;
 use crate::handing::Reclaim;
 use seize_words::blocks::Blocks;
+use seize_words::book::Permit;
 
 /// It hands values to another reclaimer, and keeps what that puts, in the order in which it was put. The calls are told of none, so their
 /// queue stays empty.
@@ -26,8 +27,15 @@ impl<T: Drop, R: Reclaim<T>> Reclaim<T> for Apart<R> {
 
     ghost serves = { λ a n. R.serves a.inner n × IsServed (further_in a.chain) n };
 
-    fn reclaim(&mut self, kept: u64, value: T, further: &mut Further, blocks: &Blocks<T>) {
-        self.inner.reclaim(kept, value, further, blocks);
+    fn reclaim(
+        &mut self,
+        kept: u64,
+        value: T,
+        permit: Permit,
+        further: &mut Further,
+        blocks: &Blocks<T>,
+    ) {
+        self.inner.reclaim(kept, value, permit, further, blocks);
         self.chain.append(blocks, further);
     }
 }

@@ -3,6 +3,7 @@
 ghost use Rattle.std.specs.Prelude.{◌≡◌, ◌++◌, ◌∷◌, [], ℕ, List, Some};
 ghost use base.Stored.{Gv};
 ghost use Rattle.seize_book.specs.Blocks.{block_number};
+ghost use Rattle.seize_book.specs.Lending.{IsPermitFor};
 ghost use Rattle.seize_book.specs.Linked.{next_in};
 ghost use Rattle.seize_book.specs.Notes.{note_in};
 ghost use Rattle.seize_book.specs.Others.{IsLast, IsValueOf, value_of};
@@ -19,7 +20,7 @@ ghost use Rattle.seize_words.specs.Walks.{Knows};
 use crate::further::Further;
 use seize_store::Spots;
 use seize_words::blocks::Blocks;
-use seize_words::book::{Pass, SlotKey, ValueKey, ValueKeys};
+use seize_words::book::{Pass, Permit, SlotKey, ValueKey, ValueKeys};
 use seize_words::chunk::{Header, Part};
 
 /// What becomes of values that nobody can see any more.
@@ -31,12 +32,20 @@ pub trait Reclaim<T> {
     /// It may be called for this book: what it holds to put is of that.
     ghost serves: { Self → Name → Type 0 };
 
-    /// Ends the value, or hands it on. The word is what was kept of it by whoever retired it. What it puts (`Further::put`) the call
-    /// retires when it has nothing else to do, in the order in which it was put; the blocks are those of the book. Nothing was put when it
-    /// is called, before the value's hand is made and its block is laid into the list. It is given no pass: what it puts it has to have,
-    /// with its key, or to make with a pass of its own.
-    fn reclaim(&mut self, kept: u64, value: T, further: &mut Further, blocks: &Blocks<T>)
+    /// Ends the value, or hands it on. The word is what was kept of it by whoever retired it, and the permit is that by which it was lent.
+    /// What it puts (`Further::put`) the call retires when it has nothing else to do, in the order in which it was put; the blocks are
+    /// those of the book. Nothing was put when it is called, before the value's hand is made and its block is laid into the list. It is
+    /// given no pass: what it puts it has to have, with its key, or to make with a pass of its own.
+    fn reclaim(
+        &mut self,
+        kept: u64,
+        value: T,
+        permit: Permit,
+        further: &mut Further,
+        blocks: &Blocks<T>,
+    )
         requires serves { serves self.old (blocks_book blocks.now) }
+        requires permit { IsPermitFor (blocks_book blocks.now) (T.row.coded.code value) permit }
         requires further { IsServed (further_in further.old) (blocks_book blocks.now) × (values_of (further_in further.old) ≡ []) }
         ensures had { let puts = further_in further.new in
             had self.new ≡ had self.old ++ (kept, T.row.coded.code value, values_of puts, kepts_of puts) ∷ [] }
@@ -82,10 +91,11 @@ pub fn hand_one<T: Drop, R: Reclaim<T>>(
     let mut value = value;
     let header = blocks.header(number, pass);
     let note = value.note(&header.note);
+    let permit = value.permit();
     let block = blocks.redeem(number, &mut value, key, pass);
     let (content, hollow) = block.take();
     let mut further = Further::new(pass);
-    reclaimer.reclaim(note.kept, content, &mut further, blocks);
+    reclaimer.reclaim(note.kept, content, permit, &mut further, blocks);
     further.hand(key, pass);
     queue.append(blocks, &mut further);
     value.settle(pass);

@@ -21,7 +21,6 @@ pub mod Exchanged
 pub mod Units
 pub mod Activations
 pub mod Chunked
-pub mod Permitted
 pub mod Reserved
 pub mod Traversals
 pub mod Sights

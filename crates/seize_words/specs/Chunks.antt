@@ -14,7 +14,6 @@
 --     IsHollowIn blocks key hollow, IsHollowAfter last blocks key hollow     the same as IsBlockIn and IsBlockAfter, without the value
 --     AreSpotsIn blocks spots           the list is of spots of the store of these blocks
 --     IsLentAs v g                      a value of code g is lent with v
---     HaveCodesOf code vs               with each of these values one of a type is lent, or was, by its code
 --     LendsIn blocks key number g       the key is for a value that was never named, by this number, and a value of code g is lent with it
 --     IsFoundAt o number pass           it is a value, which was named, as the pass has seen, by this number, and something is lent with it
 --     IsFoundAs o g                     it is a value, and one of code g is lent with it
@@ -128,9 +127,6 @@ pub record IsFoundAt (o : Option ℕ) (number : ℕ) (pass : Pass) : Type 0 wher
 
 abbrev pub IsLiveAt : ℕ → ℕ → Pass → Type 0
 IsLiveAt v number pass = (has v (state_seen pass).named ≡ true) × (has v (state_seen pass).gone ≡ false) × (block_number v ≡ number)
-
-abbrev pub HaveCodesOf : {T : Type 0} → (T → Gv) → List ℕ → Type 0
-HaveCodesOf {T} code vs = (v : ℕ) → has v vs ≡ true → (x : T) × IsLentAs v (code x)
 
 abbrev pub IsFoundAs : Option ℕ → Gv → Type 0
 IsFoundAs o g = (v : ℕ) × (o ≡ Some v) × IsLentAs v g

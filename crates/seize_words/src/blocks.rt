@@ -4,10 +4,9 @@ ghost use Rattle.seize_store.specs.RowTokens.{family_in};
 ghost use Rattle.seize_store.specs.Named.{store_name};
 
 use crate::chunk::{Header, Part};
-use crate::codes::CodesOf;
 use crate::glimpse::Glimpse;
 use crate::note::Note;
-use seize_book::book::{Pass, Permits, Seen, SlotKey, ValueKey, ValueKeys};
+use seize_book::book::{Pass, Permit, Seen, SlotKey, ValueKey, ValueKeys};
 use seize_content::TokenCell;
 use seize_store::{Bare, Hollow, Owned, Spots, Store};
 use seize_table::Refusal;
@@ -19,8 +18,6 @@ pub struct Blocks<T> {
     store: Store<Header, Part, T>,
     /// The book.
     pub book: Seen,
-    permits: Permits<CodesOf<T>>,
-    ghost permitted: { permits.list ≡ book.name.permits },
     ghost stands: { book.name.store ≡ store_name store },
     ghost kin: { family_in (store_name store) ≡ book.name.family },
 }
@@ -29,12 +26,12 @@ impl<T: Drop> Blocks<T> {
     ghost use Rattle.seize_book.specs.Books.{IsNextIn};
     ghost use Rattle.seize_store.specs.Named.{bare_number, bare_title, bare_value, hollow_store, hollow_title, is_empty_list, owned_value, store_of, title_of, titles_of, titles_with};
     ghost use Rattle.seize_table.specs.declared.refusal.Refusal.TheVariants.{NoMemory};
-    ghost use Rattle.seize_words.specs.Chunks.{AreSpotsIn, HaveCodesOf, IsBlockAfter, IsBlockIn, IsFoundAs, IsFoundAt, IsHeaderOf, IsLentAs, IsLiveAt, IsPartOf, LayIn, LendsIn, LiesIn, blocks_book};
+    ghost use Rattle.seize_words.specs.Chunks.{AreSpotsIn, IsBlockAfter, IsBlockIn, IsFoundAs, IsFoundAt, IsHeaderOf, IsLentAs, IsLiveAt, IsPartOf, LayIn, LendsIn, LiesIn, blocks_book};
     ghost use Rattle.seize_book.specs.Others.{IsLast, IsVacated, IsValueOf, book_of, value_of};
     ghost use Rattle.seize_book.specs.Blocks.{block_number};
     ghost use Rattle.seize_book.specs.Notes.{HasNoted, IsUnchanged, cell_in};
     ghost use Rattle.seize_words.specs.Noted.{IsNoted, note_code};
-    ghost use Rattle.seize_book.specs.Lending.{IsInBlockOf, IsLentKey};
+    ghost use Rattle.seize_book.specs.Lending.{IsInBlockOf, IsLentKey, IsPermitFor};
     ghost use Rattle.seize_book.specs.Homesteads.{HasNumber, state_seen};
     ghost use Rattle.seize_words.specs.Headers.{IsFrontBlock};
     ghost use Rattle.seize_book.specs.Passes.{LooksOn};
@@ -43,21 +40,12 @@ impl<T: Drop> Blocks<T> {
     ghost use Rattle.seize_words.specs.Walks.{CountsDown, IsAtBatch, Knows};
 
     /// Those of a book whose blocks lie in this store.
-    pub(crate) fn of(
-        store: Store<Header, Part, T>,
-        book: Seen,
-        permits: Permits<CodesOf<T>>,
-    ) -> Blocks<T>
+    pub(crate) fn of(store: Store<Header, Part, T>, book: Seen) -> Blocks<T>
         requires lies { book.name.store ≡ store_name store }
-        requires permits { permits.list ≡ book.name.permits }
         requires kin { family_in (store_name store) ≡ book.name.family }
         ensures { result.book ≡ book }
     {
-        Blocks {
-            store,
-            book,
-            permits,
-        }
+        Blocks { store, book }
     }
 
     /// A block of the value, and the key for that value, by the number that the block has in the store. Where no chunk is in, it asks for
@@ -138,26 +126,16 @@ impl<T: Drop> Blocks<T> {
 
     /// The block is lent: who finds its value in a link sees what lies there, by its number (`see`), and it comes back by its number when
     /// a slot's call is about to hand the value (`redeem`). The key is for another value of the block then, which stands for what is lent.
-    /// The block is in nobody's hands until it comes back. It does nothing when the program runs but for a look-up, and takes no memory.
-    pub fn lend(&self, key: &mut ValueKey, block: Bare<Header, Part, T>)
+    /// The block is in nobody's hands until it comes back. The permit is for its code. It does nothing when the program runs but for a
+    /// look-up, and takes no memory.
+    pub fn lend(&self, key: &mut ValueKey, block: Bare<Header, Part, T>, permit: Permit)
         requires block { IsBlockIn self.now (bare_value block) key.old block }
+        requires permit { IsPermitFor (blocks_book self.now) (T.row.coded.code (bare_value block)) permit }
         ensures block { IsInBlockOf key.old key.new }
         ensures lent { LendsIn self.now key.new (bare_number block) (T.row.coded.code (bare_value block)) }
     {
-        let permit = self.permits.permit(&*block);
         let (ticket, pool) = self.store.lend(block);
         key.lend(ticket, pool, permit);
-    }
-
-    /// With each value that was ever named, as the pass has seen then, a value of the type of these blocks is lent, or was. The pass looks
-    /// at the list. It does nothing when the program runs: its contract is the law.
-    pub fn codes(&self, pass: &mut Pass)
-        requires book { blocks_book self.now ≡ pass.old.name }
-        ensures looks { LooksOn pass.old pass.new }
-        ensures codes { HaveCodesOf T.row.coded.code (state_seen pass.new).named }
-    {
-        let permit = pass.permit_for_named();
-        self.permits.check(permit);
     }
 
     /// What is lent with the value that was found in a link, for as long as the store and the reader's activation are borrowed: a value of

@@ -10,7 +10,6 @@ pub mod activation;
 pub mod batch;
 pub mod blocks;
 pub mod chunk;
-mod codes;
 pub mod glimpse;
 pub mod header;
 pub mod link;

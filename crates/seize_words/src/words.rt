@@ -9,12 +9,11 @@ ghost use Rattle.seize_words.specs.Reserved.{slots_book};
 use crate::activation::Activation;
 use crate::blocks::Blocks;
 use crate::chunk::{Header, Part};
-use crate::codes::CodesOf;
 use crate::glimpse::{Found, Glimpse};
 use crate::link::{Expects, Links, MaybeKey};
 use crate::slots::{NextSlot, Reservation, Slots};
 use seize_book::book::{
-    BookKeys, FutureBook, NumbersKey, Pass, Permits, Porter, Seen, SlotKey, Storage,
+    BookKeys, Condition, FutureBook, NumbersKey, Pass, Permits, Porter, Seen, SlotKey, Storage,
 };
 use seize_store::Store;
 use seize_table::Refusal;
@@ -46,27 +45,29 @@ impl<T: Drop> Words<T> {
     ghost use Rattle.seize_book.specs.Blocks.{link_word};
     ghost use Rattle.seize_book.specs.Books.{HasKeys};
     ghost use Rattle.seize_words.specs.Joined.{IsInAt, IsNewTo, OnLink, OpensWords, with_size, words_book};
+    ghost use Rattle.seize_book.specs.Lending.{ArePermitsOf};
     ghost use Rattle.seize_book.specs.Porters.{Opens, Resizes};
     ghost use Rattle.seize_words.specs.Chunks.{IsFoundAs};
     ghost use Rattle.seize_words.specs.LinkWords.{CompareExchanges, Finds, Sees, Swaps, held_before};
     ghost use Rattle.seize_words.specs.Reserved.{HasNextSlot, IsSameNext, MakesNextSlot};
     ghost use Rattle.seize_book.specs.Others.{AreNumbersOf};
 
-    /// The words of a new book, with so many links, which are empty, and no slot; the porter of its passes, which is at home; and the keys
-    /// with which its slots are made. A slot attempts its batch when that has `size` values, and at least one; `set_size` sets another
+    /// The words of a new book, with so many links, which are empty, and no slot; the list of the codes that may be lent with its values;
+    /// the porter of its passes, which is at home; and the keys with which its slots are made. A slot attempts its batch when that has `size` values, and at least one; `set_size` sets another
     /// size. The table of heads has the buckets of the numbers from 0 to `capacity`. It asks for their memory and for that of the
     /// links; the store of blocks has no rows yet.
     ///
     /// # Errors
     ///
     /// `NoNumbers` where `capacity` is above the greatest number, and only then; `NoMemory` where a growth was refused.
-    pub fn new(
+    pub fn new<C: Condition>(
         alloc: Global,
         capacity: usize,
         links: usize,
         size: usize,
-    ) -> Result<(Words<T>, Porter, NumbersKey, NextSlot), Refusal>
-        ensures made { IfOk result (λ opened. OpensWords opened.0 opened.1 opened.2 opened.3 links size) }
+    ) -> Result<(Words<T>, Permits<C>, Porter, NumbersKey, NextSlot), Refusal>
+        ensures made { IfOk result (λ opened. OpensWords opened.0 opened.2 opened.3 opened.4 links size) }
+        ensures permits { IfOk result (λ opened. ArePermitsOf (words_book opened.0) opened.1) }
         ensures refused { IfErr result (λ e. (e ≡ NoNumbers) ⊎ (e ≡ NoMemory)) }
         ensures no_numbers { (result ≡ Err NoNumbers) ↔ (MAX_INDEX < capacity) }
     {
@@ -74,19 +75,19 @@ impl<T: Drop> Words<T> {
         let (unopened, family) = FutureBook::new();
         let store = Store::new(alloc, &family);
         let permits = Permits::new(&family);
-        let (book, porter, keys) = Words::open::<Brand>(
+        let (book, porter, keys) = Words::open::<Brand, C>(
             &store, &table, &permits, unopened, links, size,
         );
-        let blocks = Blocks::of(store, book, permits);
+        let blocks = Blocks::of(store, book);
         let (words, numbers, next) = Words::of(alloc, blocks, table, keys, links, size)?;
-        Ok((words, porter, numbers, next))
+        Ok((words, permits, porter, numbers, next))
     }
 
     // A book whose blocks lie in this store, and whose heads lie in this table; what may be lent is in this list.
-    fn open<K: Storage>(
+    fn open<K: Storage, C: Condition>(
         _store: &Store<Header, Part, T>,
         _table: &ThreadLocal<Reservation>,
-        _permits: &Permits<CodesOf<T>>,
+        _permits: &Permits<C>,
         unopened: FutureBook,
         links: usize,
         size: usize,

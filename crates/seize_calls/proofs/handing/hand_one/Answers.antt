@@ -7,6 +7,7 @@ use Rattle.seize_book.specs.Others.{value_of}
 use Rattle.seize_book.specs.Private.{labels_of}
 use Rattle.seize_book.specs.Slots.{AddsDeed, IsKeyOfBook, hands_next, slot_number, slot_of}
 use Rattle.seize_book.specs.Passes.{LooksOn}
+use Rattle.seize_book.specs.Tokens.{Name}
 use Rattle.seize_book.specs.Values.{values_of}
 use Rattle.seize_book.specs.declared.book.pass.Pass.{Pass}
 use Rattle.seize_book.specs.declared.book.slot_key.SlotKey.{SlotKey}
@@ -51,13 +52,16 @@ redeem-block-requires g c =
       ),
     )
 
+-- the permit is for what is lent with the value, which is what comes out of its block
 pub reclaim-requires : goal.reclaim-requires
 reclaim-requires g c =
-    let looked = c.header-header in let noted = c.note-note in let redeemed = c.redeem-block in let made = c.new-further.ensures in
-    let named = redeemed.ensures.looks.same.0 ∙ looked.ensures.looks.same.0 in (
+    let looked = c.header-header in let noted = c.note-note in let permitted = c.permit-permit.ensures in let redeemed = c.redeem-block in let made = c.new-further.ensures in
+    let named = redeemed.ensures.looks.same.0 ∙ looked.ensures.looks.same.0 in
+    let its = subst (λ x. IsLentAs (value_of noted.new.self) (g.row.T.coded.code x)) (sym c.take-content.ensures.value) redeemed.ensures.code in (
       lit< tt,
       (
         c.requires.serves,
+        (permitted.0 ∙ ap (λ (n : Name). n.permits) (noted.ensures.same.0 ∙ (c.requires.book.0 ∙ sym c.requires.book.2)), permitted.1 ∙ ap (λ (l : ℕ). l ∷ []) its),
         ((made.0.0 ∙ (named ∙ sym c.requires.book.2), none_new (further_in c.new-further.result) redeemed.new.pass made.0), ap labels_of made.0.1),
       ),
     )

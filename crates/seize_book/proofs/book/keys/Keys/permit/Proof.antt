@@ -1,5 +1,5 @@
 -- `permit` gives what goes with the keys of what may be lent.
-use Rattle.seize_book.proofs.Kit.{◌≡◌, ℕ, [], ◌∷◌, refl, proved, Val, vptr, SProp, emp, Lft, ftrue, fsep, flft, ‵, raw, ◌⊛◌, ◌$◌, ◌∵◌, !, qed, by, move, keep, drop, split, fsplit, fjoin, use0, use1, no_more, and_then, returns, enter, alloc_all, pass_all, free_all, look_at, get, sets, agg, fact, fact_i, heard, tables, yes, RattleType, owns, types_at, plain, RefOf, shr_vals, shr_Tells, unhide, nothing, Stays, stay_dropped, walk_of, Goes-dropped, named}
+use Rattle.seize_book.proofs.Kit.{◌≡◌, ℕ, [], ◌∷◌, refl, proved, Val, vptr, SProp, emp, Lft, ftrue, fsep, flft, ‵, raw, ◌⊛◌, ◌$◌, ◌∵◌, !, qed, by, move, keep, split, fsplit, fjoin, use0, use1, no_more, and_then, returns, enter, alloc_all, pass_all, free_all, look_at, get, sets, agg, fact, fact_i, heard, tables, yes, RattleType, owns, types_at, plain, RefOf, shr_vals, shr_Tells, unhide, nothing, Stays, stay_dropped, walk_of, Goes-dropped, named}
 use Rattle.std.specs.Prelude.{List, map, true}
 use base.Fml.{fhide}
 use denote.Builtin.{unit}
@@ -34,7 +34,7 @@ permit_spec 𝓤 𝓛 𝓜 𝓡 wired =
     use1 𝓛 (‵ (hidden_shr (Marked unit) κ (record {}, tt) rb ro) ⊛ ‵ (fhide (keys_show d.name d.held κ))) (lent_out 𝓛 Keys.struct (Keys.the_codes (marker.the_row unit).coded) Keys.the_heap Keys.the_lent κ d rb ro) $ split ! $ move ! (1 ∷ []) $ unhide ! $
     use1 𝓛 (‵ (all_permitted d.name.permits ls)) (permits_shown 𝓛 d.name κ d.held asked) $
     -- [the permit; its marker; the token]
-     let r : Permit.the_row.Denot = record { marker = record {}; list = d.name.permits; codes = ls } in
+    let r : Permit.the_row.Denot = record { marker = record {}; list = d.name.permits; codes = ls } in
     sets ! (agg ! (no_more !)) refl (tt, tt) $ sets ! (agg ! (and_then ! (get ! refl) (no_more !))) refl (tt, (tt, tt)) $
     use0 𝓛 (‵ (Token.own_val (record {}, tt) (token ∷ []))) (token_made 𝓛) $ fjoin ! $
     -- [the result; its marker; the token]
