@@ -20,7 +20,7 @@
 --     IsLiveAt v number pass            v was named and not reclaimed, as the pass has seen, and this is its number
 --     IsHeaderOf header number pass     it is of the pass's book, and each value with this number that was ever named lies in its block,
 --                                       with its cell
-use Rattle.std.specs.Prelude.{◌≡◌, ℕ, ◌+◌, ◌<◌, ◌^◌, List, Option, Some, false, true}
+use Rattle.std.specs.Prelude.{◌≡◌, ℕ, ◌+◌, ◌<◌, ◌^◌, Option, Some, false, true}
 use base.Stored.{Gv}
 use Rattle.seize_machine.specs.Machine.State.{has}
 use Rattle.seize_store.specs.Named.{AreOfStore, bare_content, bare_label, bare_number, bare_store, bare_value, hollow_content, hollow_label, hollow_number, hollow_store}
