@@ -1,6 +1,6 @@
 -- The words in which contracts speak of contents that are lent with values: before a value is named, when it was reclaimed, and where it
 -- was never named and is not to be.
---     ArePermitsOf n permits            the list of permits is that of book n, and of its family
+--     ArePermitsOf n permits            the list of permits is that of book n, and of the store where its blocks lie
 --     IsPermitFor n g permit            the permit is for this code, in the list of book n
 --     IsPermitForAll pass permit        it is for what is lent with each value that was ever named, as the pass has seen
 --     IsPermitOf n vs permit            it is for what is lent with each of these values of book n
@@ -49,7 +49,7 @@ abbrev pub IsOfPlace : ℕ → Ticket → Type 0
 IsOfPlace v ticket = place_of v ≡ ticket.name
 
 abbrev pub ArePermitsOf : {C : Type 0} → Name → Permits C → Type 0
-ArePermitsOf n permits = (permits.list ≡ n.permits) × (permits.family ≡ n.family)
+ArePermitsOf n permits = (permits.list ≡ n.permits) × (permits.store ≡ n.store)
 
 abbrev pub IsPermitFor : Name → Gv → Permit → Type 0
 IsPermitFor n g permit = (permit.list ≡ n.permits) × (permit.codes ≡ loan_number g ∷ [])

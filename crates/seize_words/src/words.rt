@@ -74,13 +74,21 @@ impl<T: Drop> Words<T> {
         let table = ThreadLocal::with_capacity(alloc, capacity)?;
         let (unopened, family) = FutureBook::new();
         let store = Store::new(alloc, &family);
-        let permits = Permits::new(&family);
+        let permits = Words::permits::<Brand, C>(&store);
         let (book, porter, keys) = Words::open::<Brand, C>(
             &store, &table, &permits, unopened, links, size,
         );
         let blocks = Blocks::of(store, book);
         let (words, numbers, next) = Words::of(alloc, blocks, table, keys, links, size)?;
         Ok((words, permits, porter, numbers, next))
+    }
+
+    // The list of the codes that may be lent with the values of a book whose blocks lie in this store.
+    fn permits<K: Storage, C: Condition>(_store: &Store<Header, Part, T>) -> Permits<C>
+        requires { K.store ≡ store_name _store.now }
+        ensures { result.store ≡ store_name _store.now }
+    {
+        Permits::new::<K>()
     }
 
     // A book whose blocks lie in this store, and whose heads lie in this table; what may be lent is in this list.

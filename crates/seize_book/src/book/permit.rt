@@ -4,12 +4,12 @@ ghost use base.Stored.{Gv, coded_list, coded_ℕ};
 ghost use denote.Sharing.{said};
 ghost use Rattle.seize_book.specs.Permits.{all_permitted, knows_permits};
 
-use seize_store::Family;
+use crate::book::seen::Storage;
 use std::marker::{Model, PhantomData};
 
-/// What holds of each code that may be lent with the values of a book of this family.
+/// What holds of each code that may be lent with the values of a book whose blocks lie in this store.
 pub trait Condition {
-    ghost holds: { ℕ → Gv → Type 0 };
+    ghost holds: { List ℕ → Gv → Type 0 };
 }
 
 /// These codes may be lent, for good. It doesn't know what holds of them: `Permits::check` says it.
@@ -31,14 +31,14 @@ pub struct Permits<C: Condition> {
     marker: PhantomData<C>,
     /// The list.
     pub ghost list: { ℕ },
-    /// The family of the book.
-    pub ghost family: { ℕ },
+    /// The store where the blocks of the book lie.
+    pub ghost store: { List ℕ } by { coded_list coded_ℕ },
 }
 
 impl<C: Condition> Model for Permits<C> {
-    ghost also_owns = { λ p. knows_permits (C.holds p.family) p.list };
+    ghost also_owns = { λ p. knows_permits (C.holds p.store) p.list };
 
-    ghost also_shares = { λ p _ κ. said (knows_permits (C.holds p.family) p.list) κ };
+    ghost also_shares = { λ p _ κ. said (knows_permits (C.holds p.store) p.list) κ };
 }
 
 impl<C: Condition> Permits<C> {
@@ -46,9 +46,9 @@ impl<C: Condition> Permits<C> {
     ghost use Rattle.seize_book.specs.Loans.{loan_number};
     ghost use Rattle.seize_book.specs.Permits.{AllAre};
 
-    /// A new list, for the book of this family.
-    pub fn new(_family: &Family) -> Permits<C>
-        ensures { result.family ≡ _family.now.number }
+    /// A new list, for a book whose blocks lie in the store that `K` says.
+    pub fn new<K: Storage>() -> Permits<C>
+        ensures { result.store ≡ K.store }
     {
         Permits {
             marker: PhantomData,
@@ -57,7 +57,7 @@ impl<C: Condition> Permits<C> {
 
     /// The code of this value comes into the list.
     pub fn permit<T>(&self, _value: &T) -> Permit
-        requires { C.holds self.now.family (T.row.coded.code _value.now) }
+        requires { C.holds self.now.store (T.row.coded.code _value.now) }
         ensures { (result.list ≡ self.now.list) × (result.codes ≡ loan_number (T.row.coded.code _value.now) ∷ []) }
     {
         Permit {
@@ -69,7 +69,7 @@ impl<C: Condition> Permits<C> {
     /// is the law.
     pub fn check(&self, permit: Permit)
         requires { permit.list ≡ self.now.list }
-        ensures { AllAre (C.holds self.now.family) permit.codes }
+        ensures { AllAre (C.holds self.now.store) permit.codes }
     {
         let Permit { marker: _ } = permit;
     }

@@ -5,4 +5,4 @@ use Rattle.seize_book.specs.contracts.book.permit.Permits.{the_row}
 use Rattle.seize_book.proofs.Sent.{list_keyless}
 
 pub send : (T : RattleType) (g : Ghosts T.Denot) → IsSend (the_row T g)
-send T g = record { owned = λ d vs. ((λ vss. (tt, ((λ uss. (tt, tt)), tt))), list_keyless (g.holds d.family) d.list); leaving = λ k f vs. tt }
+send T g = record { owned = λ d vs. ((λ vss. (tt, ((λ uss. (tt, tt)), tt))), list_keyless (g.holds d.store) d.list); leaving = λ k f vs. tt }

@@ -22,14 +22,14 @@ check_spec 𝓤 𝓛 𝓜 𝓡 wired X L g dict met =
     (λ κs. (shr_vals, (no_bytes, tt))) (λ κs. (shr_Tells (named 0) κs.0 Row, (permit_tells, tt))) (λ κs qs bounds a gh are.
     let d : Row.Denot = a.0.now in let pb : ℕ = a.0.ref_ptr.0 in let po : ℕ = a.0.ref_ptr.1 in let p : P.Denot = a.1.0 in
     let y : (walk_of 𝓛 En hs c).Ghost = ((κs, qs, bounds, a, (vptr pb po ∷ [], (token ∷ [], tt))), gh) in let Post : Val → SProp 𝓤 = (walk_of 𝓛 En hs c).post y in let toks : Fml = fsep (flft κs.0 qs.0) (fsep (flft κs.1.0 qs.1.0) ftrue) in
-    let Asked : Type 0 = p.list ≡ d.list in let All : Type 0 = AllAre (g.holds d.family) p.codes in
+    let Asked : Type 0 = p.list ≡ d.list in let All : Type 0 = AllAre (g.holds d.store) p.codes in
     qed 𝓛 ((‵ toks ⊛ ‵ (owns (types_at En.signature.params κs) a y.0.4)) ∷ raw (fact 𝓤 _) ∷ raw (fact 𝓤 Asked) ∷ []) ∵ move ! (2 ∷ 0 ∷ []) $ heard ! Asked (λ asked. split ! $
     move ! (1 ∷ []) $ fsplit ! $ fsplit ! $ drop ! $ unhide ! $ fsplit ! $ drop ! $ move ! (1 ∷ []) $ fsplit ! $ fsplit ! $
     -- [its marker; the permit; nothing; the list; the tokens]
     keep ! (1 ∷ 3 ∷ 4 ∷ []) $
     enter ! 𝓣.C 𝓣.Λ fn (vptr pb po ∷ token ∷ []) Post $ alloc_all ! (λ l. pass_all ! refl ((tt, tt), ((tt, (tt, tt)), tt)) $
     rewrite ! 0 (λ (γ : ℕ). ‵ (all_permitted γ p.codes)) asked refl $ move ! (1 ∷ 0 ∷ []) $
-    use2 𝓛 (later (given All (‵ ftrue))) (checks_all 𝓛 (g.holds d.family) d.list p.codes) $ await ! tt $ learn ! (λ all. drop ! $
+    use2 𝓛 (later (given All (‵ ftrue))) (checks_all 𝓛 (g.holds d.store) d.list p.codes) $ await ! tt $ learn ! (λ all. drop ! $
     sets ! (of_opd ! (unit_lit !)) refl (tt, tt) $ feq_i ! (List Val) (vunit ∷ []) (vunit ∷ []) refl $
     -- [the result; the tokens]
     nothing ! $ nothing ! $ fjoin ! $ nothing ! $ fjoin ! $

@@ -24,13 +24,13 @@ permit_spec 𝓤 𝓛 𝓜 𝓡 wired X Y L LY g dict met =
     (λ κs. (shr_vals, (shr_vals, tt))) (λ κs. (shr_Tells (named 0) κs.0 Row, (shr_Tells (named 1) κs.1.0 T, tt))) (λ κs qs bounds a gh are.
     let d : Row.Denot = a.0.now in let pb : ℕ = a.0.ref_ptr.0 in let po : ℕ = a.0.ref_ptr.1 in let vb : ℕ = a.1.0.ref_ptr.0 in let vo : ℕ = a.1.0.ref_ptr.1 in let u : Gv = T.coded.code a.1.0.now in
     let y : (walk_of 𝓛 En hs c).Ghost = ((κs, qs, bounds, a, (vptr pb po ∷ [], (vptr vb vo ∷ [], tt))), gh) in let Post : Val → SProp 𝓤 = (walk_of 𝓛 En hs c).post y in let toks : Fml = fsep (flft κs.0 qs.0) (fsep (flft κs.1.0 qs.1.0) (fsep (flft κs.1.1.0 qs.1.1.0) (fsep (flft κs.1.1.1.0 qs.1.1.1.0) ftrue))) in
-    let Asked : Type 0 = g.holds d.family u in
+    let Asked : Type 0 = g.holds d.store u in
     qed 𝓛 ((‵ toks ⊛ ‵ (owns (types_at En.signature.params κs) a y.0.4)) ∷ raw (fact 𝓤 _) ∷ raw (fact 𝓤 _) ∷ raw (fact 𝓤 Asked) ∷ []) ∵ move ! (3 ∷ 0 ∷ []) $ heard ! Asked (λ asked. split ! $
     move ! (1 ∷ []) $ fsplit ! $ fsplit ! $ drop ! $ unhide ! $ fsplit ! $ drop ! $
     -- [the list; the value; the tokens]
     keep ! (0 ∷ 2 ∷ []) $
     enter ! 𝓣.C 𝓣.Λ fn (vptr pb po ∷ vptr vb vo ∷ []) Post $ alloc_all ! (λ l. pass_all ! refl ((tt, tt), ((tt, tt), tt)) $
-    use1 𝓛 (later (‵ (permit d.list (loan_number u)))) (gives 𝓛 (g.holds d.family) d.list u asked) $ await ! tt $ nothing ! $ move ! (1 ∷ 0 ∷ []) $ fjoin ! $
+    use1 𝓛 (later (‵ (permit d.list (loan_number u)))) (gives 𝓛 (g.holds d.store) d.list u asked) $ await ! tt $ nothing ! $ move ! (1 ∷ 0 ∷ []) $ fjoin ! $
     let r : P.Denot = record { marker = record {}; list = d.list; codes = loan_number u ∷ [] } in
     sets ! (agg ! (no_more !)) refl (tt, tt) $ sets ! (agg ! (and_then ! (get ! refl) (no_more !))) refl (tt, (tt, tt)) $
     use0 𝓛 (‵ (Token.own_val (record {}, tt) (token ∷ []))) (token_made 𝓛) $ fjoin ! $
