@@ -1,6 +1,7 @@
 pub mod Compared
 pub mod Found
 pub mod Guarded
+pub mod Permitted
 pub mod Placed
 pub mod Places
 pub mod Made

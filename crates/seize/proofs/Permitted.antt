@@ -5,7 +5,7 @@ use Rattle.seize_machine.specs.Machine.State.{has}
 use Rattle.seize_machine.proofs.Facts.{eq_true}
 use Rattle.seize_book.specs.Loans.{AllCarryOne, CarriesOne, loan_number, loan_of}
 use Rattle.seize_book.specs.Permits.{AllAre, IsCodeOf}
-use Rattle.seize_words.specs.Chunks.{HaveCodesOf}
+use Rattle.seize_words.specs.Chunks.{IsLentAs}
 
 permitted : (holds : Gv → Type 0) (vs : List ℕ) (v : ℕ) → has v vs ≡ true → CarriesOne v → AllAre holds (map loan_of vs) → IsCodeOf holds (loan_of v)
 permitted holds [] v named lent all = absurd (cc)
@@ -18,7 +18,8 @@ permitted holds (u ∷ vs) v named lent all = go (u == v) refl (loan_of u) refl 
     go false e zero is all h others = others h lent all
     go false e (suc l) is all h others = others h lent all.1
 
-pub have_codes : {T : Type 0} (code : T → Gv) (vs ls : List ℕ) → AllCarryOne vs → ls ≡ map loan_of vs → AllAre (λ g. (x : T) × (code x ≡ g)) ls → HaveCodesOf code vs
+pub have_codes : {T : Type 0} (code : T → Gv) (vs ls : List ℕ) → AllCarryOne vs → ls ≡ map loan_of vs → AllAre (λ g. (x : T) × (code x ≡ g)) ls
+    → (v : ℕ) → has v vs ≡ true → (x : T) × IsLentAs v (code x)
 have_codes {T} code vs ls lent are all v named =
     let is = permitted (λ g. (x : T) × (code x ≡ g)) vs v named (lent v named) (subst (AllAre (λ g. (x : T) × (code x ≡ g))) are all) in
     (is.2.0, sym is.1 ∙ ap loan_number (sym is.2.1))

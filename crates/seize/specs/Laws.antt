@@ -3,16 +3,16 @@
 --     moments_seen pass       the events of the list, each with the states before and after it
 --     LawsHold pass           each law of `machine::laws` holds of them
 --     HaveContents code pass  the name of each value that was ever named there says a content of the type whose code this is
-use Rattle.std.specs.Prelude.{List}
+use Rattle.std.specs.Prelude.{◌≡◌, ℕ, true, List}
 use base.Stored.{Gv}
 use Rattle.seize_machine.specs.Machine.History.{Moment}
 use Rattle.seize_machine.specs.Machine.Laws.{After, AtMostOnce, Gone, Holders, NoLaterHolders, Protection, Quiet, Tries, UnderGuard, Whereabouts}
-use Rattle.seize_machine.specs.Machine.State.{State}
+use Rattle.seize_machine.specs.Machine.State.{State, has}
 use Rattle.seize_book.specs.Book.{moments}
 use Rattle.seize_book.specs.Homesteads.{state_seen}
 use Rattle.seize_book.specs.Tokens.{start}
 use Rattle.seize_book.specs.declared.book.pass.Pass.{Pass}
-use Rattle.seize_words.specs.Chunks.{HaveCodesOf}
+use Rattle.seize_words.specs.Chunks.{IsLentAs}
 
 abbrev pub opening_of : Pass → State
 opening_of pass = start pass.name
@@ -33,4 +33,4 @@ pub record LawsHold (pass : Pass) : Type 0 where
   pub tries : Tries (opening_of pass) (moments_seen pass)
 
 abbrev pub HaveContents : {T : Type 0} → (T → Gv) → Pass → Type 0
-HaveContents code pass = HaveCodesOf code (state_seen pass).named
+HaveContents {T} code pass = (v : ℕ) → has v (state_seen pass).named ≡ true → (x : T) × IsLentAs v (code x)

@@ -34,7 +34,7 @@ pub(crate) fn name<T: Drop, R: Reclaim<T>>(
 {
     match value {
         Some(owned) => {
-            let (number, key) = owned.lend(&collector.words.blocks, pass);
+            let (number, key) = owned.lend(&collector.words.blocks, &collector.permits);
             (number + 1, MaybeKey::some(key))
         }
         None => (0, MaybeKey::none(pass)),

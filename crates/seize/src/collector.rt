@@ -5,6 +5,7 @@ ghost use Rattle.seize_words.specs.Joined.{words_book};
 mod ids;
 
 use crate::block::Owned;
+use crate::codes::CodesOf;
 use crate::ending::end_all;
 use crate::numbers::sweeping::Sweeping;
 use crate::numbers::{Numbers, Registering};
@@ -15,7 +16,7 @@ pub use ids::IdSource;
 use seize_cells::Lock;
 use seize_machine::machine;
 use seize_table::Refusal;
-use seize_words::book::{Pass, Porter, Seen, Stay};
+use seize_words::book::{Pass, Permits, Porter, Seen, Stay};
 use seize_words::words::Words;
 use std::alloc::Global;
 use std::cmp::max;
@@ -40,6 +41,7 @@ const MOST_PROCESSORS: usize = 0x8000_0000_0000_0000;
 /// - where a guard is lost, or a registration with a guard, what waits for the slot or is attempted later: the slot is active for good.
 pub struct Collector<T: Drop, R: Reclaim<T> = Boxed> {
     pub(crate) words: Words<T>,
+    pub(crate) permits: Permits<CodesOf<T>>,
     porter: Porter,
     pub(crate) numbers: Lock<Numbers<T>>,
     // In a box, so that the size of a collector does not depend on it: proofs of calls by a `&` to one ask that it is below 2^63.
@@ -48,6 +50,7 @@ pub struct Collector<T: Drop, R: Reclaim<T> = Boxed> {
     alloc: Global,
     ghost lends: { (porter.name ≡ words_book words) × (porter.size ≡ words.size) × (porter.home ≡ false) },
     ghost numbered: { numbers ≡ (words_book words).family },
+    ghost listed: { permits.list ≡ (words_book words).permits },
 }
 
 impl<T: Drop> Collector<T> {
@@ -132,11 +135,12 @@ impl<T: Drop, R: Reclaim<T>> Collector<T, R> {
         let Ok(reclaimer) = Box::new(alloc, reclaimer) else {
             return Err(Refusal::NoMemory);
         };
-        let (words, mut porter, key, next) = Words::new(alloc, processors, links, size)?;
+        let (words, permits, mut porter, key, next) = Words::new(alloc, processors, links, size)?;
         porter.leave_home();
         let numbers = Numbers::new(alloc, key, next, &words.blocks.book);
         Ok(Collector {
             words,
+            permits,
             porter,
             numbers: Lock::new(numbers),
             reclaimer,
@@ -152,6 +156,7 @@ impl<T: Drop, R: Reclaim<T>> Collector<T, R> {
     {
         let Collector {
             mut words,
+            permits,
             mut porter,
             numbers,
             reclaimer,
@@ -161,6 +166,7 @@ impl<T: Drop, R: Reclaim<T>> Collector<T, R> {
         words.set_size(&mut porter, n);
         Collector {
             words,
+            permits,
             porter,
             numbers,
             reclaimer,
@@ -282,7 +288,8 @@ impl<T: Drop, R: Reclaim<T>> Collector<T, R> {
         ensures contents { HaveContents T.row.coded.code pass.new }
     {
         machine::laws();
-        self.words.blocks.codes(pass);
+        let permit = pass.permit_for_named();
+        self.permits.check(permit);
     }
 }
 
@@ -397,6 +404,7 @@ impl<T: Drop, R: Reclaim<T>> Drop for Collector<T, R> {
     fn drop(self) {
         let Collector {
             words,
+            permits: _,
             porter,
             numbers,
             reclaimer,

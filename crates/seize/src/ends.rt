@@ -6,6 +6,7 @@ use crate::reclaim::Reclaim;
 use seize_calls::further::Further;
 use seize_calls::handing;
 use seize_words::blocks::Blocks;
+use seize_words::book::Permit;
 use std::marker::{Model, PhantomData};
 
 /// Which values went to the reclaimer. It has no bytes.
@@ -70,7 +71,14 @@ impl<T: Drop, R: Reclaim<T>> handing::Reclaim<T> for Forwards<R> {
 
     ghost serves = { λ _ _. Unit {0} };
 
-    fn reclaim(&mut self, kept: u64, value: T, _further: &mut Further, _blocks: &Blocks<T>) {
+    fn reclaim(
+        &mut self,
+        kept: u64,
+        value: T,
+        _permit: Permit,
+        _further: &mut Further,
+        _blocks: &Blocks<T>,
+    ) {
         self.ends.note(kept, &value);
         self.reclaimer.reclaim(kept, value);
     }

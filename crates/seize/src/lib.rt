@@ -8,6 +8,7 @@
 #![tactic(auto)]
 
 pub mod block;
+mod codes;
 pub mod collector;
 mod ending;
 mod ends;

@@ -6,9 +6,10 @@ ghost use Rattle.seize_store.specs.Named.{bare_store, bare_value};
 ghost use Rattle.seize_words.specs.Chunks.{IsBlockIn, LendsIn, LiesIn, blocks_book};
 ghost use Rattle.seize.specs.Blocks.{content, store_name};
 
+use crate::codes::CodesOf;
 use seize_store::Bare;
 use seize_words::blocks::Blocks;
-use seize_words::book::{Pass, Seen, ValueKey};
+use seize_words::book::{Permits, Seen, ValueKey};
 use seize_words::chunk::{Header, Part};
 use std::ops::{Deref, DerefMut};
 
@@ -38,30 +39,28 @@ impl<T: Drop> Owned<T> {
     }
 
     // The key of its next value, and the block without it.
-    fn open(self, blocks: &Blocks<T>, pass: &mut Pass) -> (ValueKey, Bare<Header, Part, T>)
-        requires book { blocks_book blocks.now ≡ pass.old.name }
+    fn open(self, blocks: &Blocks<T>) -> (ValueKey, Bare<Header, Part, T>)
         requires store { store_name self ≡ (blocks_book blocks.now).store }
-        ensures pass { pass.new ≡ pass.old }
         ensures block { IsBlockIn blocks.now (content self) result.0 result.1 }
     {
         let (part, block) = self.block.split();
         let Part { key, book } = part;
         let known = block.known();
-        pass.agree(&book);
+        blocks.book.agree(&book);
         let key = key.place(block.number() as u64, known);
         (key, block)
     }
 
     // Its value is lent from then on, and may go into a link. It gives the block's number, and the key of the value.
-    pub(crate) fn lend(self, blocks: &Blocks<T>, pass: &mut Pass) -> (u64, ValueKey)
-        requires book { blocks_book blocks.now ≡ pass.old.name }
+    pub(crate) fn lend(self, blocks: &Blocks<T>, permits: &Permits<CodesOf<T>>) -> (u64, ValueKey)
         requires store { store_name self ≡ (blocks_book blocks.now).store }
-        ensures pass { pass.new ≡ pass.old }
+        requires permits { permits.now.list ≡ (blocks_book blocks.now).permits }
         ensures lent { LendsIn blocks.now result.1 result.0 (T.row.coded.code (content self)) }
     {
-        let (mut key, block) = self.open(blocks, pass);
+        let (mut key, block) = self.open(blocks);
         let number = block.number() as u64;
-        blocks.lend(&mut key, block);
+        let permit = permits.permit(&*block);
+        blocks.lend(&mut key, block, permit);
         (number, key)
     }
 }

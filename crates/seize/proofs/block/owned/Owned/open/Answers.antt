@@ -15,5 +15,4 @@ agree-requires g c =
     let label : chunk_label part.book.name (bare_home part.key) (bare_cell part.key) ≡ label_in known.chunks (entry_of known.row number)
     = c.split-part.ensures.label ∙ (ap title_label (sym c.split-part.ensures.block.1) ∙ c.known-known.ensures.label) in
     let store = c.known-known.ensures.row.0 ∙ (ap (λ (t : Title). t.known.store) c.split-part.ensures.block.1 ∙ c.requires.store) in
-    label_family c.args.blocks.now known number part.book.name (bare_home part.key) (bare_cell part.key) c.known-known.ensures.row.1 store label
-    ∙ ap (λ (n : Name). n.family) c.requires.book
+    sym (label_family c.args.blocks.now known number part.book.name (bare_home part.key) (bare_cell part.key) c.known-known.ensures.row.1 store label)
