@@ -61,8 +61,10 @@ reclaim-requires g c =
       lit< tt,
       (
         c.requires.serves,
-        (permitted.0 ∙ ap (λ (n : Name). n.permits) (noted.ensures.same.0 ∙ (c.requires.book.0 ∙ sym c.requires.book.2)), permitted.1 ∙ ap (λ (l : ℕ). l ∷ []) its),
-        ((made.0.0 ∙ (named ∙ sym c.requires.book.2), none_new (further_in c.new-further.result) redeemed.new.pass made.0), ap labels_of made.0.1),
+        (
+          (permitted.0 ∙ ap (λ (n : Name). n.permits) (noted.ensures.same.0 ∙ (c.requires.book.0 ∙ sym c.requires.book.2)), permitted.1 ∙ ap (λ (l : ℕ). l ∷ []) its),
+          ((made.0.0 ∙ (named ∙ sym c.requires.book.2), none_new (further_in c.new-further.result) redeemed.new.pass made.0), ap labels_of made.0.1),
+        ),
       ),
     )
 
