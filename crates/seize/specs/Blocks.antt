@@ -1,5 +1,8 @@
 -- What contracts see of blocks. `code` is the code of the collector's element type, by which a name says a value.
 --     content owned             the value of a block in hand;  store_name owned     the store where it lies
+--     HoldsOnly owners store v  each block inside the value v lies in this store: one that `owners` (of `Reclaim`) names
+--     Belongs owners store owned     the block lies in this store, with each block inside it
+--     owners_in owners blocks   the stores of these blocks, and of the blocks inside them
 --     HasContent code v value   what the list calls v is a block with this content
 --     shared_name shared        what the list calls the value that was found;  shared_value shared     the value
 --     shared_block shared       which block it is: the list of its collector, and the word that a link shows for it
@@ -8,7 +11,8 @@
 --     shared_book shared        the list of its collector;  IsSharedOf c shared     it is of this collector
 --     Shows c code held shared  what was found is what the link held, a block of this collector with that value; or there is neither
 --     ComesOut held u           what came out is what the link held, or there is neither
-use Rattle.std.specs.Prelude.{◌≡◌, ℕ, Option, None, Some, List}
+use Rattle.std.specs.Prelude.{◌≡◌, ℕ, ◌∷◌, All, Option, None, Some, List}
+use Rattle.std.specs.List.{flat_map}
 use base.Stored.{Gv}
 use Rattle.seize_store.specs.Named as store
 use Rattle.seize_book.specs.Blocks.{link_word}
@@ -26,6 +30,15 @@ content owned = store.owned_value owned.block
 
 abbrev pub store_name : {T : Type 0} → Owned T → List ℕ
 store_name owned = store.store_of owned.block
+
+abbrev pub HoldsOnly : {T : Type 0} → (T → List (List ℕ)) → List ℕ → T → Type 0
+HoldsOnly owners store value = All (λ owner. owner ≡ store) (owners value)
+
+abbrev pub Belongs : {T : Type 0} → (T → List (List ℕ)) → List ℕ → Owned T → Type 0
+Belongs owners store owned = (store_name owned ≡ store) × HoldsOnly owners store (content owned)
+
+abbrev pub owners_in : {T : Type 0} → (T → List (List ℕ)) → List (Owned T) → List (List ℕ)
+owners_in owners blocks = flat_map (λ owned. store_name owned ∷ owners (content owned)) blocks
 
 abbrev pub HasContent : {T : Type 0} → (T → Gv) → ℕ → T → Type 0
 HasContent code v value = IsLentAs v (code value)

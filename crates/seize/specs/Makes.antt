@@ -7,12 +7,11 @@
 --     MakesOne pass pass' event answer     this one event was made
 --     MakesNone pass pass'    none was
 --     StaysActive s pass pass'    none was, and slot s is active, as the pass has seen then
---     IsStepOf s step         it is a step of a call of slot s between its begin and its return, in which a reclaimer put nothing;
---                             AreStepsOf s steps     so is each of these
---     MakesCall s job pass pass'     a whole call of slot s: from its begin with this job to its return, and between them its steps
---     HandsNone steps         none of these steps hands a value to its reclaimer (`is_hand`)
+--     IsStepOf IsPut s step   it is a step of a call of slot s between its begin and its return. Where it hands a value, its reclaimer put
+--                             blocks with these names then: IsPut says of which names it may be;  AreStepsOf IsPut s steps     so is each
+--     MakesCall IsPut s job pass pass'     a whole call of slot s: from its begin with this job to its return, and between them its steps
 --     Defers s job pass pass'     a whole call of slot s, and none of its steps hands a value to its reclaimer
---     LeavesAndGives s pass pass'    a whole call of slot s to leave, and then its number went back
+--     LeavesAndGives IsPut s pass pass'    a whole call of slot s to leave, and then its number went back
 --     EndsUse s pass pass' gave     the use of slot s ended: its number went back; or no event was made, and it is active (`StaysActive`)
 --     Enters s pass pass'     slot s entered; or no event was made, and it is active
 --     IsOfKind v kind pass    the retirement of v said that it is of this kind, in what the pass has seen
@@ -63,40 +62,32 @@ Enters s pass pass' = MakesOne pass pass' (Enter s) Done ⊎ StaysActive s pass 
 abbrev pub IsOfKind : ℕ → ℕ → Pass → Type 0
 IsOfKind v kind pass = IsTold pass.seen v kind
 
-abbrev pub IsStepOf : ℕ → Event × Answer → Type 0
-IsStepOf s (Put t, answer) = t ≡ s
-IsStepOf s (ReadHead t n, answer) = t ≡ s
-IsStepOf s (Detach t, answer) = t ≡ s
-IsStepOf s (Insert t n end, answer) = t ≡ s
-IsStepOf s (AddCount t, answer) = t ≡ s
-IsStepOf s (SwapOut t, answer) = t ≡ s
-IsStepOf s (SubCount t, answer) = t ≡ s
-IsStepOf s (Hand t puts, answer) = (t ≡ s) × (puts ≡ [])
-IsStepOf s _ = ⊥
+abbrev pub IsStepOf : (List ℕ → Type 0) → ℕ → Event × Answer → Type 0
+IsStepOf IsPut s (Put t, answer) = t ≡ s
+IsStepOf IsPut s (ReadHead t n, answer) = t ≡ s
+IsStepOf IsPut s (Detach t, answer) = t ≡ s
+IsStepOf IsPut s (Insert t n end, answer) = t ≡ s
+IsStepOf IsPut s (AddCount t, answer) = t ≡ s
+IsStepOf IsPut s (SwapOut t, answer) = t ≡ s
+IsStepOf IsPut s (SubCount t, answer) = t ≡ s
+IsStepOf IsPut s (Hand t puts, answer) = (t ≡ s) × IsPut puts
+IsStepOf IsPut s _ = ⊥
 
-abbrev pub AreStepsOf : ℕ → List (Event × Answer) → Type 0
-AreStepsOf s [] = Unit {0}
-AreStepsOf s (step ∷ steps) = IsStepOf s step × AreStepsOf s steps
+abbrev pub AreStepsOf : (List ℕ → Type 0) → ℕ → List (Event × Answer) → Type 0
+AreStepsOf IsPut s [] = Unit {0}
+AreStepsOf IsPut s (step ∷ steps) = IsStepOf IsPut s step × AreStepsOf IsPut s steps
 
-pub record MakesCall (s : ℕ) (job : Job) (pass pass' : Pass) : Type 0 where
+pub record MakesCall (IsPut : List ℕ → Type 0) (s : ℕ) (job : Job) (pass pass' : Pass) : Type 0 where
   pub steps : List (Event × Answer)
-  pub its : AreStepsOf s steps
+  pub its : AreStepsOf IsPut s steps
   pub made : Makes pass pass' ((Begin s job, Done) ∷ steps ++ (Return s, Done) ∷ [])
 
-abbrev pub is_hand : Event → Bool
-is_hand (Hand s puts) = true
-is_hand _ = false
-
-abbrev pub HandsNone : List (Event × Answer) → Type 0
-HandsNone [] = Unit {0}
-HandsNone (step ∷ steps) = (is_hand step.0 ≡ false) × HandsNone steps
-
 abbrev pub Defers : ℕ → Job → Pass → Pass → Type 0
-Defers s job pass pass' = (call : MakesCall s job pass pass') × HandsNone call.steps
+Defers s job pass pass' = MakesCall (λ _. ⊥) s job pass pass'
 
-pub record LeavesAndGives (s : ℕ) (pass pass' : Pass) : Type 0 where
+pub record LeavesAndGives (IsPut : List ℕ → Type 0) (s : ℕ) (pass pass' : Pass) : Type 0 where
   pub steps : List (Event × Answer)
-  pub its : AreStepsOf s steps
+  pub its : AreStepsOf IsPut s steps
   pub made : Makes pass pass' ((Begin s Leave, Done) ∷ steps ++ (Return s, Done) ∷ (Give s, Done) ∷ [])
 
 abbrev pub EndsUse : ℕ → Pass → Pass → Bool → Type 0

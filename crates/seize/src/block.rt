@@ -27,14 +27,14 @@ pub(crate) fn name<T: Drop, R: Reclaim<T>>(
     pass: &mut Pass,
 ) -> (u64, MaybeKey)
     requires pass { IsPassOf collector.now pass.old }
-    requires value { IfSome value (λ owned. IsBlockOf collector.now owned) }
+    requires value { IfSome value (λ owned. BelongsTo R.owners collector.now owned) }
     ensures pass { pass.new ≡ pass.old }
     ensures new { IsNewTo (its_book collector.now) result.1 result.0 }
     ensures named { IsNamed T.row.coded.code value (value_held result.1) }
 {
     match value {
         Some(owned) => {
-            let (number, key) = owned.lend(&collector.words.blocks, &collector.permits);
+            let (number, key) = owned.lend(&collector.words.blocks, &collector.ender.permits);
             (number + 1, MaybeKey::some(key))
         }
         None => (0, MaybeKey::none(pass)),

@@ -1,11 +1,12 @@
 //! The collector: who makes one, what it is asked, and how a thread gets a slot and a pass of it.
 ghost use Rattle.std.specs.Prelude.{◌≡◌, false};
 ghost use Rattle.seize_words.specs.Joined.{words_book};
+ghost use Rattle.seize.specs.Enders.{IsEnderOf};
 
 mod ids;
 
 use crate::block::Owned;
-use crate::codes::CodesOf;
+use crate::ender::Ender;
 use crate::ending::end_all;
 use crate::numbers::sweeping::Sweeping;
 use crate::numbers::{Numbers, Registering};
@@ -16,7 +17,7 @@ pub use ids::IdSource;
 use seize_cells::Lock;
 use seize_machine::machine;
 use seize_table::Refusal;
-use seize_words::book::{Pass, Permits, Porter, Seen, Stay};
+use seize_words::book::{Pass, Porter, Seen, Stay};
 use seize_words::words::Words;
 use std::alloc::Global;
 use std::cmp::max;
@@ -41,16 +42,15 @@ const MOST_PROCESSORS: usize = 0x8000_0000_0000_0000;
 /// - where a guard is lost, or a registration with a guard, what waits for the slot or is attempted later: the slot is active for good.
 pub struct Collector<T: Drop, R: Reclaim<T> = Boxed> {
     pub(crate) words: Words<T>,
-    pub(crate) permits: Permits<CodesOf<T>>,
     porter: Porter,
     pub(crate) numbers: Lock<Numbers<T>>,
     // In a box, so that the size of a collector does not depend on it: proofs of calls by a `&` to one ask that it is below 2^63.
-    pub(crate) reclaimer: Box<R>,
+    pub(crate) ender: Box<Ender<T, R>>,
     id: u64,
     alloc: Global,
     ghost lends: { (porter.name ≡ words_book words) × (porter.size ≡ words.size) × (porter.home ≡ false) },
     ghost numbered: { numbers ≡ (words_book words).family },
-    ghost listed: { permits.list ≡ (words_book words).permits },
+    ghost ends: { IsEnderOf words ender },
 }
 
 impl<T: Drop> Collector<T> {
@@ -132,18 +132,17 @@ impl<T: Drop, R: Reclaim<T>> Collector<T, R> {
         ensures made { IfOk result (λ made. (its_size made ≡ size) × BeginsEmpty made links × (its_id made ≡ id)) }
         ensures refused { IfErr result (λ refusal. refusal ≡ no_memory) }
     {
-        let Ok(reclaimer) = Box::new(alloc, reclaimer) else {
+        let (words, permits, mut porter, key, next) = Words::new(alloc, processors, links, size)?;
+        let Ok(ender) = Box::new(alloc, Ender { reclaimer, permits }) else {
             return Err(Refusal::NoMemory);
         };
-        let (words, permits, mut porter, key, next) = Words::new(alloc, processors, links, size)?;
         porter.leave_home();
         let numbers = Numbers::new(alloc, key, next, &words.blocks.book);
         Ok(Collector {
             words,
-            permits,
             porter,
             numbers: Lock::new(numbers),
-            reclaimer,
+            ender,
             id,
             alloc,
         })
@@ -156,20 +155,18 @@ impl<T: Drop, R: Reclaim<T>> Collector<T, R> {
     {
         let Collector {
             mut words,
-            permits,
             mut porter,
             numbers,
-            reclaimer,
+            ender,
             id,
             alloc,
         } = self;
         words.set_size(&mut porter, n);
         Collector {
             words,
-            permits,
             porter,
             numbers,
-            reclaimer,
+            ender,
             id,
             alloc,
         }
@@ -289,15 +286,15 @@ impl<T: Drop, R: Reclaim<T>> Collector<T, R> {
     {
         machine::laws();
         let permit = pass.permit_for_named();
-        self.permits.check(permit);
+        self.ender.permits.check(permit);
     }
 }
 
 // All slots that nobody has are swept by a pass that is alone.
 #[derive(Drop)]
-struct Sweep<'a, T: Drop, R: Copy> {
+struct Sweep<'a, T: Drop, R: Reclaim<T>> {
     words: &'a Words<T>,
-    reclaimer: &'a R,
+    ender: &'a Ender<T, R>,
     numbers: &'a mut Lock<Numbers<T>>,
     ghost numbered: { numbers.now ≡ (words_book words.now).family },
 }
@@ -307,13 +304,13 @@ impl<'a, T: Drop, R: Reclaim<T>> Stay<bool> for Sweep<'a, T, R> {
     ghost use Rattle.seize_calls.specs.Slots.{IsPassFor};
     ghost use Rattle.seize.specs.Sweeps.{Sweeps};
 
-    ghost may = { λ sweep pass. IsPassFor sweep.words.now pass × IsSole pass.id };
+    ghost may = { λ sweep pass. IsPassFor sweep.words.now pass × IsSole pass.id × IsEnderOf sweep.words.now sweep.ender.now };
 
     ghost gives = { λ sweep sweep' pass pass' result. (sweep'.numbers ≡ sweep.numbers) × Sweeps pass pass' result };
 
     fn stay(&mut self, pass: &mut Pass<'static>) -> bool {
-        let (words, reclaimer) = (self.words, *self.reclaimer);
-        self.numbers.with_mut(Sweeping { words, reclaimer }, pass)
+        let (words, ender) = (self.words, self.ender);
+        self.numbers.with_mut(Sweeping { words, ender }, pass)
     }
 }
 
@@ -360,7 +357,7 @@ impl<T: Drop, R: Reclaim<T>> Collector<T, R> {
     {
         let mut sweep = Sweep {
             words: &self.words,
-            reclaimer: &*self.reclaimer,
+            ender: &self.ender,
             numbers: &mut self.numbers,
         };
         let all = self.porter.stay(&mut sweep);
@@ -404,18 +401,12 @@ impl<T: Drop, R: Reclaim<T>> Drop for Collector<T, R> {
     fn drop(self) {
         let Collector {
             words,
-            permits: _,
             porter,
             numbers,
-            reclaimer,
+            ender,
             id: _,
             alloc: _,
         } = self;
-        end_all(
-            &words,
-            Box::into_inner(reclaimer),
-            numbers.into_value(),
-            porter.shut(),
-        );
+        end_all(&words, &ender, numbers.into_value(), porter.shut());
     }
 }

@@ -34,7 +34,7 @@ impl<'r, 'c, T: Drop, R: Reclaim<T>> LocalGuard<'r, 'c, T, R> {
     ghost use Rattle.seize_machine.specs.declared.machine.event.Exchange.TheVariants.{Swap};
     ghost use Rattle.seize_machine.specs.declared.machine.event.Job.TheVariants.{Flush, Leave, Refresh, Retire};
     ghost use Rattle.seize.specs.Blocks.{ComesOut, IsNamed, IsSharedOf, IsUnlinkedOf, Shows, content, unlinked_name};
-    ghost use Rattle.seize.specs.Collectors.{IsBlockOf, IsPassOf, its_links};
+    ghost use Rattle.seize.specs.Collectors.{BelongsTo, IsBlockOf, IsPassOf, PutIn, its_links};
     ghost use Rattle.seize_table.specs.declared.refusal.Refusal.TheVariants.{NoMemory as no_memory};
     ghost use Rattle.seize.specs.Exchanges.{FoundIn, MakesExchange, Protects, current_name};
     ghost use Rattle.seize.specs.Guards.{IsGuardOf, guard_activation, guard_collector, guard_slot};
@@ -115,7 +115,7 @@ impl<'r, 'c, T: Drop, R: Reclaim<T>> LocalGuard<'r, 'c, T, R> {
         pass: &mut Pass,
     ) -> Option<Unlinked<'c, T>>
         requires of { IsPassOf (guard_collector self.now) pass.old × (link < its_links (guard_collector self.now)) }
-        requires value { IfSome value (λ owned. IsBlockOf (guard_collector self.now) owned) }
+        requires value { IfSome value (λ owned. BelongsTo R.owners (guard_collector self.now) owned) }
         ensures of { IfSome result (IsUnlinkedOf (guard_collector self.now)) }
         ensures made { (new : Option ℕ) × (held : Option ℕ) × IsNamed T.row.coded.code value new × ComesOut held result
             × MakesOne pass.old pass.new (ExchangeLink (guard_slot self.now) link (Swap new)) (Link held) }
@@ -144,7 +144,7 @@ impl<'r, 'c, T: Drop, R: Reclaim<T>> LocalGuard<'r, 'c, T, R> {
         pass: &mut Pass,
     ) -> Result<Option<Unlinked<'c, T>>, Failed<'_, T>>
         requires of { IsPassOf (guard_collector self.now) pass.old × (link < its_links (guard_collector self.now)) }
-        requires value { IfSome new (λ owned. IsBlockOf (guard_collector self.now) owned) }
+        requires value { IfSome new (λ owned. BelongsTo R.owners (guard_collector self.now) owned) }
         requires current { IfSome current (λ shared. IsSharedOf (guard_collector self.now) shared.now) }
         ensures { MakesExchange T.row.coded.code (guard_collector self.now) (guard_slot self.now) (guard_activation self.now) link
             (current_name current.entry) new pass.old pass.new result }
@@ -161,7 +161,7 @@ impl<'r, 'c, T: Drop, R: Reclaim<T>> LocalGuard<'r, 'c, T, R> {
         pass: &mut Pass,
     ) -> Result<Option<Unlinked<'c, T>>, Failed<'_, T>>
         requires of { IsPassOf (guard_collector self.now) pass.old × (link < its_links (guard_collector self.now)) }
-        requires value { IfSome new (λ owned. IsBlockOf (guard_collector self.now) owned) }
+        requires value { IfSome new (λ owned. BelongsTo R.owners (guard_collector self.now) owned) }
         requires current { IfSome current (λ shared. IsSharedOf (guard_collector self.now) shared.now) }
         ensures { MakesExchange T.row.coded.code (guard_collector self.now) (guard_slot self.now) (guard_activation self.now) link
             (current_name current.entry) new pass.old pass.new result }
@@ -198,7 +198,7 @@ impl<'r, 'c, T: Drop, R: Reclaim<T>> LocalGuard<'r, 'c, T, R> {
         let collector = reader.collector;
         let deferring = Deferring {
             words: &collector.words,
-            reclaimer: *collector.reclaimer,
+            ender: &collector.ender,
             unit: &reader.unit,
             seen: &reader.seen,
             loose: value.into_loose(),
@@ -219,7 +219,7 @@ impl<'r, 'c, T: Drop, R: Reclaim<T>> LocalGuard<'r, 'c, T, R> {
         let collector = reader.collector;
         let flushing = Flushing {
             words: &collector.words,
-            reclaimer: *collector.reclaimer,
+            ender: &collector.ender,
             unit: &reader.unit,
             seen: &reader.seen,
             rt,
@@ -234,7 +234,7 @@ impl<'r, 'c, T: Drop, R: Reclaim<T>> LocalGuard<'r, 'c, T, R> {
     pub fn refresh<W: Wait>(&mut self, rt: &W, pass: &mut Pass)
         requires of { IsPassOf (guard_collector self.old) pass.old }
         ensures same { (guard_collector self.new ≡ guard_collector self.old) × (guard_slot self.new ≡ guard_slot self.old) }
-        ensures refreshes { MakesCall (guard_slot self.old) Refresh pass.old pass.new
+        ensures refreshes { MakesCall (PutIn T.row.coded.code R.puts (guard_collector self.old)) (guard_slot self.old) Refresh pass.old pass.new
             ⊎ (StaysActive (guard_slot self.old) pass.old pass.new × (guard_activation self.new ≡ guard_activation self.old)) }
     {
         let registration = self.registration;
@@ -244,7 +244,7 @@ impl<'r, 'c, T: Drop, R: Reclaim<T>> LocalGuard<'r, 'c, T, R> {
         let unit = mem::replace(&mut reader.unit, spare);
         let refreshing = Refreshing {
             words: &reader.collector.words,
-            reclaimer: *reader.collector.reclaimer,
+            ender: &reader.collector.ender,
             head: registration.head,
             unit,
             seen: &reader.seen,
@@ -262,7 +262,8 @@ impl<'r, 'c, T: Drop, R: Reclaim<T>> LocalGuard<'r, 'c, T, R> {
     /// nobody.
     pub fn leave<W: Wait>(self, rt: &W, pass: &mut Pass)
         requires of { IsPassOf (guard_collector self) pass.old }
-        ensures { MakesCall (guard_slot self.entry) Leave pass.old pass.new ⊎ StaysActive (guard_slot self.entry) pass.old pass.new }
+        ensures { MakesCall (PutIn T.row.coded.code R.puts (guard_collector self.entry)) (guard_slot self.entry) Leave pass.old pass.new
+            ⊎ StaysActive (guard_slot self.entry) pass.old pass.new }
     {
         let LocalGuard {
             registration,
@@ -276,7 +277,7 @@ impl<'r, 'c, T: Drop, R: Reclaim<T>> LocalGuard<'r, 'c, T, R> {
         } = reader;
         let leaving = Leaving {
             words: &collector.words,
-            reclaimer: *collector.reclaimer,
+            ender: &collector.ender,
             head: registration.head,
             unit,
             seen,

@@ -8,8 +8,8 @@
 #![tactic(auto)]
 
 pub mod block;
-mod codes;
 pub mod collector;
+mod ender;
 mod ending;
 mod ends;
 pub mod guard;
@@ -26,7 +26,7 @@ pub use block::{Failed, Owned, Shared, Unlinked};
 pub use collector::{Collector, IdSource};
 pub use guard::{Guard, LocalGuard};
 pub use owned::OwnedGuard;
-pub use reclaim::{Boxed, Reclaim};
+pub use reclaim::{Boxed, Further, Reclaim};
 pub use registration::Registration;
 pub use seize_machine::machine;
 pub use seize_table::{Labelled, Refusal, thread_id, tls};

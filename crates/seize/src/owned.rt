@@ -48,7 +48,7 @@ impl<'c, T: Drop, R: Reclaim<T>> OwnedGuard<'c, T, R> {
     ghost use Rattle.seize_table.specs.declared.refusal.Refusal.TheVariants.{NoMemory as no_memory};
     ghost use Rattle.seize_calls.specs.Slots.{IsInactive, its_number};
     ghost use Rattle.seize.specs.Blocks.{ComesOut, IsNamed, IsSharedOf, IsUnlinkedOf, Shows, content, unlinked_name};
-    ghost use Rattle.seize.specs.Collectors.{IsBlockOf, IsPassOf, IsSlotFor, its_links};
+    ghost use Rattle.seize.specs.Collectors.{BelongsTo, IsBlockOf, IsPassOf, IsSlotFor, PutIn, its_links};
     ghost use Rattle.seize.specs.Exchanges.{FoundIn, MakesExchange, Protects, current_name};
     ghost use Rattle.seize.specs.Makes.{Defers, IsOfKind, LeavesAndGives, MakesCall, MakesNone, MakesOne};
     ghost use Rattle.seize.specs.OwnedGuards.{owned_activation, owned_collector, owned_slot};
@@ -145,7 +145,7 @@ impl<'c, T: Drop, R: Reclaim<T>> OwnedGuard<'c, T, R> {
         pass: &mut Pass,
     ) -> Option<Unlinked<'c, T>>
         requires of { IsPassOf (owned_collector self.now) pass.old × (link < its_links (owned_collector self.now)) }
-        requires value { IfSome value (λ owned. IsBlockOf (owned_collector self.now) owned) }
+        requires value { IfSome value (λ owned. BelongsTo R.owners (owned_collector self.now) owned) }
         ensures of { IfSome result (IsUnlinkedOf (owned_collector self.now)) }
         ensures made { (new : Option ℕ) × (held : Option ℕ) × IsNamed T.row.coded.code value new × ComesOut held result
             × MakesOne pass.old pass.new (ExchangeLink (owned_slot self.now) link (Swap new)) (Link held) }
@@ -173,7 +173,7 @@ impl<'c, T: Drop, R: Reclaim<T>> OwnedGuard<'c, T, R> {
         pass: &mut Pass,
     ) -> Result<Option<Unlinked<'c, T>>, Failed<'_, T>>
         requires of { IsPassOf (owned_collector self.now) pass.old × (link < its_links (owned_collector self.now)) }
-        requires value { IfSome new (λ owned. IsBlockOf (owned_collector self.now) owned) }
+        requires value { IfSome new (λ owned. BelongsTo R.owners (owned_collector self.now) owned) }
         requires current { IfSome current (λ shared. IsSharedOf (owned_collector self.now) shared.now) }
         ensures { MakesExchange T.row.coded.code (owned_collector self.now) (owned_slot self.now) (owned_activation self.now) link
             (current_name current.entry) new pass.old pass.new result }
@@ -190,7 +190,7 @@ impl<'c, T: Drop, R: Reclaim<T>> OwnedGuard<'c, T, R> {
         pass: &mut Pass,
     ) -> Result<Option<Unlinked<'c, T>>, Failed<'_, T>>
         requires of { IsPassOf (owned_collector self.now) pass.old × (link < its_links (owned_collector self.now)) }
-        requires value { IfSome new (λ owned. IsBlockOf (owned_collector self.now) owned) }
+        requires value { IfSome new (λ owned. BelongsTo R.owners (owned_collector self.now) owned) }
         requires current { IfSome current (λ shared. IsSharedOf (owned_collector self.now) shared.now) }
         ensures { MakesExchange T.row.coded.code (owned_collector self.now) (owned_slot self.now) (owned_activation self.now) link
             (current_name current.entry) new pass.old pass.new result }
@@ -227,7 +227,7 @@ impl<'c, T: Drop, R: Reclaim<T>> OwnedGuard<'c, T, R> {
         let collector = reader.collector;
         let deferring = Deferring {
             words: &collector.words,
-            reclaimer: *collector.reclaimer,
+            ender: &collector.ender,
             unit: &reader.unit,
             seen: &reader.seen,
             loose: value.into_loose(),
@@ -248,7 +248,7 @@ impl<'c, T: Drop, R: Reclaim<T>> OwnedGuard<'c, T, R> {
         let collector = reader.collector;
         let flushing = Flushing {
             words: &collector.words,
-            reclaimer: *collector.reclaimer,
+            ender: &collector.ender,
             unit: &reader.unit,
             seen: &reader.seen,
             rt,
@@ -263,14 +263,14 @@ impl<'c, T: Drop, R: Reclaim<T>> OwnedGuard<'c, T, R> {
     pub fn refresh<W: Wait>(&mut self, rt: &W, pass: &mut Pass)
         requires of { IsPassOf (owned_collector self.old) pass.old }
         ensures same { (owned_collector self.new ≡ owned_collector self.old) × (owned_slot self.new ≡ owned_slot self.old) }
-        ensures refreshes { MakesCall (owned_slot self.old) Refresh pass.old pass.new }
+        ensures refreshes { MakesCall (PutIn T.row.coded.code R.puts (owned_collector self.old)) (owned_slot self.old) Refresh pass.old pass.new }
     {
         let reader = &mut self.reader;
         let spare = self.reservation.with(rt, Sparing {}, pass);
         let unit = mem::replace(&mut reader.unit, spare);
         let refreshing = Refreshing {
             words: &reader.collector.words,
-            reclaimer: *reader.collector.reclaimer,
+            ender: &reader.collector.ender,
             head: self.head,
             unit,
             seen: &reader.seen,
@@ -288,7 +288,7 @@ impl<'c, T: Drop, R: Reclaim<T>> OwnedGuard<'c, T, R> {
     /// register or end. The slot's batch stays for the next one who has the number.
     pub fn leave<W: Wait>(self, rt: &W, pass: &mut Pass)
         requires of { IsPassOf (owned_collector self) pass.old }
-        ensures { LeavesAndGives (owned_slot self.entry) pass.old pass.new }
+        ensures { LeavesAndGives (PutIn T.row.coded.code R.puts (owned_collector self.entry)) (owned_slot self.entry) pass.old pass.new }
     {
         let OwnedGuard {
             reader,
@@ -306,7 +306,7 @@ impl<'c, T: Drop, R: Reclaim<T>> OwnedGuard<'c, T, R> {
         let mut reservation = reservation.into_value();
         let leaving = Leaving {
             words,
-            reclaimer: *collector.reclaimer,
+            ender: &collector.ender,
             head,
             unit,
             seen,

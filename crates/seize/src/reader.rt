@@ -72,7 +72,7 @@ impl<'c, T: Drop, R: Reclaim<T>> Reader<'c, T, R> {
         pass: &mut Pass,
     ) -> Option<Unlinked<'c, T>>
         requires of { IsPassOf self.now.collector.now pass.old × (link < its_links self.now.collector.now) }
-        requires value { IfSome value (λ owned. IsBlockOf self.now.collector.now owned) }
+        requires value { IfSome value (λ owned. BelongsTo R.owners self.now.collector.now owned) }
         ensures of { IfSome result (IsUnlinkedOf self.now.collector.now) }
         ensures made { (new : Option ℕ) × (held : Option ℕ) × IsNamed T.row.coded.code value new × ComesOut held result
             × MakesOne pass.old pass.new (ExchangeLink self.now.number link (Swap new)) (Link held) }
@@ -95,7 +95,7 @@ impl<'c, T: Drop, R: Reclaim<T>> Reader<'c, T, R> {
         pass: &mut Pass,
     ) -> Result<Option<Unlinked<'c, T>>, Failed<'_, T>>
         requires of { IsPassOf self.now.collector.now pass.old × (link < its_links self.now.collector.now) }
-        requires value { IfSome new (λ owned. IsBlockOf self.now.collector.now owned) }
+        requires value { IfSome new (λ owned. BelongsTo R.owners self.now.collector.now owned) }
         requires current { IfSome current (λ shared. IsSharedOf self.now.collector.now shared.now) }
         ensures { MakesExchange T.row.coded.code self.now.collector.now self.now.number self.now.unit link
             (current_name current.entry) new pass.old pass.new result }

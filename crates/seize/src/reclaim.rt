@@ -1,4 +1,12 @@
-//! Reclaimers: what becomes of a value that no slot can read any more.
+//! Reclaimers: what becomes of a value that no slot can read any more. A reclaimer may put further blocks, which are retired in turn.
+ghost use Rattle.std.specs.Prelude.{ℕ, ◌<◌, List, [], map, sum};
+ghost use Rattle.std.proofs.Common.{lit<};
+ghost use Rattle.seize.specs.Blocks.{HoldsOnly};
+ghost use Rattle.seize.specs.Furthers.{Puts, further_store};
+
+mod further;
+
+pub use further::Further;
 
 /// What becomes of a value that no slot can read any more.
 ///
@@ -8,21 +16,39 @@
 ///
 /// The collector's calls use copies of it, on several threads at once: it is to be `Sync` for the collector to be shared, and `Send` for it
 /// to go to another thread. What a dropped `Owned` holds ends by its `Drop`, and does not come here.
-pub trait Reclaim<T>: Copy {
-    /// Ends the value, or hands it on. `kind` is what its retirement said.
+///
+/// A value may hold blocks of its collector. Its reclaimer takes them out and puts them, and they are retired in turn: so a chain of blocks
+/// ends without recursion. What it puts weighs less, together, than the value that it was given, so this comes to an end.
+pub trait Reclaim<T: Drop>: Copy {
+    /// What a value weighs: at least 1.
+    ghost weight: { T → ℕ } = { λ _. 1 };
+
+    /// The stores of the blocks in the value that it may put. A type that holds blocks of itself says it by a fold, with `owners_in`.
+    ghost owners: { T → List (List ℕ) } = { λ _. [] };
+
+    /// The contents of the blocks that it puts with a value of this kind, in order.
+    ghost puts: { Self → ℕ → T → List T } = { λ _ _ _. [] };
+
+    ghost lighter: { (r : Self) (kind : ℕ) (value : T) → sum (map weight (puts r kind value)) < weight value };
+
+    /// Ends the value, or hands it on, and puts the further blocks. `kind` is what its retirement said.
     ///
     /// It runs within a call of a guard, a registration or the collector, on whichever thread makes that call, and that call takes as long,
     /// and as much memory, as it does. A slot makes one call at a time, so the reclaimer does not use the registration in whose call it
     /// runs: `enter` refuses there, and calls with a runtime wait for ever.
-    fn reclaim(self, kind: u64, value: T);
+    fn reclaim(self, kind: u64, value: T, further: &mut Further<'_, T, Self>)
+        requires { HoldsOnly owners (further_store further.old) value }
+        ensures { Puts T.row.coded.code further.old further.new (puts self kind value) };
 }
 
-/// Ends each value by its `Drop`, whatever its kind.
+/// Ends each value by its `Drop`, whatever its kind. It puts nothing.
 #[derive(Clone, Copy, Debug, PartialEq, Eq)]
 pub struct Boxed;
 
 impl<T: Drop> Reclaim<T> for Boxed {
-    fn reclaim(self, _kind: u64, value: T) {
+    ghost lighter = { λ _ _ _. lit< tt };
+
+    fn reclaim(self, _kind: u64, value: T, _further: &mut Further<'_, T, Boxed>) {
         drop(value);
     }
 }

@@ -3,6 +3,7 @@
 ghost use Rattle.std.specs.Prelude.{◌≡◌};
 ghost use Rattle.seize.specs.Reservations.{IsReservation, its_label};
 
+use crate::ender::Ender;
 use crate::ends::Forwards;
 use crate::reclaim::Reclaim;
 use crate::shelf::Forgotten;
@@ -38,6 +39,7 @@ impl<T: Drop> Reservation<T> {
     ghost use Rattle.seize_machine.specs.Machine.Event.{Enter};
     ghost use Rattle.seize_machine.specs.declared.machine.event.Answer.TheVariants.{Done};
     ghost use Rattle.seize_words.specs.Joined.{words_book};
+    ghost use Rattle.seize.specs.Enders.{IsEnderOf};
     ghost use Rattle.seize_calls.specs.Slots.{InActivation, IsInactive, IsPassFor, IsSlotOf, its_number};
     ghost use Rattle.seize_book.specs.Tokens.{IsSole};
     ghost use Rattle.seize.specs.Makes.{MakesOne, StaysActive};
@@ -135,13 +137,14 @@ impl<T: Drop> Reservation<T> {
     pub(crate) fn into_slot<R: Reclaim<T>>(
         self,
         words: &Words<T>,
-        reclaimer: R,
+        ender: &Ender<T, R>,
         forgotten: Option<Forgotten>,
         pass: &mut Pass,
     ) -> Option<Slot<T>>
         requires of { IsReservation self × IsReservationOf words.now self }
         requires forgotten { IfSome forgotten (IsForgottenOf (words_book words.now).family) }
         requires pass { IsPassFor words.now pass.old × IsSole pass.old.id }
+        requires ender { IsEnderOf words.now ender.now }
         ensures led { IsLedBy (its_number self.slot) pass.old pass.new }
         ensures slot { IfSome result (λ slot. IsSlotOf words.now slot × IsInactive slot × (its_number slot ≡ its_number self.slot)) }
         ensures unless { IfNone result (pass.new ≡ pass.old) }
@@ -174,7 +177,7 @@ impl<T: Drop> Reservation<T> {
             words,
             head,
             &mut rest,
-            &mut Forwards::new(reclaimer),
+            &mut Forwards::new(ender),
             pass,
             &Alone {},
         );

@@ -5,9 +5,11 @@ ghost use Rattle.seize_words.specs.Chunks.{IsBlockIn};
 ghost use Rattle.seize_words.specs.Joined.{words_book};
 ghost use Rattle.seize_machine.specs.declared.machine.event.Job.TheVariants.{Flush, Leave, Refresh, Retire};
 ghost use Rattle.seize_table.specs.declared.refusal.Refusal.TheVariants.{NoMemory as no_memory, TooManyGuards as too_many_guards};
+ghost use Rattle.seize.specs.Enders.{IsEnderOf, PutBy};
 ghost use Rattle.seize.specs.Makes.{Defers, Enters, IsOfKind, MakesCall, StaysActive};
 ghost use Rattle.seize.specs.Reservations.{IsHeadFor, IsReservationOf, IsUnit};
 
+use crate::ender::Ender;
 use crate::ends::Forwards;
 use crate::reclaim::Reclaim;
 use crate::reservation::Reservation;
@@ -88,11 +90,11 @@ impl<'a, 'p, T: Drop> LockWork<
 }
 
 /// A value is retired.
-pub(crate) struct Retiring<'a, T, R: Copy, W> {
+pub(crate) struct Retiring<'a, T: Drop, R: Reclaim<T>, W> {
     /// The words of the collector.
     pub(crate) words: &'a Words<T>,
     /// Its reclaimer.
-    pub(crate) reclaimer: R,
+    pub(crate) ender: &'a Ender<T, R>,
     /// The value.
     pub(crate) loose: Loose,
     /// Its kind.
@@ -103,15 +105,15 @@ pub(crate) struct Retiring<'a, T, R: Copy, W> {
 
 impl<'a, 'p, T: Drop, R: Reclaim<T>, W: Wait> LockWork<Reservation<T>, Pass<'p>, ()>
     for Retiring<'a, T, R, W> {
-    ghost may = { λ work r pass. IsReservationOf work.words.now r × IsPassFor work.words.now pass × IsLooseOf work.words.now work.loose };
+    ghost may = { λ work r pass. IsReservationOf work.words.now r × IsPassFor work.words.now pass × IsEnderOf work.words.now work.ender.now × IsLooseOf work.words.now work.loose };
 
-    ghost gives = { λ work r r' pass pass' _. MakesCall (its_number r.slot) (Retire (its_value work.loose)) pass pass'
+    ghost gives = { λ work r r' pass pass' _. MakesCall (PutBy T.row.coded.code (R.puts work.ender.now.reclaimer)) (its_number r.slot) (Retire (its_value work.loose)) pass pass'
         × IsOfKind (its_value work.loose) work.kind pass' };
 
     fn work(self, r: &mut Reservation<T>, pass: &mut Pass<'p>) {
         let Retiring {
             words,
-            reclaimer,
+            ender,
             loose,
             kind,
             rt,
@@ -121,7 +123,7 @@ impl<'a, 'p, T: Drop, R: Reclaim<T>, W: Wait> LockWork<Reservation<T>, Pass<'p>,
             words,
             loose,
             kind,
-            &mut Forwards::new(reclaimer),
+            &mut Forwards::new(ender),
             pass,
             &Beside { rt },
         );
@@ -129,11 +131,11 @@ impl<'a, 'p, T: Drop, R: Reclaim<T>, W: Wait> LockWork<Reservation<T>, Pass<'p>,
 }
 
 /// A value is retired under a guard.
-pub(crate) struct Deferring<'a, T, R: Copy, W> {
+pub(crate) struct Deferring<'a, T: Drop, R: Reclaim<T>, W> {
     /// The words of the collector.
     pub(crate) words: &'a Words<T>,
     /// Its reclaimer.
-    pub(crate) reclaimer: R,
+    pub(crate) ender: &'a Ender<T, R>,
     /// The guard's unit.
     pub(crate) unit: &'a Activation,
     /// What was seen when its activation had begun.
@@ -148,7 +150,7 @@ pub(crate) struct Deferring<'a, T, R: Copy, W> {
 
 impl<'a, 'p, T: Drop, R: Reclaim<T>, W: Wait> LockWork<Reservation<T>, Pass<'p>, ()>
     for Deferring<'a, T, R, W> {
-    ghost may = { λ work r pass. IsReservationOf work.words.now r × IsPassFor work.words.now pass × IsLooseOf work.words.now work.loose
+    ghost may = { λ work r pass. IsReservationOf work.words.now r × IsPassFor work.words.now pass × IsEnderOf work.words.now work.ender.now × IsLooseOf work.words.now work.loose
         × IsUnit (words_book work.words.now) (its_number r.slot) work.unit.now work.seen.now };
 
     ghost gives = { λ work r r' pass pass' _. Defers (its_number r.slot) (Retire (its_value work.loose)) pass pass'
@@ -157,7 +159,7 @@ impl<'a, 'p, T: Drop, R: Reclaim<T>, W: Wait> LockWork<Reservation<T>, Pass<'p>,
     fn work(self, r: &mut Reservation<T>, pass: &mut Pass<'p>) {
         let Deferring {
             words,
-            reclaimer,
+            ender,
             unit,
             seen,
             loose,
@@ -169,7 +171,7 @@ impl<'a, 'p, T: Drop, R: Reclaim<T>, W: Wait> LockWork<Reservation<T>, Pass<'p>,
             words,
             loose,
             kind,
-            &mut Forwards::new(reclaimer),
+            &mut Forwards::new(ender),
             pass,
             &Beside { rt },
         );
@@ -178,11 +180,11 @@ impl<'a, 'p, T: Drop, R: Reclaim<T>, W: Wait> LockWork<Reservation<T>, Pass<'p>,
 
 /// The slot's batch is attempted.
 #[derive(Drop)]
-pub(crate) struct Flushing<'a, T, R: Copy, W> {
+pub(crate) struct Flushing<'a, T: Drop, R: Reclaim<T>, W> {
     /// The words of the collector.
     pub(crate) words: &'a Words<T>,
     /// Its reclaimer.
-    pub(crate) reclaimer: R,
+    pub(crate) ender: &'a Ender<T, R>,
     /// The guard's unit.
     pub(crate) unit: &'a Activation,
     /// What was seen when its activation had begun.
@@ -193,7 +195,7 @@ pub(crate) struct Flushing<'a, T, R: Copy, W> {
 
 impl<'a, 'p, T: Drop, R: Reclaim<T>, W: Wait> LockWork<Reservation<T>, Pass<'p>, ()>
     for Flushing<'a, T, R, W> {
-    ghost may = { λ work r pass. IsReservationOf work.words.now r × IsPassFor work.words.now pass
+    ghost may = { λ work r pass. IsReservationOf work.words.now r × IsPassFor work.words.now pass × IsEnderOf work.words.now work.ender.now
         × IsUnit (words_book work.words.now) (its_number r.slot) work.unit.now work.seen.now };
 
     ghost gives = { λ work r r' pass pass' _. Defers (its_number r.slot) Flush pass pass' };
@@ -201,14 +203,14 @@ impl<'a, 'p, T: Drop, R: Reclaim<T>, W: Wait> LockWork<Reservation<T>, Pass<'p>,
     fn work(self, r: &mut Reservation<T>, pass: &mut Pass<'p>) {
         let Flushing {
             words,
-            reclaimer,
+            ender,
             unit,
             seen,
             rt,
         } = self;
         r.current(words, unit, seen, pass);
         r.slot
-            .flush(words, &mut Forwards::new(reclaimer), pass, &Beside { rt });
+            .flush(words, &mut Forwards::new(ender), pass, &Beside { rt });
     }
 }
 
@@ -229,11 +231,11 @@ impl<'p, T: Drop> LockWork<Reservation<T>, Pass<'p>, Activation> for Sparing {
 /// The slot refreshes for its only guard; beside others nothing is done. It gives the guard's unit, and what was seen when its activation
 /// had begun.
 #[derive(Drop)]
-pub(crate) struct Refreshing<'a, T, R: Copy, W> {
+pub(crate) struct Refreshing<'a, T: Drop, R: Reclaim<T>, W> {
     /// The words of the collector.
     pub(crate) words: &'a Words<T>,
     /// Its reclaimer.
-    pub(crate) reclaimer: R,
+    pub(crate) ender: &'a Ender<T, R>,
     /// The slot's head.
     pub(crate) head: &'a Head,
     /// The guard's unit.
@@ -246,18 +248,19 @@ pub(crate) struct Refreshing<'a, T, R: Copy, W> {
 
 impl<'a, 'p, T: Drop, R: Reclaim<T>, W: Wait> LockWork<Reservation<T>, Pass<'p>, (Activation, Seen)>
     for Refreshing<'a, T, R, W> {
-    ghost may = { λ work r pass. IsReservationOf work.words.now r × IsPassFor work.words.now pass
+    ghost may = { λ work r pass. IsReservationOf work.words.now r × IsPassFor work.words.now pass × IsEnderOf work.words.now work.ender.now
         × IsUnit (words_book work.words.now) (its_number r.slot) work.unit work.seen.now
         × IsHeadFor (words_book work.words.now) (its_number r.slot) work.head.now };
 
     ghost gives = { λ work r r' pass pass' result. let s = its_number r.slot in
-        (((r.guards ≡ 1) × MakesCall s Refresh pass pass') ⊎ ((1 < r.guards) × (StaysActive s pass pass' × (result.0 ≡ work.unit))))
+        let IsPut = PutBy T.row.coded.code (R.puts work.ender.now.reclaimer) in
+        (((r.guards ≡ 1) × MakesCall IsPut s Refresh pass pass') ⊎ ((1 < r.guards) × (StaysActive s pass pass' × (result.0 ≡ work.unit))))
         × IsUnit (words_book work.words.now) s result.0 result.1 };
 
     fn work(self, r: &mut Reservation<T>, pass: &mut Pass<'p>) -> (Activation, Seen) {
         let Refreshing {
             words,
-            reclaimer,
+            ender,
             head,
             unit,
             seen,
@@ -272,7 +275,7 @@ impl<'a, 'p, T: Drop, R: Reclaim<T>, W: Wait> LockWork<Reservation<T>, Pass<'p>,
             words,
             head,
             &mut r.rest,
-            &mut Forwards::new(reclaimer),
+            &mut Forwards::new(ender),
             pass,
             &Beside { rt },
         );
@@ -283,11 +286,11 @@ impl<'a, 'p, T: Drop, R: Reclaim<T>, W: Wait> LockWork<Reservation<T>, Pass<'p>,
 
 /// A guard leaves. The slot's last one leaves for it; beside others no event is made.
 #[derive(Drop)]
-pub(crate) struct Leaving<'a, T, R: Copy, W> {
+pub(crate) struct Leaving<'a, T: Drop, R: Reclaim<T>, W> {
     /// The words of the collector.
     pub(crate) words: &'a Words<T>,
     /// Its reclaimer.
-    pub(crate) reclaimer: R,
+    pub(crate) ender: &'a Ender<T, R>,
     /// The slot's head.
     pub(crate) head: &'a Head,
     /// The guard's unit.
@@ -300,18 +303,19 @@ pub(crate) struct Leaving<'a, T, R: Copy, W> {
 
 impl<'a, 'p, T: Drop, R: Reclaim<T>, W: Wait> LockWork<Reservation<T>, Pass<'p>, ()>
     for Leaving<'a, T, R, W> {
-    ghost may = { λ work r pass. IsReservationOf work.words.now r × IsPassFor work.words.now pass
+    ghost may = { λ work r pass. IsReservationOf work.words.now r × IsPassFor work.words.now pass × IsEnderOf work.words.now work.ender.now
         × IsUnit (words_book work.words.now) (its_number r.slot) work.unit work.seen
         × IsHeadFor (words_book work.words.now) (its_number r.slot) work.head.now };
 
     ghost gives = { λ work r r' pass pass' _. let s = its_number r.slot in
-        (((r.guards ≡ 1) × MakesCall s Leave pass pass') ⊎ ((1 < r.guards) × StaysActive s pass pass'))
+        let IsPut = PutBy T.row.coded.code (R.puts work.ender.now.reclaimer) in
+        (((r.guards ≡ 1) × MakesCall IsPut s Leave pass pass') ⊎ ((1 < r.guards) × StaysActive s pass pass'))
         × (r'.guards + 1 ≡ r.guards) };
 
     fn work(self, r: &mut Reservation<T>, pass: &mut Pass<'p>) {
         let Leaving {
             words,
-            reclaimer,
+            ender,
             head,
             unit,
             seen,
@@ -327,7 +331,7 @@ impl<'a, 'p, T: Drop, R: Reclaim<T>, W: Wait> LockWork<Reservation<T>, Pass<'p>,
             words,
             head,
             &mut r.rest,
-            &mut Forwards::new(reclaimer),
+            &mut Forwards::new(ender),
             pass,
             &Beside { rt },
         );

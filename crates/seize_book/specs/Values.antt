@@ -1,7 +1,8 @@
 -- The words in which the contracts of values' keys speak.
 --     values_of keys                 the values whose keys they are, in order;  book_in keys     their book
 --     AreOfBook keys pass            they are of the pass's book
---     IsEmpty keys pass, IsOfSameBook value keys     there are none, of the pass's book;  the value's key is of the same book
+--     IsEmptyIn n keys, IsEmpty keys pass     there are none, of book n, or of the pass's book
+--     IsOfSameBook value keys        the value's key is of the same book
 --     IsKeyOfOne value keys          it is the value's alone
 --     Pushes keys value keys'        the value's key comes last
 --     LeadsTo keys value, LeadsOn keys other    the last key leads on to this one, or to the first of the others
@@ -41,8 +42,11 @@ book_in keys = keys.keys.name
 abbrev pub AreOfBook : ValueKeys → Pass → Type 0
 AreOfBook values pass = book_in values ≡ pass.name
 
+abbrev pub IsEmptyIn : Name → ValueKeys → Type 0
+IsEmptyIn n keys = (book_in keys ≡ n) × (keys.keys.held ≡ [])
+
 abbrev pub IsEmpty : ValueKeys → Pass → Type 0
-IsEmpty keys pass = (book_in keys ≡ pass.name) × (keys.keys.held ≡ [])
+IsEmpty keys pass = IsEmptyIn pass.name keys
 
 abbrev pub IsOfSameBook : ValueKey → ValueKeys → Type 0
 IsOfSameBook value keys = book_of value ≡ book_in keys

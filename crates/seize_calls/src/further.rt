@@ -33,7 +33,7 @@ impl Further {
     ghost use Rattle.seize_book.specs.Lending.{IsLentKey};
     ghost use Rattle.seize_book.specs.Others.{book_of, value_of};
     ghost use Rattle.seize_book.specs.Slots.{AddsDeed, IsKeyOfBook, hands_next, slot_number, slot_of};
-    ghost use Rattle.seize_book.specs.Values.{AreNew, AreOfBook, FollowsValues, IsEmpty};
+    ghost use Rattle.seize_book.specs.Values.{AreNew, AreOfBook, FollowsValues, IsEmpty, IsEmptyIn};
     ghost use Rattle.seize_calls.specs.Batches.{IsPushed, keys_book};
     ghost use Rattle.seize_calls.specs.Furthers.{IsFirstOut, JoinsValues, further_in};
     ghost use Rattle.seize_words.specs.Chunks.{blocks_book};
@@ -46,6 +46,17 @@ impl Further {
             front: 0,
             last: 0,
             values: ValueKeys::new(pass),
+        }
+    }
+
+    /// No values, of the same book.
+    pub fn none(&mut self) -> Further
+        ensures { (self.new ≡ self.old) × IsEmptyIn (keys_book (further_in self.old)) (further_in result) }
+    {
+        Further {
+            front: 0,
+            last: 0,
+            values: self.values.none(),
         }
     }
 

@@ -4,9 +4,11 @@ ghost use Rattle.std.specs.Borrow.{sem};
 ghost use Rattle.seize_book.specs.Others.{IsVacated, book_of};
 ghost use Rattle.seize_store.specs.Named.{bare_store, bare_value};
 ghost use Rattle.seize_words.specs.Chunks.{IsBlockIn, LendsIn, LiesIn, blocks_book};
-ghost use Rattle.seize.specs.Blocks.{content, store_name};
+ghost use Rattle.seize_book.specs.Lending.{ArePermitsOf};
+ghost use Rattle.seize.specs.Blocks.{Belongs, content, store_name};
 
-use crate::codes::CodesOf;
+use crate::ender::Fit;
+use crate::reclaim::Reclaim;
 use seize_store::Bare;
 use seize_words::blocks::Blocks;
 use seize_words::book::{Permits, Seen, ValueKey};

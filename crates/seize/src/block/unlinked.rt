@@ -39,12 +39,12 @@ impl<'c, T: Drop> Unlinked<'c, T> {
         owned: Owned<T>,
         collector: &'c Collector<T, R>,
     ) -> Unlinked<'c, T>
-        requires { IsBlockOf collector.now owned }
+        requires { BelongsTo R.owners collector.now owned }
         ensures of { IsUnlinkedOf collector.now result }
         ensures content { HasContent T.row.coded.code (unlinked_name result) (content owned) }
     {
         let words = &collector.words;
-        let (number, value) = owned.lend(&words.blocks, &collector.permits);
+        let (number, value) = owned.lend(&words.blocks, &collector.ender.permits);
         let loose = Loose::new(number, value);
         Unlinked { words, loose }
     }

@@ -6,7 +6,7 @@ ghost use Rattle.seize_machine.specs.declared.machine.event.Exchange.TheVariants
 ghost use Rattle.seize_machine.specs.declared.machine.event.Job.TheVariants.{Flush, Refresh, Retire};
 ghost use Rattle.seize_table.specs.declared.refusal.Refusal.TheVariants.{NoMemory as no_memory};
 ghost use Rattle.seize.specs.Blocks.{ComesOut, IsNamed, IsSharedOf, IsUnlinkedOf, Shows, content, unlinked_name};
-ghost use Rattle.seize.specs.Collectors.{IsBlockOf, IsPassOf, its_links};
+ghost use Rattle.seize.specs.Collectors.{BelongsTo, IsBlockOf, IsPassOf, PutIn, its_links};
 ghost use Rattle.seize.specs.Exchanges.{FoundIn, MakesExchange, Protects, current_name};
 ghost use Rattle.seize.specs.Makes.{Defers, IsOfKind, MakesCall, MakesNone, MakesOne, StaysActive};
 ghost use Rattle.seize_words.specs.declared.activation.Activation.{Activation};
@@ -67,7 +67,7 @@ pub trait Guard<T: Drop> {
     /// Exchanges what a link holds for this block, or for none: the event `ExchangeLink`. It gives what the link held.
     fn swap(&self, link: usize, value: Option<Owned<T>>, pass: &mut Pass) -> Option<Unlinked<'_, T>>
         requires of { IsPassOf (guarded self.now) pass.old × (link < its_links (guarded self.now)) }
-        requires value { IfSome value (λ owned. IsBlockOf (guarded self.now) owned) }
+        requires value { IfSome value (λ owned. BelongsTo Self.Reclaimer.owners (guarded self.now) owned) }
         ensures of { IfSome result (IsUnlinkedOf (guarded self.now)) }
         ensures made { (new : Option ℕ) × (held : Option ℕ) × IsNamed T.row.coded.code value new × ComesOut held result
             × MakesOne pass.old pass.new (ExchangeLink (number self.now) link (Swap new)) (Link held) };
@@ -86,7 +86,7 @@ pub trait Guard<T: Drop> {
         pass: &mut Pass,
     ) -> Result<Option<Unlinked<'_, T>>, Failed<'_, T>>
         requires of { IsPassOf (guarded self.now) pass.old × (link < its_links (guarded self.now)) }
-        requires value { IfSome new (λ owned. IsBlockOf (guarded self.now) owned) }
+        requires value { IfSome new (λ owned. BelongsTo Self.Reclaimer.owners (guarded self.now) owned) }
         requires current { IfSome current (λ shared. IsSharedOf (guarded self.now) shared.now) }
         ensures { MakesExchange T.row.coded.code (guarded self.now) (number self.now) (activation self.now) link
             (current_name current.entry) new pass.old pass.new result };
@@ -100,7 +100,7 @@ pub trait Guard<T: Drop> {
         pass: &mut Pass,
     ) -> Result<Option<Unlinked<'_, T>>, Failed<'_, T>>
         requires of { IsPassOf (guarded self.now) pass.old × (link < its_links (guarded self.now)) }
-        requires value { IfSome new (λ owned. IsBlockOf (guarded self.now) owned) }
+        requires value { IfSome new (λ owned. BelongsTo Self.Reclaimer.owners (guarded self.now) owned) }
         requires current { IfSome current (λ shared. IsSharedOf (guarded self.now) shared.now) }
         ensures { MakesExchange T.row.coded.code (guarded self.now) (number self.now) (activation self.now) link
             (current_name current.entry) new pass.old pass.new result };
@@ -126,6 +126,6 @@ pub trait Guard<T: Drop> {
     fn refresh<W: Wait>(&mut self, rt: &W, pass: &mut Pass)
         requires of { IsPassOf (guarded self.old) pass.old }
         ensures same { (guarded self.new ≡ guarded self.old) × (number self.new ≡ number self.old) }
-        ensures refreshes { MakesCall (number self.old) Refresh pass.old pass.new
+        ensures refreshes { MakesCall (PutIn T.row.coded.code Self.Reclaimer.puts (guarded self.old)) (number self.old) Refresh pass.old pass.new
             ⊎ (StaysActive (number self.old) pass.old pass.new × (activation self.new ≡ activation self.old)) };
 }

@@ -49,7 +49,7 @@ impl<T: Drop, R: Reclaim<T>> Guard<T> for LocalGuard<'_, '_, T, R> {
 
     fn swap(&self, link: usize, value: Option<Owned<T>>, pass: &mut Pass) -> Option<Unlinked<'_, T>>
         requires of { IsPassOf (guard_collector self.now) pass.old × (link < its_links (guard_collector self.now)) }
-        requires value { IfSome value (λ owned. IsBlockOf (guard_collector self.now) owned) }
+        requires value { IfSome value (λ owned. BelongsTo R.owners (guard_collector self.now) owned) }
         ensures of { IfSome result (IsUnlinkedOf (guard_collector self.now)) }
         ensures made { (new : Option ℕ) × (held : Option ℕ) × IsNamed T.row.coded.code value new × ComesOut held result
             × MakesOne pass.old pass.new (ExchangeLink (guard_slot self.now) link (Swap new)) (Link held) }
@@ -65,7 +65,7 @@ impl<T: Drop, R: Reclaim<T>> Guard<T> for LocalGuard<'_, '_, T, R> {
         pass: &mut Pass,
     ) -> Result<Option<Unlinked<'_, T>>, Failed<'_, T>>
         requires of { IsPassOf (guard_collector self.now) pass.old × (link < its_links (guard_collector self.now)) }
-        requires value { IfSome new (λ owned. IsBlockOf (guard_collector self.now) owned) }
+        requires value { IfSome new (λ owned. BelongsTo R.owners (guard_collector self.now) owned) }
         requires current { IfSome current (λ shared. IsSharedOf (guard_collector self.now) shared.now) }
         ensures { MakesExchange T.row.coded.code (guard_collector self.now) (guard_slot self.now) (guard_activation self.now) link
             (current_name current.entry) new pass.old pass.new result }
@@ -81,7 +81,7 @@ impl<T: Drop, R: Reclaim<T>> Guard<T> for LocalGuard<'_, '_, T, R> {
         pass: &mut Pass,
     ) -> Result<Option<Unlinked<'_, T>>, Failed<'_, T>>
         requires of { IsPassOf (guard_collector self.now) pass.old × (link < its_links (guard_collector self.now)) }
-        requires value { IfSome new (λ owned. IsBlockOf (guard_collector self.now) owned) }
+        requires value { IfSome new (λ owned. BelongsTo R.owners (guard_collector self.now) owned) }
         requires current { IfSome current (λ shared. IsSharedOf (guard_collector self.now) shared.now) }
         ensures { MakesExchange T.row.coded.code (guard_collector self.now) (guard_slot self.now) (guard_activation self.now) link
             (current_name current.entry) new pass.old pass.new result }

@@ -50,7 +50,7 @@ impl<T: Drop, R: Reclaim<T>> Guard<T> for OwnedGuard<'_, T, R> {
 
     fn swap(&self, link: usize, value: Option<Owned<T>>, pass: &mut Pass) -> Option<Unlinked<'_, T>>
         requires of { IsPassOf (owned_collector self.now) pass.old × (link < its_links (owned_collector self.now)) }
-        requires value { IfSome value (λ owned. IsBlockOf (owned_collector self.now) owned) }
+        requires value { IfSome value (λ owned. BelongsTo R.owners (owned_collector self.now) owned) }
         ensures of { IfSome result (IsUnlinkedOf (owned_collector self.now)) }
         ensures made { (new : Option ℕ) × (held : Option ℕ) × IsNamed T.row.coded.code value new × ComesOut held result
             × MakesOne pass.old pass.new (ExchangeLink (owned_slot self.now) link (Swap new)) (Link held) }
@@ -66,7 +66,7 @@ impl<T: Drop, R: Reclaim<T>> Guard<T> for OwnedGuard<'_, T, R> {
         pass: &mut Pass,
     ) -> Result<Option<Unlinked<'_, T>>, Failed<'_, T>>
         requires of { IsPassOf (owned_collector self.now) pass.old × (link < its_links (owned_collector self.now)) }
-        requires value { IfSome new (λ owned. IsBlockOf (owned_collector self.now) owned) }
+        requires value { IfSome new (λ owned. BelongsTo R.owners (owned_collector self.now) owned) }
         requires current { IfSome current (λ shared. IsSharedOf (owned_collector self.now) shared.now) }
         ensures { MakesExchange T.row.coded.code (owned_collector self.now) (owned_slot self.now) (owned_activation self.now) link
             (current_name current.entry) new pass.old pass.new result }
@@ -82,7 +82,7 @@ impl<T: Drop, R: Reclaim<T>> Guard<T> for OwnedGuard<'_, T, R> {
         pass: &mut Pass,
     ) -> Result<Option<Unlinked<'_, T>>, Failed<'_, T>>
         requires of { IsPassOf (owned_collector self.now) pass.old × (link < its_links (owned_collector self.now)) }
-        requires value { IfSome new (λ owned. IsBlockOf (owned_collector self.now) owned) }
+        requires value { IfSome new (λ owned. BelongsTo R.owners (owned_collector self.now) owned) }
         requires current { IfSome current (λ shared. IsSharedOf (owned_collector self.now) shared.now) }
         ensures { MakesExchange T.row.coded.code (owned_collector self.now) (owned_slot self.now) (owned_activation self.now) link
             (current_name current.entry) new pass.old pass.new result }

@@ -3,10 +3,12 @@
 ghost use Rattle.std.specs.Prelude.{◌≡◌, length};
 ghost use Rattle.seize_book.specs.Tokens.{IsSole};
 ghost use Rattle.seize_words.specs.Joined.{words_book};
+ghost use Rattle.seize.specs.Enders.{IsEnderOf};
 ghost use Rattle.seize_calls.specs.Slots.{IsPassFor};
 ghost use Rattle.seize.specs.Numbers.{AreTakenTo, flags_of};
 ghost use Rattle.seize.specs.Sweeps.{FindsMore, FindsOff, KeepsElse, KeepsOff, KeepsOn};
 
+use crate::ender::Ender;
 use crate::numbers::Numbers;
 use crate::reclaim::Reclaim;
 use seize_words::book::Pass;
@@ -17,17 +19,18 @@ impl<T: Drop> Numbers<T> {
     pub(super) fn recover_all<R: Reclaim<T>>(
         &mut self,
         words: &Words<T>,
-        reclaimer: R,
+        ender: &Ender<T, R>,
         pass: &mut Pass,
     )
         requires taken { AreTakenTo (length self.old.slots.items) self.old × (self.old.book.name ≡ words_book words.now) }
         requires pass { IsPassFor words.now pass.old × IsSole pass.old.id }
+        requires ender { IsEnderOf words.now ender.now }
         ensures taken { AreTakenTo (length self.new.slots.items) self.new × FindsMore self.old self.new }
         ensures off { KeepsOn pass.old pass.new × KeepsOff pass.old pass.new × FindsOff self.old self.new pass.old pass.new }
         ensures others { KeepsElse (flags_of self.new.slots.items) pass.old pass.new }
     {
         for n in 0..self.shelves.len() {
-            self.recover_at(words, reclaimer, n, pass);
+            self.recover_at(words, ender, n, pass);
         }
     }
 
@@ -36,12 +39,13 @@ impl<T: Drop> Numbers<T> {
     fn recover_at<R: Reclaim<T>>(
         &mut self,
         words: &Words<T>,
-        reclaimer: R,
+        ender: &Ender<T, R>,
         n: usize,
         pass: &mut Pass,
     )
         requires taken { AreTakenTo (length self.old.slots.items) self.old × (self.old.book.name ≡ words_book words.now) }
         requires pass { IsPassFor words.now pass.old × IsSole pass.old.id }
+        requires ender { IsEnderOf words.now ender.now }
         ensures taken { AreTakenTo (length self.new.slots.items) self.new × FindsMore self.old self.new }
         ensures off { KeepsOn pass.old pass.new × KeepsOff pass.old pass.new × FindsOff self.old self.new pass.old pass.new }
         ensures others { KeepsElse (flags_of self.new.slots.items) pass.old pass.new }
@@ -50,7 +54,7 @@ impl<T: Drop> Numbers<T> {
         let Some(reservation) = reservation else {
             return;
         };
-        if let Some(slot) = reservation.into_slot(words, reclaimer, forgotten, pass) {
+        if let Some(slot) = reservation.into_slot(words, ender, forgotten, pass) {
             let mut slot = slot;
             self.key.look(pass);
             slot.look(words, pass);

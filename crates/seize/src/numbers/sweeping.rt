@@ -4,10 +4,12 @@ ghost use Rattle.std.specs.Prelude.{◌≡◌, ◌<◌, ◌+◌, is_some, length
 ghost use Rattle.std.specs.List.{list_all};
 ghost use Rattle.seize_book.specs.Tokens.{IsSole};
 ghost use Rattle.seize_words.specs.Joined.{words_book};
+ghost use Rattle.seize.specs.Enders.{IsEnderOf};
 ghost use Rattle.seize_calls.specs.Slots.{IsInactive, IsPassFor, IsSlotOf, its_number};
 ghost use Rattle.seize.specs.Numbers.{AreNumbers, AreTakenTo, IsLockFor, flags_of};
 ghost use Rattle.seize.specs.Sweeps.{AreOff, AreOffBelow, LiesHere, IsLedBy, IsOff, KeepsCleared, KeepsClearedBut, KeepsElse, KeepsOff, KeepsOn, KeepsPlaces, AreClearedBelow, LeavesNothing, Sweeps};
 
+use crate::ender::Ender;
 use crate::ends::Forwards;
 use crate::numbers::Numbers;
 use crate::reclaim::Reclaim;
@@ -20,12 +22,13 @@ use seize_words::words::Words;
 // The slot enters, attempts its batch and leaves.
 fn sweep<T: Drop, R: Reclaim<T>>(
     words: &Words<T>,
-    reclaimer: R,
+    ender: &Ender<T, R>,
     slot: &mut Slot<T>,
     pass: &mut Pass,
 )
     requires slot { IsSlotOf words.now slot.old × IsInactive slot.old }
     requires pass { IsPassFor words.now pass.old × IsSole pass.old.id }
+    requires ender { IsEnderOf words.now ender.now }
     ensures slot { IsSlotOf words.now slot.new × IsInactive slot.new × (its_number slot.new ≡ its_number slot.old) }
     ensures led { IsLedBy (its_number slot.old) pass.old pass.new }
     ensures left { AreOff pass.old → LeavesNothing pass.new (its_number slot.old) }
@@ -33,12 +36,12 @@ fn sweep<T: Drop, R: Reclaim<T>>(
     let mut activation = slot.activation();
     let head = slot.head(words, pass);
     slot.enter(words, head, &mut activation, pass);
-    slot.flush(words, &mut Forwards::new(reclaimer), pass, &Alone {});
+    slot.flush(words, &mut Forwards::new(ender), pass, &Alone {});
     slot.leave(
         words,
         head,
         &mut activation,
-        &mut Forwards::new(reclaimer),
+        &mut Forwards::new(ender),
         pass,
         &Alone {},
     );
@@ -53,19 +56,20 @@ impl<T: Drop> Numbers<T> {
     pub(crate) fn sweep<R: Reclaim<T>>(
         &mut self,
         words: &Words<T>,
-        reclaimer: R,
+        ender: &Ender<T, R>,
         pass: &mut Pass,
     ) -> bool
         requires numbers { AreNumbers self.old × (self.old.book.name ≡ words_book words.now) }
         requires pass { IsPassFor words.now pass.old × IsSole pass.old.id }
+        requires ender { IsEnderOf words.now ender.now }
         ensures numbers { AreNumbers self.new × (self.new.book ≡ self.old.book) }
         ensures sweeps { Sweeps pass.old pass.new result }
     {
         self.key.look(pass);
         self.take_all(words, pass);
-        self.recover_all(words, reclaimer, pass);
+        self.recover_all(words, ender, pass);
         self.key.look(pass);
-        self.sweep_all(words, reclaimer, pass);
+        self.sweep_all(words, ender, pass);
         self.give_all(words, pass);
         self.key.look(pass);
         self.all_here()
@@ -109,24 +113,32 @@ impl<T: Drop> Numbers<T> {
     }
 
     // Each slot that lies here enters, attempts its batch and leaves.
-    fn sweep_all<R: Reclaim<T>>(&mut self, words: &Words<T>, reclaimer: R, pass: &mut Pass)
+    fn sweep_all<R: Reclaim<T>>(&mut self, words: &Words<T>, ender: &Ender<T, R>, pass: &mut Pass)
         requires taken { AreTakenTo (length self.old.slots.items) self.old × (self.old.book.name ≡ words_book words.now) }
         requires pass { IsPassFor words.now pass.old × IsSole pass.old.id }
+        requires ender { IsEnderOf words.now ender.now }
         ensures taken { AreTakenTo (length self.new.slots.items) self.new × KeepsPlaces self.old self.new }
         ensures left { KeepsOn pass.old pass.new
             × (AreOff pass.old → AreClearedBelow (length self.new.slots.items) (flags_of self.new.slots.items) pass.new) }
         ensures others { KeepsElse (flags_of self.new.slots.items) pass.old pass.new }
     {
         for n in 0..self.slots.len() {
-            self.sweep_at(words, reclaimer, n, pass);
+            self.sweep_at(words, ender, n, pass);
         }
     }
 
     // So does the slot in this place, if there is one.
-    fn sweep_at<R: Reclaim<T>>(&mut self, words: &Words<T>, reclaimer: R, n: usize, pass: &mut Pass)
+    fn sweep_at<R: Reclaim<T>>(
+        &mut self,
+        words: &Words<T>,
+        ender: &Ender<T, R>,
+        n: usize,
+        pass: &mut Pass,
+    )
         requires taken { AreTakenTo (length self.old.slots.items) self.old × (self.old.book.name ≡ words_book words.now)
             × (n < length self.old.slots.items) }
         requires pass { IsPassFor words.now pass.old × IsSole pass.old.id }
+        requires ender { IsEnderOf words.now ender.now }
         ensures taken { AreTakenTo (length self.new.slots.items) self.new × KeepsPlaces self.old self.new }
         ensures kept { KeepsOn pass.old pass.new × KeepsClearedBut n pass.old pass.new }
         ensures left { AreOff pass.old → AreOff pass.new × (LiesHere (flags_of self.new.slots.items) n → LeavesNothing pass.new n) }
@@ -134,7 +146,7 @@ impl<T: Drop> Numbers<T> {
     {
         if let Some(slot) = self.slots[n].take() {
             let mut slot = slot;
-            sweep(words, reclaimer, &mut slot, pass);
+            sweep(words, ender, &mut slot, pass);
             self.slots[n] = Some(slot);
         }
     }
@@ -171,20 +183,21 @@ impl<T: Drop> Numbers<T> {
 
 /// All slots that nobody has are swept: the work of a caller who has the collector alone.
 #[derive(Drop)]
-pub(crate) struct Sweeping<'a, T, R: Copy> {
+pub(crate) struct Sweeping<'a, T: Drop, R: Reclaim<T>> {
     /// The words of the collector.
     pub(crate) words: &'a Words<T>,
     /// Its reclaimer.
-    pub(crate) reclaimer: R,
+    pub(crate) ender: &'a Ender<T, R>,
 }
 
 impl<'a, 'p, T: Drop, R: Reclaim<T>> LockWork<Numbers<T>, Pass<'p>, bool> for Sweeping<'a, T, R> {
-    ghost may = { λ work numbers pass. IsLockFor work.words.now numbers × IsPassFor work.words.now pass × IsSole pass.id };
+    ghost may = { λ work numbers pass. IsLockFor work.words.now numbers × IsPassFor work.words.now pass × IsSole pass.id
+        × IsEnderOf work.words.now work.ender.now };
 
     ghost gives = { λ work numbers numbers' pass pass' result. Sweeps pass pass' result };
 
     fn work(self, numbers: &mut Numbers<T>, pass: &mut Pass<'p>) -> bool {
         numbers.book.agree(&self.words.blocks.book);
-        numbers.sweep(self.words, self.reclaimer, pass)
+        numbers.sweep(self.words, self.ender, pass)
     }
 }

@@ -20,7 +20,7 @@ pub struct ValueKeys {
 
 impl ValueKeys {
     ghost use Rattle.seize_book.specs.Lending.{IsPermitOf};
-    ghost use Rattle.seize_book.specs.Values.{AreStill, IsEmpty, LeadsOn, LeadsTo, Appends, IsKeyOfOne, IsOfSameBook, LieApart, Nexts, Pops, Pushes, book_in, values_of};
+    ghost use Rattle.seize_book.specs.Values.{AreStill, IsEmpty, IsEmptyIn, LeadsOn, LeadsTo, Appends, IsKeyOfOne, IsOfSameBook, LieApart, Nexts, Pops, Pushes, book_in, values_of};
 
     /// No keys, of the pass's book.
     pub fn new(pass: &mut Pass) -> ValueKeys
@@ -28,6 +28,15 @@ impl ValueKeys {
     {
         ValueKeys {
             keys: Keys::empty(pass),
+        }
+    }
+
+    /// No keys, of the same book.
+    pub fn none(&mut self) -> ValueKeys
+        ensures { (self.new ≡ self.old) × IsEmptyIn (book_in self.old) result }
+    {
+        ValueKeys {
+            keys: self.keys.none(),
         }
     }
 
