@@ -6,6 +6,7 @@ ghost use base.Fml.{ftrue};
 use seize_calls::further::Further;
 use seize_calls::handing::Reclaim;
 use seize_words::blocks::Blocks;
+use seize_words::book::Permit;
 use std::marker::{Model, PhantomData};
 use std::sync::atomic::{AtomicU64, Ordering};
 
@@ -122,7 +123,14 @@ impl Reclaim<u64> for Counting<'_> {
 
     ghost serves = { λ _ _. Unit {0} };
 
-    fn reclaim(&mut self, kept: u64, value: u64, further: &mut Further, _blocks: &Blocks<u64>) {
+    fn reclaim(
+        &mut self,
+        kept: u64,
+        value: u64,
+        _permit: Permit,
+        further: &mut Further,
+        _blocks: &Blocks<u64>,
+    ) {
         self.count(kept, value, further);
     }
 }

@@ -1,12 +1,14 @@
-//! A hall is where visitors meet: the words of one book, and the porter that lends its passes. They share it by `&`.
+//! A hall is where visitors meet: the words of one book, the porter that lends its passes, and its list of permits. They share it by `&`.
 ghost use Rattle.std.specs.Prelude.{◌≡◌, IfOk};
+ghost use Rattle.seize_book.specs.Lending.{ArePermitsOf};
+ghost use Rattle.seize_words.specs.Joined.{words_book};
 ghost use Rattle.seize_calls.specs.Slots.{its_number};
 ghost use Rattle.seize_calls_rows.specs.Visitors.{CanMake, HasLinks, HasOneMore, IsIn, IsVisitorOf, LendsFor, made_by};
 
 use crate::visitor::Visitor;
 use seize_calls::slot::Slot;
 use seize_table::Refusal;
-use seize_words::book::{NumbersKey, Porter};
+use seize_words::book::{Condition, NumbersKey, Permits, Porter};
 use seize_words::slots::NextSlot;
 use seize_words::words::Words;
 use std::alloc::Global;
@@ -14,13 +16,22 @@ use std::alloc::Global;
 /// How many links the book has.
 pub const ROW: usize = 1024;
 
-/// The words of a book, and the porter, which lends passes.
+/// Any code may be lent.
+pub struct AnyCode {}
+
+impl Condition for AnyCode {
+    ghost holds = { λ _ _. Unit {0} };
+}
+
+/// The words of a book, the porter, which lends passes, and the list of the codes that may be lent.
 #[derive(Drop)]
 pub struct Hall {
     pub words: Words<u64>,
     pub porter: Porter,
+    pub permits: Permits<AnyCode>,
     ghost links: { HasLinks words },
     ghost lends: { LendsFor words porter },
+    ghost listed: { ArePermitsOf (words_book words) permits },
 }
 
 /// What the slots of a book are made with, and how many there are.
@@ -36,7 +47,7 @@ pub struct Source {
 pub fn open(alloc: Global, size: usize) -> Result<(Hall, Source), Refusal>
     ensures { IfOk result (λ opened. CanMake opened.0.words opened.1 × (made_by opened.1 ≡ 0)) }
 {
-    let (words, mut porter, numbers, next) = Words::new(alloc, 0, ROW, size)?;
+    let (words, permits, mut porter, numbers, next) = Words::new(alloc, 0, ROW, size)?;
     porter.leave_home();
     let source = Source {
         numbers,
@@ -44,7 +55,12 @@ pub fn open(alloc: Global, size: usize) -> Result<(Hall, Source), Refusal>
         made: 0,
         alloc,
     };
-    Ok((Hall { words, porter }, source))
+    let hall = Hall {
+        words,
+        porter,
+        permits,
+    };
+    Ok((hall, source))
 }
 
 impl Source {

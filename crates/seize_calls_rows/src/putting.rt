@@ -12,7 +12,7 @@ use seize_calls::handing::Reclaim;
 use seize_calls::slot::Loose;
 use seize_table::Refusal;
 use seize_words::blocks::Blocks;
-use seize_words::book::ValueKey;
+use seize_words::book::{Permit, ValueKey};
 use std::alloc::{AllocError, Global};
 use std::sync::atomic::AtomicU64;
 
@@ -35,7 +35,8 @@ impl Fresh {
         let made = hall.words.blocks.add(value, &mut hall.porter.pass());
         let (mut value, block) = made.map_err(|(refusal, _)| refusal)?;
         let number = block.number() as u64;
-        hall.words.blocks.lend(&mut value, block);
+        let permit = hall.permits.permit(&*block);
+        hall.words.blocks.lend(&mut value, block, permit);
         Ok(Fresh { number, value })
     }
 
@@ -120,7 +121,14 @@ impl Reclaim<u64> for Putting<'_> {
 
     ghost serves = { λ putting n. AreReady n (ready_in putting) };
 
-    fn reclaim(&mut self, kept: u64, value: u64, further: &mut Further, blocks: &Blocks<u64>) {
+    fn reclaim(
+        &mut self,
+        kept: u64,
+        value: u64,
+        _permit: Permit,
+        further: &mut Further,
+        blocks: &Blocks<u64>,
+    ) {
         self.put_next(kept, further, blocks);
         if self.twice {
             self.put_next(kept, further, blocks);

@@ -3,6 +3,7 @@
 ghost use Rattle.std.specs.Prelude.{◌≡◌, IfSome, false, true};
 ghost use Rattle.seize_words_rows.specs.Homing.{IsAtHome, IsSameList};
 
+use crate::lending::AnyCode;
 use seize_words::book::{Pass, Porter, Stay};
 use seize_words::words::Words;
 use std::alloc::Global;
@@ -12,8 +13,8 @@ use std::mem;
 pub fn begin(alloc: Global) -> Option<Porter>
     ensures home { IfSome result (λ porter. IsAtHome porter) }
 {
-    match Words::<u64>::new(alloc, 0, 1, 32) {
-        Ok((_, porter, _, _)) => Some(porter),
+    match Words::<u64>::new::<AnyCode>(alloc, 0, 1, 32) {
+        Ok((_, _, porter, _, _)) => Some(porter),
         Err(_) => None,
     }
 }

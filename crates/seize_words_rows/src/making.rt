@@ -1,9 +1,12 @@
 //! Slots that are made over all words of one book, and walks of their heads meanwhile.
 ghost use Rattle.std.specs.Prelude.{◌≡◌, ◌+◌, ◌<◌, IfSome};
+ghost use Rattle.seize_book.specs.Lending.{ArePermitsOf};
 ghost use Rattle.seize_table.specs.Place.{all_numbers};
+ghost use Rattle.seize_words.specs.Joined.{words_book};
 ghost use Rattle.seize_words_rows.specs.Making.{CanMake, HasOneMore, IsPorterOf, made_by};
 
-use seize_words::book::{NumbersKey, Porter};
+use crate::lending::AnyCode;
+use seize_words::book::{NumbersKey, Permits, Porter};
 use seize_words::slots::NextSlot;
 use seize_words::words::Words;
 use std::alloc::Global;
@@ -21,13 +24,14 @@ pub struct Source {
     pub made: usize,
 }
 
-/// The words of a new book with one link, its porter, which lends passes, and what its slots are made with. Nothing comes where memory was
-/// refused.
-pub fn open(alloc: Global) -> Option<(Words<u64>, Porter, Source)>
+/// The words of a new book with one link, its porter, which lends passes, what its slots are made with, and its list of permits. Nothing
+/// comes where memory was refused.
+pub fn open(alloc: Global) -> Option<(Words<u64>, Porter, Source, Permits<AnyCode>)>
     ensures can { IfSome result (λ opened. CanMake opened.2 opened.0 × (made_by opened.2 ≡ 0)) }
     ensures porter { IfSome result (λ opened. IsPorterOf opened.0 opened.1) }
+    ensures permits { IfSome result (λ opened. ArePermitsOf (words_book opened.0) opened.3) }
 {
-    let Ok((words, mut porter, numbers, next)) = Words::new(alloc, 0, 1, 32) else {
+    let Ok((words, permits, mut porter, numbers, next)) = Words::new(alloc, 0, 1, 32) else {
         return None;
     };
     porter.leave_home();
@@ -36,7 +40,7 @@ pub fn open(alloc: Global) -> Option<(Words<u64>, Porter, Source)>
         next,
         made: 0,
     };
-    Some((words, porter, source))
+    Some((words, porter, source, permits))
 }
 
 impl Source {

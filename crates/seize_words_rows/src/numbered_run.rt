@@ -8,6 +8,7 @@
 //! found. No contract fixes the block's number: it is the one that the store gave.
 ghost use Rattle.std.specs.Prelude.{◌≡◌, ◌+◌, ◌-◌, ◌^◌, IfSome, Some, false, true};
 ghost use Rattle.seize_book.specs.Chains.{first_field, next_field};
+ghost use Rattle.seize_book.specs.Lending.{ArePermitsOf};
 ghost use Rattle.seize_book.specs.Slots.{IsKeyOfBook, written_of};
 ghost use Rattle.seize_words.specs.Headers.{IsFieldOfBook, Stores, field_number};
 ghost use Rattle.seize_words.specs.Joined.{words_book};
@@ -19,9 +20,9 @@ ghost use Rattle.seize_words_rows.specs.NumberedRuns.{IsAtStages, UsesBoth};
 ghost use Rattle.seize_words_rows.specs.Runs.{entered, inserted, left, looked, marked, one_made, opened, put, reader_over, two_made};
 ghost use Rattle.seize_words_rows.specs.Stages.{Knows, Leads, Sees};
 
-use crate::lending::{Lent, lend};
+use crate::lending::{AnyCode, Lent, lend};
 use seize_words::activation::Activation;
-use seize_words::book::{NumbersKey, Pass, SlotKey, ValueKeys};
+use seize_words::book::{NumbersKey, Pass, Permits, SlotKey, ValueKeys};
 use seize_words::header::Field;
 use seize_words::note::Note;
 use seize_words::slots::NextSlot;
@@ -35,18 +36,29 @@ pub struct Retired {
     pub values: ValueKeys,
 }
 
-/// The words of a new book with one link, and two slots. It gives the key of the slot that reads, that of the one that retires, and the one
-/// pass. Nothing comes where memory was refused.
-pub fn begin(alloc: Global) -> Option<(Words<u64>, SlotKey, SlotKey, Pass<'static>)>
+/// The words of a new book with one link, and two slots. It gives the key of the slot that reads, that of the one that retires, the one
+/// pass, and the list of permits. Nothing comes where memory was refused.
+pub fn begin(
+    alloc: Global,
+) -> Option<
+    (
+        Words<u64>,
+        SlotKey,
+        SlotKey,
+        Pass<'static>,
+        Permits<AnyCode>,
+    ),
+>
     ensures reader { IfSome result (λ begun. Knows (words_book begun.0) begun.1 0 one_made) }
     ensures retirer { IfSome result (λ begun. Leads (words_book begun.0) begun.3 begun.2 1 two_made) }
+    ensures permits { IfSome result (λ begun. ArePermitsOf (words_book begun.0) begun.4) }
 {
-    let Ok((words, porter, numbers, next)) = Words::new(alloc, 0, 1, 1) else {
+    let Ok((words, permits, porter, numbers, next)) = Words::new(alloc, 0, 1, 1) else {
         return None;
     };
     let mut pass = porter.shut();
     let (reader, retirer) = make_slots(&words, numbers, next, &mut pass)?;
-    Some((words, reader, retirer, pass))
+    Some((words, reader, retirer, pass, permits))
 }
 
 // Makes the slot that reads, and the one that retires.
@@ -85,10 +97,12 @@ pub fn enter(words: &Words<u64>, activation: &mut Activation, reader: &mut SlotK
 /// heads. Nothing comes where a growth of the store was refused.
 pub fn retire(
     words: &Words<u64>,
+    permits: &Permits<AnyCode>,
     value: u64,
     retirer: &mut SlotKey,
     pass: &mut Pass,
 ) -> Option<Retired>
+    requires permits { ArePermitsOf (words_book words.now) permits.now }
     requires sees { Sees (words_book words.now) pass.old entered × Knows (words_book words.now) retirer.old 1 two_made }
     ensures value { IfSome result (λ retired. retired.lent.value ≡ value) }
     ensures stands { IfSome result (λ retired. IsAtStages words.now retired pass.new put retirer.new 1 put) }
@@ -96,7 +110,7 @@ pub fn retire(
     let Ok((mut key, block)) = words.blocks.add(value, pass) else {
         return None;
     };
-    let lent = lend(&words.blocks, &mut key, block);
+    let lent = lend(&words.blocks, permits, &mut key, block);
     retirer.begin_retire(&mut key, 0, pass);
     retirer.put(pass);
     let last = Note {

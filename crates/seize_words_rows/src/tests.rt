@@ -78,7 +78,7 @@ fn a_header_has_three_words_and_a_note(rt: HostRuntime) {
 // A block whose value was never named is noted while it is lent.
 #[test]
 fn a_block_that_is_lent_is_noted(rt: HostRuntime) {
-    let Some((words, porter, _)) = open(rt.alloc()) else {
+    let Some((words, porter, _, permits)) = open(rt.alloc()) else {
         panic!(rt; "no memory");
     };
     let mut pass = porter.pass();
@@ -87,7 +87,7 @@ fn a_block_that_is_lent_is_noted(rt: HostRuntime) {
         slot: 6,
         kept: 7,
     };
-    let had = lend_and_note(&words.blocks, 70, note, &mut pass);
+    let had = lend_and_note(&words.blocks, &permits, 70, note, &mut pass);
     assert_eq!(rt; had, Some((70, note)));
 }
 
@@ -95,12 +95,14 @@ fn a_block_that_is_lent_is_noted(rt: HostRuntime) {
 // with that; the other slot's one insertion brings it up to 0, and gives it up.
 #[test]
 fn a_batch_is_counted_by_the_number_of_its_block(rt: HostRuntime) {
-    let Some((words, mut reader, mut retirer, mut pass)) = numbered_run::begin(rt.alloc()) else {
+    let Some((words, mut reader, mut retirer, mut pass, permits)) = numbered_run::begin(rt.alloc())
+    else {
         panic!(rt; "no memory");
     };
     let mut activation = Activation::new(&reader);
     numbered_run::enter(&words, &mut activation, &mut reader, &mut pass);
-    let Some(mut retired) = numbered_run::retire(&words, 70, &mut retirer, &mut pass) else {
+    let Some(mut retired) = numbered_run::retire(&words, &permits, 70, &mut retirer, &mut pass)
+    else {
         panic!(rt; "no memory");
     };
     let marked = numbered_run::mark(&words, &retired, &mut retirer, &mut pass);
@@ -119,7 +121,7 @@ fn a_batch_is_counted_by_the_number_of_its_block(rt: HostRuntime) {
 // that there are, first when there is none: each walk finds as many as the word says.
 #[test]
 fn heads_are_found_while_slots_are_made(rt: HostRuntime) {
-    let Some((words, porter, source)) = open(rt.alloc()) else {
+    let Some((words, porter, source, _)) = open(rt.alloc()) else {
         panic!(rt; "no memory");
     };
     let sign = AtomicU64::new(0);

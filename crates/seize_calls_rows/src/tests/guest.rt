@@ -2,6 +2,7 @@
 use super::marks;
 use crate::counting::Counting;
 use crate::guest::Guest;
+use crate::hall::AnyCode;
 use seize_calls::apart::Apart;
 use seize_calls::further::Further;
 use seize_words::words::Words;
@@ -14,7 +15,8 @@ fn a_number_goes_back_and_is_taken_again(rt: HostRuntime) {
     let Ok(marks) = marks(rt.alloc(), 1) else {
         panic!(rt; "no memory");
     };
-    let Ok((words, mut porter, numbers, next)) = Words::new(rt.alloc(), 0, 1, 1) else {
+    let Ok((words, _, mut porter, numbers, next)) = Words::new::<AnyCode>(rt.alloc(), 0, 1, 1)
+    else {
         panic!(rt; "no memory");
     };
     porter.leave_home();

@@ -4,7 +4,7 @@ use Rattle.seize_store.specs.Named.{bare_number}
 use Rattle.seize_store.specs.Titled.{title_label}
 use Rattle.seize_store.specs.declared.row_token.Title.{Title}
 use Rattle.seize_book.specs.Bare.{bare_cell, bare_home}
-use Rattle.seize_book.specs.Tokens.{Name, chunk_label}
+use Rattle.seize_book.specs.Tokens.{chunk_label}
 use Rattle.seize.proofs.Chunks.{label_family}
 use Rattle.seize.proofs.block.owned.Owned.open.Goals as goal
 
