@@ -11,13 +11,13 @@ pub mod Wholly
 pub mod Current
 pub mod Readable
 mod Numbered
-mod Ended
+mod Lighter
+mod Given
 mod Chunks
 pub mod Protected
 pub mod Stands
 pub mod Retired
 pub mod Facts
-mod Endings
 mod OfKind
 mod Swept
 mod Bare

@@ -6,6 +6,7 @@ pub mod Furthers
 pub mod Guards
 pub mod Laws
 pub mod Lends
+pub mod Lighter
 pub mod Loose
 pub mod Makes
 pub mod Names

@@ -1,7 +1,8 @@
 //! The reclaimer of a slot's calls: it gives each value to that of the collector, with what that may put.
-ghost use Rattle.std.specs.Prelude.{[], ℕ, ◌×◌};
+ghost use Rattle.std.specs.Prelude.{[], ℕ};
 ghost use Rattle.seize_calls.specs.Handing.{Had, had_coded};
 ghost use Rattle.seize.specs.Enders.{IsEnderIn, PutAs, Weighs};
+ghost use Rattle.seize.specs.Lighter.{weighs_once};
 ghost use base.Fml.{ftrue};
 ghost use base.Stored.{Gv};
 ghost use denote.Struct.Codes.{itself};
@@ -108,6 +109,8 @@ impl<T: Drop, R: Reclaim<T>> handing::Reclaim<T> for Forwards<'_, T, R> {
 /// What a reclaimer of the collector puts weighs less than the value.
 impl<T: Drop, R: Reclaim<T>> Lightens<T> for Forwards<'_, T, R> {
     ghost weighs = { Weighs T.row.coded.code R.weight };
+
+    ghost once = { weighs_once T.row.coded R.weight };
 
     fn weigh(&self, permit: Permit, _blocks: &Blocks<T>) {
         self.ender.permits.check(permit);

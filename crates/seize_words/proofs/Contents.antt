@@ -12,7 +12,7 @@ kinds a b c d e = sym (left_pair a b) ∙ (ap left_of e ∙ left_pair c d)
 parts : (a b c d : ℕ) → pair a b ≡ pair c d → b ≡ d
 parts a b c d e = sym (right_pair a b) ∙ (ap right_of e ∙ right_pair c d)
 
-same_code : (g h : Gv) → code_number g ≡ code_number h → g ≡ h
+pub same_code : (g h : Gv) → code_number g ≡ code_number h → g ≡ h
 same_code gnil gnil e = refl
 same_code (gnum n) (gnum m) e = ap gnum (parts 1 n 1 m e)
 same_code (gcons a b) (gcons c d) e =

@@ -41,7 +41,7 @@ pub use Rattle.seize_book.proofs.Facts.{word_zero}
 -- what a call knows that has still to insert its batch
 pub use Rattle.seize_words.proofs.Inserts.{detached_named, looked_named, own_reached}
 -- what a sight shows by a value's name is what was lent with the value
-pub use Rattle.seize_words.proofs.Contents.{is_lent, same_content}
+pub use Rattle.seize_words.proofs.Contents.{is_lent, same_code, same_content}
 -- what is known of a value that a slot's call is about to hand, and when it was handed: what was lent with it comes back in between, and then
 -- the key may be settled
 pub use Rattle.seize_book.proofs.Facts.{hands_gone, hands_soon, settles_after, soon_named}

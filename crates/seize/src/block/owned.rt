@@ -54,9 +54,13 @@ impl<T: Drop> Owned<T> {
     }
 
     // Its value is lent from then on, and may go into a link. It gives the block's number, and the key of the value.
-    pub(crate) fn lend(self, blocks: &Blocks<T>, permits: &Permits<CodesOf<T>>) -> (u64, ValueKey)
-        requires store { store_name self ≡ (blocks_book blocks.now).store }
-        requires permits { permits.now.list ≡ (blocks_book blocks.now).permits }
+    pub(crate) fn lend<R: Reclaim<T>>(
+        self,
+        blocks: &Blocks<T>,
+        permits: &Permits<Fit<T, R>>,
+    ) -> (u64, ValueKey)
+        requires belongs { Belongs R.owners (blocks_book blocks.now).store self }
+        requires permits { ArePermitsOf (blocks_book blocks.now) permits.now }
         ensures lent { LendsIn blocks.now result.1 result.0 (T.row.coded.code (content self)) }
     {
         let (mut key, block) = self.open(blocks);

@@ -27,7 +27,9 @@ impl<T: Drop, R: Reclaim<T>> Guard<T> for LocalGuard<'_, '_, T, R> {
 
     ghost activation = { λ guard. guard_activation guard };
 
-    fn collector(&self) -> &Collector<T, R> {
+    fn collector(&self) -> &Collector<T, R>
+        ensures { result.now ≡ guard_collector self.now }
+    {
         LocalGuard::collector(self)
     }
 

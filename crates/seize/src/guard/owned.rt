@@ -28,7 +28,9 @@ impl<T: Drop, R: Reclaim<T>> Guard<T> for OwnedGuard<'_, T, R> {
 
     ghost activation = { λ guard. owned_activation guard };
 
-    fn collector(&self) -> &Collector<T, R> {
+    fn collector(&self) -> &Collector<T, R>
+        ensures { result.now ≡ owned_collector self.now }
+    {
         OwnedGuard::collector(self)
     }
 

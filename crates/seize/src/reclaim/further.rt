@@ -16,6 +16,7 @@ use seize_words::blocks::Blocks;
 use seize_words::book::Permits;
 
 /// The blocks that a reclaimer puts with one value. The call in which it runs retires them when it has nothing else to do, the first first.
+#[derive(Drop)]
 pub struct Further<'a, T: Drop, R: Reclaim<T>> {
     pub(crate) chain: chain::Further,
     blocks: &'a Blocks<T>,

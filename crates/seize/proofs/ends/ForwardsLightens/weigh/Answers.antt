@@ -1,0 +1,10 @@
+use Rattle.std.proofs.Common.{sym, ◌∙◌}
+use Rattle.seize.specs.Blocks.{HoldsOnly}
+use Rattle.seize.proofs.Lighter.{all_weighed}
+use Rattle.seize.proofs.ends.ForwardsLightens.weigh.Goals as goal
+
+pub check-requires : goal.check-requires
+check-requires g c = c.requires.1 ∙ sym c.requires.0.0.0
+
+pub returns : goal.returns
+returns g c = all_weighed g.row.T.coded.code g.R.Reclaim.weight (g.R.Reclaim.puts c.args.self.now.ender.now.reclaimer) (g.met.R.Reclaim.lighter c.args.self.now.ender.now.reclaimer) _ c.args.permit.codes c.check.ensures
