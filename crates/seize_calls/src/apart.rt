@@ -1,6 +1,7 @@
 //! A reclaimer that keeps apart what is put, so that the call which hands a value retires none of it. What it kept can be taken back from
 //! its chain afterwards, the first first, since it was never named.
 ghost use Rattle.std.specs.Prelude.{◌≡◌};
+ghost use Rattle.std.proofs.Common.{sym, ◌∙◌};
 ghost use Rattle.seize_book.specs.Tokens.{Name};
 ghost use Rattle.seize_calls.specs.Aparts.{without_puts};
 ghost use Rattle.seize_calls.specs.Furthers.{further_in};
@@ -41,7 +42,11 @@ impl<T: Drop, R: Reclaim<T>> Reclaim<T> for Apart<R> {
 }
 
 impl<T: Drop, R: Reclaim<T>> Lightens<T> for Apart<R> {
-    ghost weight = { λ _. 0 };
+    ghost weighs = { λ _ n. n ≡ 0 };
+
+    fn weigh(&self, _permit: Permit, _blocks: &Blocks<T>) {}
 
     fn lightens(&self) {}
+
+    ghost once = { λ l m n a b. a ∙ sym b };
 }

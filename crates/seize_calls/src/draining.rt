@@ -11,26 +11,36 @@ ghost use Rattle.seize_words.specs.Reserved.{slots_book};
 use crate::batch::Batch;
 use crate::further::Further;
 use crate::handing::Reclaim;
+use crate::limit::Limit;
 use crate::manner::{Alone, Beside, Manner};
 use crate::settling::put;
 use seize_store::Spots;
 use seize_words::blocks::Blocks;
-use seize_words::book::{Pass, SlotKey};
+use seize_words::book::{Pass, Permit, SlotKey};
 use seize_words::chunk::{Header, Part};
 use seize_words::slots::Slots;
+use std::marker::Brand;
 use std::sync::Wait;
 
 /// A reclaimer that puts less than it was given, by some weight. Where only such ones are called, a queue comes to its end.
 pub trait Lightens<T>: Reclaim<T> {
-    ghost use Rattle.seize_calls.specs.Weights.{AreLight};
     ghost use Rattle.std.specs.Prelude.{ℕ};
+    ghost use Rattle.seize_calls.specs.Weights.{AreLight, AreWeighed};
 
-    /// What a value weighs, by the number that stands for what is lent with it.
-    ghost weight: { ℕ → ℕ };
+    /// What this number stands for, which is lent with a value, weighs so much.
+    ghost weighs: { ℕ → ℕ → Type 0 };
+
+    /// Each of these codes weighs something. Nothing runs here.
+    fn weigh(&self, permit: Permit, blocks: &Blocks<T>)
+        requires { Self.serves self.now (blocks_book blocks.now) × (permit.list ≡ (blocks_book blocks.now).permits) }
+        ensures { AreWeighed weighs permit.codes };
 
     /// With each value that it had, it put values that weigh less than that one, together. Nothing runs here.
     fn lightens(&self)
-        ensures { AreLight weight (Self.had self.now) };
+        ensures { AreLight weighs (Self.had self.now) };
+
+    /// A number stands for one weight at most.
+    ghost once: { (l m n : ℕ) → weighs l m → weighs l n → m ≡ n };
 }
 
 /// A manner in which a call's queue can be drained where its reclaimer is such a one.
@@ -94,7 +104,7 @@ impl<T: Drop, R: Reclaim<T>, W: Wait> Drainer<T, R> for Beside<'_, W> {
     }
 }
 
-/// It ends: what is in the queue and in the batch weighs less with each round.
+/// It ends: each round leaves fewer values that may still go through the queue.
 impl<T: Drop, R: Lightens<T>> Drainer<T, R> for Alone {
     #[cold]
     #[inline(never)]
@@ -110,6 +120,9 @@ impl<T: Drop, R: Lightens<T>> Drainer<T, R> for Alone {
         reclaimer: &mut R,
         pass: &mut Pass,
     ) {
+        reclaimer.weigh(batch.values.permit(), blocks);
+        reclaimer.weigh(queue.values.permit(), blocks);
+        let _limit = Limit::of::<Brand>(batch, queue);
         while queue.front != 0 {
             let (value, number, kept) = queue.next(blocks);
             put(

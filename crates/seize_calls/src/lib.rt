@@ -3,8 +3,9 @@
 //!
 //! `batch` is what a slot's holder keeps of its batch, and `round` goes through it, from block to block. `marking` and `inserting` are the
 //! two halves of an attempt, which `attempt` joins. `handing` gives values to reclaimers, `further` is what these put, and `apart` keeps
-//! that from the call. `settling` and `draining` are what a call does with its batch and with its queue. `manner` is how a call is made,
-//! beside others or by a pass that is alone. `slot` has all that belongs to a slot in one value, with its calls.
+//! that from the call. `settling` and `draining` are what a call does with its batch and with its queue, and `limit` is how many values may
+//! come to a queue. `manner` is how a call is made, beside others or by a pass that is alone. `slot` has all that belongs to a slot in one
+//! value, with its calls.
 #![tactic(auto)]
 
 pub mod apart;
@@ -16,6 +17,7 @@ pub mod draining;
 pub mod further;
 pub mod handing;
 pub mod inserting;
+mod limit;
 pub mod manner;
 pub mod marking;
 pub mod round;
