@@ -11,7 +11,7 @@
 --     IsSlotFor c slot      it is a slot of the collector, in use
 --     IsRefusalFor processors id refusal     a new collector for so many processors, by a source of which this id is the next, may be
 --                       refused so
-use Rattle.std.specs.Prelude.{◌≡◌, ◌⊎◌, ℕ, ◌≤◌, ◌<◌, ◌^◌, List, [], None, length, replicate}
+use Rattle.std.specs.Prelude.{◌≡◌, ◌⊎◌, ℕ, box_value, ◌≤◌, ◌<◌, ◌^◌, List, [], None, length, replicate}
 use base.Stored.{Gv}
 use Rattle.seize_table.specs.declared.refusal.Refusal.{Refusal}
 use Rattle.seize_table.specs.declared.refusal.Refusal.TheVariants.{NoMemory, NoNumbers, TooManyProcessors}
@@ -60,7 +60,7 @@ abbrev pub BelongsTo : {T R : Type 0} → (T → List (List ℕ)) → Collector 
 BelongsTo owners collector owned = Belongs owners (its_store collector) owned
 
 abbrev pub its_reclaimer : {T R : Type 0} → Collector T R → R
-its_reclaimer collector = collector.ender.reclaimer
+its_reclaimer collector = (box_value collector.ender).reclaimer
 
 abbrev pub PutIn : {T R : Type 0} → (T → Gv) → (R → ℕ → T → List T) → Collector T R → List ℕ → Type 0
 PutIn code puts collector vs = PutBy code (puts (its_reclaimer collector)) vs

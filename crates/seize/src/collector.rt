@@ -1,5 +1,5 @@
 //! The collector: who makes one, what it is asked, and how a thread gets a slot and a pass of it.
-ghost use Rattle.std.specs.Prelude.{◌≡◌, false};
+ghost use Rattle.std.specs.Prelude.{◌≡◌, box_value, false};
 ghost use Rattle.seize_words.specs.Joined.{words_book};
 ghost use Rattle.seize.specs.Enders.{IsEnderOf};
 
@@ -50,7 +50,7 @@ pub struct Collector<T: Drop, R: Reclaim<T> = Boxed> {
     alloc: Global,
     ghost lends: { (porter.name ≡ words_book words) × (porter.size ≡ words.size) × (porter.home ≡ false) },
     ghost numbered: { numbers ≡ (words_book words).family },
-    ghost ends: { IsEnderOf words ender },
+    ghost ends: { IsEnderOf words (box_value ender) },
 }
 
 impl<T: Drop> Collector<T> {

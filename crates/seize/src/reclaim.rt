@@ -29,8 +29,6 @@ pub trait Reclaim<T: Drop>: Copy {
     /// The contents of the blocks that it puts with a value of this kind, in order.
     ghost puts: { Self → ℕ → T → List T } = { λ _ _ _. [] };
 
-    ghost lighter: { (r : Self) (kind : ℕ) (value : T) → sum (map weight (puts r kind value)) < weight value };
-
     /// Ends the value, or hands it on, and puts the further blocks. `kind` is what its retirement said.
     ///
     /// It runs within a call of a guard, a registration or the collector, on whichever thread makes that call, and that call takes as long,
@@ -39,6 +37,8 @@ pub trait Reclaim<T: Drop>: Copy {
     fn reclaim(self, kind: u64, value: T, further: &mut Further<'_, T, Self>)
         requires { HoldsOnly owners (further_store further.old) value }
         ensures { Puts T.row.coded.code further.old further.new (puts self kind value) };
+
+    ghost lighter: { (r : Self) (kind : ℕ) (value : T) → sum (map weight (puts r kind value)) < weight value };
 }
 
 /// Ends each value by its `Drop`, whatever its kind. It puts nothing.
@@ -46,9 +46,9 @@ pub trait Reclaim<T: Drop>: Copy {
 pub struct Boxed;
 
 impl<T: Drop> Reclaim<T> for Boxed {
-    ghost lighter = { λ _ _ _. lit< tt };
-
     fn reclaim(self, _kind: u64, value: T, _further: &mut Further<'_, T, Boxed>) {
         drop(value);
     }
+
+    ghost lighter = { λ _ _ _. lit< tt };
 }

@@ -1,6 +1,6 @@
--- What reclaimers put weighs less than the value that they were given, so that a queue comes to its end. A relation, `weighs`, says how much
--- a value weighs, by the number that stands for what is lent with it.
---     Weigh weighs ls ms     these numbers stand for what weighs so much, one by one;  AreWeighed weighs ls    each stands for something
+-- What reclaimers put weighs less than the value that they were given, so that a queue comes to its end. A relation says how much a value
+-- weighs: `weighs l m`, where the number l stands for what is lent with the value.
+--     Weigh weighs ls ms     these numbers stand for what weighs so much, one by one;  AreWeighed weighs ls    for what weighs something
 --     IsLight weighs one     this value, which was had, weighs something, and those that were put with it weigh no more, together, with
 --                            one more for each;  AreLight weighs had    so it is with each that was had
 use Rattle.std.specs.Prelude.{ℕ, suc, ◌≤◌, List, [], ◌∷◌, map}

@@ -27,7 +27,7 @@ pub trait Lightens<T>: Reclaim<T> {
     ghost use Rattle.std.specs.Prelude.{ℕ};
     ghost use Rattle.seize_calls.specs.Weights.{AreLight, AreWeighed};
 
-    /// This number, which stands for what is lent with a value, stands for what weighs so much.
+    /// What this number stands for, which is lent with a value, weighs so much.
     ghost weighs: { ℕ → ℕ → Type 0 };
 
     /// Each of these codes weighs something. Nothing runs here.
