@@ -1,5 +1,5 @@
 -- What the calls of a guard make, as users see it, with its unit of the slot's activation.
-use Rattle.std.proofs.Common.{◌≡◌, ℕ, false, Option, None, Some, IfSome, is_some, refl, sym, subst, ◌∙◌}
+use Rattle.std.proofs.Common.{◌≡◌, ℕ, false, List, Option, None, Some, IfSome, is_some, refl, sym, subst, ◌∙◌}
 use Rattle.std.proofs.lemmas.Bool.{false≢true}
 use base.Stored.{Gv}
 use Rattle.seize_machine.specs.Machine.Event.{ExchangeLink, ReadLink}
@@ -18,7 +18,7 @@ use Rattle.seize_words.specs.declared.glimpse.Glimpse.{Glimpse}
 use Rattle.seize_words.specs.declared.link.Link.{Link}
 use Rattle.seize_words.specs.declared.link.MaybeKey.{MaybeKey}
 use Rattle.seize.specs.Blocks.{IsSharedOf, Shows, shared_name, shared_value}
-use Rattle.seize.specs.Makes.{Defers, MakesCall, MakesNone, MakesOne}
+use Rattle.seize.specs.Makes.{MakesCall, MakesNone, MakesOne}
 use Rattle.seize.specs.Reservations.{IsUnit}
 use Rattle.seize.specs.declared.block.shared.Shared.{Shared}
 use Rattle.seize.specs.declared.collector.Collector.{Collector}
@@ -27,13 +27,9 @@ use Rattle.seize.proofs.LinkSteps.{link_compares, link_finds, link_swaps}
 use Rattle.seize.proofs.Made.{none_learned, none_then}
 
 -- a call, when no event was made before it
-pub call_after : (s t : ℕ) (job : Job) (pass ready pass' : Pass) → s ≡ t → MakesNone pass ready → MakesCall s job ready pass' → MakesCall t job pass pass'
-call_after s t job pass ready pass' same none call =
-    subst (λ (k : ℕ). MakesCall k job pass pass') same (record { steps = call.steps; its = call.its; made = none_then none call.made })
-
-pub defers_after : (s t : ℕ) (job : Job) (pass ready pass' : Pass) → s ≡ t → MakesNone pass ready → Defers s job ready pass' → Defers t job pass pass'
-defers_after s t job pass ready pass' same none defers =
-    let call = defers.0 in subst (λ (k : ℕ). Defers k job pass pass') same (record { steps = call.steps; its = call.its; made = none_then none call.made }, defers.1)
+pub call_after : {IsPut : List ℕ → Type 0} (s t : ℕ) (job : Job) (pass ready pass' : Pass) → s ≡ t → MakesNone pass ready → MakesCall IsPut s job ready pass' → MakesCall IsPut t job pass pass'
+call_after {IsPut} s t job pass ready pass' same none call =
+    subst (λ (k : ℕ). MakesCall IsPut k job pass pass') same (record { steps = call.steps; its = call.its; made = none_then none call.made })
 
 module _ (n : Name) (s : ℕ) (unit : Activation) (seen : Seen) (its : IsUnit n s unit seen) (number : ℕ) (link : Link) (at : link_number link ≡ number) (pass learned : Pass) (learns : Learns pass seen learned) where
   -- a read of a link, once the pass has learned that the activation began

@@ -1,6 +1,7 @@
 -- What a collector's reclaimer puts weighs less than the value that it was given.
-use Rattle.std.proofs.Common.{◌≡◌, ℕ, zero, suc, ◌-◌, ◌≤◌, ◌<◌, map, sum, List, [], ◌∷◌, refl, sym, ap, subst, ◌∙◌, arith}
+use Rattle.std.proofs.Common.{◌≡◌, ℕ, zero, suc, ◌+◌, ◌-◌, ◌≤◌, ◌<◌, map, sum, List, [], ◌∷◌, refl, sym, ap, subst, ◌∙◌, arith}
 use Rattle.std.specs.List.{sum_by}
+use Rattle.std.proofs.lemmas.List.Sums.{sum_by-cons}
 use base.Stored.{Gv}
 use Rattle.seize_book.specs.Loans.{loan_number, loan_of}
 use Rattle.seize_book.specs.Permits.{AllAre}
@@ -20,8 +21,9 @@ module _ {T : Type 0} (code : T → Gv) (weight : T → ℕ) (puts : ℕ → T �
       → (ms : List ℕ) × Weigh (Weighs code weight) (map loan_of vs) ms × (sum_by suc ms ≡ sum (map weight xs))
   names_weigh [] [] names = ([], tt, refl)
   names_weigh (v ∷ vs) (x ∷ xs) names =
-      let rest = names_weigh vs xs names.1 in let one = less_one x in
-      ((weight x - 1) ∷ rest.0, (weighs_so x (loan_of v) names.0, rest.1), omega (arith, rest.2, one))
+      let rest = names_weigh vs xs names.1 in let one = less_one x in let first : sum_by suc ((weight x - 1) ∷ rest.0) ≡ suc (weight x - 1) + sum_by suc rest.0 = sum_by-cons suc (weight x - 1) rest.0 in
+      let all : sum (map weight (x ∷ xs)) ≡ weight x + sum (map weight xs) = sum_by-cons (λ (n : ℕ). n) (weight x) (map weight xs) in
+      ((weight x - 1) ∷ rest.0, (weighs_so x (loan_of v) names.0, rest.1), omega (arith, rest.2, one, first, all))
   names_weigh [] (x ∷ xs) names = absurd names
   names_weigh (v ∷ vs) [] names = absurd names
 

@@ -53,8 +53,8 @@ first_of_two guards most fits one (inl t) = t.1
 first_of_two guards most fits one (inr t) = absurd (omega (arith, fits, one, t.0))
 
 -- The call to leave, and then the number goes back.
-pub leaves_gives : (s : ℕ) (p q r : Pass) → MakesCall s Leave p q → MakesOne q r (Give s) Done → LeavesAndGives s p r
-leaves_gives s p q r call gives = record {
+pub leaves_gives : {IsPut : List ℕ → Type 0} (s : ℕ) (p q r : Pass) → MakesCall IsPut s Leave p q → MakesOne q r (Give s) Done → LeavesAndGives IsPut s p r
+leaves_gives {IsPut} s p q r call gives = record {
   steps = call.steps;
   its = call.its;
   made = subst (Makes p r) (ap (λ (es : List (Event × Answer)). (Begin s Leave, Done) ∷ es) (append_assoc call.steps ((Return s, Done) ∷ []) ((Give s, Done) ∷ []))) (makes_then call.made gives);

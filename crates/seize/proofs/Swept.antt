@@ -24,14 +24,15 @@ use Rattle.seize_book.specs.declared.book.pass.Pass.{Pass}
 use Rattle.seize_book.proofs.Facts.{same_twice, unequal}
 use Rattle.seize_calls.proofs.Alone.{alone_none, alone_noted, alone_twice, made_added, made_there}
 use Rattle.seize_calls.specs.Alone.{AddsAlone}
+use Rattle.seize_calls.specs.Handing.{Had}
 use Rattle.seize_calls.specs.Slots.{IsOfWords, IsPassFor, Prepares, SlotEnters, SlotFlushes, SlotGives, SlotLeaves, SlotLooks, SlotTakes, its_number}
 use Rattle.seize_calls.specs.declared.slot.Slot.{Slot}
 use Rattle.seize_words.specs.declared.activation.Activation.{Activation}
 use Rattle.seize_words.specs.declared.words.Words.{Words}
-use Rattle.seize.specs.Ends.{Ended, had_of}
 use Rattle.seize.specs.Makes.{AreStepsOf, IsStepOf, Makes, MakesCall, made_with}
 use Rattle.seize.specs.Sweeps.{IsLedBy, IsOff, KeepsOn, KeepsOthers, LeavesNothing, KeepsElse, LiesHere}
 use Rattle.seize.proofs.Made.{as_made, made_grew, one_added, step_added}
+use Rattle.seize.proofs.Steps.{any_put}
 use Rattle.seize.proofs.Wholly.{slot_flushes, slot_leaves}
 
 -- One event of the slot that is on no link.
@@ -113,26 +114,26 @@ led_made s pass pass' made same adds sole events are =
 pub other : (s t k : ℕ) → k ≡ s → ¬ (t ≡ s) → (k == t) ≡ false
 other s t k same differs = unequal k t (λ e. differs (sym e ∙ same))
 
-of_step : (s : ℕ) (event : Event) (answer : Answer) → IsStepOf s (event, answer) → IsOf s event
-of_step s (Put k) answer is = ((λ t differs. other s t k is differs), λ l. refl)
-of_step s (ReadHead k n) answer is = ((λ t differs. other s t k is differs), λ l. refl)
-of_step s (Detach k) answer is = ((λ t differs. other s t k is differs), λ l. refl)
-of_step s (Insert k n end) answer is = ((λ t differs. other s t k is differs), λ l. refl)
-of_step s (AddCount k) answer is = ((λ t differs. other s t k is differs), λ l. refl)
-of_step s (SwapOut k) answer is = ((λ t differs. other s t k is differs), λ l. refl)
-of_step s (SubCount k) answer is = ((λ t differs. other s t k is differs), λ l. refl)
-of_step s (Hand k puts) answer is = ((λ t differs. other s t k is.0 differs), λ l. refl)
-of_step s (Take k) answer is = absurd is
-of_step s (Give k) answer is = absurd is
-of_step s (Enter k) answer is = absurd is
-of_step s (Begin k job) answer is = absurd is
-of_step s (Return k) answer is = absurd is
-of_step s (ReadLink k l) answer is = absurd is
-of_step s (ExchangeLink k l exchange) answer is = absurd is
+of_step : {IsPut : List ℕ → Type 0} (s : ℕ) (event : Event) (answer : Answer) → IsStepOf IsPut s (event, answer) → IsOf s event
+of_step {IsPut} s (Put k) answer is = ((λ t differs. other s t k is differs), λ l. refl)
+of_step {IsPut} s (ReadHead k n) answer is = ((λ t differs. other s t k is differs), λ l. refl)
+of_step {IsPut} s (Detach k) answer is = ((λ t differs. other s t k is differs), λ l. refl)
+of_step {IsPut} s (Insert k n end) answer is = ((λ t differs. other s t k is differs), λ l. refl)
+of_step {IsPut} s (AddCount k) answer is = ((λ t differs. other s t k is differs), λ l. refl)
+of_step {IsPut} s (SwapOut k) answer is = ((λ t differs. other s t k is differs), λ l. refl)
+of_step {IsPut} s (SubCount k) answer is = ((λ t differs. other s t k is differs), λ l. refl)
+of_step {IsPut} s (Hand k puts) answer is = ((λ t differs. other s t k is.0 differs), λ l. refl)
+of_step {IsPut} s (Take k) answer is = absurd is
+of_step {IsPut} s (Give k) answer is = absurd is
+of_step {IsPut} s (Enter k) answer is = absurd is
+of_step {IsPut} s (Begin k job) answer is = absurd is
+of_step {IsPut} s (Return k) answer is = absurd is
+of_step {IsPut} s (ReadLink k l) answer is = absurd is
+of_step {IsPut} s (ExchangeLink k l exchange) answer is = absurd is
 
-of_steps : (s : ℕ) (es : List (Event × Answer)) → AreStepsOf s es → AreOf s es
-of_steps s [] are = tt
-of_steps s (e ∷ es) are = (of_step s e.0 e.1 are.0, of_steps s es are.1)
+of_steps : {IsPut : List ℕ → Type 0} (s : ℕ) (es : List (Event × Answer)) → AreStepsOf IsPut s es → AreOf s es
+of_steps {IsPut} s [] are = tt
+of_steps {IsPut} s (e ∷ es) are = (of_step s e.0 e.1 are.0, of_steps s es are.1)
 
 of_append : (s : ℕ) (a b : List (Event × Answer)) → AreOf s a → AreOf s b → AreOf s (a ++ b)
 of_append s [] b one two = two
@@ -194,8 +195,8 @@ module _ {T : Type 0} (slot : Slot T) (pass ready : Pass) (prepares : Prepares s
       (led_by s ready pass' ((d.event, noted.answer) ∷ []) (one_added ready pass' d same noted) (alone_noted ready pass' (Made d) by noted) prepared_sole (is, tt))
 
   -- a whole call
-  pub led_call : (s : ℕ) (job : Job) (pass' : Pass) → MakesCall s job pass pass' → AddsAlone ready pass' → IsLedBy s pass pass'
-  led_call s job pass' makes adds =
+  pub led_call : {IsPut : List ℕ → Type 0} (s : ℕ) (job : Job) (pass' : Pass) → MakesCall IsPut s job pass pass' → AddsAlone ready pass' → IsLedBy s pass pass'
+  led_call {IsPut} s job pass' makes adds =
       led_by s pass pass' _ makes.made (alone_twice pass ready pass' prepares.same prepared_alone adds) sole
       (((λ t differs. other s t s refl differs), λ l. refl), of_append s makes.steps _ (of_steps s makes.steps makes.its) (((λ t differs. other s t s refl differs), λ l. refl), tt))
 
@@ -217,13 +218,13 @@ module _ {T : Type 0} (slot : Slot T) (pass : Pass) (slot' : Slot T) (pass' : Pa
       led_then s pass c.ready pass' (led_prepared slot pass c.ready c.prepares sole s)
       (led_none s c.ready pass' c.does.on.same (c.does.on.alone (prepared_sole slot pass c.ready c.prepares sole)))
 
-  module _ (words : Words T) (of : IsOfWords words slot') (for : IsPassFor words pass) (before ended : Ended) where
-    pub flushes : (retired : Bool) → SlotFlushes slot pass (had_of before) slot' pass' (had_of ended) retired → IsLedBy (its_number slot) pass pass'
+  module _ (words : Words T) (of : IsOfWords words slot') (for : IsPassFor words pass) (before ended : Had) where
+    pub flushes : (retired : Bool) → SlotFlushes slot pass before slot' pass' ended retired → IsLedBy (its_number slot) pass pass'
     flushes retired e =
-        led_call slot pass e.ready e.prepares sole (its_number slot) Flush pass' (slot_flushes words slot pass slot' pass' of for (had_of before) (had_of ended) ended refl retired e).0 e.does.rests.alone
+        led_call slot pass e.ready e.prepares sole (its_number slot) Flush pass' (slot_flushes (λ _. Unit {0}) words slot pass slot' pass' of for before ended (any_put ended) retired e).0 e.does.rests.alone
 
-    pub leaves : SlotLeaves slot pass (had_of before) slot' pass' (had_of ended) → IsLedBy (its_number slot) pass pass'
-    leaves e = led_call slot pass e.ready e.prepares sole (its_number slot) Leave pass' (slot_leaves words slot pass slot' pass' of for (had_of before) (had_of ended) ended refl e) e.does.rests.alone
+    pub leaves : SlotLeaves slot pass before slot' pass' ended → IsLedBy (its_number slot) pass pass'
+    leaves e = led_call slot pass e.ready e.prepares sole (its_number slot) Leave pass' (slot_leaves (λ _. Unit {0}) words slot pass slot' pass' of for before ended (any_put ended) e) e.does.rests.alone
 
 -- the slot is the same all the while
 pub led_as : (s t : ℕ) (pass pass' : Pass) → t ≡ s → IsLedBy t pass pass' → IsLedBy s pass pass'

@@ -7,12 +7,10 @@
 --     BeginsEmpty c links   its list begins with no slot, and with so many links, which are empty
 --     IsNewPassOf c pass    and nothing was made with it. It has seen a legal list of the collector's, of which all laws hold (GoesOnTo)
 --     IsBlockOf c owned     it is a block of the collector;  BelongsTo owners c owned     it is one, with each block inside it (Belongs)
---     its_reclaimer c       its reclaimer;  PutIn code puts c vs     it puts blocks that the list calls so, with some value (PutBy)
 --     IsSlotFor c slot      it is a slot of the collector, in use
 --     IsRefusalFor processors id refusal     a new collector for so many processors, by a source of which this id is the next, may be
 --                       refused so
-use Rattle.std.specs.Prelude.{◌≡◌, ◌⊎◌, ℕ, box_value, ◌≤◌, ◌<◌, ◌^◌, List, [], None, length, replicate}
-use base.Stored.{Gv}
+use Rattle.std.specs.Prelude.{◌≡◌, ◌⊎◌, ℕ, ◌≤◌, ◌<◌, ◌^◌, List, [], None, length, replicate}
 use Rattle.seize_table.specs.declared.refusal.Refusal.{Refusal}
 use Rattle.seize_table.specs.declared.refusal.Refusal.TheVariants.{NoMemory, NoNumbers, TooManyProcessors}
 use Rattle.seize_book.specs.Entry.{Entry}
@@ -24,7 +22,6 @@ use Rattle.seize_words.specs.declared.words.Words.{Words}
 use Rattle.seize_calls.specs.Slots.{IsSlotOf}
 use Rattle.seize_calls.specs.declared.slot.Slot.{Slot}
 use Rattle.seize.specs.Blocks.{Belongs, store_name}
-use Rattle.seize.specs.Enders.{PutBy}
 use Rattle.seize.specs.Makes.{made_with}
 use Rattle.seize.specs.declared.block.owned.Owned.{Owned}
 use Rattle.seize.specs.declared.collector.Collector.{Collector}
@@ -58,12 +55,6 @@ IsBlockOf collector owned = store_name owned ≡ its_store collector
 
 abbrev pub BelongsTo : {T R : Type 0} → (T → List (List ℕ)) → Collector T R → Owned T → Type 0
 BelongsTo owners collector owned = Belongs owners (its_store collector) owned
-
-abbrev pub its_reclaimer : {T R : Type 0} → Collector T R → R
-its_reclaimer collector = (box_value collector.ender).reclaimer
-
-abbrev pub PutIn : {T R : Type 0} → (T → Gv) → (R → ℕ → T → List T) → Collector T R → List ℕ → Type 0
-PutIn code puts collector vs = PutBy code (puts (its_reclaimer collector)) vs
 
 abbrev pub BeginsEmpty : {T R : Type 0} → Collector T R → ℕ → Type 0
 BeginsEmpty collector links =

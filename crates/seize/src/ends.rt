@@ -86,7 +86,7 @@ impl<T: Drop, R: Reclaim<T>> handing::Reclaim<T> for Forwards<'_, T, R> {
     ghost had = { λ forwards. forwards.ends.had };
 
     ghost serves = { λ forwards n. let ender = forwards.ender.now in
-        IsEnderIn n ender × PutAs T.row.coded.code (R.puts ender.reclaimer) forwards.ends.had };
+        IsEnderIn n ender × PutAs T.row.coded.code R.puts forwards.ends.had };
 
     fn reclaim(
         &mut self,

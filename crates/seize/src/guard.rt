@@ -34,10 +34,11 @@ impl<'r, 'c, T: Drop, R: Reclaim<T>> LocalGuard<'r, 'c, T, R> {
     ghost use Rattle.seize_machine.specs.declared.machine.event.Exchange.TheVariants.{Swap};
     ghost use Rattle.seize_machine.specs.declared.machine.event.Job.TheVariants.{Flush, Leave, Refresh, Retire};
     ghost use Rattle.seize.specs.Blocks.{ComesOut, IsNamed, IsSharedOf, IsUnlinkedOf, Shows, content, unlinked_name};
-    ghost use Rattle.seize.specs.Collectors.{BelongsTo, IsBlockOf, IsPassOf, PutIn, its_links};
+    ghost use Rattle.seize.specs.Collectors.{BelongsTo, IsBlockOf, IsPassOf, its_links};
     ghost use Rattle.seize_table.specs.declared.refusal.Refusal.TheVariants.{NoMemory as no_memory};
     ghost use Rattle.seize.specs.Exchanges.{FoundIn, MakesExchange, Protects, current_name};
     ghost use Rattle.seize.specs.Guards.{IsGuardOf, guard_activation, guard_collector, guard_slot};
+    ghost use Rattle.seize.specs.Enders.{PutBy};
     ghost use Rattle.seize.specs.Makes.{Defers, IsOfKind, MakesCall, MakesNone, MakesOne, StaysActive};
 
     // One of this registration, which reads so.
@@ -234,7 +235,7 @@ impl<'r, 'c, T: Drop, R: Reclaim<T>> LocalGuard<'r, 'c, T, R> {
     pub fn refresh<W: Wait>(&mut self, rt: &W, pass: &mut Pass)
         requires of { IsPassOf (guard_collector self.old) pass.old }
         ensures same { (guard_collector self.new ≡ guard_collector self.old) × (guard_slot self.new ≡ guard_slot self.old) }
-        ensures refreshes { MakesCall (PutIn T.row.coded.code R.puts (guard_collector self.old)) (guard_slot self.old) Refresh pass.old pass.new
+        ensures refreshes { MakesCall (PutBy T.row.coded.code R.puts) (guard_slot self.old) Refresh pass.old pass.new
             ⊎ (StaysActive (guard_slot self.old) pass.old pass.new × (guard_activation self.new ≡ guard_activation self.old)) }
     {
         let registration = self.registration;
@@ -262,7 +263,7 @@ impl<'r, 'c, T: Drop, R: Reclaim<T>> LocalGuard<'r, 'c, T, R> {
     /// nobody.
     pub fn leave<W: Wait>(self, rt: &W, pass: &mut Pass)
         requires of { IsPassOf (guard_collector self) pass.old }
-        ensures { MakesCall (PutIn T.row.coded.code R.puts (guard_collector self.entry)) (guard_slot self.entry) Leave pass.old pass.new
+        ensures { MakesCall (PutBy T.row.coded.code R.puts) (guard_slot self.entry) Leave pass.old pass.new
             ⊎ StaysActive (guard_slot self.entry) pass.old pass.new }
     {
         let LocalGuard {

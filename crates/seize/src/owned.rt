@@ -48,8 +48,9 @@ impl<'c, T: Drop, R: Reclaim<T>> OwnedGuard<'c, T, R> {
     ghost use Rattle.seize_table.specs.declared.refusal.Refusal.TheVariants.{NoMemory as no_memory};
     ghost use Rattle.seize_calls.specs.Slots.{IsInactive, its_number};
     ghost use Rattle.seize.specs.Blocks.{ComesOut, IsNamed, IsSharedOf, IsUnlinkedOf, Shows, content, unlinked_name};
-    ghost use Rattle.seize.specs.Collectors.{BelongsTo, IsBlockOf, IsPassOf, IsSlotFor, PutIn, its_links};
+    ghost use Rattle.seize.specs.Collectors.{BelongsTo, IsBlockOf, IsPassOf, IsSlotFor, its_links};
     ghost use Rattle.seize.specs.Exchanges.{FoundIn, MakesExchange, Protects, current_name};
+    ghost use Rattle.seize.specs.Enders.{PutBy};
     ghost use Rattle.seize.specs.Makes.{Defers, IsOfKind, LeavesAndGives, MakesCall, MakesNone, MakesOne};
     ghost use Rattle.seize.specs.OwnedGuards.{owned_activation, owned_collector, owned_slot};
 
@@ -263,7 +264,7 @@ impl<'c, T: Drop, R: Reclaim<T>> OwnedGuard<'c, T, R> {
     pub fn refresh<W: Wait>(&mut self, rt: &W, pass: &mut Pass)
         requires of { IsPassOf (owned_collector self.old) pass.old }
         ensures same { (owned_collector self.new ≡ owned_collector self.old) × (owned_slot self.new ≡ owned_slot self.old) }
-        ensures refreshes { MakesCall (PutIn T.row.coded.code R.puts (owned_collector self.old)) (owned_slot self.old) Refresh pass.old pass.new }
+        ensures refreshes { MakesCall (PutBy T.row.coded.code R.puts) (owned_slot self.old) Refresh pass.old pass.new }
     {
         let reader = &mut self.reader;
         let spare = self.reservation.with(rt, Sparing {}, pass);
@@ -288,7 +289,7 @@ impl<'c, T: Drop, R: Reclaim<T>> OwnedGuard<'c, T, R> {
     /// register or end. The slot's batch stays for the next one who has the number.
     pub fn leave<W: Wait>(self, rt: &W, pass: &mut Pass)
         requires of { IsPassOf (owned_collector self) pass.old }
-        ensures { LeavesAndGives (PutIn T.row.coded.code R.puts (owned_collector self.entry)) (owned_slot self.entry) pass.old pass.new }
+        ensures { LeavesAndGives (PutBy T.row.coded.code R.puts) (owned_slot self.entry) pass.old pass.new }
     {
         let OwnedGuard {
             reader,

@@ -27,7 +27,7 @@ pub trait Reclaim<T: Drop>: Copy {
     ghost owners: { T → List (List ℕ) } = { λ _. [] };
 
     /// The contents of the blocks that it puts with a value of this kind, in order.
-    ghost puts: { Self → ℕ → T → List T } = { λ _ _ _. [] };
+    ghost puts: { ℕ → T → List T } = { λ _ _. [] };
 
     /// Ends the value, or hands it on, and puts the further blocks. `kind` is what its retirement said.
     ///
@@ -36,9 +36,9 @@ pub trait Reclaim<T: Drop>: Copy {
     /// runs: `enter` refuses there, and calls with a runtime wait for ever.
     fn reclaim(self, kind: u64, value: T, further: &mut Further<'_, T, Self>)
         requires { HoldsOnly owners (further_store further.old) value }
-        ensures { Puts T.row.coded.code further.old further.new (puts self kind value) };
+        ensures { Puts T.row.coded.code further.old further.new (puts kind value) };
 
-    ghost lighter: { (r : Self) (kind : ℕ) (value : T) → sum (map weight (puts r kind value)) < weight value };
+    ghost lighter: { (kind : ℕ) (value : T) → sum (map weight (puts kind value)) < weight value };
 }
 
 /// Ends each value by its `Drop`, whatever its kind. It puts nothing.
@@ -50,5 +50,5 @@ impl<T: Drop> Reclaim<T> for Boxed {
         drop(value);
     }
 
-    ghost lighter = { λ _ _ _. lit< tt };
+    ghost lighter = { λ _ _. lit< tt };
 }

@@ -42,8 +42,9 @@ impl<'c, T: Drop, R: Reclaim<T>> Registration<'c, T, R> {
     ghost use Rattle.seize_table.specs.declared.refusal.Refusal.TheVariants.{NoMemory as no_memory, TooManyGuards as too_many_guards};
     ghost use Rattle.seize_calls.specs.Slots.{IsInactive, its_number};
     ghost use Rattle.seize.specs.Blocks.{IsUnlinkedOf, content, unlinked_name};
-    ghost use Rattle.seize.specs.Collectors.{IsBlockOf, IsPassOf, IsSlotFor, PutIn};
+    ghost use Rattle.seize.specs.Collectors.{IsBlockOf, IsPassOf, IsSlotFor};
     ghost use Rattle.seize.specs.Guards.{IsGuardOf};
+    ghost use Rattle.seize.specs.Enders.{PutBy};
     ghost use Rattle.seize.specs.Makes.{EndsUse, Enters, IsOfKind, MakesCall};
     ghost use Rattle.seize.specs.Registrations.{registered_in, registered_slot};
 
@@ -149,7 +150,7 @@ impl<'c, T: Drop, R: Reclaim<T>> Registration<'c, T, R> {
     pub fn retire<W: Wait>(&self, rt: &W, pass: &mut Pass, value: Unlinked<'_, T>)
         requires pass { IsPassOf (registered_in self.now) pass.old }
         requires value { IsUnlinkedOf (registered_in self.now) value }
-        ensures call { MakesCall (PutIn T.row.coded.code R.puts (registered_in self.now)) (registered_slot self.now) (Retire (unlinked_name value.entry)) pass.old pass.new }
+        ensures call { MakesCall (PutBy T.row.coded.code R.puts) (registered_slot self.now) (Retire (unlinked_name value.entry)) pass.old pass.new }
         ensures kind { IsOfKind (unlinked_name value.entry) 0 pass.new }
     {
         self.retire_as(rt, pass, value, 0);
@@ -160,7 +161,7 @@ impl<'c, T: Drop, R: Reclaim<T>> Registration<'c, T, R> {
     pub fn retire_as<W: Wait>(&self, rt: &W, pass: &mut Pass, value: Unlinked<'_, T>, kind: u64)
         requires pass { IsPassOf (registered_in self.now) pass.old }
         requires value { IsUnlinkedOf (registered_in self.now) value }
-        ensures call { MakesCall (PutIn T.row.coded.code R.puts (registered_in self.now)) (registered_slot self.now) (Retire (unlinked_name value.entry)) pass.old pass.new }
+        ensures call { MakesCall (PutBy T.row.coded.code R.puts) (registered_slot self.now) (Retire (unlinked_name value.entry)) pass.old pass.new }
         ensures kind { IsOfKind (unlinked_name value.entry) kind pass.new }
     {
         let collector = self.collector;

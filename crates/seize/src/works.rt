@@ -107,7 +107,7 @@ impl<'a, 'p, T: Drop, R: Reclaim<T>, W: Wait> LockWork<Reservation<T>, Pass<'p>,
     for Retiring<'a, T, R, W> {
     ghost may = { λ work r pass. IsReservationOf work.words.now r × IsPassFor work.words.now pass × IsEnderOf work.words.now work.ender.now × IsLooseOf work.words.now work.loose };
 
-    ghost gives = { λ work r r' pass pass' _. MakesCall (PutBy T.row.coded.code (R.puts work.ender.now.reclaimer)) (its_number r.slot) (Retire (its_value work.loose)) pass pass'
+    ghost gives = { λ work r r' pass pass' _. MakesCall (PutBy T.row.coded.code R.puts) (its_number r.slot) (Retire (its_value work.loose)) pass pass'
         × IsOfKind (its_value work.loose) work.kind pass' };
 
     fn work(self, r: &mut Reservation<T>, pass: &mut Pass<'p>) {
@@ -253,7 +253,7 @@ impl<'a, 'p, T: Drop, R: Reclaim<T>, W: Wait> LockWork<Reservation<T>, Pass<'p>,
         × IsHeadFor (words_book work.words.now) (its_number r.slot) work.head.now };
 
     ghost gives = { λ work r r' pass pass' result. let s = its_number r.slot in
-        let IsPut = PutBy T.row.coded.code (R.puts work.ender.now.reclaimer) in
+        let IsPut = PutBy T.row.coded.code R.puts in
         (((r.guards ≡ 1) × MakesCall IsPut s Refresh pass pass') ⊎ ((1 < r.guards) × (StaysActive s pass pass' × (result.0 ≡ work.unit))))
         × IsUnit (words_book work.words.now) s result.0 result.1 };
 
@@ -308,7 +308,7 @@ impl<'a, 'p, T: Drop, R: Reclaim<T>, W: Wait> LockWork<Reservation<T>, Pass<'p>,
         × IsHeadFor (words_book work.words.now) (its_number r.slot) work.head.now };
 
     ghost gives = { λ work r r' pass pass' _. let s = its_number r.slot in
-        let IsPut = PutBy T.row.coded.code (R.puts work.ender.now.reclaimer) in
+        let IsPut = PutBy T.row.coded.code R.puts in
         (((r.guards ≡ 1) × MakesCall IsPut s Leave pass pass') ⊎ ((1 < r.guards) × StaysActive s pass pass'))
         × (r'.guards + 1 ≡ r.guards) };
 

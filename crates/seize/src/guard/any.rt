@@ -6,8 +6,9 @@ ghost use Rattle.seize_machine.specs.declared.machine.event.Exchange.TheVariants
 ghost use Rattle.seize_machine.specs.declared.machine.event.Job.TheVariants.{Flush, Refresh, Retire};
 ghost use Rattle.seize_table.specs.declared.refusal.Refusal.TheVariants.{NoMemory as no_memory};
 ghost use Rattle.seize.specs.Blocks.{ComesOut, IsNamed, IsSharedOf, IsUnlinkedOf, Shows, content, unlinked_name};
-ghost use Rattle.seize.specs.Collectors.{BelongsTo, IsBlockOf, IsPassOf, PutIn, its_links};
+ghost use Rattle.seize.specs.Collectors.{BelongsTo, IsBlockOf, IsPassOf, its_links};
 ghost use Rattle.seize.specs.Exchanges.{FoundIn, MakesExchange, Protects, current_name};
+ghost use Rattle.seize.specs.Enders.{PutBy};
 ghost use Rattle.seize.specs.Makes.{Defers, IsOfKind, MakesCall, MakesNone, MakesOne, StaysActive};
 ghost use Rattle.seize_words.specs.declared.activation.Activation.{Activation};
 ghost use Rattle.seize.specs.declared.collector.Collector.{Collector};
@@ -126,6 +127,6 @@ pub trait Guard<T: Drop> {
     fn refresh<W: Wait>(&mut self, rt: &W, pass: &mut Pass)
         requires of { IsPassOf (guarded self.old) pass.old }
         ensures same { (guarded self.new ≡ guarded self.old) × (number self.new ≡ number self.old) }
-        ensures refreshes { MakesCall (PutIn T.row.coded.code Self.Reclaimer.puts (guarded self.old)) (number self.old) Refresh pass.old pass.new
+        ensures refreshes { MakesCall (PutBy T.row.coded.code Self.Reclaimer.puts) (number self.old) Refresh pass.old pass.new
             ⊎ (StaysActive (number self.old) pass.old pass.new × (activation self.new ≡ activation self.old)) };
 }

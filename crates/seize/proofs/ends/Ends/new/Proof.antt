@@ -1,5 +1,6 @@
 -- `new` makes a reclaimer that ended none.
 use Rattle.seize_book.proofs.Kit.{[], ◌∷◌, refl, proved, Val, SProp, emp, ftrue, ‵, raw, ◌⊛◌, ◌$◌, ◌∵◌, !, qed, by, keep, split, fjoin, use0, nothing, no_more, and_then, returns, enter, alloc_all, pass_all, free_all, look_at, get, sets, agg, fact_i, tables, owns, types_at, Stays, walk_of}
+use base.Stored.{gnil}
 use Rattle.seize_book.proofs.Fields.{Token, token, token_made, ends}
 use Rattle.seize.specs.contracts.ends.Ends.new.{ended, clauses}
 use Rattle.seize.specs.contracts.ends.Ends.new.Key.{name as #self}
@@ -16,4 +17,4 @@ new_spec 𝓤 𝓛 𝓜 𝓡 wired =
     sets ! (agg ! (no_more !)) refl (tt, tt) $ sets ! (agg ! (and_then ! (get ! refl) (no_more !))) refl (tt, (tt, tt)) $
     nothing ! $ use0 𝓛 (‵ (Token.own_val (record {}, tt) (token ∷ []))) (token_made 𝓛) $ fjoin ! $
     returns ! (look_at ! 0 refl) $ free_all ! refl $ keep ! (1 ∷ 2 ∷ 0 ∷ []) $
-    by ! (ends 𝓛 ended hs c y token (record { marker = record {}; ended = [] }) tt tt (fact_i 𝓤 _ (emp 𝓤) refl))))
+    by ! (ends 𝓛 ended hs c y token (record { marker = record {}; had = []; at = gnil }) tt tt (fact_i 𝓤 _ (emp 𝓤) refl))))

@@ -1,9 +1,26 @@
-use Rattle.std.proofs.Common.{ap, ◌∙◌}
-use Rattle.seize.specs.Ends.{had_of}
-use Rattle.seize.proofs.Ended.{had_one_more}
+use Rattle.std.proofs.Common.{ℕ, List, [], ◌∷◌, ◌++◌, sym, ap, subst, ◌∙◌}
+use Rattle.seize_book.specs.Kept.{kepts_of}
+use Rattle.seize_book.specs.Values.{values_of}
+use Rattle.seize_calls.specs.Furthers.{further_in}
+use Rattle.seize_calls.specs.Handing.{Had}
+use Rattle.seize.specs.Blocks.{HoldsOnly}
+use Rattle.seize.specs.Enders.{PutAs}
+use Rattle.seize.proofs.Given.{given, put_more}
 use Rattle.seize.proofs.ends.ForwardsReclaim.reclaim.Goals as goal
 
-pub returns-clause-had : goal.returns-clause-had
-returns-clause-had g c =
-    ap had_of c.note.ensures
-    ∙ had_one_more c.args.self.now.ends.ended c.args.kept (g.row.T.coded.code c.args.value) c.args._further.now.values c.requires.further.1
+-- the permit says that each block inside the value is of the collector
+pub reclaim-requires : goal.reclaim-requires
+reclaim-requires g c =
+    let owners = g.R.Reclaim.owners in let value = c.args.value in let permits = c.args.self.now.ender.now.permits in
+    subst (λ (store : List ℕ). HoldsOnly owners store value) (c.requires.serves.0.1 ∙ sym c.new-put.ensures.store)
+    (given g.row.T.coded (HoldsOnly owners permits.store) value c.args.permit.codes c.requires.permit.1 c.check.ensures)
+
+pub returns-clause-serves : goal.returns-clause-serves
+returns-clause-serves g c =
+    let code = g.row.T.coded.code in let puts = g.R.Reclaim.puts in let before = c.args.self.now.ends.had in let put = further_in c.reclaim.new.further.chain in
+    let more : Had = (c.args.kept, c.take.new.self.at, values_of put, kepts_of put) ∷ [] in
+    let names = c.reclaim.ensures.2 [] c.new-put.ensures.none in (
+      c.requires.serves.0,
+      subst (PutAs code puts) (sym (c.note.ensures ∙ ap (λ (had : Had). had ++ more) c.take.ensures.0))
+      (put_more code puts before more c.requires.serves.1 ((c.args.value, sym c.take.ensures.1, names), tt)),
+    )
