@@ -10,7 +10,11 @@ use Rattle.seize_book.specs.Private.{labels_of}
 use Rattle.seize_book.specs.Values.{AllNew, AreNew, book_in}
 use Rattle.seize_book.specs.declared.book.value_keys.ValueKeys.{ValueKeys}
 use Rattle.seize_calls.specs.Handing.{Had}
-use Rattle.seize.specs.Enders.{PutAs}
+use Rattle.seize_book.specs.Tokens.{Name}
+use Rattle.seize_words.specs.Chunks.{IsLentAs}
+use Rattle.seize.specs.Names.{AreNamesOf}
+use Rattle.seize.specs.Enders.{IsEnderIn, PutAs}
+use Rattle.seize.specs.declared.ender.Ender.{Ender}
 use Rattle.seize.specs.Lighter.{same_value}
 
 -- of no values no words are kept
@@ -32,3 +36,15 @@ given {T} coded Holds value ls is all =
 pub put_more : {T : Type 0} (code : T → Gv) (puts : ℕ → T → List T) (a b : Had) → PutAs code puts a → PutAs code puts b → PutAs code puts (a ++ b)
 put_more code puts [] b one two = two
 put_more code puts (x ∷ a) b one two = (one.0, put_more code puts a b one.1 two)
+
+-- a reclaimer of a slot's calls that had nothing yet
+pub serves_new : {T R : Type 0} (code : T → Gv) (puts : ℕ → T → List T) (n : Name) (ender ender' : Ender T R) (had : Had) → (had ≡ []) × (ender' ≡ ender) → IsEnderIn n ender
+    → IsEnderIn n ender' × PutAs code puts had
+serves_new code puts n ender ender' had new is = (subst (IsEnderIn n) (sym new.1) is, subst (PutAs code puts) (sym new.0) tt)
+
+-- one block more has a name
+pub names_more : {T : Type 0} (code : T → Gv) (vs : List ℕ) (xs : List T) (v : ℕ) (x : T) → AreNamesOf code vs xs → IsLentAs v (code x) → AreNamesOf code (vs ++ v ∷ []) (xs ++ x ∷ [])
+names_more code [] [] v x names lent = (lent, tt)
+names_more code (w ∷ vs) (y ∷ xs) v x names lent = (names.0, names_more code vs xs v x names.1 lent)
+names_more code [] (y ∷ xs) v x names lent = absurd names
+names_more code (w ∷ vs) [] v x names lent = absurd names

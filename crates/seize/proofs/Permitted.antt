@@ -18,8 +18,8 @@ permitted holds (u ∷ vs) v named lent all = go (u == v) refl (loan_of u) refl 
     go false e zero is all h others = others h lent all
     go false e (suc l) is all h others = others h lent all.1
 
-pub have_codes : {T : Type 0} (code : T → Gv) (vs ls : List ℕ) → AllCarryOne vs → ls ≡ map loan_of vs → AllAre (λ g. (x : T) × (code x ≡ g)) ls
-    → (v : ℕ) → has v vs ≡ true → (x : T) × IsLentAs v (code x)
-have_codes {T} code vs ls lent are all v named =
-    let is = permitted (λ g. (x : T) × (code x ≡ g)) vs v named (lent v named) (subst (AllAre (λ g. (x : T) × (code x ≡ g))) are all) in
+pub have_codes : {T : Type 0} (code : T → Gv) (Holds : T → Type 0) (vs ls : List ℕ) → AllCarryOne vs → ls ≡ map loan_of vs
+    → AllAre (λ g. (x : T) × (code x ≡ g) × Holds x) ls → (v : ℕ) → has v vs ≡ true → (x : T) × IsLentAs v (code x)
+have_codes {T} code Holds vs ls lent are all v named =
+    let is = permitted (λ g. (x : T) × (code x ≡ g) × Holds x) vs v named (lent v named) (subst (AllAre (λ g. (x : T) × (code x ≡ g) × Holds x)) are all) in
     (is.2.0, sym is.1 ∙ ap loan_number (sym is.2.1))

@@ -5,7 +5,7 @@ ghost use base.Growing.{prefix_prop};
 ghost use base.Stored.{Coded-set, coded_list};
 ghost use mathlib.Core.List.{IsPrefix};
 ghost use Rattle.seize_book.specs.Entry.{entry_coded};
-ghost use Rattle.seize.specs.Collectors.{its_book};
+ghost use Rattle.seize.specs.Collectors.{BelongsTo, its_book};
 ghost use Rattle.seize.specs.Reservations.{IsUnitIn};
 
 use crate::block::{Failed, Owned, Shared, Unlinked, name};

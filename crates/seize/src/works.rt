@@ -105,7 +105,8 @@ pub(crate) struct Retiring<'a, T: Drop, R: Reclaim<T>, W> {
 
 impl<'a, 'p, T: Drop, R: Reclaim<T>, W: Wait> LockWork<Reservation<T>, Pass<'p>, ()>
     for Retiring<'a, T, R, W> {
-    ghost may = { λ work r pass. IsReservationOf work.words.now r × IsPassFor work.words.now pass × IsEnderOf work.words.now work.ender.now × IsLooseOf work.words.now work.loose };
+    ghost may = { λ work r pass. IsReservationOf work.words.now r × IsPassFor work.words.now pass × IsLooseOf work.words.now work.loose
+        × IsEnderOf work.words.now work.ender.now };
 
     ghost gives = { λ work r r' pass pass' _. MakesCall (PutBy T.row.coded.code R.puts) (its_number r.slot) (Retire (its_value work.loose)) pass pass'
         × IsOfKind (its_value work.loose) work.kind pass' };
@@ -150,8 +151,9 @@ pub(crate) struct Deferring<'a, T: Drop, R: Reclaim<T>, W> {
 
 impl<'a, 'p, T: Drop, R: Reclaim<T>, W: Wait> LockWork<Reservation<T>, Pass<'p>, ()>
     for Deferring<'a, T, R, W> {
-    ghost may = { λ work r pass. IsReservationOf work.words.now r × IsPassFor work.words.now pass × IsEnderOf work.words.now work.ender.now × IsLooseOf work.words.now work.loose
-        × IsUnit (words_book work.words.now) (its_number r.slot) work.unit.now work.seen.now };
+    ghost may = { λ work r pass. IsReservationOf work.words.now r × IsPassFor work.words.now pass × IsLooseOf work.words.now work.loose
+        × IsUnit (words_book work.words.now) (its_number r.slot) work.unit.now work.seen.now
+        × IsEnderOf work.words.now work.ender.now };
 
     ghost gives = { λ work r r' pass pass' _. Defers (its_number r.slot) (Retire (its_value work.loose)) pass pass'
         × IsOfKind (its_value work.loose) work.kind pass' };
@@ -195,8 +197,9 @@ pub(crate) struct Flushing<'a, T: Drop, R: Reclaim<T>, W> {
 
 impl<'a, 'p, T: Drop, R: Reclaim<T>, W: Wait> LockWork<Reservation<T>, Pass<'p>, ()>
     for Flushing<'a, T, R, W> {
-    ghost may = { λ work r pass. IsReservationOf work.words.now r × IsPassFor work.words.now pass × IsEnderOf work.words.now work.ender.now
-        × IsUnit (words_book work.words.now) (its_number r.slot) work.unit.now work.seen.now };
+    ghost may = { λ work r pass. IsReservationOf work.words.now r × IsPassFor work.words.now pass
+        × IsUnit (words_book work.words.now) (its_number r.slot) work.unit.now work.seen.now
+        × IsEnderOf work.words.now work.ender.now };
 
     ghost gives = { λ work r r' pass pass' _. Defers (its_number r.slot) Flush pass pass' };
 
@@ -248,9 +251,10 @@ pub(crate) struct Refreshing<'a, T: Drop, R: Reclaim<T>, W> {
 
 impl<'a, 'p, T: Drop, R: Reclaim<T>, W: Wait> LockWork<Reservation<T>, Pass<'p>, (Activation, Seen)>
     for Refreshing<'a, T, R, W> {
-    ghost may = { λ work r pass. IsReservationOf work.words.now r × IsPassFor work.words.now pass × IsEnderOf work.words.now work.ender.now
+    ghost may = { λ work r pass. IsReservationOf work.words.now r × IsPassFor work.words.now pass
         × IsUnit (words_book work.words.now) (its_number r.slot) work.unit work.seen.now
-        × IsHeadFor (words_book work.words.now) (its_number r.slot) work.head.now };
+        × IsHeadFor (words_book work.words.now) (its_number r.slot) work.head.now
+        × IsEnderOf work.words.now work.ender.now };
 
     ghost gives = { λ work r r' pass pass' result. let s = its_number r.slot in
         let IsPut = PutBy T.row.coded.code R.puts in
@@ -303,9 +307,10 @@ pub(crate) struct Leaving<'a, T: Drop, R: Reclaim<T>, W> {
 
 impl<'a, 'p, T: Drop, R: Reclaim<T>, W: Wait> LockWork<Reservation<T>, Pass<'p>, ()>
     for Leaving<'a, T, R, W> {
-    ghost may = { λ work r pass. IsReservationOf work.words.now r × IsPassFor work.words.now pass × IsEnderOf work.words.now work.ender.now
+    ghost may = { λ work r pass. IsReservationOf work.words.now r × IsPassFor work.words.now pass
         × IsUnit (words_book work.words.now) (its_number r.slot) work.unit work.seen
-        × IsHeadFor (words_book work.words.now) (its_number r.slot) work.head.now };
+        × IsHeadFor (words_book work.words.now) (its_number r.slot) work.head.now
+        × IsEnderOf work.words.now work.ender.now };
 
     ghost gives = { λ work r r' pass pass' _. let s = its_number r.slot in
         let IsPut = PutBy T.row.coded.code R.puts in

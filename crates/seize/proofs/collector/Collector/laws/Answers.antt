@@ -38,4 +38,4 @@ pub returns-clause-contents : goal.returns-clause-contents
 returns-clause-contents g c =
     let told = c.permit_for_named-permit.ensures in let seen = c.permit_for_named-permit.new.self.seen in
     let lent = subst (λ (n : Name). AllCarryOne (after (start n) seen).named) (sym told.0.same.0) told.0.lent in
-    have_codes g.row.T.coded.code _ c.permit_for_named-permit.result.codes lent told.1.1 c.check.ensures
+    have_codes g.row.T.coded.code _ _ c.permit_for_named-permit.result.codes lent told.1.1 c.check.ensures

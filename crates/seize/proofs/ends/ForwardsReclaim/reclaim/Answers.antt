@@ -22,5 +22,5 @@ returns-clause-serves g c =
     let names = c.reclaim.ensures.2 [] c.new-put.ensures.none in (
       c.requires.serves.0,
       subst (PutAs code puts) (sym (c.note.ensures ∙ ap (λ (had : Had). had ++ more) c.take.ensures.0))
-      (put_more code puts before more c.requires.serves.1 ((c.args.value, sym c.take.ensures.1, names), tt)),
+          (put_more code puts before more c.requires.serves.1 ((c.args.value, sym c.take.ensures.1, names), tt)),
     )

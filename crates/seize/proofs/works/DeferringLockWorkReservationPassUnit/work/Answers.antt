@@ -1,9 +1,11 @@
 use Rattle.std.proofs.Common.{◌<◌, arith, refl, ◌∙◌}
 use Rattle.seize_machine.specs.declared.machine.event.Job.TheVariants.{Retire}
 use Rattle.seize_calls.specs.Slots.{its_number, its_value}
+use Rattle.seize.proofs.Given.{serves_new}
 use Rattle.seize.proofs.Guarded.{call_after}
 use Rattle.seize.proofs.OfKind.{kind_told}
 use Rattle.seize.proofs.Placed.{at_some, label_same, placed, some_at, still_for}
+use Rattle.seize_words.specs.Joined.{words_book}
 use Rattle.seize.specs.Enders.{PutBy}
 use Rattle.seize.proofs.Steps.{put_so}
 use Rattle.seize.proofs.Wholly.{held_whole, slot_retires}
@@ -12,7 +14,7 @@ use Rattle.seize.proofs.works.DeferringLockWorkReservationPassUnit.work.Goals as
 pub retire-requires : goal.retire-requires
 retire-requires g c =
     let words = c.args.self.words.now in let current = c.current.ensures in
-    (omega arith, ((current.active.1, still_for words c.args.pass.now c.current.new.pass c.requires.1.1 current.active_still.0.same, tt), (c.requires.1.2, tt)))
+    (omega arith, ((current.active.1, still_for words c.args.pass.now c.current.new.pass c.requires.1.1 current.active_still.0.same, tt), (c.requires.1.2, serves_new g.row.T.coded.code g.R.Reclaim.puts (words_book words) c.args.self.ender.now c.new.result.ender.now c.new.result.ends.had c.new.ensures c.requires.1.4)))
 
 pub returns : goal.returns
 returns g c =

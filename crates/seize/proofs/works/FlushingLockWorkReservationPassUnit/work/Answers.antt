@@ -1,8 +1,10 @@
 use Rattle.std.proofs.Common.{◌<◌, arith, refl, ◌∙◌}
 use Rattle.seize_calls.specs.Slots.{its_number}
 use Rattle.seize_machine.specs.declared.machine.event.Job.TheVariants.{Flush}
+use Rattle.seize.proofs.Given.{serves_new}
 use Rattle.seize.proofs.Guarded.{call_after}
 use Rattle.seize.proofs.Placed.{at_some, label_same, placed, some_at, still_for}
+use Rattle.seize_words.specs.Joined.{words_book}
 use Rattle.seize.specs.Enders.{PutBy}
 use Rattle.seize.proofs.Steps.{put_so}
 use Rattle.seize.proofs.Wholly.{held_whole, slot_flushes}
@@ -11,7 +13,7 @@ use Rattle.seize.proofs.works.FlushingLockWorkReservationPassUnit.work.Goals as 
 pub flush-requires : goal.flush-requires
 flush-requires g c =
     let words = c.args.self.words.now in let current = c.current.ensures in
-    (omega arith, ((current.active.1, still_for words c.args.pass.now c.current.new.pass c.requires.1.1 current.active_still.0.same, tt), (current.active.2.active, tt)))
+    (omega arith, ((current.active.1, still_for words c.args.pass.now c.current.new.pass c.requires.1.1 current.active_still.0.same, tt), (current.active.2.active, serves_new g.row.T.coded.code g.R.Reclaim.puts (words_book words) c.args.self.ender.now c.new.result.ender.now c.new.result.ends.had c.new.ensures c.requires.1.3)))
 
 pub returns : goal.returns
 returns g c =

@@ -2,6 +2,7 @@ use Rattle.std.proofs.Common.{◌<◌, ◌≡◌, arith, inl, refl, sym, ◌∙�
 use Rattle.seize_calls.specs.Slots.{its_number}
 use Rattle.seize_machine.specs.declared.machine.event.Job.TheVariants.{Refresh}
 use Rattle.seize_words.specs.Joined.{words_book}
+use Rattle.seize.proofs.Given.{serves_new}
 use Rattle.seize.proofs.Guarded.{call_after}
 use Rattle.seize.proofs.Placed.{at_some, label_same, placed, some_at, still_for, unit_in, units_joined, units_within}
 use Rattle.seize.proofs.Places.{own_head}
@@ -19,7 +20,7 @@ refresh-requires g c =
         (current.active.1, still_for words c.args.pass.now c.current.new.pass c.requires.1.1 current.active_still.0.same, tt),
         (
           own_head at.slot (words_book words) (its_number c.args.r.now.slot) work.head.now c.requires.1.3 current.active.1.0.book current.same,
-          ((units_within at.slot at.rest c.join.new.self _ c.join.ensures (at_some at.slot at.rest at.guards some is.at), omega (arith, units, c.if-r-gt1.false, some)), tt),
+          ((units_within at.slot at.rest c.join.new.self _ c.join.ensures (at_some at.slot at.rest at.guards some is.at), omega (arith, units, c.if-r-gt1.false, some)), serves_new g.row.T.coded.code g.R.Reclaim.puts (words_book words) c.args.self.ender.now c.new.result.ender.now c.new.result.ends.had c.new.ensures c.requires.1.4),
         ),
       ),
     )
