@@ -9,7 +9,7 @@ use Rattle.seize_book.specs.declared.book.pass.Pass.{Pass}
 use Rattle.seize_book.proofs.Facts.{equal, unequal}
 use Rattle.seize_words.specs.Links.{comparand}
 use Rattle.seize.specs.Blocks.{IsNamed, content}
-use Rattle.seize.specs.Collectors.{IsBlockOf}
+use Rattle.seize.specs.Collectors.{BelongsTo, IsBlockOf}
 use Rattle.seize.specs.Exchanges.{ComesBack}
 use Rattle.seize.specs.Makes.{Makes}
 use Rattle.seize.specs.declared.block.owned.Owned.{Owned}
@@ -33,11 +33,11 @@ made_looked {p} {q} {r} {es} makes (inl same) = subst (λ (z : Pass). Makes p z 
 made_looked {p} {q} {r} makes (inr looks) = then_none makes (none_looked q r looks)
 
 -- a block that comes back by its name has its content
-pub comes_back : {T R : Type 0} (coded : Coded T) (collector : Collector T R) (o : Option ℕ) (new back : Option (Owned T)) → IsNamed coded.code new o → IsNamed coded.code back o
-    → IfSome new (λ owned. IsBlockOf collector owned) → IfSome back (λ owned. IsBlockOf collector owned) → ComesBack new back
-comes_back coded collector (Some v) (Some new) (Some back) named again of its = (content_once coded v (content back) (content new) again named, its ∙ sym of)
-comes_back coded collector (Some v) (Some new) None named again of its = absurd again
-comes_back coded collector (Some v) None back named again of its = absurd named
-comes_back coded collector None (Some new) back named again of its = absurd named
-comes_back coded collector None None (Some back) named again of its = absurd again
-comes_back coded collector None None None named again of its = tt
+pub comes_back : {T R : Type 0} (coded : Coded T) (owners : T → List (List ℕ)) (collector : Collector T R) (o : Option ℕ) (new back : Option (Owned T)) → IsNamed coded.code new o → IsNamed coded.code back o
+    → IfSome new (λ owned. BelongsTo owners collector owned) → IfSome back (λ owned. IsBlockOf collector owned) → ComesBack new back
+comes_back coded owners collector (Some v) (Some new) (Some back) named again of its = (content_once coded v (content back) (content new) again named, its ∙ sym of.0)
+comes_back coded owners collector (Some v) (Some new) None named again of its = absurd again
+comes_back coded owners collector (Some v) None back named again of its = absurd named
+comes_back coded owners collector None (Some new) back named again of its = absurd named
+comes_back coded owners collector None None (Some back) named again of its = absurd again
+comes_back coded owners collector None None None named again of its = tt

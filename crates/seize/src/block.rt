@@ -34,7 +34,7 @@ pub(crate) fn name<T: Drop, R: Reclaim<T>>(
 {
     match value {
         Some(owned) => {
-            let (number, key) = owned.lend(&collector.words.blocks, &collector.ender.permits);
+            let (number, key) = owned.lend(&collector.words.blocks, &collector.ender().permits);
             (number + 1, MaybeKey::some(key))
         }
         None => (0, MaybeKey::none(pass)),

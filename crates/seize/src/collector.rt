@@ -86,7 +86,7 @@ impl<T: Drop, R: Reclaim<T>> Collector<T, R> {
     ghost use Rattle.seize_machine.specs.declared.machine.event.Answer.TheVariants.{Done};
     ghost use Rattle.seize_table.specs.declared.refusal.Refusal.TheVariants.{NoMemory as no_memory};
     ghost use Rattle.seize.specs.Blocks.{content};
-    ghost use Rattle.seize.specs.Collectors.{BeginsEmpty, IsBlockOf, IsNewPassOf, IsPassOf, IsRefusalFor, its_book, its_id, its_links, its_size, seen_by};
+    ghost use Rattle.seize.specs.Collectors.{BeginsEmpty, IsBlockOf, IsNewPassOf, IsPassOf, IsRefusalFor, its_book, its_id, its_links, its_size, its_words, seen_by};
     ghost use Rattle.seize.specs.Registrations.{registered_in, registered_slot};
     ghost use Rattle.seize.specs.Makes.{MakesNone, MakesOne};
 
@@ -184,6 +184,13 @@ impl<T: Drop, R: Reclaim<T>> Collector<T, R> {
         ensures { result ≡ its_id self.now }
     {
         self.id
+    }
+
+    // Its reclaimer, for the calls of its slots.
+    pub(crate) fn ender(&self) -> &Ender<T, R>
+        ensures { IsEnderOf (its_words self.now) result.now }
+    {
+        &self.ender
     }
 
     /// A new pass, with which nothing was made. It lasts for as long as the collector is shared, and may go to another thread.

@@ -199,7 +199,7 @@ impl<'r, 'c, T: Drop, R: Reclaim<T>> LocalGuard<'r, 'c, T, R> {
         let collector = reader.collector;
         let deferring = Deferring {
             words: &collector.words,
-            ender: &collector.ender,
+            ender: collector.ender(),
             unit: &reader.unit,
             seen: &reader.seen,
             loose: value.into_loose(),
@@ -220,7 +220,7 @@ impl<'r, 'c, T: Drop, R: Reclaim<T>> LocalGuard<'r, 'c, T, R> {
         let collector = reader.collector;
         let flushing = Flushing {
             words: &collector.words,
-            ender: &collector.ender,
+            ender: collector.ender(),
             unit: &reader.unit,
             seen: &reader.seen,
             rt,
@@ -245,7 +245,7 @@ impl<'r, 'c, T: Drop, R: Reclaim<T>> LocalGuard<'r, 'c, T, R> {
         let unit = mem::replace(&mut reader.unit, spare);
         let refreshing = Refreshing {
             words: &reader.collector.words,
-            ender: &reader.collector.ender,
+            ender: reader.collector.ender(),
             head: registration.head,
             unit,
             seen: &reader.seen,
@@ -278,7 +278,7 @@ impl<'r, 'c, T: Drop, R: Reclaim<T>> LocalGuard<'r, 'c, T, R> {
         } = reader;
         let leaving = Leaving {
             words: &collector.words,
-            ender: &collector.ender,
+            ender: collector.ender(),
             head: registration.head,
             unit,
             seen,

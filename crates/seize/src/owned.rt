@@ -228,7 +228,7 @@ impl<'c, T: Drop, R: Reclaim<T>> OwnedGuard<'c, T, R> {
         let collector = reader.collector;
         let deferring = Deferring {
             words: &collector.words,
-            ender: &collector.ender,
+            ender: collector.ender(),
             unit: &reader.unit,
             seen: &reader.seen,
             loose: value.into_loose(),
@@ -249,7 +249,7 @@ impl<'c, T: Drop, R: Reclaim<T>> OwnedGuard<'c, T, R> {
         let collector = reader.collector;
         let flushing = Flushing {
             words: &collector.words,
-            ender: &collector.ender,
+            ender: collector.ender(),
             unit: &reader.unit,
             seen: &reader.seen,
             rt,
@@ -271,7 +271,7 @@ impl<'c, T: Drop, R: Reclaim<T>> OwnedGuard<'c, T, R> {
         let unit = mem::replace(&mut reader.unit, spare);
         let refreshing = Refreshing {
             words: &reader.collector.words,
-            ender: &reader.collector.ender,
+            ender: reader.collector.ender(),
             head: self.head,
             unit,
             seen: &reader.seen,
@@ -307,7 +307,7 @@ impl<'c, T: Drop, R: Reclaim<T>> OwnedGuard<'c, T, R> {
         let mut reservation = reservation.into_value();
         let leaving = Leaving {
             words,
-            ender: &collector.ender,
+            ender: collector.ender(),
             head,
             unit,
             seen,

@@ -168,7 +168,7 @@ impl<'c, T: Drop, R: Reclaim<T>> Registration<'c, T, R> {
         let loose = value.into_loose();
         let retiring = Retiring {
             words: &collector.words,
-            ender: &collector.ender,
+            ender: collector.ender(),
             loose,
             kind,
             rt,

@@ -44,7 +44,7 @@ impl<'c, T: Drop> Unlinked<'c, T> {
         ensures content { HasContent T.row.coded.code (unlinked_name result) (content owned) }
     {
         let words = &collector.words;
-        let (number, value) = owned.lend(&words.blocks, &collector.ender.permits);
+        let (number, value) = owned.lend(&words.blocks, &collector.ender().permits);
         let loose = Loose::new(number, value);
         Unlinked { words, loose }
     }

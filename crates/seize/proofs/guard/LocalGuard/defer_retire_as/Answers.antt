@@ -14,7 +14,7 @@ with-requires g c =
     let guard = c.args.self.now in let n = its_book (guard_collector guard) in let s = guard_slot guard in let reader = guard.reader in let T = g.row.T.Denot in
     let its = subst (λ (words : Words T). IsLooseOf words c.into_loose.result) c.requires.of.1 c.into_loose.ensures.1 in
     λ r keeps. let at = in_place n s (2 ^ 64 - 1) r (keeps.0 ∙ guard_place guard) in
-    (at.0, (sym c.requires.of.0.0, sym c.requires.of.0.1), its, unit_as n s (its_number r.slot) reader.unit reader.unit reader.seen at.1 refl (reader.its, reader.known))
+    (at.0, (sym c.requires.of.0.0, sym c.requires.of.0.1), its, unit_as n s (its_number r.slot) reader.unit reader.unit reader.seen at.1 refl (reader.its, reader.known), c.ender.ensures)
 
 pub returns-clause-call : goal.returns-clause-call
 returns-clause-call g c =

@@ -5,6 +5,7 @@ use Rattle.seize_words.specs.declared.activation.Activation.{Activation}
 use Rattle.seize_calls.specs.Slots.{its_number}
 use Rattle.seize.specs.Collectors.{its_book}
 use Rattle.seize.specs.Guards.{guard_collector, guard_slot}
+use Rattle.seize.specs.Enders.{PutBy}
 use Rattle.seize.specs.Makes.{MakesCall, StaysActive}
 use Rattle.seize.specs.Reservations.{IsUnit}
 use Rattle.seize.proofs.Placed.{pass_as, unit_as}
@@ -15,7 +16,7 @@ pub with-unit-requires : goal.with-unit-requires
 with-unit-requires g c =
     let guard = c.args.self.now in let collector = guard_collector guard in let n = its_book collector in let s = guard_slot guard in let reader = guard.reader in
     λ r keeps. let at = in_place n s (2 ^ 64 - 1) r (keeps.0 ∙ guard_place guard) in
-    (at.0, pass_as collector c.args.pass.now c.with-spare.new.with c.with-spare.ensures.gives c.requires.of, unit_as n s (its_number r.slot) reader.unit c.replace-unit.result reader.seen at.1 c.replace-unit.ensures.value (reader.its, reader.known), head_for n s (its_number r.slot) guard.registration.now.head.now (guard_head guard) at.1)
+    (at.0, pass_as collector c.args.pass.now c.with-spare.new.with c.with-spare.ensures.gives c.requires.of, unit_as n s (its_number r.slot) reader.unit c.replace-unit.result reader.seen at.1 c.replace-unit.ensures.value (reader.its, reader.known), head_for n s (its_number r.slot) guard.registration.now.head.now (guard_head guard) at.1, c.ender.ensures)
 
 pub invariant_of-reader : goal.invariant_of-reader
 invariant_of-reader g c =
@@ -28,5 +29,5 @@ returns-clause-refreshes g c =
     let guard = c.args.self.now in let gives = c.with-unit.ensures.gives in let pass = c.args.pass.now in let pass' = c.with-unit.new.with in
     let at = in_place (its_book (guard_collector guard)) (guard_slot guard) (2 ^ 64 - 1) c.with-unit.ensures.before (c.with-unit.ensures.was.0 ∙ guard_place guard) in
     let same : c.replace-unit.result ≡ guard.reader.unit = c.replace-unit.ensures.value in
-    subst (λ (t : ℕ × Pass × Activation). MakesCall _ t.0 Refresh t.1 pass' ⊎ (StaysActive t.0 t.1 pass' × (c.with-unit.result.0 ≡ t.2)))
+    subst (λ (t : ℕ × Pass × Activation). MakesCall (PutBy g.row.T.coded.code g.R.Reclaim.puts) t.0 Refresh t.1 pass' ⊎ (StaysActive t.0 t.1 pass' × (c.with-unit.result.0 ≡ t.2)))
     (λ j. (at.1 j, c.with-spare.ensures.gives j, same j)) (one_of_two gives.0)

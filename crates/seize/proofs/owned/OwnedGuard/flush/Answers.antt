@@ -11,7 +11,7 @@ pub with-requires : goal.with-requires
 with-requires g c =
     let self = c.args.self.now in let reader = self.reader in let n = its_book reader.collector.now in
     λ r keeps. let at = in_place n reader.number 1 r (keeps.0 ∙ self.at) in
-    (at.0, (sym c.requires.of.0, sym c.requires.of.1), unit_as n reader.number (its_number r.slot) reader.unit reader.unit reader.seen at.1 refl (reader.its, reader.known))
+    (at.0, (sym c.requires.of.0, sym c.requires.of.1), unit_as n reader.number (its_number r.slot) reader.unit reader.unit reader.seen at.1 refl (reader.its, reader.known), c.ender.ensures)
 
 pub returns : goal.returns
 returns g c =

@@ -3,6 +3,7 @@ use Rattle.seize_machine.specs.declared.machine.event.Job.TheVariants.{Refresh}
 use Rattle.seize_book.specs.declared.book.pass.Pass.{Pass}
 use Rattle.seize_calls.specs.Slots.{its_number}
 use Rattle.seize.specs.Collectors.{its_book}
+use Rattle.seize.specs.Enders.{PutBy}
 use Rattle.seize.specs.Makes.{MakesCall}
 use Rattle.seize.specs.Reservations.{IsUnit}
 use Rattle.seize.proofs.Placed.{pass_as, unit_as}
@@ -13,7 +14,7 @@ pub with-unit-requires : goal.with-unit-requires
 with-unit-requires g c =
     let self = c.args.self.now in let reader = self.reader in let collector = reader.collector.now in let n = its_book collector in
     λ r keeps. let at = in_place n reader.number 1 r (keeps.0 ∙ self.at) in
-    (at.0, pass_as collector c.args.pass.now c.with-spare.new.with c.with-spare.ensures.gives c.requires.of, unit_as n reader.number (its_number r.slot) reader.unit c.replace-unit.result reader.seen at.1 c.replace-unit.ensures.value (reader.its, reader.known), head_for n reader.number (its_number r.slot) self.head.now self.headed at.1)
+    (at.0, pass_as collector c.args.pass.now c.with-spare.new.with c.with-spare.ensures.gives c.requires.of, unit_as n reader.number (its_number r.slot) reader.unit c.replace-unit.result reader.seen at.1 c.replace-unit.ensures.value (reader.its, reader.known), head_for n reader.number (its_number r.slot) self.head.now self.headed at.1, c.ender.ensures)
 
 pub invariant_of-reader : goal.invariant_of-reader
 invariant_of-reader g c =
@@ -24,4 +25,4 @@ pub returns-clause-refreshes : goal.returns-clause-refreshes
 returns-clause-refreshes g c =
     let self = c.args.self.now in let with = c.with-unit.ensures in let pass' = c.with-unit.new.with in
     let at = in_place (its_book self.reader.collector.now) self.reader.number 1 with.before (with.was.0 ∙ self.at) in
-    subst (λ (t : ℕ × Pass). MakesCall _ t.0 Refresh t.1 pass') (λ j. (at.1 j, c.with-spare.ensures.gives j)) (first_of_two with.before.guards with.before.most with.was.1.fits at.2 with.gives.0)
+    subst (λ (t : ℕ × Pass). MakesCall (PutBy g.row.T.coded.code g.R.Reclaim.puts) t.0 Refresh t.1 pass') (λ j. (at.1 j, c.with-spare.ensures.gives j)) (first_of_two with.before.guards with.before.most with.was.1.fits at.2 with.gives.0)
