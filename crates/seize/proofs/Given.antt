@@ -1,5 +1,5 @@
 -- What a reclaimer is given, and what it put.
-use Rattle.std.proofs.Common.{◌≡◌, ℕ, List, [], ◌∷◌, ◌++◌, refl, sym, ap, subst, ◌∙◌}
+use Rattle.std.proofs.Common.{◌≡◌, ℕ, List, [], ◌∷◌, ◌++◌, refl, sym, ap, subst, ◌∙◌, append_assoc}
 use base.Stored.{Coded, Gv}
 use Rattle.seize_book.specs.Entry.{Entry}
 use Rattle.seize_book.specs.Kept.{kepts_in}
@@ -12,7 +12,9 @@ use Rattle.seize_book.specs.declared.book.value_keys.ValueKeys.{ValueKeys}
 use Rattle.seize_calls.specs.Handing.{Had}
 use Rattle.seize_book.specs.Tokens.{Name}
 use Rattle.seize_words.specs.Chunks.{IsLentAs}
+use Rattle.seize.specs.Furthers.{HasPut, Puts}
 use Rattle.seize.specs.Names.{AreNamesOf}
+use Rattle.seize.specs.declared.reclaim.further.Further.{Further}
 use Rattle.seize.specs.Enders.{IsEnderIn, PutAs}
 use Rattle.seize.specs.declared.ender.Ender.{Ender}
 use Rattle.seize.specs.Lighter.{same_value}
@@ -48,3 +50,8 @@ names_more code [] [] v x names lent = (lent, tt)
 names_more code (w ∷ vs) (y ∷ xs) v x names lent = (names.0, names_more code vs xs v x names.1 lent)
 names_more code [] (y ∷ xs) v x names lent = absurd names
 names_more code (w ∷ vs) [] v x names lent = absurd names
+
+-- what is put, one after the other
+pub puts_then : {T R : Type 0} (code : T → Gv) (a b c : Further T R) (xs ys : List T) → Puts code a b xs → Puts code b c ys → Puts code a c (xs ++ ys)
+puts_then code a b c xs ys one two =
+    (two.0 ∙ one.0, two.1 ∙ one.1, λ before names. subst (HasPut code c) (append_assoc before xs ys) (two.2 (before ++ xs) (one.2 before names)))

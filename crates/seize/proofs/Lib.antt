@@ -12,6 +12,7 @@ pub mod Current
 pub mod Readable
 mod Numbered
 mod Lighter
+pub mod Contents
 mod Given
 mod Chunks
 pub mod Protected

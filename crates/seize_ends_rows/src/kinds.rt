@@ -1,10 +1,11 @@
 //! A reclaimer of the caller's own: each value goes to it once, with the kind that its retirement said, by whatever call ends the value.
+ghost use Rattle.std.proofs.Common.{lit<};
 ghost use Rattle.std.specs.Prelude.{◌≡◌, IfOk};
 ghost use Rattle.seize.specs.Collectors.{IsPassOf, its_links};
 ghost use Rattle.seize.specs.OwnedGuards.{owned_collector};
 ghost use Rattle.seize.specs.Registrations.{registered_in};
 
-use seize::{Collector, IdSource, OwnedGuard, Pass, Reclaim, Refusal, Registration, Unlinked};
+use seize::{Collector, Further, IdSource, OwnedGuard, Pass, Reclaim, Refusal, Registration, Unlinked};
 use seize_threads_rows::values::ended;
 use std::alloc::Global;
 use std::process::Abort;
@@ -30,7 +31,7 @@ struct Sums<'a> {
 }
 
 impl Reclaim<u64> for Sums<'_> {
-    fn reclaim(self, kind: u64, value: u64) {
+    fn reclaim(self, kind: u64, value: u64, _further: &mut Further<'_, u64, Self>) {
         let sum = match kind {
             0 => &self.sums.first,
             SECOND => &self.sums.second,
@@ -39,6 +40,8 @@ impl Reclaim<u64> for Sums<'_> {
         };
         sum.fetch_add(value, Ordering::SeqCst);
     }
+
+    ghost lighter = { λ _ _. lit< tt };
 }
 
 type Summing<'a> = Collector<u64, Sums<'a>>;

@@ -1,2 +1,2 @@
-pub mod Nodes
+pub mod Nests
 pub mod Weights

@@ -4,8 +4,8 @@
 
 pub mod alone;
 pub mod cache;
-pub mod list;
 pub mod machine;
+pub mod nest;
 pub mod reclaimers;
 pub mod reclaiming;
 pub mod replacing;

@@ -1,4 +1,5 @@
 //! A reclaimer of one's own, which counts what ends, and a caller who says of which kind a value is.
+ghost use Rattle.std.proofs.Common.{lit<};
 ghost use Rattle.std.specs.Prelude.{◌≡◌, ◌<◌, ℕ, IfOk, true};
 ghost use Rattle.seize.specs.Collectors.{IsBlockOf, IsPassOf, its_links};
 ghost use Rattle.seize.specs.Guards.{guard_collector};
@@ -6,7 +7,7 @@ ghost use Rattle.seize.specs.Laws.{moments_seen};
 ghost use Rattle.seize.specs.Machine.History.{Retired};
 ghost use Rattle.seize.specs.Makes.{IsOfKind};
 
-use seize::{Collector, IdSource, LocalGuard, Owned, Pass, Reclaim, Refusal};
+use seize::{Collector, Further, IdSource, LocalGuard, Owned, Pass, Reclaim, Refusal};
 use std::alloc::Global;
 use std::sync::Wait;
 use std::sync::atomic::{AtomicU64, Ordering};
@@ -41,13 +42,15 @@ pub struct Counting<'a> {
 }
 
 impl Reclaim<u64> for Counting<'_> {
-    fn reclaim(self, kind: u64, _value: u64) {
+    fn reclaim(self, kind: u64, _value: u64, _further: &mut Further<'_, u64, Self>) {
         let count = match kind {
             REMOVED => &self.counts.removed,
             _ => &self.counts.replaced,
         };
         count.fetch_add(1, Ordering::SeqCst);
     }
+
+    ghost lighter = { λ _ _. lit< tt };
 }
 
 /// A collector with one link, whose numbers are counted as they end. It may be refused as `Collector::new` is.

@@ -28,7 +28,7 @@ pub struct Further<'a, T: Drop, R: Reclaim<T>> {
 }
 
 impl<'a, T: Drop, R: Reclaim<T>> Further<'a, T, R> {
-    ghost use Rattle.std.specs.Prelude.{[], ◌∷◌};
+    ghost use Rattle.std.specs.Prelude.{All, [], ◌∷◌};
     ghost use Rattle.seize.specs.Blocks.{Belongs, content};
     ghost use Rattle.seize.specs.Furthers.{HasPut, Puts, further_store};
 
@@ -63,5 +63,16 @@ impl<'a, T: Drop, R: Reclaim<T>> Further<'a, T, R> {
     {
         let (number, key) = owned.lend(self.blocks, self.permits);
         self.chain.put(self.blocks, number, self.kind, key);
+    }
+    /// Puts all these, in their order, behind those that were put before.
+    ///
+    /// It takes no memory and waits for nobody.
+    pub fn put_all(&mut self, blocks: Vec<Owned<T>>)
+        requires { All (Belongs R.owners (further_store self.old)) blocks.items }
+        ensures { Puts T.row.coded.code self.old self.new (map content blocks.items) }
+    {
+        for owned in blocks {
+            self.put(owned);
+        }
     }
 }
