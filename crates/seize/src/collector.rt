@@ -304,7 +304,8 @@ impl<'a, T: Drop, R: Reclaim<T>> Stay<bool> for Sweep<'a, T, R> {
     ghost use Rattle.seize_calls.specs.Slots.{IsPassFor};
     ghost use Rattle.seize.specs.Sweeps.{Sweeps};
 
-    ghost may = { λ sweep pass. IsPassFor sweep.words.now pass × IsSole pass.id × IsEnderOf sweep.words.now sweep.ender.now };
+    ghost may = { λ sweep pass. IsPassFor sweep.words.now pass × IsSole pass.id × IsEnderOf sweep.words.now sweep.ender.now
+        × (sweep.words.now.size ≤ 1) };
 
     ghost gives = { λ sweep sweep' pass pass' result. (sweep'.numbers ≡ sweep.numbers) × Sweeps pass pass' result };
 
@@ -355,6 +356,8 @@ impl<T: Drop, R: Reclaim<T>> Collector<T, R> {
     pub fn reclaim_all(&mut self) -> bool
         ensures { ReclaimsAll self.old self.new result }
     {
+        let size = self.words.size;
+        self.words.set_size(&mut self.porter, 1);
         let mut sweep = Sweep {
             words: &self.words,
             ender: &self.ender,
@@ -362,6 +365,7 @@ impl<T: Drop, R: Reclaim<T>> Collector<T, R> {
         };
         let all = self.porter.stay(&mut sweep);
         self.porter.leave_home();
+        self.words.set_size(&mut self.porter, size);
         all
     }
 }
@@ -400,13 +404,14 @@ impl<T: Drop, R: Reclaim<T>> fmt::Debug for Collector<T, R> {
 impl<T: Drop, R: Reclaim<T>> Drop for Collector<T, R> {
     fn drop(self) {
         let Collector {
-            words,
-            porter,
+            mut words,
+            mut porter,
             numbers,
             ender,
             id: _,
             alloc: _,
         } = self;
+        words.set_size(&mut porter, 1);
         end_all(&words, &ender, numbers.into_value(), porter.shut());
     }
 }
