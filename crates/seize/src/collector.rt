@@ -300,6 +300,7 @@ struct Sweep<'a, T: Drop, R: Reclaim<T>> {
 }
 
 impl<'a, T: Drop, R: Reclaim<T>> Stay<bool> for Sweep<'a, T, R> {
+    ghost use Rattle.std.specs.Prelude.{◌≤◌};
     ghost use Rattle.seize_book.specs.Tokens.{IsSole};
     ghost use Rattle.seize_calls.specs.Slots.{IsPassFor};
     ghost use Rattle.seize.specs.Sweeps.{Sweeps};
