@@ -307,11 +307,13 @@ struct Sweep<'a, T: Drop, R: Reclaim<T>> {
 }
 
 impl<'a, T: Drop, R: Reclaim<T>> Stay<bool> for Sweep<'a, T, R> {
+    ghost use Rattle.std.specs.Prelude.{◌≤◌};
     ghost use Rattle.seize_book.specs.Tokens.{IsSole};
     ghost use Rattle.seize_calls.specs.Slots.{IsPassFor};
     ghost use Rattle.seize.specs.Sweeps.{Sweeps};
 
-    ghost may = { λ sweep pass. IsPassFor sweep.words.now pass × IsSole pass.id × IsEnderOf sweep.words.now sweep.ender.now };
+    ghost may = { λ sweep pass. IsPassFor sweep.words.now pass × IsSole pass.id × IsEnderOf sweep.words.now sweep.ender.now
+        × (sweep.words.now.size ≤ 1) };
 
     ghost gives = { λ sweep sweep' pass pass' result. (sweep'.numbers ≡ sweep.numbers) × Sweeps pass pass' result };
 
@@ -362,6 +364,8 @@ impl<T: Drop, R: Reclaim<T>> Collector<T, R> {
     pub fn reclaim_all(&mut self) -> bool
         ensures { ReclaimsAll self.old self.new result }
     {
+        let size = self.words.size;
+        self.words.set_size(&mut self.porter, 1);
         let mut sweep = Sweep {
             words: &self.words,
             ender: &self.ender,
@@ -369,6 +373,7 @@ impl<T: Drop, R: Reclaim<T>> Collector<T, R> {
         };
         let all = self.porter.stay(&mut sweep);
         self.porter.leave_home();
+        self.words.set_size(&mut self.porter, size);
         all
     }
 }
@@ -407,13 +412,14 @@ impl<T: Drop, R: Reclaim<T>> fmt::Debug for Collector<T, R> {
 impl<T: Drop, R: Reclaim<T>> Drop for Collector<T, R> {
     fn drop(self) {
         let Collector {
-            words,
-            porter,
+            mut words,
+            mut porter,
             numbers,
             ender,
             id: _,
             alloc: _,
         } = self;
+        words.set_size(&mut porter, 1);
         end_all(&words, &ender, numbers.into_value(), porter.shut());
     }
 }

@@ -1,6 +1,6 @@
 //! The end of a collector, which nobody shares any more: what its links hold, and what waits in the batches of its slots, ends with it.
 //! The calls are made one after the other by a pass that is alone, so none of them waits, and each returns.
-ghost use Rattle.std.specs.Prelude.{◌<◌, length};
+ghost use Rattle.std.specs.Prelude.{◌<◌, ◌≤◌, length};
 ghost use Rattle.seize_book.specs.Passes.{IsSamePass};
 ghost use Rattle.seize_book.specs.Tokens.{IsSole};
 ghost use Rattle.seize_words.specs.Joined.{words_book};
@@ -36,6 +36,7 @@ pub(crate) fn end_all<T: Drop, R: Reclaim<T>>(
     requires numbers { AreNumbers numbers × IsLockFor words.now numbers }
     requires pass { IsPassFor words.now pass × IsSole pass.id }
     requires ender { IsEnderOf words.now ender.now }
+    requires size { words.now.size ≤ 1 }
 {
     let (mut numbers, mut pass) = (numbers, pass);
     Sweeping { words, ender }.work(&mut numbers, &mut pass);

@@ -1,6 +1,6 @@
 //! What is done with the slots that nobody has, where nobody shares the collector. Each takes its number again, enters, attempts its batch
 //! at any length, and leaves; then the numbers go back. The pass is alone, so no call waits, and each returns.
-ghost use Rattle.std.specs.Prelude.{◌≡◌, ◌<◌, ◌+◌, is_some, length};
+ghost use Rattle.std.specs.Prelude.{◌≡◌, ◌<◌, ◌≤◌, ◌+◌, is_some, length};
 ghost use Rattle.std.specs.List.{list_all};
 ghost use Rattle.seize_book.specs.Tokens.{IsSole};
 ghost use Rattle.seize_words.specs.Joined.{words_book};
@@ -29,6 +29,7 @@ fn sweep<T: Drop, R: Reclaim<T>>(
     requires slot { IsSlotOf words.now slot.old × IsInactive slot.old }
     requires pass { IsPassFor words.now pass.old × IsSole pass.old.id }
     requires ender { IsEnderOf words.now ender.now }
+    requires size { words.now.size ≤ 1 }
     ensures slot { IsSlotOf words.now slot.new × IsInactive slot.new × (its_number slot.new ≡ its_number slot.old) }
     ensures led { IsLedBy (its_number slot.old) pass.old pass.new }
     ensures left { AreOff pass.old → LeavesNothing pass.new (its_number slot.old) }
@@ -62,6 +63,7 @@ impl<T: Drop> Numbers<T> {
         requires numbers { AreNumbers self.old × (self.old.book.name ≡ words_book words.now) }
         requires pass { IsPassFor words.now pass.old × IsSole pass.old.id }
         requires ender { IsEnderOf words.now ender.now }
+        requires size { words.now.size ≤ 1 }
         ensures numbers { AreNumbers self.new × (self.new.book ≡ self.old.book) }
         ensures sweeps { Sweeps pass.old pass.new result }
     {
@@ -117,6 +119,7 @@ impl<T: Drop> Numbers<T> {
         requires taken { AreTakenTo (length self.old.slots.items) self.old × (self.old.book.name ≡ words_book words.now) }
         requires pass { IsPassFor words.now pass.old × IsSole pass.old.id }
         requires ender { IsEnderOf words.now ender.now }
+        requires size { words.now.size ≤ 1 }
         ensures taken { AreTakenTo (length self.new.slots.items) self.new × KeepsPlaces self.old self.new }
         ensures left { KeepsOn pass.old pass.new
             × (AreOff pass.old → AreClearedBelow (length self.new.slots.items) (flags_of self.new.slots.items) pass.new) }
@@ -139,6 +142,7 @@ impl<T: Drop> Numbers<T> {
             × (n < length self.old.slots.items) }
         requires pass { IsPassFor words.now pass.old × IsSole pass.old.id }
         requires ender { IsEnderOf words.now ender.now }
+        requires size { words.now.size ≤ 1 }
         ensures taken { AreTakenTo (length self.new.slots.items) self.new × KeepsPlaces self.old self.new }
         ensures kept { KeepsOn pass.old pass.new × KeepsClearedBut n pass.old pass.new }
         ensures left { AreOff pass.old → AreOff pass.new × (LiesHere (flags_of self.new.slots.items) n → LeavesNothing pass.new n) }
@@ -192,7 +196,7 @@ pub(crate) struct Sweeping<'a, T: Drop, R: Reclaim<T>> {
 
 impl<'a, 'p, T: Drop, R: Reclaim<T>> LockWork<Numbers<T>, Pass<'p>, bool> for Sweeping<'a, T, R> {
     ghost may = { λ work numbers pass. IsLockFor work.words.now numbers × IsPassFor work.words.now pass × IsSole pass.id
-        × IsEnderOf work.words.now work.ender.now };
+        × IsEnderOf work.words.now work.ender.now × (work.words.now.size ≤ 1) };
 
     ghost gives = { λ work numbers numbers' pass pass' result. Sweeps pass pass' result };
 

@@ -12,7 +12,7 @@ loop-n-init g c =
 
 pub recover_at-requires : goal.recover_at-requires
 recover_at-requires g c =
-    let i = c.loop-n.invariant in (omega arith, ((i.0, ap (λ seen. seen.name) i.1.0 ∙ c.requires.taken.1), (i.2, i.3)))
+    let i = c.loop-n.invariant in (omega arith, ((i.0, ap (λ seen. seen.name) i.1.0 ∙ c.requires.taken.1), ((i.2, i.3), c.requires.ender)))
 
 pub loop-n-preserved : goal.loop-n-preserved
 loop-n-preserved g c =

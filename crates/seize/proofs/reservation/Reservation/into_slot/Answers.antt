@@ -5,6 +5,7 @@ use Rattle.seize_book.specs.declared.book.pass.Pass.{Pass}
 use Rattle.seize_calls.specs.Slots.{IsPassFor, its_number}
 use Rattle.seize_words.specs.Joined.{words_book}
 use Rattle.seize_words.specs.declared.activation.Activation.{Activation}
+use Rattle.seize.specs.Enders.{IsEnderOf, PutAs}
 use Rattle.seize.specs.Shelves.{IsForgottenOf}
 use Rattle.seize.specs.Sweeps.{IsLedBy}
 use Rattle.seize.proofs.OneLife.{forgotten_begun}
@@ -34,7 +35,7 @@ leave-requires g c =
       omega arith,
       (
         (current.of.0, still_for words p2 p3 for2 prepares.same, still_sole p2 p3 prepares.same (still_sole p1 p2 led.same sole1)),
-        (c.head-head.ensures.head, ((units_within slot' r.rest whole _ c.join.ensures (current.of.1 r.rest (at_some r.slot r.rest r.guards some is.at)), omega (arith, joined, a.counted, c.if-count-guards.false, is.units)), tt)),
+        (c.head-head.ensures.head, ((units_within slot' r.rest whole _ c.join.ensures (current.of.1 r.rest (at_some r.slot r.rest r.guards some is.at)), omega (arith, joined, a.counted, c.if-count-guards.false, is.units)), (subst (IsEnderOf words) (sym c.new.ensures.1) c.requires.ender, subst (PutAs g.row.T.coded.code g.R.Reclaim.puts) (sym c.new.ensures.0) tt))),
       ),
     )
 
@@ -49,4 +50,4 @@ returns-clause-led g c =
     (led_then s p1 p2 p4 led
     (led_then s p2 p3 p4 (led_prepared slot' p2 p3 prepares sole2 s)
     (led_as s (its_number slot') p3 p4 current.looks.0.same.0
-    (leaves slot' p3 c.leave.new.self p4 (still_sole p2 p3 prepares.same sole2) words leave.of.0.0 for3 c.new.result.ends.ended c.leave.new.reclaimer.ends.ended leave.leaves))))
+    (leaves slot' p3 c.leave.new.self p4 (still_sole p2 p3 prepares.same sole2) words leave.of.0.0 for3 c.new.result.ends.had c.leave.new.reclaimer.ends.had leave.leaves))))
