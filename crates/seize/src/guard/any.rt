@@ -6,7 +6,7 @@ ghost use Rattle.seize_machine.specs.declared.machine.event.Exchange.TheVariants
 ghost use Rattle.seize_machine.specs.declared.machine.event.Job.TheVariants.{Flush, Refresh, Retire};
 ghost use Rattle.seize_table.specs.declared.refusal.Refusal.TheVariants.{NoMemory as no_memory};
 ghost use Rattle.seize.specs.Blocks.{ComesOut, IsNamed, IsSharedOf, IsUnlinkedOf, Shows, content, unlinked_name};
-ghost use Rattle.seize.specs.Collectors.{BelongsTo, IsBlockOf, IsPassOf, its_links};
+ghost use Rattle.seize.specs.Collectors.{BelongsTo, IsBlockOf, IsNewPassOf, IsPassOf, its_id, its_links};
 ghost use Rattle.seize.specs.Exchanges.{FoundIn, MakesExchange, Protects, current_name};
 ghost use Rattle.seize.specs.Enders.{PutBy};
 ghost use Rattle.seize.specs.Makes.{Defers, IsOfKind, MakesCall, MakesNone, MakesOne, StaysActive};
@@ -14,7 +14,6 @@ ghost use Rattle.seize_words.specs.declared.activation.Activation.{Activation};
 ghost use Rattle.seize.specs.declared.collector.Collector.{Collector};
 
 use crate::block::{Failed, Owned, Shared, Unlinked};
-use crate::collector::Collector;
 use crate::reclaim::Reclaim;
 use seize_table::Refusal;
 use seize_words::book::Pass;
@@ -35,9 +34,13 @@ pub trait Guard<T: Drop> {
     /// Its part of the slot's activation, with which it reads. It is of another one after a refresh that makes its call.
     ghost activation: { Self → Activation };
 
-    /// The collector.
-    fn collector(&self) -> &Collector<T, Self::Reclaimer>
-        ensures { result.now ≡ guarded self.now };
+    /// The id of its collector, as `Collector::id` says it.
+    fn collector_id(&self) -> u64
+        ensures { result ≡ its_id (guarded self.now) };
+
+    /// A new pass of its collector: see `Collector::pass`.
+    fn pass(&self) -> Pass<'_>
+        ensures { IsNewPassOf (guarded self.now) result };
 
     /// The number of its slot.
     fn thread_id(&self) -> usize

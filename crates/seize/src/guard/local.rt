@@ -11,7 +11,6 @@ ghost use Rattle.seize.specs.Guards.{guard_activation, guard_collector, guard_sl
 ghost use Rattle.seize.specs.Makes.{Defers, IsOfKind, MakesOne};
 
 use crate::block::{Failed, Owned, Shared, Unlinked};
-use crate::collector::Collector;
 use crate::guard::{Guard, LocalGuard};
 use crate::reclaim::Reclaim;
 use seize_table::Refusal;
@@ -27,10 +26,12 @@ impl<T: Drop, R: Reclaim<T>> Guard<T> for LocalGuard<'_, '_, T, R> {
 
     ghost activation = { λ guard. guard_activation guard };
 
-    fn collector(&self) -> &Collector<T, R>
-        ensures { result.now ≡ guard_collector self.now }
-    {
-        LocalGuard::collector(self)
+    fn collector_id(&self) -> u64 {
+        LocalGuard::collector(self).id()
+    }
+
+    fn pass(&self) -> Pass<'_> {
+        LocalGuard::collector(self).pass()
     }
 
     fn thread_id(&self) -> usize {

@@ -11,7 +11,6 @@ ghost use Rattle.seize.specs.Makes.{Defers, IsOfKind, MakesOne};
 ghost use Rattle.seize.specs.OwnedGuards.{owned_activation, owned_collector, owned_slot};
 
 use crate::block::{Failed, Owned, Shared, Unlinked};
-use crate::collector::Collector;
 use crate::guard::Guard;
 use crate::owned::OwnedGuard;
 use crate::reclaim::Reclaim;
@@ -28,10 +27,12 @@ impl<T: Drop, R: Reclaim<T>> Guard<T> for OwnedGuard<'_, T, R> {
 
     ghost activation = { λ guard. owned_activation guard };
 
-    fn collector(&self) -> &Collector<T, R>
-        ensures { result.now ≡ owned_collector self.now }
-    {
-        OwnedGuard::collector(self)
+    fn collector_id(&self) -> u64 {
+        OwnedGuard::collector(self).id()
+    }
+
+    fn pass(&self) -> Pass<'_> {
+        OwnedGuard::collector(self).pass()
     }
 
     fn thread_id(&self) -> usize {
