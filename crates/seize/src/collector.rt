@@ -353,7 +353,8 @@ impl<T: Drop, R: Reclaim<T>> Collector<T, R> {
     /// collector may be shared again.
     ///
     /// Slots that were forgotten leave first: those of registrations and guards that `forget` spent, and of registrations that ended with
-    /// the answer false. Then each slot attempts its batch, and the numbers go back.
+    /// the answer false. Then each slot attempts its batch, and the numbers go back. What reclaimers put meanwhile is reclaimed too, since
+    /// the batch size is 1 for as long.
     ///
     /// The answer is false, then and later, as tests show, where a registration or a guard is lost: a type that holds it was given to
     /// `mem::forget`. What is in that slot's batch stays. If the slot has a guard, what waits for it or is attempted later stays as well.

@@ -9,14 +9,19 @@ use Rattle.seize_calls.specs.Alone.{AllBy}
 use Rattle.seize_machine.specs.Machine.Laws.{is_quiet}
 use Rattle.seize.specs.Sweeps.{IsCleared, StandsInUse}
 use Rattle.seize_words.specs.Joined.{with_size, words_book}
+use Rattle.seize_words.specs.declared.words.Words.{Words}
 use Rattle.seize.specs.Collectors.{its_book}
 use Rattle.seize.specs.Enders.{IsEnderOf}
 use Rattle.seize.proofs.collector.Collector.reclaim_all.Goals as goal
 
+-- the words get their batch size back
+sized_back : {T : Type 0} (words one two : Words T) → one ≡ with_size words 1 → two ≡ with_size one words.size → two ≡ words
+sized_back words one two to back = back ∙ ap (λ w. with_size w words.size) to
+
 pub invariant_of-self : goal.invariant_of-self
 invariant_of-self g c =
     let stay = c.stay-all.ensures in let leave = c.leave_home.ensures in let self = c.args.self.now in let to = c.set_size.ensures.porter in let back = c.set_size-2.ensures.porter in
-    let words = c.set_size-2.ensures.words ∙ ap (λ w. with_size w self.words.size) c.set_size.ensures.words in record {
+    let words = sized_back self.words c.set_size.new.self c.set_size-2.new.self c.set_size.ensures.words c.set_size-2.ensures.words in record {
       lends = (back.0 ∙ leave.0.0 ∙ sym stay.again.0.0 ∙ stay.same.0 ∙ stay.shut.book.0 ∙ to.0 ∙ self.lends.0 ∙ sym (ap words_book words), back.1 ∙ sym (ap (λ w. w.size) words), back.3 ∙ leave.2);
       numbered = ap (λ r. r.now) stay.gives.0 ∙ self.numbered ∙ sym (ap (λ w. (words_book w).family) words);
       ends = subst (λ w. IsEnderOf w (box_value self.ender)) (sym words) self.ends;
@@ -25,9 +30,9 @@ invariant_of-self g c =
 pub returns : goal.returns
 returns g c =
     let stay = c.stay-all.ensures in let leave = c.leave_home.ensures in let self = c.args.self.now in let lent = stay.lent in let back = stay.back in let sweeps = stay.gives.1 in let name = its_book self in let to = c.set_size.ensures.porter in
-    let porter' = c.set_size-2.new.porter in let seen' = porter'.seen in let words = c.set_size-2.ensures.words ∙ ap (λ w. with_size w self.words.size) c.set_size.ensures.words in
+    let porter' = c.set_size-2.new.porter in let seen' = porter'.seen in let words = sized_back self.words c.set_size.new.self c.set_size-2.new.self c.set_size.ensures.words c.set_size-2.ensures.words in
     let to_name : c.set_size.new.porter.name ≡ name = to.0 ∙ self.lends.0 in let lent_name : lent.name ≡ name = stay.shut.book.0 ∙ to_name in
-    let back_book : back.name ≡ name = stay.same.0 ∙ lent_name in let back_name = back_book ∙ sym (ap words_book words) in let back_seen : back.seen ≡ seen' = sym stay.again.1 ∙ sym leave.1 ∙ sym c.set_size-2.ensures.porter.2 in
+    let back_book : back.name ≡ name = stay.same.0 ∙ lent_name in let back_name = back_book ∙ sym (ap words_book words) in let back_seen : back.seen ≡ seen' = sym (c.set_size-2.ensures.porter.2 ∙ leave.1 ∙ stay.again.1) in
     let added = sweeps.adds stay.shut.alone in
     record {
       same = (ap words_book words, ap (λ w. w.size) words, refl);
