@@ -1,5 +1,4 @@
 use Rattle.std.proofs.Common.{sym, ◌∙◌}
-use Rattle.seize.specs.Blocks.{HoldsOnly}
 use Rattle.seize.proofs.Lighter.{all_weighed}
 use Rattle.seize.proofs.ends.ForwardsLightens.weigh.Goals as goal
 

@@ -1,4 +1,4 @@
-use Rattle.std.proofs.Common.{ℕ, ◌<◌, ◌-◌, ◌≡◌, arith, inl, inr, refl, sym, ◌∙◌}
+use Rattle.std.proofs.Common.{ℕ, ◌<◌, ◌-◌, ◌≡◌, arith, inl, inr, sym, ◌∙◌}
 use Rattle.seize_calls.specs.Slots.{its_number}
 use Rattle.seize_machine.specs.declared.machine.event.Job.TheVariants.{Leave}
 use Rattle.seize_words.specs.Joined.{words_book}

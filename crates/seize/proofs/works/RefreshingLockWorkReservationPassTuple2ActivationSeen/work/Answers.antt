@@ -1,4 +1,4 @@
-use Rattle.std.proofs.Common.{◌<◌, ◌≡◌, arith, inl, refl, sym, ◌∙◌}
+use Rattle.std.proofs.Common.{◌<◌, ◌≡◌, arith, inl, sym, ◌∙◌}
 use Rattle.seize_calls.specs.Slots.{its_number}
 use Rattle.seize_machine.specs.declared.machine.event.Job.TheVariants.{Refresh}
 use Rattle.seize_words.specs.Joined.{words_book}

@@ -1,4 +1,4 @@
-use Rattle.std.proofs.Common.{ap, refl, ◌∙◌}
+use Rattle.std.proofs.Common.{ap, ◌∙◌}
 use Rattle.seize_book.specs.Tokens.{Name}
 use Rattle.seize.proofs.OfKind.{kind_told}
 use Rattle.seize.proofs.Placed.{at_kept, label_same, may_still, placed}
