@@ -3,7 +3,7 @@ ghost use Rattle.std.specs.Prelude.{◌≡◌, ◌<◌, IfOk};
 ghost use Rattle.seize.specs.Collectors.{IsPassOf, its_links};
 
 use crate::marked::{Marked, ended, ends_of};
-use seize::{Collector, Guard, IdSource, Pass, Refusal};
+use seize::{Boxed, Collector, Guard, IdSource, Pass, Refusal};
 use std::alloc::Global;
 use std::process::Abort;
 use std::sync::Wait;
@@ -32,11 +32,16 @@ fn collector<'a>(alloc: Global) -> Result<Collector<Marked<'a>>, Refusal>
 }
 
 // Swaps this value into the link, and retires what came out.
-fn put<'a, G: Guard<Marked<'a>>, W: Wait>(guard: &G, value: Marked<'a>, rt: &W, pass: &mut Pass)
+fn put<'a, G: Guard<Marked<'a>, Reclaimer = Boxed>, W: Wait>(
+    guard: &G,
+    value: Marked<'a>,
+    rt: &W,
+    pass: &mut Pass,
+)
     requires of { IsPassOf (G.guarded guard.now) pass.old × (0 < its_links (G.guarded guard.now)) }
     ensures { IsPassOf (G.guarded guard.now) pass.new }
 {
-    if let Ok(block) = guard.collector().owned(value) {
+    if let Ok(block) = guard.owned(value) {
         if let Some(old) = guard.swap(0, Some(block), pass) {
             guard.defer_retire(rt, pass, old);
         }
@@ -44,7 +49,7 @@ fn put<'a, G: Guard<Marked<'a>>, W: Wait>(guard: &G, value: Marked<'a>, rt: &W, 
 }
 
 // The number that the link holds.
-fn read<'a, G: Guard<Marked<'a>>>(guard: &G, pass: &mut Pass) -> Option<u64>
+fn read<'a, G: Guard<Marked<'a>, Reclaimer = Boxed>>(guard: &G, pass: &mut Pass) -> Option<u64>
     requires of { IsPassOf (G.guarded guard.now) pass.old × (0 < its_links (G.guarded guard.now)) }
     ensures { IsPassOf (G.guarded guard.now) pass.new }
 {
@@ -53,7 +58,7 @@ fn read<'a, G: Guard<Marked<'a>>>(guard: &G, pass: &mut Pass) -> Option<u64>
 
 // An exchange that compares with an empty link is lost. The next compares with what was found, and is won: it says the number of the
 // value that came out, which is retired.
-fn exchange<'a, G: Guard<Marked<'a>>, W: Wait>(
+fn exchange<'a, G: Guard<Marked<'a>, Reclaimer = Boxed>, W: Wait>(
     guard: &G,
     value: Marked<'a>,
     rt: &W,
@@ -86,7 +91,7 @@ fn exchange<'a, G: Guard<Marked<'a>>, W: Wait>(
 }
 
 // Puts the number 0 into the link, exchanges it for 1, flushes and refreshes.
-fn make_calls<'a, G: Guard<Marked<'a>>, W: Wait>(
+fn make_calls<'a, G: Guard<Marked<'a>, Reclaimer = Boxed>, W: Wait>(
     guard: &mut G,
     marks: &'a [AtomicU64],
     rt: &W,

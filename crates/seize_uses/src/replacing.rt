@@ -2,7 +2,7 @@
 ghost use base.Stored.{gnum};
 ghost use Rattle.std.specs.Prelude.{◌≡◌, ◌<◌, ℕ, Option, Some, [], ◌∷◌, IfOk, IfSome};
 ghost use Rattle.seize.specs.Blocks.{IsNamed, IsUnlinkedOf};
-ghost use Rattle.seize.specs.Collectors.{IsBlockOf, IsPassOf, its_links};
+ghost use Rattle.seize.specs.Collectors.{BelongsTo, IsBlockOf, IsPassOf, its_links};
 ghost use Rattle.seize.specs.Guards.{guard_collector};
 ghost use Rattle.seize.specs.Machine.Event.{ExchangeLink, ReadLink};
 ghost use Rattle.seize.specs.Makes.{Makes};
@@ -22,7 +22,7 @@ pub fn replace_read<'g, G: Guard<u64>>(
     pass: &mut Pass,
 ) -> Result<Option<Unlinked<'g, u64>>, Option<Owned<u64>>>
     requires of { IsPassOf (G.guarded guard.now) pass.old × (0 < its_links (G.guarded guard.now)) }
-    requires value { IsBlockOf (G.guarded guard.now) new }
+    requires value { BelongsTo G.Reclaimer.owners (G.guarded guard.now) new }
     ensures pass { IsPassOf (G.guarded guard.now) pass.new }
     ensures of { IfOk result (λ out. IfSome out (IsUnlinkedOf (G.guarded guard.now))) }
     ensures took { IfOk result (λ _. (held : Option ℕ) × (v : Option ℕ) × IsNamed gnum (Some new) v × Makes pass.old pass.new

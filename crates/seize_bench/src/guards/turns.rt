@@ -1,6 +1,6 @@
 //! What a thread does in a run, turn by turn.
 ghost use Rattle.std.specs.Prelude.{◌≡◌, ◌<◌, ◌≤◌, ◌+◌, IfSome};
-ghost use Rattle.seize.specs.Collectors.{IsBlockOf, IsPassOf, its_links};
+ghost use Rattle.seize.specs.Collectors.{BelongsTo, IsBlockOf, IsPassOf, its_links};
 ghost use Rattle.seize.specs.Guards.{guard_collector};
 ghost use Rattle.seize.specs.OwnedGuards.{owned_collector};
 ghost use Rattle.seize.specs.Registrations.{registered_in};
@@ -170,7 +170,7 @@ fn replace<G: Guard<u64>, W: Wait>(
     pass: &mut Pass,
 )
     requires of { IsPassOf (G.guarded guard.now) pass.old × (link < its_links (G.guarded guard.now)) }
-    requires new { IfSome new (λ owned. IsBlockOf (G.guarded guard.now) owned) }
+    requires new { IfSome new (λ owned. BelongsTo G.Reclaimer.owners (G.guarded guard.now) owned) }
     ensures pass { IsPassOf (G.guarded guard.now) pass.new }
 {
     if let Some(old) = guard.swap(link, new, pass) {
