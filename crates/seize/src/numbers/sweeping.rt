@@ -1,6 +1,6 @@
 //! What is done with the slots that nobody has, where nobody shares the collector. Each takes its number again, enters, attempts its batch
 //! at any length, and leaves; then the numbers go back. The pass is alone, so no call waits, and each returns. The batch size is at most 1,
-//! so each value that a reclaimer puts is attempted at once, and none stays in a batch.
+//! so each value that a reclaimer puts is attempted at once, and where no other slot is active none stays in a batch.
 ghost use Rattle.std.specs.Prelude.{◌≡◌, ◌<◌, ◌≤◌, ◌+◌, is_some, length};
 ghost use Rattle.std.specs.List.{list_all};
 ghost use Rattle.seize_book.specs.Tokens.{IsSole};
