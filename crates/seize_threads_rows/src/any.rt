@@ -1,9 +1,11 @@
 //! Code over guards of any kind, run with a guard of each: both do the same.
 ghost use Rattle.std.specs.Prelude.{◌≡◌, ◌<◌, IfOk};
-ghost use Rattle.seize.specs.Collectors.{IsPassOf, its_links};
+ghost use Rattle.seize.specs.Blocks.{HoldsOnly};
+ghost use Rattle.seize.specs.Collectors.{IsPassOf, its_links, its_store};
+ghost use Rattle.seize_threads_rows.specs.declared.marked.Marked.{Marked};
 
 use crate::marked::{Marked, ended, ends_of};
-use seize::{Boxed, Collector, Guard, IdSource, Pass, Refusal};
+use seize::{Collector, Guard, IdSource, Pass, Refusal};
 use std::alloc::Global;
 use std::process::Abort;
 use std::sync::Wait;
@@ -32,13 +34,9 @@ fn collector<'a>(alloc: Global) -> Result<Collector<Marked<'a>>, Refusal>
 }
 
 // Swaps this value into the link, and retires what came out.
-fn put<'a, G: Guard<Marked<'a>, Reclaimer = Boxed>, W: Wait>(
-    guard: &G,
-    value: Marked<'a>,
-    rt: &W,
-    pass: &mut Pass,
-)
+fn put<'a, G: Guard<Marked<'a>>, W: Wait>(guard: &G, value: Marked<'a>, rt: &W, pass: &mut Pass)
     requires of { IsPassOf (G.guarded guard.now) pass.old × (0 < its_links (G.guarded guard.now)) }
+    requires fits { (x : Marked) → HoldsOnly G.Reclaimer.owners (its_store (G.guarded guard.now)) x }
     ensures { IsPassOf (G.guarded guard.now) pass.new }
 {
     if let Ok(block) = guard.owned(value) {
@@ -49,7 +47,7 @@ fn put<'a, G: Guard<Marked<'a>, Reclaimer = Boxed>, W: Wait>(
 }
 
 // The number that the link holds.
-fn read<'a, G: Guard<Marked<'a>, Reclaimer = Boxed>>(guard: &G, pass: &mut Pass) -> Option<u64>
+fn read<'a, G: Guard<Marked<'a>>>(guard: &G, pass: &mut Pass) -> Option<u64>
     requires of { IsPassOf (G.guarded guard.now) pass.old × (0 < its_links (G.guarded guard.now)) }
     ensures { IsPassOf (G.guarded guard.now) pass.new }
 {
@@ -58,13 +56,14 @@ fn read<'a, G: Guard<Marked<'a>, Reclaimer = Boxed>>(guard: &G, pass: &mut Pass)
 
 // An exchange that compares with an empty link is lost. The next compares with what was found, and is won: it says the number of the
 // value that came out, which is retired.
-fn exchange<'a, G: Guard<Marked<'a>, Reclaimer = Boxed>, W: Wait>(
+fn exchange<'a, G: Guard<Marked<'a>>, W: Wait>(
     guard: &G,
     value: Marked<'a>,
     rt: &W,
     pass: &mut Pass,
 ) -> Option<u64>
     requires of { IsPassOf (G.guarded guard.now) pass.old × (0 < its_links (G.guarded guard.now)) }
+    requires fits { (x : Marked) → HoldsOnly G.Reclaimer.owners (its_store (G.guarded guard.now)) x }
     ensures { IsPassOf (G.guarded guard.now) pass.new }
 {
     let new = guard.owned(value).ok()?;
@@ -91,13 +90,14 @@ fn exchange<'a, G: Guard<Marked<'a>, Reclaimer = Boxed>, W: Wait>(
 }
 
 // Puts the number 0 into the link, exchanges it for 1, flushes and refreshes.
-fn make_calls<'a, G: Guard<Marked<'a>, Reclaimer = Boxed>, W: Wait>(
+fn make_calls<'a, G: Guard<Marked<'a>>, W: Wait>(
     guard: &mut G,
     marks: &'a [AtomicU64],
     rt: &W,
     pass: &mut Pass,
 ) -> Came
     requires of { IsPassOf (G.guarded guard.old) pass.old × (0 < its_links (G.guarded guard.old)) }
+    requires fits { (x : Marked) → HoldsOnly G.Reclaimer.owners (its_store (G.guarded guard.old)) x }
     ensures { IsPassOf (G.guarded guard.new) pass.new × (G.guarded guard.new ≡ G.guarded guard.old) }
 {
     put(guard, Marked { value: 0, marks }, rt, pass);
