@@ -12,7 +12,7 @@ use Rattle.seize_book.specs.declared.book.value_keys.ValueKeys.{ValueKeys}
 use Rattle.seize_calls.specs.Handing.{Had}
 use Rattle.seize_book.specs.Tokens.{Name}
 use Rattle.seize_words.specs.Chunks.{IsLentAs}
-use Rattle.seize.specs.Furthers.{HasPut, Puts}
+use Rattle.seize.specs.Furthers.{HasPut, Joins}
 use Rattle.seize.specs.Names.{AreNamesOf}
 use Rattle.seize.specs.declared.reclaim.further.Further.{Further}
 use Rattle.seize.specs.Enders.{IsEnderIn, PutAs}
@@ -52,6 +52,6 @@ names_more code [] (y ∷ xs) v x names lent = absurd names
 names_more code (w ∷ vs) [] v x names lent = absurd names
 
 -- what is put, one after the other
-pub puts_then : {T R : Type 0} (code : T → Gv) (a b c : Further T R) (xs ys : List T) → Puts code a b xs → Puts code b c ys → Puts code a c (xs ++ ys)
+pub puts_then : {T R : Type 0} (code : T → Gv) (a b c : Further T R) (xs ys : List T) → Joins code a b xs → Joins code b c ys → Joins code a c (xs ++ ys)
 puts_then code a b c xs ys one two =
     (two.0 ∙ one.0, two.1 ∙ one.1, λ before names. subst (HasPut code c) (append_assoc before xs ys) (two.2 (before ++ xs) (one.2 before names)))

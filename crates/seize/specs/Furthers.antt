@@ -1,7 +1,7 @@
 -- What contracts see of the blocks that a reclaimer puts. `code` is the code of the collector's element type.
 --     further_store f          the store where they have to lie
 --     HasPut code f xs         blocks with these contents were put, in order
---     Puts code f f' xs        blocks with these contents were put behind those that were put before
+--     Joins code f f' xs       blocks with these contents were put behind those that were put before
 use Rattle.std.specs.Prelude.{◌≡◌, ℕ, List, ◌++◌}
 use base.Stored.{Gv}
 use Rattle.seize_book.specs.Values.{values_of}
@@ -16,7 +16,7 @@ further_store further = (blocks_book further.blocks.now).store
 abbrev pub HasPut : {T R : Type 0} → (T → Gv) → Further T R → List T → Type 0
 HasPut code further xs = AreNamesOf code (values_of (further_in further.chain)) xs
 
-abbrev pub Puts : {T R : Type 0} → (T → Gv) → Further T R → Further T R → List T → Type 0
-Puts {T} code further further' xs =
+abbrev pub Joins : {T R : Type 0} → (T → Gv) → Further T R → Further T R → List T → Type 0
+Joins {T} code further further' xs =
     (further'.blocks.now ≡ further.blocks.now) × (further'.kind ≡ further.kind)
     × ((before : List T) → HasPut code further before → HasPut code further' (before ++ xs))

@@ -3,7 +3,7 @@
 ghost use Rattle.std.specs.Prelude.{◌≡◌};
 ghost use Rattle.seize.specs.Blocks.{HoldsOnly};
 
-use crate::reclaim::Reclaim;
+use crate::reclaim::{Puts, Reclaim};
 use seize_words::book::{Condition, Permits};
 use std::marker::PhantomData;
 
@@ -13,7 +13,7 @@ pub(crate) struct Fit<T, R> {
     by: PhantomData<R>,
 }
 
-impl<T: Drop, R: Reclaim<T>> Condition for Fit<T, R> {
+impl<T, R: Puts<T>> Condition for Fit<T, R> {
     ghost holds = { λ store g. (x : T) × (T.row.coded.code x ≡ g) × HoldsOnly R.owners store x };
 }
 

@@ -26,7 +26,7 @@ pub use block::{Failed, Owned, Shared, Unlinked};
 pub use collector::{Collector, IdSource};
 pub use guard::{Guard, LocalGuard};
 pub use owned::OwnedGuard;
-pub use reclaim::{Boxed, Further, Reclaim};
+pub use reclaim::{Boxed, Further, Puts, Reclaim};
 pub use registration::Registration;
 pub use seize_machine::machine;
 pub use seize_table::{Labelled, Refusal, thread_id, tls};

@@ -5,7 +5,9 @@ ghost use Rattle.seize.specs.Collectors.{IsPassOf, its_links};
 ghost use Rattle.seize.specs.OwnedGuards.{owned_collector};
 ghost use Rattle.seize.specs.Registrations.{registered_in};
 
-use seize::{Collector, Further, IdSource, OwnedGuard, Pass, Reclaim, Refusal, Registration, Unlinked};
+use seize::{
+    Collector, Further, IdSource, OwnedGuard, Pass, Puts, Reclaim, Refusal, Registration, Unlinked,
+};
 use seize_threads_rows::values::ended;
 use std::alloc::Global;
 use std::process::Abort;
@@ -30,6 +32,10 @@ struct Sums<'a> {
     sums: &'a Totals,
 }
 
+impl Puts<u64> for Sums<'_> {
+    ghost lighter = { λ _ _. lit< tt };
+}
+
 impl Reclaim<u64> for Sums<'_> {
     fn reclaim(self, kind: u64, value: u64, _further: &mut Further<'_, u64, Self>) {
         let sum = match kind {
@@ -40,8 +46,6 @@ impl Reclaim<u64> for Sums<'_> {
         };
         sum.fetch_add(value, Ordering::SeqCst);
     }
-
-    ghost lighter = { λ _ _. lit< tt };
 }
 
 type Summing<'a> = Collector<u64, Sums<'a>>;

@@ -6,7 +6,7 @@ ghost use Rattle.seize.specs.Collectors.{BelongsTo, its_store};
 ghost use Rattle.seize_uses.specs.Nests.{inside_of, owners_of, weight_of};
 ghost use Rattle.seize_uses.specs.Weights.{inside_lighter};
 
-use seize::{Collector, Further, Owned, Reclaim, Refusal};
+use seize::{Collector, Further, Owned, Puts, Reclaim, Refusal};
 use std::sync::atomic::{AtomicU64, Ordering};
 
 /// A number, and the blocks of further values.
@@ -25,13 +25,17 @@ pub struct PutInside<'a> {
     pub order: &'a [AtomicU64],
 }
 
-impl Reclaim<Nest> for PutInside<'_> {
+impl Puts<Nest> for PutInside<'_> {
     ghost weight = { weight_of };
 
     ghost owners = { owners_of };
 
     ghost puts = { λ _ value. inside_of value };
 
+    ghost lighter = { λ _ value. inside_lighter value };
+}
+
+impl Reclaim<Nest> for PutInside<'_> {
     fn reclaim(self, _kind: u64, value: Nest, further: &mut Further<'_, Nest, Self>) {
         let before = self.ended.fetch_add(1, Ordering::SeqCst);
         let Nest { number, inside } = value;
@@ -40,8 +44,6 @@ impl Reclaim<Nest> for PutInside<'_> {
         }
         further.put_all(inside);
     }
-
-    ghost lighter = { λ _ value. inside_lighter value };
 }
 
 /// A block of this number, with these blocks inside. It may go into a link, and be retired, with all that it holds.
@@ -49,7 +51,7 @@ impl Reclaim<Nest> for PutInside<'_> {
 /// # Errors
 ///
 /// `NoMemory` where the allocator refuses. What was to be inside ends then.
-pub fn nest<'a>(
+pub fn around<'a>(
     collector: &Collector<Nest, PutInside<'a>>,
     number: u64,
     inside: Vec<Owned<Nest>>,

@@ -7,7 +7,7 @@ ghost use Rattle.seize.specs.Laws.{moments_seen};
 ghost use Rattle.seize.specs.Machine.History.{Retired};
 ghost use Rattle.seize.specs.Makes.{IsOfKind};
 
-use seize::{Collector, Further, IdSource, LocalGuard, Owned, Pass, Reclaim, Refusal};
+use seize::{Collector, Further, IdSource, LocalGuard, Owned, Pass, Puts, Reclaim, Refusal};
 use std::alloc::Global;
 use std::sync::Wait;
 use std::sync::atomic::{AtomicU64, Ordering};
@@ -41,6 +41,10 @@ pub struct Counting<'a> {
     pub counts: &'a Counts,
 }
 
+impl Puts<u64> for Counting<'_> {
+    ghost lighter = { λ _ _. lit< tt };
+}
+
 impl Reclaim<u64> for Counting<'_> {
     fn reclaim(self, kind: u64, _value: u64, _further: &mut Further<'_, u64, Self>) {
         let count = match kind {
@@ -49,8 +53,6 @@ impl Reclaim<u64> for Counting<'_> {
         };
         count.fetch_add(1, Ordering::SeqCst);
     }
-
-    ghost lighter = { λ _ _. lit< tt };
 }
 
 /// A collector with one link, whose numbers are counted as they end. It may be refused as `Collector::new` is.

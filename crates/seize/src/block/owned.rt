@@ -8,7 +8,7 @@ ghost use Rattle.seize_book.specs.Lending.{ArePermitsOf};
 ghost use Rattle.seize.specs.Blocks.{Belongs, content, store_name};
 
 use crate::ender::Fit;
-use crate::reclaim::Reclaim;
+use crate::reclaim::Puts;
 use seize_store::Bare;
 use seize_words::blocks::Blocks;
 use seize_words::book::{Permits, Seen, ValueKey};
@@ -54,7 +54,7 @@ impl<T: Drop> Owned<T> {
     }
 
     // Its value is lent from then on, and may go into a link. It gives the block's number, and the key of the value.
-    pub(crate) fn lend<R: Reclaim<T>>(
+    pub(crate) fn lend<R: Puts<T>>(
         self,
         blocks: &Blocks<T>,
         permits: &Permits<Fit<T, R>>,

@@ -10,14 +10,14 @@ ghost use Rattle.seize.specs.Served.{is_served-prop};
 
 use crate::block::Owned;
 use crate::ender::Fit;
-use crate::reclaim::Reclaim;
+use crate::reclaim::Puts;
 use seize_calls::further as chain;
 use seize_words::blocks::Blocks;
 use seize_words::book::Permits;
 
 /// The blocks that a reclaimer puts with one value. The call in which it runs retires them when it has nothing else to do, the first first.
 #[derive(Drop)]
-pub struct Further<'a, T: Drop, R: Reclaim<T>> {
+pub struct Further<'a, T: Drop, R: Puts<T>> {
     pub(crate) chain: chain::Further,
     blocks: &'a Blocks<T>,
     permits: &'a Permits<Fit<T, R>>,
@@ -27,10 +27,10 @@ pub struct Further<'a, T: Drop, R: Reclaim<T>> {
     ghost words: { kepts_of (further_in chain) ≡ map (λ _. kind) (values_of (further_in chain)) },
 }
 
-impl<'a, T: Drop, R: Reclaim<T>> Further<'a, T, R> {
+impl<'a, T: Drop, R: Puts<T>> Further<'a, T, R> {
     ghost use Rattle.std.specs.Prelude.{All, [], ◌∷◌};
     ghost use Rattle.seize.specs.Blocks.{Belongs, content};
-    ghost use Rattle.seize.specs.Furthers.{HasPut, Puts, further_store};
+    ghost use Rattle.seize.specs.Furthers.{HasPut, Joins, further_store};
 
     // None was put, with a value of this kind.
     pub(crate) fn new(
@@ -59,7 +59,7 @@ impl<'a, T: Drop, R: Reclaim<T>> Further<'a, T, R> {
     /// It takes no memory and waits for nobody.
     pub fn put(&mut self, owned: Owned<T>)
         requires { Belongs R.owners (further_store self.old) owned }
-        ensures { Puts T.row.coded.code self.old self.new (content owned ∷ []) }
+        ensures { Joins T.row.coded.code self.old self.new (content owned ∷ []) }
     {
         let (number, key) = owned.lend(self.blocks, self.permits);
         self.chain.put(self.blocks, number, self.kind, key);
@@ -69,7 +69,7 @@ impl<'a, T: Drop, R: Reclaim<T>> Further<'a, T, R> {
     /// It takes no memory and waits for nobody.
     pub fn put_all(&mut self, blocks: Vec<Owned<T>>)
         requires { All (Belongs R.owners (further_store self.old)) blocks.items }
-        ensures { Puts T.row.coded.code self.old self.new (map content blocks.items) }
+        ensures { Joins T.row.coded.code self.old self.new (map content blocks.items) }
     {
         for owned in blocks {
             self.put(owned);

@@ -5,4 +5,4 @@ use Rattle.seize_uses.proofs.reclaimers.remove.Goals as goal
 
 pub returns-clause-removed : goal.returns-clause-removed
 returns-clause-removed g c so =
-    let v = unlinked_name c.in-Some.old in let retire = c.defer_retire_as.ensures in (v, retire.kind, retired_by (guard_slot c.args.guard.now) v retire.call.0)
+    let v = unlinked_name c.in-Some.old in let retire = c.defer_retire_as.ensures in (v, retire.kind, retired_by (guard_slot c.args.guard.now) v retire.call)

@@ -9,7 +9,7 @@ use Rattle.seize_uses.proofs.shared.retire_and_audit.Goals as goal
 -- the retirement is among the moments of which the law speaks, and there is no other one of the value
 pub returns-clause-retired : goal.returns-clause-retired
 returns-clause-retired g c =
-    let v = unlinked_name c.args.value in let pass = c.laws.new.pass in let there = retired_by (guard_slot c.args.guard.now) v (call_still c.defer_retire.ensures.call.0 c.laws.ensures.none) in (
+    let v = unlinked_name c.args.value in let pass = c.laws.new.pass in let there = retired_by (guard_slot c.args.guard.now) v (call_still c.defer_retire.ensures.call c.laws.ensures.none) in (
       there.0,
       there.1,
       λ k gone. let before = c.laws.ensures.laws.after v k gone in

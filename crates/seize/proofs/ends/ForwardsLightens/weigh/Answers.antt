@@ -6,4 +6,4 @@ pub check-requires : goal.check-requires
 check-requires g c = c.requires.1 ∙ sym c.requires.0.0.0
 
 pub returns : goal.returns
-returns g c = all_weighed g.row.T.coded.code g.R.Reclaim.weight g.R.Reclaim.puts g.met.R.Reclaim.lighter _ c.args.permit.codes c.check.ensures
+returns g c = all_weighed g.row.T.coded.code g.R.Puts.weight g.R.Puts.puts g.R.Puts.lighter _ c.args.permit.codes c.check.ensures

@@ -11,13 +11,13 @@ use Rattle.seize.proofs.ends.ForwardsReclaim.reclaim.Goals as goal
 -- the permit says that each block inside the value is of the collector
 pub reclaim-requires : goal.reclaim-requires
 reclaim-requires g c =
-    let owners = g.R.Reclaim.owners in let value = c.args.value in let permits = c.args.self.now.ender.now.permits in
+    let owners = g.R.Puts.owners in let value = c.args.value in let permits = c.args.self.now.ender.now.permits in
     subst (λ (store : List ℕ). HoldsOnly owners store value) (c.requires.serves.0.1 ∙ sym c.new-put.ensures.store)
     (given g.row.T.coded (HoldsOnly owners permits.store) value c.args.permit.codes c.requires.permit.1 c.check.ensures)
 
 pub returns-clause-serves : goal.returns-clause-serves
 returns-clause-serves g c =
-    let code = g.row.T.coded.code in let puts = g.R.Reclaim.puts in let before = c.args.self.now.ends.had in let put = further_in c.reclaim.new.further.chain in
+    let code = g.row.T.coded.code in let puts = g.R.Puts.puts in let before = c.args.self.now.ends.had in let put = further_in c.reclaim.new.further.chain in
     let more : Had = (c.args.kept, c.take.new.self.at, values_of put, kepts_of put) ∷ [] in
     let names = c.reclaim.ensures.2 [] c.new-put.ensures.none in (
       c.requires.serves.0,

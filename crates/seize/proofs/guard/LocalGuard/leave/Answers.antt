@@ -18,4 +18,4 @@ with-requires g c =
 pub returns : goal.returns
 returns g c =
     let guard = c.args.self in let at = in_place (its_book (guard_collector guard)) (guard_slot guard) (2 ^ 64 - 1) c.with.ensures.before (c.with.ensures.was.0 ∙ guard_place guard) in
-    subst (λ (s : ℕ). MakesCall (PutBy g.row.T.coded.code g.R.Reclaim.puts) s Leave c.args.pass.now c.with.new.with ⊎ StaysActive s c.args.pass.now c.with.new.with) at.1 (one_of_two c.with.ensures.gives.0)
+    subst (λ (s : ℕ). MakesCall (PutBy g.row.T.coded.code g.R.Puts.puts) s Leave c.args.pass.now c.with.new.with ⊎ StaysActive s c.args.pass.now c.with.new.with) at.1 (one_of_two c.with.ensures.gives.0)

@@ -29,5 +29,5 @@ returns-clause-refreshes g c =
     let guard = c.args.self.now in let gives = c.with-unit.ensures.gives in let pass = c.args.pass.now in let pass' = c.with-unit.new.with in
     let at = in_place (its_book (guard_collector guard)) (guard_slot guard) (2 ^ 64 - 1) c.with-unit.ensures.before (c.with-unit.ensures.was.0 ∙ guard_place guard) in
     let same : c.replace-unit.result ≡ guard.reader.unit = c.replace-unit.ensures.value in
-    subst (λ (t : ℕ × Pass × Activation). MakesCall (PutBy g.row.T.coded.code g.R.Reclaim.puts) t.0 Refresh t.1 pass' ⊎ (StaysActive t.0 t.1 pass' × (c.with-unit.result.0 ≡ t.2)))
+    subst (λ (t : ℕ × Pass × Activation). MakesCall (PutBy g.row.T.coded.code g.R.Puts.puts) t.0 Refresh t.1 pass' ⊎ (StaysActive t.0 t.1 pass' × (c.with-unit.result.0 ≡ t.2)))
     (λ j. (at.1 j, c.with-spare.ensures.gives j, same j)) (one_of_two gives.0)

@@ -25,4 +25,4 @@ pub returns-clause-refreshes : goal.returns-clause-refreshes
 returns-clause-refreshes g c =
     let self = c.args.self.now in let with = c.with-unit.ensures in let pass' = c.with-unit.new.with in
     let at = in_place (its_book self.reader.collector.now) self.reader.number 1 with.before (with.was.0 ∙ self.at) in
-    subst (λ (t : ℕ × Pass). MakesCall (PutBy g.row.T.coded.code g.R.Reclaim.puts) t.0 Refresh t.1 pass') (λ j. (at.1 j, c.with-spare.ensures.gives j)) (first_of_two with.before.guards with.before.most with.was.1.fits at.2 with.gives.0)
+    subst (λ (t : ℕ × Pass). MakesCall (PutBy g.row.T.coded.code g.R.Puts.puts) t.0 Refresh t.1 pass') (λ j. (at.1 j, c.with-spare.ensures.gives j)) (first_of_two with.before.guards with.before.most with.was.1.fits at.2 with.gives.0)

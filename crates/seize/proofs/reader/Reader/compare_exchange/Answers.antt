@@ -88,7 +88,7 @@ returns g c =
       outcome = (
         lost_compare current (held_before t.0) (λ same. lost (t.0.found ∙ same)),
         subst (λ (o : Option ℕ). Shows reader.collector.now g.row.T.coded.code o c.shown-found.result) left.2 c.shown-found.ensures.shows,
-        comes_back g.row.T.coded g.R.Reclaim.owners reader.collector.now (value_held key) c.args.new c.came_back-new.result c.name-word.ensures.named
+        comes_back g.row.T.coded g.R.Puts.owners reader.collector.now (value_held key) c.args.new c.came_back-new.result c.name-word.ensures.named
             (subst (λ (o : Option ℕ). IsNamed g.row.T.coded.code c.came_back-new.result o) left.0 back.named) c.requires.value back.of,
       );
       found = subst (FoundIn reader.unit (held_before t.0)) (sym back.pass)

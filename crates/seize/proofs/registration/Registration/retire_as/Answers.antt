@@ -17,7 +17,7 @@ with-requires g c =
 pub returns-clause-call : goal.returns-clause-call
 returns-clause-call g c =
     let self = c.args.self.now in let at = in_place (its_book self.collector.now) self.number (2 ^ 64 - 1) c.with.ensures.before (c.with.ensures.was.0 ∙ self.at) in let named = c.into_loose-loose.ensures.0 in
-    subst (λ (t : ℕ × ℕ). MakesCall (PutBy g.row.T.coded.code g.R.Reclaim.puts) t.0 (Retire t.1) c.args.pass.now c.with.new.with) (λ j. (at.1 j, named j)) c.with.ensures.gives.0
+    subst (λ (t : ℕ × ℕ). MakesCall (PutBy g.row.T.coded.code g.R.Puts.puts) t.0 (Retire t.1) c.args.pass.now c.with.new.with) (λ j. (at.1 j, named j)) c.with.ensures.gives.0
 
 pub returns-clause-kind : goal.returns-clause-kind
 returns-clause-kind g c = subst (λ (v : ℕ). IsOfKind v c.args.kind c.with.new.with) c.into_loose-loose.ensures.0 c.with.ensures.gives.1

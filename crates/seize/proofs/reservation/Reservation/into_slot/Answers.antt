@@ -35,7 +35,7 @@ leave-requires g c =
       omega arith,
       (
         (current.of.0, still_for words p2 p3 for2 prepares.same, still_sole p2 p3 prepares.same (still_sole p1 p2 led.same sole1)),
-        (c.head-head.ensures.head, ((units_within slot' r.rest whole _ c.join.ensures (current.of.1 r.rest (at_some r.slot r.rest r.guards some is.at)), omega (arith, joined, a.counted, c.if-count-guards.false, is.units)), (subst (IsEnderOf words) (sym c.new.ensures.1) c.requires.ender, subst (PutAs g.row.T.coded.code g.R.Reclaim.puts) (sym c.new.ensures.0) tt))),
+        (c.head-head.ensures.head, ((units_within slot' r.rest whole _ c.join.ensures (current.of.1 r.rest (at_some r.slot r.rest r.guards some is.at)), omega (arith, joined, a.counted, c.if-count-guards.false, is.units)), (subst (IsEnderOf words) (sym c.new.ensures.1) c.requires.ender, subst (PutAs g.row.T.coded.code g.R.Puts.puts) (sym c.new.ensures.0) tt))),
       ),
     )
 

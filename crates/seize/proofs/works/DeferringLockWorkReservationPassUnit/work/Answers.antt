@@ -14,13 +14,13 @@ use Rattle.seize.proofs.works.DeferringLockWorkReservationPassUnit.work.Goals as
 pub retire-requires : goal.retire-requires
 retire-requires g c =
     let words = c.args.self.words.now in let current = c.current.ensures in
-    (omega arith, ((current.active.1, still_for words c.args.pass.now c.current.new.pass c.requires.1.1 current.active_still.0.same, tt), (c.requires.1.2, serves_new g.row.T.coded.code g.R.Reclaim.puts (words_book words) c.args.self.ender.now c.new.result.ender.now c.new.result.ends.had c.new.ensures c.requires.1.4)))
+    (omega arith, ((current.active.1, still_for words c.args.pass.now c.current.new.pass c.requires.1.1 current.active_still.0.same, tt), (c.requires.1.2, serves_new g.row.T.coded.code g.R.Puts.puts (words_book words) c.args.self.ender.now c.new.result.ender.now c.new.result.ends.had c.new.ensures c.requires.1.4)))
 
 pub returns : goal.returns
 returns g c =
     let words = c.args.self.words.now in let r = c.args.r.now in let at = c.current.new.self in let current = c.current.ensures in let ready = c.current.new.pass in let is = current.follows.0.1 in
-    let slot' = c.retire.new.self in let pass' = c.retire.new.pass in let retire = c.retire.ensures in let had = c.retire.new.reclaimer.ends.had in let so = put_so g.row.T.coded.code g.R.Reclaim.puts had c.retire.ensures.serves.1 in let some : 0 < at.guards = omega (arith, current.active.0, current.follows.1) in
-    let calls = slot_retires (PutBy g.row.T.coded.code g.R.Reclaim.puts) words at.slot ready slot' pass' retire.of.0.0 (still_for words c.args.pass.now ready c.requires.1.1 current.active_still.0.same) c.new.result.ends.had had so c.args.self.loose c.args.self.kind c.retire.result retire.retires in (
+    let slot' = c.retire.new.self in let pass' = c.retire.new.pass in let retire = c.retire.ensures in let had = c.retire.new.reclaimer.ends.had in let so = put_so g.row.T.coded.code g.R.Puts.puts had c.retire.ensures.serves.1 in let some : 0 < at.guards = omega (arith, current.active.0, current.follows.1) in
+    let calls = slot_retires (PutBy g.row.T.coded.code g.R.Puts.puts) words at.slot ready slot' pass' retire.of.0.0 (still_for words c.args.pass.now ready c.requires.1.1 current.active_still.0.same) c.new.result.ends.had had so c.args.self.loose c.args.self.kind c.retire.result retire.retires in (
       (
         label_same at.slot slot' at.most retire.retires.same ∙ current.follows.0.0,
         placed words slot' at.rest at.guards at.most retire.of.0 (some_at slot' at.rest at.guards some (retire.of.1 at.rest (at_some at.slot at.rest at.guards some is.at))) is.units is.fits,

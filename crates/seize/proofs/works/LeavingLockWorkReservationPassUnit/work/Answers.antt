@@ -20,7 +20,7 @@ leave-requires g c =
         (current.active.1, still_for words c.args.pass.now c.current.new.pass c.requires.1.1 current.active_still.0.same, tt),
         (
           own_head at.slot (words_book words) (its_number c.args.r.now.slot) work.head.now c.requires.1.3 current.active.1.0.book current.same,
-          ((units_within at.slot at.rest c.join.new.self _ c.join.ensures (at_some at.slot at.rest at.guards some is.at), omega (arith, units, c.if-r-gt0.false, some)), serves_new g.row.T.coded.code g.R.Reclaim.puts (words_book words) c.args.self.ender.now c.new.result.ender.now c.new.result.ends.had c.new.ensures c.requires.1.4),
+          ((units_within at.slot at.rest c.join.new.self _ c.join.ensures (at_some at.slot at.rest at.guards some is.at), omega (arith, units, c.if-r-gt0.false, some)), serves_new g.row.T.coded.code g.R.Puts.puts (words_book words) c.args.self.ender.now c.new.result.ender.now c.new.result.ends.had c.new.ensures c.requires.1.4),
         ),
       ),
     )
@@ -41,7 +41,7 @@ pub returns : goal.returns
 returns g c =
     let work = c.args.self in let words = work.words.now in let r = c.args.r.now in let at = c.current.new.self in let current = c.current.ensures in let is = current.follows.0.1 in
     let ready = c.current.new.pass in let slot' = c.leave.new.self in let pass' = c.leave.new.pass in let rest = c.leave.new.activation in
-    let leave = c.leave.ensures in let had = c.leave.new.reclaimer.ends.had in let so = put_so g.row.T.coded.code g.R.Reclaim.puts had c.leave.ensures.serves.1 in
+    let leave = c.leave.ensures in let had = c.leave.new.reclaimer.ends.had in let so = put_so g.row.T.coded.code g.R.Puts.puts had c.leave.ensures.serves.1 in
     let some : 0 < at.guards = omega (arith, current.active.0, current.follows.1) in let one : at.guards ≡ 1 = omega (arith, c.if-r-gt0.false, some) in let left : ℕ = at.guards - 1 in (
       (
         label_same at.slot slot' at.most leave.leaves.same ∙ current.follows.0.0,
@@ -51,7 +51,7 @@ returns g c =
         inl (
           sym current.follows.1 ∙ one,
           call_after (its_number at.slot) (its_number r.slot) Leave c.args.pass.now ready pass' current.same current.active_still.0
-              (slot_leaves (PutBy g.row.T.coded.code g.R.Reclaim.puts) words at.slot ready slot' pass' leave.of.0.0 (still_for words c.args.pass.now ready c.requires.1.1 current.active_still.0.same) c.new.result.ends.had had so leave.leaves),
+              (slot_leaves (PutBy g.row.T.coded.code g.R.Puts.puts) words at.slot ready slot' pass' leave.of.0.0 (still_for words c.args.pass.now ready c.requires.1.1 current.active_still.0.same) c.new.result.ends.had had so leave.leaves),
         ),
         omega (arith, some, current.follows.1),
       ),

@@ -20,7 +20,7 @@ refresh-requires g c =
         (current.active.1, still_for words c.args.pass.now c.current.new.pass c.requires.1.1 current.active_still.0.same, tt),
         (
           own_head at.slot (words_book words) (its_number c.args.r.now.slot) work.head.now c.requires.1.3 current.active.1.0.book current.same,
-          ((units_within at.slot at.rest c.join.new.self _ c.join.ensures (at_some at.slot at.rest at.guards some is.at), omega (arith, units, c.if-r-gt1.false, some)), serves_new g.row.T.coded.code g.R.Reclaim.puts (words_book words) c.args.self.ender.now c.new.result.ender.now c.new.result.ends.had c.new.ensures c.requires.1.4),
+          ((units_within at.slot at.rest c.join.new.self _ c.join.ensures (at_some at.slot at.rest at.guards some is.at), omega (arith, units, c.if-r-gt1.false, some)), serves_new g.row.T.coded.code g.R.Puts.puts (words_book words) c.args.self.ender.now c.new.result.ender.now c.new.result.ends.had c.new.ensures c.requires.1.4),
         ),
       ),
     )
@@ -29,7 +29,7 @@ pub returns : goal.returns
 returns g c =
     let work = c.args.self in let words = work.words.now in let r = c.args.r.now in let at = c.current.new.self in let current = c.current.ensures in let is = current.follows.0.1 in
     let ready = c.current.new.pass in let slot' = c.refresh.new.self in let pass' = c.refresh.new.pass in let rest = c.refresh.new.activation in let rest' = c.split-unit.new.self in
-    let refresh = c.refresh.ensures in let split = c.split-unit.ensures in let had = c.refresh.new.reclaimer.ends.had in let so = put_so g.row.T.coded.code g.R.Reclaim.puts had c.refresh.ensures.serves.1 in
+    let refresh = c.refresh.ensures in let split = c.split-unit.ensures in let had = c.refresh.new.reclaimer.ends.had in let so = put_so g.row.T.coded.code g.R.Puts.puts had c.refresh.ensures.serves.1 in
     let some : 0 < at.guards = omega (arith, current.active.0, current.follows.1) in let one : at.guards ≡ 1 = omega (arith, c.if-r-gt1.false, some) in (
       (
         label_same at.slot slot' at.most refresh.refreshes.same ∙ current.follows.0.0,
@@ -39,7 +39,7 @@ returns g c =
         inl (
           sym current.follows.1 ∙ one,
           call_after (its_number at.slot) (its_number r.slot) Refresh c.args.pass.now ready pass' current.same current.active_still.0
-              (slot_refreshes (PutBy g.row.T.coded.code g.R.Reclaim.puts) words at.slot ready slot' pass' refresh.of.0 (still_for words c.args.pass.now ready c.requires.1.1 current.active_still.0.same) c.new.result.ends.had had so rest refresh.refreshes),
+              (slot_refreshes (PutBy g.row.T.coded.code g.R.Puts.puts) words at.slot ready slot' pass' refresh.of.0 (still_for words c.args.pass.now ready c.requires.1.1 current.active_still.0.same) c.new.result.ends.had had so rest refresh.refreshes),
         ),
         unit_in (words_book words) (its_number r.slot) slot' rest c.split-unit.result c.seen.result refresh.of.0.book (refresh.refreshes.same.0 ∙ current.same) refresh.inside.0 split.0 c.seen.ensures.0 c.seen.ensures.1,
       ),

@@ -9,7 +9,7 @@ use Rattle.seize.proofs.reclaim.further.Further.put_all.Goals as goal
 pub loop-owned-preserved : goal.loop-owned-preserved
 loop-owned-preserved g c =
     let l = c.loop-owned in let now = l.invariant.0 in let owned = c.in-Some.owned in let rest = c.next.new.self.rest.items in let first = c.in-Some.ensures.steps.0 in
-    let P = Belongs g.R.Reclaim.owners (further_store c.args.self.now) in (
+    let P = Belongs g.R.Puts.owners (further_store c.args.self.now) in (
       (
         now.0 ++ content owned ∷ [],
         puts_then g.row.T.coded.code c.args.self.now l.self c.put.new.self now.0 (content owned ∷ []) now.1 c.put.ensures,
