@@ -1,6 +1,6 @@
 -- What contracts see of blocks. `code` is the code of the collector's element type, by which a name says a value.
 --     content owned             the value of a block in hand;  store_name owned     the store where it lies
---     HoldsOnly owners store v  each block inside the value v lies in this store: one that `owners` (of `Reclaim`) names
+--     HoldsOnly owners store v  each block inside the value v lies in this store: one that `owners` (of `Puts`) names
 --     Belongs owners store owned     the block lies in this store, with each block inside it
 --     owners_in owners blocks   the stores of these blocks, and of the blocks inside them
 --     HasContent code v value   what the list calls v is a block with this content

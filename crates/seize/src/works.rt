@@ -108,7 +108,8 @@ impl<'a, 'p, T: Drop, R: Reclaim<T>, W: Wait> LockWork<Reservation<T>, Pass<'p>,
     ghost may = { λ work r pass. IsReservationOf work.words.now r × IsPassFor work.words.now pass × IsLooseOf work.words.now work.loose
         × IsEnderOf work.words.now work.ender.now };
 
-    ghost gives = { λ work r r' pass pass' _. MakesCall (PutBy T.row.coded.code R.puts) (its_number r.slot) (Retire (its_value work.loose)) pass pass'
+    ghost gives = { λ work r r' pass pass' _. MakesCall (PutBy T.row.coded.code R.puts) (its_number r.slot)
+        (Retire (its_value work.loose)) pass pass'
         × IsOfKind (its_value work.loose) work.kind pass' };
 
     fn work(self, r: &mut Reservation<T>, pass: &mut Pass<'p>) {
