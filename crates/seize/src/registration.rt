@@ -150,7 +150,8 @@ impl<'c, T: Drop, R: Reclaim<T>> Registration<'c, T, R> {
     pub fn retire<W: Wait>(&self, rt: &W, pass: &mut Pass, value: Unlinked<'_, T>)
         requires pass { IsPassOf (registered_in self.now) pass.old }
         requires value { IsUnlinkedOf (registered_in self.now) value }
-        ensures call { MakesCall (PutBy T.row.coded.code R.puts) (registered_slot self.now) (Retire (unlinked_name value.entry)) pass.old pass.new }
+        ensures call { MakesCall (PutBy T.row.coded.code R.puts) (registered_slot self.now) (Retire (unlinked_name value.entry))
+            pass.old pass.new }
         ensures kind { IsOfKind (unlinked_name value.entry) 0 pass.new }
     {
         self.retire_as(rt, pass, value, 0);
@@ -161,7 +162,8 @@ impl<'c, T: Drop, R: Reclaim<T>> Registration<'c, T, R> {
     pub fn retire_as<W: Wait>(&self, rt: &W, pass: &mut Pass, value: Unlinked<'_, T>, kind: u64)
         requires pass { IsPassOf (registered_in self.now) pass.old }
         requires value { IsUnlinkedOf (registered_in self.now) value }
-        ensures call { MakesCall (PutBy T.row.coded.code R.puts) (registered_slot self.now) (Retire (unlinked_name value.entry)) pass.old pass.new }
+        ensures call { MakesCall (PutBy T.row.coded.code R.puts) (registered_slot self.now) (Retire (unlinked_name value.entry))
+            pass.old pass.new }
         ensures kind { IsOfKind (unlinked_name value.entry) kind pass.new }
     {
         let collector = self.collector;
