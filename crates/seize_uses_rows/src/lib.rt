@@ -2,4 +2,6 @@
 #![tactic(auto)]
 
 #[cfg(test)]
+mod further;
+#[cfg(test)]
 mod tests;

@@ -6,10 +6,9 @@ ghost use Rattle.seize.specs.Registrations.{registered_in};
 use seize::thread_id::{Numbers, Thread};
 use seize::tls::ThreadLocal;
 use seize::{Pass, Refusal, Registration};
-use seize_plain::{Collector, IdSource, Watch};
+use seize_plain::{Collector, IdSource};
 use seize_uses::alone::{Number, read_and_retire};
 use seize_uses::cache::{self, Entry};
-use seize_uses::list::{Node, PutNext, in_front};
 use seize_uses::machine::with_active_slot;
 use seize_uses::reclaimers::{Counting, Counts, collector, put, remove};
 use seize_uses::reclaiming::{reclaim, retire};
@@ -41,41 +40,6 @@ fn a_watch_is_told_once_the_guard_leaves(rt: HostRuntime) -> Result<(), Fail> {
     assert_eq!(rt; newest, Newest(None));
     alone.leave(slot, &mut newest)?;
     assert_eq!(rt; newest, Newest(Some(7)));
-    Ok(())
-}
-
-/// Counts nodes.
-#[derive(Drop)]
-struct Ended(u64);
-
-impl Watch<Node> for Ended {
-    ghost Seen = { Unit {0} };
-
-    ghost seen = { λ _. tt };
-
-    ghost told = { λ _ _. tt };
-
-    fn gone(&mut self, _node: &Node) {
-        self.0 = self.0.saturating_add(1);
-    }
-}
-
-#[test]
-fn a_list_ends_with_its_first_node(rt: HostRuntime) -> Result<(), Fail> {
-    let mut ids = IdSource::new();
-    let mut collector: Collector<Node, PutNext> = Collector::new(rt.alloc(), &mut ids, 1, 0)?;
-    let last = in_front(&collector, 2, None)?;
-    let first = in_front(&collector, 1, Some(last))?;
-    let mut alone = collector.alone();
-    let slot = alone.enter_owned()?;
-    let list = alone.unlinked(first);
-    match alone.retire(slot, list, PutNext, &mut ()) {
-        Ok(()) => {}
-        Err((_, _list)) => panic!(rt; "refused"),
-    }
-    let mut ended = Ended(0);
-    alone.reclaim_all(&mut ended);
-    assert_eq!(rt; ended.0, 2);
     Ok(())
 }
 

@@ -9,6 +9,6 @@ use Rattle.seize_uses.proofs.Owners.{holds_only}
 use Rattle.seize_uses.proofs.nest.around.Goals as goal
 
 pub returns-in-Ok : goal.returns-in-Ok
-returns-in-Ok g c =
+returns-in-Ok c =
     let store = its_store c.args.collector.now in let made : Nest-F Nest = record { number = c.args.number; inside = c.args.inside } in
     (c.in-Ok.ensures.made.0, subst (HoldsOnly owners_of store) (sym c.in-Ok.ensures.made.1) (holds_only made store c.requires))

@@ -3,4 +3,4 @@ use Rattle.seize_uses.proofs.Owners.{inside_belongs}
 use Rattle.seize_uses.proofs.nest.PutInsideReclaimNest.reclaim.Goals as goal
 
 pub put_all-requires : goal.put_all-requires
-put_all-requires g c = inside_belongs c.args.value (further_store c.args.further.now) c.requires
+put_all-requires c = inside_belongs c.args.value (further_store c.args.further.now) c.requires

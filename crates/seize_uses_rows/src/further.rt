@@ -1,0 +1,209 @@
+//! Blocks inside blocks: how far one call goes, in which order values end, and that each ends once.
+ghost use Rattle.std.specs.Prelude.{◌≡◌, IfOk};
+ghost use Rattle.seize.specs.Collectors.{BelongsTo, its_links};
+ghost use Rattle.seize_uses.specs.Nests.{owners_of};
+
+use seize::{Collector, IdSource, Owned, Refusal, Unlinked};
+use seize_uses::nest::{Nest, PutInside, around};
+use std::alloc::{AllocError, Global};
+use std::sync::Wait;
+use std::sync::atomic::{AtomicU64, Ordering};
+use std::test::Fail;
+
+// How long the chain and how wide the value.
+const MANY: u64 = 10_000;
+
+type Nests<'a> = Collector<Nest, PutInside<'a>>;
+
+type Block = Owned<Nest>;
+
+// A collector with one link, and batches of so many values.
+fn collector<'a>(alloc: Global, size: usize, by: PutInside<'a>) -> Result<Nests<'a>, Refusal>
+    ensures { IfOk result (λ made. its_links made ≡ 1) }
+{
+    Ok(Collector::with_reclaimer(alloc, &mut IdSource::new(), 1, 1, by)?.batch_size(size))
+}
+
+// A block with nothing inside.
+fn leaf(alloc: Global, collector: &Nests<'_>, number: u64) -> Result<Block, Refusal>
+    ensures { IfOk result (BelongsTo owners_of collector.now) }
+{
+    around(collector, number, Vec::new(alloc))
+}
+
+// A block with one block inside.
+fn round(alloc: Global, collector: &Nests<'_>, number: u64, block: Block) -> Result<Block, Refusal>
+    requires { BelongsTo owners_of collector.now block }
+    ensures { IfOk result (BelongsTo owners_of collector.now) }
+{
+    let mut inside = Vec::new(alloc);
+    inside.push(block).map_err(AllocError::from)?;
+    around(collector, number, inside)
+}
+
+// 1 holds 2, which holds 3, and so on.
+fn chain(alloc: Global, collector: &Nests<'_>) -> Result<Block, Refusal>
+    ensures { IfOk result (BelongsTo owners_of collector.now) }
+{
+    let mut block = leaf(alloc, collector, MANY)?;
+    for number in (1..MANY).rev() {
+        block = round(alloc, collector, number, block)?;
+    }
+    Ok(block)
+}
+
+// So many places for the order in which values end.
+fn places(alloc: Global, count: u64) -> Result<Vec<AtomicU64>, AllocError> {
+    let mut places = Vec::new(alloc);
+    for _ in 0..count {
+        places.push(AtomicU64::new(0))?;
+    }
+    Ok(places)
+}
+
+// A registration retires the block, and ends.
+fn retire<W: Wait>(rt: &W, collector: &Nests<'_>, block: Block) -> Result<(), Refusal>
+    requires { BelongsTo owners_of collector.now block }
+{
+    let mut pass = collector.pass();
+    let registration = collector.register(rt, &mut pass)?;
+    let block = Unlinked::from_owned(block, collector);
+    registration.retire(rt, &mut pass, block);
+    registration.end(rt, &mut pass);
+    Ok(())
+}
+
+fn ended(by: PutInside<'_>) -> u64 {
+    by.ended.load(Ordering::SeqCst)
+}
+
+// As how manieth the value of each number ended.
+fn order(by: PutInside<'_>, number: u64) -> u64 {
+    match by.order.get(number as usize) {
+        Some(place) => place.load(Ordering::SeqCst),
+        None => 0,
+    }
+}
+
+// 1 holds 2 and 3, and 2 holds 4. 1 and then 5 are retired, at size 2: 4 alone stays in the batch, and ends with its collector.
+#[test]
+fn each_value_ends_once_and_in_order(rt: HostRuntime) -> Result<(), Fail> {
+    let count = AtomicU64::new(0);
+    let places = places(rt.alloc(), 6)?;
+    let by = PutInside {
+        ended: &count,
+        order: places.as_slice(),
+    };
+    let collector = collector(rt.alloc(), 2, by)?;
+    let fourth = leaf(rt.alloc(), &collector, 4)?;
+    let second = round(rt.alloc(), &collector, 2, fourth)?;
+    let third = leaf(rt.alloc(), &collector, 3)?;
+    let mut inside = Vec::new(rt.alloc());
+    inside.push(second)?;
+    inside.push(third)?;
+    let first = around(&collector, 1, inside)?;
+    retire(&rt, &collector, first)?;
+    let fifth = leaf(rt.alloc(), &collector, 5)?;
+    retire(&rt, &collector, fifth)?;
+    assert_eq!(rt; ended(by), 4);
+    assert_eq!(rt;
+        (order(by, 1), order(by, 5), order(by, 2), order(by, 3)),
+        (1, 2, 3, 4)
+    );
+    drop(collector);
+    assert_eq!(rt; (ended(by), order(by, 4)), (5, 5));
+    Ok(())
+}
+
+// Where nobody is active, all are gone in the call that retires the first.
+#[test]
+fn a_long_chain_ends_in_one_call(rt: HostRuntime) -> Result<(), Fail> {
+    let count = AtomicU64::new(0);
+    let by = PutInside {
+        ended: &count,
+        order: &[],
+    };
+    let collector = collector(rt.alloc(), 1, by)?;
+    let first = chain(rt.alloc(), &collector)?;
+    retire(&rt, &collector, first)?;
+    assert_eq!(rt; ended(by), MANY);
+    Ok(())
+}
+
+// At size 32 the first waits in the batch, and all end as everything is reclaimed.
+#[test]
+fn a_long_chain_ends_as_all_is_reclaimed(rt: HostRuntime) -> Result<(), Fail> {
+    let count = AtomicU64::new(0);
+    let by = PutInside {
+        ended: &count,
+        order: &[],
+    };
+    let mut collector = collector(rt.alloc(), 32, by)?;
+    let first = chain(rt.alloc(), &collector)?;
+    retire(&rt, &collector, first)?;
+    assert_eq!(rt; ended(by), 0);
+    assert!(rt; collector.reclaim_all());
+    assert_eq!(rt; ended(by), MANY);
+    Ok(())
+}
+
+// A chain in a link ends with its collector.
+#[test]
+fn a_linked_chain_ends_with_its_collector(rt: HostRuntime) -> Result<(), Fail> {
+    let count = AtomicU64::new(0);
+    let by = PutInside {
+        ended: &count,
+        order: &[],
+    };
+    let collector = collector(rt.alloc(), 32, by)?;
+    link_a_chain(&rt, rt.alloc(), &collector)?;
+    assert_eq!(rt; ended(by), 0);
+    drop(collector);
+    assert_eq!(rt; ended(by), MANY);
+    Ok(())
+}
+
+fn link_a_chain<W: Wait>(rt: &W, alloc: Global, collector: &Nests<'_>) -> Result<(), Refusal>
+    requires { its_links collector.now ≡ 1 }
+{
+    let first = chain(alloc, collector)?;
+    let mut pass = collector.pass();
+    let guard = collector.enter_owned(rt, &mut pass)?;
+    if let Some(old) = guard.swap(0, Some(first), &mut pass) {
+        guard.defer_retire(rt, &mut pass, old);
+    }
+    guard.leave(rt, &mut pass);
+    Ok(())
+}
+
+// 1 holds 10,000. At size 1 all are gone in the call that retires it, in their order.
+#[test]
+fn a_wide_value_ends_in_one_call(rt: HostRuntime) -> Result<(), Fail> {
+    let count = AtomicU64::new(0);
+    let places = places(rt.alloc(), MANY + 2)?;
+    let by = PutInside {
+        ended: &count,
+        order: places.as_slice(),
+    };
+    let collector = collector(rt.alloc(), 1, by)?;
+    let first = wide(rt.alloc(), &collector)?;
+    retire(&rt, &collector, first)?;
+    assert_eq!(rt; ended(by), MANY + 1);
+    for number in 1..MANY + 2 {
+        assert_eq!(rt; order(by, number), number);
+    }
+    Ok(())
+}
+
+// 1 holds 2 and the values after it.
+fn wide(alloc: Global, collector: &Nests<'_>) -> Result<Block, Refusal>
+    ensures { IfOk result (BelongsTo owners_of collector.now) }
+{
+    let mut inside = Vec::new(alloc);
+    for number in 2..MANY + 2 {
+        inside
+            .push(leaf(alloc, collector, number)?)
+            .map_err(AllocError::from)?;
+    }
+    around(collector, 1, inside)
+}
