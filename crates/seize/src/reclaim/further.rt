@@ -23,7 +23,7 @@ pub struct Further<'a, T: Drop, R: Puts<T>> {
     permits: &'a Permits<Fit<T, R>>,
     kind: u64,
     ghost listed: { ArePermitsOf (blocks_book blocks.now) permits.now },
-    ghost served: { IsServed (further_in chain) (blocks_book blocks.now) } by { is_served-prop (further_in chain) (blocks_book blocks.now) },
+    ghost served: { IsServed (further_in chain) (blocks_book blocks.now) } by { is_served-prop (further_in chain) _ },
     ghost words: { kepts_of (further_in chain) ≡ map (λ _. kind) (values_of (further_in chain)) },
 }
 
