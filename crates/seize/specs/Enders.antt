@@ -2,8 +2,9 @@
 --     IsEnderIn n ender, IsEnderOf words ender     its list of permits is that of book n, or of that of these words
 --     PutBy code puts vs        blocks that the list calls so are put with a value of some kind
 --     Weighs code weight l n    this number, of what is lent with a value, stands for what weighs one more than n; 0 stands for nothing
---     PutAs code puts had       with each of these values, which were had, blocks were put as `puts` says of it and of its kind
-use Rattle.std.specs.Prelude.{◌≡◌, ℕ, zero, suc, List, [], ◌∷◌}
+--     PutAs code puts had       with each of these values, which were had, blocks were put as `puts` says of it and of its kind, and each
+--                               of these is of that kind
+use Rattle.std.specs.Prelude.{◌≡◌, ℕ, zero, suc, map, List, [], ◌∷◌}
 use base.Stored.{Gv}
 use Rattle.seize_book.specs.Lending.{ArePermitsOf}
 use Rattle.seize_book.specs.Loans.{loan_number}
@@ -25,7 +26,8 @@ PutBy {T} code puts vs = (kind : ℕ) × (x : T) × AreNamesOf code vs (puts kin
 
 abbrev pub PutAs : {T : Type 0} → (T → Gv) → (ℕ → T → List T) → Had → Type 0
 PutAs code puts [] = Unit {0}
-PutAs {T} code puts (one ∷ had) = ((x : T) × (code x ≡ one.1) × AreNamesOf code one.2 (puts one.0 x)) × PutAs code puts had
+PutAs {T} code puts (one ∷ had) =
+    ((x : T) × (code x ≡ one.1) × AreNamesOf code one.2 (puts one.0 x) × (one.3 ≡ map (λ _. one.0) one.2)) × PutAs code puts had
 
 abbrev pub Weighs : {T : Type 0} → (T → Gv) → (T → ℕ) → ℕ → ℕ → Type 0
 Weighs code weight zero n = n ≡ 0

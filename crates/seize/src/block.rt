@@ -4,7 +4,7 @@ ghost use Rattle.std.specs.Prelude.{◌≡◌, IfSome};
 ghost use Rattle.seize_words.specs.Joined.{IsNewTo};
 ghost use Rattle.seize_words.specs.LinkWords.{value_held};
 ghost use Rattle.seize.specs.Blocks.{IsNamed};
-ghost use Rattle.seize.specs.Collectors.{BelongsTo, IsBlockOf, IsPassOf, its_book};
+ghost use Rattle.seize.specs.Collectors.{BelongsTo, IsPassOf, its_book};
 
 mod failed;
 mod owned;

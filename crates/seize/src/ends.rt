@@ -1,5 +1,5 @@
-//! The reclaimer of a slot's calls: it gives each value to that of the collector, with what that may put.
-ghost use Rattle.std.specs.Prelude.{[], ℕ};
+//! The reclaimer of a slot's calls: it gives each value to the collector's own, with a place for what that puts.
+ghost use Rattle.std.specs.Prelude.{[]};
 ghost use Rattle.seize_calls.specs.Handing.{Had, had_coded};
 ghost use Rattle.seize.specs.Enders.{IsEnderIn, PutAs, Weighs};
 ghost use Rattle.seize.specs.Lighter.{weighs_once};

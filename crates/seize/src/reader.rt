@@ -37,7 +37,7 @@ impl<'c, T: Drop, R: Reclaim<T>> Reader<'c, T, R> {
     ghost use Rattle.seize_machine.specs.declared.machine.event.Answer.TheVariants.{Link};
     ghost use Rattle.seize_machine.specs.declared.machine.event.Exchange.TheVariants.{Swap};
     ghost use Rattle.seize.specs.Blocks.{ComesOut, IsNamed, IsSharedOf, IsUnlinkedOf, Shows};
-    ghost use Rattle.seize.specs.Collectors.{IsBlockOf, IsPassOf, its_links};
+    ghost use Rattle.seize.specs.Collectors.{IsPassOf, its_links};
     ghost use Rattle.seize.specs.Exchanges.{FoundIn, MakesExchange, Protects, current_name};
     ghost use Rattle.seize.specs.Makes.{MakesNone, MakesOne};
 

@@ -17,7 +17,8 @@ pub trait Puts<T> {
     /// What a value weighs: at least 1.
     ghost weight: { T → ℕ } = { λ _. 1 };
 
-    /// The stores of the blocks in the value that it may put. A type that holds blocks of itself says it by a fold, with `owners_in`.
+    /// The stores of the blocks in the value that it may put. A type that holds blocks of itself says it by a fold, with `owners_in`. Where
+    /// it names none, no block out of the value can be put.
     ghost owners: { T → List (List ℕ) } = { λ _. [] };
 
     /// The contents of the blocks that it puts with a value of this kind, in order.

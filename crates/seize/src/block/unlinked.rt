@@ -30,7 +30,7 @@ impl<'c, T: Drop> Unlinked<'c, T> {
     ghost use Rattle.seize_calls.specs.Slots.{IsLooseIn, its_value};
     ghost use Rattle.seize_calls.specs.declared.slot.Loose.{Loose};
     ghost use Rattle.seize.specs.Blocks.{ComesOut, HasContent, IsUnlinkedOf, content, unlinked_name};
-    ghost use Rattle.seize.specs.Collectors.{BelongsTo, IsBlockOf};
+    ghost use Rattle.seize.specs.Collectors.{BelongsTo};
 
     /// A block that was never in a link. No event is made.
     ///

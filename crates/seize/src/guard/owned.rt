@@ -5,7 +5,7 @@ ghost use Rattle.seize_machine.specs.declared.machine.event.Answer.TheVariants.{
 ghost use Rattle.seize_machine.specs.declared.machine.event.Exchange.TheVariants.{Swap};
 ghost use Rattle.seize_machine.specs.declared.machine.event.Job.TheVariants.{Retire};
 ghost use Rattle.seize.specs.Blocks.{ComesOut, IsNamed, IsSharedOf, IsUnlinkedOf, unlinked_name};
-ghost use Rattle.seize.specs.Collectors.{BelongsTo, IsBlockOf, IsPassOf, its_links};
+ghost use Rattle.seize.specs.Collectors.{BelongsTo, IsPassOf, its_links};
 ghost use Rattle.seize.specs.Exchanges.{MakesExchange, current_name};
 ghost use Rattle.seize.specs.Makes.{Defers, IsOfKind, MakesOne};
 ghost use Rattle.seize.specs.OwnedGuards.{owned_activation, owned_collector, owned_slot};

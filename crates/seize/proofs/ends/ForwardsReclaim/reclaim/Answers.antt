@@ -1,4 +1,4 @@
-use Rattle.std.proofs.Common.{ℕ, List, [], ◌∷◌, ◌++◌, sym, ap, subst, ◌∙◌}
+use Rattle.std.proofs.Common.{ℕ, List, [], ◌∷◌, ◌++◌, map, sym, ap, subst, ◌∙◌}
 use Rattle.seize_book.specs.Kept.{kepts_of}
 use Rattle.seize_book.specs.Values.{values_of}
 use Rattle.seize_calls.specs.Furthers.{further_in}
@@ -19,8 +19,9 @@ pub returns-clause-serves : goal.returns-clause-serves
 returns-clause-serves g c =
     let code = g.row.T.coded.code in let puts = g.R.Puts.puts in let before = c.args.self.now.ends.had in let put = further_in c.reclaim.new.further.chain in
     let more : Had = (c.args.kept, c.take.new.self.at, values_of put, kepts_of put) ∷ [] in
-    let names = c.reclaim.ensures.2 [] c.new-put.ensures.none in (
+    let names = c.reclaim.ensures.2 [] c.new-put.ensures.none in
+    let kinds = c.reclaim.new.further.words ∙ ap (λ (kind : ℕ). map (λ _. kind) (values_of put)) (c.reclaim.ensures.1 ∙ c.new-put.ensures.its.1) in (
       c.requires.serves.0,
       subst (PutAs code puts) (sym (c.note.ensures ∙ ap (λ (had : Had). had ++ more) c.take.ensures.0))
-          (put_more code puts before more c.requires.serves.1 ((c.args.value, sym c.take.ensures.1, names), tt)),
+          (put_more code puts before more c.requires.serves.1 ((c.args.value, sym c.take.ensures.1, names, kinds), tt)),
     )
