@@ -1,8 +1,8 @@
 -- Values that hold blocks: what their reclaimers and their makers need. `owners` says the stores of the blocks inside a value.
-use Rattle.std.proofs.Common.{◌≡◌, ℕ, List, [], ◌∷◌, ◌++◌, map, refl, All}
+use Rattle.std.proofs.Common.{◌≡◌, ℕ, List, [], ◌∷◌, ◌++◌, map, refl, sym, subst, All}
 use Rattle.std.proofs.Math.Path.{ap₂}
 use Rattle.std.proofs.lemmas.List.Elements.{All-nil, All-cons, All-head, All-tail, All-append}
-use Rattle.seize.specs.Blocks.{Belongs, content, owners_in, store_name}
+use Rattle.seize.specs.Blocks.{Belongs, HoldsOnly, content, owners_in, store_name}
 use Rattle.seize.specs.declared.block.owned.Owned.{Owned}
 
 -- blocks whose contents a function changes have the contents changed by it
@@ -44,3 +44,7 @@ module _ {T : Type 0} (owners : T → List (List ℕ)) (store : List ℕ) where
       let first = All-head (Belongs owners store) block blocks all in
       All-append IsOwn (store_name block ∷ owners (content block)) (owners_in owners blocks)
       (All-cons IsOwn (store_name block) (owners (content block)) first.0 first.1) (owners_of_each blocks (All-tail (Belongs owners store) block blocks all))
+
+  -- a block made of a value whose blocks lie in this store
+  pub made_belongs : (block : Owned T) (value : T) → store_name block ≡ store → content block ≡ value → HoldsOnly owners store value → Belongs owners store block
+  made_belongs block value own is only = (own, subst (HoldsOnly owners store) (sym is) only)
