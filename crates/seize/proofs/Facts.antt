@@ -1,4 +1,5 @@
--- What other crates may build on. All else in `proofs` is no interface, and may change. Assumes `Logic`.
+-- What other crates may build on, with `Contents` for values that hold blocks. All else in `proofs` is no interface, and may change. Assumes
+-- `Logic`.
 use Rattle.std.proofs.Common.{◌≡◌, ℕ, Bool, true, false, Option, Some, refl, sym, ◌∙◌, subst}
 use base.Growing.{prefix_trans}
 use base.Stored.{Coded}

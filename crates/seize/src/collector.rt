@@ -360,8 +360,8 @@ impl<T: Drop, R: Reclaim<T>> Collector<T, R> {
     /// `mem::forget`. What is in that slot's batch stays. If the slot has a guard, what waits for it or is attempted later stays as well.
     ///
     /// The slots go in order of their numbers. It takes no memory and waits for nobody, but for what the reclaimer does. Each slot takes
-    /// the lock of its shelf and makes two atomic swaps and an attempt of its batch, which looks at the heads of all slots; each value that a
-    /// reclaimer puts is one attempt more. One that was forgotten with a guard makes one swap more.
+    /// the lock of its shelf and makes two atomic swaps and an attempt of its batch, which looks at the heads of all slots. Each value that
+    /// a reclaimer puts is one attempt more. One that was forgotten with a guard makes one swap more.
     pub fn reclaim_all(&mut self) -> bool
         ensures { ReclaimsAll self.old self.new result }
     {
