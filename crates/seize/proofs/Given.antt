@@ -1,14 +1,8 @@
 -- What a reclaimer is given, and what it put.
 use Rattle.std.proofs.Common.{◌≡◌, ℕ, List, [], ◌∷◌, ◌++◌, refl, sym, ap, subst, ◌∙◌, append_assoc}
 use base.Stored.{Coded, Gv}
-use Rattle.seize_book.specs.Entry.{Entry}
-use Rattle.seize_book.specs.Kept.{kepts_in}
-use Rattle.seize_book.specs.Ledger.{HeldKey}
 use Rattle.seize_book.specs.Loans.{loan_number}
 use Rattle.seize_book.specs.Permits.{AllAre}
-use Rattle.seize_book.specs.Private.{labels_of}
-use Rattle.seize_book.specs.Values.{AllNew, AreNew, book_in}
-use Rattle.seize_book.specs.declared.book.value_keys.ValueKeys.{ValueKeys}
 use Rattle.seize_calls.specs.Handing.{Had}
 use Rattle.seize_book.specs.Tokens.{Name}
 use Rattle.seize_words.specs.Chunks.{IsLentAs}
@@ -18,14 +12,6 @@ use Rattle.seize.specs.declared.reclaim.further.Further.{Further}
 use Rattle.seize.specs.Enders.{IsEnderIn, PutAs}
 use Rattle.seize.specs.declared.ender.Ender.{Ender}
 use Rattle.seize.specs.Lighter.{same_value}
-
--- of no values no words are kept
-pub none_kept : (held : List (HeldKey Entry)) → labels_of held ≡ [] → kepts_in held ≡ []
-none_kept [] none = refl
-none_kept (h ∷ held) none = absurd (cc)
-
-pub empty_new : (keys : ValueKeys) → keys.keys.held ≡ [] → AreNew keys
-empty_new keys none = subst (AllNew (book_in keys)) (sym none) tt
 
 -- what holds of the value whose code the permit is for
 pub given : {T : Type 0} (coded : Coded T) (Holds : T → Type 0) (value : T) (ls : List ℕ) → ls ≡ loan_number (coded.code value) ∷ []

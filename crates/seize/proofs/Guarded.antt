@@ -27,7 +27,7 @@ use Rattle.seize.proofs.LinkSteps.{link_compares, link_finds, link_swaps}
 use Rattle.seize.proofs.Made.{none_learned, none_then}
 
 -- a call, when no event was made before it
-pub call_after : {IsPut : List ℕ → Type 0} (s t : ℕ) (job : Job) (pass ready pass' : Pass) → s ≡ t → MakesNone pass ready → MakesCall IsPut s job ready pass' → MakesCall IsPut t job pass pass'
+pub call_after : {IsPut : Pass → ℕ → List ℕ → Type 0} (s t : ℕ) (job : Job) (pass ready pass' : Pass) → s ≡ t → MakesNone pass ready → MakesCall IsPut s job ready pass' → MakesCall IsPut t job pass pass'
 call_after {IsPut} s t job pass ready pass' same none call =
     subst (λ (k : ℕ). MakesCall IsPut k job pass pass') same (record { steps = call.steps; its = call.its; made = none_then none call.made })
 

@@ -40,7 +40,7 @@ told_here true e answer log es (x ∷ before) after d a v k says on is = inr (on
 told_here true e answer log es [] after d a v k says on is =
     inl (subst (λ (x : Deed). Says (retires_by x.event) x.kepts v k) (sym (ap (λ (xs : List (Deed × Answer)). (first_or (d, a) xs).0) is)) says)
 
-told_at : (test : Entry × Answer → Bool) (st : State) (log : List Entry) (before after : List (Deed × Answer)) (d : Deed) (a : Answer) (v k : ℕ) → Says (retires_by d.event) d.kepts v k
+pub told_at : (test : Entry × Answer → Bool) (st : State) (log : List Entry) (before after : List (Deed × Answer)) (d : Deed) (a : Answer) (v k : ℕ) → Says (retires_by d.event) d.kepts v k
     → events_in (filter test (with_answers st log)) ≡ before ++ (d, a) ∷ after → IsTold log v k
 told_at test st [] [] after d a v k says is = absurd (cc)
 told_at test st [] (x ∷ before) after d a v k says is = absurd (cc)

@@ -1,5 +1,6 @@
 -- Which reservation lies in the place of a registration or of a guard, and what its works tell of it.
 use Rattle.std.proofs.Common.{◌≡◌, ◌⊎◌, ◌<◌, ◌≤◌, ◌-◌, ◌^◌, ℕ, List, [], ◌∷◌, inl, inr, arith, ap, append_assoc, subst, sym, ◌∙◌}
+use base.Stored.{Gv}
 use denote.Bor.{Bor}
 use Rattle.seize_machine.specs.Machine.Event.{Begin, Event, Give, Return}
 use Rattle.seize_machine.specs.declared.machine.event.Answer.{Answer}
@@ -18,8 +19,10 @@ use Rattle.seize.specs.Reservations.{IsHeadFor, its_label, place_label}
 use Rattle.seize.specs.declared.collector.Collector.{Collector}
 use Rattle.seize.specs.declared.guard.LocalGuard.{LocalGuard}
 use Rattle.seize.specs.declared.reservation.Reservation.{Reservation}
+use Rattle.seize.specs.Puts.{PutBy}
 use Rattle.seize.proofs.Made.{makes_then}
 use Rattle.seize.proofs.Placed.{label_family, label_most, label_number}
+use Rattle.seize.proofs.Steps.{put_later, steps_later}
 
 -- it is of the list and of the slot that its label says, for so many guards
 pub in_place : {T : Type 0} (n : Name) (s m : ℕ) (r : Reservation T) → its_label r ≡ place_label n s m → ((slot_list r.slot).family ≡ n.family) × (its_number r.slot ≡ s) × (r.most ≡ m)
@@ -53,9 +56,9 @@ first_of_two guards most fits one (inl t) = t.1
 first_of_two guards most fits one (inr t) = absurd (omega (arith, fits, one, t.0))
 
 -- The call to leave, and then the number goes back.
-pub leaves_gives : {IsPut : List ℕ → Type 0} (s : ℕ) (p q r : Pass) → MakesCall IsPut s Leave p q → MakesOne q r (Give s) Done → LeavesAndGives IsPut s p r
-leaves_gives {IsPut} s p q r call gives = record {
+pub leaves_gives : {T : Type 0} (code : T → Gv) (puts : ℕ → T → List T) (s : ℕ) (p q r : Pass) → MakesCall (PutBy code puts) s Leave p q → MakesOne q r (Give s) Done → LeavesAndGives (PutBy code puts) s p r
+leaves_gives code puts s p q r call gives = record {
   steps = call.steps;
-  its = call.its;
+  its = steps_later (PutBy code puts q) (PutBy code puts r) (put_later code puts q r gives.grows) s call.steps call.its;
   made = subst (Makes p r) (ap (λ (es : List (Event × Answer)). (Begin s Leave, Done) ∷ es) (append_assoc call.steps ((Return s, Done) ∷ []) ((Give s, Done) ∷ []))) (makes_then call.made gives);
 }

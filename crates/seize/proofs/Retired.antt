@@ -20,7 +20,7 @@ use Rattle.seize_book.specs.Tokens.{start}
 use Rattle.seize_book.proofs.Facts.{equal}
 use Rattle.seize_book.specs.declared.book.pass.Pass.{Pass}
 use Rattle.seize.specs.Laws.{moments_seen}
-use Rattle.seize.specs.Makes.{MakesCall, MakesNone, WasMade, made_with}
+use Rattle.seize.specs.Makes.{Defers, MakesCall, MakesNone, WasMade, made_with}
 use Rattle.seize.proofs.Made.{as_made, then_none}
 use Rattle.seize.proofs.Stands.{made_after, picked, rest_of}
 
@@ -143,12 +143,11 @@ begun_and_returned test st (Made d ∷ log) s v legal before after is made =
     (test (Made d, (or_illegal st (next d.size st d.event)).1)) before is
 
 -- **A retirement that returned has retired its value.**
-pub retired_by : {IsPut : List ℕ → Type 0} (s v : ℕ) {pass pass' : Pass} → MakesCall IsPut s (Retire v) pass pass' → (q : ℕ) × Retired (moments_seen pass') v q
+pub retired_by : {IsPut : Pass → ℕ → List ℕ → Type 0} (s v : ℕ) {pass pass' : Pass} → MakesCall IsPut s (Retire v) pass pass' → (q : ℕ) × Retired (moments_seen pass') v q
 retired_by {IsPut} s v {pass} {pass'} call =
     begun_and_returned (λ a. maker a.0 == pass'.id) (start pass'.name) pass'.seen s v call.made.legal (made_with pass) (call.steps ++ (Return s, Done) ∷ []) call.made.made
     (made_after (Return s, Done) call.steps ((Return s, Done) ∷ []) (inl refl))
 
--- and a call stays made, while the pass sees more
-pub call_still : {IsPut : List ℕ → Type 0} {s : ℕ} {job : Job} {p q r : Pass} → MakesCall IsPut s job p q → MakesNone q r → MakesCall IsPut s job p r
-call_still {IsPut} {s} {job} {p} {q} {r} call none =
-    record { steps = call.steps; its = call.its; made = then_none call.made none }
+-- and a call that hands nothing stays made, while the pass sees more
+pub call_still : {s : ℕ} {job : Job} {p q r : Pass} → Defers s job p q → MakesNone q r → Defers s job p r
+call_still {s} {job} {p} {q} {r} call none = record { steps = call.steps; its = call.its; made = then_none call.made none }

@@ -32,7 +32,7 @@ use Rattle.seize_words.specs.declared.words.Words.{Words}
 use Rattle.seize.specs.Makes.{AreStepsOf, IsStepOf, Makes, MakesCall, made_with}
 use Rattle.seize.specs.Sweeps.{IsLedBy, IsOff, KeepsOn, KeepsOthers, LeavesNothing, KeepsElse, LiesHere}
 use Rattle.seize.proofs.Made.{as_made, made_grew, one_added, step_added}
-use Rattle.seize.proofs.Steps.{any_put}
+use Rattle.seize.proofs.Steps.{any_put, any_puts}
 use Rattle.seize.proofs.Wholly.{slot_flushes, slot_leaves}
 
 -- One event of the slot that is on no link.
@@ -221,10 +221,10 @@ module _ {T : Type 0} (slot : Slot T) (pass : Pass) (slot' : Slot T) (pass' : Pa
   module _ (words : Words T) (of : IsOfWords words slot') (for : IsPassFor words pass) (before ended : Had) where
     pub flushes : (retired : Bool) → SlotFlushes slot pass before slot' pass' ended retired → IsLedBy (its_number slot) pass pass'
     flushes retired e =
-        led_call slot pass e.ready e.prepares sole (its_number slot) Flush pass' (slot_flushes (λ _. Unit {0}) words slot pass slot' pass' of for before ended (any_put ended) retired e).0 e.does.rests.alone
+        led_call slot pass e.ready e.prepares sole (its_number slot) Flush pass' (slot_flushes (λ _ _ _. Unit {0}) pass' (any_puts pass'.seen) words slot pass slot' of for before ended (any_put pass'.seen ended) retired e).0 e.does.rests.alone
 
     pub leaves : SlotLeaves slot pass before slot' pass' ended → IsLedBy (its_number slot) pass pass'
-    leaves e = led_call slot pass e.ready e.prepares sole (its_number slot) Leave pass' (slot_leaves (λ _. Unit {0}) words slot pass slot' pass' of for before ended (any_put ended) e) e.does.rests.alone
+    leaves e = led_call slot pass e.ready e.prepares sole (its_number slot) Leave pass' (slot_leaves (λ _ _ _. Unit {0}) pass' (any_puts pass'.seen) words slot pass slot' of for before ended (any_put pass'.seen ended) e) e.does.rests.alone
 
 -- the slot is the same all the while
 pub led_as : (s t : ℕ) (pass pass' : Pass) → t ≡ s → IsLedBy t pass pass' → IsLedBy s pass pass'

@@ -12,6 +12,7 @@ pub mod Makes
 pub mod Names
 pub mod Numbers
 pub mod OwnedGuards
+pub mod Puts
 pub mod Reclaims
 pub mod Registrations
 pub mod Reservations

@@ -7,9 +7,10 @@
 --     MakesOne pass pass' event answer     this one event was made
 --     MakesNone pass pass'    none was
 --     StaysActive s pass pass'    none was, and slot s is active, as the pass has seen then
---     IsStepOf IsPut s step   it is a step of a call of slot s between its begin and its return. Where it hands a value, its reclaimer put
---                             blocks with these names then: IsPut says of which names it may be;  AreStepsOf IsPut s steps     so is each
---     MakesCall IsPut s job pass pass'     a whole call of slot s: from its begin with this job to its return, and between them its steps
+--     IsStepOf IsPut s step   it is a step of a call of slot s between its begin and its return. Where it hands a value v, the reclaimer put
+--                             blocks with the names vs: `IsPut v vs` says of which it may be so;  AreStepsOf IsPut s steps     so is each
+--     MakesCall IsPut s job pass pass'     a whole call of slot s: from its begin with this job to its return, and between them its steps,
+--                             with `IsPut` of the pass as it is then
 --     Defers s job pass pass'     a whole call of slot s, and none of its steps hands a value to its reclaimer
 --     LeavesAndGives IsPut s pass pass'    a whole call of slot s to leave, and then its number went back
 --     EndsUse s pass pass' gave     the use of slot s ended: its number went back; or no event was made, and it is active (`StaysActive`)
@@ -21,7 +22,7 @@ use Rattle.seize_machine.specs.Machine.Event.{AddCount, Begin, Detach, Enter, Ev
 use Rattle.seize_machine.specs.Machine.Event.{SubCount, SwapOut}
 use Rattle.seize_machine.specs.Machine.State.{head_at, is_active}
 use Rattle.seize_machine.specs.declared.machine.event.Answer.{Answer}
-use Rattle.seize_machine.specs.declared.machine.event.Answer.TheVariants.{Done}
+use Rattle.seize_machine.specs.declared.machine.event.Answer.TheVariants.{Done, Handed}
 use Rattle.seize_machine.specs.declared.machine.event.Job.{Job}
 use Rattle.seize_machine.specs.declared.machine.event.Job.TheVariants.{Leave}
 use Rattle.seize_book.specs.Book.{IsLegalList, after}
@@ -62,7 +63,7 @@ Enters s pass pass' = MakesOne pass pass' (Enter s) Done ⊎ StaysActive s pass 
 abbrev pub IsOfKind : ℕ → ℕ → Pass → Type 0
 IsOfKind v kind pass = IsTold pass.seen v kind
 
-abbrev pub IsStepOf : (List ℕ → Type 0) → ℕ → Event × Answer → Type 0
+abbrev pub IsStepOf : (ℕ → List ℕ → Type 0) → ℕ → Event × Answer → Type 0
 IsStepOf IsPut s (Put t, answer) = t ≡ s
 IsStepOf IsPut s (ReadHead t n, answer) = t ≡ s
 IsStepOf IsPut s (Detach t, answer) = t ≡ s
@@ -70,24 +71,24 @@ IsStepOf IsPut s (Insert t n end, answer) = t ≡ s
 IsStepOf IsPut s (AddCount t, answer) = t ≡ s
 IsStepOf IsPut s (SwapOut t, answer) = t ≡ s
 IsStepOf IsPut s (SubCount t, answer) = t ≡ s
-IsStepOf IsPut s (Hand t puts, answer) = (t ≡ s) × IsPut puts
+IsStepOf IsPut s (Hand t vs, Handed v) = (t ≡ s) × IsPut v vs
 IsStepOf IsPut s _ = ⊥
 
-abbrev pub AreStepsOf : (List ℕ → Type 0) → ℕ → List (Event × Answer) → Type 0
+abbrev pub AreStepsOf : (ℕ → List ℕ → Type 0) → ℕ → List (Event × Answer) → Type 0
 AreStepsOf IsPut s [] = Unit {0}
 AreStepsOf IsPut s (step ∷ steps) = IsStepOf IsPut s step × AreStepsOf IsPut s steps
 
-pub record MakesCall (IsPut : List ℕ → Type 0) (s : ℕ) (job : Job) (pass pass' : Pass) : Type 0 where
+pub record MakesCall (IsPut : Pass → ℕ → List ℕ → Type 0) (s : ℕ) (job : Job) (pass pass' : Pass) : Type 0 where
   pub steps : List (Event × Answer)
-  pub its : AreStepsOf IsPut s steps
+  pub its : AreStepsOf (IsPut pass') s steps
   pub made : Makes pass pass' ((Begin s job, Done) ∷ steps ++ (Return s, Done) ∷ [])
 
 abbrev pub Defers : ℕ → Job → Pass → Pass → Type 0
-Defers s job pass pass' = MakesCall (λ _. ⊥) s job pass pass'
+Defers s job pass pass' = MakesCall (λ _ _ _. ⊥) s job pass pass'
 
-pub record LeavesAndGives (IsPut : List ℕ → Type 0) (s : ℕ) (pass pass' : Pass) : Type 0 where
+pub record LeavesAndGives (IsPut : Pass → ℕ → List ℕ → Type 0) (s : ℕ) (pass pass' : Pass) : Type 0 where
   pub steps : List (Event × Answer)
-  pub its : AreStepsOf IsPut s steps
+  pub its : AreStepsOf (IsPut pass') s steps
   pub made : Makes pass pass' ((Begin s Leave, Done) ∷ steps ++ (Return s, Done) ∷ (Give s, Done) ∷ [])
 
 abbrev pub EndsUse : ℕ → Pass → Pass → Bool → Type 0

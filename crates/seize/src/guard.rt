@@ -38,7 +38,7 @@ impl<'r, 'c, T: Drop, R: Reclaim<T>> LocalGuard<'r, 'c, T, R> {
     ghost use Rattle.seize_table.specs.declared.refusal.Refusal.TheVariants.{NoMemory as no_memory};
     ghost use Rattle.seize.specs.Exchanges.{FoundIn, MakesExchange, Protects, current_name};
     ghost use Rattle.seize.specs.Guards.{IsGuardOf, guard_activation, guard_collector, guard_slot};
-    ghost use Rattle.seize.specs.Enders.{PutBy};
+    ghost use Rattle.seize.specs.Puts.{PutBy};
     ghost use Rattle.seize.specs.Makes.{Defers, IsOfKind, MakesCall, MakesNone, MakesOne, StaysActive};
 
     // One of this registration, which reads so.

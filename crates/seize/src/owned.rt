@@ -50,7 +50,7 @@ impl<'c, T: Drop, R: Reclaim<T>> OwnedGuard<'c, T, R> {
     ghost use Rattle.seize.specs.Blocks.{ComesOut, IsNamed, IsSharedOf, IsUnlinkedOf, Shows, content, unlinked_name};
     ghost use Rattle.seize.specs.Collectors.{BelongsTo, IsBlockOf, IsPassOf, IsSlotFor, its_links};
     ghost use Rattle.seize.specs.Exchanges.{FoundIn, MakesExchange, Protects, current_name};
-    ghost use Rattle.seize.specs.Enders.{PutBy};
+    ghost use Rattle.seize.specs.Puts.{PutBy};
     ghost use Rattle.seize.specs.Makes.{Defers, IsOfKind, LeavesAndGives, MakesCall, MakesNone, MakesOne};
     ghost use Rattle.seize.specs.OwnedGuards.{owned_activation, owned_collector, owned_slot};
 

@@ -44,7 +44,7 @@ impl<'c, T: Drop, R: Reclaim<T>> Registration<'c, T, R> {
     ghost use Rattle.seize.specs.Blocks.{IsUnlinkedOf, content, unlinked_name};
     ghost use Rattle.seize.specs.Collectors.{IsBlockOf, IsPassOf, IsSlotFor};
     ghost use Rattle.seize.specs.Guards.{IsGuardOf};
-    ghost use Rattle.seize.specs.Enders.{PutBy};
+    ghost use Rattle.seize.specs.Puts.{PutBy};
     ghost use Rattle.seize.specs.Makes.{EndsUse, Enters, IsOfKind, MakesCall};
     ghost use Rattle.seize.specs.Registrations.{registered_in, registered_slot};
 

@@ -5,8 +5,9 @@ ghost use Rattle.seize_words.specs.Chunks.{IsBlockIn};
 ghost use Rattle.seize_words.specs.Joined.{words_book};
 ghost use Rattle.seize_machine.specs.declared.machine.event.Job.TheVariants.{Flush, Leave, Refresh, Retire};
 ghost use Rattle.seize_table.specs.declared.refusal.Refusal.TheVariants.{NoMemory as no_memory, TooManyGuards as too_many_guards};
-ghost use Rattle.seize.specs.Enders.{IsEnderOf, PutBy};
+ghost use Rattle.seize.specs.Enders.{IsEnderOf};
 ghost use Rattle.seize.specs.Makes.{Defers, Enters, IsOfKind, MakesCall, StaysActive};
+ghost use Rattle.seize.specs.Puts.{PutBy};
 ghost use Rattle.seize.specs.Reservations.{IsHeadFor, IsReservationOf, IsUnit};
 
 use crate::ender::Ender;

@@ -8,7 +8,7 @@ ghost use Rattle.seize_table.specs.declared.refusal.Refusal.TheVariants.{NoMemor
 ghost use Rattle.seize.specs.Blocks.{ComesOut, IsNamed, IsSharedOf, IsUnlinkedOf, Shows, content, unlinked_name};
 ghost use Rattle.seize.specs.Collectors.{BelongsTo, IsBlockOf, IsNewPassOf, IsPassOf, its_id, its_links};
 ghost use Rattle.seize.specs.Exchanges.{FoundIn, MakesExchange, Protects, current_name};
-ghost use Rattle.seize.specs.Enders.{PutBy};
+ghost use Rattle.seize.specs.Puts.{PutBy};
 ghost use Rattle.seize.specs.Makes.{Defers, IsOfKind, MakesCall, MakesNone, MakesOne, StaysActive};
 ghost use Rattle.seize_words.specs.declared.activation.Activation.{Activation};
 ghost use Rattle.seize.specs.declared.collector.Collector.{Collector};

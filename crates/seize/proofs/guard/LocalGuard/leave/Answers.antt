@@ -3,7 +3,7 @@ use Rattle.seize_machine.specs.declared.machine.event.Job.TheVariants.{Leave}
 use Rattle.seize_calls.specs.Slots.{its_number}
 use Rattle.seize.specs.Collectors.{its_book}
 use Rattle.seize.specs.Guards.{guard_collector, guard_slot}
-use Rattle.seize.specs.Enders.{PutBy}
+use Rattle.seize.specs.Puts.{PutBy}
 use Rattle.seize.specs.Makes.{MakesCall, StaysActive}
 use Rattle.seize.proofs.Placed.{unit_as}
 use Rattle.seize.proofs.Places.{guard_head, guard_place, head_for, in_place, one_of_two}

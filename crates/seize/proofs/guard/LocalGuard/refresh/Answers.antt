@@ -5,7 +5,7 @@ use Rattle.seize_words.specs.declared.activation.Activation.{Activation}
 use Rattle.seize_calls.specs.Slots.{its_number}
 use Rattle.seize.specs.Collectors.{its_book}
 use Rattle.seize.specs.Guards.{guard_collector, guard_slot}
-use Rattle.seize.specs.Enders.{PutBy}
+use Rattle.seize.specs.Puts.{PutBy}
 use Rattle.seize.specs.Makes.{MakesCall, StaysActive}
 use Rattle.seize.specs.Reservations.{IsUnit}
 use Rattle.seize.proofs.Placed.{pass_as, unit_as}

@@ -3,7 +3,7 @@ use Rattle.seize_machine.specs.declared.machine.event.Job.TheVariants.{Refresh}
 use Rattle.seize_book.specs.declared.book.pass.Pass.{Pass}
 use Rattle.seize_calls.specs.Slots.{its_number}
 use Rattle.seize.specs.Collectors.{its_book}
-use Rattle.seize.specs.Enders.{PutBy}
+use Rattle.seize.specs.Puts.{PutBy}
 use Rattle.seize.specs.Makes.{MakesCall}
 use Rattle.seize.specs.Reservations.{IsUnit}
 use Rattle.seize.proofs.Placed.{pass_as, unit_as}

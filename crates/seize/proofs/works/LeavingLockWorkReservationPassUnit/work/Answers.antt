@@ -6,8 +6,8 @@ use Rattle.seize.proofs.Given.{serves_new}
 use Rattle.seize.proofs.Guarded.{call_after}
 use Rattle.seize.proofs.Placed.{at_some, label_same, none_at, placed, some_at, still_for, units_joined, units_within}
 use Rattle.seize.proofs.Places.{own_head}
-use Rattle.seize.specs.Enders.{PutBy}
-use Rattle.seize.proofs.Steps.{put_so}
+use Rattle.seize.specs.Puts.{PutBy}
+use Rattle.seize.proofs.Steps.{put_so, puts_by}
 use Rattle.seize.proofs.Wholly.{slot_leaves}
 use Rattle.seize.proofs.works.LeavingLockWorkReservationPassUnit.work.Goals as goal
 
@@ -41,7 +41,7 @@ pub returns : goal.returns
 returns g c =
     let work = c.args.self in let words = work.words.now in let r = c.args.r.now in let at = c.current.new.self in let current = c.current.ensures in let is = current.follows.0.1 in
     let ready = c.current.new.pass in let slot' = c.leave.new.self in let pass' = c.leave.new.pass in let rest = c.leave.new.activation in
-    let leave = c.leave.ensures in let had = c.leave.new.reclaimer.ends.had in let so = put_so g.row.T.coded.code g.R.Puts.puts had c.leave.ensures.serves.1 in
+    let leave = c.leave.ensures in let had = c.leave.new.reclaimer.ends.had in let so = put_so g.row.T.coded.code g.R.Puts.puts pass' had c.leave.ensures.serves.1 in
     let some : 0 < at.guards = omega (arith, current.active.0, current.follows.1) in let one : at.guards ≡ 1 = omega (arith, c.if-r-gt0.false, some) in let left : ℕ = at.guards - 1 in (
       (
         label_same at.slot slot' at.most leave.leaves.same ∙ current.follows.0.0,
@@ -51,7 +51,7 @@ returns g c =
         inl (
           sym current.follows.1 ∙ one,
           call_after (its_number at.slot) (its_number r.slot) Leave c.args.pass.now ready pass' current.same current.active_still.0
-              (slot_leaves (PutBy g.row.T.coded.code g.R.Puts.puts) words at.slot ready slot' pass' leave.of.0.0 (still_for words c.args.pass.now ready c.requires.1.1 current.active_still.0.same) c.new.result.ends.had had so leave.leaves),
+              (slot_leaves (PutBy g.row.T.coded.code g.R.Puts.puts) pass' (puts_by g.row.T.coded.code g.R.Puts.puts pass') words at.slot ready slot' leave.of.0.0 (still_for words c.args.pass.now ready c.requires.1.1 current.active_still.0.same) c.new.result.ends.had had so leave.leaves),
         ),
         omega (arith, some, current.follows.1),
       ),

@@ -6,8 +6,8 @@ use Rattle.seize.proofs.Given.{serves_new}
 use Rattle.seize.proofs.Guarded.{call_after}
 use Rattle.seize.proofs.Placed.{at_some, label_same, placed, some_at, still_for, unit_in, units_joined, units_within}
 use Rattle.seize.proofs.Places.{own_head}
-use Rattle.seize.specs.Enders.{PutBy}
-use Rattle.seize.proofs.Steps.{put_so}
+use Rattle.seize.specs.Puts.{PutBy}
+use Rattle.seize.proofs.Steps.{put_so, puts_by}
 use Rattle.seize.proofs.Wholly.{slot_refreshes}
 use Rattle.seize.proofs.works.RefreshingLockWorkReservationPassTuple2ActivationSeen.work.Goals as goal
 
@@ -29,7 +29,7 @@ pub returns : goal.returns
 returns g c =
     let work = c.args.self in let words = work.words.now in let r = c.args.r.now in let at = c.current.new.self in let current = c.current.ensures in let is = current.follows.0.1 in
     let ready = c.current.new.pass in let slot' = c.refresh.new.self in let pass' = c.refresh.new.pass in let rest = c.refresh.new.activation in let rest' = c.split-unit.new.self in
-    let refresh = c.refresh.ensures in let split = c.split-unit.ensures in let had = c.refresh.new.reclaimer.ends.had in let so = put_so g.row.T.coded.code g.R.Puts.puts had c.refresh.ensures.serves.1 in
+    let refresh = c.refresh.ensures in let split = c.split-unit.ensures in let had = c.refresh.new.reclaimer.ends.had in let so = put_so g.row.T.coded.code g.R.Puts.puts pass' had c.refresh.ensures.serves.1 in
     let some : 0 < at.guards = omega (arith, current.active.0, current.follows.1) in let one : at.guards ≡ 1 = omega (arith, c.if-r-gt1.false, some) in (
       (
         label_same at.slot slot' at.most refresh.refreshes.same ∙ current.follows.0.0,
@@ -39,7 +39,7 @@ returns g c =
         inl (
           sym current.follows.1 ∙ one,
           call_after (its_number at.slot) (its_number r.slot) Refresh c.args.pass.now ready pass' current.same current.active_still.0
-              (slot_refreshes (PutBy g.row.T.coded.code g.R.Puts.puts) words at.slot ready slot' pass' refresh.of.0 (still_for words c.args.pass.now ready c.requires.1.1 current.active_still.0.same) c.new.result.ends.had had so rest refresh.refreshes),
+              (slot_refreshes (PutBy g.row.T.coded.code g.R.Puts.puts) pass' (puts_by g.row.T.coded.code g.R.Puts.puts pass') words at.slot ready slot' refresh.of.0 (still_for words c.args.pass.now ready c.requires.1.1 current.active_still.0.same) c.new.result.ends.had had so rest refresh.refreshes),
         ),
         unit_in (words_book words) (its_number r.slot) slot' rest c.split-unit.result c.seen.result refresh.of.0.book (refresh.refreshes.same.0 ∙ current.same) refresh.inside.0 split.0 c.seen.ensures.0 c.seen.ensures.1,
       ),
