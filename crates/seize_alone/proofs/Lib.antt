@@ -1,0 +1,6 @@
+pub mod Work
+pub mod Segments
+pub mod Played
+pub mod Whole
+pub mod Mapped
+pub mod Found

@@ -1,0 +1,3 @@
+pub mod Gone
+pub mod Holding
+pub mod Calls
