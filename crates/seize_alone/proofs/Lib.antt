@@ -4,3 +4,4 @@ pub mod Played
 pub mod Whole
 pub mod Mapped
 pub mod Found
+pub mod Names

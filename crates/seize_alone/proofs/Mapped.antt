@@ -1,6 +1,6 @@
 -- The steps of the model are the same where each value and each kind is written as `Some` of it.
 use Rattle.std.proofs.Common.{◌≡◌, ℕ, zero, suc, ◌+◌, ◌-◌, ◌*◌, ◌==◌, ◌||◌, Bool, true, false, not, cond, if◌then◌else◌, nat_lt, nat_le, max, List, [], ◌∷◌, ◌++◌, length, map, get_or, set, Option, Some, None, option_map, refl, sym, ap, ◌∙◌}
-use Rattle.std.specs.List.{fold, list_any, position_or_len}
+use Rattle.std.specs.List.{fold, list_any}
 use Rattle.std.proofs.lemmas.List.{length-map, map-append}
 use Rattle.seize_model.specs.declared.kind.Kind.{Kind}
 use Rattle.seize_model.specs.declared.kind.Kind.TheVariants.{Free}
@@ -177,7 +177,7 @@ module _ {T R : Type 0} where
 
   pub least_same : (slots : List (Slot T R)) → least_unused (map some_slot slots) ≡ least_unused slots
   least_same [] = refl
-  least_same (slot ∷ slots) = ap (λ (n : ℕ). if is_free slot.kind then 0 else suc n) (least_same slots)
+  least_same (slot ∷ slots) = ap (λ (n : ℕ). cond (not (is_free slot.kind)) (1 + n) 0) (least_same slots)
 
   pub use_same : (st : State T R) (n : ℕ) (kind : Kind) (guards : ℕ) → with_number_in_use (some_state st) n kind guards ≡ some_state (with_number_in_use st n kind guards)
   use_same st n kind guards = ap (λ (long : ℕ). if n == long then grown else changed) (length-map st.slots some_slot) ∙ by_case (n == length st.slots)

@@ -216,19 +216,19 @@ module _ {pass pass' : Pass} {s : ℕ} {job : Job} {words : List ℕ} {had had' 
 module _ (key : SlotKey) (pass : Pass) (job : Job) (words : List ℕ) (had : Had) (key' : SlotKey) (pass' : Pass) (keys keys' : ValueKeys) (had' : Had) (begun ended_at : CallState)
     (begins : BeginsSo key pass job words keys had begun) (seg : Segment begun.pass.size (slot_number begun.key) begun.pass ended_at.pass begun.had ended_at.had)
     (returns : Returns ended_at key' pass' keys' had') (rests : Rests key pass key' pass' keys') where
-  its : Segment pass.size (slot_number key) begun.pass ended_at.pass had ended_at.had
+  abbrev its : Segment pass.size (slot_number key) begun.pass ended_at.pass had ended_at.had
   its = subst (λ (h : Had). Segment pass.size (slot_number key) begun.pass ended_at.pass h ended_at.had) begins.had_none (moved begins.begins.keeps.same.2 begins.begins.keeps.its.1 seg)
 
-  drained_same : IsSamePass pass ended_at.pass
+  abbrev drained_same : IsSamePass pass ended_at.pass
   drained_same = (sym returns.keeps.same.0 ∙ rests.same.0, sym returns.keeps.same.1 ∙ rests.same.1, sym returns.keeps.same.2 ∙ rests.same.2)
 
-  returned : List (Deed × Answer)
+  abbrev returned : List (Deed × Answer)
   returned = done_event pass (Return (slot_number key))
 
-  begin : Deed
+  abbrev begin : Deed
   begin = deed_with_words pass (Begin (slot_number key) job) words
 
-  ended : events_by pass' ≡ events_by ended_at.pass ++ returned
+  abbrev ended : events_by pass' ≡ events_by ended_at.pass ++ returned
   ended = returns.made ∙ ap (λ (log : List (Deed × Answer)). events_by ended_at.pass ++ log) (same_done pass ended_at.pass drained_same Return (slot_number key) (slot_number ended_at.key) (sym returns.keeps.its.1 ∙ rests.its.1))
 
   pub whole : Whole pass pass' (slot_number key) job words had had'
