@@ -5,3 +5,4 @@ pub mod Whole
 pub mod Mapped
 pub mod Found
 pub mod Names
+pub mod Held
