@@ -21,6 +21,7 @@ use Rattle.seize_model.specs.Agreement.Play.{play}
 use Rattle.seize_model.specs.Agreement.Shows.{ShowsReclaimers, ShowsState, StandFor}
 use Rattle.seize_model.proofs.Simulation.Beginnings.{JobEnds}
 use Rattle.seize_model.proofs.Simulation.Coupling.{NearAt}
+use Rattle.seize_model.proofs.Simulation.Events.{there}
 use Rattle.seize_model.proofs.Simulation.Guards.{leave_job_list}
 use Rattle.seize_model.proofs.Simulation.Jobs.{flush_job_list, refresh_job_list, retire_job_list}
 use Rattle.seize_model.proofs.Simulation.Views.{near_with, shows_with, stand_for, with_reclaimers}
@@ -108,21 +109,40 @@ module _ {T : Type 0} (c : Coded T) (puts : ℕ → T → List T) (st : waiting.
 
 -- the slot is the same with `Some` of each value
 
-some_used : {T : Type 0} (st : waiting.State T ℕ) (s : ℕ) → is_free (waiting.slot_at st s).kind ≡ false → is_free (waiting.slot_at (some_state st) s).kind ≡ false
+pub some_used : {T : Type 0} (st : waiting.State T ℕ) (s : ℕ) → is_free (waiting.slot_at st s).kind ≡ false → is_free (waiting.slot_at (some_state st) s).kind ≡ false
 some_used {T} st s used = ap (λ (slot : waiting.Slot (Option T) (Option ℕ)). is_free slot.kind) (slot_same st s) ∙ used
 
-some_active : {T : Type 0} (st : waiting.State T ℕ) (s : ℕ) → waiting.has_guard (waiting.slot_at st s) ≡ true → waiting.has_guard (waiting.slot_at (some_state st) s) ≡ true
+pub some_active : {T : Type 0} (st : waiting.State T ℕ) (s : ℕ) → waiting.has_guard (waiting.slot_at st s) ≡ true → waiting.has_guard (waiting.slot_at (some_state st) s) ≡ true
 some_active {T} st s active = ap (λ (slot : waiting.Slot (Option T) (Option ℕ)). waiting.has_guard slot) (slot_same st s) ∙ active
+
+-- where a job ended that left no guard, the slot is in use still
+
+abbrev Rested : {T : Type 0} → waiting.State T ℕ → ℕ → Type 0
+Rested st s = (is_free (waiting.slot_at st s).kind ≡ false) × (waiting.has_guard (waiting.slot_at st s) ≡ false)
+
+rested : {T : Type 0} (o : StateAndGone T ℕ) (o' : StateAndGone (Option T) (Option ℕ)) → o' ≡ some_out o → (of : ℕ → Option T) (by : ℕ → Option ℕ) (s : ℕ) (later : machine.State) (answers : List Answer) → JobEnds (with_reclaimers of by) s 0 o' later answers → Rested o.0 s
+rested {T} o o' is of by s later answers ends =
+    let d : JobEnds (with_reclaimers of by) s 0 (some_out o) later answers = subst (λ (x : StateAndGone (Option T) (Option ℕ)). JobEnds (with_reclaimers of by) s 0 x later answers) is ends in
+    let slot : waiting.slot_at (some_state o.0) s ≡ some_slot (waiting.slot_at o.0 s) = slot_same o.0 s in
+    let used : true ≡ not (is_free (waiting.slot_at (some_state o.0) s).kind) =
+    sym (ap (λ (k : machine.Slot). k.used) (there d.base s (record { used = true; batch = d.batch; call = None }) d.within)) ∙ (d.near.slot s).used in (
+      not_free (is_free (waiting.slot_at o.0 s).kind) (used ∙ ap (λ (k : waiting.Slot (Option T) (Option ℕ)). not (is_free k.kind)) slot),
+      ap (λ (k : waiting.Slot (Option T) (Option ℕ)). waiting.has_guard k) (sym slot) ∙ ap (λ (n : ℕ). not (n == 0)) d.same_guards,
+    )
+  where
+    not_free : (b : Bool) → true ≡ not b → b ≡ false
+    not_free true e = absurd (cc)
+    not_free false e = refl
 
 -- no such call is refused
 
-guarded : {T : Type 0} (st : waiting.State T ℕ) (s : ℕ) → is_free (waiting.slot_at st s).kind ≡ false → waiting.has_guard (waiting.slot_at st s) ≡ true → no_guard st s ≡ None
+pub guarded : {T : Type 0} (st : waiting.State T ℕ) (s : ℕ) → is_free (waiting.slot_at st s).kind ≡ false → waiting.has_guard (waiting.slot_at st s) ≡ true → no_guard st s ≡ None
 guarded st s used active = λ i. first_refusal (if used i then Some NotInUse else None) (if active i then None else Some NotActive)
 
-not_refused : {T : Type 0} (st : waiting.State T ℕ) (refusal : Option Refusal) (o : StateAndGone T ℕ) → refusal ≡ None → unless {A = Unit {0}} refusal st (Ok tt, o) ≡ (Ok tt, o)
+pub not_refused : {T : Type 0} (st : waiting.State T ℕ) (refusal : Option Refusal) (o : StateAndGone T ℕ) → refusal ≡ None → unless {A = Unit {0}} refusal st (Ok tt, o) ≡ (Ok tt, o)
 not_refused {T} st refusal o none = ap (λ (r : Option Refusal). unless {A = Unit {0}} r st (Ok tt, o)) none
 
-answered : {T : Type 0} (c : Coded T) (had' : Had) (pass' : Pass) (o : StateAndGone T ℕ) (told : Response (Unit {0}) T ℕ) → told ≡ (Ok tt, o) → HoldsThen c.code o had' pass' → (told.0 ≡ Ok tt) × HoldsThen c.code told.1 had' pass'
+pub answered : {T : Type 0} (c : Coded T) (had' : Had) (pass' : Pass) (o : StateAndGone T ℕ) (told : Response (Unit {0}) T ℕ) → told ≡ (Ok tt, o) → HoldsThen c.code o had' pass' → (told.0 ≡ Ok tt) × HoldsThen c.code told.1 had' pass'
 answered {T} c had' pass' o told is held = (ap (λ (r : Response (Unit {0}) T ℕ). r.0) is, subst (λ (r : Response (Unit {0}) T ℕ). HoldsThen c.code r.1 had' pass') (sym is) held)
 
 module _ {T : Type 0} (c : Coded T) (puts : ℕ → T → List T) (weight : T → ℕ) (lighter : Lighter puts weight) where
@@ -158,12 +178,15 @@ module _ {T : Type 0} (c : Coded T) (puts : ℕ → T → List T) (weight : T �
   parts_held st names kinds key pass keys key' pass' keys' had' r a used guards =
       let s = slot_number key in let w : Whole pass pass' s LeaveJob [] [] had' = left_whole r (refl, refl) in
       let active : waiting.has_guard (waiting.slot_at st s) ≡ true = ap (λ (n : ℕ). not (n == 0)) guards in
+      let o = with_further puts weight s (part (set_guards st s 0) s) in
       let less : one_guard_less st s ≡ part (set_guards st s 0) s = ap (λ (n : ℕ). if n == 1 then part (set_guards st s 0) s else (set_guards st s (n - 1), [])) guards in
-      subst (λ (o : StateAndGone T ℕ). HoldsThen c.code o had' pass') (ap (with_further puts weight s) (sym less))
-      (held_then c puts st names kinds w a [] tt [] tt _ (with_further puts weight s (part (set_guards st s 0) s)) _
-      (ap (λ (now : waiting.State (Option T) (Option ℕ)). with_further (puts_some puts) (weight_some weight) s (part now s)) (guards_same st s 0) ∙ ap (with_further (puts_some puts) (weight_some weight) s) (part_same (set_guards st s 0) s) ∙ further_some s (part (set_guards st s 0) s))
-      (leave_job_list (puts_some puts) (weight_some weight) some_lighter_so _ _ (some_state st) _ s (events_made (all_made w)) (answers_made (all_made w)) _
-      (near_before c puts st names kinds w a [] tt [] tt) (some_used st s used) (some_active st s active) (whole_job w) (legal c puts st names kinds w a [] tt [] tt) (put_so c puts st names kinds w a [] tt [] tt)))
+      let same : with_further (puts_some puts) (weight_some weight) s (part (set_guards (some_state st) s 0) s) ≡ some_out o =
+      ap (λ (now : waiting.State (Option T) (Option ℕ)). with_further (puts_some puts) (weight_some weight) s (part now s)) (guards_same st s 0) ∙ ap (with_further (puts_some puts) (weight_some weight) s) (part_same (set_guards st s 0) s) ∙ further_some s (part (set_guards st s 0) s) in
+      let ends = leave_job_list (puts_some puts) (weight_some weight) some_lighter_so _ _ (some_state st) _ s (events_made (all_made w)) (answers_made (all_made w)) _
+      (near_before c puts st names kinds w a [] tt [] tt) (some_used st s used) (some_active st s active) (whole_job w) (legal c puts st names kinds w a [] tt [] tt) (put_so c puts st names kinds w a [] tt [] tt) in
+      let rests : Rested o.0 s = rested o _ same _ _ s _ _ ends in
+      subst (λ (now : StateAndGone T ℕ). HoldsThen c.code now had' pass' × (is_free (waiting.slot_at now.0 s).kind ≡ false) × (waiting.has_guard (waiting.slot_at now.0 s) ≡ false)) (ap (with_further puts weight s) (sym less))
+      (held_then c puts st names kinds w a [] tt [] tt _ o _ same ends, rests.0, rests.1)
 
   pub leaves_held : LeavesHeld c puts weight
   leaves_held st names kinds key pass keys key' pass' keys' had' r a kind guards =
@@ -171,7 +194,7 @@ module _ {T : Type 0} (c : Coded T) (puts : ℕ → T → List T) (weight : T �
       let o = with_further puts weight s (one_guard_less st s) in
       answered c had' pass' o (leave puts weight st s)
       (not_refused st (no_guard st s) (with_number_free_if (is_owned (waiting.slot_at st s).kind) s o) (guarded st s used (ap (λ (n : ℕ). not (n == 0)) guards)) ∙ ap (λ (k : Kind). (Ok tt, with_number_free_if (is_owned k) s o)) kind)
-      (parts_held st names kinds key pass keys key' pass' keys' had' r a used guards)
+      (parts_held st names kinds key pass keys key' pass' keys' had' r a used guards).0
 
   pub refreshes_held : RefreshesHeld c puts weight
   refreshes_held st names kinds life key pass keys key' pass' keys' had' r a used active parts =

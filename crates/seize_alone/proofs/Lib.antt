@@ -6,3 +6,4 @@ pub mod Mapped
 pub mod Found
 pub mod Names
 pub mod Held
+pub mod Singles

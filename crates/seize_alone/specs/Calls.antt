@@ -5,7 +5,7 @@
 --     RetiresHeld         a retirement by a slot in use, whether its batch goes or not: the answer is the model's, and so are the state and
 --                         the values gone
 --     FlushesHeld         a flush of a slot with a guard
---     PartsHeld           a leave with the slot's last guard, before the number of an owned slot goes back
+--     PartsHeld           a leave with the slot's last guard, before the number of an owned slot goes back: it is in use, without a guard
 --     LeavesHeld          a leave with the last guard of a registered slot
 --     RefreshesHeld       a refresh of an owned slot, or of one with one guard
 use Rattle.std.specs.Prelude.{◌≡◌, ◌||◌, ◌==◌, ℕ, Bool, true, false, List, [], Ok}
@@ -62,7 +62,8 @@ PartsHeld {T} c puts weight =
     (pass' : Pass) (values' : ValueKeys) (had' : Had) → let s = slot_number key in
     Leaves LeaveJob false (private pass (SwapOut s)) key pass values [] key' pass' values' had'
     → StandsAlone c puts st names kinds pass pass' had' → is_free (slot_at st s).kind ≡ false → (slot_at st s).guards ≡ 1
-    → HoldsThen c.code (with_further puts weight s (one_guard_less st s)) had' pass'
+    → let now = with_further puts weight s (one_guard_less st s) in
+    HoldsThen c.code now had' pass' × (is_free (slot_at now.0 s).kind ≡ false) × (has_guard (slot_at now.0 s) ≡ false)
 
 abbrev pub LeavesHeld : {T : Type 0} → Coded T → (ℕ → T → List T) → (T → ℕ) → Type 0
 LeavesHeld {T} c puts weight =

@@ -2,6 +2,7 @@
 ghost use Rattle.std.specs.Prelude.{ℕ, List};
 ghost use Rattle.seize_model.specs.Waiting.Further.{Lighter};
 ghost use Rattle.seize_alone.specs.Calls.{FlushesHeld, LeavesHeld, PartsHeld, RefreshesHeld, RetiresHeld};
+ghost use Rattle.seize_alone.specs.Events.{EntersHeld, GivesHeld, GuardsHeld, OwnedLeavesHeld, ReadsHeld, SwapsHeld, TakesHeld};
 
 /// Calls by which values may be gone, where the pass is alone and its hands hold the state. The answer is the model's, they hold the state
 /// that the model says then, and what the reclaimer had are the model's values gone, in order.
@@ -10,5 +11,17 @@ pub fn calls_alone<T>()
     ensures flush { (puts : ℕ → T → List T) (weight : T → ℕ) → Lighter puts weight → FlushesHeld T.row.coded puts weight }
     ensures part { (puts : ℕ → T → List T) (weight : T → ℕ) → Lighter puts weight → PartsHeld T.row.coded puts weight }
     ensures leave { (puts : ℕ → T → List T) (weight : T → ℕ) → Lighter puts weight → LeavesHeld T.row.coded puts weight }
+    ensures leave_owned { (puts : ℕ → T → List T) (weight : T → ℕ) → Lighter puts weight → OwnedLeavesHeld T.row.coded puts weight }
     ensures refresh { (puts : ℕ → T → List T) (weight : T → ℕ) → Lighter puts weight → RefreshesHeld T.row.coded puts weight }
+{}
+
+/// Single events made alone, by the names of the slot's calls: after each the hands hold the model's state, by the same names and kinds,
+/// and what is found in a link is what the model's link holds.
+pub fn events_alone<T>()
+    ensures enter { EntersHeld T.row.coded.code }
+    ensures give { GivesHeld T.row.coded.code }
+    ensures take { TakesHeld T.row.coded.code }
+    ensures guards { GuardsHeld T.row.coded.code }
+    ensures read { ReadsHeld T.row.coded.code }
+    ensures swap { SwapsHeld T.row.coded.code }
 {}

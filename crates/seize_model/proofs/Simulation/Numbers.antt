@@ -123,7 +123,7 @@ near_taken {T} {R} of st ms n kind true near used is few t_is =
         (subst (λ k. CoupledSlot of k (get_or ms.slots s machine.no_slot)) (sym x) (near.slot s))
 
 -- the slot that was taken
-slot_taken : {T R : Type 0} (st : waiting.State T R) (n : ℕ) (kind : Kind) (t : Bool) → n ≡ least_unused st.slots → (n == length st.slots) ≡ t
+pub slot_taken : {T R : Type 0} (st : waiting.State T R) (n : ℕ) (kind : Kind) (t : Bool) → n ≡ least_unused st.slots → (n == length st.slots) ≡ t
     → ((slot_at (taken_if t st n kind 0) n).kind ≡ kind) × ((slot_at (taken_if t st n kind 0) n).guards ≡ 0) × (set_guards (taken_if t st n kind 0) n 1 ≡ taken_if t st n kind 1)
 slot_taken {T} {R} st n kind true is t_is =
     let e : n ≡ length st.slots = grind arith in
