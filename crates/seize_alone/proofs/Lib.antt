@@ -7,3 +7,4 @@ pub mod Found
 pub mod Names
 pub mod Held
 pub mod Singles
+pub mod Ready

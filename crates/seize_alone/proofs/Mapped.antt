@@ -171,7 +171,6 @@ module _ {T R : Type 0} where
   pub free_same : (st : State T R) (s : ℕ) → with_number_free (some_state st) s ≡ some_state (with_number_free st s)
   free_same st s = ap (λ (slot : Slot (Option T) (Option R)). set_slot (some_state st) s (record slot { kind = Free; guards = 0 })) (slot_same st s) ∙ set_same st s (record (slot_at st s) { kind = Free; guards = 0 })
 
-
   pub link_same : (st : State T R) (l : ℕ) → link_at (some_state st) l ≡ option_map Some (link_at st l)
   link_same st l = get_map (λ (o : Option T). option_map Some o) st.links l None None refl
 

@@ -1,5 +1,5 @@
 -- Single events that are made alone lead the hands from the state that they hold to the state that the model says.
-use Rattle.std.proofs.Common.{◌≡◌, ℕ, zero, suc, ◌==◌, ◌||◌, ◌&&◌, ◌+◌, ◌-◌, ◌^◌, ◌≤◌, Bool, true, false, not, if◌then◌else◌, List, [], ◌∷◌, ◌++◌, map, set, Option, Some, None, option_map, option_to_list, refl, sym, ap, subst, ◌∙◌, append-nil, arith}
+use Rattle.std.proofs.Common.{◌≡◌, ℕ, zero, suc, ◌==◌, ◌||◌, ◌&&◌, ◌+◌, ◌-◌, ◌^◌, ◌≤◌, Bool, true, false, not, if◌then◌else◌, List, [], ◌∷◌, ◌++◌, map, set, Option, Some, None, option_map, option_to_list, replicate, refl, sym, ap, subst, ◌∙◌, append-nil, arith}
 use Rattle.std.specs.Prelude.{Ok}
 use mathlib.Core.List.{IsPrefix}
 use base.Stored.{Coded}
@@ -22,6 +22,7 @@ use Rattle.seize_model.proofs.Simulation.Coupling.{NearAt}
 use Rattle.seize_model.proofs.Simulation.Guards.{enter_step, near_entered, near_guards}
 use Rattle.seize_model.proofs.Simulation.Links.{end_near, end_step, same_link, swapped_near}
 use Rattle.seize_model.proofs.Simulation.Numbers.{take_ends}
+use Rattle.seize_model.proofs.Simulation.Openings.{new_shown}
 use Rattle.seize_model.proofs.Simulation.Plays.{both_same}
 use Rattle.seize_model.proofs.Simulation.Views.{near_with, shows_with, with_reclaimers}
 use Rattle.seize_book.specs.Book.{after}
@@ -30,7 +31,7 @@ use Rattle.seize_book.specs.Slots.{slot_number}
 use Rattle.seize_book.specs.Tokens.{Name, start}
 use Rattle.seize_book.specs.declared.book.pass.Pass.{Pass}
 use Rattle.seize_words.specs.Chunks.{IsLentAs}
-use Rattle.seize_alone.specs.Events.{EntersHeld, GivesHeld, GuardsHeld, IsHeldAs, MakesAlone, OwnedLeavesHeld, ReadsHeld, SwapsHeld, TakesHeld}
+use Rattle.seize_alone.specs.Events.{EntersHeld, GivesHeld, GuardsHeld, IsHeldAs, MakesAlone, OpensHeld, OwnedLeavesHeld, ReadsHeld, SwapsHeld, TakesHeld}
 use Rattle.seize_alone.specs.Holding.{AreLent, AreTold, Holds, found, some_slot, some_state}
 use Rattle.seize_alone.proofs.Found.{all_later, found_lent, has_first, has_right, lent_append, lent_found, one_lent, reclaimers_on, same_some, shows_on}
 use Rattle.seize_alone.proofs.Held.{answered, guarded, not_refused, parts_held, some_active, some_used}
@@ -72,6 +73,24 @@ module _ {T : Type 0} (c : Coded T) where
   held_made {pass} {pass'} m st now now' names kinds holds is near =
       held_of now names kinds pass'.name pass'.seen holds.lent (all_later pass.seen pass'.seen (made_grows m) kinds holds.told)
       (subst (λ (x : waiting.State (Option T) (Option ℕ)). NearAt (with_reclaimers (found names) (found kinds)) [] x (state_then m)) is near)
+
+  -- A book just opened.
+
+  all_empty : (links : ℕ) → map (λ (o : Option T). option_map Some o) (replicate links None) ≡ replicate links None
+  all_empty zero = refl
+  all_empty (suc links) = ap (λ (l : List (Option (Option T))). None ∷ l) (all_empty links)
+
+  pub opens_held : OpensHeld c.code
+  opens_held n size links slots empty =
+      let started : start n ≡ machine.opening 0 (replicate links None) = λ i. machine.opening (slots i) (empty i) in
+      let model : some_state (waiting.new {T = T} {R = ℕ} size links) ≡ waiting.new size links = ap (λ (l : List (Option (Option T))). record (waiting.new {T = Option T} {R = Option ℕ} size links) { links = l }) (all_empty links) in
+      record {
+        shows = subst (λ (k : machine.State). ShowsState (Option T) (Option ℕ) (found []) (some_state (waiting.new {T = T} {R = ℕ} size links)) k) (sym started)
+            (subst (λ (x : waiting.State (Option T) (Option ℕ)). ShowsState (Option T) (Option ℕ) (found []) x (machine.opening 0 (replicate links None))) (sym model) (new_shown (found []) size links));
+        reclaimers = subst (λ (k : machine.State). ShowsReclaimers (Option T) (Option ℕ) (found []) (found []) (some_state (waiting.new {T = T} {R = ℕ} size links)) k) (sym started) (record { batches = λ s. refl; retired = λ b. refl });
+        lent = tt;
+        told = tt;
+      }
 
   some_inactive : (st : waiting.State T ℕ) (s : ℕ) → waiting.has_guard (waiting.slot_at st s) ≡ false → waiting.has_guard (waiting.slot_at (some_state st) s) ≡ false
   some_inactive st s off = ap (λ (slot : waiting.Slot (Option T) (Option ℕ)). waiting.has_guard slot) (slot_same st s) ∙ off

@@ -145,9 +145,9 @@ module _ {T R : Type 0} (puts : R → T → List T) (of : ℕ → T) (by : ℕ �
   serve_at e (Handed v) made rest [] is all = absurd (cc)
   serve_at e (Handed v) made rest (h ∷ handed) is all = (
     by_event e.event (Handed v) (λ w same.
-    let one : (v, puts_of e.event, e.kepts) ≡ h = ap first_pair is in
-    let its : w ≡ h.0 = handed_same w v (sym same) ∙ ap (λ (p : ℕ × List ℕ × List ℕ). p.0) one in
-    subst (λ (t : ℕ × List ℕ). StandFor of by t.1 (put_by puts (of t.0, by t.0))) (λ i. (sym its i, sym (ap (λ (p : ℕ × List ℕ × List ℕ). p.1) one) i)) all.0),
+        let one : (v, puts_of e.event, e.kepts) ≡ h = ap first_pair is in
+        let its : w ≡ h.0 = handed_same w v (sym same) ∙ ap (λ (p : ℕ × List ℕ × List ℕ). p.0) one in
+        subst (λ (t : ℕ × List ℕ). StandFor of by t.1 (put_by puts (of t.0, by t.0))) (λ i. (sym its i, sym (ap (λ (p : ℕ × List ℕ × List ℕ). p.1) one) i)) all.0),
     rest handed (ap other_pairs is) all.1,
   )
     where

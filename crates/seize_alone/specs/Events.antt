@@ -1,6 +1,7 @@
 -- Single events of a slot, made where its pass is alone, and what the hands hold then. `code` is the code of values.
 --     MakesAlone pass pass' event answer     the pass is alone, and this event was made with it and nothing since; the answer was this
 --     IsHeldAs code o value     what a link holds by number and what it holds by value are one: with the number the code is lent
+--     OpensHeld           a book just opened, with no slot and empty links: a collector just made
 --     EntersHeld          an entry of a slot in use without a guard: the first guard
 --     GivesHeld           the number of a slot without a guard goes back
 --     TakesHeld           a number is taken for a slot of this kind: it is the least one that is not in use
@@ -8,7 +9,7 @@
 --     ReadsHeld           a link is read: what is found is what it holds
 --     SwapsHeld           a link is exchanged: so is what it held, and it holds the new value
 --     OwnedLeavesHeld     a leave of an owned slot, and then its number goes back
-use Rattle.std.specs.Prelude.{◌≡◌, ◌==◌, ◌≤◌, ℕ, Bool, true, false, List, [], Option, Some, None, Ok, slice_set}
+use Rattle.std.specs.Prelude.{◌≡◌, ◌==◌, ◌≤◌, ℕ, Bool, true, false, List, [], Option, Some, None, Ok, replicate, slice_set}
 use Rattle.std.specs.Coded.{Coded}
 use base.Stored.{Gv}
 use Rattle.seize_table.specs.Place.{all_numbers}
@@ -19,13 +20,13 @@ use Rattle.seize_machine.specs.declared.machine.event.Exchange.TheVariants.{Swap
 use Rattle.seize_machine.specs.declared.machine.event.Job.TheVariants.{Leave as LeaveJob}
 use Rattle.seize_model.specs.declared.kind.Kind.{Kind}
 use Rattle.seize_model.specs.declared.kind.Kind.TheVariants.{Owned, Registered}
-use Rattle.seize_model.specs.Waiting.State.{State, has_guard, slot_at}
+use Rattle.seize_model.specs.Waiting.State.{State, has_guard, new, slot_at}
 use Rattle.seize_model.specs.Waiting.Calls.{is_free, least_unused, leave, link_at, set_guards, with_number_free, with_number_in_use}
 use Rattle.seize_book.specs.Adding.{private}
 use Rattle.seize_book.specs.Entry.{Deed, Made}
 use Rattle.seize_book.specs.Passes.{IsSamePass}
 use Rattle.seize_book.specs.Slots.{slot_number}
-use Rattle.seize_book.specs.Tokens.{AddsEntry, IsSole}
+use Rattle.seize_book.specs.Tokens.{AddsEntry, IsSole, Name}
 use Rattle.seize_book.specs.declared.book.pass.Pass.{Pass}
 use Rattle.seize_book.specs.declared.book.slot_key.SlotKey.{SlotKey}
 use Rattle.seize_book.specs.declared.book.value_keys.ValueKeys.{ValueKeys}
@@ -47,6 +48,10 @@ abbrev pub IsHeldAs : {T : Type 0} → (T → Gv) → Option ℕ → Option T �
 IsHeldAs code None None = Unit {0}
 IsHeldAs code (Some v) (Some x) = IsLentAs v (code x)
 IsHeldAs code _ _ = ⊥
+
+abbrev pub OpensHeld : {T : Type 0} → (T → Gv) → Type 0
+OpensHeld {T} code =
+    (n : Name) (size links : ℕ) → n.slots ≡ 0 → n.links ≡ replicate links None → Holds {T = T} code (new size links) [] [] n []
 
 abbrev pub EntersHeld : {T : Type 0} → (T → Gv) → Type 0
 EntersHeld {T} code =

@@ -2,7 +2,7 @@
 ghost use Rattle.std.specs.Prelude.{ℕ, List};
 ghost use Rattle.seize_model.specs.Waiting.Further.{Lighter};
 ghost use Rattle.seize_alone.specs.Calls.{FlushesHeld, LeavesHeld, PartsHeld, RefreshesHeld, RetiresHeld};
-ghost use Rattle.seize_alone.specs.Events.{EntersHeld, GivesHeld, GuardsHeld, OwnedLeavesHeld, ReadsHeld, SwapsHeld, TakesHeld};
+ghost use Rattle.seize_alone.specs.Events.{EntersHeld, GivesHeld, GuardsHeld, OpensHeld, OwnedLeavesHeld, ReadsHeld, SwapsHeld, TakesHeld};
 
 /// Calls by which values may be gone, where the pass is alone and its hands hold the state. The answer is the model's, they hold the state
 /// that the model says then, and what the reclaimer had are the model's values gone, in order.
@@ -15,9 +15,10 @@ pub fn calls_alone<T>()
     ensures refresh { (puts : ℕ → T → List T) (weight : T → ℕ) → Lighter puts weight → RefreshesHeld T.row.coded puts weight }
 {}
 
-/// Single events made alone, by the names of the slot's calls: after each the hands hold the model's state, by the same names and kinds,
-/// and what is found in a link is what the model's link holds.
+/// Single events made alone: after each the hands hold the model's state, and what is found in a link is what the model's link holds. A
+/// book just opened shows a collector just made.
 pub fn events_alone<T>()
+    ensures opened { OpensHeld T.row.coded.code }
     ensures enter { EntersHeld T.row.coded.code }
     ensures give { GivesHeld T.row.coded.code }
     ensures take { TakesHeld T.row.coded.code }
