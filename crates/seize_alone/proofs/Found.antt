@@ -1,8 +1,8 @@
 -- What numbers stand for, by lists of names and kinds. A number has one value and one kind, so lists agree where both say something.
 --     Knows some all     what some lists say of a number, all say it
-use Rattle.std.proofs.Common.{◌≡◌, ℕ, ◌==◌, Bool, true, false, if◌then◌else◌, List, [], ◌∷◌, ◌++◌, map, Option, Some, None, option_map, is_some, refl, sym, ap, subst, ◌∙◌, inl, inr, arith}
+use Rattle.std.proofs.Common.{◌≡◌, ℕ, ◌==◌, Bool, true, false, if◌then◌else◌, List, [], ◌∷◌, ◌++◌, map, Option, Some, None, option_map, is_some, refl, sym, ap, subst, arith}
 use mathlib.Core.List.{IsPrefix}
-use base.Stored.{Coded, Gv}
+use base.Stored.{Coded}
 use Rattle.seize_machine.specs.Machine.State as machine
 use Rattle.seize_machine.specs.Machine.State.{are_distinct, linked_values}
 use Rattle.seize_model.specs.Waiting.State as waiting
@@ -14,7 +14,7 @@ use Rattle.seize_book.specs.Loans.{place_of}
 use Rattle.seize_book.specs.Tokens.{Name, start}
 use Rattle.seize_words.proofs.Facts.{same_content, told_later, told_once}
 use Rattle.seize_words.specs.Chunks.{IsLentAs}
-use Rattle.seize_alone.specs.Holding.{AreLent, AreTold, found, some_slot, some_state, some_value}
+use Rattle.seize_alone.specs.Holding.{AreLent, AreTold, found, some_state, some_value}
 use Rattle.seize_alone.proofs.Mapped.{retired_same, slot_same}
 
 -- the number is among these

@@ -1,22 +1,20 @@
 -- Whole calls that are made alone lead the hands from the state that they hold to the state that the model says.
 use Rattle.std.proofs.Common.{◌≡◌, ℕ, ◌==◌, ◌-◌, Bool, true, false, not, if◌then◌else◌, List, [], ◌∷◌, ◌++◌, map, Option, Some, None, inl, refl, sym, ap, subst, ◌∙◌}
-use Rattle.std.specs.Prelude.{Ok, Result}
+use Rattle.std.specs.Prelude.{Ok}
 use base.Stored.{Coded}
 use Rattle.seize_table.specs.declared.refusal.Refusal.{Refusal}
 use Rattle.seize_table.specs.declared.refusal.Refusal.TheVariants.{NotActive, NotInUse}
 use Rattle.seize_machine.specs.Machine.State as machine
-use Rattle.seize_machine.specs.Machine.Event.{Event}
 use Rattle.seize_machine.specs.Machine.History.{handed as handed_by}
 use Rattle.seize_machine.specs.declared.machine.event.Answer.{Answer}
 use Rattle.seize_machine.specs.declared.machine.event.Job.{Job}
 use Rattle.seize_machine.specs.declared.machine.event.Job.TheVariants.{Flush as FlushJob, Leave as LeaveJob, Refresh as RefreshJob, Retire as RetireJob}
 use Rattle.seize_model.specs.declared.kind.Kind.{Kind}
-use Rattle.seize_model.specs.declared.kind.Kind.TheVariants.{Registered}
 use Rattle.seize_model.specs.Waiting.State as waiting
 use Rattle.seize_model.specs.Waiting.Attempt.{StateAndGone, attempt, part, put}
 use Rattle.seize_model.specs.Waiting.Calls.{Response, first_refusal, flush, is_free, is_owned, leave, no_guard, one_guard_less, part_if_alone, refresh, retire, set_guards, unless, unused, with_number_free_if}
 use Rattle.seize_model.specs.Waiting.Further.{Lighter, with_further}
-use Rattle.seize_model.specs.Agreement.Events.{ArePutBy, IsJob}
+use Rattle.seize_model.specs.Agreement.Events.{ArePutBy}
 use Rattle.seize_model.specs.Agreement.Play.{play}
 use Rattle.seize_model.specs.Agreement.Shows.{ShowsReclaimers, ShowsState, StandFor}
 use Rattle.seize_model.proofs.Simulation.Beginnings.{JobEnds}
@@ -32,10 +30,10 @@ use Rattle.seize_book.specs.declared.book.pass.Pass.{Pass}
 use Rattle.seize_calls.specs.Handing.{AreTheirs, Had, values_handed}
 use Rattle.seize_alone.specs.Calls.{FlushesHeld, LeavesHeld, PartsHeld, RefreshesHeld, RetiresHeld, StandsAlone}
 use Rattle.seize_alone.specs.Holding.{AreLent, AreTold, HoldsThen, found, some_slot, some_state, some_value}
-use Rattle.seize_alone.proofs.Found.{Has, Knows, all_later, found_lent, found_told, has_first, has_left, has_right, lent_append, reclaimers_on, shows_on, told_append}
+use Rattle.seize_alone.proofs.Found.{Knows, all_later, found_lent, found_told, has_first, has_left, has_right, lent_append, reclaimers_on, shows_on, told_append}
 use Rattle.seize_alone.proofs.Mapped.{attempt_same, guards_same, part_same, put_same, slot_same, some_out, with_further_same}
 use Rattle.seize_alone.proofs.Names.{are_had, its_kinds, its_names, kinds_told, names_lent, puts_some, serve_all, some_lighter, weight_some}
-use Rattle.seize_alone.proofs.Whole.{AllServe, Whole, all_made, begin_said, flushed_whole, left_whole, retired_whole, whole_handed, whole_job, whole_played, whole_put, whole_said}
+use Rattle.seize_alone.proofs.Whole.{Whole, all_made, begin_said, flushed_whole, left_whole, retired_whole, whole_handed, whole_job, whole_played, whole_put, whole_said}
 use Rattle.seize_alone.proofs.Work.{answers_made, events_made}
 
 module _ {T : Type 0} (c : Coded T) (puts : ℕ → T → List T) (st : waiting.State T ℕ) (names : List (ℕ × T)) (kinds : List (ℕ × ℕ)) {pass pass' : Pass} {s : ℕ} {job : Job} {words : List ℕ} {had' : Had}

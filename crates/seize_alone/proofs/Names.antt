@@ -1,7 +1,7 @@
 -- What was handed, and what was put with it, has names and kinds; by these it is what the reclaimer puts, and the values gone.
 --     its_names, its_kinds     the names and kinds of all that was handed, and put
 --     puts_some, weight_some   what the reclaimer puts, and what values weigh, where some numbers stand for nothing
-use Rattle.std.proofs.Common.{◌≡◌, ℕ, ◌<◌, ◌≤◌, Bool, true, List, [], ◌∷◌, ◌++◌, map, inl, inr, Option, Some, None, refl, sym, ap, subst, ◌∙◌, arith}
+use Rattle.std.proofs.Common.{◌≡◌, ℕ, ◌<◌, true, List, [], ◌∷◌, ◌++◌, map, inl, inr, Option, Some, None, refl, sym, ap, subst, ◌∙◌, arith}
 use Rattle.std.specs.Prelude.{sum}
 use base.Stored.{Coded, Gv}
 use Rattle.seize_machine.specs.Machine.State.{are_distinct, linked_values}

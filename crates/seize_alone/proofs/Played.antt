@@ -1,8 +1,7 @@
 -- What is made alone is played by the machine.
-use Rattle.std.proofs.Common.{◌≡◌, ℕ, List, [], ◌∷◌, ◌++◌, map, take, drop, length, Option, Some, refl, sym, ap, subst, ◌∙◌}
+use Rattle.std.proofs.Common.{◌≡◌, ℕ, List, [], ◌∷◌, ◌++◌, map, take, drop, length, Some, refl, sym, ap, subst, ◌∙◌}
 use Rattle.std.proofs.lemmas.List.{map-append}
 use Rattle.seize_machine.specs.Machine.State.{State}
-use Rattle.seize_machine.specs.Machine.Event.{Event}
 use Rattle.seize_machine.specs.Machine.Next.{next}
 use Rattle.seize_machine.specs.Machine.History.{Legal, Timed, answers_of, at_size, done_by}
 use Rattle.seize_machine.specs.declared.machine.event.Answer.{Answer}

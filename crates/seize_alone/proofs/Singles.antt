@@ -1,21 +1,17 @@
 -- Single events that are made alone lead the hands from the state that they hold to the state that the model says.
-use Rattle.std.proofs.Common.{◌≡◌, ℕ, zero, suc, ◌==◌, ◌||◌, ◌&&◌, ◌+◌, ◌-◌, ◌^◌, ◌≤◌, Bool, true, false, not, if◌then◌else◌, List, [], ◌∷◌, ◌++◌, map, set, Option, Some, None, option_map, option_to_list, replicate, refl, sym, ap, subst, ◌∙◌, append-nil, arith}
+use Rattle.std.proofs.Common.{◌≡◌, ℕ, zero, suc, ◌==◌, ◌&&◌, true, false, not, List, [], ◌∷◌, ◌++◌, map, set, Option, Some, None, option_map, replicate, refl, sym, ap, subst, ◌∙◌, append-nil, arith}
 use Rattle.std.specs.Prelude.{Ok}
 use mathlib.Core.List.{IsPrefix}
 use base.Stored.{Coded}
-use Rattle.seize_table.specs.Place.{all_numbers}
 use Rattle.seize_machine.specs.Machine.State as machine
-use Rattle.seize_machine.specs.Machine.Event.{Enter, Event, ExchangeLink, Give, ReadLink, Take}
+use Rattle.seize_machine.specs.Machine.Event.{Event}
 use Rattle.seize_machine.specs.Machine.Next.{can_link, is_none_or_fresh, next}
 use Rattle.seize_machine.specs.declared.machine.event.Answer.{Answer}
 use Rattle.seize_machine.specs.declared.machine.event.Answer.TheVariants.{Done, Link}
-use Rattle.seize_machine.specs.declared.machine.event.Exchange.TheVariants.{Swap}
 use Rattle.seize_machine.proofs.Facts.{if_some, swapped}
 use Rattle.seize_model.specs.declared.kind.Kind.{Kind}
-use Rattle.seize_model.specs.declared.kind.Kind.TheVariants.{Owned, Registered}
 use Rattle.seize_model.specs.Waiting.State as waiting
-use Rattle.seize_model.specs.Waiting.Attempt.{StateAndGone}
-use Rattle.seize_model.specs.Waiting.Calls.{is_free, is_owned, least_unused, leave, link_at, one_guard_less, set_guards, with_number_free, with_number_free_if, with_number_in_use}
+use Rattle.seize_model.specs.Waiting.Calls.{is_free, is_owned, leave, link_at, one_guard_less, set_guards, with_number_free, with_number_free_if, with_number_in_use}
 use Rattle.seize_model.specs.Waiting.Further.{Lighter, with_further}
 use Rattle.seize_model.specs.Agreement.Shows.{ShowsReclaimers, ShowsState, held_value}
 use Rattle.seize_model.proofs.Simulation.Coupling.{NearAt}
@@ -30,9 +26,8 @@ use Rattle.seize_book.specs.Entry.{Entry, Made}
 use Rattle.seize_book.specs.Slots.{slot_number}
 use Rattle.seize_book.specs.Tokens.{Name, start}
 use Rattle.seize_book.specs.declared.book.pass.Pass.{Pass}
-use Rattle.seize_words.specs.Chunks.{IsLentAs}
 use Rattle.seize_alone.specs.Events.{EntersHeld, GivesHeld, GuardsHeld, IsHeldAs, MakesAlone, OpensHeld, OwnedLeavesHeld, ReadsHeld, SwapsHeld, TakesHeld}
-use Rattle.seize_alone.specs.Holding.{AreLent, AreTold, Holds, found, some_slot, some_state}
+use Rattle.seize_alone.specs.Holding.{AreLent, AreTold, Holds, found, some_state}
 use Rattle.seize_alone.proofs.Found.{all_later, found_lent, has_first, has_right, lent_append, lent_found, one_lent, reclaimers_on, same_some, shows_on}
 use Rattle.seize_alone.proofs.Held.{answered, guarded, not_refused, parts_held, some_active, some_used}
 use Rattle.seize_alone.proofs.Mapped.{free_same, guards_same, least_same, link_same, slot_same, swap_same, use_same}

@@ -3,7 +3,7 @@
 --     AllServe puts of by handed     the numbers that were put with each value stand for what its reclaimer puts
 --     EachSaid log handed            the list says these words of what was put
 --     Whole pass pass' s job words had had'     the call of slot s, from its beginning, which says these words, to its return
-use Rattle.std.proofs.Common.{◌≡◌, ℕ, ℤ, ◌==◌, Bool, true, false, cond, filter, inl, inr, List, [], ◌∷◌, ◌++◌, map, Option, Some, None, refl, sym, ap, subst, ◌∙◌, append_assoc, append-nil}
+use Rattle.std.proofs.Common.{◌≡◌, ℕ, ◌==◌, Bool, true, false, cond, filter, inl, inr, List, [], ◌∷◌, ◌++◌, Some, refl, sym, ap, subst, ◌∙◌, append_assoc, append-nil}
 use mathlib.Core.List.{IsPrefix}
 use base.Growing.{prefix_trans}
 use Rattle.seize_machine.specs.Machine.State as machine
@@ -18,7 +18,7 @@ use Rattle.seize_model.specs.Waiting.Further.{put_by}
 use Rattle.seize_model.specs.Agreement.Events.{ArePutBy, IsJob, IsPutBy, is_return}
 use Rattle.seize_model.specs.Agreement.Play.{play}
 use Rattle.seize_model.specs.Agreement.Shows.{StandFor}
-use Rattle.seize_book.specs.Adding.{deed_with_words, private}
+use Rattle.seize_book.specs.Adding.{deed_with_words}
 use Rattle.seize_book.specs.Book.{IsLegalList, after, with_answers}
 use Rattle.seize_book.specs.Entry.{Deed, Entry, Made, Use, Used, maker, timed_deed}
 use Rattle.seize_book.specs.Kept.{AllTold, IsTold, Says, retires_by}

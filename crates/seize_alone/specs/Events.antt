@@ -9,7 +9,7 @@
 --     ReadsHeld           a link is read: what is found is what it holds
 --     SwapsHeld           a link is exchanged: so is what it held, and it holds the new value
 --     OwnedLeavesHeld     a leave of an owned slot, and then its number goes back
-use Rattle.std.specs.Prelude.{◌≡◌, ◌==◌, ◌≤◌, ℕ, Bool, true, false, List, [], Option, Some, None, Ok, replicate, slice_set}
+use Rattle.std.specs.Prelude.{◌≡◌, ◌==◌, ◌≤◌, ℕ, true, false, List, [], Option, Some, None, Ok, replicate, slice_set}
 use Rattle.std.specs.Coded.{Coded}
 use base.Stored.{Gv}
 use Rattle.seize_table.specs.Place.{all_numbers}

@@ -8,7 +8,7 @@
 --                            kinds
 --     HoldsThen code o had pass     so it is with the state of this outcome and what the pass has seen, by some names and kinds; and what
 --                            was had are its values gone
-use Rattle.std.specs.Prelude.{◌≡◌, ◌==◌, ℕ, if◌then◌else◌, List, [], ◌∷◌, map, Option, Some, None, option_map}
+use Rattle.std.specs.Prelude.{◌==◌, ℕ, if◌then◌else◌, List, [], ◌∷◌, map, Option, Some, None, option_map}
 use base.Stored.{Gv}
 use Rattle.seize_model.specs.Waiting.State.{Slot, State}
 use Rattle.seize_model.specs.Waiting.Attempt.{StateAndGone}

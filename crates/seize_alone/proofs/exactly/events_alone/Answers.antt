@@ -1,5 +1,4 @@
 use Rattle.seize_alone.proofs.Singles.{enters_held, gives_held, guards_held, opens_held, reads_held, swaps_held, takes_held}
-use Rattle.seize_alone.proofs.Ready.{ended}
 use Rattle.seize_alone.proofs.exactly.events_alone.Goals as goal
 
 pub returns : goal.returns
