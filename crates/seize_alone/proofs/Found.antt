@@ -14,7 +14,7 @@ use Rattle.seize_book.specs.Loans.{place_of}
 use Rattle.seize_book.specs.Tokens.{Name, start}
 use Rattle.seize_words.proofs.Facts.{same_content, told_later, told_once}
 use Rattle.seize_words.specs.Chunks.{IsLentAs}
-use Rattle.seize_alone.specs.Holding.{AreLent, AreTold, found, some_state, some_value}
+use Rattle.seize_alone.specs.Holding.{AreLent, AreOfKinds, found, some_state, some_value}
 use Rattle.seize_alone.proofs.Mapped.{retired_same, slot_same}
 
 -- the number is among these
@@ -91,7 +91,7 @@ module _ {T : Type 0} (c : Coded T) where
   lent_append (p ∷ ps) qs a b = (a.0, lent_append ps qs a.1 b)
 
 -- and its kind is what is told
-pub found_told : (n : Name) (log : List Entry) → are_distinct (linked_values n.links) ≡ true → IsLegalList (start n) log → (ps : List (ℕ × ℕ)) → AreTold log ps → (v kind : ℕ) → IsTold log v kind → Has ps v → found ps v ≡ Some kind
+pub found_told : (n : Name) (log : List Entry) → are_distinct (linked_values n.links) ≡ true → IsLegalList (start n) log → (ps : List (ℕ × ℕ)) → AreOfKinds log ps → (v kind : ℕ) → IsTold log v kind → Has ps v → found ps v ≡ Some kind
 found_told n log distinct legal [] told v kind is has = absurd (cc)
 found_told n log distinct legal (p ∷ ps) told v kind is has = by_case (p.0 == v) refl has (found_told n log distinct legal ps told.1 v kind is)
   where
@@ -99,11 +99,11 @@ found_told n log distinct legal (p ∷ ps) told v kind is has = by_case (p.0 == 
     by_case true e has rest = ap Some (told_once n log v p.1 kind distinct legal (subst (λ (m : ℕ). IsTold log m p.1) (same_number p.0 v e) told.0) is)
     by_case false e has rest = rest has
 
-pub told_append : (log : List Entry) (ps qs : List (ℕ × ℕ)) → AreTold log ps → AreTold log qs → AreTold log (ps ++ qs)
+pub told_append : (log : List Entry) (ps qs : List (ℕ × ℕ)) → AreOfKinds log ps → AreOfKinds log qs → AreOfKinds log (ps ++ qs)
 told_append log [] qs a b = b
 told_append log (p ∷ ps) qs a b = (a.0, told_append log ps qs a.1 b)
 
-pub all_later : (log log' : List Entry) → IsPrefix log log' → (ps : List (ℕ × ℕ)) → AreTold log ps → AreTold log' ps
+pub all_later : (log log' : List Entry) → IsPrefix log log' → (ps : List (ℕ × ℕ)) → AreOfKinds log ps → AreOfKinds log' ps
 all_later log log' grows [] a = tt
 all_later log log' grows (p ∷ ps) a = (told_later log log' p.0 p.1 grows a.0, all_later log log' grows ps a.1)
 

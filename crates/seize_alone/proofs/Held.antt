@@ -28,8 +28,8 @@ use Rattle.seize_book.specs.Slots.{slot_number}
 use Rattle.seize_book.specs.Tokens.{start}
 use Rattle.seize_book.specs.declared.book.pass.Pass.{Pass}
 use Rattle.seize_calls.specs.Handing.{AreTheirs, Had, values_handed}
-use Rattle.seize_alone.specs.Calls.{FlushesHeld, LeavesHeld, PartsHeld, RefreshesHeld, RetiresHeld, StandsAlone}
-use Rattle.seize_alone.specs.Holding.{AreLent, AreTold, HoldsThen, found, some_slot, some_state, some_value}
+use Rattle.seize_alone.specs.Calls.{FlushesHeld, LeavesHeld, PartsHeld, RefreshesHeld, RetiresHeld, CallsAlone}
+use Rattle.seize_alone.specs.Holding.{AreLent, AreOfKinds, HoldsThen, found, some_slot, some_state, some_value}
 use Rattle.seize_alone.proofs.Found.{Knows, all_later, found_lent, found_told, has_first, has_left, has_right, lent_append, reclaimers_on, shows_on, told_append}
 use Rattle.seize_alone.proofs.Mapped.{attempt_same, guards_same, part_same, put_same, slot_same, some_out, with_further_same}
 use Rattle.seize_alone.proofs.Names.{are_had, its_kinds, its_names, kinds_told, names_lent, puts_some, serve_all, some_lighter, weight_some}
@@ -37,7 +37,7 @@ use Rattle.seize_alone.proofs.Whole.{Whole, all_made, begin_said, flushed_whole,
 use Rattle.seize_alone.proofs.Work.{answers_made, events_made}
 
 module _ {T : Type 0} (c : Coded T) (puts : ℕ → T → List T) (st : waiting.State T ℕ) (names : List (ℕ × T)) (kinds : List (ℕ × ℕ)) {pass pass' : Pass} {s : ℕ} {job : Job} {words : List ℕ} {had' : Had}
-    (w : Whole pass pass' s job words [] had') (a : StandsAlone c puts st names kinds pass pass' had') (own : List (ℕ × T)) (own_lent : AreLent c.code own) (own_kinds : List (ℕ × ℕ)) (own_told : AreTold pass'.seen own_kinds) where
+    (w : Whole pass pass' s job words [] had') (a : CallsAlone c puts st names kinds pass pass' had') (own : List (ℕ × T)) (own_lent : AreLent c.code own) (own_kinds : List (ℕ × ℕ)) (own_told : AreOfKinds pass'.seen own_kinds) where
   abbrev before : machine.State
   before = after (start pass.name) pass.seen
 
@@ -58,7 +58,7 @@ module _ {T : Type 0} (c : Coded T) (puts : ℕ → T → List T) (st : waiting.
       lent_append c names (own ++ its_names c puts w.handed had' a.put) a.holds.lent
       (lent_append c own (its_names c puts w.handed had' a.put) own_lent (names_lent c puts w.handed w.kepts had' a.put theirs))
 
-  pub told_then : AreTold pass'.seen kinds_then
+  pub told_then : AreOfKinds pass'.seen kinds_then
   told_then =
       told_append pass'.seen kinds (own_kinds ++ its_kinds w.handed had') (all_later pass.seen pass'.seen w.grows kinds a.holds.told)
       (told_append pass'.seen own_kinds (its_kinds w.handed had') own_told (kinds_told c puts pass'.seen w.handed w.kepts had' a.put theirs w.told (whole_said w)))
@@ -154,7 +154,7 @@ module _ {T : Type 0} (c : Coded T) (puts : ℕ → T → List T) (weight : T �
   retires_held st names kinds v kind x retired key pass keys key' pass' keys' had' r a lent used =
       let s = slot_number key in let w : Whole pass pass' s (RetireJob v) (kind ∷ []) [] had' = retired_whole r in
       let own : List (ℕ × T) = (v, x) ∷ [] in let own_kinds : List (ℕ × ℕ) = (v, kind) ∷ [] in
-      let own_lent : AreLent c.code own = (lent, tt) in let own_told : AreTold pass'.seen own_kinds = (begin_said w v kind (inl (refl, refl)), tt) in
+      let own_lent : AreLent c.code own = (lent, tt) in let own_told : AreOfKinds pass'.seen own_kinds = (begin_said w v kind (inl (refl, refl)), tt) in
       let named = found_lent c _ (lent_then c puts st names kinds w a own own_lent own_kinds own_told) v x lent (own_there c puts st names kinds w a own own_lent own_kinds own_told v (has_first (v, x) [])) in
       let of_kind = found_told pass'.name pass'.seen a.distinct a.legal _ (told_then c puts st names kinds w a own own_lent own_kinds own_told) v kind own_told.0 (own_kinds_there c puts st names kinds w a own own_lent own_kinds own_told v (has_first (v, kind) [])) in
       let o = with_further puts weight s (put st s (x, kind)) in

@@ -27,7 +27,7 @@ use Rattle.seize_book.specs.Slots.{slot_number}
 use Rattle.seize_book.specs.Tokens.{Name, start}
 use Rattle.seize_book.specs.declared.book.pass.Pass.{Pass}
 use Rattle.seize_alone.specs.Events.{EntersHeld, GivesHeld, GuardsHeld, IsHeldAs, MakesAlone, OpensHeld, OwnedLeavesHeld, ReadsHeld, SwapsHeld, TakesHeld}
-use Rattle.seize_alone.specs.Holding.{AreLent, AreTold, Holds, found, some_state}
+use Rattle.seize_alone.specs.Holding.{AreLent, AreOfKinds, Holds, found, some_state}
 use Rattle.seize_alone.proofs.Found.{all_later, found_lent, has_first, has_right, lent_append, lent_found, one_lent, reclaimers_on, same_some, shows_on}
 use Rattle.seize_alone.proofs.Held.{answered, guarded, not_refused, parts_held, some_active, some_used}
 use Rattle.seize_alone.proofs.Mapped.{free_same, guards_same, least_same, link_same, slot_same, swap_same, use_same}
@@ -56,7 +56,7 @@ module _ {T : Type 0} (c : Coded T) where
   pub near_of : (st : waiting.State T ℕ) (names : List (ℕ × T)) (kinds : List (ℕ × ℕ)) (n : Name) (seen : List Entry) → Holds c.code st names kinds n seen → NearHands names kinds st (after (start n) seen)
   near_of st names kinds n seen holds = near_with (found names) (found kinds) (some_state st) (after (start n) seen) holds.shows holds.reclaimers
 
-  pub held_of : (st : waiting.State T ℕ) (names : List (ℕ × T)) (kinds : List (ℕ × ℕ)) (n : Name) (seen : List Entry) → AreLent c.code names → AreTold seen kinds → NearHands names kinds st (after (start n) seen) → Holds c.code st names kinds n seen
+  pub held_of : (st : waiting.State T ℕ) (names : List (ℕ × T)) (kinds : List (ℕ × ℕ)) (n : Name) (seen : List Entry) → AreLent c.code names → AreOfKinds seen kinds → NearHands names kinds st (after (start n) seen) → Holds c.code st names kinds n seen
   held_of st names kinds n seen lent told near =
       let both : ShowsState (Option T) (Option ℕ) (found names) (some_state st) (after (start n) seen) × ShowsReclaimers (Option T) (Option ℕ) (found names) (found kinds) (some_state st) (after (start n) seen) =
       shows_with (found names) (found kinds) (some_state st) (after (start n) seen) near in

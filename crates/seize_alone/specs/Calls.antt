@@ -1,7 +1,7 @@
 -- Whole calls of a slot, made where its pass is alone: each is the model's. `c` is the code of values, and `puts` and `weight` say what
 -- their reclaimer puts, which weighs less.
---     StandsAlone c puts st names kinds pass pass' had'     the pass is alone, and what it has seen then is legal; what it had seen shows
---                         the state, whose size is that of the pass; and what the reclaimer had since put as `puts` says
+--     CallsAlone c puts st names kinds pass pass' had'     the pass of a call is alone, and what it has seen after it is legal; what it had
+--                         seen shows the state, whose size is that of the pass; and with what the reclaimer had since, it put as `puts` says
 --     RetiresHeld         a retirement by a slot in use, whether its batch goes or not: the answer is the model's, and so are the state and
 --                         the values gone
 --     FlushesHeld         a flush of a slot with a guard
@@ -31,7 +31,7 @@ use Rattle.seize_calls.specs.Handing.{Had}
 use Rattle.seize_alone.specs.Gone.{PutAs}
 use Rattle.seize_alone.specs.Holding.{Holds, HoldsThen}
 
-pub record StandsAlone {T : Type 0} (c : Coded T) (puts : ℕ → T → List T) (st : State T ℕ) (names : List (ℕ × T)) (kinds : List (ℕ × ℕ))
+pub record CallsAlone {T : Type 0} (c : Coded T) (puts : ℕ → T → List T) (st : State T ℕ) (names : List (ℕ × T)) (kinds : List (ℕ × ℕ))
     (pass pass' : Pass) (had' : Had) : Type 0 where
   pub sole : IsSole pass.id
   pub legal : IsLegalList (start pass'.name) pass'.seen
@@ -44,7 +44,7 @@ abbrev pub RetiresHeld : {T : Type 0} → Coded T → (ℕ → T → List T) →
 RetiresHeld {T} c puts weight =
     (st : State T ℕ) (names : List (ℕ × T)) (kinds : List (ℕ × ℕ)) (v kind : ℕ) (x : T) (retired : Bool) (key : SlotKey) (pass : Pass)
     (values : ValueKeys) (key' : SlotKey) (pass' : Pass) (values' : ValueKeys) (had' : Had)
-    → RetiresOne key pass v kind values [] key' pass' values' had' retired → StandsAlone c puts st names kinds pass pass' had'
+    → RetiresOne key pass v kind values [] key' pass' values' had' retired → CallsAlone c puts st names kinds pass pass' had'
     → IsLentAs v (c.code x) → is_free (slot_at st (slot_number key)).kind ≡ false
     → let told = retire puts weight st (slot_number key) x kind in (told.0 ≡ Ok tt) × HoldsThen c.code told.1 had' pass'
 
@@ -52,7 +52,7 @@ abbrev pub FlushesHeld : {T : Type 0} → Coded T → (ℕ → T → List T) →
 FlushesHeld {T} c puts weight =
     (st : State T ℕ) (names : List (ℕ × T)) (kinds : List (ℕ × ℕ)) (retired : Bool) (key : SlotKey) (pass : Pass) (values : ValueKeys)
     (key' : SlotKey) (pass' : Pass) (values' : ValueKeys) (had' : Had)
-    → Flushes key pass values [] key' pass' values' had' retired → StandsAlone c puts st names kinds pass pass' had'
+    → Flushes key pass values [] key' pass' values' had' retired → CallsAlone c puts st names kinds pass pass' had'
     → is_free (slot_at st (slot_number key)).kind ≡ false → has_guard (slot_at st (slot_number key)) ≡ true
     → let told = flush puts weight st (slot_number key) in (told.0 ≡ Ok tt) × HoldsThen c.code told.1 had' pass'
 
@@ -61,7 +61,7 @@ PartsHeld {T} c puts weight =
     (st : State T ℕ) (names : List (ℕ × T)) (kinds : List (ℕ × ℕ)) (key : SlotKey) (pass : Pass) (values : ValueKeys) (key' : SlotKey)
     (pass' : Pass) (values' : ValueKeys) (had' : Had) → let s = slot_number key in
     Leaves LeaveJob false (private pass (SwapOut s)) key pass values [] key' pass' values' had'
-    → StandsAlone c puts st names kinds pass pass' had' → is_free (slot_at st s).kind ≡ false → (slot_at st s).guards ≡ 1
+    → CallsAlone c puts st names kinds pass pass' had' → is_free (slot_at st s).kind ≡ false → (slot_at st s).guards ≡ 1
     → let now = with_further puts weight s (one_guard_less st s) in
     HoldsThen c.code now had' pass' × (is_free (slot_at now.0 s).kind ≡ false) × (has_guard (slot_at now.0 s) ≡ false)
 
@@ -70,7 +70,7 @@ LeavesHeld {T} c puts weight =
     (st : State T ℕ) (names : List (ℕ × T)) (kinds : List (ℕ × ℕ)) (key : SlotKey) (pass : Pass) (values : ValueKeys) (key' : SlotKey)
     (pass' : Pass) (values' : ValueKeys) (had' : Had) → let s = slot_number key in
     Leaves LeaveJob false (private pass (SwapOut s)) key pass values [] key' pass' values' had'
-    → StandsAlone c puts st names kinds pass pass' had' → (slot_at st s).kind ≡ Registered → (slot_at st s).guards ≡ 1
+    → CallsAlone c puts st names kinds pass pass' had' → (slot_at st s).kind ≡ Registered → (slot_at st s).guards ≡ 1
     → let told = leave puts weight st s in (told.0 ≡ Ok tt) × HoldsThen c.code told.1 had' pass'
 
 abbrev pub RefreshesHeld : {T : Type 0} → Coded T → (ℕ → T → List T) → (T → ℕ) → Type 0
@@ -78,6 +78,6 @@ RefreshesHeld {T} c puts weight =
     (st : State T ℕ) (names : List (ℕ × T)) (kinds : List (ℕ × ℕ)) (life : ℕ) (key : SlotKey) (pass : Pass) (values : ValueKeys)
     (key' : SlotKey) (pass' : Pass) (values' : ValueKeys) (had' : Had) → let s = slot_number key in
     Leaves RefreshJob true (beginning pass life (SwapOut s)) key pass values [] key' pass' values' had'
-    → StandsAlone c puts st names kinds pass pass' had' → is_free (slot_at st s).kind ≡ false → has_guard (slot_at st s) ≡ true
+    → CallsAlone c puts st names kinds pass pass' had' → is_free (slot_at st s).kind ≡ false → has_guard (slot_at st s) ≡ true
     → (is_owned (slot_at st s).kind || ((slot_at st s).guards == 1)) ≡ true
     → let told = refresh puts weight st s in (told.0 ≡ Ok tt) × HoldsThen c.code told.1 had' pass'

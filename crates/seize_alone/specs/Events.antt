@@ -33,7 +33,7 @@ use Rattle.seize_book.specs.declared.book.value_keys.ValueKeys.{ValueKeys}
 use Rattle.seize_words.specs.Chunks.{IsLentAs}
 use Rattle.seize_calls.specs.Calls.{Leaves}
 use Rattle.seize_calls.specs.Handing.{Had}
-use Rattle.seize_alone.specs.Calls.{StandsAlone}
+use Rattle.seize_alone.specs.Calls.{CallsAlone}
 use Rattle.seize_alone.specs.Holding.{Holds, HoldsThen}
 
 pub record MakesAlone (pass pass' : Pass) (event : Event) (answer : Answer) : Type 0 where
@@ -97,6 +97,6 @@ OwnedLeavesHeld {T} c puts weight =
     (st : State T ℕ) (names : List (ℕ × T)) (kinds : List (ℕ × ℕ)) (answer : Answer) (key : SlotKey) (pass : Pass) (values : ValueKeys)
     (key' : SlotKey) (mid pass' : Pass) (values' : ValueKeys) (had' : Had) → let s = slot_number key in
     Leaves LeaveJob false (private pass (SwapOut s)) key pass values [] key' mid values' had'
-    → StandsAlone c puts st names kinds pass mid had' → (slot_at st s).kind ≡ Owned → (slot_at st s).guards ≡ 1
+    → CallsAlone c puts st names kinds pass mid had' → (slot_at st s).kind ≡ Owned → (slot_at st s).guards ≡ 1
     → MakesAlone mid pass' (Give s) answer
     → let told = leave puts weight st s in (told.0 ≡ Ok tt) × HoldsThen c.code told.1 had' pass'

@@ -3,7 +3,7 @@
 --     found pairs n          what the number is paired with, if it is among these
 --     some_state st          the state with `Some` of each value and of each kind, since not each number stands for one
 --     AreLent code names     with each of these numbers the code of its value is lent, so that the number says which value it is
---     AreTold log kinds      the list says of each of these numbers that it is of this kind
+--     AreOfKinds log kinds   the list says of each of these numbers that it is of this kind
 --     Holds code st names kinds n seen     what was seen of the list of book n leads to a machine that shows the state, by these names and
 --                            kinds
 --     HoldsThen code o had pass     so it is with the state of this outcome and what the pass has seen, by some names and kinds; and what
@@ -44,16 +44,16 @@ abbrev pub AreLent : {T : Type 0} → (T → Gv) → List (ℕ × T) → Type 0
 AreLent code [] = Unit {0}
 AreLent code (p ∷ ps) = IsLentAs p.0 (code p.1) × AreLent code ps
 
-abbrev pub AreTold : List Entry → List (ℕ × ℕ) → Type 0
-AreTold log [] = Unit {0}
-AreTold log (p ∷ ps) = IsTold log p.0 p.1 × AreTold log ps
+abbrev pub AreOfKinds : List Entry → List (ℕ × ℕ) → Type 0
+AreOfKinds log [] = Unit {0}
+AreOfKinds log (p ∷ ps) = IsTold log p.0 p.1 × AreOfKinds log ps
 
 pub record Holds {T : Type 0} (code : T → Gv) (st : State T ℕ) (names : List (ℕ × T)) (kinds : List (ℕ × ℕ)) (n : Name)
     (seen : List Entry) : Type 0 where
   pub shows : ShowsState (Option T) (Option ℕ) (found names) (some_state st) (after (start n) seen)
   pub reclaimers : ShowsReclaimers (Option T) (Option ℕ) (found names) (found kinds) (some_state st) (after (start n) seen)
   pub lent : AreLent code names
-  pub told : AreTold seen kinds
+  pub told : AreOfKinds seen kinds
 
 abbrev pub HoldsThen : {T : Type 0} → (T → Gv) → StateAndGone T ℕ → Had → Pass → Type 0
 HoldsThen {T} code o had pass =
