@@ -199,6 +199,15 @@ left_list {T} {R} puts of by st before s o job_ends true events answers later ma
     (subst (λ (k : State). NearAt (with_reclaimers of by) [] (with_number_free o.0 s) k) (sym given.0) (given_near (with_reclaimers of by) s o split.middle split.first d))
     (ap (λ (hs : List ℕ). map {B = T × R} (λ n. (of n, by n)) hs) same ∙ d.gone) refl
 
+-- each list of the job, where the slot leaves with its last guard
+pub leave_job_list : {T R : Type 0} (puts : R → T → List T) (weight : T → ℕ) → Lighter puts weight → (of : ℕ → T) (by : ℕ → R) (st : waiting.State T R) (before : State) (s : ℕ) (events : List Event) (answers : List Answer) (later : State) → NearAt (with_reclaimers of by) [] st before
+    → is_free (slot_at st s).kind ≡ false → waiting.has_guard (slot_at st s) ≡ true → IsJob s job.TheVariants.Leave events → play st.size before events ≡ Some (later, answers) → ArePutBy puts of by events answers
+    → JobEnds (with_reclaimers of by) s 0 (with_further puts weight s (part (set_guards st s 0) s)) later answers
+leave_job_list puts weight lighter of by st before s events answers later n used active makes legal put =
+    let within : s < length st.slots = in_use st s used in
+    job_list puts of by st.size s 0 job.TheVariants.Leave before _ later (with_further puts weight s (part (set_guards st s 0) s)) events answers (begins_leave (with_reclaimers of by) st before s n used active) makes legal put (λ now.
+    leave_ends puts weight lighter (with_reclaimers of by) Always _ st before s _ (left_carried puts of by st.size s later (handed answers)) (holds_always st) (near_at_rest (with_reclaimers of by) st before s n used) (in_machine (with_reclaimers of by) st before s n within) within active now)
+
 pub leave_list : {T R : Type 0} (puts : R → T → List T) (weight : T → ℕ) → Lighter puts weight → (of : ℕ → T) (by : ℕ → R) (st : waiting.State T R) (before : State) (s : ℕ) → NearAt (with_reclaimers of by) [] st before
     → EachList puts of by (Leave s) st before (step puts weight st (Leave s))
 leave_list {T} {R} puts weight lighter of by st before s n =
@@ -209,10 +218,8 @@ leave_list {T} {R} puts weight lighter of by st before s n =
         → play st.size before events ≡ Some (later, answers) → ArePutBy puts of by events answers
         → IsOutcome T R of by (Leave s) (Done, with_number_free_if (is_owned (slot_at st s).kind) s (with_further puts weight s (if t then part (set_guards st s 0) s else (set_guards st s ((slot_at st s).guards - 1), [])))) events answers later
     go true e g events answers later makes legal put =
-        let within : s < length st.slots = in_use st s g.0 in
-        left_list puts of by st before s (with_further puts weight s (part (set_guards st s 0) s)) (λ es told end whole legal_job put_job.
-        job_list puts of by st.size s 0 job.TheVariants.Leave before _ end (with_further puts weight s (part (set_guards st s 0) s)) es told (begins_leave (with_reclaimers of by) st before s n g.0 g.1) whole legal_job put_job (λ now.
-        leave_ends puts weight lighter (with_reclaimers of by) Always _ st before s _ (left_carried puts of by st.size s end (handed told)) (holds_always st) (near_at_rest (with_reclaimers of by) st before s n g.0) (in_machine (with_reclaimers of by) st before s n within) within g.1 now))
+        left_list puts of by st before s (with_further puts weight s (part (set_guards st s 0) s))
+        (λ es told end whole legal_job put_job. leave_job_list puts weight lighter of by st before s es told end n g.0 g.1 whole legal_job put_job)
         (is_owned (slot_at st s).kind) events answers later makes legal put
     go false e g events answers later makes legal put =
         subst (λ (o : StateAndGone T R). IsOutcome T R of by (Leave s) (Done, o) events answers later) (sym (stays_as puts weight st s e g (n.slot s).owned))

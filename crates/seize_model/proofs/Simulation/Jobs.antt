@@ -103,14 +103,21 @@ flush_run {T} {R} puts weight lighter of P names st before s holds near =
     (flush_ends puts weight lighter of P _ st before s _ (run_carried puts of P names st.size s _) holds (near_at_rest of st before s n g.0) (in_machine of st before s n (in_use st s g.0)) (Leads.stays _)) in
     run_of puts of (Flush s) st before st.size s (slot_at st s).guards job.TheVariants.Flush Done (with_further puts weight s (attempt st s)) refl run run.makes (names_none {R = R} of.link (Flush s) run.events (λ e. tt)) tt refl)
 
+-- each list of the job
+pub flush_job_list : {T R : Type 0} (puts : R → T → List T) (weight : T → ℕ) → Lighter puts weight → (of : ℕ → T) (by : ℕ → R) (st : waiting.State T R) (before : State) (s : ℕ) (events : List Event) (answers : List Answer) (later : State) → NearAt (with_reclaimers of by) [] st before
+    → is_free (slot_at st s).kind ≡ false → waiting.has_guard (slot_at st s) ≡ true → IsJob s job.TheVariants.Flush events → play st.size before events ≡ Some (later, answers) → ArePutBy puts of by events answers
+    → JobEnds (with_reclaimers of by) s (slot_at st s).guards (with_further puts weight s (attempt st s)) later answers
+flush_job_list puts weight lighter of by st before s events answers later n used active makes legal put =
+    job_list puts of by st.size s (slot_at st s).guards job.TheVariants.Flush before _ later (with_further puts weight s (attempt st s)) events answers (begins_flush (with_reclaimers of by) st before s n used active) makes legal put (λ now.
+    flush_ends puts weight lighter (with_reclaimers of by) Always _ st before s _ (left_carried puts of by st.size s later (handed answers)) (holds_always st) (near_at_rest (with_reclaimers of by) st before s n used) (in_machine (with_reclaimers of by) st before s n (in_use st s used)) now)
+
 pub flush_list : {T R : Type 0} (puts : R → T → List T) (weight : T → ℕ) → Lighter puts weight → (of : ℕ → T) (by : ℕ → R) (st : waiting.State T R) (before : State) (s : ℕ) → NearAt (with_reclaimers of by) [] st before
     → EachList puts of by (Flush s) st before (step puts weight st (Flush s))
 flush_list {T} {R} puts weight lighter of by st before s n =
     list_unless puts of by (Flush s) st before done_reply None (no_guard st s) tt (with_further puts weight s (attempt st s)) n (λ e events answers later makes legal names with put.
     let g : (is_free (slot_at st s).kind ≡ false) × (waiting.has_guard (slot_at st s) ≡ true) = guard_of st s e in
     job_outcome of by (Flush s) s (slot_at st s).guards Done (with_further puts weight s (attempt st s)) events answers later
-    (job_list puts of by st.size s (slot_at st s).guards job.TheVariants.Flush before _ later (with_further puts weight s (attempt st s)) events answers (begins_flush (with_reclaimers of by) st before s n g.0 g.1) makes legal put (λ now.
-    flush_ends puts weight lighter (with_reclaimers of by) Always _ st before s _ (left_carried puts of by st.size s later (handed answers)) (holds_always st) (near_at_rest (with_reclaimers of by) st before s n g.0) (in_machine (with_reclaimers of by) st before s n (in_use st s g.0)) now))
+    (flush_job_list puts weight lighter of by st before s events answers later n g.0 g.1 makes legal put)
     refl)
 
 -- Retire.
@@ -231,6 +238,14 @@ refresh_run {T} {R} puts weight lighter of P names st before s holds near =
     go false is g = subst (λ o. Run puts of (Refresh s) st before (Done, o)) (sym (settled_nothing puts weight st s))
         (no_events puts of (Refresh s) st before Done st (near) (subst (λ (b : Bool). Where b (IsJob s job.TheVariants.Refresh) []) (sym is) refl) refl)
 
+-- each list of the job
+pub refresh_job_list : {T R : Type 0} (puts : R → T → List T) (weight : T → ℕ) → Lighter puts weight → (of : ℕ → T) (by : ℕ → R) (st : waiting.State T R) (before : State) (s : ℕ) (events : List Event) (answers : List Answer) (later : State) → NearAt (with_reclaimers of by) [] st before
+    → is_free (slot_at st s).kind ≡ false → waiting.has_guard (slot_at st s) ≡ true → IsJob s job.TheVariants.Refresh events → play st.size before events ≡ Some (later, answers) → ArePutBy puts of by events answers
+    → JobEnds (with_reclaimers of by) s (slot_at st s).guards (with_further puts weight s (part st s)) later answers
+refresh_job_list puts weight lighter of by st before s events answers later n used active makes legal put =
+    job_list puts of by st.size s (slot_at st s).guards job.TheVariants.Refresh before _ later (with_further puts weight s (part st s)) events answers (begins_refresh (with_reclaimers of by) st before s n used active) makes legal put (λ now.
+    refresh_ends puts weight lighter (with_reclaimers of by) Always _ st before s _ (left_carried puts of by st.size s later (handed answers)) (holds_always st) (near_at_rest (with_reclaimers of by) st before s n used) (in_machine (with_reclaimers of by) st before s n (in_use st s used)) active now)
+
 pub refresh_list : {T R : Type 0} (puts : R → T → List T) (weight : T → ℕ) → Lighter puts weight → (of : ℕ → T) (by : ℕ → R) (st : waiting.State T R) (before : State) (s : ℕ) → NearAt (with_reclaimers of by) [] st before
     → EachList puts of by (Refresh s) st before (step puts weight st (Refresh s))
 refresh_list {T} {R} puts weight lighter of by st before s n =
@@ -241,8 +256,7 @@ refresh_list {T} {R} puts weight lighter of by st before s n =
         → play st.size before events ≡ Some (later, answers) → ArePutBy puts of by events answers → IsOutcome T R of by (Refresh s) (Done, with_further puts weight s (if t then part st s else (st, []))) events answers later
     go true g events answers later makes legal put =
         job_outcome of by (Refresh s) s (slot_at st s).guards Done (with_further puts weight s (part st s)) events answers later
-        (job_list puts of by st.size s (slot_at st s).guards job.TheVariants.Refresh before _ later (with_further puts weight s (part st s)) events answers (begins_refresh (with_reclaimers of by) st before s n g.0 g.1) makes legal put (λ now.
-        refresh_ends puts weight lighter (with_reclaimers of by) Always _ st before s _ (left_carried puts of by st.size s later (handed answers)) (holds_always st) (near_at_rest (with_reclaimers of by) st before s n g.0) (in_machine (with_reclaimers of by) st before s n (in_use st s g.0)) g.1 now))
+        (refresh_job_list puts weight lighter of by st before s events answers later n g.0 g.1 makes legal put)
         refl
     go false g events answers later makes legal put =
         subst (λ o. IsOutcome T R of by (Refresh s) (Done, o) events answers later) (sym (settled_nothing puts weight st s))

@@ -38,12 +38,12 @@ no_guards : (k : ℕ) → not (k == 0) ≡ false → k ≡ 0
 no_guards k e = grind arith
 
 -- a slot in use without a guard gives its number back
-end_step : {T R X : Type 0} (of : Naming T R X) (st : waiting.State T R) (before : State) (s : ℕ) → NearAt of [] st before → is_free (slot_at st s).kind ≡ false → waiting.has_guard (slot_at st s) ≡ false
+pub end_step : {T R X : Type 0} (of : Naming T R X) (st : waiting.State T R) (before : State) (s : ℕ) → NearAt of [] st before → is_free (slot_at st s).kind ≡ false → waiting.has_guard (slot_at st s) ≡ false
     → next st.size before (Give s) ≡ Some (machine_next.set_slot before s (record { used = false; batch = (machine.slot_at before s).batch; call = None }), DoneEvent)
 end_step of st before s n used e =
     at_idle of st before st.size s (Give s) _ n used (give_step st.size before s _ (in_machine of st before s n (in_use st s used)) (active_head of st before s false n e))
 
-end_near : {T R X : Type 0} (of : Naming T R X) (st : waiting.State T R) (before : State) (s : ℕ) → NearAt of [] st before → is_free (slot_at st s).kind ≡ false → waiting.has_guard (slot_at st s) ≡ false
+pub end_near : {T R X : Type 0} (of : Naming T R X) (st : waiting.State T R) (before : State) (s : ℕ) → NearAt of [] st before → is_free (slot_at st s).kind ≡ false → waiting.has_guard (slot_at st s) ≡ false
     → NearAt of [] (with_number_free st s) (machine_next.set_slot before s (record { used = false; batch = (machine.slot_at before s).batch; call = None }))
 end_near of st before s n used e =
     let within : s < length st.slots = in_use st s used in

@@ -123,7 +123,7 @@ near_taken {T} {R} of st ms n kind true near used is few t_is =
         (subst (λ k. CoupledSlot of k (get_or ms.slots s machine.no_slot)) (sym x) (near.slot s))
 
 -- the slot that was taken
-slot_taken : {T R : Type 0} (st : waiting.State T R) (n : ℕ) (kind : Kind) (t : Bool) → n ≡ least_unused st.slots → (n == length st.slots) ≡ t
+pub slot_taken : {T R : Type 0} (st : waiting.State T R) (n : ℕ) (kind : Kind) (t : Bool) → n ≡ least_unused st.slots → (n == length st.slots) ≡ t
     → ((slot_at (taken_if t st n kind 0) n).kind ≡ kind) × ((slot_at (taken_if t st n kind 0) n).guards ≡ 0) × (set_guards (taken_if t st n kind 0) n 1 ≡ taken_if t st n kind 1)
 slot_taken {T} {R} st n kind true is t_is =
     let e : n ≡ length st.slots = grind arith in
@@ -160,6 +160,28 @@ take_step of size st ms n many few =
 taken_is_first : (size : ℕ) (ms later : State) (n : ℕ) (answer : Answer) → next size ms (Take n) ≡ Some (later, answer) → n ≡ first_free ms.slots
 taken_is_first size ms later n answer h =
     eq_true n (first_free ms.slots) (and_true (n == first_free ms.slots) (nat_lt n (2 ^ 64 - 32)) (if_some ((n == first_free ms.slots) && nat_lt n (2 ^ 64 - 32)) _ _ h).0).0
+
+taken_is_below : (size : ℕ) (ms later : State) (n : ℕ) (answer : Answer) → next size ms (Take n) ≡ Some (later, answer) → (n == 2 ^ 64 - 32) ≡ false
+taken_is_below size ms later n answer h =
+    below n (2 ^ 64 - 32) (and_true (n == first_free ms.slots) (nat_lt n (2 ^ 64 - 32)) (if_some ((n == first_free ms.slots) && nat_lt n (2 ^ 64 - 32)) _ _ h).0).1
+  where
+    below : (a k : ℕ) → nat_lt a k ≡ true → (a == k) ≡ false
+    below a k h = grind arith
+
+-- where a number was taken: which one, and what the two sides show each other then, where it is in use for this kind of slot
+pub take_ends : {T R X : Type 0} (of : Naming T R X) (size : ℕ) (st : waiting.State T R) (before later : State) (n : ℕ) (answer : Answer) (kind : Kind) → NearAt of [] st before → next size before (Take n) ≡ Some (later, answer) → is_free kind ≡ false
+    → (n ≡ least_unused st.slots) × ((n == 2 ^ 64 - 32) ≡ false) × NearAt of [] (with_number_in_use st n kind 0) later
+take_ends of size st before later n answer kind near h used =
+    let least : n ≡ least_unused st.slots = taken_is_first size before later n answer h ∙ same_first of st before near in
+    let few : (n == 2 ^ 64 - 32) ≡ false = taken_is_below size before later n answer h in
+    let least_few : (least_unused st.slots == 2 ^ 64 - 32) ≡ false = ap (λ (k : ℕ). k == 2 ^ 64 - 32) (sym least) ∙ few in
+    let step : next size before (Take n) ≡ Some (shown_if (n == length st.slots) before n, DoneEvent)
+    = subst (λ (k : ℕ). next size before (Take k) ≡ Some (shown_if (k == length st.slots) before k, DoneEvent)) (sym least) (take_step of size st before near near.numbers least_few) in
+    let ends : (later ≡ shown_if (n == length st.slots) before n) × (answer ≡ DoneEvent) = both_same (later, answer) (shown_if (n == length st.slots) before n, DoneEvent) (sym h ∙ step) in (
+      least,
+      few,
+      subst (λ (k : State). NearAt of [] (with_number_in_use st n kind 0) k) (sym ends.0) (near_taken of st before n kind (n == length st.slots) near used least few refl),
+    )
 
 pub register_run : {T R X : Type 0} (puts : R → T → List T) (weight : T → ℕ) (of : Naming T R X) (st : waiting.State T R) (before : State) → NearAt of [] st before
     → Run puts of Register st before (step puts weight st Register)

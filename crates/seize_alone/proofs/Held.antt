@@ -1,0 +1,205 @@
+-- Whole calls that are made alone lead the hands from the state that they hold to the state that the model says.
+use Rattle.std.proofs.Common.{◌≡◌, ℕ, ◌==◌, ◌-◌, Bool, true, false, not, if◌then◌else◌, List, [], ◌∷◌, ◌++◌, map, Option, Some, None, inl, refl, sym, ap, subst, ◌∙◌}
+use Rattle.std.specs.Prelude.{Ok}
+use base.Stored.{Coded}
+use Rattle.seize_table.specs.declared.refusal.Refusal.{Refusal}
+use Rattle.seize_table.specs.declared.refusal.Refusal.TheVariants.{NotActive, NotInUse}
+use Rattle.seize_machine.specs.Machine.State as machine
+use Rattle.seize_machine.specs.Machine.History.{handed as handed_by}
+use Rattle.seize_machine.specs.declared.machine.event.Answer.{Answer}
+use Rattle.seize_machine.specs.declared.machine.event.Job.{Job}
+use Rattle.seize_machine.specs.declared.machine.event.Job.TheVariants.{Flush as FlushJob, Leave as LeaveJob, Refresh as RefreshJob, Retire as RetireJob}
+use Rattle.seize_model.specs.declared.kind.Kind.{Kind}
+use Rattle.seize_model.specs.Waiting.State as waiting
+use Rattle.seize_model.specs.Waiting.Attempt.{StateAndGone, attempt, part, put}
+use Rattle.seize_model.specs.Waiting.Calls.{Response, first_refusal, flush, is_free, is_owned, leave, no_guard, one_guard_less, part_if_alone, refresh, retire, set_guards, unless, unused, with_number_free_if}
+use Rattle.seize_model.specs.Waiting.Further.{Lighter, with_further}
+use Rattle.seize_model.specs.Agreement.Events.{ArePutBy}
+use Rattle.seize_model.specs.Agreement.Play.{play}
+use Rattle.seize_model.specs.Agreement.Shows.{ShowsReclaimers, ShowsState, StandFor}
+use Rattle.seize_model.proofs.Simulation.Beginnings.{JobEnds}
+use Rattle.seize_model.proofs.Simulation.Coupling.{NearAt}
+use Rattle.seize_model.proofs.Simulation.Events.{there}
+use Rattle.seize_model.proofs.Simulation.Guards.{leave_job_list}
+use Rattle.seize_model.proofs.Simulation.Jobs.{flush_job_list, refresh_job_list, retire_job_list}
+use Rattle.seize_model.proofs.Simulation.Views.{near_with, shows_with, stand_for, with_reclaimers}
+use Rattle.seize_book.specs.Book.{after}
+use Rattle.seize_book.specs.Slots.{slot_number}
+use Rattle.seize_book.specs.Tokens.{start}
+use Rattle.seize_book.specs.declared.book.pass.Pass.{Pass}
+use Rattle.seize_calls.specs.Handing.{AreTheirs, Had, values_handed}
+use Rattle.seize_alone.specs.Calls.{FlushesHeld, LeavesHeld, PartsHeld, RefreshesHeld, RetiresHeld, CallsAlone}
+use Rattle.seize_alone.specs.Holding.{AreLent, AreOfKinds, HoldsThen, found, some_slot, some_state, some_value}
+use Rattle.seize_alone.proofs.Found.{Knows, all_later, found_lent, found_told, has_first, has_left, has_right, lent_append, reclaimers_on, shows_on, told_append}
+use Rattle.seize_alone.proofs.Mapped.{attempt_same, guards_same, part_same, put_same, slot_same, some_out, with_further_same}
+use Rattle.seize_alone.proofs.Names.{are_had, its_kinds, its_names, kinds_told, names_lent, puts_some, serve_all, some_lighter, weight_some}
+use Rattle.seize_alone.proofs.Whole.{Whole, all_made, begin_said, flushed_whole, left_whole, retired_whole, whole_handed, whole_job, whole_played, whole_put, whole_said}
+use Rattle.seize_alone.proofs.Work.{answers_made, events_made}
+
+module _ {T : Type 0} (c : Coded T) (puts : ℕ → T → List T) (st : waiting.State T ℕ) (names : List (ℕ × T)) (kinds : List (ℕ × ℕ)) {pass pass' : Pass} {s : ℕ} {job : Job} {words : List ℕ} {had' : Had}
+    (w : Whole pass pass' s job words [] had') (a : CallsAlone c puts st names kinds pass pass' had') (own : List (ℕ × T)) (own_lent : AreLent c.code own) (own_kinds : List (ℕ × ℕ)) (own_told : AreOfKinds pass'.seen own_kinds) where
+  abbrev before : machine.State
+  before = after (start pass.name) pass.seen
+
+  abbrev later : machine.State
+  later = after (start pass'.name) pass'.seen
+
+  abbrev theirs : AreTheirs w.handed w.kepts had'
+  theirs = subst (λ (more : Had). AreTheirs w.handed w.kepts more) (sym w.has_had.after) w.has_had.theirs
+
+  abbrev names_then : List (ℕ × T)
+  names_then = names ++ (own ++ its_names c puts w.handed had' a.put)
+
+  abbrev kinds_then : List (ℕ × ℕ)
+  kinds_then = kinds ++ (own_kinds ++ its_kinds w.handed had')
+
+  pub lent_then : AreLent c.code names_then
+  lent_then =
+      lent_append c names (own ++ its_names c puts w.handed had' a.put) a.holds.lent
+      (lent_append c own (its_names c puts w.handed had' a.put) own_lent (names_lent c puts w.handed w.kepts had' a.put theirs))
+
+  pub told_then : AreOfKinds pass'.seen kinds_then
+  told_then =
+      told_append pass'.seen kinds (own_kinds ++ its_kinds w.handed had') (all_later pass.seen pass'.seen w.grows kinds a.holds.told)
+      (told_append pass'.seen own_kinds (its_kinds w.handed had') own_told (kinds_told c puts pass'.seen w.handed w.kepts had' a.put theirs w.told (whole_said w)))
+
+  pub own_there : Knows own names_then
+  own_there = λ m has. has_right names (own ++ its_names c puts w.handed had' a.put) m (has_left own (its_names c puts w.handed had' a.put) m has)
+
+  pub own_kinds_there : Knows own_kinds kinds_then
+  own_kinds_there = λ m has. has_right kinds (own_kinds ++ its_kinds w.handed had') m (has_left own_kinds (its_kinds w.handed had') m has)
+
+  its_there : Knows (its_names c puts w.handed had' a.put) names_then
+  its_there = λ m has. has_right names (own ++ its_names c puts w.handed had' a.put) m (has_right own (its_names c puts w.handed had' a.put) m has)
+
+  kinds_there : Knows (its_kinds w.handed had') kinds_then
+  kinds_there = λ m has. has_right kinds (own_kinds ++ its_kinds w.handed had') m (has_right own_kinds (its_kinds w.handed had') m has)
+
+  -- where the call begins, and its events
+
+  pub near_before : NearAt (with_reclaimers (found names_then) (found kinds_then)) [] (some_state st) before
+  near_before =
+      near_with (found names_then) (found kinds_then) (some_state st) before
+      (shows_on names (own ++ its_names c puts w.handed had' a.put) kinds (own_kinds ++ its_kinds w.handed had') st before a.holds.shows)
+      (reclaimers_on names (own ++ its_names c puts w.handed had' a.put) kinds (own_kinds ++ its_kinds w.handed had') st before a.holds.reclaimers)
+
+  pub legal : play st.size before (events_made (all_made w)) ≡ Some (later, answers_made (all_made w))
+  legal = subst (λ (size : ℕ). play size before (events_made (all_made w)) ≡ Some (later, answers_made (all_made w))) (sym a.size) (whole_played w a.sole a.legal)
+
+  pub put_so : ArePutBy (puts_some puts) (found names_then) (found kinds_then) (events_made (all_made w)) (answers_made (all_made w))
+  put_so =
+      whole_put w (puts_some puts) (found names_then) (found kinds_then)
+      (serve_all c puts pass'.name pass'.seen a.distinct a.legal names_then kinds_then lent_then told_then w.handed w.kepts had' a.put theirs w.told (whole_said w) its_there kinds_there)
+
+  -- where it ends
+
+  pub held_then : (guards : ℕ) (o : StateAndGone T ℕ) (o' : StateAndGone (Option T) (Option ℕ)) → o' ≡ some_out o → JobEnds (with_reclaimers (found names_then) (found kinds_then)) s guards o' later (answers_made (all_made w)) → HoldsThen c.code o had' pass'
+  held_then guards o o' is ends =
+      let d : JobEnds (with_reclaimers (found names_then) (found kinds_then)) s guards (some_out o) later (answers_made (all_made w)) =
+      subst (λ (x : StateAndGone (Option T) (Option ℕ)). JobEnds (with_reclaimers (found names_then) (found kinds_then)) s guards x later (answers_made (all_made w))) is ends in
+      let both : ShowsState (Option T) (Option ℕ) (found names_then) (some_state o.0) later × ShowsReclaimers (Option T) (Option ℕ) (found names_then) (found kinds_then) (some_state o.0) later =
+      shows_with (found names_then) (found kinds_then) (some_state o.0) later (subst (λ (k : machine.State). NearAt (with_reclaimers (found names_then) (found kinds_then)) [] (some_state o.0) k) (sym d.is) d.near) in
+      let gone : StandFor (found names_then) (found kinds_then) (values_handed w.handed) (map some_value o.1) =
+      subst (λ (vs : List ℕ). StandFor (found names_then) (found kinds_then) vs (map some_value o.1)) (whole_handed w) (stand_for (found names_then) (found kinds_then) (handed_by (answers_made (all_made w))) (map some_value o.1) d.gone) in (
+        (names_then, kinds_then, record { shows = both.0; reclaimers = both.1; lent = lent_then; told = told_then }),
+        are_had c puts pass'.name pass'.seen a.distinct a.legal names_then kinds_then lent_then told_then w.handed w.kepts had' a.put theirs w.told its_there kinds_there o.1 gone,
+      )
+
+-- the slot is the same with `Some` of each value
+
+pub some_used : {T : Type 0} (st : waiting.State T ℕ) (s : ℕ) → is_free (waiting.slot_at st s).kind ≡ false → is_free (waiting.slot_at (some_state st) s).kind ≡ false
+some_used {T} st s used = ap (λ (slot : waiting.Slot (Option T) (Option ℕ)). is_free slot.kind) (slot_same st s) ∙ used
+
+pub some_active : {T : Type 0} (st : waiting.State T ℕ) (s : ℕ) → waiting.has_guard (waiting.slot_at st s) ≡ true → waiting.has_guard (waiting.slot_at (some_state st) s) ≡ true
+some_active {T} st s active = ap (λ (slot : waiting.Slot (Option T) (Option ℕ)). waiting.has_guard slot) (slot_same st s) ∙ active
+
+-- where a job ended that left no guard, the slot is in use still
+
+abbrev Rested : {T : Type 0} → waiting.State T ℕ → ℕ → Type 0
+Rested st s = (is_free (waiting.slot_at st s).kind ≡ false) × (waiting.has_guard (waiting.slot_at st s) ≡ false)
+
+rested : {T : Type 0} (o : StateAndGone T ℕ) (o' : StateAndGone (Option T) (Option ℕ)) → o' ≡ some_out o → (of : ℕ → Option T) (by : ℕ → Option ℕ) (s : ℕ) (later : machine.State) (answers : List Answer) → JobEnds (with_reclaimers of by) s 0 o' later answers → Rested o.0 s
+rested {T} o o' is of by s later answers ends =
+    let d : JobEnds (with_reclaimers of by) s 0 (some_out o) later answers = subst (λ (x : StateAndGone (Option T) (Option ℕ)). JobEnds (with_reclaimers of by) s 0 x later answers) is ends in
+    let slot : waiting.slot_at (some_state o.0) s ≡ some_slot (waiting.slot_at o.0 s) = slot_same o.0 s in
+    let used : true ≡ not (is_free (waiting.slot_at (some_state o.0) s).kind) =
+    sym (ap (λ (k : machine.Slot). k.used) (there d.base s (record { used = true; batch = d.batch; call = None }) d.within)) ∙ (d.near.slot s).used in (
+      not_free (is_free (waiting.slot_at o.0 s).kind) (used ∙ ap (λ (k : waiting.Slot (Option T) (Option ℕ)). not (is_free k.kind)) slot),
+      ap (λ (k : waiting.Slot (Option T) (Option ℕ)). waiting.has_guard k) (sym slot) ∙ ap (λ (n : ℕ). not (n == 0)) d.same_guards,
+    )
+  where
+    not_free : (b : Bool) → true ≡ not b → b ≡ false
+    not_free true e = absurd (cc)
+    not_free false e = refl
+
+-- no such call is refused
+
+pub guarded : {T : Type 0} (st : waiting.State T ℕ) (s : ℕ) → is_free (waiting.slot_at st s).kind ≡ false → waiting.has_guard (waiting.slot_at st s) ≡ true → no_guard st s ≡ None
+guarded st s used active = λ i. first_refusal (if used i then Some NotInUse else None) (if active i then None else Some NotActive)
+
+pub not_refused : {T : Type 0} (st : waiting.State T ℕ) (refusal : Option Refusal) (o : StateAndGone T ℕ) → refusal ≡ None → unless {A = Unit {0}} refusal st (Ok tt, o) ≡ (Ok tt, o)
+not_refused {T} st refusal o none = ap (λ (r : Option Refusal). unless {A = Unit {0}} r st (Ok tt, o)) none
+
+pub answered : {T : Type 0} (c : Coded T) (had' : Had) (pass' : Pass) (o : StateAndGone T ℕ) (told : Response (Unit {0}) T ℕ) → told ≡ (Ok tt, o) → HoldsThen c.code o had' pass' → (told.0 ≡ Ok tt) × HoldsThen c.code told.1 had' pass'
+answered {T} c had' pass' o told is held = (ap (λ (r : Response (Unit {0}) T ℕ). r.0) is, subst (λ (r : Response (Unit {0}) T ℕ). HoldsThen c.code r.1 had' pass') (sym is) held)
+
+module _ {T : Type 0} (c : Coded T) (puts : ℕ → T → List T) (weight : T → ℕ) (lighter : Lighter puts weight) where
+  some_lighter_so : Lighter (puts_some puts) (weight_some weight)
+  some_lighter_so = some_lighter puts weight lighter
+
+  further_some : (s : ℕ) (o : StateAndGone T ℕ) → with_further (puts_some puts) (weight_some weight) s (some_out o) ≡ some_out (with_further puts weight s o)
+  further_some s o = with_further_same puts (puts_some puts) (λ r v. refl) weight (weight_some weight) (λ v. refl) s o
+
+  pub retires_held : RetiresHeld c puts weight
+  retires_held st names kinds v kind x retired key pass keys key' pass' keys' had' r a lent used =
+      let s = slot_number key in let w : Whole pass pass' s (RetireJob v) (kind ∷ []) [] had' = retired_whole r in
+      let own : List (ℕ × T) = (v, x) ∷ [] in let own_kinds : List (ℕ × ℕ) = (v, kind) ∷ [] in
+      let own_lent : AreLent c.code own = (lent, tt) in let own_told : AreOfKinds pass'.seen own_kinds = (begin_said w v kind (inl (refl, refl)), tt) in
+      let named = found_lent c _ (lent_then c puts st names kinds w a own own_lent own_kinds own_told) v x lent (own_there c puts st names kinds w a own own_lent own_kinds own_told v (has_first (v, x) [])) in
+      let of_kind = found_told pass'.name pass'.seen a.distinct a.legal _ (told_then c puts st names kinds w a own own_lent own_kinds own_told) v kind own_told.0 (own_kinds_there c puts st names kinds w a own own_lent own_kinds own_told v (has_first (v, kind) [])) in
+      let o = with_further puts weight s (put st s (x, kind)) in
+      answered c had' pass' o (retire puts weight st s x kind) (not_refused st (unused st s) o (λ i. if used i then Some NotInUse else None))
+      (held_then c puts st names kinds w a own own_lent own_kinds own_told _ o _ (ap (with_further (puts_some puts) (weight_some weight) s) (put_same st s (x, kind)) ∙ further_some s (put st s (x, kind)))
+      (retire_job_list (puts_some puts) (weight_some weight) some_lighter_so _ _ (some_state st) _ s v (Some x) (Some kind) (events_made (all_made w)) (answers_made (all_made w)) _
+      (near_before c puts st names kinds w a own own_lent own_kinds own_told) (some_used st s used) named (whole_job w) (legal c puts st names kinds w a own own_lent own_kinds own_told) of_kind (put_so c puts st names kinds w a own own_lent own_kinds own_told)))
+
+  pub flushes_held : FlushesHeld c puts weight
+  flushes_held st names kinds retired key pass keys key' pass' keys' had' r a used active =
+      let s = slot_number key in let w : Whole pass pass' s FlushJob [] [] had' = flushed_whole r in
+      let o = with_further puts weight s (attempt st s) in
+      answered c had' pass' o (flush puts weight st s) (not_refused st (no_guard st s) o (guarded st s used active))
+      (held_then c puts st names kinds w a [] tt [] tt _ o _ (ap (with_further (puts_some puts) (weight_some weight) s) (attempt_same st s) ∙ further_some s (attempt st s))
+      (flush_job_list (puts_some puts) (weight_some weight) some_lighter_so _ _ (some_state st) _ s (events_made (all_made w)) (answers_made (all_made w)) _
+      (near_before c puts st names kinds w a [] tt [] tt) (some_used st s used) (some_active st s active) (whole_job w) (legal c puts st names kinds w a [] tt [] tt) (put_so c puts st names kinds w a [] tt [] tt)))
+
+  pub parts_held : PartsHeld c puts weight
+  parts_held st names kinds key pass keys key' pass' keys' had' r a used guards =
+      let s = slot_number key in let w : Whole pass pass' s LeaveJob [] [] had' = left_whole r (refl, refl) in
+      let active : waiting.has_guard (waiting.slot_at st s) ≡ true = ap (λ (n : ℕ). not (n == 0)) guards in
+      let o = with_further puts weight s (part (set_guards st s 0) s) in
+      let less : one_guard_less st s ≡ part (set_guards st s 0) s = ap (λ (n : ℕ). if n == 1 then part (set_guards st s 0) s else (set_guards st s (n - 1), [])) guards in
+      let same : with_further (puts_some puts) (weight_some weight) s (part (set_guards (some_state st) s 0) s) ≡ some_out o =
+      ap (λ (now : waiting.State (Option T) (Option ℕ)). with_further (puts_some puts) (weight_some weight) s (part now s)) (guards_same st s 0) ∙ ap (with_further (puts_some puts) (weight_some weight) s) (part_same (set_guards st s 0) s) ∙ further_some s (part (set_guards st s 0) s) in
+      let ends = leave_job_list (puts_some puts) (weight_some weight) some_lighter_so _ _ (some_state st) _ s (events_made (all_made w)) (answers_made (all_made w)) _
+      (near_before c puts st names kinds w a [] tt [] tt) (some_used st s used) (some_active st s active) (whole_job w) (legal c puts st names kinds w a [] tt [] tt) (put_so c puts st names kinds w a [] tt [] tt) in
+      let rests : Rested o.0 s = rested o _ same _ _ s _ _ ends in
+      subst (λ (now : StateAndGone T ℕ). HoldsThen c.code now had' pass' × (is_free (waiting.slot_at now.0 s).kind ≡ false) × (waiting.has_guard (waiting.slot_at now.0 s) ≡ false)) (ap (with_further puts weight s) (sym less))
+      (held_then c puts st names kinds w a [] tt [] tt _ o _ same ends, rests.0, rests.1)
+
+  pub leaves_held : LeavesHeld c puts weight
+  leaves_held st names kinds key pass keys key' pass' keys' had' r a kind guards =
+      let s = slot_number key in let used : is_free (waiting.slot_at st s).kind ≡ false = ap is_free kind in
+      let o = with_further puts weight s (one_guard_less st s) in
+      answered c had' pass' o (leave puts weight st s)
+      (not_refused st (no_guard st s) (with_number_free_if (is_owned (waiting.slot_at st s).kind) s o) (guarded st s used (ap (λ (n : ℕ). not (n == 0)) guards)) ∙ ap (λ (k : Kind). (Ok tt, with_number_free_if (is_owned k) s o)) kind)
+      (parts_held st names kinds key pass keys key' pass' keys' had' r a used guards).0
+
+  pub refreshes_held : RefreshesHeld c puts weight
+  refreshes_held st names kinds life key pass keys key' pass' keys' had' r a used active parts =
+      let s = slot_number key in let w : Whole pass pass' s RefreshJob [] [] had' = left_whole r (refl, refl) in
+      let o = with_further puts weight s (part st s) in
+      answered c had' pass' o (refresh puts weight st s)
+      (not_refused st (no_guard st s) (with_further puts weight s (part_if_alone st s)) (guarded st s used active) ∙ ap (λ (b : Bool). (Ok tt, with_further puts weight s (if b then part st s else (st, [])))) parts)
+      (held_then c puts st names kinds w a [] tt [] tt _ o _ (ap (with_further (puts_some puts) (weight_some weight) s) (part_same st s) ∙ further_some s (part st s))
+      (refresh_job_list (puts_some puts) (weight_some weight) some_lighter_so _ _ (some_state st) _ s (events_made (all_made w)) (answers_made (all_made w)) _
+      (near_before c puts st names kinds w a [] tt [] tt) (some_used st s used) (some_active st s active) (whole_job w) (legal c puts st names kinds w a [] tt [] tt) (put_so c puts st names kinds w a [] tt [] tt)))

@@ -1,0 +1,136 @@
+-- What callers of the laws know: which events are made alone, the pass that is ready for a call, and what the model's calls answer where
+-- these laws speak of their states.
+--     entry_alone, made_alone      an event that a slot's holder added;  the number of a slot that was just made is taken
+--     read_alone, swapped_alone    a link was read, or exchanged
+--     ready_holds, ready_sole      the pass that was made ready for a call has seen what it had seen, where it is alone
+--     entered, ended, kept, protected, exchanged, left_beside, refreshed_beside, taken     what the model's calls answer
+use Rattle.std.proofs.Common.{◌≡◌, ℕ, ◌==◌, ◌||◌, ◌+◌, ◌-◌, ◌^◌, ◌≤◌, Bool, true, false, not, ◌&&◌, if◌then◌else◌, List, [], length, set, Option, Some, None, refl, sym, ap, subst, ◌∙◌, arith}
+use Rattle.std.specs.Prelude.{Err, Ok}
+use base.Stored.{Coded}
+use Rattle.seize_table.specs.Place.{all_numbers}
+use Rattle.seize_table.specs.declared.refusal.Refusal.{Refusal}
+use Rattle.seize_table.specs.declared.refusal.Refusal.TheVariants.{NoNumbers, NotInUse, TooManyGuards, WrongKind}
+use Rattle.seize_machine.specs.Machine.State as machine
+use Rattle.seize_machine.specs.Machine.Event.{Event, ExchangeLink, ReadLink, Take}
+use Rattle.seize_machine.specs.Machine.Next.{can_link, is_none_or_fresh}
+use Rattle.seize_machine.specs.declared.machine.event.Answer.{Answer}
+use Rattle.seize_machine.specs.declared.machine.event.Answer.TheVariants.{Link}
+use Rattle.seize_machine.specs.declared.machine.event.Exchange.TheVariants.{Swap}
+use Rattle.seize_machine.proofs.Facts.{if_some, swapped}
+use Rattle.seize_model.specs.declared.kind.Kind.{Kind}
+use Rattle.seize_model.specs.declared.kind.Kind.TheVariants.{Registered}
+use Rattle.seize_model.specs.Waiting.State as waiting
+use Rattle.seize_model.specs.Waiting.Attempt.{StateAndGone, part}
+use Rattle.seize_model.specs.Waiting.Calls.{Response, end_slot, enter, first_refusal, is_free, is_owned, leave, least_unused, link_at, not_registered, one_guard_less, part_if_alone, protect, refresh, set_guards, swap, take_number, unless, with_number_free, with_number_free_if, with_number_in_use}
+use Rattle.seize_model.specs.Waiting.Further.{with_further}
+use Rattle.seize_model.proofs.Simulation.Jobs.{settled_nothing}
+use Rattle.seize_model.proofs.Simulation.Numbers.{slot_taken}
+use Rattle.seize_model.proofs.Simulation.Plays.{both_same}
+use Rattle.seize_book.specs.Adding.{private}
+use Rattle.seize_book.specs.Book.{after}
+use Rattle.seize_book.specs.Entry.{Deed, Entry}
+use Rattle.seize_book.specs.Slots.{AddsDeed, slot_number}
+use Rattle.seize_book.specs.Tokens.{IsSole, Name, start}
+use Rattle.seize_book.specs.declared.book.numbers_key.NumbersKey.{NumbersKey}
+use Rattle.seize_book.specs.declared.book.pass.Pass.{Pass}
+use Rattle.seize_book.specs.declared.book.slot_key.SlotKey.{SlotKey}
+use Rattle.seize_words.specs.LinkWords.{ActsOnLink}
+use Rattle.seize_words.specs.Totals.{MakesSlot}
+use Rattle.seize_words.specs.declared.activation.Activation.{Activation}
+use Rattle.seize_words.specs.declared.link.Link.{Link as SharedLink}
+use Rattle.seize_calls.specs.Slots.{Prepares}
+use Rattle.seize_calls.specs.declared.slot.Slot.{Slot}
+use Rattle.seize_alone.specs.Events.{MakesAlone}
+use Rattle.seize_alone.specs.Holding.{Holds}
+use Rattle.seize_alone.proofs.Held.{guarded}
+
+-- Which events are made alone.
+
+pub entry_alone : {key key' : SlotKey} {pass pass' : Pass} {d : Deed} → IsSole pass.id → (adds : AddsDeed key pass key' pass' d) → MakesAlone pass pass' d.event adds.2.0.answer
+entry_alone {key} {key'} {pass} {pass'} {d} sole adds = record { sole = sole; same = adds.0; deed = d; is = refl; noted = adds.2.0; answers = refl }
+
+pub made_alone : {numbers numbers' : NumbersKey} {key key' : SlotKey} {pass pass' : Pass} → IsSole pass.id → (makes : MakesSlot numbers key pass numbers' key' pass') → MakesAlone pass pass' (Take (slot_number key)) makes.noted.answer
+made_alone {numbers} {numbers'} {key} {key'} {pass} {pass'} sole makes = record { sole = sole; same = makes.same; deed = private pass (Take (slot_number key)); is = refl; noted = makes.noted; answers = refl }
+
+-- on a link
+module _ {link : SharedLink} {a : Activation} {pass pass' : Pass} {event : Event} {v : ℕ} (sole : IsSole pass.id) (t : ActsOnLink link a pass pass' (λ _. event) v) where
+  on_link : (answer : Answer) → t.noted.answer ≡ answer → MakesAlone pass pass' event answer
+  on_link answer is = record { sole = sole; same = t.same; deed = private pass event; is = refl; noted = t.noted; answers = is }
+
+pub read_alone : {link : SharedLink} {a : Activation} {pass pass' : Pass} {s l v : ℕ} → IsSole pass.id → (t : ActsOnLink link a pass pass' (λ _. ReadLink s l) v) → MakesAlone pass pass' (ReadLink s l) (Link (machine.link_at (after (start pass.name) t.before) l))
+read_alone {link} {a} {pass} {pass'} {s} {l} {v} sole t =
+    let before = after (start pass.name) t.noted.before in
+    let done = if_some (can_link before s l) (before, Link (machine.link_at before l)) (t.noted.later, t.noted.answer) t.noted.does in
+    let ends = both_same (before, Link (machine.link_at before l)) (t.noted.later, t.noted.answer) (ap Some done.1) in
+    on_link sole t (Link (machine.link_at (after (start pass.name) t.before) l)) (sym ends.1 ∙ ap (λ (log : List Entry). Link (machine.link_at (after (start pass.name) log) l)) t.is_before)
+
+pub swapped_alone : {link : SharedLink} {a : Activation} {pass pass' : Pass} {s l v : ℕ} {number : Option ℕ} → IsSole pass.id → (t : ActsOnLink link a pass pass' (λ _. ExchangeLink s l (Swap number)) v)
+    → MakesAlone pass pass' (ExchangeLink s l (Swap number)) (Link (machine.link_at (after (start pass.name) t.before) l))
+swapped_alone {link} {a} {pass} {pass'} {s} {l} {v} {number} sole t =
+    let before = after (start pass.name) t.noted.before in
+    let done = if_some (can_link before s l && is_none_or_fresh before number) (swapped before l number, Link (machine.link_at before l)) (t.noted.later, t.noted.answer) t.noted.does in
+    let ends = both_same (swapped before l number, Link (machine.link_at before l)) (t.noted.later, t.noted.answer) (ap Some done.1) in
+    on_link sole t (Link (machine.link_at (after (start pass.name) t.before) l)) (sym ends.1 ∙ ap (λ (log : List Entry). Link (machine.link_at (after (start pass.name) log) l)) t.is_before)
+
+-- The pass that was made ready.
+
+pub ready_sole : {U : Type 0} {slot : Slot U} {pass ready : Pass} → Prepares slot pass ready → IsSole pass.id → IsSole ready.id
+ready_sole prepares sole = subst IsSole (sym prepares.same.1) sole
+
+pub ready_holds : {T U : Type 0} {slot : Slot U} {pass ready : Pass} → Prepares slot pass ready → IsSole pass.id → (c : Coded T) (st : waiting.State T ℕ) (names : List (ℕ × T)) (kinds : List (ℕ × ℕ)) → Holds c.code st names kinds pass.name pass.seen
+    → Holds c.code st names kinds ready.name ready.seen
+ready_holds prepares sole c st names kinds holds = subst (λ (t : Name × List Entry). Holds c.code st names kinds t.0 t.1) (λ i. (sym prepares.same.0 i, sym (prepares.alone sole) i)) holds
+
+-- What the model's calls answer.
+
+module _ {T : Type 0} (st : waiting.State T ℕ) (s : ℕ) where
+  registered : (waiting.slot_at st s).kind ≡ Registered → not_registered st s ≡ None
+  registered kind = λ i. first_refusal (if is_free (kind i) then Some NotInUse else None) (if is_owned (kind i) then Some WrongKind else None)
+
+  pub entered : (waiting.slot_at st s).kind ≡ Registered → ((waiting.slot_at st s).guards == 2 ^ 64 - 1) ≡ false → enter st s ≡ (Ok tt, (set_guards st s ((waiting.slot_at st s).guards + 1), []))
+  entered kind few = λ i. unless (first_refusal (registered kind i) (if few i then Some TooManyGuards else None)) st (Ok tt, (set_guards st s ((waiting.slot_at st s).guards + 1), []))
+
+  pub ended : (waiting.slot_at st s).kind ≡ Registered → waiting.has_guard (waiting.slot_at st s) ≡ false → end_slot st s ≡ (Ok true, (with_number_free st s, []))
+  ended kind off = λ i. unless (registered kind i) st (if off i then (Ok false, (st, [])) else (Ok true, (with_number_free st s, [])))
+
+  -- a guard keeps the number
+  pub kept : (waiting.slot_at st s).kind ≡ Registered → waiting.has_guard (waiting.slot_at st s) ≡ true → end_slot st s ≡ (Ok false, (st, []))
+  kept kind on = λ i. unless (registered kind i) st (if on i then (Ok false, (st, [])) else (Ok true, (with_number_free st s, [])))
+
+  pub protected : (l : ℕ) → is_free (waiting.slot_at st s).kind ≡ false → waiting.has_guard (waiting.slot_at st s) ≡ true → protect st s l ≡ (Ok (link_at st l), (st, []))
+  protected l used on = ap (λ (r : Option Refusal). unless r st (Ok (link_at st l), (st, []))) (guarded st s used on)
+
+  pub exchanged : (l : ℕ) (new : Option T) → is_free (waiting.slot_at st s).kind ≡ false → waiting.has_guard (waiting.slot_at st s) ≡ true → swap st s l new ≡ (Ok (link_at st l), (record st { links = set st.links l new }, []))
+  exchanged l new used on = ap (λ (r : Option Refusal). unless r st (Ok (link_at st l), (record st { links = set st.links l new }, []))) (guarded st s used on)
+
+  module _ (puts : ℕ → T → List T) (weight : T → ℕ) where
+    some_guards : (n : ℕ) → 2 ≤ n → (n == 1) ≡ false
+    some_guards n many = grind arith
+
+    has_some : (n : ℕ) → 2 ≤ n → not (n == 0) ≡ true
+    has_some n many = grind arith
+
+    -- with guards besides
+    pub left_beside : (waiting.slot_at st s).kind ≡ Registered → 2 ≤ (waiting.slot_at st s).guards → leave puts weight st s ≡ (Ok tt, (set_guards st s ((waiting.slot_at st s).guards - 1), []))
+    left_beside kind many =
+        let less : one_guard_less st s ≡ (set_guards st s ((waiting.slot_at st s).guards - 1), []) =
+        ap (λ (b : Bool). if b then part (set_guards st s 0) s else (set_guards st s ((waiting.slot_at st s).guards - 1), [])) (some_guards (waiting.slot_at st s).guards many) in
+        ap (λ (r : Option Refusal). unless r st (Ok tt, with_number_free_if (is_owned (waiting.slot_at st s).kind) s (with_further puts weight s (one_guard_less st s)))) (guarded st s (ap is_free kind) (has_some (waiting.slot_at st s).guards many))
+        ∙ ap (λ (k : Kind). (Ok tt, with_number_free_if (is_owned k) s (with_further puts weight s (one_guard_less st s)))) kind
+        ∙ ap (λ (o : StateAndGone T ℕ). (Ok tt, with_further puts weight s o)) less ∙ ap (λ (o : StateAndGone T ℕ). (Ok tt, o)) (settled_nothing puts weight (set_guards st s ((waiting.slot_at st s).guards - 1)) s)
+
+    pub refreshed_beside : (waiting.slot_at st s).kind ≡ Registered → 2 ≤ (waiting.slot_at st s).guards → refresh puts weight st s ≡ (Ok tt, (st, []))
+    refreshed_beside kind many =
+        ap (λ (r : Option Refusal). unless r st (Ok tt, with_further puts weight s (part_if_alone st s))) (guarded st s (ap is_free kind) (has_some (waiting.slot_at st s).guards many))
+        ∙ (λ i. (Ok tt, with_further puts weight s (if is_owned (kind i) || some_guards (waiting.slot_at st s).guards many i then part st s else (st, []))))
+        ∙ ap (λ (o : StateAndGone T ℕ). (Ok tt, o)) (settled_nothing puts weight st s)
+
+pub taken : {T : Type 0} (st : waiting.State T ℕ) (n : ℕ) (kind : Kind) (guards : ℕ) → n ≡ least_unused st.slots → (n == all_numbers) ≡ false → take_number st kind guards ≡ (Ok n, (with_number_in_use st n kind guards, []))
+taken {T} st n kind guards least few =
+    let said : ℕ → Bool → Response ℕ T ℕ = λ k b. if b then (Err NoNumbers, (st, [])) else (Ok k, (with_number_in_use st k kind guards, [])) in
+    ap (λ (k : ℕ). said k (k == all_numbers)) (sym least) ∙ ap (said n) few
+
+-- the slot whose number was taken, before it enters
+pub taken_slot : {T : Type 0} (st : waiting.State T ℕ) (n : ℕ) (kind : Kind) → n ≡ least_unused st.slots
+    → ((waiting.slot_at (with_number_in_use st n kind 0) n).kind ≡ kind) × (waiting.has_guard (waiting.slot_at (with_number_in_use st n kind 0) n) ≡ false) × (set_guards (with_number_in_use st n kind 0) n 1 ≡ with_number_in_use st n kind 1)
+taken_slot st n kind least = let own = slot_taken st n kind (n == length st.slots) least refl in (own.0, ap (λ (k : ℕ). not (k == 0)) own.1, own.2)

@@ -1,0 +1,220 @@
+-- Single events that are made alone lead the hands from the state that they hold to the state that the model says.
+use Rattle.std.proofs.Common.{◌≡◌, ℕ, zero, suc, ◌==◌, ◌&&◌, true, false, not, List, [], ◌∷◌, ◌++◌, map, set, Option, Some, None, option_map, replicate, refl, sym, ap, subst, ◌∙◌, append-nil, arith}
+use Rattle.std.specs.Prelude.{Ok}
+use mathlib.Core.List.{IsPrefix}
+use base.Stored.{Coded}
+use Rattle.seize_machine.specs.Machine.State as machine
+use Rattle.seize_machine.specs.Machine.Event.{Event}
+use Rattle.seize_machine.specs.Machine.Next.{can_link, is_none_or_fresh, next}
+use Rattle.seize_machine.specs.declared.machine.event.Answer.{Answer}
+use Rattle.seize_machine.specs.declared.machine.event.Answer.TheVariants.{Done, Link}
+use Rattle.seize_machine.proofs.Facts.{if_some, swapped}
+use Rattle.seize_model.specs.declared.kind.Kind.{Kind}
+use Rattle.seize_model.specs.Waiting.State as waiting
+use Rattle.seize_model.specs.Waiting.Calls.{is_free, is_owned, leave, link_at, one_guard_less, set_guards, with_number_free, with_number_free_if, with_number_in_use}
+use Rattle.seize_model.specs.Waiting.Further.{Lighter, with_further}
+use Rattle.seize_model.specs.Agreement.Shows.{ShowsReclaimers, ShowsState, held_value}
+use Rattle.seize_model.proofs.Simulation.Coupling.{NearAt}
+use Rattle.seize_model.proofs.Simulation.Guards.{enter_step, near_entered, near_guards}
+use Rattle.seize_model.proofs.Simulation.Links.{end_near, end_step, same_link, swapped_near}
+use Rattle.seize_model.proofs.Simulation.Numbers.{take_ends}
+use Rattle.seize_model.proofs.Simulation.Openings.{new_shown}
+use Rattle.seize_model.proofs.Simulation.Plays.{both_same}
+use Rattle.seize_model.proofs.Simulation.Views.{near_with, shows_with, with_reclaimers}
+use Rattle.seize_book.specs.Book.{after}
+use Rattle.seize_book.specs.Entry.{Entry, Made}
+use Rattle.seize_book.specs.Slots.{slot_number}
+use Rattle.seize_book.specs.Tokens.{Name, start}
+use Rattle.seize_book.specs.declared.book.pass.Pass.{Pass}
+use Rattle.seize_alone.specs.Events.{EntersHeld, GivesHeld, GuardsHeld, IsHeldAs, MakesAlone, OpensHeld, OwnedLeavesHeld, ReadsHeld, SwapsHeld, TakesHeld}
+use Rattle.seize_alone.specs.Holding.{AreLent, AreOfKinds, Holds, found, some_state}
+use Rattle.seize_alone.proofs.Found.{all_later, found_lent, has_first, has_right, lent_append, lent_found, one_lent, reclaimers_on, same_some, shows_on}
+use Rattle.seize_alone.proofs.Held.{answered, guarded, not_refused, parts_held, some_active, some_used}
+use Rattle.seize_alone.proofs.Mapped.{free_same, guards_same, least_same, link_same, slot_same, swap_same, use_same}
+
+-- What the event did.
+
+module _ {pass pass' : Pass} {event : Event} {answer : Answer} (m : MakesAlone pass pass' event answer) where
+  abbrev pub state_before : machine.State
+  state_before = after (start pass.name) pass.seen
+
+  abbrev pub state_then : machine.State
+  state_then = after (start pass'.name) pass'.seen
+
+  pub made_next : next m.deed.size state_before event ≡ Some (state_then, answer)
+  made_next =
+      (λ i. next m.deed.size (after (start pass.name) (sym (m.noted.alone m.sole) i)) (sym m.is i)) ∙ m.noted.does
+      ∙ (λ i. Some ((sym m.noted.leads ∙ ap (λ (n : Name). after (start n) pass'.seen) (sym m.same.0)) i, m.answers i))
+
+  pub made_grows : IsPrefix pass.seen pass'.seen
+  made_grows = (Made m.deed ∷ [], ap (λ (log : List Entry). log ++ Made m.deed ∷ []) (sym (m.noted.alone m.sole)) ∙ sym m.noted.appended)
+
+module _ {T : Type 0} (c : Coded T) where
+  abbrev NearHands : List (ℕ × T) → List (ℕ × ℕ) → waiting.State T ℕ → machine.State → Type 0
+  NearHands names kinds st ms = NearAt (with_reclaimers (found names) (found kinds)) [] (some_state st) ms
+
+  pub near_of : (st : waiting.State T ℕ) (names : List (ℕ × T)) (kinds : List (ℕ × ℕ)) (n : Name) (seen : List Entry) → Holds c.code st names kinds n seen → NearHands names kinds st (after (start n) seen)
+  near_of st names kinds n seen holds = near_with (found names) (found kinds) (some_state st) (after (start n) seen) holds.shows holds.reclaimers
+
+  pub held_of : (st : waiting.State T ℕ) (names : List (ℕ × T)) (kinds : List (ℕ × ℕ)) (n : Name) (seen : List Entry) → AreLent c.code names → AreOfKinds seen kinds → NearHands names kinds st (after (start n) seen) → Holds c.code st names kinds n seen
+  held_of st names kinds n seen lent told near =
+      let both : ShowsState (Option T) (Option ℕ) (found names) (some_state st) (after (start n) seen) × ShowsReclaimers (Option T) (Option ℕ) (found names) (found kinds) (some_state st) (after (start n) seen) =
+      shows_with (found names) (found kinds) (some_state st) (after (start n) seen) near in
+      record { shows = both.0; reclaimers = both.1; lent = lent; told = told }
+
+  -- the hands hold another state by the same names and kinds
+  held_made : {pass pass' : Pass} {event : Event} {answer : Answer} (m : MakesAlone pass pass' event answer) (st now : waiting.State T ℕ) (now' : waiting.State (Option T) (Option ℕ)) (names : List (ℕ × T)) (kinds : List (ℕ × ℕ)) → Holds c.code st names kinds pass.name pass.seen → now' ≡ some_state now
+      → NearAt (with_reclaimers (found names) (found kinds)) [] now' (state_then m) → Holds c.code now names kinds pass'.name pass'.seen
+  held_made {pass} {pass'} m st now now' names kinds holds is near =
+      held_of now names kinds pass'.name pass'.seen holds.lent (all_later pass.seen pass'.seen (made_grows m) kinds holds.told)
+      (subst (λ (x : waiting.State (Option T) (Option ℕ)). NearAt (with_reclaimers (found names) (found kinds)) [] x (state_then m)) is near)
+
+  -- A book just opened.
+
+  all_empty : (links : ℕ) → map (λ (o : Option T). option_map Some o) (replicate links None) ≡ replicate links None
+  all_empty zero = refl
+  all_empty (suc links) = ap (λ (l : List (Option (Option T))). None ∷ l) (all_empty links)
+
+  pub opens_held : OpensHeld c.code
+  opens_held n size links slots empty =
+      let started : start n ≡ machine.opening 0 (replicate links None) = λ i. machine.opening (slots i) (empty i) in
+      let model : some_state (waiting.new {T = T} {R = ℕ} size links) ≡ waiting.new size links = ap (λ (l : List (Option (Option T))). record (waiting.new {T = Option T} {R = Option ℕ} size links) { links = l }) (all_empty links) in
+      record {
+        shows = subst (λ (k : machine.State). ShowsState (Option T) (Option ℕ) (found []) (some_state (waiting.new {T = T} {R = ℕ} size links)) k) (sym started)
+            (subst (λ (x : waiting.State (Option T) (Option ℕ)). ShowsState (Option T) (Option ℕ) (found []) x (machine.opening 0 (replicate links None))) (sym model) (new_shown (found []) size links));
+        reclaimers = subst (λ (k : machine.State). ShowsReclaimers (Option T) (Option ℕ) (found []) (found []) (some_state (waiting.new {T = T} {R = ℕ} size links)) k) (sym started) (record { batches = λ s. refl; retired = λ b. refl });
+        lent = tt;
+        told = tt;
+      }
+
+  some_inactive : (st : waiting.State T ℕ) (s : ℕ) → waiting.has_guard (waiting.slot_at st s) ≡ false → waiting.has_guard (waiting.slot_at (some_state st) s) ≡ false
+  some_inactive st s off = ap (λ (slot : waiting.Slot (Option T) (Option ℕ)). waiting.has_guard slot) (slot_same st s) ∙ off
+
+  -- Enter, give, take.
+
+  pub enters_held : EntersHeld c.code
+  enters_held st names kinds s answer pass pass' m holds used off =
+      let near = near_of st names kinds pass.name pass.seen holds in
+      let ends = both_same (state_then m, answer) (_, Done) (sym (made_next m) ∙ enter_step (with_reclaimers (found names) (found kinds)) m.deed.size (some_state st) (state_before m) s near (some_used st s used) (some_inactive st s off)) in
+      held_made m st (set_guards st s 1) _ names kinds holds (guards_same st s 1)
+      (subst (λ (k : machine.State). NearAt (with_reclaimers (found names) (found kinds)) [] (set_guards (some_state st) s 1) k) (sym ends.0)
+      (near_entered (with_reclaimers (found names) (found kinds)) (some_state st) (state_before m) s 1 near (some_used st s used) (some_inactive st s off) (omega arith) (λ owned. omega arith)))
+
+  pub gives_held : GivesHeld c.code
+  gives_held st names kinds s answer pass pass' m holds used off =
+      let near = near_of st names kinds pass.name pass.seen holds in
+      let ends = both_same (state_then m, answer) (_, Done) (sym (made_next m) ∙ end_step (with_reclaimers (found names) (found kinds)) (some_state st) (state_before m) s near (some_used st s used) (some_inactive st s off)) in
+      held_made m st (with_number_free st s) _ names kinds holds (free_same st s)
+      (subst (λ (k : machine.State). NearAt (with_reclaimers (found names) (found kinds)) [] (with_number_free (some_state st) s) k) (sym ends.0)
+      (end_near (with_reclaimers (found names) (found kinds)) (some_state st) (state_before m) s near (some_used st s used) (some_inactive st s off)))
+
+  pub takes_held : TakesHeld c.code
+  takes_held st names kinds n kind answer pass pass' m holds used =
+      let near = near_of st names kinds pass.name pass.seen holds in
+      let ends = take_ends (with_reclaimers (found names) (found kinds)) m.deed.size (some_state st) (state_before m) (state_then m) n answer kind near (made_next m) used in
+      (ends.0 ∙ least_same st.slots, ends.1, held_made m st (with_number_in_use st n kind 0) _ names kinds holds (use_same st n kind 0) ends.2)
+
+  -- Guards beside others.
+
+  pub guards_held : GuardsHeld c.code
+  guards_held st names kinds s guards pass holds kind active some =
+      let owned : is_owned (waiting.slot_at (some_state st) s).kind ≡ false = ap (λ (slot : waiting.Slot (Option T) (Option ℕ)). is_owned slot.kind) (slot_same st s) ∙ ap is_owned kind in
+      held_of (set_guards st s guards) names kinds pass.name pass.seen holds.lent holds.told
+      (subst (λ (x : waiting.State (Option T) (Option ℕ)). NearAt (with_reclaimers (found names) (found kinds)) [] x (after (start pass.name) pass.seen)) (guards_same st s guards)
+      (near_guards (with_reclaimers (found names) (found kinds)) (some_state st) (after (start pass.name) pass.seen) s guards (near_of st names kinds pass.name pass.seen holds)
+      (some_used st s (ap is_free kind)) (some_active st s active) some (λ is. absurd (let e : true ≡ false = sym is ∙ owned in cc))))
+
+  -- Links.
+
+  -- what a link holds on both sides
+  pub link_held : (st : waiting.State T ℕ) (names : List (ℕ × T)) (kinds : List (ℕ × ℕ)) (n : Name) (seen : List Entry) (l : ℕ) → Holds c.code st names kinds n seen → IsHeldAs c.code (machine.link_at (after (start n) seen) l) (link_at st l)
+  link_held st names kinds n seen l holds =
+      held_by (machine.link_at (after (start n) seen) l) (link_at st l) (sym (link_same st l) ∙ same_link (with_reclaimers (found names) (found kinds)) (some_state st) (after (start n) seen) l (near_of st names kinds n seen holds))
+    where
+      held_by : (o : Option ℕ) (value : Option T) → option_map Some value ≡ held_value (found names) o → IsHeldAs c.code o value
+      held_by None None is = tt
+      held_by None (Some x) is = absurd (cc)
+      held_by (Some v) None is = absurd (cc)
+      held_by (Some v) (Some x) is = lent_found c names holds.lent v x (sym (same_some (Some x) (found names v) is))
+
+  same_answer : (o o' : Option ℕ) → Link o ≡ Link o' → o ≡ o'
+  same_answer o o' e = ap in_link e
+    where
+      in_link : Answer → Option ℕ
+      in_link (Link x) = x
+      in_link _ = None
+
+  pub reads_held : ReadsHeld c.code
+  reads_held st names kinds s l o pass pass' m holds =
+      let near = near_of st names kinds pass.name pass.seen holds in
+      let done = if_some (can_link (state_before m) s l) (state_before m, Link (machine.link_at (state_before m) l)) (state_then m, Link o) (made_next m) in
+      let ends = both_same (state_before m, Link (machine.link_at (state_before m) l)) (state_then m, Link o) (ap Some done.1) in (
+        held_made m st st _ names kinds holds refl (subst (λ (k : machine.State). NearHands names kinds st k) ends.0 near),
+        subst (λ (x : Option ℕ). IsHeldAs c.code x (link_at st l)) (same_answer (machine.link_at (state_before m) l) o ends.1) (link_held st names kinds pass.name pass.seen l holds),
+      )
+
+  -- what the link holds then has its name
+  abbrev new_names : Option ℕ → Option T → List (ℕ × T)
+  new_names (Some v) (Some x) = (v, x) ∷ []
+  new_names _ _ = []
+
+  pub swaps_held : SwapsHeld c.code
+  swaps_held st names kinds s l number o new pass pass' m holds held = (
+    (names ++ more, record { shows = both.0; reclaimers = both.1; lent = lent_then; told = all_later pass.seen pass'.seen (made_grows m) kinds holds.told }),
+    subst (λ (x : Option ℕ). IsHeldAs c.code x (link_at st l)) (same_answer (machine.link_at (state_before m) l) o ends.1) (link_held st names kinds pass.name pass.seen l holds),
+  )
+    where
+      more : List (ℕ × T)
+      more = new_names number new
+
+      lent_more : (n : Option ℕ) (x : Option T) → IsHeldAs c.code n x → AreLent c.code (new_names n x)
+      lent_more None None is = tt
+      lent_more None (Some x) is = absurd is
+      lent_more (Some v) None is = absurd is
+      lent_more (Some v) (Some x) is = (is, tt)
+
+      lent_then : AreLent c.code (names ++ more)
+      lent_then = lent_append c names more holds.lent (lent_more number new held)
+
+      named : (n : Option ℕ) (x : Option T) → IsHeldAs c.code n x → AreLent c.code (names ++ new_names n x) → held_value (found (names ++ new_names n x)) n ≡ option_map Some x
+      named None None is lent = refl
+      named None (Some x) is lent = absurd is
+      named (Some v) None is lent = absurd is
+      named (Some v) (Some x) is lent = ap Some (found_lent c (names ++ (v, x) ∷ []) lent v x is (has_right names ((v, x) ∷ []) v (has_first (v, x) [])))
+
+      near : NearHands (names ++ more) kinds st (state_before m)
+      near = near_with (found (names ++ more)) (found kinds) (some_state st) (state_before m) (shows_on names more kinds [] st (state_before m) holds.shows)
+          (subst (λ (ks : List (ℕ × ℕ)). ShowsReclaimers (Option T) (Option ℕ) (found (names ++ more)) (found ks) (some_state st) (state_before m)) (append-nil kinds) (reclaimers_on names more kinds [] st (state_before m) holds.reclaimers))
+
+      ends : (swapped (state_before m) l number ≡ state_then m) × (Link (machine.link_at (state_before m) l) ≡ Link o)
+      ends = both_same (swapped (state_before m) l number, Link (machine.link_at (state_before m) l)) (state_then m, Link o)
+          (ap Some (if_some (can_link (state_before m) s l && is_none_or_fresh (state_before m) number) (swapped (state_before m) l number, Link (machine.link_at (state_before m) l)) (state_then m, Link o) (made_next m)).1)
+
+      near_then : NearHands (names ++ more) kinds (record st { links = set st.links l new }) (state_then m)
+      near_then = subst (λ (k : machine.State). NearHands (names ++ more) kinds (record st { links = set st.links l new }) k) ends.0
+          (subst (λ (x : waiting.State (Option T) (Option ℕ)). NearAt (with_reclaimers (found (names ++ more)) (found kinds)) [] x (swapped (state_before m) l number)) (swap_same st l new)
+          (swapped_near (with_reclaimers (found (names ++ more)) (found kinds)) (some_state st) (state_before m) l number (option_map Some new) near (named number new held lent_then)))
+
+      both : ShowsState (Option T) (Option ℕ) (found (names ++ more)) (some_state (record st { links = set st.links l new })) (state_then m) × ShowsReclaimers (Option T) (Option ℕ) (found (names ++ more)) (found kinds) (some_state (record st { links = set st.links l new })) (state_then m)
+      both = shows_with (found (names ++ more)) (found kinds) (some_state (record st { links = set st.links l new })) (state_then m) near_then
+
+  -- A number holds one value.
+
+  pub held_once : (o : Option ℕ) (x y : Option T) → IsHeldAs c.code o x → IsHeldAs c.code o y → x ≡ y
+  held_once None None None a b = refl
+  held_once None None (Some y) a b = absurd b
+  held_once None (Some x) y a b = absurd a
+  held_once (Some v) None y a b = absurd a
+  held_once (Some v) (Some x) None a b = absurd b
+  held_once (Some v) (Some x) (Some y) a b = ap Some (one_lent c v x y a b)
+
+-- An owned slot leaves, and its number goes back.
+
+pub owned_leaves_held : {T : Type 0} (c : Coded T) (puts : ℕ → T → List T) (weight : T → ℕ) → Lighter puts weight → OwnedLeavesHeld c puts weight
+owned_leaves_held {T} c puts weight lighter st names kinds answer key pass keys key' mid pass' keys' had' r a kind guards m =
+    let s = slot_number key in let used : is_free (waiting.slot_at st s).kind ≡ false = ap is_free kind in
+    let o = with_further puts weight s (one_guard_less st s) in
+    let parts = parts_held c puts weight lighter st names kinds key pass keys key' mid keys' had' r a used guards in
+    answered c had' pass' (with_number_free o.0 s, o.1) (leave puts weight st s)
+    (not_refused st _ (with_number_free_if (is_owned (waiting.slot_at st s).kind) s o) (guarded st s used (ap (λ (n : ℕ). not (n == 0)) guards)) ∙ ap (λ (k : Kind). (Ok tt, with_number_free_if (is_owned k) s o)) kind)
+    ((parts.0.0.0, parts.0.0.1, gives_held c o.0 parts.0.0.0 parts.0.0.1 s answer mid pass' m parts.0.0.2 parts.1 parts.2), parts.0.1)

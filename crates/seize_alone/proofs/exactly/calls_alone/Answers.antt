@@ -1,0 +1,13 @@
+use Rattle.seize_alone.proofs.Held.{flushes_held, leaves_held, parts_held, refreshes_held, retires_held}
+use Rattle.seize_alone.proofs.Singles.{owned_leaves_held}
+use Rattle.seize_alone.proofs.exactly.calls_alone.Goals as goal
+
+pub returns : goal.returns
+returns g c = record {
+  retire = retires_held g.row.T.coded;
+  flush = flushes_held g.row.T.coded;
+  part = parts_held g.row.T.coded;
+  leave = leaves_held g.row.T.coded;
+  leave_owned = owned_leaves_held g.row.T.coded;
+  refresh = refreshes_held g.row.T.coded;
+}

@@ -1,0 +1,83 @@
+-- Whole calls of a slot, made where its pass is alone: each is the model's. `c` is the code of values, and `puts` and `weight` say what
+-- their reclaimer puts, which weighs less.
+--     CallsAlone c puts st names kinds pass pass' had'     the pass of a call is alone, and what it has seen after it is legal; what it had
+--                         seen shows the state, whose size is that of the pass; and with what the reclaimer had since, it put as `puts` says
+--     RetiresHeld         a retirement by a slot in use, whether its batch goes or not: the answer is the model's, and so are the state and
+--                         the values gone
+--     FlushesHeld         a flush of a slot with a guard
+--     PartsHeld           a leave with the slot's last guard, before the number of an owned slot goes back: it is in use, without a guard
+--     LeavesHeld          a leave with the last guard of a registered slot
+--     RefreshesHeld       a refresh of an owned slot, or of one with one guard
+use Rattle.std.specs.Prelude.{◌≡◌, ◌||◌, ◌==◌, ℕ, Bool, true, false, List, [], Ok}
+use Rattle.std.specs.Coded.{Coded}
+use Rattle.seize_machine.specs.Machine.Event.{SwapOut}
+use Rattle.seize_machine.specs.Machine.State.{are_distinct, linked_values}
+use Rattle.seize_machine.specs.declared.machine.event.Job.TheVariants.{Leave as LeaveJob, Refresh as RefreshJob}
+use Rattle.seize_model.specs.declared.kind.Kind.TheVariants.{Registered}
+use Rattle.seize_model.specs.Waiting.State.{State, has_guard, slot_at}
+use Rattle.seize_model.specs.Waiting.Calls.{flush, is_free, is_owned, leave, one_guard_less, refresh, retire}
+use Rattle.seize_model.specs.Waiting.Further.{with_further}
+use Rattle.seize_book.specs.Adding.{private}
+use Rattle.seize_book.specs.Book.{IsLegalList}
+use Rattle.seize_book.specs.Slots.{slot_number}
+use Rattle.seize_book.specs.Tokens.{IsSole, start}
+use Rattle.seize_book.specs.declared.book.pass.Pass.{Pass}
+use Rattle.seize_book.specs.declared.book.slot_key.SlotKey.{SlotKey}
+use Rattle.seize_book.specs.declared.book.value_keys.ValueKeys.{ValueKeys}
+use Rattle.seize_words.specs.Chunks.{IsLentAs}
+use Rattle.seize_words.specs.Reservations.{beginning}
+use Rattle.seize_calls.specs.Calls.{Flushes, Leaves, RetiresOne}
+use Rattle.seize_calls.specs.Handing.{Had}
+use Rattle.seize_alone.specs.Gone.{PutAs}
+use Rattle.seize_alone.specs.Holding.{Holds, HoldsThen}
+
+pub record CallsAlone {T : Type 0} (c : Coded T) (puts : ℕ → T → List T) (st : State T ℕ) (names : List (ℕ × T)) (kinds : List (ℕ × ℕ))
+    (pass pass' : Pass) (had' : Had) : Type 0 where
+  pub sole : IsSole pass.id
+  pub legal : IsLegalList (start pass'.name) pass'.seen
+  pub distinct : are_distinct (linked_values pass'.name.links) ≡ true
+  pub size : st.size ≡ pass.size
+  pub holds : Holds c.code st names kinds pass.name pass.seen
+  pub put : PutAs c.code puts had'
+
+abbrev pub RetiresHeld : {T : Type 0} → Coded T → (ℕ → T → List T) → (T → ℕ) → Type 0
+RetiresHeld {T} c puts weight =
+    (st : State T ℕ) (names : List (ℕ × T)) (kinds : List (ℕ × ℕ)) (v kind : ℕ) (x : T) (retired : Bool) (key : SlotKey) (pass : Pass)
+    (values : ValueKeys) (key' : SlotKey) (pass' : Pass) (values' : ValueKeys) (had' : Had)
+    → RetiresOne key pass v kind values [] key' pass' values' had' retired → CallsAlone c puts st names kinds pass pass' had'
+    → IsLentAs v (c.code x) → is_free (slot_at st (slot_number key)).kind ≡ false
+    → let told = retire puts weight st (slot_number key) x kind in (told.0 ≡ Ok tt) × HoldsThen c.code told.1 had' pass'
+
+abbrev pub FlushesHeld : {T : Type 0} → Coded T → (ℕ → T → List T) → (T → ℕ) → Type 0
+FlushesHeld {T} c puts weight =
+    (st : State T ℕ) (names : List (ℕ × T)) (kinds : List (ℕ × ℕ)) (retired : Bool) (key : SlotKey) (pass : Pass) (values : ValueKeys)
+    (key' : SlotKey) (pass' : Pass) (values' : ValueKeys) (had' : Had)
+    → Flushes key pass values [] key' pass' values' had' retired → CallsAlone c puts st names kinds pass pass' had'
+    → is_free (slot_at st (slot_number key)).kind ≡ false → has_guard (slot_at st (slot_number key)) ≡ true
+    → let told = flush puts weight st (slot_number key) in (told.0 ≡ Ok tt) × HoldsThen c.code told.1 had' pass'
+
+abbrev pub PartsHeld : {T : Type 0} → Coded T → (ℕ → T → List T) → (T → ℕ) → Type 0
+PartsHeld {T} c puts weight =
+    (st : State T ℕ) (names : List (ℕ × T)) (kinds : List (ℕ × ℕ)) (key : SlotKey) (pass : Pass) (values : ValueKeys) (key' : SlotKey)
+    (pass' : Pass) (values' : ValueKeys) (had' : Had) → let s = slot_number key in
+    Leaves LeaveJob false (private pass (SwapOut s)) key pass values [] key' pass' values' had'
+    → CallsAlone c puts st names kinds pass pass' had' → is_free (slot_at st s).kind ≡ false → (slot_at st s).guards ≡ 1
+    → let now = with_further puts weight s (one_guard_less st s) in
+    HoldsThen c.code now had' pass' × (is_free (slot_at now.0 s).kind ≡ false) × (has_guard (slot_at now.0 s) ≡ false)
+
+abbrev pub LeavesHeld : {T : Type 0} → Coded T → (ℕ → T → List T) → (T → ℕ) → Type 0
+LeavesHeld {T} c puts weight =
+    (st : State T ℕ) (names : List (ℕ × T)) (kinds : List (ℕ × ℕ)) (key : SlotKey) (pass : Pass) (values : ValueKeys) (key' : SlotKey)
+    (pass' : Pass) (values' : ValueKeys) (had' : Had) → let s = slot_number key in
+    Leaves LeaveJob false (private pass (SwapOut s)) key pass values [] key' pass' values' had'
+    → CallsAlone c puts st names kinds pass pass' had' → (slot_at st s).kind ≡ Registered → (slot_at st s).guards ≡ 1
+    → let told = leave puts weight st s in (told.0 ≡ Ok tt) × HoldsThen c.code told.1 had' pass'
+
+abbrev pub RefreshesHeld : {T : Type 0} → Coded T → (ℕ → T → List T) → (T → ℕ) → Type 0
+RefreshesHeld {T} c puts weight =
+    (st : State T ℕ) (names : List (ℕ × T)) (kinds : List (ℕ × ℕ)) (life : ℕ) (key : SlotKey) (pass : Pass) (values : ValueKeys)
+    (key' : SlotKey) (pass' : Pass) (values' : ValueKeys) (had' : Had) → let s = slot_number key in
+    Leaves RefreshJob true (beginning pass life (SwapOut s)) key pass values [] key' pass' values' had'
+    → CallsAlone c puts st names kinds pass pass' had' → is_free (slot_at st s).kind ≡ false → has_guard (slot_at st s) ≡ true
+    → (is_owned (slot_at st s).kind || ((slot_at st s).guards == 1)) ≡ true
+    → let told = refresh puts weight st s in (told.0 ≡ Ok tt) × HoldsThen c.code told.1 had' pass'

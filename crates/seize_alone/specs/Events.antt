@@ -1,0 +1,102 @@
+-- Single events of a slot, made where its pass is alone, and what the hands hold then. `code` is the code of values.
+--     MakesAlone pass pass' event answer     the pass is alone, and this event was made with it and nothing since; the answer was this
+--     IsHeldAs code o value     what a link holds by number and what it holds by value are one: with the number the code is lent
+--     OpensHeld           a book just opened, with no slot and empty links: a collector just made
+--     EntersHeld          an entry of a slot in use without a guard: the first guard
+--     GivesHeld           the number of a slot without a guard goes back
+--     TakesHeld           a number is taken for a slot of this kind: it is the least one that is not in use
+--     GuardsHeld          no event: an active registered slot has some other number of guards
+--     ReadsHeld           a link is read: what is found is what it holds
+--     SwapsHeld           a link is exchanged: so is what it held, and it holds the new value
+--     OwnedLeavesHeld     a leave of an owned slot, and then its number goes back
+use Rattle.std.specs.Prelude.{◌≡◌, ◌==◌, ◌≤◌, ℕ, true, false, List, [], Option, Some, None, Ok, replicate, slice_set}
+use Rattle.std.specs.Coded.{Coded}
+use base.Stored.{Gv}
+use Rattle.seize_table.specs.Place.{all_numbers}
+use Rattle.seize_machine.specs.Machine.Event.{Enter, Event, ExchangeLink, Give, ReadLink, SwapOut, Take}
+use Rattle.seize_machine.specs.declared.machine.event.Answer.{Answer}
+use Rattle.seize_machine.specs.declared.machine.event.Answer.TheVariants.{Link}
+use Rattle.seize_machine.specs.declared.machine.event.Exchange.TheVariants.{Swap}
+use Rattle.seize_machine.specs.declared.machine.event.Job.TheVariants.{Leave as LeaveJob}
+use Rattle.seize_model.specs.declared.kind.Kind.{Kind}
+use Rattle.seize_model.specs.declared.kind.Kind.TheVariants.{Owned, Registered}
+use Rattle.seize_model.specs.Waiting.State.{State, has_guard, new, slot_at}
+use Rattle.seize_model.specs.Waiting.Calls.{is_free, least_unused, leave, link_at, set_guards, with_number_free, with_number_in_use}
+use Rattle.seize_book.specs.Adding.{private}
+use Rattle.seize_book.specs.Entry.{Deed, Made}
+use Rattle.seize_book.specs.Passes.{IsSamePass}
+use Rattle.seize_book.specs.Slots.{slot_number}
+use Rattle.seize_book.specs.Tokens.{AddsEntry, IsSole, Name}
+use Rattle.seize_book.specs.declared.book.pass.Pass.{Pass}
+use Rattle.seize_book.specs.declared.book.slot_key.SlotKey.{SlotKey}
+use Rattle.seize_book.specs.declared.book.value_keys.ValueKeys.{ValueKeys}
+use Rattle.seize_words.specs.Chunks.{IsLentAs}
+use Rattle.seize_calls.specs.Calls.{Leaves}
+use Rattle.seize_calls.specs.Handing.{Had}
+use Rattle.seize_alone.specs.Calls.{CallsAlone}
+use Rattle.seize_alone.specs.Holding.{Holds, HoldsThen}
+
+pub record MakesAlone (pass pass' : Pass) (event : Event) (answer : Answer) : Type 0 where
+  pub sole : IsSole pass.id
+  pub same : IsSamePass pass pass'
+  pub deed : Deed
+  pub is : deed.event ≡ event
+  pub noted : AddsEntry pass.name pass.id pass.seen pass'.seen (Made deed)
+  pub answers : noted.answer ≡ answer
+
+abbrev pub IsHeldAs : {T : Type 0} → (T → Gv) → Option ℕ → Option T → Type 0
+IsHeldAs code None None = Unit {0}
+IsHeldAs code (Some v) (Some x) = IsLentAs v (code x)
+IsHeldAs code _ _ = ⊥
+
+abbrev pub OpensHeld : {T : Type 0} → (T → Gv) → Type 0
+OpensHeld {T} code =
+    (n : Name) (size links : ℕ) → n.slots ≡ 0 → n.links ≡ replicate links None → Holds {T = T} code (new size links) [] [] n []
+
+abbrev pub EntersHeld : {T : Type 0} → (T → Gv) → Type 0
+EntersHeld {T} code =
+    (st : State T ℕ) (names : List (ℕ × T)) (kinds : List (ℕ × ℕ)) (s : ℕ) (answer : Answer) (pass pass' : Pass)
+    → MakesAlone pass pass' (Enter s) answer → Holds code st names kinds pass.name pass.seen → is_free (slot_at st s).kind ≡ false
+    → has_guard (slot_at st s) ≡ false → Holds code (set_guards st s 1) names kinds pass'.name pass'.seen
+
+abbrev pub GivesHeld : {T : Type 0} → (T → Gv) → Type 0
+GivesHeld {T} code =
+    (st : State T ℕ) (names : List (ℕ × T)) (kinds : List (ℕ × ℕ)) (s : ℕ) (answer : Answer) (pass pass' : Pass)
+    → MakesAlone pass pass' (Give s) answer → Holds code st names kinds pass.name pass.seen → is_free (slot_at st s).kind ≡ false
+    → has_guard (slot_at st s) ≡ false → Holds code (with_number_free st s) names kinds pass'.name pass'.seen
+
+abbrev pub TakesHeld : {T : Type 0} → (T → Gv) → Type 0
+TakesHeld {T} code =
+    (st : State T ℕ) (names : List (ℕ × T)) (kinds : List (ℕ × ℕ)) (n : ℕ) (kind : Kind) (answer : Answer) (pass pass' : Pass)
+    → MakesAlone pass pass' (Take n) answer → Holds code st names kinds pass.name pass.seen → is_free kind ≡ false
+    → (n ≡ least_unused st.slots) × ((n == all_numbers) ≡ false)
+    × Holds code (with_number_in_use st n kind 0) names kinds pass'.name pass'.seen
+
+abbrev pub GuardsHeld : {T : Type 0} → (T → Gv) → Type 0
+GuardsHeld {T} code =
+    (st : State T ℕ) (names : List (ℕ × T)) (kinds : List (ℕ × ℕ)) (s guards : ℕ) (pass : Pass)
+    → Holds code st names kinds pass.name pass.seen → (slot_at st s).kind ≡ Registered → has_guard (slot_at st s) ≡ true → 1 ≤ guards
+    → Holds code (set_guards st s guards) names kinds pass.name pass.seen
+
+abbrev pub ReadsHeld : {T : Type 0} → (T → Gv) → Type 0
+ReadsHeld {T} code =
+    (st : State T ℕ) (names : List (ℕ × T)) (kinds : List (ℕ × ℕ)) (s l : ℕ) (o : Option ℕ) (pass pass' : Pass)
+    → MakesAlone pass pass' (ReadLink s l) (Link o) → Holds code st names kinds pass.name pass.seen
+    → Holds code st names kinds pass'.name pass'.seen × IsHeldAs code o (link_at st l)
+
+abbrev pub SwapsHeld : {T : Type 0} → (T → Gv) → Type 0
+SwapsHeld {T} code =
+    (st : State T ℕ) (names : List (ℕ × T)) (kinds : List (ℕ × ℕ)) (s l : ℕ) (number o : Option ℕ) (new : Option T) (pass pass' : Pass)
+    → MakesAlone pass pass' (ExchangeLink s l (Swap number)) (Link o) → Holds code st names kinds pass.name pass.seen
+    → IsHeldAs code number new
+    → ((names' : List (ℕ × T)) × Holds code (record st { links = slice_set st.links l new }) names' kinds pass'.name pass'.seen)
+    × IsHeldAs code o (link_at st l)
+
+abbrev pub OwnedLeavesHeld : {T : Type 0} → Coded T → (ℕ → T → List T) → (T → ℕ) → Type 0
+OwnedLeavesHeld {T} c puts weight =
+    (st : State T ℕ) (names : List (ℕ × T)) (kinds : List (ℕ × ℕ)) (answer : Answer) (key : SlotKey) (pass : Pass) (values : ValueKeys)
+    (key' : SlotKey) (mid pass' : Pass) (values' : ValueKeys) (had' : Had) → let s = slot_number key in
+    Leaves LeaveJob false (private pass (SwapOut s)) key pass values [] key' mid values' had'
+    → CallsAlone c puts st names kinds pass mid had' → (slot_at st s).kind ≡ Owned → (slot_at st s).guards ≡ 1
+    → MakesAlone mid pass' (Give s) answer
+    → let told = leave puts weight st s in (told.0 ≡ Ok tt) × HoldsThen c.code told.1 had' pass'

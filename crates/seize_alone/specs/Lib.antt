@@ -1,0 +1,4 @@
+pub mod Gone
+pub mod Holding
+pub mod Calls
+pub mod Events

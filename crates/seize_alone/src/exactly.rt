@@ -1,0 +1,28 @@
+//! Calls made alone are the model's. Each function does nothing: its contract is what is shown.
+ghost use Rattle.std.specs.Prelude.{ℕ, List};
+ghost use Rattle.seize_model.specs.Waiting.Further.{Lighter};
+ghost use Rattle.seize_alone.specs.Calls.{FlushesHeld, LeavesHeld, PartsHeld, RefreshesHeld, RetiresHeld};
+ghost use Rattle.seize_alone.specs.Events.{EntersHeld, GivesHeld, GuardsHeld, OpensHeld, OwnedLeavesHeld, ReadsHeld, SwapsHeld, TakesHeld};
+
+/// Calls by which values may be gone, where the pass is alone and its hands hold the state. The answer is the model's, they hold the state
+/// that the model says then, and what the reclaimer had are the model's values gone, in order.
+pub fn calls_alone<T>()
+    ensures retire { (puts : ℕ → T → List T) (weight : T → ℕ) → Lighter puts weight → RetiresHeld T.row.coded puts weight }
+    ensures flush { (puts : ℕ → T → List T) (weight : T → ℕ) → Lighter puts weight → FlushesHeld T.row.coded puts weight }
+    ensures part { (puts : ℕ → T → List T) (weight : T → ℕ) → Lighter puts weight → PartsHeld T.row.coded puts weight }
+    ensures leave { (puts : ℕ → T → List T) (weight : T → ℕ) → Lighter puts weight → LeavesHeld T.row.coded puts weight }
+    ensures leave_owned { (puts : ℕ → T → List T) (weight : T → ℕ) → Lighter puts weight → OwnedLeavesHeld T.row.coded puts weight }
+    ensures refresh { (puts : ℕ → T → List T) (weight : T → ℕ) → Lighter puts weight → RefreshesHeld T.row.coded puts weight }
+{}
+
+/// Single events made alone: after each the hands hold the model's state, and what is found in a link is what the model's link holds. A
+/// book just opened shows a collector just made.
+pub fn events_alone<T>()
+    ensures opened { OpensHeld T.row.coded.code }
+    ensures enter { EntersHeld T.row.coded.code }
+    ensures give { GivesHeld T.row.coded.code }
+    ensures take { TakesHeld T.row.coded.code }
+    ensures guards { GuardsHeld T.row.coded.code }
+    ensures read { ReadsHeld T.row.coded.code }
+    ensures swap { SwapsHeld T.row.coded.code }
+{}
