@@ -16,8 +16,10 @@ pub mod Puts
 pub mod Reclaims
 pub mod Registrations
 pub mod Reservations
+pub mod Seats
 pub mod Served
 pub mod Shelves
+pub mod States
 pub mod Sweeps
 pub use Rattle.seize_machine.specs.Machine
 pub use Rattle.seize_table.specs.Free

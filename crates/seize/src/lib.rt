@@ -7,6 +7,7 @@
 //! may read a value, and who may end it. An `OwnedGuard` needs no registration, and threads share it.
 #![tactic(auto)]
 
+pub mod alone;
 pub mod block;
 pub mod collector;
 mod ender;

@@ -1,0 +1,56 @@
+//! What one caller's hands hold: the state of the model, and what the list's numbers stand for. It has no bytes.
+ghost use Rattle.std.specs.Prelude.{ℕ, List};
+ghost use base.Fml.{ftrue};
+ghost use base.Stored.{coded_list, coded×, coded_ℕ};
+ghost use Rattle.seize_model.specs.Waiting.State.{State};
+ghost use Rattle.seize.specs.States.{state_coded};
+
+use seize_words::book::Porter;
+use std::marker::{Brand, Model, PhantomData};
+
+/// What holds of a state, of names and of kinds. A caller passes `Brand`, and its proof picks it, by what `Hands::of` is given.
+pub(crate) trait Holding<T> {
+    ghost are: { State T ℕ → List (ℕ × T) → List (ℕ × ℕ) → Type 0 };
+}
+
+impl<T> Holding<T> for Brand {
+    ghost are = { λ _ _ _. Unit {0} };
+}
+
+/// The state, and the names and kinds by which the list shows it.
+pub(crate) struct Hands<T> {
+    marker: PhantomData<T>,
+    /// The state of waiting sets.
+    pub(crate) ghost state: { State T ℕ } by { state_coded T.code coded_ℕ },
+    /// What names stand for.
+    pub(crate) ghost names: { List (ℕ × T) } by { coded_list (coded× coded_ℕ T.code) },
+    /// Of which kind numbers are.
+    pub(crate) ghost kinds: { List (ℕ × ℕ) } by { coded_list (coded× coded_ℕ coded_ℕ) },
+}
+
+impl<T> Model for Hands<T> {
+    ghost also_owns = { λ _. ftrue };
+}
+
+impl<T> Drop for Hands<T> {
+    fn drop(self) {
+        let Hands { marker: _ } = self;
+    }
+}
+
+// It owns nothing, so any thread may have it.
+unsafe impl<T> Send for Hands<T> {}
+
+unsafe impl<T> Sync for Hands<T> {}
+
+impl<T> Hands<T> {
+    /// There are some, and these are they. It does nothing when the program runs.
+    pub(crate) fn of<H: Holding<T>>(_hands: &Hands<T>, _porter: &Porter, _slot: usize) -> Hands<T>
+        requires { (st : State T ℕ) × (names : List (ℕ × T)) × (kinds : List (ℕ × ℕ)) × H.are st names kinds }
+        ensures { H.are result.state result.names result.kinds }
+    {
+        Hands {
+            marker: PhantomData,
+        }
+    }
+}
