@@ -8,3 +8,4 @@ pub mod Names
 pub mod Held
 pub mod Singles
 pub mod Ready
+pub mod Slots
