@@ -9,3 +9,4 @@ pub mod Held
 pub mod Singles
 pub mod Ready
 pub mod Slots
+pub mod Sizes
