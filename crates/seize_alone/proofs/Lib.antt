@@ -10,3 +10,4 @@ pub mod Singles
 pub mod Ready
 pub mod Slots
 pub mod Sizes
+pub mod Begins
