@@ -8,3 +8,6 @@ pub mod Names
 pub mod Held
 pub mod Singles
 pub mod Ready
+pub mod Slots
+pub mod Sizes
+pub mod Begins

@@ -1,13 +1,15 @@
 -- Whole calls of a slot, made where its pass is alone: each is the model's. `c` is the code of values, and `puts` and `weight` say what
 -- their reclaimer puts, which weighs less.
---     CallsAlone c puts st names kinds pass pass' had'     the pass of a call is alone, and what it has seen after it is legal; what it had
---                         seen shows the state, whose size is that of the pass; and with what the reclaimer had since, it put as `puts` says
+--     CallsAlone c puts st names kinds pass pass' had'     the pass of a call is alone, and what it has seen then is legal; what it had
+--                         seen shows the state, which has the size of the pass; and with what the reclaimer had since it put as `puts`
+--                         says
 --     RetiresHeld         a retirement by a slot in use, whether its batch goes or not: the answer is the model's, and so are the state and
 --                         the values gone
 --     FlushesHeld         a flush of a slot with a guard
 --     PartsHeld           a leave with the slot's last guard, before the number of an owned slot goes back: it is in use, without a guard
 --     LeavesHeld          a leave with the last guard of a registered slot
 --     RefreshesHeld       a refresh of an owned slot, or of one with one guard
+--     SizeStays           none of them changes the size
 use Rattle.std.specs.Prelude.{◌≡◌, ◌||◌, ◌==◌, ℕ, Bool, true, false, List, [], Ok}
 use Rattle.std.specs.Coded.{Coded}
 use Rattle.seize_machine.specs.Machine.Event.{SwapOut}
@@ -81,3 +83,8 @@ RefreshesHeld {T} c puts weight =
     → CallsAlone c puts st names kinds pass pass' had' → is_free (slot_at st s).kind ≡ false → has_guard (slot_at st s) ≡ true
     → (is_owned (slot_at st s).kind || ((slot_at st s).guards == 1)) ≡ true
     → let told = refresh puts weight st s in (told.0 ≡ Ok tt) × HoldsThen c.code told.1 had' pass'
+
+abbrev pub SizeStays : {T : Type 0} → (ℕ → T → List T) → (T → ℕ) → Type 0
+SizeStays {T} puts weight =
+    (st : State T ℕ) (s : ℕ) → ((leave puts weight st s).1.0.size ≡ st.size) × ((refresh puts weight st s).1.0.size ≡ st.size)
+    × ((flush puts weight st s).1.0.size ≡ st.size) × ((x : T) (kind : ℕ) → (retire puts weight st s x kind).1.0.size ≡ st.size)

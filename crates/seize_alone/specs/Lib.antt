@@ -2,3 +2,4 @@ pub mod Gone
 pub mod Holding
 pub mod Calls
 pub mod Events
+pub mod Begins

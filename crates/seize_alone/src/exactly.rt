@@ -1,7 +1,8 @@
 //! Calls made alone are the model's. Each function does nothing: its contract is what is shown.
 ghost use Rattle.std.specs.Prelude.{ℕ, List};
 ghost use Rattle.seize_model.specs.Waiting.Further.{Lighter};
-ghost use Rattle.seize_alone.specs.Calls.{FlushesHeld, LeavesHeld, PartsHeld, RefreshesHeld, RetiresHeld};
+ghost use Rattle.seize_alone.specs.Begins.{BeginsHeld};
+ghost use Rattle.seize_alone.specs.Calls.{FlushesHeld, LeavesHeld, PartsHeld, RefreshesHeld, RetiresHeld, SizeStays};
 ghost use Rattle.seize_alone.specs.Events.{EntersHeld, GivesHeld, GuardsHeld, OpensHeld, OwnedLeavesHeld, ReadsHeld, SwapsHeld, TakesHeld};
 
 /// Calls by which values may be gone, where the pass is alone and its hands hold the state. The answer is the model's, they hold the state
@@ -13,12 +14,14 @@ pub fn calls_alone<T>()
     ensures leave { (puts : ℕ → T → List T) (weight : T → ℕ) → Lighter puts weight → LeavesHeld T.row.coded puts weight }
     ensures leave_owned { (puts : ℕ → T → List T) (weight : T → ℕ) → Lighter puts weight → OwnedLeavesHeld T.row.coded puts weight }
     ensures refresh { (puts : ℕ → T → List T) (weight : T → ℕ) → Lighter puts weight → RefreshesHeld T.row.coded puts weight }
+    ensures size { (puts : ℕ → T → List T) (weight : T → ℕ) → SizeStays puts weight }
 {}
 
 /// Single events made alone: after each the hands hold the model's state, and what is found in a link is what the model's link holds. A
-/// book just opened shows a collector just made.
+/// book just opened shows a collector just made, and one without guards and calls, which threads shared, a collector without guards.
 pub fn events_alone<T>()
     ensures opened { OpensHeld T.row.coded.code }
+    ensures begins { BeginsHeld T.row.coded.code }
     ensures enter { EntersHeld T.row.coded.code }
     ensures give { GivesHeld T.row.coded.code }
     ensures take { TakesHeld T.row.coded.code }
