@@ -12,6 +12,7 @@ use Rattle.seize_machine.specs.Machine.History.{done_by, or_illegal}
 use Rattle.seize_machine.specs.Machine.Next.{Outcome, next}
 use Rattle.seize_machine.specs.Machine.State.{Slot as Record, State, head_at, is_active, no_slot, slot_at}
 use Rattle.seize_machine.specs.declared.machine.event.Answer.{Answer}
+use Rattle.seize_machine.specs.declared.machine.event.Answer.TheVariants.{Count, Done, Handed, Head, Illegal, Link}
 use Rattle.seize_machine.specs.declared.machine.event.Job.{Job}
 use Rattle.seize_machine.specs.declared.machine.event.Job.TheVariants.{Flush, Leave}
 use Rattle.seize_book.specs.Adding.{private}
@@ -114,7 +115,7 @@ led_made s pass pass' made same adds sole events are =
 pub other : (s t k : ℕ) → k ≡ s → ¬ (t ≡ s) → (k == t) ≡ false
 other s t k same differs = unequal k t (λ e. differs (sym e ∙ same))
 
-of_step : (IsPut : List ℕ → Type 0) (s : ℕ) (event : Event) (answer : Answer) → IsStepOf IsPut s (event, answer) → IsOf s event
+of_step : (IsPut : ℕ → List ℕ → Type 0) (s : ℕ) (event : Event) (answer : Answer) → IsStepOf IsPut s (event, answer) → IsOf s event
 of_step IsPut s (Put k) answer is = ((λ t differs. other s t k is differs), λ l. refl)
 of_step IsPut s (ReadHead k n) answer is = ((λ t differs. other s t k is differs), λ l. refl)
 of_step IsPut s (Detach k) answer is = ((λ t differs. other s t k is differs), λ l. refl)
@@ -122,7 +123,12 @@ of_step IsPut s (Insert k n end) answer is = ((λ t differs. other s t k is diff
 of_step IsPut s (AddCount k) answer is = ((λ t differs. other s t k is differs), λ l. refl)
 of_step IsPut s (SwapOut k) answer is = ((λ t differs. other s t k is differs), λ l. refl)
 of_step IsPut s (SubCount k) answer is = ((λ t differs. other s t k is differs), λ l. refl)
-of_step IsPut s (Hand k puts) answer is = ((λ t differs. other s t k is.0 differs), λ l. refl)
+of_step IsPut s (Hand k vs) (Handed v) is = ((λ t differs. other s t k is.0 differs), λ l. refl)
+of_step IsPut s (Hand k vs) Done is = absurd is
+of_step IsPut s (Hand k vs) (Head h) is = absurd is
+of_step IsPut s (Hand k vs) (Count c) is = absurd is
+of_step IsPut s (Hand k vs) (Link l) is = absurd is
+of_step IsPut s (Hand k vs) Illegal is = absurd is
 of_step IsPut s (Take k) answer is = absurd is
 of_step IsPut s (Give k) answer is = absurd is
 of_step IsPut s (Enter k) answer is = absurd is
@@ -131,7 +137,7 @@ of_step IsPut s (Return k) answer is = absurd is
 of_step IsPut s (ReadLink k l) answer is = absurd is
 of_step IsPut s (ExchangeLink k l exchange) answer is = absurd is
 
-of_steps : (IsPut : List ℕ → Type 0) (s : ℕ) (es : List (Event × Answer)) → AreStepsOf IsPut s es → AreOf s es
+of_steps : (IsPut : ℕ → List ℕ → Type 0) (s : ℕ) (es : List (Event × Answer)) → AreStepsOf IsPut s es → AreOf s es
 of_steps IsPut s [] are = tt
 of_steps IsPut s (e ∷ es) are = (of_step IsPut s e.0 e.1 are.0, of_steps IsPut s es are.1)
 
@@ -195,10 +201,10 @@ module _ {T : Type 0} (slot : Slot T) (pass ready : Pass) (prepares : Prepares s
       (led_by s ready pass' ((d.event, noted.answer) ∷ []) (one_added ready pass' d same noted) (alone_noted ready pass' (Made d) by noted) prepared_sole (is, tt))
 
   -- a whole call
-  pub led_call : {IsPut : List ℕ → Type 0} (s : ℕ) (job : Job) (pass' : Pass) → MakesCall IsPut s job pass pass' → AddsAlone ready pass' → IsLedBy s pass pass'
+  pub led_call : {IsPut : Pass → ℕ → List ℕ → Type 0} (s : ℕ) (job : Job) (pass' : Pass) → MakesCall IsPut s job pass pass' → AddsAlone ready pass' → IsLedBy s pass pass'
   led_call {IsPut} s job pass' makes adds =
       led_by s pass pass' _ makes.made (alone_twice pass ready pass' prepares.same prepared_alone adds) sole
-      (((λ t differs. other s t s refl differs), λ l. refl), of_append s makes.steps _ (of_steps IsPut s makes.steps makes.its) (((λ t differs. other s t s refl differs), λ l. refl), tt))
+      (((λ t differs. other s t s refl differs), λ l. refl), of_append s makes.steps _ (of_steps (IsPut pass') s makes.steps makes.its) (((λ t differs. other s t s refl differs), λ l. refl), tt))
 
 pub looked_same : (pass pass' : Pass) → LooksOn pass pass' → IsSole pass.id → pass'.seen ≡ pass.seen
 looked_same pass pass' looks sole = looks.alone sole

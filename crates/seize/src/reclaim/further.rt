@@ -64,6 +64,7 @@ impl<'a, T: Drop, R: Puts<T>> Further<'a, T, R> {
         let (number, key) = owned.lend(self.blocks, self.permits);
         self.chain.put(self.blocks, number, self.kind, key);
     }
+
     /// Puts all these, in their order, behind those that were put before.
     ///
     /// It takes no memory and waits for nobody.
