@@ -26,4 +26,4 @@ mod Taken
 mod Cleared
 mod Recovered
 mod OneLife
-mod Seated
+mod Stilled

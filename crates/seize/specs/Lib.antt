@@ -12,15 +12,16 @@ pub mod Makes
 pub mod Names
 pub mod Numbers
 pub mod OwnedGuards
+pub mod Places
 pub mod Puts
 pub mod Reclaims
 pub mod Registrations
 pub mod Reservations
-pub mod Seats
 pub mod Served
 pub mod Shelves
 pub mod States
 pub mod Sweeps
+pub mod Told
 pub use Rattle.seize_machine.specs.Machine
 pub use Rattle.seize_table.specs.Free
 pub use Rattle.seize_table.specs.Place

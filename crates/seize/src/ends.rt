@@ -63,7 +63,7 @@ impl Ends {
 /// Gives each value to the collector's reclaimer, with the word that was kept of it: its kind.
 #[derive(Drop)]
 pub(crate) struct Forwards<'a, T: Drop, R: Reclaim<T>> {
-    ender: &'a Ender<T, R>,
+    pub(crate) ender: &'a Ender<T, R>,
     /// What it had.
     pub(crate) ends: Ends,
 }

@@ -5,8 +5,10 @@ ghost use Rattle.seize.specs.Blocks.{HoldsOnly};
 ghost use Rattle.seize.specs.Furthers.{Joins, further_store};
 
 mod further;
+mod watch;
 
 pub use further::Further;
+pub use watch::Watch;
 
 /// What a reclaimer puts with a value of this type. It says nothing when the program runs.
 ///

@@ -37,9 +37,12 @@ impl<T> Steady for Reservation<T> {
 impl<T: Drop> Reservation<T> {
     ghost use Rattle.std.specs.Prelude.{◌<◌, IfNone, IfSome};
     ghost use Rattle.seize_machine.specs.Machine.Event.{Enter};
+    ghost use Rattle.seize_machine.specs.declared.machine.event.Answer.{Answer};
     ghost use Rattle.seize_machine.specs.declared.machine.event.Answer.TheVariants.{Done};
     ghost use Rattle.seize_words.specs.Joined.{words_book};
+    ghost use Rattle.seize_alone.specs.Events.{MakesAlone};
     ghost use Rattle.seize.specs.Enders.{IsEnderOf};
+    ghost use Rattle.seize.specs.Places.{IsStill};
     ghost use Rattle.seize_calls.specs.Slots.{InActivation, IsInactive, IsPassFor, IsSlotOf, its_number};
     ghost use Rattle.seize_book.specs.Tokens.{IsSole};
     ghost use Rattle.seize.specs.Makes.{MakesOne, StaysActive};
@@ -75,6 +78,7 @@ impl<T: Drop> Reservation<T> {
         ensures follows { KeepsPlace self.old self.new }
         ensures unit { IsUnit (words_book words.now) (its_number self.old.slot) result.0 result.1 }
         ensures enters { MakesOne pass.old pass.new (Enter (its_number self.old.slot)) Done }
+        ensures alone { IsSole pass.old.id → (answer : Answer) × MakesAlone pass.old pass.new (Enter (its_number self.old.slot)) answer }
     {
         self.slot.seen().agree(&words.blocks.book);
         self.slot.enter(words, head, &mut self.rest, pass);
@@ -125,6 +129,7 @@ impl<T: Drop> Reservation<T> {
         ensures active { (0 < self.old.guards) × IsSlotOf words.now self.new.slot × InActivation self.new.slot unit.now }
         ensures same { its_number self.new.slot ≡ its_number self.old.slot }
         ensures active_still { StaysActive (its_number self.old.slot) pass.old pass.new }
+        ensures still { IsStill pass.old pass.new }
     {
         self.slot.seen().agree(&words.blocks.book);
         pass.learn(seen);

@@ -1,10 +1,12 @@
-use Rattle.std.proofs.Common.{ap, arith, refl, sym, ◌∙◌}
-use Rattle.seize_book.specs.Tokens.{Name}
+use Rattle.std.proofs.Common.{ap, arith, refl, sym, subst, ◌∙◌}
+use Rattle.seize_book.specs.Tokens.{IsSole, Name}
 use Rattle.seize_calls.specs.Slots.{its_number}
 use Rattle.seize_words.specs.Joined.{words_book}
+use Rattle.seize_alone.proofs.Ready.{entry_alone}
 use Rattle.seize.proofs.Made.{slot_enters}
 use Rattle.seize.proofs.Placed.{at_none, label_same, placed, placed_slot, some_at, unit_in, units_within}
 use Rattle.seize.proofs.Places.{own_head}
+use Rattle.seize.proofs.Stilled.{alone_from, still_prepared}
 use Rattle.seize.proofs.reservation.Reservation.enter.Goals as goal
 
 pub agree-requires : goal.agree-requires
@@ -32,3 +34,8 @@ returns-clause-unit g c =
 
 pub returns-clause-enters : goal.returns-clause-enters
 returns-clause-enters g c = slot_enters c.args.self.now.slot c.args.pass.now c.enter.new.self c.enter.new.pass c.enter.new.activation c.enter.ensures.enters
+
+pub returns-clause-alone : goal.returns-clause-alone
+returns-clause-alone g c sole =
+    let enters = c.enter.ensures.enters in let still = still_prepared c.args.self.now.slot enters.prepares in
+    (enters.does.2.0.answer, alone_from sole still (entry_alone (subst IsSole (sym still.same.1) sole) enters.does))

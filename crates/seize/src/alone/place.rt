@@ -1,51 +1,58 @@
-//! Where a slot in use lies while a collector is in one caller's hands, and what is done with it there: each event or call as a work, which
-//! the porter's first pass is lent to.
+//! The place of a slot in use, while a collector is in one caller's hands. The slot lies there in a reservation for one guard; how many
+//! guards the caller has of it is counted beside that, with the unit of the activation that they share.
 ghost use Rattle.std.specs.Prelude.{◌≡◌, false};
+ghost use base.Growing.{prefix_prop};
+ghost use base.Stored.{Coded-set, coded_list};
+ghost use mathlib.Core.List.{IsPrefix};
+ghost use Rattle.seize_book.specs.Entry.{entry_coded};
 ghost use Rattle.seize_book.specs.Homesteads.{state_seen};
 ghost use Rattle.seize_machine.specs.Machine.Event.{Enter};
 ghost use Rattle.seize_machine.specs.Machine.State.{head_at, is_active};
 ghost use Rattle.seize_machine.specs.declared.machine.event.Answer.{Answer};
 ghost use Rattle.seize_alone.specs.Events.{MakesAlone};
 ghost use Rattle.seize_calls.specs.Slots.{its_number};
-ghost use Rattle.seize.specs.Seats.{IsSeat, IsWithin, label_of};
+ghost use Rattle.seize_words.specs.Joined.{words_book};
+ghost use Rattle.seize.specs.Places.{IsOnly};
+ghost use Rattle.seize.specs.Reservations.{IsHeadFor, IsUnit, IsUnitIn};
 
+use crate::reservation::Reservation;
 use crate::shelf::Shelf;
-use seize_calls::slot::Slot;
 use seize_cells::{Lock, LockWork};
 use seize_content::Steady;
 use seize_words::activation::Activation;
-use seize_words::book::{Pass, Stay};
+use seize_words::book::{Pass, Seen, Stay};
 use seize_words::words::Words;
 
-/// A slot in use, and its activation.
+/// The unit of an activation that a slot's guards share.
 #[derive(Drop)]
-pub(crate) struct Seat<T> {
-    /// The slot.
-    pub(crate) slot: Slot<T>,
-    /// The activation that it is in, or one that may begin.
-    pub(crate) activation: Activation,
+pub(crate) struct Unit {
+    /// The number of the slot.
+    pub(crate) number: usize,
+    /// The unit.
+    pub(crate) unit: Activation,
+    /// What was seen when the activation had begun.
+    pub(crate) seen: Seen,
+    ghost its: { IsUnitIn seen.name number unit seen },
+    ghost known: { IsPrefix unit.since seen.seen } by { prefix_prop (Coded-set (coded_list entry_coded)) unit.since seen.seen },
 }
 
-impl<T> Steady for Seat<T> {
-    ghost label = { λ seat. label_of seat };
-
-    ghost sound = { λ seat. IsSeat seat };
-}
-
-/// A slot in use, and what is known of it beside its events.
+/// A slot in use.
 #[derive(Drop)]
 pub(crate) struct Place<T: Drop> {
     /// Whether it has just one guard, with which its use ends.
     pub(crate) owned: bool,
     /// How many guards it has.
     pub(crate) guards: u64,
-    /// The slot.
-    pub(crate) seat: Lock<Seat<T>>,
+    /// The slot, for one guard.
+    pub(crate) reservation: Lock<Reservation<T>>,
+    /// The unit of its activation, where it has guards.
+    pub(crate) unit: Option<Unit>,
     /// Where it is laid when the collector is shared again.
     pub(crate) shelf: Shelf<T>,
 }
 
 /// A work on what lies behind a lock, by a pass that is alone.
+#[derive(Drop)]
 pub(crate) struct Within<'a, M: Steady, W> {
     /// The lock.
     pub(crate) lock: &'a mut Lock<M>,
@@ -74,24 +81,27 @@ impl<'a, M: Steady, R, W: LockWork<M, Pass<'static>, R>> Stay<R> for Within<'a, 
     }
 }
 
-/// The slot enters.
+/// The slot enters. It gives the unit of its activation.
 #[derive(Drop)]
 pub(crate) struct Beginning<'a, T> {
     /// The words of the collector.
     pub(crate) words: &'a Words<T>,
 }
 
-impl<'a, 'p, T: Drop> LockWork<Seat<T>, Pass<'p>, ()> for Beginning<'a, T> {
-    ghost may = { λ work seat pass. IsWithin work.words.now seat pass
-        × (is_active (head_at (state_seen pass) (its_number seat.slot)) ≡ false) };
+impl<'a, 'p, T: Drop> LockWork<Reservation<T>, Pass<'p>, Unit> for Beginning<'a, T> {
+    ghost may = { λ work r pass. IsOnly work.words.now r pass
+        × (is_active (head_at (state_seen pass) (its_number r.slot)) ≡ false) };
 
-    ghost gives = { λ work seat seat' pass pass' _. (answer : Answer) × MakesAlone pass pass' (Enter (its_number seat.slot)) answer };
+    ghost gives = { λ work r r' pass pass' unit. ((answer : Answer) × MakesAlone pass pass' (Enter (its_number r.slot)) answer)
+        × IsUnit (words_book work.words.now) (its_number r.slot) unit.unit unit.seen × (unit.number ≡ its_number r.slot) };
 
-    fn work(self, seat: &mut Seat<T>, pass: &mut Pass<'p>) {
+    fn work(self, r: &mut Reservation<T>, pass: &mut Pass<'p>) -> Unit {
         let words = self.words;
-        seat.slot.seen().agree(&words.blocks.book);
-        seat.slot.look(words, pass);
-        let head = seat.slot.head(words, pass);
-        seat.slot.enter(words, head, &mut seat.activation, pass);
+        r.slot.seen().agree(&words.blocks.book);
+        r.slot.look(words, pass);
+        let head = r.slot.head(words, pass);
+        let number = r.slot.number();
+        let (unit, seen) = r.enter(words, head, pass);
+        Unit { number, unit, seen }
     }
 }

@@ -1,0 +1,38 @@
+-- What a watch was told, and what calls of a collector in one caller's hands answer.
+--     told_of told seen gone     what a watch has seen that was told of these values, in order
+--     HasTold code told seen seen' had     a watch that had seen the one and has seen the other was told of the values that were had
+--     HasToldFrom c code told first seen' had     so it is with what it had seen first, of which this is the code
+--     Said a result new          the call answered as the model does, and this is the model's state after it
+--     Grew a result old new      so it did; or it was refused memory, and the state is as it was
+--     Answers told a result new seen seen'     so it did, and the watch was told exactly the values gone, in order
+use Rattle.std.specs.Prelude.{◌≡◌, ◌⊎◌, List, [], ◌∷◌, Result, Err}
+use Rattle.std.specs.List.{fold}
+use base.Stored.{Coded, Gv}
+use Rattle.seize_model.specs.Waiting.State.{State}
+use Rattle.seize_model.specs.Waiting.Calls.{Response}
+use Rattle.seize_table.specs.declared.refusal.Refusal.{Refusal}
+use Rattle.seize_table.specs.declared.refusal.Refusal.TheVariants.{NoMemory}
+use Rattle.seize_calls.specs.Handing.{Had}
+
+abbrev pub told_of : {T R Seen : Type 0} → (Seen → T → Seen) → Seen → List (T × R) → Seen
+told_of told seen gone = fold (λ s v. told s v.0) seen gone
+
+abbrev pub AreCodes : {T : Type 0} → (T → Gv) → List T → Had → Type 0
+AreCodes code [] [] = Unit {0}
+AreCodes code (x ∷ xs) (one ∷ had) = (code x ≡ one.1) × AreCodes code xs had
+AreCodes code _ _ = ⊥
+
+abbrev pub HasTold : {T Seen : Type 0} → (T → Gv) → (Seen → T → Seen) → Seen → Seen → Had → Type 0
+HasTold {T} code told seen seen' had = (xs : List T) × AreCodes code xs had × (seen' ≡ fold told seen xs)
+
+abbrev pub HasToldFrom : {T Seen : Type 0} → Coded Seen → (T → Gv) → (Seen → T → Seen) → Gv → Seen → Had → Type 0
+HasToldFrom {T} {Seen} c code told first seen' had = (seen : Seen) × (c.code seen ≡ first) × HasTold code told seen seen' had
+
+abbrev pub Said : {A T R : Type 0} → Response A T R → Result A Refusal → State T R → Type 0
+Said a result new = (result ≡ a.0) × (new ≡ a.1.0)
+
+abbrev pub Grew : {A T R : Type 0} → Response A T R → Result A Refusal → State T R → State T R → Type 0
+Grew a result old new = ((result ≡ Err NoMemory) × (new ≡ old)) ⊎ Said a result new
+
+abbrev pub Answers : {A T R Seen : Type 0} → (Seen → T → Seen) → Response A T R → Result A Refusal → State T R → Seen → Seen → Type 0
+Answers told a result new seen seen' = Said a result new × (seen' ≡ told_of told seen a.1.1)

@@ -1,0 +1,33 @@
+//! Who is told of the values that are gone.
+ghost use Rattle.std.specs.Prelude.{◌≡◌};
+ghost use base.Stored.{Coded, coded_unit};
+
+/// Is told of each value that is gone, just before it goes to the collector's reclaimer.
+///
+/// A watch has a state, and a definition of how one value changes it. The code of states is there for proofs alone.
+pub trait Watch<T> {
+    ghost Seen: { Type 0 };
+
+    ghost coded: { Coded Seen };
+
+    ghost seen: { Self → Seen };
+
+    ghost told: { Seen → T → Seen };
+
+    /// This value is gone.
+    fn gone(&mut self, value: &T)
+        ensures { seen self.new ≡ told (seen self.old) value.now };
+}
+
+/// Keeps nothing.
+impl<T> Watch<T> for () {
+    ghost Seen = { Unit {0} };
+
+    ghost coded = { coded_unit };
+
+    ghost seen = { λ _. tt };
+
+    ghost told = { λ _ _. tt };
+
+    fn gone(&mut self, _value: &T) {}
+}
