@@ -1,3 +1,4 @@
+pub mod Alones
 pub mod Blocks
 pub mod Collectors
 pub mod Enders
@@ -13,6 +14,7 @@ pub mod Names
 pub mod Numbers
 pub mod OwnedGuards
 pub mod Places
+pub mod Placing
 pub mod Puts
 pub mod Reclaims
 pub mod Registrations

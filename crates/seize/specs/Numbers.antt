@@ -7,14 +7,19 @@
 --     AreTakenTo n numbers     the key knows that just these numbers are in use, the slots that lie there are those of the others and of
 --                              the first n, and the next one is there
 --     AreNumbers numbers       so others find them: no slot that lies there has taken its number
---     HasTaken words pass pass' slot     the slot's number was taken with the pass, by the event `Take`. The slot is in use, and inactive
+--     HasTaken words pass pass' slot     the slot's number was taken with the pass, by the event `Take`, the only entry of the list since where the
+--                              pass is alone (MakesAlone). The slot is in use, and inactive
+--     TakesNone pass pass' refusal     no number was taken, for want of memory, and the pass made nothing (IsStill)
 --     IsLockFor words numbers  they are of the list of these words;  MayEnd words slot     the slot is in use, and inactive
 use Rattle.std.specs.Prelude.{◌≡◌, ◌<◌, ◌≤◌, ℕ, suc, zero, Bool, true, map, List, [], ◌∷◌, Option, Some, None, get_or}
 use Rattle.std.specs.Option.{is_none}
 use Rattle.seize_machine.specs.Machine.Event.{Take}
+use Rattle.seize_machine.specs.declared.machine.event.Answer.{Answer}
 use Rattle.seize_machine.specs.declared.machine.event.Answer.TheVariants.{Done}
+use Rattle.seize_table.specs.declared.refusal.Refusal.{Refusal}
+use Rattle.seize_table.specs.declared.refusal.Refusal.TheVariants.{NoMemory}
 use Rattle.seize_book.specs.Others.{use_flags}
-use Rattle.seize_book.specs.Tokens.{Name}
+use Rattle.seize_book.specs.Tokens.{IsSole, Name}
 use Rattle.seize_book.specs.declared.book.numbers_key.NumbersKey.{NumbersKey}
 use Rattle.seize_book.specs.declared.book.pass.Pass.{Pass}
 use Rattle.seize_words.specs.Joined.{words_book}
@@ -25,7 +30,9 @@ use Rattle.seize_words.specs.declared.slots.next.NextSlot.{NextSlot}
 use Rattle.seize_words.specs.declared.words.Words.{Words}
 use Rattle.seize_calls.specs.Slots.{IsInUse, IsInactive, IsOfList, IsSlotOf, its_number}
 use Rattle.seize_calls.specs.declared.slot.Slot.{Slot}
-use Rattle.seize.specs.Makes.{MakesOne}
+use Rattle.seize_alone.specs.Events.{MakesAlone}
+use Rattle.seize.specs.Makes.{MakesNone, MakesOne}
+use Rattle.seize.specs.Places.{IsStill}
 use Rattle.seize.specs.declared.numbers.Numbers.{Numbers}
 
 abbrev pub flags_of : {X : Type 0} → List (Option X) → List Bool
@@ -64,6 +71,10 @@ pub record HasTaken {T : Type 0} (words : Words T) (pass pass' : Pass) (slot : S
   pub its : IsSlotOf words slot
   pub inactive : IsInactive slot
   pub takes : MakesOne pass pass' (Take (its_number slot)) Done
+  pub alone : IsSole pass.id → (answer : Answer) × MakesAlone pass pass' (Take (its_number slot)) answer
+
+abbrev pub TakesNone : Pass → Pass → Refusal → Type 0
+TakesNone pass pass' refusal = MakesNone pass pass' × IsStill pass pass' × (refusal ≡ NoMemory)
 
 abbrev pub IsLockFor : {T : Type 0} → Words T → Numbers T → Type 0
 IsLockFor words numbers = numbers.book.name.family ≡ (words_book words).family

@@ -8,9 +8,8 @@ ghost use Rattle.seize_words.specs.Reserved.{HasNextSlot};
 ghost use Rattle.seize_words.specs.Totals.{made_of};
 ghost use Rattle.seize_machine.specs.Machine.Event.{Give};
 ghost use Rattle.seize_machine.specs.declared.machine.event.Answer.TheVariants.{Done};
-ghost use Rattle.seize.specs.Makes.{MakesNone, MakesOne};
+ghost use Rattle.seize.specs.Makes.{MakesOne};
 ghost use Rattle.seize.specs.Shelves.{IsShelfFor};
-ghost use Rattle.seize_table.specs.declared.refusal.Refusal.TheVariants.{NoMemory as no_memory};
 
 mod recovering;
 pub(crate) mod sweeping;
@@ -50,7 +49,7 @@ impl<T: Drop> Steady for Numbers<T> {
 }
 
 impl<T: Drop> Numbers<T> {
-    ghost use Rattle.seize.specs.Numbers.{AreNumbers, HasTaken};
+    ghost use Rattle.seize.specs.Numbers.{AreNumbers, HasTaken, TakesNone};
 
     /// Those of a new list of events, which has no slot yet.
     pub(crate) fn new(alloc: Global, key: NumbersKey, next: NextSlot, book: &Seen) -> Numbers<T>
@@ -85,7 +84,7 @@ impl<T: Drop> Numbers<T> {
         requires pass { IsPassFor words.now pass.old }
         ensures numbers { AreNumbers self.new × (self.new.book ≡ self.old.book) }
         ensures made { IfOk result (λ made. HasTaken words.now pass.old pass.new made.0 × IsShelfFor words.now made.1) }
-        ensures refused { IfErr result (λ refusal. MakesNone pass.old pass.new × (refusal ≡ no_memory)) }
+        ensures refused { IfErr result (λ refusal. TakesNone pass.old pass.new refusal) }
     {
         let first = self.first();
         let Ok(shelf) = self.shelves.shelf(first.unwrap_or(self.slots.len())) else {
@@ -122,7 +121,7 @@ impl<T: Drop> Numbers<T> {
         requires taken { position is_some self.old.slots.items ≡ None }
         ensures numbers { AreNumbers self.new × (self.new.book ≡ self.old.book) }
         ensures made { IfOk result (λ slot. HasTaken words.now pass.old pass.new slot) }
-        ensures refused { IfErr result (λ refusal. MakesNone pass.old pass.new × (refusal ≡ no_memory)) }
+        ensures refused { IfErr result (λ refusal. TakesNone pass.old pass.new refusal) }
     {
         pass.learn(&self.book);
         if self.slots.reserve(1).is_err() {
@@ -178,13 +177,13 @@ pub(crate) struct Registering<'a, T> {
 
 impl<'a, 'p, T: Drop> LockWork<Numbers<T>, Pass<'p>, Result<(Slot<T>, Shelf<T>), Refusal>>
     for Registering<'a, T> {
-    ghost use Rattle.seize.specs.Numbers.{HasTaken, IsLockFor};
+    ghost use Rattle.seize.specs.Numbers.{HasTaken, IsLockFor, TakesNone};
 
     ghost may = { λ work numbers pass. IsLockFor work.words.now numbers × IsPassFor work.words.now pass };
 
     ghost gives = { λ work numbers numbers' pass pass' result.
         IfOk result (λ made. HasTaken work.words.now pass pass' made.0 × IsShelfFor work.words.now made.1)
-        × IfErr result (λ refusal. MakesNone pass pass' × (refusal ≡ no_memory)) };
+        × IfErr result (λ refusal. TakesNone pass pass' refusal) };
 
     fn work(
         self,

@@ -3,11 +3,16 @@ use Rattle.std.specs.Option.{is_none}
 use Rattle.std.proofs.lemmas.List.{get_or_default}
 use Rattle.seize_machine.specs.Machine.Event.{Take}
 use Rattle.seize_machine.specs.declared.machine.event.Answer.TheVariants.{Done}
+use Rattle.seize_machine.specs.declared.machine.event.Answer.{Answer}
 use Rattle.seize_book.specs.Slots.{slot_of}
+use Rattle.seize_book.specs.Tokens.{IsSole}
 use Rattle.seize_calls.specs.Slots.{IsOfList}
+use Rattle.seize_alone.proofs.Ready.{entry_alone}
+use Rattle.seize_alone.specs.Events.{MakesAlone}
 use Rattle.seize.specs.Makes.{MakesOne}
 use Rattle.seize.proofs.Made.{slot_takes}
 use Rattle.seize.proofs.Numbered.{ended, first_below, first_some, may_take_first, not_used, numbers_set}
+use Rattle.seize.proofs.Stilled.{alone_from, still_prepared}
 use Rattle.seize.proofs.numbers.Numbers.again.Goals as goal
 
 pub unreachable-requires : goal.unreachable-requires
@@ -46,4 +51,7 @@ returns-clause-made g c =
       its = one.ensures.of;
       inactive = one.ensures.outside;
       takes = subst (λ (s : ℕ). MakesOne c.args.pass.now one.new.pass (Take s) Done) (sym one.ensures.takes.0.same.0) (slot_takes slot c.args.pass.now one.new.self one.new.pass one.ensures.takes);
+      alone = λ sole.
+          let takes = one.ensures.takes.0 in let still = still_prepared slot takes.prepares in let answer : Answer = takes.does.2.0.answer in
+          (answer, subst (λ (s : ℕ). MakesAlone c.args.pass.now one.new.pass (Take s) answer) (sym takes.same.0) (alone_from sole still (entry_alone (subst IsSole (sym still.same.1) sole) takes.does)));
     }

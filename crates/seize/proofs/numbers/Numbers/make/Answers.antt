@@ -1,5 +1,10 @@
-use Rattle.std.proofs.Common.{[], ◌∷◌, ◌++◌, None, refl, sym, ap, ◌∙◌, arith}
+use Rattle.std.proofs.Common.{ℕ, [], ◌∷◌, ◌++◌, None, refl, sym, ap, subst, ◌∙◌, arith}
+use Rattle.seize_machine.specs.Machine.Event.{Take}
+use Rattle.seize_book.specs.Tokens.{IsSole}
+use Rattle.seize_alone.proofs.Ready.{made_alone}
+use Rattle.seize_alone.specs.Events.{MakesAlone}
 use Rattle.seize.proofs.Made.{makes_slot, none_learned, none_then}
+use Rattle.seize.proofs.Stilled.{alone_from, still_learned}
 use Rattle.seize.proofs.Numbered.{is_full, next_is, numbers_kept, numbers_made}
 use Rattle.seize.proofs.numbers.Numbers.make.Goals as goal
 
@@ -28,6 +33,9 @@ returns-in-Ok-clause-made g c =
       its = made.of;
       inactive = made.outside;
       takes = none_then learned (makes_slot c.args.self.now.key c.in-Some.next c.learn.new.self c.make.new.numbers c.in-Ok.slot c.in-Ok.next c.make.new.pass made.made);
+      alone = λ sole.
+          let still = still_learned c.args.self.now.book c.learn.ensures in let makes = made.made.0.made in
+          (makes.noted.answer, subst (λ (s : ℕ). MakesAlone c.args.pass.now c.make.new.pass (Take s) makes.noted.answer) (sym makes.seen_by.1 ∙ c.in-Ok.slot.together.numbered) (alone_from sole still (made_alone (subst IsSole (sym still.same.1) sole) makes)));
     }
 
 pub returns-in-Err-clause-numbers : goal.returns-in-Err-clause-numbers
