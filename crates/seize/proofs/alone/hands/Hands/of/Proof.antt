@@ -1,0 +1,34 @@
+-- `of` takes the state, the names and the kinds out of what is asked.
+use Rattle.seize_book.proofs.Kit.{ℕ, List, [], ◌∷◌, refl, w64, proved, named, Val, vint, vptr, SProp, emp, Fml, ftrue, fsep, flft, ‵, raw, ◌⊛◌, ◌$◌, ◌∵◌, !, qed, by, move, keep, split, fjoin, use0, no_more, and_then, returns, enter, alloc_all, pass_all, free_all, look_at, get, sets, agg, fact, fact_i, heard, tables, yes, owns, types_at, plain, RefOf, shr_vals, shr_Tells, uint_vals, uint_Tells, RattleType, nothing, Stays, stay_dropped, walk_of, Goes-dropped}
+use mir.Syntax.{a_type, dcons, dnil}
+use mir.MapTy.{inst_fn}
+use denote.Builtin.{usize}
+use denote.Param.{param, bounded}
+use Rattle.seize_model.specs.Waiting.State.{State}
+use Rattle.seize_book.proofs.Fields.{Token, token, token_made, ends}
+use Rattle.seize_book.specs.contracts.book.porter.Porter as Porter
+use Rattle.seize.specs.contracts.alone.hands.Hands as Hands
+use Rattle.seize.specs.contracts.alone.hands.Hands.of.{ended, clauses}
+use Rattle.seize.specs.contracts.alone.hands.Hands.of.Key.{name as #self}
+use Rattle.seize.proofs.alone.hands.Hands.of.Statement.{statement}
+use Rattle.seize.proofs.alone.hands.Hands.of.Code as code
+
+pub of_spec : {M : Type 1} → statement M
+of_spec 𝓤 𝓛 𝓜 𝓡 wired X Y LX LY g dict met =
+    let H = 𝓛.H in let 𝓣 = tables 𝓤 H 𝓜 𝓡 𝓡.env in let T : RattleType = param 0 X in let En = ended X Y g dict in let inst = bounded (a_type ∷ a_type ∷ []) (X, (Y, tt)) (dcons dict dnil) in let fn = inst_fn inst code.function in let c = clauses X Y g dict 𝓛 𝓜.mem 𝓡.returns in
+    let hands = RefOf (0 ∷ []) tt (plain (λ _. Hands.the_row T)) (λ _. tt) in let porter = RefOf (1 ∷ []) tt (plain (λ _. Porter.the_row)) (λ _. tt) in let number = plain (λ _. usize) in
+    let hs : Stays En.signature.params En.kept = (stay_dropped hands yes, (stay_dropped porter yes, (stay_dropped number yes, tt))) in
+    proved 𝓛 En hs c 𝓜 𝓡 (Goes-dropped 𝓛 4 hands yes (λ κs x f. refl), (Goes-dropped 𝓛 4 porter yes (λ κs x f. refl), (Goes-dropped 𝓛 4 number yes (λ κs x f. refl), tt))) (#self inst) fn (code.unfolded 𝓤 H 𝓜 𝓡 wired (X, (Y, tt)) dict)
+    (λ κs. (shr_vals, (shr_vals, (uint_vals w64, tt)))) (λ κs. (shr_Tells (named 0) κs.0 (Hands.the_row T), (shr_Tells (named 1) κs.1.0 Porter.the_row, (uint_Tells w64, tt)))) (λ κs qs bounds a gh are.
+    let hb : ℕ = a.0.ref_ptr.0 in let ho : ℕ = a.0.ref_ptr.1 in let pb : ℕ = a.1.0.ref_ptr.0 in let po : ℕ = a.1.0.ref_ptr.1 in let n : ℕ = a.1.1.0 in
+    let y : (walk_of 𝓛 En hs c).Ghost = ((κs, qs, bounds, a, (vptr hb ho ∷ [], (vptr pb po ∷ [], (vint w64 n ∷ [], tt)))), gh) in let Post : Val → SProp 𝓤 = (walk_of 𝓛 En hs c).post y in
+    let toks : Fml = fsep (flft κs.0 qs.0) (fsep (flft κs.1.0 qs.1.0) (fsep (flft κs.1.1.0 qs.1.1.0) (fsep (flft κs.1.1.1.0 qs.1.1.1.0) ftrue))) in
+    let Asked : Type 0 = (st : State X.Denot ℕ) × (names : List (ℕ × X.Denot)) × (kinds : List (ℕ × ℕ)) × g.are st names kinds in
+    qed 𝓛 ((‵ toks ⊛ ‵ (owns (types_at En.signature.params κs) a y.0.4)) ∷ raw (fact 𝓤 _) ∷ raw (fact 𝓤 _) ∷ raw (fact 𝓤 Asked) ∷ []) ∵ move ! (3 ∷ 0 ∷ []) $ heard ! Asked (λ asked. split ! $ keep ! (0 ∷ []) $
+    enter ! 𝓣.C 𝓣.Λ fn (vptr hb ho ∷ vptr pb po ∷ vint w64 n ∷ []) Post $ alloc_all ! (λ l. pass_all ! refl ((tt, tt), ((tt, tt), ((tt, record { fits = are.1.1.0.1 }), tt))) $
+    sets ! (agg ! (no_more !)) refl (tt, tt) $ sets ! (agg ! (and_then ! (get ! refl) (no_more !))) refl (tt, (tt, tt)) $
+    nothing ! $ use0 𝓛 (‵ (Token.own_val (record {}, tt) (token ∷ []))) (token_made 𝓛) $ fjoin ! $
+    -- [the result; the tokens]
+    nothing ! $ nothing ! $ fjoin ! $ nothing ! $ fjoin ! $ nothing ! $ fjoin ! $
+    returns ! (look_at ! 0 refl) $ free_all ! refl $ keep ! (2 ∷ 0 ∷ 1 ∷ []) $
+    by ! (ends 𝓛 En hs c y token (record { marker = record {}; state = asked.0; names = asked.1; kinds = asked.2 }) (tt, (tt, (tt, tt))) (tt, (tt, (tt, tt))) (fact_i 𝓤 _ (emp 𝓤) asked.3)))))
