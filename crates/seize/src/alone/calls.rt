@@ -1,68 +1,53 @@
 //! The calls by which values may be gone, as works on a slot's place, while a collector is in one caller's hands. None of them waits, and
 //! each returns, since what the reclaimer puts weighs less than the value.
 ghost use Rattle.std.specs.Prelude.{◌≡◌, Bool, []};
-ghost use Rattle.seize_calls.specs.Slots.{IsLooseOf, SlotFlushes, SlotLeaves, SlotRefreshes, SlotRetires, its_number};
+ghost use Rattle.seize_book.specs.Tokens.{IsSole};
+ghost use Rattle.seize_calls.specs.Handing.{Had};
+ghost use Rattle.seize_calls.specs.Slots.{HasActivation, IsItsHead, IsPassFor, IsSlotOf, MayEnterWith, SlotLeaves, its_number};
 ghost use Rattle.seize_words.specs.Joined.{words_book};
-ghost use Rattle.seize_words.specs.declared.activation.Activation.{Activation};
-ghost use Rattle.seize.specs.Enders.{IsEnderOf};
+ghost use Rattle.seize.specs.Enders.{IsEnderOf, PutAs};
 ghost use Rattle.seize.specs.Places.{CallsSlot, IsOnly};
 ghost use Rattle.seize.specs.Reservations.{IsUnit};
+ghost use Rattle.seize.specs.Told.{HasTold};
 
 use crate::alone::place::Unit;
-use crate::alone::tells::Tells;
+use crate::alone::tells::{Begun, Tells};
 use crate::ender::Ender;
+use crate::ends::Forwards;
 use crate::reclaim::{Reclaim, Watch};
 use crate::reservation::Reservation;
 use seize_calls::manner::Alone;
-use seize_calls::slot::Loose;
-use seize_cells::LockWork;
-use seize_words::book::Pass;
+use seize_calls::slot::Slot;
+use seize_cells::{Lock, LockWork};
+use seize_words::activation::Activation;
+use seize_words::book::{Pass, Stay};
+use seize_words::reservation::Head;
 use seize_words::words::Words;
+use std::marker::{Brand, PhantomData};
 
-/// The slot leaves with its last guard.
-#[derive(Drop)]
-pub(crate) struct Leaving<'a, 'w, T: Drop, R: Reclaim<T>, W> {
-    /// The words of the collector.
-    pub(crate) words: &'a Words<T>,
-    /// Its reclaimer.
-    pub(crate) ender: &'a Ender<T, R>,
-    /// The unit of the slot's activation.
-    pub(crate) unit: Unit,
-    /// Who is told.
-    pub(crate) watch: &'w mut W,
-}
-
-impl<'a, 'w, 'p, T: Drop, R: Reclaim<T>, W: Watch<T>> LockWork<Reservation<T>, Pass<'p>, ()> for Leaving<'a, 'w, T, R, W> {
-    ghost may = { λ work r pass. IsOnly work.words.now r pass × IsEnderOf work.words.now work.ender.now
-        × IsUnit (words_book work.words.now) (its_number r.slot) work.unit.unit work.unit.seen };
-
-    ghost gives = { λ work r r' pass pass' _. CallsSlot T.row.coded.code R.puts W.told r pass r' pass'
-        (W.seen work.watch.now) (W.seen work.watch.now)
-        (λ slot ready slot' pass' had. SlotLeaves slot ready [] slot' pass' had) };
-
-    fn work(self, r: &mut Reservation<T>, pass: &mut Pass<'p>) {
-        let Leaving {
-            words,
-            ender,
-            unit,
-            watch,
-        } = self;
-        let Unit {
-            number: _,
-            unit,
-            seen,
-        } = unit;
-        r.current(words, &unit, &seen, pass);
-        let head = r.slot.head(words, pass);
-        r.rest.join(unit);
-        r.guards -= 1;
-        r.slot.leave(
-            words,
-            head,
-            &mut r.rest,
-            &mut Tells::new(ender, watch),
-            pass,
-            &Alone {},
-        );
-    }
+// The slot leaves, and the watch is told.
+fn leave<B: Begun, T: Drop, R: Reclaim<T>, W: Watch<T>>(
+    words: &Words<T>,
+    ender: &Ender<T, R>,
+    slot: &mut Slot<T>,
+    head: &Head,
+    rest: &mut Activation,
+    watch: &mut W,
+    pass: &mut Pass,
+)
+    requires of { IsSlotOf words.now slot.old × IsPassFor words.now pass.old × IsSole pass.old.id }
+    requires head { IsItsHead slot.old head.now }
+    requires inside { HasActivation slot.old rest.old }
+    requires ender { IsEnderOf words.now ender.now }
+    requires begun { (watch.ghost_name ≡ B.name) × (W.coded.code (W.seen watch.old) ≡ B.first) }
+    ensures of { IsSlotOf words.now slot.new × MayEnterWith slot.new rest.new }
+    ensures leaves { (had : Had) × SlotLeaves slot.old pass.old [] slot.new pass.new had × PutAs T.row.coded.code R.puts had
+        × HasTold T.row.coded.code W.told (W.seen watch.old) (W.seen watch.new) had }
+{
+    let mut tells = Tells::<T, R, W, B> {
+        forwards: Forwards::new(ender),
+        watch,
+        begun: PhantomData,
+    };
+    slot.leave(words, head, rest, &mut tells, pass, &Alone {});
 }
