@@ -27,3 +27,4 @@ mod Cleared
 mod Recovered
 mod OneLife
 mod Stilled
+mod Linked
