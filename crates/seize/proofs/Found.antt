@@ -58,7 +58,7 @@ read_replaced code a collector new read {held} {now} {result} {found} {outcome} 
     let same : now ≡ held = subst (TookFound a (shared_name found) read now) won took (subst (λ (o : Option ℕ). FoundIn a o read) (sym name) there) ∙ name in
     (compared ∙ same, same)
 
-none_held : (o : Option ℕ) → link_word o ≡ 0 → o ≡ None
+pub none_held : (o : Option ℕ) → link_word o ≡ 0 → o ≡ None
 none_held None is = refl
 none_held (Some w) is = absurd (let e : block_number w + 1 ≡ 0 = is in omega (arith, e))
 

@@ -17,11 +17,10 @@ use Rattle.seize_words.specs.declared.glimpse.Found.{Found}
 use Rattle.seize_words.specs.declared.glimpse.Glimpse.{Glimpse}
 use Rattle.seize_words.specs.declared.link.Link.{Link}
 use Rattle.seize_words.specs.declared.link.MaybeKey.{MaybeKey}
-use Rattle.seize.specs.Blocks.{IsSharedOf, Shows, shared_name, shared_value}
+use Rattle.seize.specs.Blocks.{ShowsIn, shared_book, shared_name, shared_value}
 use Rattle.seize.specs.Makes.{MakesCall, MakesNone, MakesOne}
 use Rattle.seize.specs.Reservations.{IsUnit}
 use Rattle.seize.specs.declared.block.shared.Shared.{Shared}
-use Rattle.seize.specs.declared.collector.Collector.{Collector}
 use Rattle.seize_book.specs.Tokens.{Name}
 use Rattle.seize.proofs.LinkSteps.{link_compares, link_finds, link_swaps}
 use Rattle.seize.proofs.Made.{none_learned, none_then}
@@ -53,18 +52,18 @@ module _ (n : Name) (s : ℕ) (unit : Activation) (seen : Seen) (its : IsUnit n 
       (none_then (subst (MakesNone pass) (sym same) (none_learned pass seen learned learns)) (link_compares link unit key ready current key' pass' v glimpse t))
 
 -- What a read shows: nothing, where the link held nothing;
-pub shows_none : {T R X : Type 0} (collector : Collector T R) (code : T → Gv) (held : Option ℕ) (found : Option X) (shared : Option (Shared T)) → is_some found ≡ is_some held → found ≡ None → shared ≡ None → Shows collector code held shared
-shows_none {T} {R} {X} collector code held found shared same none is =
-    subst (Shows collector code held) (sym is) (none_held held (subst (λ (o : Option X). is_some o ≡ is_some held) none same))
+pub shows_none : {T X : Type 0} (n : Name) (code : T → Gv) (held : Option ℕ) (found : Option X) (shared : Option (Shared T)) → is_some found ≡ is_some held → found ≡ None → shared ≡ None → ShowsIn n code held shared
+shows_none {T} {X} n code held found shared same none is =
+    subst (ShowsIn n code held) (sym is) (none_held held (subst (λ (o : Option X). is_some o ≡ is_some held) none same))
   where
     none_held : (o : Option ℕ) → false ≡ is_some o → o ≡ None
     none_held None same = refl
     none_held (Some v) same = absurd (false≢true same)
 
 -- and else the value that was found
-pub shows_found : {T R : Type 0} (collector : Collector T R) (code : T → Gv) (held : Option ℕ) (result : Option (Found T)) (found : Found T) (shared : Shared T)
+pub shows_found : {T : Type 0} (n : Name) (code : T → Gv) (held : Option ℕ) (result : Option (Found T)) (found : Found T) (shared : Shared T)
     → IfSome result (λ f. (f.glimpse.value ≡ held) × IsFoundAs f.glimpse.value (code f.value.now)) → result ≡ Some found
-    → (shared_name shared ≡ found.glimpse.value) × (shared_value shared ≡ found.value.now) × IsSharedOf collector shared → Shows collector code held (Some shared)
-shows_found {T} {R} collector code held result found shared finds is so =
+    → (shared_name shared ≡ found.glimpse.value) × (shared_value shared ≡ found.value.now) × (shared_book shared ≡ n) → ShowsIn n code held (Some shared)
+shows_found {T} n code held result found shared finds is so =
     let f = subst (λ (r : Option (Found T)). IfSome r (λ f. (f.glimpse.value ≡ held) × IsFoundAs f.glimpse.value (code f.value.now))) is finds in
     (so.0 ∙ f.0, subst (λ (t : Option ℕ × T). IsFoundAs t.0 (code t.1)) (λ j. (f.0 j, sym so.1 j)) f.1, so.2)

@@ -9,8 +9,10 @@
 --     unlinked_name u           what the list calls the value that is in no link;  IsUnlinkedOf c u   it keeps the words of this collector
 --     IsNamed code owned o      o is what the list calls the value of this block, or there is neither
 --     shared_book shared        the list of its collector;  IsSharedOf c shared     it is of this collector
---     Shows c code held shared  what was found is what the link held, a block of this collector with that value; or there is neither
---     ComesOut held u           what came out is what the link held, or there is neither
+--     ShowsIn n code held shared     what was found is what the link held, a block of the collector of list n with that value; or there is
+--                               neither;  Shows c code held shared     so it is, and the block is of this collector
+--     ComesOut held u           what came out is what the link held, or there is neither;  LooseComesOut held loose     so it is, as it is
+--                               when the words are not kept with it
 use Rattle.std.specs.Prelude.{◌≡◌, ℕ, ◌∷◌, All, Option, None, Some, List}
 use Rattle.std.specs.List.{flat_map}
 use base.Stored.{Gv}
@@ -20,6 +22,7 @@ use Rattle.seize_book.specs.Tokens.{Name}
 use Rattle.seize_words.specs.Chunks.{IsFoundAs, IsLentAs}
 use Rattle.seize_words.specs.Joined.{words_book}
 use Rattle.seize_calls.specs.Slots.{its_value}
+use Rattle.seize_calls.specs.declared.slot.Loose.{Loose}
 use Rattle.seize.specs.declared.block.owned.Owned.{Owned}
 use Rattle.seize.specs.declared.block.shared.Shared.{Shared}
 use Rattle.seize.specs.declared.block.unlinked.Unlinked.{Unlinked}
@@ -69,11 +72,18 @@ IsNamed code (Some owned) (Some v) = HasContent code v (content owned)
 IsNamed code None None = Unit {0}
 IsNamed code _ _ = ⊥
 
+abbrev pub ShowsIn : {T : Type 0} → Name → (T → Gv) → Option ℕ → Option (Shared T) → Type 0
+ShowsIn n code held (Some shared) =
+    (shared_name shared ≡ held) × IsFoundAs held (code (shared_value shared)) × (shared_book shared ≡ n)
+ShowsIn n code held None = held ≡ None
+
 abbrev pub Shows : {T R : Type 0} → Collector T R → (T → Gv) → Option ℕ → Option (Shared T) → Type 0
-Shows collector code held (Some shared) =
-    (shared_name shared ≡ held) × IsFoundAs held (code (shared_value shared)) × IsSharedOf collector shared
-Shows collector code held None = held ≡ None
+Shows collector code held shared = ShowsIn (words_book collector.words) code held shared
 
 abbrev pub ComesOut : {T : Type 0} → Option ℕ → Option (Unlinked T) → Type 0
 ComesOut held (Some unlinked) = held ≡ Some (unlinked_name unlinked)
 ComesOut held None = held ≡ None
+
+abbrev pub LooseComesOut : Option ℕ → Option Loose → Type 0
+LooseComesOut held (Some loose) = held ≡ Some (its_value loose)
+LooseComesOut held None = held ≡ None

@@ -8,6 +8,7 @@ ghost use Rattle.seize.specs.Placing.{ArePlaces};
 
 mod calls;
 mod hands;
+mod links;
 mod place;
 mod tells;
 

@@ -205,12 +205,16 @@ pub(crate) struct Ending<'a, T> {
 }
 
 impl<'a, 'p, T: Drop> LockWork<Numbers<T>, Pass<'p>, ()> for Ending<'a, T> {
+    ghost use Rattle.seize_book.specs.Tokens.{IsSole};
+    ghost use Rattle.seize_machine.specs.declared.machine.event.Answer.{Answer};
+    ghost use Rattle.seize_alone.specs.Events.{MakesAlone};
     ghost use Rattle.seize.specs.Numbers.{IsLockFor, MayEnd};
 
     ghost may = { λ work numbers pass. IsLockFor work.words.now numbers × IsPassFor work.words.now pass
         × MayEnd work.words.now work.slot };
 
-    ghost gives = { λ work numbers numbers' pass pass' result. MakesOne pass pass' (Give (its_number work.slot)) Done };
+    ghost gives = { λ work numbers numbers' pass pass' result. MakesOne pass pass' (Give (its_number work.slot)) Done
+        × (IsSole pass.id → (answer : Answer) × MakesAlone pass pass' (Give (its_number work.slot)) answer) };
 
     fn work(self, numbers: &mut Numbers<T>, pass: &mut Pass<'p>) {
         let Ending { words, mut slot } = self;

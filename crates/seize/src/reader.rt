@@ -79,7 +79,7 @@ impl<'c, T: Drop, R: Reclaim<T>> Reader<'c, T, R> {
     {
         let collector = self.collector;
         pass.learn(&self.seen);
-        let (new, mut key) = name(value, collector, pass);
+        let (new, mut key) = name(value, &collector.words, collector.ender(), pass);
         let old = collector
             .words
             .swap_link(link, new, &mut key, &self.unit, pass);
@@ -103,7 +103,7 @@ impl<'c, T: Drop, R: Reclaim<T>> Reader<'c, T, R> {
         let collector = self.collector;
         pass.learn(&self.seen);
         let expected = current_word(current);
-        let (word, mut key) = name(new, collector, pass);
+        let (word, mut key) = name(new, &collector.words, collector.ender(), pass);
         let (old, glimpse) = exchange::<T, Brand>(
             &collector.words,
             link,

@@ -1,0 +1,50 @@
+-- What reads and exchanges of links make where the pass is alone, with a unit of the slot's activation.
+use Rattle.std.proofs.Common.{◌≡◌, ℕ, Option, None, Some, IfNone, IfSome, subst, sym, ◌∙◌}
+use Rattle.seize_machine.specs.Machine.Event.{ExchangeLink, ReadLink}
+use Rattle.seize_machine.specs.declared.machine.event.Answer.TheVariants.{Link as Held}
+use Rattle.seize_machine.specs.declared.machine.event.Exchange.TheVariants.{Swap}
+use Rattle.seize_alone.specs.Events.{MakesAlone}
+use Rattle.seize_alone.proofs.Ready.{read_alone, swapped_alone}
+use Rattle.seize_book.specs.Books.{Learns}
+use Rattle.seize_book.specs.Tokens.{IsSole, Name}
+use Rattle.seize_book.specs.declared.book.pass.Pass.{Pass}
+use Rattle.seize_book.specs.declared.book.seen.Seen.{Seen}
+use Rattle.seize_words.specs.Joined.{words_book}
+use Rattle.seize_words.specs.LinkWords.{Finds, Swaps, held_before, link_number, value_held}
+use Rattle.seize_words.specs.declared.activation.Activation.{Activation}
+use Rattle.seize_words.specs.declared.link.Link.{Link}
+use Rattle.seize_words.specs.declared.link.MaybeKey.{MaybeKey}
+use Rattle.seize_words.specs.declared.words.Words.{Words}
+use Rattle.seize_calls.specs.Slots.{IsLooseIn, IsLooseOf, IsReadable}
+use Rattle.seize_calls.specs.declared.slot.Loose.{Loose}
+use Rattle.seize.specs.Blocks.{LooseComesOut}
+use Rattle.seize.specs.Places.{IsStill}
+use Rattle.seize.specs.Reservations.{IsUnitIn}
+use Rattle.seize.proofs.Found.{none_held}
+use Rattle.seize.proofs.Readable.{swapped_readable}
+use Rattle.seize.proofs.Stilled.{alone_from, alone_then, still_learned}
+
+module _ (n : Name) (s : ℕ) (unit : Activation) (seen : Seen) (its : IsUnitIn n s unit seen) (number : ℕ) (link : Link) (at : link_number link ≡ number) (pass learned : Pass) (sole : IsSole pass.id) (learns : Learns pass seen learned) where
+  sole_learned : IsSole learned.id
+  sole_learned = subst IsSole (sym learns.0.1) sole
+
+  -- a read, once the pass has learned that the activation began, and a look at the list
+  pub alone_finds : (pass' : Pass) (v : ℕ) (t : Finds link unit learned pass' v) → MakesAlone pass pass' (ReadLink s number) (Held (held_before t.reads))
+  alone_finds pass' v t =
+      subst (λ (k : ℕ × ℕ). MakesAlone pass pass' (ReadLink k.0 k.1) (Held (held_before t.reads))) (λ j. (its.slot j, at j))
+      (alone_from sole (still_learned seen learns) (alone_then (read_alone sole_learned t.reads) (record { same = t.looks.same; alone = t.looks.alone })))
+
+  -- an exchange
+  pub alone_swaps : (key : MaybeKey) (ready : Pass) (key' : MaybeKey) (pass' : Pass) (v : ℕ) → ready ≡ learned → (t : Swaps link unit key ready key' pass' v)
+      → MakesAlone pass pass' (ExchangeLink s number (Swap (value_held key))) (Held (held_before t.0))
+  alone_swaps key ready key' pass' v same t =
+      subst (λ (k : ℕ × ℕ). MakesAlone pass pass' (ExchangeLink k.0 k.1 (Swap (value_held key))) (Held (held_before t.0))) (λ j. (its.slot j, at j))
+      (alone_from sole (subst (IsStill pass) (sym same) (still_learned seen learns)) (swapped_alone (subst (λ (p : Pass). IsSole p.id) (sym same) sole_learned) t.0))
+
+-- What came out is what the link held, of these words, and can be read; or there is neither.
+pub came_out : {T : Type 0} (words : Words T) (link : Link) (a : Activation) (key : MaybeKey) (pass : Pass) (key' : MaybeKey) (pass' : Pass) (v : ℕ) (t : Swaps link a key pass key' pass' v) (result : Option Loose)
+    → key.keys.name ≡ words_book words → IfSome result (λ loose. IsLooseIn key' loose) → IfNone result (v ≡ 0)
+    → LooseComesOut (held_before t.0) result × IfSome result (λ loose. IsLooseOf words loose × IsReadable loose)
+came_out words link a key pass key' pass' v t (Some loose) its some none =
+    (sym t.2 ∙ some.1, ((some.0 ∙ t.1 ∙ its, some.2), swapped_readable link a key pass key' pass' v loose t some))
+came_out words link a key pass key' pass' v t None its some none = (none_held (held_before t.0) (sym t.0.found ∙ none), tt)
