@@ -5,6 +5,7 @@ pub mod Enders
 pub mod Exchanges
 pub mod Furthers
 pub mod Guards
+pub mod Kinds
 pub mod Laws
 pub mod Lends
 pub mod Lighter

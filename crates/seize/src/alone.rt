@@ -1,10 +1,17 @@
 //! The collector in one caller's hands. Nobody shares it, so each call is exactly what the model of waiting sets says (`seize_model`): its
 //! answer, the state after it, and the values that are gone, in order. A slot lies in its place (`place`), events and calls are works that the
 //! porter's first pass is lent to, and the state is kept in `hands`, which has no bytes.
-ghost use Rattle.std.specs.Prelude.{◌≡◌, box_value, length, true};
+ghost use Rattle.std.specs.Prelude.{◌≡◌, ◌<◌, ◌≤◌, ℕ, None, Some, IfErr, IfOk, box_value, false, get_or, if◌then◌else◌, length, option_map, true};
+ghost use Rattle.seize_model.specs.Waiting.Calls as calls;
+ghost use Rattle.seize_model.specs.Waiting.State.{has_guard, slot_at};
+ghost use Rattle.seize_model.specs.declared.kind.Kind.TheVariants.{Owned as owned_slot, Registered as registered};
 ghost use Rattle.seize_words.specs.Joined.{words_book};
+ghost use Rattle.seize.specs.Alones.{IsSame, id_of, size_of, state_of};
 ghost use Rattle.seize.specs.Enders.{IsEnderOf};
-ghost use Rattle.seize.specs.Placing.{ArePlaces};
+ghost use Rattle.seize.specs.Kinds.{kind_of};
+ghost use Rattle.seize.specs.Placing.{ArePlaces, lies_in};
+ghost use Rattle.seize.specs.Told.{Grew, Said};
+ghost use Rattle.seize_table.specs.declared.refusal.Refusal.TheVariants.{NoMemory as no_memory};
 
 mod calls;
 mod hands;
@@ -15,7 +22,7 @@ mod tells;
 use crate::alone::hands::Hands;
 use crate::alone::place::{Beginning, Place, Within};
 use crate::ender::Ender;
-use crate::numbers::{Numbers, Registering};
+use crate::numbers::{Ending, Numbers, Registering};
 use crate::reclaim::{Boxed, Reclaim};
 use crate::reservation::Reservation;
 use seize_cells::Lock;
@@ -42,14 +49,18 @@ pub struct Alone<T: Drop, R: Reclaim<T> = Boxed> {
     ghost lends: { (porter.name ≡ words_book words) × (porter.size ≡ words.size) × (porter.home ≡ true) },
     ghost numbered: { numbers ≡ (words_book words).family },
     ghost ends: { IsEnderOf words (box_value ender) },
-    ghost counted: { (made ≡ length hands.state.slots) × (hands.state.size ≡ words.size) },
+    ghost counted: { (made ≡ length hands.state.slots) × (hands.state.size ≡ words.size)
+        × (length hands.state.links ≡ length (words_book words).links) },
     ghost placed: { ArePlaces (words_book words) hands.state places.items },
 }
 
 // Makes room for the places of so many slots.
 fn room<T: Drop>(places: &mut Vec<Option<Place<T>>>, many: usize) -> Result<(), Refusal>
+    ensures room { IfOk result (λ _. many ≤ length places.new.items) }
+    ensures refused { IfErr result (λ refusal. refusal ≡ no_memory) }
+    ensures same { (s : ℕ) → get_or places.new.items s None ≡ get_or places.old.items s None }
 {
-    while places.len() < many {
+    for _ in places.len()..many {
         if places.push(None).is_err() {
             return Err(Refusal::NoMemory);
         }
@@ -58,8 +69,59 @@ fn room<T: Drop>(places: &mut Vec<Option<Place<T>>>, many: usize) -> Result<(), 
 }
 
 impl<T: Drop, R: Reclaim<T>> Alone<T, R> {
+    /// How many links it has.
+    pub fn links(&self) -> usize
+        ensures { result ≡ length (state_of self.now).links }
+    {
+        self.words.links.len()
+    }
+
+    /// The id that its source gave it.
+    pub fn id(&self) -> u64
+        ensures { result ≡ id_of self.now }
+    {
+        self.id
+    }
+
+    // Whether the slot is owned, and how many guards it has, where its number is in use.
+    fn known(&self, s: usize) -> Option<(bool, u64)>
+        ensures { let slot = slot_at (state_of self.now) s in
+            result ≡ (if calls.is_free slot.kind then None else Some (calls.is_owned slot.kind, slot.guards)) }
+    {
+        let place = self.places.get(s)?.as_ref()?;
+        Some((place.owned, place.guards))
+    }
+
+    // How many guards the registered slot has.
+    fn registered(&self, s: usize) -> Result<u64, Refusal>
+        ensures it { IfOk result (λ guards. (calls.not_registered (state_of self.now) s ≡ None)
+            × ((slot_at (state_of self.now) s).kind ≡ registered) × ((slot_at (state_of self.now) s).guards ≡ guards)) }
+        ensures refused { IfErr result (λ refusal. calls.not_registered (state_of self.now) s ≡ Some refusal) }
+    {
+        match self.known(s) {
+            None => Err(Refusal::NotInUse),
+            Some((true, _)) => Err(Refusal::WrongKind),
+            Some((false, guards)) => Ok(guards),
+        }
+    }
+
+    // Whether the slot is owned, and how many guards it has: one or more.
+    fn guarded(&self, s: usize) -> Result<(bool, u64), Refusal>
+        ensures it { IfOk result (λ known. let slot = slot_at (state_of self.now) s in (calls.no_guard (state_of self.now) s ≡ None)
+            × (slot.kind ≡ kind_of known.0) × (slot.guards ≡ known.1) × (0 < known.1)) }
+        ensures refused { IfErr result (λ refusal. calls.no_guard (state_of self.now) s ≡ Some refusal) }
+    {
+        match self.known(s) {
+            None => Err(Refusal::NotInUse),
+            Some((_, 0)) => Err(Refusal::NotActive),
+            Some(known) => Ok(known),
+        }
+    }
+
     // The least number that is not in use is taken, for a slot of this kind without a guard.
     fn take(&mut self, owned: bool) -> Result<usize, Refusal>
+        ensures done { Grew (calls.take_number (state_of self.old) (kind_of owned) 0) result (state_of self.old) (state_of self.new) }
+        ensures same { IsSame self.old self.new }
     {
         room(&mut self.places, self.made + 1)?;
         let registering = Registering {
@@ -85,5 +147,124 @@ impl<T: Drop, R: Reclaim<T>> Alone<T, R> {
         }
         self.hands = Hands::of::<Brand>(&self.hands, &self.porter, number);
         Ok(number)
+    }
+
+    // The slot, which is in use, enters with its first guard.
+    fn begin(&mut self, s: usize)
+        requires { let slot = slot_at (state_of self.old) s in (calls.is_free slot.kind ≡ false) × (has_guard slot ≡ false) }
+        ensures done { state_of self.new ≡ calls.set_guards (state_of self.old) s 1 }
+        ensures same { IsSame self.old self.new }
+    {
+        let Some(Some(place)) = self.places.get_mut(s) else {
+            unreachable!()
+        };
+        let beginning = Beginning { words: &self.words };
+        let mut beginning = Within {
+            lock: &mut place.reservation,
+            work: Some(beginning),
+        };
+        let unit = self.porter.stay(&mut beginning);
+        place.unit = Some(unit);
+        place.guards = 1;
+        self.hands = Hands::of::<Brand>(&self.hands, &self.porter, s);
+    }
+
+    // The registered slot, which has guards, has so many then. No event is made.
+    fn count(&mut self, s: usize, guards: u64)
+        requires { let slot = slot_at (state_of self.old) s in (slot.kind ≡ registered) × (has_guard slot ≡ true) × (0 < guards) }
+        ensures done { state_of self.new ≡ calls.set_guards (state_of self.old) s guards }
+        ensures same { IsSame self.old self.new }
+    {
+        let Some(Some(place)) = self.places.get_mut(s) else {
+            unreachable!()
+        };
+        place.guards = guards;
+        self.hands = Hands::of::<Brand>(&self.hands, &self.porter, s);
+    }
+
+    // The number of the slot, which has no guard, goes back.
+    fn free(&mut self, s: usize)
+        requires { let slot = slot_at (state_of self.old) s in (calls.is_free slot.kind ≡ false) × (has_guard slot ≡ false) }
+        ensures done { state_of self.new ≡ calls.with_number_free (state_of self.old) s }
+        ensures same { IsSame self.old self.new }
+    {
+        let Some(place) = self.places[s].take() else {
+            unreachable!()
+        };
+        let ending = Ending {
+            words: &self.words,
+            slot: place.reservation.into_value().slot,
+        };
+        let mut ending = Within {
+            lock: &mut self.numbers,
+            work: Some(ending),
+        };
+        self.porter.stay(&mut ending);
+        self.hands = Hands::of::<Brand>(&self.hands, &self.porter, s);
+    }
+
+    /// Takes the least number that is not in use, for a registered slot without a guard. It asks for memory where no slot is left whose number
+    /// went back.
+    ///
+    /// # Errors
+    ///
+    /// `NoMemory` where the allocator refuses.
+    pub fn register(&mut self) -> Result<usize, Refusal>
+        ensures done { Grew (calls.take_number (state_of self.old) registered 0) result (state_of self.old) (state_of self.new) }
+        ensures same { IsSame self.old self.new }
+    {
+        self.take(false)
+    }
+
+    /// Takes the least number that is not in use, for an owned slot, which has one guard. It asks for memory as `register` does.
+    ///
+    /// # Errors
+    ///
+    /// `NoMemory` where the allocator refuses.
+    pub fn enter_owned(&mut self) -> Result<usize, Refusal>
+        ensures done { Grew (calls.take_number (state_of self.old) owned_slot 1) result (state_of self.old) (state_of self.new) }
+        ensures same { IsSame self.old self.new }
+    {
+        let number = self.take(true)?;
+        self.begin(number);
+        Ok(number)
+    }
+
+    /// Gives the registered slot one guard more. The first one makes the slot active. It takes no memory.
+    ///
+    /// # Errors
+    ///
+    /// In this order: `NotInUse`, `WrongKind` of an owned slot, and `TooManyGuards` where it has 2^64 - 1.
+    pub fn enter(&mut self, s: usize) -> Result<(), Refusal>
+        ensures done { Said (calls.enter (state_of self.old) s) result (state_of self.new) }
+        ensures same { IsSame self.old self.new }
+    {
+        let guards = self.registered(s)?;
+        if guards == u64::MAX {
+            return Err(Refusal::TooManyGuards);
+        }
+        if guards == 0 {
+            self.begin(s);
+        } else {
+            self.count(s, guards + 1);
+        }
+        Ok(())
+    }
+
+    /// Gives the number of a registered slot back, and says whether it did: a guard keeps it. The slot's batch stays for the next one who has
+    /// the number. It takes no memory.
+    ///
+    /// # Errors
+    ///
+    /// In this order: `NotInUse`, `WrongKind` of an owned slot.
+    pub fn end(&mut self, s: usize) -> Result<bool, Refusal>
+        ensures done { Said (calls.end_slot (state_of self.old) s) result (state_of self.new) }
+        ensures same { IsSame self.old self.new }
+    {
+        if self.registered(s)? > 0 {
+            return Ok(false);
+        }
+        self.free(s);
+        Ok(true)
     }
 }
