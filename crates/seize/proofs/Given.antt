@@ -7,9 +7,10 @@ use Rattle.seize_calls.specs.Handing.{Had}
 use Rattle.seize_book.specs.Tokens.{Name}
 use Rattle.seize_words.specs.Chunks.{IsLentAs}
 use Rattle.seize.specs.Furthers.{HasPut, Joins}
-use Rattle.seize.specs.Names.{AreNamesOf}
+use Rattle.seize_alone.specs.Gone.{AreNamesOf}
 use Rattle.seize.specs.declared.reclaim.further.Further.{Further}
-use Rattle.seize.specs.Enders.{IsEnderIn, PutAs}
+use Rattle.seize.specs.Enders.{IsEnderIn}
+use Rattle.seize_alone.specs.Gone.{PutAs}
 use Rattle.seize.specs.declared.ender.Ender.{Ender}
 use Rattle.seize.specs.Lighter.{same_value}
 

@@ -7,8 +7,9 @@ use Rattle.seize_book.specs.Loans.{loan_number, loan_of}
 use Rattle.seize_book.specs.Permits.{AllAre}
 use Rattle.seize_calls.specs.Handing.{Had}
 use Rattle.seize_calls.specs.Weights.{AreLight, AreWeighed, Weigh}
-use Rattle.seize.specs.Enders.{PutAs, Weighs}
-use Rattle.seize.specs.Names.{AreNamesOf}
+use Rattle.seize.specs.Enders.{Weighs}
+use Rattle.seize_alone.specs.Gone.{PutAs}
+use Rattle.seize_alone.specs.Gone.{AreNamesOf}
 
 module _ {T : Type 0} (code : T → Gv) (weight : T → ℕ) (puts : ℕ → T → List T) (lighter : (kind : ℕ) (x : T) → sum (map weight (puts kind x)) < weight x) where
   less_one : (x : T) → weight x ≡ suc (weight x - 1)

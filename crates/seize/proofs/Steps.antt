@@ -22,9 +22,9 @@ use Rattle.seize_calls.specs.Inserts.{InsertTries, all_insert_events, insert_eve
 use Rattle.seize_calls.specs.Marks.{actives, readings}
 use Rattle.seize_calls.specs.Settling.{CallState, Drains, DrainsOne, Settles, done_event}
 use Rattle.seize_calls.specs.Walking.{counting, handed_in, handing, hands, steps}
-use Rattle.seize.specs.Enders.{PutAs, PutOne}
+use Rattle.seize_alone.specs.Gone.{PutAs, PutOne}
 use Rattle.seize.specs.Makes.{AreStepsOf, IsOfKind, IsStepOf, made_with}
-use Rattle.seize.specs.Names.{AreNamesOf}
+use Rattle.seize_alone.specs.Gone.{AreNamesOf}
 use Rattle.seize.specs.Puts.{PutBy}
 use Rattle.seize.proofs.Made.{as_made, made_grew}
 use Rattle.seize.proofs.OfKind.{told_at}

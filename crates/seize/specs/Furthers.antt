@@ -7,7 +7,7 @@ use base.Stored.{Gv}
 use Rattle.seize_book.specs.Values.{values_of}
 use Rattle.seize_calls.specs.Furthers.{further_in}
 use Rattle.seize_words.specs.Chunks.{blocks_book}
-use Rattle.seize.specs.Names.{AreNamesOf}
+use Rattle.seize_alone.specs.Gone.{AreNamesOf}
 use Rattle.seize.specs.declared.reclaim.further.Further.{Further}
 
 abbrev pub further_store : {T R : Type 0} → Further T R → List ℕ

@@ -11,7 +11,6 @@ pub mod Lends
 pub mod Lighter
 pub mod Loose
 pub mod Makes
-pub mod Names
 pub mod Numbers
 pub mod OwnedGuards
 pub mod Places

@@ -13,7 +13,7 @@ use Rattle.seize_words.specs.declared.words.Words.{Words}
 use Rattle.seize_calls.specs.Handing.{Had}
 use Rattle.seize_calls.specs.Slots.{IsPassFor, its_number}
 use Rattle.seize_calls.specs.declared.slot.Slot.{Slot}
-use Rattle.seize.specs.Enders.{PutAs}
+use Rattle.seize_alone.specs.Gone.{PutAs}
 use Rattle.seize.specs.Reservations.{IsReservationOf}
 use Rattle.seize.specs.Told.{HasTold}
 use Rattle.seize.specs.declared.reservation.Reservation.{Reservation}

@@ -6,7 +6,7 @@ use base.Stored.{Gv}
 use Rattle.seize_book.specs.declared.book.pass.Pass.{Pass}
 use Rattle.seize.specs.Blocks.{HasContent}
 use Rattle.seize.specs.Makes.{IsOfKind}
-use Rattle.seize.specs.Names.{AreNamesOf}
+use Rattle.seize_alone.specs.Gone.{AreNamesOf}
 
 pub record PutBy {T : Type 0} (code : T → Gv) (puts : ℕ → T → List T) (pass : Pass) (v : ℕ) (vs : List ℕ) : Type 0 where
   pub kind : ℕ

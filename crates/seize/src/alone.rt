@@ -1,17 +1,10 @@
 //! The collector in one caller's hands. Nobody shares it, so each call is exactly what the model of waiting sets says (`seize_model`): its
 //! answer, the state after it, and the values that are gone, in order. A slot lies in its place (`place`), events and calls are works that the
 //! porter's first pass is lent to, and the state is kept in `hands`, which has no bytes.
-ghost use Rattle.std.specs.Prelude.{◌≡◌, ◌<◌, ◌≤◌, ℕ, None, Some, IfErr, IfOk, box_value, false, get_or, if◌then◌else◌, length, option_map, true};
-ghost use Rattle.seize_model.specs.Waiting.Calls as calls;
-ghost use Rattle.seize_model.specs.Waiting.State.{has_guard, slot_at};
-ghost use Rattle.seize_model.specs.declared.kind.Kind.TheVariants.{Owned as owned_slot, Registered as registered};
+ghost use Rattle.std.specs.Prelude.{◌≡◌, box_value, length, true};
 ghost use Rattle.seize_words.specs.Joined.{words_book};
-ghost use Rattle.seize.specs.Alones.{IsSame, id_of, size_of, state_of};
 ghost use Rattle.seize.specs.Enders.{IsEnderOf};
-ghost use Rattle.seize.specs.Kinds.{kind_of};
-ghost use Rattle.seize.specs.Placing.{ArePlaces, lies_in};
-ghost use Rattle.seize.specs.Told.{Grew, Said};
-ghost use Rattle.seize_table.specs.declared.refusal.Refusal.TheVariants.{NoMemory as no_memory};
+ghost use Rattle.seize.specs.Placing.{ArePlaces};
 
 mod calls;
 mod hands;
@@ -20,7 +13,7 @@ mod place;
 mod tells;
 
 use crate::alone::hands::Hands;
-use crate::alone::place::{Beginning, Place, Within};
+use crate::alone::place::{Beginning, Place, Within, room};
 use crate::ender::Ender;
 use crate::numbers::{Ending, Numbers, Registering};
 use crate::reclaim::{Boxed, Reclaim};
@@ -54,21 +47,15 @@ pub struct Alone<T: Drop, R: Reclaim<T> = Boxed> {
     ghost placed: { ArePlaces (words_book words) hands.state places.items },
 }
 
-// Makes room for the places of so many slots.
-fn room<T: Drop>(places: &mut Vec<Option<Place<T>>>, many: usize) -> Result<(), Refusal>
-    ensures room { IfOk result (λ _. many ≤ length places.new.items) }
-    ensures refused { IfErr result (λ refusal. refusal ≡ no_memory) }
-    ensures same { (s : ℕ) → get_or places.new.items s None ≡ get_or places.old.items s None }
-{
-    for _ in places.len()..many {
-        if places.push(None).is_err() {
-            return Err(Refusal::NoMemory);
-        }
-    }
-    Ok(())
-}
-
 impl<T: Drop, R: Reclaim<T>> Alone<T, R> {
+    ghost use Rattle.std.specs.Prelude.{◌<◌, None, Some, IfErr, IfOk, false, if◌then◌else◌};
+    ghost use Rattle.seize_model.specs.Waiting.Calls as calls;
+    ghost use Rattle.seize_model.specs.Waiting.State.{has_guard, slot_at};
+    ghost use Rattle.seize_model.specs.declared.kind.Kind.TheVariants.{Owned as owned_slot, Registered as registered};
+    ghost use Rattle.seize.specs.Alones.{IsSame, id_of, state_of};
+    ghost use Rattle.seize.specs.Kinds.{kind_of};
+    ghost use Rattle.seize.specs.Told.{Grew, Said};
+
     /// How many links it has.
     pub fn links(&self) -> usize
         ensures { result ≡ length (state_of self.now).links }

@@ -1,7 +1,8 @@
 //! The reclaimer of a slot's calls: it gives each value to the collector's own, with a place for what that puts.
 ghost use Rattle.std.specs.Prelude.{[]};
 ghost use Rattle.seize_calls.specs.Handing.{Had, had_coded};
-ghost use Rattle.seize.specs.Enders.{IsEnderIn, PutAs, Weighs};
+ghost use Rattle.seize.specs.Enders.{IsEnderIn, Weighs};
+ghost use Rattle.seize_alone.specs.Gone.{PutAs};
 ghost use Rattle.seize.specs.Lighter.{weighs_once};
 ghost use base.Fml.{ftrue};
 ghost use base.Stored.{Gv};

@@ -1,6 +1,6 @@
 //! The place of a slot in use, while a collector is in one caller's hands. The slot lies there in a reservation for one guard; how many
 //! guards the caller has of it is counted beside that, with the unit of the activation that they share.
-ghost use Rattle.std.specs.Prelude.{◌≡◌, false};
+ghost use Rattle.std.specs.Prelude.{◌≡◌, ◌≤◌, ℕ, IfErr, IfOk, None, false, get_or, length};
 ghost use base.Growing.{prefix_prop};
 ghost use base.Stored.{Coded-set, coded_list};
 ghost use mathlib.Core.List.{IsPrefix};
@@ -12,6 +12,7 @@ ghost use Rattle.seize_machine.specs.declared.machine.event.Answer.{Answer};
 ghost use Rattle.seize_alone.specs.Events.{MakesAlone};
 ghost use Rattle.seize_calls.specs.Slots.{its_number};
 ghost use Rattle.seize_words.specs.Joined.{words_book};
+ghost use Rattle.seize_table.specs.declared.refusal.Refusal.TheVariants.{NoMemory as no_memory};
 ghost use Rattle.seize.specs.Places.{IsOnly};
 ghost use Rattle.seize.specs.Reservations.{IsHeadFor, IsUnit, IsUnitIn};
 
@@ -19,6 +20,7 @@ use crate::reservation::Reservation;
 use crate::shelf::Shelf;
 use seize_cells::{Lock, LockWork};
 use seize_content::Steady;
+use seize_table::Refusal;
 use seize_words::activation::Activation;
 use seize_words::book::{Pass, Seen, Stay};
 use seize_words::words::Words;
@@ -49,6 +51,20 @@ pub(crate) struct Place<T: Drop> {
     pub(crate) unit: Option<Unit>,
     /// Where it is laid when the collector is shared again.
     pub(crate) shelf: Shelf<T>,
+}
+
+/// Makes room for the places of so many slots.
+pub(crate) fn room<T: Drop>(places: &mut Vec<Option<Place<T>>>, many: usize) -> Result<(), Refusal>
+    ensures room { IfOk result (λ _. many ≤ length places.new.items) }
+    ensures refused { IfErr result (λ refusal. refusal ≡ no_memory) }
+    ensures same { (s : ℕ) → get_or places.new.items s None ≡ get_or places.old.items s None }
+{
+    for _ in places.len()..many {
+        if places.push(None).is_err() {
+            return Err(Refusal::NoMemory);
+        }
+    }
+    Ok(())
 }
 
 /// A work on what lies behind a lock, by a pass that is alone.

@@ -1,7 +1,8 @@
 //! The reclaimer of a call that one caller makes: it tells the watch of each value, and then gives it to the collector's own.
 ghost use base.Stored.{Gv, gnil};
 ghost use Rattle.std.specs.Prelude.{◌≡◌, ℕ};
-ghost use Rattle.seize.specs.Enders.{IsEnderIn, PutAs, Weighs};
+ghost use Rattle.seize.specs.Enders.{IsEnderIn, Weighs};
+ghost use Rattle.seize_alone.specs.Gone.{PutAs};
 ghost use Rattle.seize.specs.Lighter.{weighs_once};
 ghost use Rattle.seize.specs.Told.{HasToldFrom};
 

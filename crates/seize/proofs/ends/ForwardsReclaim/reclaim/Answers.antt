@@ -4,7 +4,7 @@ use Rattle.seize_book.specs.Values.{values_of}
 use Rattle.seize_calls.specs.Furthers.{further_in}
 use Rattle.seize_calls.specs.Handing.{Had}
 use Rattle.seize.specs.Blocks.{HoldsOnly}
-use Rattle.seize.specs.Enders.{PutAs}
+use Rattle.seize_alone.specs.Gone.{PutAs}
 use Rattle.seize.proofs.Given.{given, put_more}
 use Rattle.seize.proofs.ends.ForwardsReclaim.reclaim.Goals as goal
 

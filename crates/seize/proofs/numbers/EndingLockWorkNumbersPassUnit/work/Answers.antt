@@ -1,5 +1,8 @@
 use Rattle.std.proofs.Common.{Some, false, refl, sym, subst, ◌∙◌, arith}
+use Rattle.seize_book.specs.Tokens.{IsSole}
+use Rattle.seize_alone.proofs.Ready.{entry_alone}
 use Rattle.seize.proofs.Made.{slot_gives}
+use Rattle.seize.proofs.Stilled.{alone_from, still_prepared}
 use Rattle.seize.proofs.Numbered.{given_below, given_ended, numbers_set, some_same}
 use Rattle.seize.specs.Numbers.{IsTakenAt}
 use Rattle.seize.proofs.numbers.EndingLockWorkNumbersPassUnit.work.Goals as goal
@@ -21,5 +24,10 @@ returns g c =
         numbers_set numbers are _ one.new.pass slot false one.ensures.numbers n (sym gives.0.same.0 ∙ sym number) (Some slot') refl
             (λ s is. subst (IsTakenAt numbers.book.name 0 n) (some_same slot' s is) (subst (λ k. IsTakenAt numbers.book.name 0 k slot') (sym number) ended)) refl refl refl,
       ),
-      slot_gives slot pass slot' one.new.pass gives,
+      (
+        slot_gives slot pass slot' one.new.pass gives,
+        λ sole.
+            let still = still_prepared slot gives.0.prepares in
+            (gives.0.does.2.0.answer, alone_from sole still (entry_alone (subst IsSole (sym still.same.1) sole) gives.0.does)),
+      ),
     )

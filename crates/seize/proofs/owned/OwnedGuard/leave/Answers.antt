@@ -39,4 +39,4 @@ returns g c =
     let at = in_place n self.reader.number 1 r (kept.0 ∙ self.at) in let at' = in_place n self.reader.number 1 c.work.new.r (c.work.ensures.0.0 ∙ kept.0 ∙ self.at) in
     leaves_gives g.row.T.coded.code g.R.Puts.puts self.reader.number pass left c.with.new.with
     (subst (λ (s : ℕ). MakesCall (PutBy g.row.T.coded.code g.R.Puts.puts) s Leave pass left) at.1 (first_of_two r.guards r.most kept.1.fits at.2 c.work.ensures.1.0))
-    (subst (λ (s : ℕ). MakesOne left c.with.new.with (Give s) Done) at'.1 c.with.ensures.gives)
+    (subst (λ (s : ℕ). MakesOne left c.with.new.with (Give s) Done) at'.1 c.with.ensures.gives.0)

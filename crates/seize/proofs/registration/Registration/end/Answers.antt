@@ -36,4 +36,4 @@ returns-then-reservation-gt0 g c =
 pub returns : goal.returns
 returns g c =
     let self = c.args.self in let at = in_place (its_book self.collector.now) self.number (2 ^ 64 - 1) c.into_value-reservation.result (c.into_value-reservation.ensures.0 ∙ self.at) in
-    subst (λ (s : ℕ). MakesOne c.args.pass.now c.with.new.with (Give s) Done) at.1 c.with.ensures.gives
+    subst (λ (s : ℕ). MakesOne c.args.pass.now c.with.new.with (Give s) Done) at.1 c.with.ensures.gives.0

@@ -5,7 +5,8 @@ use Rattle.seize_book.specs.declared.book.pass.Pass.{Pass}
 use Rattle.seize_calls.specs.Slots.{IsPassFor, its_number}
 use Rattle.seize_words.specs.Joined.{words_book}
 use Rattle.seize_words.specs.declared.activation.Activation.{Activation}
-use Rattle.seize.specs.Enders.{IsEnderOf, PutAs}
+use Rattle.seize.specs.Enders.{IsEnderOf}
+use Rattle.seize_alone.specs.Gone.{PutAs}
 use Rattle.seize.specs.Shelves.{IsForgottenOf}
 use Rattle.seize.specs.Sweeps.{IsLedBy}
 use Rattle.seize.proofs.OneLife.{forgotten_begun}

@@ -1,6 +1,6 @@
 use Rattle.std.proofs.Common.{ℕ, List, [], ◌∷◌, ◌++◌, refl, sym, subst}
 use Rattle.seize.specs.Blocks.{content}
-use Rattle.seize.specs.Names.{AreNamesOf}
+use Rattle.seize_alone.specs.Gone.{AreNamesOf}
 use Rattle.seize.proofs.Given.{names_more}
 use Rattle.seize.proofs.reclaim.further.Further.put.Goals as goal
 
