@@ -3,6 +3,7 @@ pub mod Segments
 pub mod Played
 pub mod Whole
 pub mod Mapped
+pub mod Told
 pub mod Found
 pub mod Names
 pub mod Held
