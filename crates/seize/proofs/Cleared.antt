@@ -18,7 +18,7 @@ use Rattle.seize_book.proofs.Facts.{as_legal, reached_after}
 use Rattle.seize.specs.Laws.{moments_seen}
 use Rattle.seize.specs.Sweeps.{AreOff, AreOffBelow, LiesHere, IsOff, KeepsOn, LeavesNothing, StandsInUse, KeepsElse}
 use Rattle.seize.proofs.Swept.{keeps_on, led_none}
-use Rattle.seize.proofs.Taken.{AreAllHere}
+use Rattle.seize.proofs.InUse.{AreAllHere}
 
 -- Lists of which so much is known at each place.
 

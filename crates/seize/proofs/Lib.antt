@@ -22,7 +22,7 @@ pub mod Facts
 mod OfKind
 mod Swept
 mod Bare
-mod Taken
+mod InUse
 mod Cleared
 mod Recovered
 mod OneLife

@@ -20,7 +20,7 @@ use Rattle.seize.proofs.Cleared.{below_or, not_false, past_end, used_at}
 use Rattle.seize.proofs.Numbered.{made_flags, own_followed, some_same, there_known}
 use Rattle.seize.proofs.Placed.{still_for}
 use Rattle.seize.proofs.Swept.{else_led, keeps_on, kept_off, led_none, led_then, looks, still_sole}
-use Rattle.seize.proofs.Taken.{many_known, taken_as, taken_same, taken_set}
+use Rattle.seize.proofs.InUse.{many_known, taken_as, taken_same, taken_set}
 
 pub finds_none : {T : Type 0} (numbers : Numbers T) → FindsMore numbers numbers
 finds_none numbers = (refl, refl, λ i here. here)

@@ -7,6 +7,8 @@
 --     shared_name shared        what the list calls the value that was found;  shared_value shared     the value
 --     shared_block shared       which block it is: the list of its collector, and the word that a link shows for it
 --     unlinked_name u           what the list calls the value that is in no link;  IsUnlinkedOf c u   it keeps the words of this collector
+--     taken_name taken, taken_content taken, taken_book taken     what the list calls a value that is in no link, of a collector in one
+--                               caller's hands; the value, and the list;  IsTakenOf code n taken     it is of list n, and has that content
 --     IsNamed code owned o      o is what the list calls the value of this block, or there is neither
 --     shared_book shared        the list of its collector;  IsSharedOf c shared     it is of this collector
 --     ShowsIn n code held shared     what was found is what the link held, a block of the collector of list n with that value; or there is
@@ -21,10 +23,11 @@ use Rattle.seize_book.specs.Blocks.{link_word}
 use Rattle.seize_book.specs.Tokens.{Name}
 use Rattle.seize_words.specs.Chunks.{IsFoundAs, IsLentAs}
 use Rattle.seize_words.specs.Joined.{words_book}
-use Rattle.seize_calls.specs.Slots.{its_value}
+use Rattle.seize_calls.specs.Slots.{its_value, loose_book}
 use Rattle.seize_calls.specs.declared.slot.Loose.{Loose}
 use Rattle.seize.specs.declared.block.owned.Owned.{Owned}
 use Rattle.seize.specs.declared.block.shared.Shared.{Shared}
+use Rattle.seize.specs.declared.block.taken.Taken.{Taken}
 use Rattle.seize.specs.declared.block.unlinked.Unlinked.{Unlinked}
 use Rattle.seize.specs.declared.collector.Collector.{Collector}
 
@@ -66,6 +69,18 @@ unlinked_name unlinked = its_value unlinked.loose
 
 abbrev pub IsUnlinkedOf : {T R : Type 0} → Collector T R → Unlinked T → Type 0
 IsUnlinkedOf collector unlinked = unlinked.words.now ≡ collector.words
+
+abbrev pub taken_name : {T : Type 0} → Taken T → ℕ
+taken_name taken = its_value taken.loose
+
+abbrev pub taken_content : {T : Type 0} → Taken T → T
+taken_content taken = taken.content.value
+
+abbrev pub taken_book : {T : Type 0} → Taken T → Name
+taken_book taken = loose_book taken.loose
+
+abbrev pub IsTakenOf : {T : Type 0} → (T → Gv) → Name → Taken T → Type 0
+IsTakenOf code n taken = (taken_book taken ≡ n) × HasContent code (taken_name taken) (taken_content taken)
 
 abbrev pub IsNamed : {T : Type 0} → (T → Gv) → Option (Owned T) → Option ℕ → Type 0
 IsNamed code (Some owned) (Some v) = HasContent code v (content owned)

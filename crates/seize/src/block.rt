@@ -9,6 +9,7 @@ ghost use Rattle.seize.specs.Enders.{IsEnderOf};
 mod failed;
 mod owned;
 mod shared;
+mod taken;
 mod unlinked;
 
 use crate::ender::Ender;
@@ -19,6 +20,7 @@ use seize_words::book::Pass;
 use seize_words::link::MaybeKey;
 use seize_words::words::Words;
 pub use shared::Shared;
+pub use taken::Taken;
 pub use unlinked::Unlinked;
 
 // The word of the block that is to go into a link, and the key of its value; or that of none.

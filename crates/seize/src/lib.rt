@@ -23,7 +23,7 @@ mod reservation;
 mod shelf;
 mod works;
 
-pub use block::{Failed, Owned, Shared, Unlinked};
+pub use block::{Failed, Owned, Shared, Taken, Unlinked};
 pub use collector::{Collector, IdSource};
 pub use guard::{Guard, LocalGuard};
 pub use owned::OwnedGuard;

@@ -1,7 +1,7 @@
 use Rattle.std.proofs.Common.{◌-◌, ◌+◌, ◌<◌, length, refl, ap, ◌∙◌, arith}
 use Rattle.seize.proofs.Placed.{still_for}
 use Rattle.seize.proofs.Swept.{keeps_none, keeps_then, still_sole, else_more, else_none}
-use Rattle.seize.proofs.Taken.{places_length, taken_as}
+use Rattle.seize.proofs.InUse.{places_length, taken_as}
 use Rattle.seize.specs.Numbers.{flags_of}
 use Rattle.seize.proofs.numbers.Numbers.give_all.Goals as goal
 

@@ -5,7 +5,7 @@ use Rattle.seize_book.specs.Others.{use_flags}
 use Rattle.seize_calls.specs.Slots.{IsOfList, its_number}
 use Rattle.seize.specs.Numbers.{IsTakenAt, flags_to}
 use Rattle.seize.proofs.Swept.{given_left, gives, keeps_none, keeps_on, else_led, else_none}
-use Rattle.seize.proofs.Taken.{given_none, given_one, made_sets, none_there, other_given, plus_one, set_twice, some_there, some_flag}
+use Rattle.seize.proofs.InUse.{given_none, given_one, made_sets, none_there, other_given, plus_one, set_twice, some_there, some_flag}
 use Rattle.seize.proofs.numbers.Numbers.give_at.Goals as goal
 
 pub give-requires : goal.give-requires

@@ -15,7 +15,7 @@ use Rattle.seize.proofs.Cleared.{all_cleared, all_off, each_of, here_in, keeps_l
 use Rattle.seize.proofs.Placed.{still_for}
 use Rattle.seize.proofs.Recovered.{else_fewer, used_before}
 use Rattle.seize.proofs.Swept.{keeps_then, still_sole, else_then}
-use Rattle.seize.proofs.Taken.{AreAllHere, all_here, all_unused, flags_length, here_all, taken_still, unused_all}
+use Rattle.seize.proofs.InUse.{AreAllHere, all_here, all_unused, flags_length, here_all, taken_still, unused_all}
 use Rattle.seize.proofs.numbers.Numbers.sweep.Goals as goal
 
 pub take_all-requires : goal.take_all-requires

@@ -5,7 +5,7 @@ use Rattle.seize_calls.specs.Slots.{IsOfList, its_number}
 use Rattle.seize.specs.Numbers.{IsTakenAt}
 use Rattle.seize.specs.Sweeps.{LeavesNothing}
 use Rattle.seize.proofs.Swept.{keeps_none, keeps_on, kept_left, kept_off, else_led, else_none}
-use Rattle.seize.proofs.Taken.{none_here, none_there, set_twice, some_there, taken_as, taken_same, some_flag}
+use Rattle.seize.proofs.InUse.{none_here, none_there, set_twice, some_there, taken_as, taken_same, some_flag}
 use Rattle.seize.proofs.numbers.Numbers.sweep_at.Goals as goal
 
 pub sweep-requires : goal.sweep-requires

@@ -3,7 +3,7 @@ use Rattle.seize_calls.specs.declared.slot.Slot.{Slot}
 use Rattle.seize_book.specs.declared.book.pass.Pass.{Pass}
 use Rattle.seize.specs.Numbers.{AreNumbers, HasTaken}
 use Rattle.seize.specs.declared.numbers.Numbers.{Numbers}
-use Rattle.seize.proofs.Taken.{taken_still}
+use Rattle.seize.proofs.InUse.{taken_still}
 use Rattle.seize.proofs.numbers.Numbers.take.Goals.{in-None+in_ok-slot-in-None, in-Some}
 use Rattle.seize.proofs.numbers.Numbers.take.Goals as goal
 

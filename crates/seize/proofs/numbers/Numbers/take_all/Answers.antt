@@ -5,7 +5,7 @@ use Rattle.seize.specs.Numbers.{flags_of}
 use Rattle.seize.specs.Sweeps.{AreOffBelow, IsOff, KeepsOff, LiesHere}
 use Rattle.seize.proofs.Placed.{still_for}
 use Rattle.seize.proofs.Swept.{keeps_then, still_sole, else_more}
-use Rattle.seize.proofs.Taken.{places_length, taken_as}
+use Rattle.seize.proofs.InUse.{places_length, taken_as}
 use Rattle.seize.proofs.numbers.Numbers.take_all.Goals as goal
 
 -- one place more was taken

@@ -10,7 +10,7 @@ use Rattle.seize.specs.Sweeps.{IsLedBy, IsOff}
 use Rattle.seize.proofs.Numbered.{not_used}
 use Rattle.seize.proofs.Placed.{still_for}
 use Rattle.seize.proofs.Swept.{keeps_none, keeps_on, kept_off, led_then, looks, still_sole, takes, else_led, else_none}
-use Rattle.seize.proofs.Taken.{made_sets, may_take_next, none_here, none_there, other_taken, plus_one, set_twice, some_there, taken_none, taken_one, some_flag}
+use Rattle.seize.proofs.InUse.{made_sets, may_take_next, none_here, none_there, other_taken, plus_one, set_twice, some_there, taken_none, taken_one, some_flag}
 use Rattle.seize.proofs.numbers.Numbers.take_at.Goals as goal
 
 pub take_again-requires : goal.take_again-requires

@@ -1,0 +1,109 @@
+//! A value of a collector in one caller's hands that is in no link.
+ghost use Rattle.std.specs.Prelude.{◌≡◌};
+ghost use base.Fml.{ftrue};
+ghost use Rattle.seize_book.specs.Others.{MayRetire};
+ghost use Rattle.seize_calls.specs.Slots.{IsReadable, its_value};
+ghost use Rattle.seize_words.specs.Chunks.{IsLentAs};
+ghost use Rattle.seize.specs.Loose.{may_retire-prop};
+
+use crate::block::Owned;
+use crate::ender::Ender;
+use crate::reclaim::Reclaim;
+use seize_calls::slot::Loose;
+use seize_words::words::Words;
+use std::marker::{Model, PhantomData};
+
+/// The value with which something is lent. It has no bytes.
+pub(crate) struct Content<T> {
+    marker: PhantomData<T>,
+    /// It is there for clauses alone.
+    pub(crate) ghost value: { T } by { T.code },
+}
+
+impl<T> Model for Content<T> {
+    ghost also_owns = { λ _. ftrue };
+}
+
+impl<T> Drop for Content<T> {
+    fn drop(self) {
+        let Content { marker: _ } = self;
+    }
+}
+
+// It owns nothing, so any thread may have it.
+unsafe impl<T> Send for Content<T> {}
+
+unsafe impl<T> Sync for Content<T> {}
+
+impl<T> Content<T> {
+    // There is one, and this is it. It does nothing when the program runs.
+    fn of(_loose: &Loose) -> Content<T>
+        requires { (value : T) × IsLentAs (its_value _loose.now) (T.row.coded.code value) }
+        ensures { IsLentAs (its_value _loose.now) (T.row.coded.code result.value) }
+    {
+        Content {
+            marker: PhantomData,
+        }
+    }
+}
+
+/// A value that is in no link, and is to be retired, while its collector is in one caller's hands. It came out of a link, or never was in
+/// one. It borrows nothing, so the collector may be changed meanwhile.
+///
+/// It has no `Drop`, so it can't be lost by oversight: it is spent by a retirement.
+pub struct Taken<T: Drop> {
+    loose: Loose,
+    content: Content<T>,
+    ghost may: { MayRetire loose.value } by { may_retire-prop loose.value },
+    ghost readable: { IsReadable loose },
+}
+
+impl<T: Drop> Taken<T> {
+    ghost use Rattle.seize_words.specs.Joined.{words_book};
+    ghost use Rattle.seize_calls.specs.Slots.{loose_book};
+    ghost use Rattle.seize.specs.Blocks.{Belongs, HasContent, IsTakenOf, content, taken_book, taken_content, taken_name};
+    ghost use Rattle.seize.specs.Enders.{IsEnderOf};
+
+    /// What came out of a link.
+    pub(crate) fn of(loose: Loose) -> Taken<T>
+        requires may { MayRetire loose.value × IsReadable loose }
+        requires content { (value : T) × HasContent T.row.coded.code (its_value loose) value }
+        ensures of { IsTakenOf T.row.coded.code (loose_book loose) result }
+        ensures name { taken_name result ≡ its_value loose }
+    {
+        let content = Content::of(&loose);
+        Taken { loose, content }
+    }
+
+    /// A block that was never in a link. Its value is lent from then on.
+    pub(crate) fn from_owned<R: Reclaim<T>>(
+        owned: Owned<T>,
+        words: &Words<T>,
+        ender: &Ender<T, R>,
+    ) -> Taken<T>
+        requires ender { IsEnderOf words.now ender.now }
+        requires belongs { Belongs R.owners (words_book words.now).store owned }
+        ensures of { IsTakenOf T.row.coded.code (words_book words.now) result }
+        ensures content { taken_content result ≡ content owned }
+    {
+        let (number, value) = owned.lend(&words.blocks, &ender.permits);
+        Taken::of(Loose::new(number, value))
+    }
+
+    /// The value, for as long as this and the words are borrowed.
+    pub(crate) fn peek<'g>(&'g self, words: &'g Words<T>) -> &'g T
+        requires { IsTakenOf T.row.coded.code (words_book words.now) self.now }
+        ensures { result.now ≡ taken_content self.now }
+    {
+        self.loose.peek(&words.blocks)
+    }
+
+    /// What is retired. It has the name and the list that this had.
+    pub(crate) fn into_loose(self) -> Loose
+        ensures its { (its_value result ≡ taken_name self) × (loose_book result ≡ taken_book self) }
+        ensures may { MayRetire result.value × IsReadable result }
+    {
+        let Taken { loose, content: _ } = self;
+        loose
+    }
+}
