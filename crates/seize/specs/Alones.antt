@@ -1,24 +1,48 @@
 -- What contracts see of a collector in one caller's hands.
---     state_of a        its state, as of waiting sets (`seize_model`)
---     book_of a, size_of a, id_of a     its list of events, by its name, its batch size and its id
---     IsSame a a'       it is the same one, by these
-use Rattle.std.specs.Prelude.{◌≡◌, ℕ}
+--     View T            its list of events, by its name, its batch size, its id, and its state, as of waiting sets (`seize_model`);  view_coded
+--                       the code of views, by that of values
+--     IsSame a a'       it is the same collector: by its list, its batch size and its id
+--     IsAlone code words porter numbers places made ender hands     what is so of its parts: all are of one list. The porter is at home. The
+--                       hands hold the state, which what the porter has seen shows, with the batch size; and so many slots were made. What lies
+--                       in the places is what the state says of the slots
+use Rattle.std.specs.Prelude.{◌≡◌, ℕ, List, Option, length, true}
+use mathlib.Core.Path.{refl}
+use base.Stored.{Coded, Gv, coded×, coded_ℕ}
+use Rattle.std.specs.Coded.{code_by}
 use Rattle.seize_model.specs.Waiting.State.{State}
-use Rattle.seize_book.specs.Tokens.{Name}
+use Rattle.seize_book.specs.Tokens.{Name, name_coded}
+use Rattle.seize_book.specs.declared.book.porter.Porter.{Porter}
 use Rattle.seize_words.specs.Joined.{words_book}
-use Rattle.seize.specs.declared.alone.Alone.{Alone}
+use Rattle.seize_words.specs.declared.words.Words.{Words}
+use Rattle.seize_alone.specs.Holding.{Holds}
+use Rattle.seize.specs.Enders.{IsEnderOf}
+use Rattle.seize.specs.Placing.{ArePlaces}
+use Rattle.seize.specs.States.{state_coded}
+use Rattle.seize.specs.declared.alone.hands.Hands.{Hands}
+use Rattle.seize.specs.declared.alone.place.Place.{Place}
+use Rattle.seize.specs.declared.ender.Ender.{Ender}
 
-abbrev pub state_of : {T R : Type 0} → Alone T R → State T ℕ
-state_of alone = alone.hands.state
+pub record View (T : Type 0) : Type 0 where
+  pub book : Name
+  pub size : ℕ
+  pub id : ℕ
+  pub state : State T ℕ
 
-abbrev pub book_of : {T R : Type 0} → Alone T R → Name
-book_of alone = words_book alone.words
+abbrev pub view_coded : {T : Type 0} → Coded T → Coded (View T)
+view_coded {T} c =
+    code_by (Name × (ℕ × (ℕ × State T ℕ))) (coded× name_coded (coded× coded_ℕ (coded× coded_ℕ (state_coded c coded_ℕ))))
+    (λ a. (a.book, (a.size, (a.id, a.state)))) (λ x. record { book = x.0; size = x.1.0; id = x.1.1.0; state = x.1.1.1 }) (λ _. refl)
 
-abbrev pub size_of : {T R : Type 0} → Alone T R → ℕ
-size_of alone = alone.words.size
+abbrev pub IsSame : {T : Type 0} → View T → View T → Type 0
+IsSame a a' = (a'.book ≡ a.book) × (a'.size ≡ a.size) × (a'.id ≡ a.id)
 
-abbrev pub id_of : {T R : Type 0} → Alone T R → ℕ
-id_of alone = alone.id
-
-abbrev pub IsSame : {T R : Type 0} → Alone T R → Alone T R → Type 0
-IsSame alone alone' = (book_of alone' ≡ book_of alone) × (size_of alone' ≡ size_of alone) × (id_of alone' ≡ id_of alone)
+pub record IsAlone {T R : Type 0} (code : T → Gv) (words : Words T) (porter : Porter) (numbers : ℕ) (places : List (Option (Place T)))
+    (made : ℕ) (ender : Ender T R) (hands : Hands T) : Type 0 where
+  pub lends : (porter.name ≡ words_book words) × (porter.size ≡ words.size) × (porter.home ≡ true)
+  pub numbered : numbers ≡ (words_book words).family
+  pub ends : IsEnderOf words ender
+  pub counted : made ≡ length hands.state.slots
+  pub sized : hands.state.size ≡ words.size
+  pub linked : length hands.state.links ≡ length (words_book words).links
+  pub placed : ArePlaces (words_book words) hands.state places
+  pub holds : Holds code hands.state hands.names hands.kinds porter.name porter.seen

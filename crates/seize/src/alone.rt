@@ -1,12 +1,12 @@
 //! The collector in one caller's hands. Nobody shares it, so each call is exactly what the model of waiting sets says (`seize_model`): its
 //! answer, the state after it, and the values that are gone, in order. A slot lies in its place (`place`), events and calls are works that the
 //! porter's first pass is lent to, and the state is kept in `hands`, which has no bytes.
-ghost use Rattle.std.specs.Prelude.{◌≡◌, box_value, length, true};
+ghost use Rattle.std.specs.Prelude.{box_value};
 ghost use Rattle.seize_words.specs.Joined.{words_book};
-ghost use Rattle.seize.specs.Enders.{IsEnderOf};
-ghost use Rattle.seize.specs.Placing.{ArePlaces};
+ghost use Rattle.seize.specs.Alones.{IsAlone, View, view_coded};
 
 mod calls;
+mod codes;
 mod hands;
 mod links;
 mod place;
@@ -14,6 +14,7 @@ mod tells;
 
 use crate::alone::hands::Hands;
 use crate::alone::place::{Beginning, Place, Within, room};
+pub use crate::alone::codes::Codes;
 use crate::ender::Ender;
 use crate::numbers::{Ending, Numbers, Registering};
 use crate::reclaim::{Boxed, Reclaim};
@@ -23,11 +24,11 @@ use seize_table::Refusal;
 use seize_words::book::Porter;
 use seize_words::words::Words;
 use std::alloc::Global;
-use std::marker::Brand;
+use std::marker::{Brand, Model};
 
 /// A collector in one caller's hands. No call waits for anybody, and each returns.
 #[derive(Drop)]
-pub struct Alone<T: Drop, R: Reclaim<T> = Boxed> {
+pub struct Alone<T: Drop + Codes, R: Reclaim<T> = Boxed> {
     words: Words<T>,
     porter: Porter,
     numbers: Lock<Numbers<T>>,
@@ -39,40 +40,44 @@ pub struct Alone<T: Drop, R: Reclaim<T> = Boxed> {
     id: u64,
     alloc: Global,
     hands: Hands<T>,
-    ghost lends: { (porter.name ≡ words_book words) × (porter.size ≡ words.size) × (porter.home ≡ true) },
-    ghost numbered: { numbers ≡ (words_book words).family },
-    ghost ends: { IsEnderOf words (box_value ender) },
-    ghost counted: { (made ≡ length hands.state.slots) × (hands.state.size ≡ words.size)
-        × (length hands.state.links ≡ length (words_book words).links) },
-    ghost placed: { ArePlaces (words_book words) hands.state places.items },
+}
+
+impl<T: Drop + Codes, R: Reclaim<T>> Model for Alone<T, R> {
+    ghost Value = { View T };
+
+    ghost coded = { view_coded T.code };
+
+    ghost view = { λ a. record { book = words_book a.words; size = a.words.size; id = a.id; state = a.hands.state } };
+
+    ghost invariant = { λ a. IsAlone T.its.code a.words a.porter a.numbers a.places.items a.made (box_value a.ender) a.hands };
 }
 
 impl<T: Drop, R: Reclaim<T>> Alone<T, R> {
-    ghost use Rattle.std.specs.Prelude.{◌<◌, None, Some, IfErr, IfOk, false, if◌then◌else◌};
+    ghost use Rattle.std.specs.Prelude.{◌≡◌, ◌<◌, length, true, None, Some, IfErr, IfOk, false, if◌then◌else◌};
     ghost use Rattle.seize_model.specs.Waiting.Calls as calls;
     ghost use Rattle.seize_model.specs.Waiting.State.{has_guard, slot_at};
     ghost use Rattle.seize_model.specs.declared.kind.Kind.TheVariants.{Owned as owned_slot, Registered as registered};
-    ghost use Rattle.seize.specs.Alones.{IsSame, id_of, state_of};
+    ghost use Rattle.seize.specs.Alones.{IsSame};
     ghost use Rattle.seize.specs.Kinds.{kind_of};
     ghost use Rattle.seize.specs.Told.{Grew, Said};
 
     /// How many links it has.
     pub fn links(&self) -> usize
-        ensures { result ≡ length (state_of self.now).links }
+        ensures { result ≡ length self.now.state.links }
     {
         self.words.links.len()
     }
 
     /// The id that its source gave it.
     pub fn id(&self) -> u64
-        ensures { result ≡ id_of self.now }
+        ensures { result ≡ self.now.id }
     {
         self.id
     }
 
     // Whether the slot is owned, and how many guards it has, where its number is in use.
     fn known(&self, s: usize) -> Option<(bool, u64)>
-        ensures { let slot = slot_at (state_of self.now) s in
+        ensures { let slot = slot_at self.now.state s in
             result ≡ (if calls.is_free slot.kind then None else Some (calls.is_owned slot.kind, slot.guards)) }
     {
         let place = self.places.get(s)?.as_ref()?;
@@ -81,9 +86,9 @@ impl<T: Drop, R: Reclaim<T>> Alone<T, R> {
 
     // How many guards the registered slot has.
     fn registered(&self, s: usize) -> Result<u64, Refusal>
-        ensures it { IfOk result (λ guards. (calls.not_registered (state_of self.now) s ≡ None)
-            × ((slot_at (state_of self.now) s).kind ≡ registered) × ((slot_at (state_of self.now) s).guards ≡ guards)) }
-        ensures refused { IfErr result (λ refusal. calls.not_registered (state_of self.now) s ≡ Some refusal) }
+        ensures it { IfOk result (λ guards. (calls.not_registered self.now.state s ≡ None)
+            × ((slot_at self.now.state s).kind ≡ registered) × ((slot_at self.now.state s).guards ≡ guards)) }
+        ensures refused { IfErr result (λ refusal. calls.not_registered self.now.state s ≡ Some refusal) }
     {
         match self.known(s) {
             None => Err(Refusal::NotInUse),
@@ -94,9 +99,9 @@ impl<T: Drop, R: Reclaim<T>> Alone<T, R> {
 
     // Whether the slot is owned, and how many guards it has: one or more.
     fn guarded(&self, s: usize) -> Result<(bool, u64), Refusal>
-        ensures it { IfOk result (λ known. let slot = slot_at (state_of self.now) s in (calls.no_guard (state_of self.now) s ≡ None)
+        ensures it { IfOk result (λ known. let slot = slot_at self.now.state s in (calls.no_guard self.now.state s ≡ None)
             × (slot.kind ≡ kind_of known.0) × (slot.guards ≡ known.1) × (0 < known.1)) }
-        ensures refused { IfErr result (λ refusal. calls.no_guard (state_of self.now) s ≡ Some refusal) }
+        ensures refused { IfErr result (λ refusal. calls.no_guard self.now.state s ≡ Some refusal) }
     {
         match self.known(s) {
             None => Err(Refusal::NotInUse),
@@ -107,7 +112,7 @@ impl<T: Drop, R: Reclaim<T>> Alone<T, R> {
 
     // The least number that is not in use is taken, for a slot of this kind without a guard.
     fn take(&mut self, owned: bool) -> Result<usize, Refusal>
-        ensures done { Grew (calls.take_number (state_of self.old) (kind_of owned) 0) result (state_of self.old) (state_of self.new) }
+        ensures done { Grew (calls.take_number self.old.state (kind_of owned) 0) result self.old.state self.new.state }
         ensures same { IsSame self.old self.new }
     {
         room(&mut self.places, self.made + 1)?;
@@ -138,8 +143,8 @@ impl<T: Drop, R: Reclaim<T>> Alone<T, R> {
 
     // The slot, which is in use, enters with its first guard.
     fn begin(&mut self, s: usize)
-        requires { let slot = slot_at (state_of self.old) s in (calls.is_free slot.kind ≡ false) × (has_guard slot ≡ false) }
-        ensures done { state_of self.new ≡ calls.set_guards (state_of self.old) s 1 }
+        requires { let slot = slot_at self.old.state s in (calls.is_free slot.kind ≡ false) × (has_guard slot ≡ false) }
+        ensures done { self.new.state ≡ calls.set_guards self.old.state s 1 }
         ensures same { IsSame self.old self.new }
     {
         let Some(Some(place)) = self.places.get_mut(s) else {
@@ -158,8 +163,8 @@ impl<T: Drop, R: Reclaim<T>> Alone<T, R> {
 
     // The registered slot, which has guards, has so many then. No event is made.
     fn count(&mut self, s: usize, guards: u64)
-        requires { let slot = slot_at (state_of self.old) s in (slot.kind ≡ registered) × (has_guard slot ≡ true) × (0 < guards) }
-        ensures done { state_of self.new ≡ calls.set_guards (state_of self.old) s guards }
+        requires { let slot = slot_at self.old.state s in (slot.kind ≡ registered) × (has_guard slot ≡ true) × (0 < guards) }
+        ensures done { self.new.state ≡ calls.set_guards self.old.state s guards }
         ensures same { IsSame self.old self.new }
     {
         let Some(Some(place)) = self.places.get_mut(s) else {
@@ -171,8 +176,8 @@ impl<T: Drop, R: Reclaim<T>> Alone<T, R> {
 
     // The number of the slot, which has no guard, goes back.
     fn free(&mut self, s: usize)
-        requires { let slot = slot_at (state_of self.old) s in (calls.is_free slot.kind ≡ false) × (has_guard slot ≡ false) }
-        ensures done { state_of self.new ≡ calls.with_number_free (state_of self.old) s }
+        requires { let slot = slot_at self.old.state s in (calls.is_free slot.kind ≡ false) × (has_guard slot ≡ false) }
+        ensures done { self.new.state ≡ calls.with_number_free self.old.state s }
         ensures same { IsSame self.old self.new }
     {
         let Some(place) = self.places[s].take() else {
@@ -197,7 +202,7 @@ impl<T: Drop, R: Reclaim<T>> Alone<T, R> {
     ///
     /// `NoMemory` where the allocator refuses.
     pub fn register(&mut self) -> Result<usize, Refusal>
-        ensures done { Grew (calls.take_number (state_of self.old) registered 0) result (state_of self.old) (state_of self.new) }
+        ensures done { Grew (calls.take_number self.old.state registered 0) result self.old.state self.new.state }
         ensures same { IsSame self.old self.new }
     {
         self.take(false)
@@ -209,7 +214,7 @@ impl<T: Drop, R: Reclaim<T>> Alone<T, R> {
     ///
     /// `NoMemory` where the allocator refuses.
     pub fn enter_owned(&mut self) -> Result<usize, Refusal>
-        ensures done { Grew (calls.take_number (state_of self.old) owned_slot 1) result (state_of self.old) (state_of self.new) }
+        ensures done { Grew (calls.take_number self.old.state owned_slot 1) result self.old.state self.new.state }
         ensures same { IsSame self.old self.new }
     {
         let number = self.take(true)?;
@@ -223,7 +228,7 @@ impl<T: Drop, R: Reclaim<T>> Alone<T, R> {
     ///
     /// In this order: `NotInUse`, `WrongKind` of an owned slot, and `TooManyGuards` where it has 2^64 - 1.
     pub fn enter(&mut self, s: usize) -> Result<(), Refusal>
-        ensures done { Said (calls.enter (state_of self.old) s) result (state_of self.new) }
+        ensures done { Said (calls.enter self.old.state s) result self.new.state }
         ensures same { IsSame self.old self.new }
     {
         let guards = self.registered(s)?;
@@ -245,7 +250,7 @@ impl<T: Drop, R: Reclaim<T>> Alone<T, R> {
     ///
     /// In this order: `NotInUse`, `WrongKind` of an owned slot.
     pub fn end(&mut self, s: usize) -> Result<bool, Refusal>
-        ensures done { Said (calls.end_slot (state_of self.old) s) result (state_of self.new) }
+        ensures done { Said (calls.end_slot self.old.state s) result self.new.state }
         ensures same { IsSame self.old self.new }
     {
         if self.registered(s)? > 0 {
