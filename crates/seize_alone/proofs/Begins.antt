@@ -26,7 +26,6 @@ use Rattle.seize_book.proofs.Lives.{legal_first}
 use Rattle.seize_words.specs.Chunks.{IsLentAs}
 use Rattle.seize_alone.specs.Begins.{BeginsHeld, Begun}
 use Rattle.seize_alone.specs.Holding.{AreLent, AreOfKinds, found, some_slot, some_state, some_value}
-use Rattle.seize_alone.proofs.Told.{so_told}
 use Rattle.seize_alone.proofs.Found.{Has, Knows, has_first, has_left, has_right, told_append}
 use Rattle.seize_alone.proofs.Mapped.{get_map, retired_same, slot_same}
 
@@ -129,7 +128,7 @@ kinds_of _ _ = []
 kinds_told : (seen : List Entry) (vs ks : List ℕ) → AllTold seen vs ks → AreOfKinds seen (kinds_of vs ks)
 kinds_told seen [] ks told = tt
 kinds_told seen (v ∷ vs) [] told = tt
-kinds_told seen (v ∷ vs) (k ∷ ks) told = (so_told seen v k told.0, kinds_told seen vs ks told.1)
+kinds_told seen (v ∷ vs) (k ∷ ks) told = (told.0, kinds_told seen vs ks told.1)
 
 kinds_have : (seen : List Entry) (vs ks : List ℕ) → AllTold seen vs ks → AllHave (kinds_of vs ks) vs
 kinds_have seen [] ks told = tt

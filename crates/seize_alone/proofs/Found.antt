@@ -15,7 +15,6 @@ use Rattle.seize_book.specs.Tokens.{Name, start}
 use Rattle.seize_words.proofs.Facts.{same_content, told_later, told_once}
 use Rattle.seize_words.specs.Chunks.{IsLentAs}
 use Rattle.seize_alone.specs.Holding.{AreLent, AreOfKinds, found, some_state, some_value}
-use Rattle.seize_alone.proofs.Told.{so_told, told_so}
 use Rattle.seize_alone.proofs.Mapped.{retired_same, slot_same}
 
 -- the number is among these
@@ -97,7 +96,7 @@ found_told n log distinct legal [] told v kind is has = absurd (cc)
 found_told n log distinct legal (p ∷ ps) told v kind is has = by_case (p.0 == v) refl has (found_told n log distinct legal ps told.1 v kind is)
   where
     by_case : (b : Bool) → (p.0 == v) ≡ b → is_some (if b then Some p.1 else found ps v) ≡ true → (is_some (found ps v) ≡ true → found ps v ≡ Some kind) → (if b then Some p.1 else found ps v) ≡ Some kind
-    by_case true e has rest = ap Some (told_once n log v p.1 kind distinct legal (subst (λ (m : ℕ). IsTold log m p.1) (same_number p.0 v e) (told_so log p.0 p.1 told.0)) is)
+    by_case true e has rest = ap Some (told_once n log v p.1 kind distinct legal (subst (λ (m : ℕ). IsTold log m p.1) (same_number p.0 v e) told.0) is)
     by_case false e has rest = rest has
 
 pub told_append : (log : List Entry) (ps qs : List (ℕ × ℕ)) → AreOfKinds log ps → AreOfKinds log qs → AreOfKinds log (ps ++ qs)
@@ -106,7 +105,7 @@ told_append log (p ∷ ps) qs a b = (a.0, told_append log ps qs a.1 b)
 
 pub all_later : (log log' : List Entry) → IsPrefix log log' → (ps : List (ℕ × ℕ)) → AreOfKinds log ps → AreOfKinds log' ps
 all_later log log' grows [] a = tt
-all_later log log' grows (p ∷ ps) a = (so_told log' p.0 p.1 (told_later log log' p.0 p.1 grows (told_so log p.0 p.1 a.0)), all_later log log' grows ps a.1)
+all_later log log' grows (p ∷ ps) a = (told_later log log' p.0 p.1 grows a.0, all_later log log' grows ps a.1)
 
 -- A state that is shown is shown by more numbers.
 

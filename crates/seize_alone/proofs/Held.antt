@@ -30,7 +30,6 @@ use Rattle.seize_book.specs.declared.book.pass.Pass.{Pass}
 use Rattle.seize_calls.specs.Handing.{AreTheirs, Had, values_handed}
 use Rattle.seize_alone.specs.Calls.{FlushesHeld, LeavesHeld, PartsHeld, RefreshesHeld, RetiresHeld, CallsAlone}
 use Rattle.seize_alone.specs.Holding.{AreLent, AreOfKinds, HoldsThen, found, some_slot, some_state, some_value}
-use Rattle.seize_alone.proofs.Told.{so_told}
 use Rattle.seize_alone.proofs.Found.{Knows, all_later, found_lent, found_told, has_first, has_left, has_right, lent_append, reclaimers_on, shows_on, told_append}
 use Rattle.seize_alone.proofs.Mapped.{attempt_same, guards_same, part_same, put_same, slot_same, some_out, with_further_same}
 use Rattle.seize_alone.proofs.Names.{are_had, its_kinds, its_names, kinds_told, names_lent, puts_some, serve_all, some_lighter, weight_some}
@@ -155,9 +154,9 @@ module _ {T : Type 0} (c : Coded T) (puts : ℕ → T → List T) (weight : T �
   retires_held st names kinds v kind x retired key pass keys key' pass' keys' had' r a lent used =
       let s = slot_number key in let w : Whole pass pass' s (RetireJob v) (kind ∷ []) [] had' = retired_whole r in
       let own : List (ℕ × T) = (v, x) ∷ [] in let own_kinds : List (ℕ × ℕ) = (v, kind) ∷ [] in
-      let own_lent : AreLent c.code own = (lent, tt) in let its = begin_said w v kind (inl (refl, refl)) in let own_told : AreOfKinds pass'.seen own_kinds = (so_told pass'.seen v kind its, tt) in
+      let own_lent : AreLent c.code own = (lent, tt) in let own_told : AreOfKinds pass'.seen own_kinds = (begin_said w v kind (inl (refl, refl)), tt) in
       let named = found_lent c _ (lent_then c puts st names kinds w a own own_lent own_kinds own_told) v x lent (own_there c puts st names kinds w a own own_lent own_kinds own_told v (has_first (v, x) [])) in
-      let of_kind = found_told pass'.name pass'.seen a.distinct a.legal _ (told_then c puts st names kinds w a own own_lent own_kinds own_told) v kind its (own_kinds_there c puts st names kinds w a own own_lent own_kinds own_told v (has_first (v, kind) [])) in
+      let of_kind = found_told pass'.name pass'.seen a.distinct a.legal _ (told_then c puts st names kinds w a own own_lent own_kinds own_told) v kind own_told.0 (own_kinds_there c puts st names kinds w a own own_lent own_kinds own_told v (has_first (v, kind) [])) in
       let o = with_further puts weight s (put st s (x, kind)) in
       answered c had' pass' o (retire puts weight st s x kind) (not_refused st (unused st s) o (λ i. if used i then Some NotInUse else None))
       (held_then c puts st names kinds w a own own_lent own_kinds own_told _ o _ (ap (with_further (puts_some puts) (weight_some weight) s) (put_same st s (x, kind)) ∙ further_some s (put st s (x, kind)))

@@ -3,7 +3,6 @@ pub mod Segments
 pub mod Played
 pub mod Whole
 pub mod Mapped
-pub mod Told
 pub mod Found
 pub mod Names
 pub mod Held

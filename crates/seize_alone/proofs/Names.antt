@@ -15,7 +15,6 @@ use Rattle.seize_words.specs.Chunks.{IsLentAs}
 use Rattle.seize_calls.specs.Handing.{AreTheirs, Had, Handings, values_handed}
 use Rattle.seize_alone.specs.Gone.{AreNamesOf, HadAre, PutAs}
 use Rattle.seize_alone.specs.Holding.{AreLent, AreOfKinds, found, some_value}
-use Rattle.seize_alone.proofs.Told.{so_told, told_so}
 use Rattle.seize_alone.proofs.Found.{Knows, found_lent, found_told, has_first, has_left, has_right, lent_append, same_some, told_append}
 use Rattle.seize_alone.proofs.Whole.{AllServe, EachSaid}
 
@@ -52,7 +51,7 @@ its_kinds _ _ = []
 
 says_kind : (log : List Entry) (kind : ℕ) (vs : List ℕ) → ((v k : ℕ) → Says vs (map (λ _. kind) vs) v k → IsTold log v k) → AreOfKinds log (of_kind kind vs)
 says_kind log kind [] says = tt
-says_kind log kind (v ∷ vs) says = (so_told log v kind (says v kind (inl (refl, refl))), says_kind log kind vs (λ w k s. says w k (inr s)))
+says_kind log kind (v ∷ vs) says = (says v kind (inl (refl, refl)), says_kind log kind vs (λ w k s. says w k (inr s)))
 
 module _ {T : Type 0} (c : Coded T) (puts : ℕ → T → List T) where
   abbrev pub its_names : (handed : Handings) (had : Had) → PutAs c.code puts had → List (ℕ × T)
@@ -84,7 +83,7 @@ module _ {T : Type 0} (c : Coded T) (puts : ℕ → T → List T) where
   kinds_told log (h ∷ handed) [] (one ∷ had) put theirs told said = absurd theirs
   kinds_told log (h ∷ handed) (k ∷ kepts) (one ∷ had) put theirs told said =
       told_append log ((h.0, one.0) ∷ of_kind one.0 one.2) (its_kinds handed had)
-      (so_told log h.0 one.0 (subst (λ (kind : ℕ). IsTold log h.0 kind) (sym theirs.0.0) told.0), puts_told log h one theirs.0.2 theirs.0.3 put.0.3 said.0) (kinds_told log handed kepts had put.1 theirs.1 told.1 said.1)
+      (subst (λ (kind : ℕ). IsTold log h.0 kind) (sym theirs.0.0) told.0, puts_told log h one theirs.0.2 theirs.0.3 put.0.3 said.0) (kinds_told log handed kepts had put.1 theirs.1 told.1 said.1)
 
   -- Each is found among more.
 
@@ -95,7 +94,7 @@ module _ {T : Type 0} (c : Coded T) (puts : ℕ → T → List T) where
     each_put kind [] (x ∷ xs) are its inside within = absurd are
     each_put kind (v ∷ vs) [] are its inside within = absurd are
     each_put kind (v ∷ vs) (x ∷ xs) are its inside within =
-        λ i. (found_lent c names lent v x are.0 (inside v (has_first (v, x) (zip_names vs xs))) i, found_told n log distinct legal kinds told v kind (told_so log v kind its.0) (within v (has_first (v, kind) (of_kind kind vs))) i)
+        λ i. (found_lent c names lent v x are.0 (inside v (has_first (v, x) (zip_names vs xs))) i, found_told n log distinct legal kinds told v kind its.0 (within v (has_first (v, kind) (of_kind kind vs))) i)
         ∷ each_put kind vs xs are.1 its.1 (λ m has. inside m (has_right ((v, x) ∷ []) (zip_names vs xs) m has)) (λ m has. within m (has_right ((v, kind) ∷ []) (of_kind kind vs) m has)) i
 
     -- one that was handed

@@ -3,22 +3,19 @@
 --     found pairs n          what the number is paired with, if it is among these
 --     some_state st          the state with `Some` of each value and of each kind, since not each number stands for one
 --     AreLent code names     with each of these numbers the code of its value is lent, so that the number says which value it is
---     says xs ys v k         one of these values is v, and the word in its place is k;  is_told log v k     an event of the list says so.
---                            They compute what `Says` and `IsTold` state
 --     AreOfKinds log kinds   the list says of each of these numbers that it is of this kind
 --     Holds code st names kinds n seen     what was seen of the list of book n leads to a machine that shows the state, by these names and
 --                            kinds
 --     HoldsThen code o had pass     so it is with the state of this outcome and what the pass has seen, by some names and kinds; and what
 --                            was had are its values gone
-use Rattle.std.specs.Prelude.{◌≡◌, ◌==◌, ◌&&◌, ◌||◌, ℕ, Bool, true, false, if◌then◌else◌, List, [], ◌∷◌, map}
-use Rattle.std.specs.Prelude.{Option, Some, None, option_map}
+use Rattle.std.specs.Prelude.{◌==◌, ℕ, if◌then◌else◌, List, [], ◌∷◌, map, Option, Some, None, option_map}
 use base.Stored.{Gv}
 use Rattle.seize_model.specs.Waiting.State.{Slot, State}
 use Rattle.seize_model.specs.Waiting.Attempt.{StateAndGone}
 use Rattle.seize_model.specs.Agreement.Shows.{ShowsReclaimers, ShowsState}
 use Rattle.seize_book.specs.Book.{after}
-use Rattle.seize_book.specs.Entry.{Entry, Made, Used}
-use Rattle.seize_book.specs.Kept.{retires_by}
+use Rattle.seize_book.specs.Entry.{Entry}
+use Rattle.seize_book.specs.Kept.{IsTold}
 use Rattle.seize_book.specs.Tokens.{Name, start}
 use Rattle.seize_book.specs.declared.book.pass.Pass.{Pass}
 use Rattle.seize_calls.specs.Handing.{Had}
@@ -47,18 +44,9 @@ abbrev pub AreLent : {T : Type 0} → (T → Gv) → List (ℕ × T) → Type 0
 AreLent code [] = Unit {0}
 AreLent code (p ∷ ps) = IsLentAs p.0 (code p.1) × AreLent code ps
 
-abbrev pub says : List ℕ → List ℕ → ℕ → ℕ → Bool
-says (x ∷ xs) (y ∷ ys) v k = ((x == v) && (y == k)) || says xs ys v k
-says _ _ v k = false
-
-abbrev pub is_told : List Entry → ℕ → ℕ → Bool
-is_told [] v k = false
-is_told (Made d ∷ log) v k = says (retires_by d.event) d.kepts v k || is_told log v k
-is_told (Used u ∷ log) v k = is_told log v k
-
 abbrev pub AreOfKinds : List Entry → List (ℕ × ℕ) → Type 0
 AreOfKinds log [] = Unit {0}
-AreOfKinds log (p ∷ ps) = (is_told log p.0 p.1 ≡ true) × AreOfKinds log ps
+AreOfKinds log (p ∷ ps) = IsTold log p.0 p.1 × AreOfKinds log ps
 
 pub record Holds {T : Type 0} (code : T → Gv) (st : State T ℕ) (names : List (ℕ × T)) (kinds : List (ℕ × ℕ)) (n : Name)
     (seen : List Entry) : Type 0 where
