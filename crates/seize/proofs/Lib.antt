@@ -27,5 +27,6 @@ mod Cleared
 mod Recovered
 mod OneLife
 mod Stilled
+mod Lone
 mod Watched
 mod Linked
