@@ -1,15 +1,18 @@
 -- A collector in one caller's hands: what the porter's first pass knows of the state, and what lies in the places.
-use Rattle.std.proofs.Common.{◌≡◌, ℕ, ◌==◌, ◌<◌, Bool, true, false, not, if◌then◌else◌, List, length, map, Option, Some, None, option_map, get_or, slice_set, refl, sym, ap, subst, ◌∙◌}
-use Rattle.std.proofs.lemmas.List.{get_or-map, get_or-set_same, get_or-set_other}
+use Rattle.std.proofs.Common.{◌≡◌, ◌⊎◌, ℕ, zero, suc, ◌==◌, ◌<◌, ◌≤◌, Bool, true, false, not, if◌then◌else◌, List, [], ◌∷◌, length, map, Option, Some, None, option_map, get_or, is_some, inl, inr, slice_set, refl, sym, ap, subst, ◌∙◌}
+use Rattle.std.proofs.lemmas.Bool.{cases_lt, false≢true}
+use Rattle.std.proofs.lemmas.List.{get_or-set_same, get_or-set_other, get_or_past}
 use base.Stored.{Gv}
+use Rattle.seize_machine.proofs.Facts.{eq_true}
 use Rattle.seize_machine.specs.Machine.State.{Head, Inactive, are_distinct, head_at, is_active, linked_values}
 use Rattle.seize_model.specs.Agreement.Shows.{head_of}
 use Rattle.seize_model.specs.Waiting.Calls.{is_free, is_owned, set_guards}
 use Rattle.seize_model.specs.Waiting.State.{Slot, State, has_guard, no_slot, set_slot, slot_at}
 use Rattle.seize_model.proofs.Simulation.Beginnings.{head_active}
+use Rattle.seize_book.proofs.Facts.{equal}
 use Rattle.seize_book.specs.Book.{after}
 use Rattle.seize_book.specs.Entry.{Entry}
-use Rattle.seize_book.specs.Porters.{Shuts}
+use Rattle.seize_book.specs.Porters.{HadStay, Shuts}
 use Rattle.seize_book.specs.Tokens.{IsSole, Name, start}
 use Rattle.seize_book.specs.declared.book.pass.Pass.{Pass}
 use Rattle.seize_book.specs.declared.book.porter.Porter.{Porter}
@@ -18,11 +21,17 @@ use Rattle.seize_words.specs.declared.words.Words.{Words}
 use Rattle.seize_calls.specs.Slots.{IsPassFor, its_book, its_number}
 use Rattle.seize_alone.specs.Holding.{Holds, some_slot}
 use Rattle.seize.specs.Alones.{IsAlone}
-use Rattle.seize.specs.Placing.{ArePlaces, lies_for, lies_in}
+use Rattle.seize.specs.Placing.{ArePlaces, Lies, lies_for, lies_in, lying_in}
 use Rattle.seize.specs.Reservations.{its_label, place_label}
 use Rattle.seize.specs.declared.alone.hands.Hands.{Hands}
 use Rattle.seize.specs.declared.alone.place.Place.{Place}
 use Rattle.seize.specs.declared.ender.Ender.{Ender}
+
+-- `get_or-map` of std, past the end too
+get_or_map : {A B : Type 0} (f : A → B) (xs : List A) (i : ℕ) (d : A) → get_or (map f xs) i (f d) ≡ f (get_or xs i d)
+get_or_map f [] i d = refl
+get_or_map f (x ∷ xs) zero d = refl
+get_or_map f (x ∷ xs) (suc i) d = get_or_map f xs i d
 
 -- The pass.
 
@@ -48,15 +57,68 @@ knows {T} {R} {code} {words} {porter} {hands = hands} {pass = pass} a shuts = re
 pub head_held : {T : Type 0} {code : T → Gv} {st : State T ℕ} {names : List (ℕ × T)} {kinds : List (ℕ × ℕ)} {n : Name} {seen : List Entry} → Holds code st names kinds n seen → (s : ℕ) → is_active (head_at (after (start n) seen) s) ≡ has_guard (slot_at st s)
 head_held {T} {code} {st} {names} {kinds} {n} {seen} holds s =
     ap (λ (heads : List Head). is_active (get_or heads s Inactive)) holds.shows.heads
-    ∙ ap is_active (get_or-map head_of (map some_slot st.slots) s no_slot ∙ ap head_of (get_or-map some_slot st.slots s no_slot))
+    ∙ ap is_active (get_or_map head_of (map some_slot st.slots) s no_slot ∙ ap head_of (get_or_map some_slot st.slots s no_slot))
     ∙ head_active (some_slot (slot_at st s))
 
 -- What lies in places.
 
 -- in that of slot s lies this
-pub set_place : {T : Type 0} (n : Name) (st : State T ℕ) (places : List (Option (Place T))) (s : ℕ) (slot : Slot T ℕ) (place : Option (Place T)) → ArePlaces n st places → s < length st.slots → s < length places
+pub set_place : {U : Type 0} (n : Name) (st : State U ℕ) (places : List (Option (Place U))) (s : ℕ) (slot : Slot U ℕ) (place : Option (Place U)) → ArePlaces n st places → s < length st.slots → s < length places
     → option_map lies_in place ≡ lies_for n slot s → ArePlaces n (set_slot st s slot) (slice_set places s place)
-set_place n st places s slot place are there lies is t = go (s == t) refl
+set_place {U} n st places s slot place are there lies is t = go (s == t) refl
   where
     go : (b : Bool) → (s == t) ≡ b → option_map lies_in (get_or (slice_set places s place) t None) ≡ lies_for n (slot_at (set_slot st s slot) t) t
-    go b e = ?
+    go true e =
+        let same : s ≡ t = eq_true s t e in
+        subst (λ (k : ℕ). option_map lies_in (get_or (slice_set places s place) k None) ≡ lies_for n (slot_at (set_slot st s slot) k) k) same
+        (ap (λ (o : Option (Place U)). option_map lies_in o) (get_or-set_same places s place None lies) ∙ is ∙ ap (λ (x : Slot U ℕ). lies_for n x s) (sym (get_or-set_same st.slots s slot no_slot there)))
+    go false e =
+        let other : ¬ (t ≡ s) = λ same. false≢true (sym e ∙ equal s t (sym same)) in
+        ap (λ (o : Option (Place U)). option_map lies_in o) (get_or-set_other places s t place None other) ∙ are t ∙ ap (λ (x : Slot U ℕ). lies_for n x t) (sym (get_or-set_other st.slots s t slot no_slot other))
+
+-- what lies there is a fact of the state
+module _ {U : Type 0} (n : Name) (st : State U ℕ) (places : List (Option (Place U))) (are : ArePlaces n st places) (s : ℕ) (used : is_free (slot_at st s).kind ≡ false) where
+  lies_so : option_map lies_in (get_or places s None) ≡ Some (lying_in n (slot_at st s) s)
+  lies_so = are s ∙ ap (λ (b : Bool). if b then None else Some (lying_in n (slot_at st s) s)) used
+
+  pub some_place : is_some (get_or places s None) ≡ true
+  some_place = go (get_or places s None) lies_so
+    where
+      go : (o : Option (Place U)) → option_map lies_in o ≡ Some (lying_in n (slot_at st s) s) → is_some o ≡ true
+      go None is = absurd (cc)
+      go (Some place) is = refl
+
+  pub place_is : (place : Place U) → get_or places s None ≡ Some place → lies_in place ≡ lying_in n (slot_at st s) s
+  place_is place is = let both : Some (lies_in place) ≡ Some (lying_in n (slot_at st s) s) = sym (ap (λ (o : Option (Place U)). option_map lies_in o) is) ∙ lies_so in some_same both
+    where
+      some_same : {a b : Lies} → Some a ≡ Some b → a ≡ b
+      some_same e = cc
+
+-- a slot in use was made
+pub slot_there : {U : Type 0} (st : State U ℕ) (s : ℕ) → is_free (slot_at st s).kind ≡ false → s < length st.slots
+slot_there st s used = go (cases_lt s (length st.slots))
+  where
+    go : (s < length st.slots) ⊎ (length st.slots ≤ s) → s < length st.slots
+    go (inl less) = less
+    go (inr past) = absurd (let free : true ≡ false = sym (ap (λ (slot : Slot _ ℕ). is_free slot.kind) (get_or_past st.slots s no_slot past)) ∙ used in cc)
+
+-- After a work of the porter's first pass.
+
+module _ {T R : Type 0} {code : T → Gv} {words : Words T} {porter : Porter} {numbers : ℕ} {places : List (Option (Place T))} {made : ℕ} {ender : Ender T R} {hands : Hands T} (a : IsAlone code words porter numbers places made ender hands)
+    {gave : Pass → Pass → Type 0} {porter' : Porter} (stay : HadStay gave porter porter') where
+  -- the hands hold what they hold as the porter has seen then
+  pub held_again : {st : State T ℕ} {names : List (ℕ × T)} {kinds : List (ℕ × ℕ)} → Holds code st names kinds stay.back.name stay.back.seen → Holds code st names kinds porter'.name porter'.seen
+  held_again {st} {names} {kinds} holds = subst (λ (t : Name × List Entry). Holds code st names kinds t.0 t.1) (λ j. (stay.again.0.0 j, sym stay.again.1 j)) holds
+
+  pub alone_again : (hands' : Hands T) (places' : List (Option (Place T))) (made' : ℕ) → made' ≡ length hands'.state.slots → hands'.state.size ≡ hands.state.size → length hands'.state.links ≡ length hands.state.links
+      → ArePlaces (words_book words) hands'.state places' → Holds code hands'.state hands'.names hands'.kinds porter'.name porter'.seen → IsAlone code words porter' numbers places' made' ender hands'
+  alone_again hands' places' made' counted size links placed holds = record {
+    lends = (sym stay.again.0.0 ∙ stay.same.0 ∙ stay.shut.book.0 ∙ a.lends.0, sym stay.again.0.1 ∙ stay.same.2 ∙ stay.shut.book.1 ∙ a.lends.1, stay.again.2);
+    numbered = a.numbered;
+    ends = a.ends;
+    counted = counted;
+    sized = size ∙ a.sized;
+    linked = links ∙ a.linked;
+    placed = placed;
+    holds = holds;
+  }

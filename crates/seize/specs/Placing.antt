@@ -1,15 +1,14 @@
 -- What lies in the places of slots while a collector is in one caller's hands, as its state says.
 --     Lies              whether the slot is owned, how many guards it has, the label of its reservation, the number and the list of the unit
---                       of its activation, and its shelf;  lies_coded     by which it is a set
+--                       of its activation, and its shelf
 --     lies_in place     what lies in this place
---     lies_for n slot s     what lies in the place of slot s of the list n, where the state says this of it
+--     lying_in n slot s     what lies in the place of slot s of the list n, which is in use, where the state says this of it;  lies_for     so it
+--                       is, or nothing lies there where the slot is free
 --     ArePlaces n st places     so it is with each of these places
 use Rattle.std.specs.Prelude.{◌≡◌, ℕ, Bool, List, Option, None, Some, get_or, if◌then◌else◌, option_map}
-use base.Stored.{Coded, coded×, coded_ℕ}
-use Rattle.std.specs.Coded.{coded_bool, coded_option}
 use Rattle.seize_model.specs.Waiting.Calls.{is_free, is_owned}
 use Rattle.seize_model.specs.Waiting.State.{Slot, State, has_guard, slot_at}
-use Rattle.seize_book.specs.Tokens.{Name, name_coded}
+use Rattle.seize_book.specs.Tokens.{Name}
 use Rattle.seize.specs.Reservations.{place_label}
 use Rattle.seize.specs.declared.alone.place.Place.{Place}
 use Rattle.seize.specs.declared.alone.place.Unit.{Unit as Held}
@@ -17,19 +16,17 @@ use Rattle.seize.specs.declared.alone.place.Unit.{Unit as Held}
 abbrev pub Lies : Type 0
 Lies = Bool × (ℕ × (ℕ × (Option (ℕ × Name) × ℕ)))
 
-abbrev pub lies_coded : Coded Lies
-lies_coded = coded× coded_bool (coded× coded_ℕ (coded× coded_ℕ (coded× (coded_option (coded× coded_ℕ name_coded)) coded_ℕ)))
-
 abbrev pub unit_in : Held → ℕ × Name
 unit_in held = (held.number, held.seen.name)
 
 abbrev pub lies_in : {T : Type 0} → Place T → Lies
 lies_in place = (place.owned, (place.guards, (place.reservation, (option_map unit_in place.unit, place.shelf))))
 
+abbrev pub lying_in : {T : Type 0} → Name → Slot T ℕ → ℕ → Lies
+lying_in n slot s = (is_owned slot.kind, (slot.guards, (place_label n s 1, ((if has_guard slot then Some (s, n) else None), n.family))))
+
 abbrev pub lies_for : {T : Type 0} → Name → Slot T ℕ → ℕ → Option Lies
-lies_for n slot s =
-    if is_free slot.kind then None else
-    Some (is_owned slot.kind, (slot.guards, (place_label n s 1, ((if has_guard slot then Some (s, n) else None), n.family))))
+lies_for n slot s = if is_free slot.kind then None else Some (lying_in n slot s)
 
 abbrev pub ArePlaces : {T : Type 0} → Name → State T ℕ → List (Option (Place T)) → Type 0
 ArePlaces n st places = (s : ℕ) → option_map lies_in (get_or places s None) ≡ lies_for n (slot_at st s) s

@@ -13,7 +13,7 @@ mod place;
 mod tells;
 
 use crate::alone::hands::Hands;
-use crate::alone::place::{Beginning, Place, Within, room};
+use crate::alone::place::{Beginning, Place, Within, back, out, room};
 pub use crate::alone::codes::Codes;
 use crate::ender::Ender;
 use crate::numbers::{Ending, Numbers, Registering};
@@ -127,13 +127,14 @@ impl<T: Drop, R: Reclaim<T>> Alone<T, R> {
         let (slot, shelf) = self.porter.stay(&mut taking)?;
         let number = slot.number();
         let reservation = Reservation::new(&self.words, slot, 1);
-        self.places[number] = Some(Place {
+        let place = Place {
             owned,
             guards: 0,
             reservation: Lock::new(reservation),
             unit: None,
             shelf,
-        });
+        };
+        back(&mut self.places, number, place);
         if number == self.made {
             self.made += 1;
         }
@@ -147,9 +148,7 @@ impl<T: Drop, R: Reclaim<T>> Alone<T, R> {
         ensures done { self.new.state ≡ calls.set_guards self.old.state s 1 }
         ensures same { IsSame self.old self.new }
     {
-        let Some(Some(place)) = self.places.get_mut(s) else {
-            unreachable!()
-        };
+        let mut place = out(&mut self.places, s);
         let beginning = Beginning { words: &self.words };
         let mut beginning = Within {
             lock: &mut place.reservation,
@@ -158,6 +157,7 @@ impl<T: Drop, R: Reclaim<T>> Alone<T, R> {
         let unit = self.porter.stay(&mut beginning);
         place.unit = Some(unit);
         place.guards = 1;
+        back(&mut self.places, s, place);
         self.hands = Hands::of::<Brand>(&self.hands, &self.porter, s);
     }
 
@@ -167,10 +167,9 @@ impl<T: Drop, R: Reclaim<T>> Alone<T, R> {
         ensures done { self.new.state ≡ calls.set_guards self.old.state s guards }
         ensures same { IsSame self.old self.new }
     {
-        let Some(Some(place)) = self.places.get_mut(s) else {
-            unreachable!()
-        };
+        let mut place = out(&mut self.places, s);
         place.guards = guards;
+        back(&mut self.places, s, place);
         self.hands = Hands::of::<Brand>(&self.hands, &self.porter, s);
     }
 
@@ -180,9 +179,7 @@ impl<T: Drop, R: Reclaim<T>> Alone<T, R> {
         ensures done { self.new.state ≡ calls.with_number_free self.old.state s }
         ensures same { IsSame self.old self.new }
     {
-        let Some(place) = self.places[s].take() else {
-            unreachable!()
-        };
+        let place = out(&mut self.places, s);
         let ending = Ending {
             words: &self.words,
             slot: place.reservation.into_value().slot,

@@ -1,6 +1,6 @@
 //! The place of a slot in use, while a collector is in one caller's hands. The slot lies there in a reservation for one guard; how many
 //! guards the caller has of it is counted beside that, with the unit of the activation that they share.
-ghost use Rattle.std.specs.Prelude.{◌≡◌, ◌≤◌, ℕ, IfErr, IfOk, None, false, get_or, length};
+ghost use Rattle.std.specs.Prelude.{◌≡◌, ◌<◌, ◌≤◌, ℕ, IfErr, IfOk, None, Some, false, get_or, is_some, length, slice_set, true};
 ghost use base.Growing.{prefix_prop};
 ghost use base.Stored.{Coded-set, coded_list};
 ghost use mathlib.Core.List.{IsPrefix};
@@ -65,6 +65,26 @@ pub(crate) fn room<T: Drop>(places: &mut Vec<Option<Place<T>>>, many: usize) -> 
         }
     }
     Ok(())
+}
+
+/// Takes out what lies in the place of this slot.
+pub(crate) fn out<T: Drop>(places: &mut Vec<Option<Place<T>>>, s: usize) -> Place<T>
+    requires { is_some (get_or places.old.items s None) ≡ true }
+    ensures place { get_or places.old.items s None ≡ Some result }
+    ensures places { (places.new.items ≡ slice_set places.old.items s None) × (s < length places.old.items) }
+{
+    let Some(place) = places[s].take() else {
+        unreachable!()
+    };
+    place
+}
+
+/// Lays this into the place of the slot.
+pub(crate) fn back<T: Drop>(places: &mut Vec<Option<Place<T>>>, s: usize, place: Place<T>)
+    requires { s < length places.old.items }
+    ensures { places.new.items ≡ slice_set places.old.items s (Some place) }
+{
+    places[s] = Some(place);
 }
 
 /// A work on what lies behind a lock, by a pass that is alone.
