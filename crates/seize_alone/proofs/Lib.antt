@@ -10,4 +10,5 @@ pub mod Singles
 pub mod Ready
 pub mod Slots
 pub mod Sizes
+pub mod Outlines
 pub mod Begins

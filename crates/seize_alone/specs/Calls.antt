@@ -10,6 +10,8 @@
 --     LeavesHeld          a leave with the last guard of a registered slot
 --     RefreshesHeld       a refresh of an owned slot, or of one with one guard
 --     SizeStays           none of them changes the size
+--     SameOutline st now  each slot has the kind and the number of guards that it had, and each link holds what it held
+--     OutlineStays        that is so after a refresh, a flush and a retirement
 use Rattle.std.specs.Prelude.{◌≡◌, ◌||◌, ◌==◌, ℕ, Bool, true, false, List, [], Ok}
 use Rattle.std.specs.Coded.{Coded}
 use Rattle.seize_machine.specs.Machine.Event.{SwapOut}
@@ -88,3 +90,12 @@ abbrev pub SizeStays : {T : Type 0} → (ℕ → T → List T) → (T → ℕ) �
 SizeStays {T} puts weight =
     (st : State T ℕ) (s : ℕ) → ((leave puts weight st s).1.0.size ≡ st.size) × ((refresh puts weight st s).1.0.size ≡ st.size)
     × ((flush puts weight st s).1.0.size ≡ st.size) × ((x : T) (kind : ℕ) → (retire puts weight st s x kind).1.0.size ≡ st.size)
+
+abbrev pub SameOutline : {T : Type 0} → State T ℕ → State T ℕ → Type 0
+SameOutline st now =
+    ((t : ℕ) → ((slot_at now t).kind ≡ (slot_at st t).kind) × ((slot_at now t).guards ≡ (slot_at st t).guards)) × (now.links ≡ st.links)
+
+abbrev pub OutlineStays : {T : Type 0} → (ℕ → T → List T) → (T → ℕ) → Type 0
+OutlineStays {T} puts weight =
+    (st : State T ℕ) (s : ℕ) → SameOutline st (refresh puts weight st s).1.0 × SameOutline st (flush puts weight st s).1.0
+    × ((x : T) (kind : ℕ) → SameOutline st (retire puts weight st s x kind).1.0)

@@ -2,7 +2,7 @@
 ghost use Rattle.std.specs.Prelude.{ℕ, List};
 ghost use Rattle.seize_model.specs.Waiting.Further.{Lighter};
 ghost use Rattle.seize_alone.specs.Begins.{BeginsHeld};
-ghost use Rattle.seize_alone.specs.Calls.{FlushesHeld, LeavesHeld, PartsHeld, RefreshesHeld, RetiresHeld, SizeStays};
+ghost use Rattle.seize_alone.specs.Calls.{FlushesHeld, LeavesHeld, OutlineStays, PartsHeld, RefreshesHeld, RetiresHeld, SizeStays};
 ghost use Rattle.seize_alone.specs.Events.{EntersHeld, GivesHeld, GuardsHeld, OpensHeld, OwnedLeavesHeld, ReadsHeld, SwapsHeld, TakesHeld};
 
 /// Calls by which values may be gone, where the pass is alone and its hands hold the state. The answer is the model's, they hold the state
@@ -15,6 +15,7 @@ pub fn calls_alone<T>()
     ensures leave_owned { (puts : ℕ → T → List T) (weight : T → ℕ) → Lighter puts weight → OwnedLeavesHeld T.row.coded puts weight }
     ensures refresh { (puts : ℕ → T → List T) (weight : T → ℕ) → Lighter puts weight → RefreshesHeld T.row.coded puts weight }
     ensures size { (puts : ℕ → T → List T) (weight : T → ℕ) → SizeStays puts weight }
+    ensures outline { (puts : ℕ → T → List T) (weight : T → ℕ) → OutlineStays puts weight }
 {}
 
 /// Single events made alone: after each the hands hold the model's state, and what is found in a link is what the model's link holds. A
