@@ -9,6 +9,7 @@ use Rattle.seize_model.specs.Agreement.Shows.{head_of}
 use Rattle.seize_model.specs.Waiting.Calls.{is_free, is_owned, set_guards}
 use Rattle.seize_model.specs.Waiting.State.{Slot, State, has_guard, no_slot, set_slot, slot_at}
 use Rattle.seize_model.proofs.Simulation.Beginnings.{head_active}
+use Rattle.seize_model.proofs.Simulation.Events.{set_twice}
 use Rattle.seize_book.proofs.Facts.{equal}
 use Rattle.seize_book.specs.Book.{after}
 use Rattle.seize_book.specs.Entry.{Entry}
@@ -75,6 +76,13 @@ set_place {U} n st places s slot place are there lies is t = go (s == t) refl
     go false e =
         let other : ¬ (t ≡ s) = λ same. false≢true (sym e ∙ equal s t (sym same)) in
         ap (λ (o : Option (Place U)). option_map lies_in o) (get_or-set_other places s t place None other) ∙ are t ∙ ap (λ (x : Slot U ℕ). lies_for n x t) (sym (get_or-set_other st.slots s t slot no_slot other))
+
+-- so after a place was taken out and laid back
+pub laid : {U : Type 0} (n : Name) (st : State U ℕ) (s : ℕ) (slot : Slot U ℕ) (items out back : List (Option (Place U))) (place : Place U) → ArePlaces n st items → s < length st.slots → s < length items → out ≡ slice_set items s None
+    → back ≡ slice_set out s (Some place) → is_free slot.kind ≡ false → lies_in place ≡ lying_in n slot s → ArePlaces n (set_slot st s slot) back
+laid {U} n st s slot items out back place are there lies taken put used is =
+    subst (ArePlaces n (set_slot st s slot)) (sym (put ∙ ap (λ (places : List (Option (Place U))). slice_set places s (Some place)) taken ∙ set_twice items s None (Some place)))
+    (set_place n st items s slot (Some place) are there lies (ap (λ (t : Lies). Some t) is ∙ ap (λ (b : Bool). if b then None else Some (lying_in n slot s)) (sym used)))
 
 -- what lies there is a fact of the state
 module _ {U : Type 0} (n : Name) (st : State U ℕ) (places : List (Option (Place U))) (are : ArePlaces n st places) (s : ℕ) (used : is_free (slot_at st s).kind ≡ false) where

@@ -148,15 +148,27 @@ impl<T: Drop, R: Reclaim<T>> Alone<T, R> {
         ensures done { self.new.state ≡ calls.set_guards self.old.state s 1 }
         ensures same { IsSame self.old self.new }
     {
-        let mut place = out(&mut self.places, s);
+        let Place {
+            owned,
+            guards: _,
+            reservation,
+            unit,
+            shelf,
+        } = out(&mut self.places, s);
+        drop(unit);
         let beginning = Beginning { words: &self.words };
         let mut beginning = Within {
-            lock: &mut place.reservation,
+            lock: reservation,
             work: Some(beginning),
         };
         let unit = self.porter.stay(&mut beginning);
-        place.unit = Some(unit);
-        place.guards = 1;
+        let place = Place {
+            owned,
+            guards: 1,
+            reservation: beginning.lock,
+            unit: Some(unit),
+            shelf,
+        };
         back(&mut self.places, s, place);
         self.hands = Hands::of::<Brand>(&self.hands, &self.porter, s);
     }

@@ -87,27 +87,27 @@ pub(crate) fn back<T: Drop>(places: &mut Vec<Option<Place<T>>>, s: usize, place:
     places[s] = Some(place);
 }
 
-/// A work on what lies behind a lock, by a pass that is alone.
+/// A work on what lies behind a lock, by a pass that is alone. The lock lies here meanwhile.
 #[derive(Drop)]
-pub(crate) struct Within<'a, M: Steady, W> {
+pub(crate) struct Within<M: Steady, W> {
     /// The lock.
-    pub(crate) lock: &'a mut Lock<M>,
+    pub(crate) lock: Lock<M>,
     /// The work, which is done once.
     pub(crate) work: Option<W>,
 }
 
-impl<'a, M: Steady, R, W: LockWork<M, Pass<'static>, R>> Stay<R> for Within<'a, M, W> {
+impl<M: Steady, R, W: LockWork<M, Pass<'static>, R>> Stay<R> for Within<M, W> {
     ghost use Rattle.std.specs.Prelude.{Some};
     ghost use Rattle.seize_book.specs.Passes.{IsSamePass};
     ghost use Rattle.seize_book.specs.declared.book.pass.Pass.{Pass};
     ghost use Rattle.seize_cells.specs.Locks.{HadLock, MayLock};
 
-    ghost may = { λ within pass. (work : W) × (within.work ≡ Some work) × MayLock M.label M.sound within.lock.now (λ x. W.may work x pass)
+    ghost may = { λ within pass. (work : W) × (within.work ≡ Some work) × MayLock M.label M.sound within.lock (λ x. W.may work x pass)
         × ((x y : M) (pass' : Pass) (result : R) → W.gives work x y pass pass' result → IsSamePass pass pass') };
 
-    ghost gives = { λ within within' pass pass' result. (within'.lock.now ≡ within.lock.now)
+    ghost gives = { λ within within' pass pass' result. (within'.lock ≡ within.lock)
         × ((work : W) → within.work ≡ Some work
-        → HadLock M.label M.sound within.lock.now (λ x y. W.gives work x y pass pass' result)) };
+        → HadLock M.label M.sound within.lock (λ x y. W.gives work x y pass pass' result)) };
 
     fn stay(&mut self, pass: &mut Pass<'static>) -> R {
         let Some(work) = self.work.take() else {
