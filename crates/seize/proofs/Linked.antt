@@ -1,9 +1,10 @@
 -- What reads and exchanges of links make where the pass is alone, with a unit of the slot's activation.
-use Rattle.std.proofs.Common.{◌≡◌, ℕ, Option, None, Some, IfNone, IfSome, subst, sym, ◌∙◌}
+use Rattle.std.proofs.Common.{◌≡◌, ℕ, Option, None, Some, IfNone, IfSome, option_map, ap, refl, subst, sym, ◌∙◌}
+use base.Stored.{Coded, Gv}
 use Rattle.seize_machine.specs.Machine.Event.{ExchangeLink, ReadLink}
 use Rattle.seize_machine.specs.declared.machine.event.Answer.TheVariants.{Link as Held}
 use Rattle.seize_machine.specs.declared.machine.event.Exchange.TheVariants.{Swap}
-use Rattle.seize_alone.specs.Events.{MakesAlone}
+use Rattle.seize_alone.specs.Events.{IsHeldAs, MakesAlone}
 use Rattle.seize_alone.proofs.Ready.{read_alone, swapped_alone}
 use Rattle.seize_book.specs.Books.{Learns}
 use Rattle.seize_book.specs.Tokens.{IsSole, Name}
@@ -15,11 +16,15 @@ use Rattle.seize_words.specs.declared.activation.Activation.{Activation}
 use Rattle.seize_words.specs.declared.link.Link.{Link}
 use Rattle.seize_words.specs.declared.link.MaybeKey.{MaybeKey}
 use Rattle.seize_words.specs.declared.words.Words.{Words}
-use Rattle.seize_calls.specs.Slots.{IsLooseIn, IsLooseOf, IsReadable}
+use Rattle.seize_calls.specs.Slots.{IsLooseIn, IsLooseOf, IsReadable, its_value}
 use Rattle.seize_calls.specs.declared.slot.Loose.{Loose}
-use Rattle.seize.specs.Blocks.{LooseComesOut}
+use Rattle.seize.specs.Blocks.{HasContent, IsNamed, LooseComesOut, ShowsIn, TakesOut, content, shared_value, taken_content}
 use Rattle.seize.specs.Places.{IsStill}
 use Rattle.seize.specs.Reservations.{IsUnitIn}
+use Rattle.seize.specs.declared.block.owned.Owned.{Owned}
+use Rattle.seize.specs.declared.block.shared.Shared.{Shared}
+use Rattle.seize.specs.declared.block.taken.Taken.{Taken}
+use Rattle.seize.proofs.Facts.{content_once}
 use Rattle.seize.proofs.Found.{none_held}
 use Rattle.seize.proofs.Readable.{swapped_readable}
 use Rattle.seize.proofs.Stilled.{alone_from, alone_then, still_learned}
@@ -48,3 +53,48 @@ pub came_out : {T : Type 0} (words : Words T) (link : Link) (a : Activation) (ke
 came_out words link a key pass key' pass' v t (Some loose) its some none =
     (sym t.2 ∙ some.1, ((some.0 ∙ t.1 ∙ its, some.2), swapped_readable link a key pass key' pass' v loose t some))
 came_out words link a key pass key' pass' v t None its some none = (none_held (held_before t.0) (sym t.0.found ∙ none), tt)
+
+-- What the hands hold, by values: `value` is what the model says that the link held.
+module _ {T : Type 0} (c : Coded T) (held : Option ℕ) (value : Option T) (is : IsHeldAs c.code held value) where
+  one_value : (v : ℕ) (x : T) → held ≡ Some v → HasContent c.code v x → value ≡ Some x
+  one_value v x same has = go value (subst (λ (o : Option ℕ). IsHeldAs c.code o value) same is)
+    where
+      go : (o : Option T) → IsHeldAs c.code (Some v) o → o ≡ Some x
+      go (Some y) lent = ap Some (content_once c v y x lent has)
+      go None lent = absurd lent
+
+  no_value : held ≡ None → value ≡ None
+  no_value same = go value (subst (λ (o : Option ℕ). IsHeldAs c.code o value) same is)
+    where
+      go : (o : Option T) → IsHeldAs c.code None o → o ≡ None
+      go (Some y) lent = absurd lent
+      go None lent = refl
+
+  -- what a read found
+  pub read_value : (n : Name) (result : Option (Shared T)) → ShowsIn n c.code held result → option_map shared_value result ≡ value
+  read_value n (Some shared) shows = sym (one_value shows.1.0 (shared_value shared) shows.1.1 shows.1.2)
+  read_value n None shows = sym (no_value shows)
+
+  -- what an exchange took out has a content
+  pub out_has : (loose : Option Loose) → LooseComesOut held loose → IfSome loose (λ l. (x : T) × HasContent c.code (its_value l) x)
+  out_has (Some loose) out = go value (subst (λ (o : Option ℕ). IsHeldAs c.code o value) out is)
+    where
+      go : (o : Option T) → IsHeldAs c.code (Some (its_value loose)) o → (x : T) × HasContent c.code (its_value loose) x
+      go (Some y) lent = (y, lent)
+      go None lent = absurd lent
+  out_has None out = tt
+
+  -- and that is it
+  pub out_value : (loose : Option Loose) (taken : Option (Taken T)) → LooseComesOut held loose → TakesOut c.code loose taken → option_map taken_content taken ≡ value
+  out_value (Some loose) (Some taken) out takes =
+      sym (one_value (its_value loose) (taken_content taken) out (subst (λ (v : ℕ). HasContent c.code v (taken_content taken)) takes.1 takes.0.1))
+  out_value None None out takes = sym (no_value out)
+  out_value (Some loose) None out takes = absurd takes
+  out_value None (Some taken) out takes = absurd takes
+
+-- What goes in, by its content.
+pub named_value : {T : Type 0} (code : T → Gv) (new : Option (Owned T)) (number : Option ℕ) → IsNamed code new number → IsHeldAs code number (option_map content new)
+named_value code (Some owned) (Some v) named = named
+named_value code None None named = tt
+named_value code (Some owned) None named = absurd named
+named_value code None (Some v) named = absurd named

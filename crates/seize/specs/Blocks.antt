@@ -9,6 +9,7 @@
 --     unlinked_name u           what the list calls the value that is in no link;  IsUnlinkedOf c u   it keeps the words of this collector
 --     taken_name taken, taken_content taken, taken_book taken     what the list calls a value that is in no link, of a collector in one
 --                               caller's hands; the value, and the list;  IsTakenOf code n taken     it is of list n, and has that content
+--     TakesOut code loose taken     what came out of a link is at hand, with its content, or there is neither
 --     IsNamed code owned o      o is what the list calls the value of this block, or there is neither
 --     shared_book shared        the list of its collector;  IsSharedOf c shared     it is of this collector
 --     ShowsIn n code held shared     what was found is what the link held, a block of the collector of list n with that value; or there is
@@ -81,6 +82,11 @@ taken_book taken = loose_book taken.loose
 
 abbrev pub IsTakenOf : {T : Type 0} → (T → Gv) → Name → Taken T → Type 0
 IsTakenOf code n taken = (taken_book taken ≡ n) × HasContent code (taken_name taken) (taken_content taken)
+
+abbrev pub TakesOut : {T : Type 0} → (T → Gv) → Option Loose → Option (Taken T) → Type 0
+TakesOut code (Some loose) (Some taken) = IsTakenOf code (loose_book loose) taken × (taken_name taken ≡ its_value loose)
+TakesOut code None None = Unit {0}
+TakesOut code _ _ = ⊥
 
 abbrev pub IsNamed : {T : Type 0} → (T → Gv) → Option (Owned T) → Option ℕ → Type 0
 IsNamed code (Some owned) (Some v) = HasContent code v (content owned)

@@ -43,12 +43,8 @@ impl<'a, T: Drop> Stay<Option<Shared<'a, T>>> for Reading<'a, T> {
         pass.learn(&unit.seen);
         let (word, found) = words.find(self.link, &unit.unit, pass);
         let found = found?;
-        Some(Shared::of(
-            found.value,
-            word,
-            found.glimpse,
-            &words.blocks.book,
-        ))
+        let book = &words.blocks.book;
+        Some(Shared::of(found.value, word, found.glimpse, book))
     }
 }
 

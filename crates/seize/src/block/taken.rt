@@ -59,9 +59,10 @@ pub struct Taken<T: Drop> {
 }
 
 impl<T: Drop> Taken<T> {
+    ghost use Rattle.std.specs.Prelude.{IfSome};
     ghost use Rattle.seize_words.specs.Joined.{words_book};
     ghost use Rattle.seize_calls.specs.Slots.{loose_book};
-    ghost use Rattle.seize.specs.Blocks.{Belongs, HasContent, IsTakenOf, content, taken_book, taken_content, taken_name};
+    ghost use Rattle.seize.specs.Blocks.{Belongs, HasContent, IsTakenOf, TakesOut, content, taken_book, taken_content, taken_name};
     ghost use Rattle.seize.specs.Enders.{IsEnderOf};
 
     /// What came out of a link.
@@ -73,6 +74,15 @@ impl<T: Drop> Taken<T> {
     {
         let content = Content::of(&loose);
         Taken { loose, content }
+    }
+
+    /// The same where there is one.
+    pub(crate) fn out(loose: Option<Loose>) -> Option<Taken<T>>
+        requires may { IfSome loose (λ loose. MayRetire loose.value × IsReadable loose) }
+        requires content { IfSome loose (λ loose. (value : T) × HasContent T.row.coded.code (its_value loose) value) }
+        ensures { TakesOut T.row.coded.code loose result }
+    {
+        Some(Taken::of(loose?))
     }
 
     /// A block that was never in a link. Its value is lent from then on.
