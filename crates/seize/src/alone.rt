@@ -10,13 +10,15 @@ mod codes;
 mod hands;
 mod links;
 mod place;
+mod taking;
 mod tells;
 
 use crate::alone::hands::Hands;
 use crate::alone::place::{Beginning, Place, Within, back, out, room};
 pub use crate::alone::codes::Codes;
+use crate::alone::taking::{Freeing, Taking};
 use crate::ender::Ender;
-use crate::numbers::{Ending, Numbers, Registering};
+use crate::numbers::Numbers;
 use crate::reclaim::{Boxed, Reclaim};
 use crate::reservation::Reservation;
 use seize_cells::Lock;
@@ -116,13 +118,10 @@ impl<T: Drop, R: Reclaim<T>> Alone<T, R> {
         ensures same { IsSame self.old self.new }
     {
         room(&mut self.places, self.made + 1)?;
-        let registering = Registering {
+        let mut taking = Taking {
             words: &self.words,
             alloc: self.alloc,
-        };
-        let mut taking = Within {
-            lock: &mut self.numbers,
-            work: Some(registering),
+            numbers: &mut self.numbers,
         };
         let (slot, shelf) = self.porter.stay(&mut taking)?;
         let number = slot.number();
@@ -192,15 +191,12 @@ impl<T: Drop, R: Reclaim<T>> Alone<T, R> {
         ensures same { IsSame self.old self.new }
     {
         let place = out(&mut self.places, s);
-        let ending = Ending {
+        let mut freeing = Freeing {
             words: &self.words,
-            slot: place.reservation.into_value().slot,
+            slot: Some(place.reservation.into_value().slot),
+            numbers: &mut self.numbers,
         };
-        let mut ending = Within {
-            lock: &mut self.numbers,
-            work: Some(ending),
-        };
-        self.porter.stay(&mut ending);
+        self.porter.stay(&mut freeing);
         self.hands = Hands::of::<Brand>(&self.hands, &self.porter, s);
     }
 

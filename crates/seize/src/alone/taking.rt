@@ -1,0 +1,76 @@
+//! Numbers of slots taken and given back, as works that the porter's first pass is lent to.
+ghost use Rattle.std.specs.Prelude.{◌≡◌, IfErr, IfOk, IfSome, Some};
+ghost use Rattle.seize_book.specs.Tokens.{IsSole};
+ghost use Rattle.seize_machine.specs.Machine.Event.{Give};
+ghost use Rattle.seize_machine.specs.declared.machine.event.Answer.{Answer};
+ghost use Rattle.seize_alone.specs.Events.{MakesAlone};
+ghost use Rattle.seize_calls.specs.Slots.{IsPassFor, its_number};
+ghost use Rattle.seize_calls.specs.declared.slot.Slot.{Slot};
+ghost use Rattle.seize_words.specs.Joined.{words_book};
+ghost use Rattle.seize.specs.Numbers.{HasTaken, MayEnd, TakesNone};
+ghost use Rattle.seize.specs.Shelves.{IsShelfFor};
+
+use crate::numbers::{Ending, Numbers, Registering};
+use crate::shelf::Shelf;
+use seize_calls::slot::Slot;
+use seize_cells::Lock;
+use seize_table::Refusal;
+use seize_words::book::{Pass, Stay};
+use seize_words::words::Words;
+use std::alloc::Global;
+
+/// The least number that is not in use is taken. It gives the slot, and its shelf.
+#[derive(Drop)]
+pub(crate) struct Taking<'a, T: Drop> {
+    /// The words of the collector.
+    pub(crate) words: &'a Words<T>,
+    /// Where a new slot takes its memory.
+    pub(crate) alloc: Global,
+    /// The numbers.
+    pub(crate) numbers: &'a mut Lock<Numbers<T>>,
+}
+
+impl<'a, T: Drop> Stay<Result<(Slot<T>, Shelf<T>), Refusal>> for Taking<'a, T> {
+    ghost may = { λ taking pass. IsPassFor taking.words.now pass × IsSole pass.id
+        × (taking.numbers.now ≡ (words_book taking.words.now).family) };
+
+    ghost gives = { λ taking taking' pass pass' result. (taking'.numbers ≡ taking.numbers)
+        × IfOk result (λ made. HasTaken taking.words.now pass pass' made.0 × IsShelfFor taking.words.now made.1)
+        × IfErr result (λ refusal. TakesNone pass pass' refusal) };
+
+    fn stay(&mut self, pass: &mut Pass<'static>) -> Result<(Slot<T>, Shelf<T>), Refusal> {
+        let registering = Registering {
+            words: self.words,
+            alloc: self.alloc,
+        };
+        self.numbers.with_mut(registering, pass)
+    }
+}
+
+/// The slot's number goes back.
+#[derive(Drop)]
+pub(crate) struct Freeing<'a, T: Drop> {
+    /// The words of the collector.
+    pub(crate) words: &'a Words<T>,
+    /// The slot, which is inactive.
+    pub(crate) slot: Option<Slot<T>>,
+    /// The numbers.
+    pub(crate) numbers: &'a mut Lock<Numbers<T>>,
+}
+
+impl<'a, T: Drop> Stay<()> for Freeing<'a, T> {
+    ghost may = { λ freeing pass. IsPassFor freeing.words.now pass × IsSole pass.id
+        × (freeing.numbers.now ≡ (words_book freeing.words.now).family)
+        × ((slot : Slot T) × (freeing.slot ≡ Some slot) × MayEnd freeing.words.now slot) };
+
+    ghost gives = { λ freeing freeing' pass pass' _. (freeing'.numbers ≡ freeing.numbers)
+        × ((slot : Slot T) → freeing.slot ≡ Some slot → (answer : Answer) × MakesAlone pass pass' (Give (its_number slot)) answer) };
+
+    fn stay(&mut self, pass: &mut Pass<'static>) {
+        let Some(slot) = self.slot.take() else {
+            unreachable!()
+        };
+        let words = self.words;
+        self.numbers.with_mut(Ending { words, slot }, pass);
+    }
+}
