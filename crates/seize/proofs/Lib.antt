@@ -28,3 +28,4 @@ mod Recovered
 mod OneLife
 mod Stilled
 mod Watched
+mod Called

@@ -1,14 +1,16 @@
 //! The calls by which values may be gone, as works on a slot's place, while a collector is in one caller's hands. None of them waits, and
 //! each returns, since what the reclaimer puts weighs less than the value.
-ghost use Rattle.std.specs.Prelude.{◌≡◌, Bool, []};
+ghost use Rattle.std.specs.Prelude.{◌≡◌, Bool, [], Some};
 ghost use Rattle.seize_book.specs.Tokens.{IsSole};
+ghost use Rattle.seize_cells.specs.Locks.{HadLock, MayLock};
 ghost use Rattle.seize_calls.specs.Handing.{Had};
 ghost use Rattle.seize_calls.specs.Slots.{HasActivation, IsItsHead, IsPassFor, IsSlotOf, MayEnterWith, SlotLeaves, its_number};
 ghost use Rattle.seize_words.specs.Joined.{words_book};
 ghost use Rattle.seize.specs.Enders.{IsEnderOf, PutAs};
 ghost use Rattle.seize.specs.Places.{CallsSlot, IsOnly};
-ghost use Rattle.seize.specs.Reservations.{IsUnit};
+ghost use Rattle.seize.specs.Reservations.{IsReservation, IsUnit, its_label};
 ghost use Rattle.seize.specs.Told.{HasTold};
+ghost use Rattle.seize.specs.declared.alone.place.Unit.{Unit as SlotUnit};
 
 use crate::alone::place::Unit;
 use crate::alone::tells::{Begun, Tells};
@@ -25,29 +27,112 @@ use seize_words::reservation::Head;
 use seize_words::words::Words;
 use std::marker::{Brand, PhantomData};
 
-// The slot leaves, and the watch is told.
-fn leave<B: Begun, T: Drop, R: Reclaim<T>, W: Watch<T>>(
+/// What is lent to a call beside the slot's place.
+#[derive(Drop)]
+pub(crate) struct Heard<'h, P, W> {
+    /// The pass.
+    pub(crate) pass: &'h mut P,
+    /// Who is told.
+    pub(crate) watch: &'h mut W,
+}
+
+// The slot leaves, by a reclaimer that tells the watch.
+fn leave_telling<B: Begun, T: Drop, R: Reclaim<T>, W: Watch<T>>(
     words: &Words<T>,
-    ender: &Ender<T, R>,
     slot: &mut Slot<T>,
     head: &Head,
     rest: &mut Activation,
-    watch: &mut W,
+    tells: &mut Tells<'_, Forwards<'_, T, R>, W, B>,
     pass: &mut Pass,
 )
     requires of { IsSlotOf words.now slot.old × IsPassFor words.now pass.old × IsSole pass.old.id }
     requires head { IsItsHead slot.old head.now }
     requires inside { HasActivation slot.old rest.old }
-    requires ender { IsEnderOf words.now ender.now }
-    requires begun { (watch.ghost_name ≡ B.name) × (W.coded.code (W.seen watch.old) ≡ B.first) }
+    requires new { (tells.old.forwards.ends.had ≡ []) × IsEnderOf words.now tells.old.forwards.ender.now }
+    requires begun { (tells.old.watch.ghost_name ≡ B.name) × (W.coded.code (W.seen tells.old.watch.now) ≡ B.first) }
+    ensures same_reference { tells.new.watch.ghost_name ≡ tells.old.watch.ghost_name }
     ensures of { IsSlotOf words.now slot.new × MayEnterWith slot.new rest.new }
     ensures leaves { (had : Had) × SlotLeaves slot.old pass.old [] slot.new pass.new had × PutAs T.row.coded.code R.puts had
-        × HasTold T.row.coded.code W.told (W.seen watch.old) (W.seen watch.new) had }
+        × HasTold T.row.coded.code W.told (W.seen tells.old.watch.now) (W.seen tells.new.watch.now) had }
 {
-    let mut tells = Tells::<T, R, W, B> {
-        forwards: Forwards::new(ender),
-        watch,
-        begun: PhantomData,
-    };
-    slot.leave(words, head, rest, &mut tells, pass, &Alone {});
+    slot.leave(words, head, rest, tells, pass, &Alone {});
+}
+
+// The slot leaves with its last guard.
+#[derive(Drop)]
+struct Leave<'a, T: Drop, R: Reclaim<T>> {
+    words: &'a Words<T>,
+    ender: &'a Ender<T, R>,
+    unit: Unit,
+}
+
+impl<'a, 'h, 'p, T: Drop, R: Reclaim<T>, W: Watch<T>> LockWork<Reservation<T>, Heard<'h, Pass<'p>, W>, ()> for Leave<'a, T, R> {
+    ghost may = { λ work r heard. IsOnly work.words.now r heard.pass.now × IsEnderOf work.words.now work.ender.now
+        × IsUnit (words_book work.words.now) (its_number r.slot) work.unit.unit work.unit.seen };
+
+    ghost gives = { λ work r r' heard heard' _. (heard'.pass.ghost_name ≡ heard.pass.ghost_name)
+        × (heard'.watch.ghost_name ≡ heard.watch.ghost_name)
+        × CallsSlot T.row.coded.code R.puts W.told r heard.pass.now r' heard'.pass.now (W.seen heard.watch.now) (W.seen heard'.watch.now)
+        (λ slot ready slot' pass' had. SlotLeaves slot ready [] slot' pass' had) };
+
+    fn work(self, r: &mut Reservation<T>, heard: &mut Heard<'h, Pass<'p>, W>) {
+        let Leave { words, ender, unit } = self;
+        let Unit {
+            number: _,
+            unit,
+            seen,
+        } = unit;
+        r.current(words, &unit, &seen, heard.pass);
+        let head = r.slot.head(words, heard.pass);
+        r.rest.join(unit);
+        r.guards -= 1;
+        let mut tells = Tells {
+            forwards: Forwards::new(ender),
+            watch: &mut *heard.watch,
+            begun: PhantomData,
+        };
+        leave_telling::<Brand, T, R, W>(words, &mut r.slot, head, &mut r.rest, &mut tells, heard.pass);
+        let Tells {
+            forwards: _forwards,
+            watch: _watch,
+            begun: _,
+        } = tells;
+    }
+}
+
+/// The slot leaves with its last guard.
+#[derive(Drop)]
+pub(crate) struct Leaving<'a, T: Drop, R: Reclaim<T>, W> {
+    /// The words of the collector.
+    pub(crate) words: &'a Words<T>,
+    /// Its reclaimer.
+    pub(crate) ender: &'a Ender<T, R>,
+    /// The slot's place.
+    pub(crate) lock: &'a mut Lock<Reservation<T>>,
+    /// The unit of the slot's activation.
+    pub(crate) unit: Option<Unit>,
+    /// Who is told.
+    pub(crate) watch: &'a mut W,
+}
+
+impl<'a, T: Drop, R: Reclaim<T>, W: Watch<T>> Stay<()> for Leaving<'a, T, R, W> {
+    ghost may = { λ call pass. (unit : SlotUnit) × (call.unit ≡ Some unit) × IsEnderOf call.words.now call.ender.now
+        × MayLock its_label IsReservation call.lock.now (λ r. IsOnly call.words.now r pass
+        × IsUnit (words_book call.words.now) (its_number r.slot) unit.unit unit.seen) };
+
+    ghost gives = { λ call call' pass pass' _. (call'.lock ≡ call.lock) × (call'.watch.ghost_name ≡ call.watch.ghost_name)
+        × HadLock its_label IsReservation call.lock.now (λ r r'. CallsSlot T.row.coded.code R.puts W.told r pass r' pass'
+        (W.seen call.watch.now) (W.seen call'.watch.now) (λ slot ready slot' pass' had. SlotLeaves slot ready [] slot' pass' had)) };
+
+    fn stay(&mut self, pass: &mut Pass<'static>) {
+        let Some(unit) = self.unit.take() else {
+            unreachable!()
+        };
+        let (words, ender) = (self.words, self.ender);
+        let mut heard = Heard {
+            pass: &mut *pass,
+            watch: &mut *self.watch,
+        };
+        self.lock.with_mut(Leave { words, ender, unit }, &mut heard)
+    }
 }

@@ -5,6 +5,7 @@ ghost use Rattle.seize.specs.Enders.{IsEnderIn, PutAs, Weighs};
 ghost use Rattle.seize.specs.Lighter.{weighs_once};
 ghost use Rattle.seize.specs.Told.{HasToldFrom};
 
+use crate::ender::Ender;
 use crate::ends::Forwards;
 use crate::reclaim::{Reclaim, Watch};
 use seize_calls::draining::Lightens;
@@ -27,18 +28,36 @@ impl Begun for Brand {
     ghost first = { gnil };
 }
 
-/// Tells the watch of each value, and gives it to the collector's reclaimer.
+/// Tells the watch of each value, and gives it to the collector's reclaimer: `F` is `Forwards`. It is a parameter, so that clauses know
+/// whose borrow the watch is.
 #[derive(Drop)]
-pub(crate) struct Tells<'a, 'w, T: Drop, R: Reclaim<T>, W: Watch<T>, B> {
+pub(crate) struct Tells<'w, F: Drop, W, B> {
     /// Gives it on.
-    pub(crate) forwards: Forwards<'a, T, R>,
+    pub(crate) forwards: F,
     /// The watch.
     pub(crate) watch: &'w mut W,
     /// What is known of it.
     pub(crate) begun: PhantomData<B>,
 }
 
-impl<T: Drop, R: Reclaim<T>, W: Watch<T>, B: Begun> handing::Reclaim<T> for Tells<'_, '_, T, R, W, B> {
+impl<'a, 'w, T: Drop, R: Reclaim<T>, W, B> Tells<'w, Forwards<'a, T, R>, W, B> {
+    ghost use Rattle.std.specs.Prelude.{[]};
+
+    /// It has had none.
+    pub(crate) fn new(ender: &'a Ender<T, R>, watch: &'w mut W) -> Tells<'w, Forwards<'a, T, R>, W, B>
+        ensures same_reference { result.watch.ghost_name ≡ watch.entry.ghost_name }
+        ensures none { (result.forwards.ends.had ≡ []) × (result.forwards.ender.now ≡ ender.now) }
+        ensures watch { result.watch.now ≡ watch.old }
+    {
+        Tells {
+            forwards: Forwards::new(ender),
+            watch,
+            begun: PhantomData,
+        }
+    }
+}
+
+impl<T: Drop, R: Reclaim<T>, W: Watch<T>, B: Begun> handing::Reclaim<T> for Tells<'_, Forwards<'_, T, R>, W, B> {
     ghost had = { λ tells. tells.forwards.ends.had };
 
     ghost serves = { λ tells n. let had = tells.forwards.ends.had in
@@ -60,7 +79,7 @@ impl<T: Drop, R: Reclaim<T>, W: Watch<T>, B: Begun> handing::Reclaim<T> for Tell
 }
 
 /// What a reclaimer of the collector puts weighs less than the value.
-impl<T: Drop, R: Reclaim<T>, W: Watch<T>, B: Begun> Lightens<T> for Tells<'_, '_, T, R, W, B> {
+impl<T: Drop, R: Reclaim<T>, W: Watch<T>, B: Begun> Lightens<T> for Tells<'_, Forwards<'_, T, R>, W, B> {
     ghost weighs = { Weighs T.row.coded.code R.weight };
 
     ghost once = { weighs_once T.row.coded R.weight };
