@@ -1,6 +1,6 @@
 -- A call of a slot in the place of a reservation, made where its pass is alone, with what its reclaimer had and what a watch was told.
-use Rattle.std.proofs.Common.{◌≡◌, ℕ, List, [], ◌∷◌, ap, sym, subst, ◌∙◌}
-use base.Stored.{Coded, Gv}
+use Rattle.std.proofs.Common.{◌≡◌, ℕ, List, refl, sym, subst, ◌∙◌}
+use base.Stored.{Gv}
 use Rattle.seize_book.specs.Book.{IsLegalList}
 use Rattle.seize_book.specs.Entry.{Entry}
 use Rattle.seize_book.specs.Passes.{IsSamePass}
@@ -16,6 +16,10 @@ use Rattle.seize.specs.Told.{HasTold}
 use Rattle.seize.specs.declared.reservation.Reservation.{Reservation}
 use Rattle.seize.proofs.Placed.{still_for}
 use Rattle.seize.proofs.Stilled.{still_prepared, still_then}
+
+-- nothing was done
+pub still_none : (pass : Pass) → IsStill pass pass
+still_none pass = record { same = (refl, refl, refl); alone = λ _. refl }
 
 -- it is alone still
 pub sole_still : {pass pass' : Pass} → IsStill pass pass' → IsSole pass.id → IsSole pass'.id
