@@ -8,14 +8,13 @@ use Rattle.seize_book.specs.Tokens.{IsSole, Name, start}
 use Rattle.seize_book.specs.declared.book.pass.Pass.{Pass}
 use Rattle.seize_words.specs.declared.words.Words.{Words}
 use Rattle.seize_calls.specs.Handing.{Had}
-use Rattle.seize_calls.specs.Slots.{CallsWith, IsOfWords, IsPassFor, Prepares, its_number}
+use Rattle.seize_calls.specs.Slots.{CallsWith, IsOfWords, IsPassFor, its_number}
 use Rattle.seize_calls.specs.declared.slot.Slot.{Slot}
 use Rattle.seize.specs.Enders.{PutAs}
 use Rattle.seize.specs.Places.{CallsSlot, IsStill}
 use Rattle.seize.specs.Told.{HasTold}
 use Rattle.seize.specs.declared.reservation.Reservation.{Reservation}
 use Rattle.seize.proofs.Placed.{still_for}
-use Rattle.seize.proofs.Stilled.{still_prepared, still_then}
 
 -- nothing was done
 pub still_none : (pass : Pass) → IsStill pass pass

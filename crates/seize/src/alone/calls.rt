@@ -69,7 +69,11 @@ struct Leave<'a, T: Drop, R: Reclaim<T>> {
     unit: Unit,
 }
 
-impl<'a, 'h, 'p, T: Drop, R: Reclaim<T>, W: Watch<T>> LockWork<Reservation<T>, Heard<'h, Pass<'p>, W>, ()> for Leave<'a, T, R> {
+impl<'a, 'h, 'p, T: Drop, R: Reclaim<T>, W: Watch<T>> LockWork<
+    Reservation<T>,
+    Heard<'h, Pass<'p>, W>,
+    (),
+> for Leave<'a, T, R> {
     ghost may = { λ work r heard. IsOnly work.words.now r heard.pass.now × IsEnderOf work.words.now work.ender.now
         × IsUnit (words_book work.words.now) (its_number r.slot) work.unit.unit work.unit.seen };
 
@@ -94,7 +98,14 @@ impl<'a, 'h, 'p, T: Drop, R: Reclaim<T>, W: Watch<T>> LockWork<Reservation<T>, H
             watch: &mut *heard.watch,
             begun: PhantomData,
         };
-        leave_telling::<Brand, T, R, W>(words, &mut r.slot, head, &mut r.rest, &mut tells, heard.pass);
+        leave_telling::<Brand, T, R, W>(
+            words,
+            &mut r.slot,
+            head,
+            &mut r.rest,
+            &mut tells,
+            heard.pass,
+        );
         let Tells {
             forwards: _forwards,
             watch: _watch,
@@ -168,7 +179,11 @@ struct Flush<'a, T: Drop, R: Reclaim<T>> {
     unit: &'a Unit,
 }
 
-impl<'a, 'h, 'p, T: Drop, R: Reclaim<T>, W: Watch<T>> LockWork<Reservation<T>, Heard<'h, Pass<'p>, W>, ()> for Flush<'a, T, R> {
+impl<'a, 'h, 'p, T: Drop, R: Reclaim<T>, W: Watch<T>> LockWork<
+    Reservation<T>,
+    Heard<'h, Pass<'p>, W>,
+    (),
+> for Flush<'a, T, R> {
     ghost may = { λ work r heard. IsOnly work.words.now r heard.pass.now × IsEnderOf work.words.now work.ender.now
         × IsUnit (words_book work.words.now) (its_number r.slot) work.unit.now.unit work.unit.now.seen };
 
@@ -259,7 +274,11 @@ struct Retire<'a, T: Drop, R: Reclaim<T>> {
     kind: u64,
 }
 
-impl<'a, 'h, 'p, T: Drop, R: Reclaim<T>, W: Watch<T>> LockWork<Reservation<T>, Heard<'h, Pass<'p>, W>, ()> for Retire<'a, T, R> {
+impl<'a, 'h, 'p, T: Drop, R: Reclaim<T>, W: Watch<T>> LockWork<
+    Reservation<T>,
+    Heard<'h, Pass<'p>, W>,
+    (),
+> for Retire<'a, T, R> {
     ghost may = { λ work r heard. IsOnly work.words.now r heard.pass.now × IsEnderOf work.words.now work.ender.now
         × IsLooseOf work.words.now work.loose };
 
@@ -290,7 +309,8 @@ impl<'a, 'h, 'p, T: Drop, R: Reclaim<T>, W: Watch<T>> LockWork<Reservation<T>, H
     }
 }
 
-/// A value is retired in a slot with or without a guard. It is none afterwards.
+/// A value is retired in a slot with or without a guard. There is none afterwards where it was.
+#[derive(Drop)]
 pub(crate) struct Retiring<'a, T: Drop, R: Reclaim<T>, W> {
     /// The words of the collector.
     pub(crate) words: &'a Words<T>,
@@ -298,8 +318,8 @@ pub(crate) struct Retiring<'a, T: Drop, R: Reclaim<T>, W> {
     pub(crate) ender: &'a Ender<T, R>,
     /// The slot's place.
     pub(crate) lock: &'a mut Lock<Reservation<T>>,
-    /// The value.
-    pub(crate) loose: Option<Loose>,
+    /// Where the value is.
+    pub(crate) loose: &'a mut Option<Loose>,
     /// Its kind.
     pub(crate) kind: u64,
     /// Who is told.
@@ -307,13 +327,14 @@ pub(crate) struct Retiring<'a, T: Drop, R: Reclaim<T>, W> {
 }
 
 impl<'a, T: Drop, R: Reclaim<T>, W: Watch<T>> Stay<()> for Retiring<'a, T, R, W> {
-    ghost may = { λ call pass. (loose : LooseValue) × (call.loose ≡ Some loose) × IsLooseOf call.words.now loose
+    ghost may = { λ call pass. (loose : LooseValue) × (call.loose.now ≡ Some loose) × IsLooseOf call.words.now loose
         × IsEnderOf call.words.now call.ender.now
         × MayLock its_label IsReservation call.lock.now (λ r. IsOnly call.words.now r pass) };
 
     ghost gives = { λ call call' pass pass' _. (call'.lock ≡ call.lock) × (call'.watch.ghost_name ≡ call.watch.ghost_name)
-        × (call'.loose ≡ None) × ((loose : LooseValue) → call.loose ≡ Some loose
-        → HadLock its_label IsReservation call.lock.now (λ r r'. CallsSlot T.row.coded.code R.puts W.told r pass r' pass'
+        × (call'.loose.ghost_name ≡ call.loose.ghost_name) × (call'.loose.now ≡ None)
+        × ((loose : LooseValue) → call.loose.now ≡ Some loose → HadLock its_label IsReservation call.lock.now
+        (λ r r'. CallsSlot T.row.coded.code R.puts W.told r pass r' pass'
         (W.seen call.watch.now) (W.seen call'.watch.now) (λ slot ready slot' pass' had. (retired : Bool)
         × SlotRetires slot ready loose call.kind [] slot' pass' had retired))) };
 
@@ -368,7 +389,11 @@ struct Refresh<'a, T: Drop, R: Reclaim<T>> {
     unit: Unit,
 }
 
-impl<'a, 'h, 'p, T: Drop, R: Reclaim<T>, W: Watch<T>> LockWork<Reservation<T>, Heard<'h, Pass<'p>, W>, Unit> for Refresh<'a, T, R> {
+impl<'a, 'h, 'p, T: Drop, R: Reclaim<T>, W: Watch<T>> LockWork<
+    Reservation<T>,
+    Heard<'h, Pass<'p>, W>,
+    Unit,
+> for Refresh<'a, T, R> {
     ghost may = { λ work r heard. IsOnly work.words.now r heard.pass.now × IsEnderOf work.words.now work.ender.now
         × IsUnit (words_book work.words.now) (its_number r.slot) work.unit.unit work.unit.seen };
 
@@ -389,7 +414,14 @@ impl<'a, 'h, 'p, T: Drop, R: Reclaim<T>, W: Watch<T>> LockWork<Reservation<T>, H
             watch: &mut *heard.watch,
             begun: PhantomData,
         };
-        refresh_telling::<Brand, T, R, W>(words, &mut r.slot, head, &mut r.rest, &mut tells, heard.pass);
+        refresh_telling::<Brand, T, R, W>(
+            words,
+            &mut r.slot,
+            head,
+            &mut r.rest,
+            &mut tells,
+            heard.pass,
+        );
         let Tells {
             forwards: _forwards,
             watch: _watch,
@@ -435,6 +467,7 @@ impl<'a, T: Drop, R: Reclaim<T>, W: Watch<T>> Stay<Unit> for Refreshing<'a, T, R
             pass: &mut *pass,
             watch: &mut *self.watch,
         };
-        self.lock.with_mut(Refresh { words, ender, unit }, &mut heard)
+        self.lock
+            .with_mut(Refresh { words, ender, unit }, &mut heard)
     }
 }

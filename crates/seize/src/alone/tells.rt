@@ -44,7 +44,10 @@ impl<'a, 'w, T: Drop, R: Reclaim<T>, W, B> Tells<'w, Forwards<'a, T, R>, W, B> {
     ghost use Rattle.std.specs.Prelude.{[]};
 
     /// It has had none.
-    pub(crate) fn new(ender: &'a Ender<T, R>, watch: &'w mut W) -> Tells<'w, Forwards<'a, T, R>, W, B>
+    pub(crate) fn new(
+        ender: &'a Ender<T, R>,
+        watch: &'w mut W,
+    ) -> Tells<'w, Forwards<'a, T, R>, W, B>
         ensures same_reference { result.watch.ghost_name ≡ watch.entry.ghost_name }
         ensures none { (result.forwards.ends.had ≡ []) × (result.forwards.ender.now ≡ ender.now) }
         ensures watch { result.watch.now ≡ watch.old }
@@ -57,7 +60,8 @@ impl<'a, 'w, T: Drop, R: Reclaim<T>, W, B> Tells<'w, Forwards<'a, T, R>, W, B> {
     }
 }
 
-impl<T: Drop, R: Reclaim<T>, W: Watch<T>, B: Begun> handing::Reclaim<T> for Tells<'_, Forwards<'_, T, R>, W, B> {
+impl<T: Drop, R: Reclaim<T>, W: Watch<T>, B: Begun> handing::Reclaim<T>
+    for Tells<'_, Forwards<'_, T, R>, W, B> {
     ghost had = { λ tells. tells.forwards.ends.had };
 
     ghost serves = { λ tells n. let had = tells.forwards.ends.had in
@@ -79,7 +83,8 @@ impl<T: Drop, R: Reclaim<T>, W: Watch<T>, B: Begun> handing::Reclaim<T> for Tell
 }
 
 /// What a reclaimer of the collector puts weighs less than the value.
-impl<T: Drop, R: Reclaim<T>, W: Watch<T>, B: Begun> Lightens<T> for Tells<'_, Forwards<'_, T, R>, W, B> {
+impl<T: Drop, R: Reclaim<T>, W: Watch<T>, B: Begun> Lightens<T>
+    for Tells<'_, Forwards<'_, T, R>, W, B> {
     ghost weighs = { Weighs T.row.coded.code R.weight };
 
     ghost once = { weighs_once T.row.coded R.weight };

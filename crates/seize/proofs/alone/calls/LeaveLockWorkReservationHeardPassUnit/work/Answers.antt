@@ -1,6 +1,5 @@
 use Rattle.std.proofs.Common.{ℕ, ◌<◌, ◌-◌, ◌≡◌, arith, refl, sym, subst, ◌∙◌}
 use Rattle.seize_words.specs.Joined.{words_book}
-use Rattle.seize_calls.specs.Slots.{SlotLeaves}
 use Rattle.seize.specs.Enders.{IsEnderIn}
 use Rattle.seize.specs.Told.{HasTold}
 use Rattle.seize.proofs.Called.{called, sole_still}
