@@ -5,16 +5,20 @@ use Rattle.seize_book.specs.Book.{IsLegalList}
 use Rattle.seize_book.specs.Entry.{Entry}
 use Rattle.seize_book.specs.Passes.{IsSamePass}
 use Rattle.seize_book.specs.Tokens.{IsSole, Name, start}
+use Rattle.seize_content.specs.Steady.{keeps}
 use Rattle.seize_book.specs.declared.book.pass.Pass.{Pass}
+use Rattle.seize_words.specs.Joined.{words_book}
 use Rattle.seize_words.specs.declared.words.Words.{Words}
 use Rattle.seize_calls.specs.Handing.{Had}
-use Rattle.seize_calls.specs.Slots.{CallsWith, IsOfWords, IsPassFor, its_number}
+use Rattle.seize_calls.specs.Slots.{CallsWith, IsOfWords, IsPassFor, its_book, its_number}
 use Rattle.seize_calls.specs.declared.slot.Slot.{Slot}
 use Rattle.seize.specs.Enders.{PutAs}
-use Rattle.seize.specs.Places.{CallsSlot, IsStill}
+use Rattle.seize.specs.Places.{CallsSlot, IsOnly, IsStill}
+use Rattle.seize.specs.Reservations.{IsReservation, IsUnit, its_label, place_label}
+use Rattle.seize.specs.declared.alone.place.Unit.{Unit}
 use Rattle.seize.specs.Told.{HasTold}
 use Rattle.seize.specs.declared.reservation.Reservation.{Reservation}
-use Rattle.seize.proofs.Placed.{still_for}
+use Rattle.seize.proofs.Placed.{label_family, label_most, label_number, still_for}
 
 -- nothing was done
 pub still_none : (pass : Pass) → IsStill pass pass
@@ -46,3 +50,15 @@ module _ {T Seen : Type 0} (code : T → Gv) (puts : ℕ → T → List T) (told
     put = put;
     tells = tells;
   }
+
+-- What lies under the lock of a place, by its label: a reservation for one guard.
+
+pub only_there : {T : Type 0} (words : Words T) (s : ℕ) (pass : Pass) (lock : ℕ) → lock ≡ place_label (words_book words) s 1 → IsPassFor words pass → IsSole pass.id → (r : Reservation T) → keeps its_label IsReservation lock r
+    → IsOnly words r pass × (its_number r.slot ≡ s)
+only_there words s pass lock at for sole r is =
+    let n = its_book r.slot in let m = words_book words in let t = its_number r.slot in let same = is.0 ∙ at in
+    ((label_family n m t s r.most 1 same, label_most n m t s r.most 1 same, for, sole), label_number n m t s r.most 1 same)
+
+-- and the unit of a place is of the slot that lies there
+pub unit_there : (n : Name) (s t : ℕ) (unit : Unit) → unit.seen.name ≡ n → unit.number ≡ s → t ≡ s → IsUnit n t unit.unit unit.seen
+unit_there n s t unit book number same = subst (λ (k : Name × ℕ). IsUnit k.0 k.1 unit.unit unit.seen) (λ j. (book j, (number ∙ sym same) j)) (unit.its, unit.known)

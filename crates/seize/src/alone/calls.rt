@@ -4,8 +4,8 @@ ghost use Rattle.std.specs.Prelude.{◌≡◌, Bool, [], None, Some};
 ghost use Rattle.seize_book.specs.Tokens.{IsSole};
 ghost use Rattle.seize_cells.specs.Locks.{HadLock, MayLock};
 ghost use Rattle.seize_calls.specs.Handing.{Had};
-ghost use Rattle.seize_calls.specs.Slots.{HasActivation, IsActive, IsItsHead, IsLooseOf, IsPassFor, IsSlotOf, KeepsActivation, MayEnterWith};
-ghost use Rattle.seize_calls.specs.Slots.{SlotFlushes, SlotLeaves, SlotRefreshes, SlotRetires, its_number};
+ghost use Rattle.seize_calls.specs.Slots.{HasActivation, IsActive, IsItsHead, IsLooseOf, IsPassFor, IsSlotOf, KeepsActivation};
+ghost use Rattle.seize_calls.specs.Slots.{MayEnterWith, SlotFlushes, SlotLeaves, SlotRefreshes, SlotRetires, its_number};
 ghost use Rattle.seize_calls.specs.declared.slot.Loose.{Loose as LooseValue};
 ghost use Rattle.seize_words.specs.Joined.{words_book};
 ghost use Rattle.seize_words.specs.declared.activation.Activation.{Activation};
@@ -106,6 +106,7 @@ impl<'a, 'h, 'p, T: Drop, R: Reclaim<T>, W: Watch<T>> LockWork<
             &mut tells,
             heard.pass,
         );
+        // It is taken apart, and so what the watch has seen is known.
         let Tells {
             forwards: _forwards,
             watch: _watch,
@@ -201,6 +202,7 @@ impl<'a, 'h, 'p, T: Drop, R: Reclaim<T>, W: Watch<T>> LockWork<
             begun: PhantomData,
         };
         flush_telling::<Brand, T, R, W>(words, &mut r.slot, &mut tells, heard.pass);
+        // It is taken apart, and so what the watch has seen is known.
         let Tells {
             forwards: _forwards,
             watch: _watch,
@@ -231,7 +233,8 @@ impl<'a, T: Drop, R: Reclaim<T>, W: Watch<T>> Stay<()> for Flushing<'a, T, R, W>
 
     ghost gives = { λ call call' pass pass' _. (call'.lock ≡ call.lock) × (call'.watch.ghost_name ≡ call.watch.ghost_name)
         × HadLock its_label IsReservation call.lock.now (λ r r'. CallsSlot T.row.coded.code R.puts W.told r pass r' pass'
-        (W.seen call.watch.now) (W.seen call'.watch.now) (λ slot ready slot' pass' had. (retired : Bool) × SlotFlushes slot ready [] slot' pass' had retired)) };
+        (W.seen call.watch.now) (W.seen call'.watch.now)
+        (λ slot ready slot' pass' had. (retired : Bool) × SlotFlushes slot ready [] slot' pass' had retired)) };
 
     fn stay(&mut self, pass: &mut Pass<'static>) {
         let unit = self.unit;
@@ -301,6 +304,7 @@ impl<'a, 'h, 'p, T: Drop, R: Reclaim<T>, W: Watch<T>> LockWork<
             begun: PhantomData,
         };
         retire_telling::<Brand, T, R, W>(words, &mut r.slot, loose, kind, &mut tells, heard.pass);
+        // It is taken apart, and so what the watch has seen is known.
         let Tells {
             forwards: _forwards,
             watch: _watch,
@@ -422,6 +426,7 @@ impl<'a, 'h, 'p, T: Drop, R: Reclaim<T>, W: Watch<T>> LockWork<
             &mut tells,
             heard.pass,
         );
+        // It is taken apart, and so what the watch has seen is known.
         let Tells {
             forwards: _forwards,
             watch: _watch,
@@ -455,7 +460,8 @@ impl<'a, T: Drop, R: Reclaim<T>, W: Watch<T>> Stay<Unit> for Refreshing<'a, T, R
 
     ghost gives = { λ call call' pass pass' unit. (call'.lock ≡ call.lock) × (call'.watch.ghost_name ≡ call.watch.ghost_name)
         × HadLock its_label IsReservation call.lock.now (λ r r'. CallsSlot T.row.coded.code R.puts W.told r pass r' pass'
-        (W.seen call.watch.now) (W.seen call'.watch.now) (λ slot ready slot' pass' had. (a : Activation) × SlotRefreshes slot ready a [] slot' pass' had)
+        (W.seen call.watch.now) (W.seen call'.watch.now)
+        (λ slot ready slot' pass' had. (a : Activation) × SlotRefreshes slot ready a [] slot' pass' had)
         × IsUnit (words_book call.words.now) (its_number r.slot) unit.unit unit.seen × (unit.number ≡ its_number r.slot)) };
 
     fn stay(&mut self, pass: &mut Pass<'static>) -> Unit {

@@ -5,7 +5,6 @@ ghost use Rattle.seize.specs.Enders.{IsEnderIn, PutAs, Weighs};
 ghost use Rattle.seize.specs.Lighter.{weighs_once};
 ghost use Rattle.seize.specs.Told.{HasToldFrom};
 
-use crate::ender::Ender;
 use crate::ends::Forwards;
 use crate::reclaim::{Reclaim, Watch};
 use seize_calls::draining::Lightens;
@@ -28,8 +27,7 @@ impl Begun for Brand {
     ghost first = { gnil };
 }
 
-/// Tells the watch of each value, and gives it to the collector's reclaimer: `F` is `Forwards`. It is a parameter, so that clauses know
-/// whose borrow the watch is.
+/// Tells the watch of each value, and gives it to the collector's reclaimer: `F` is `Forwards`, and `B` says which watch it is.
 #[derive(Drop)]
 pub(crate) struct Tells<'w, F: Drop, W, B> {
     /// Gives it on.
@@ -38,26 +36,6 @@ pub(crate) struct Tells<'w, F: Drop, W, B> {
     pub(crate) watch: &'w mut W,
     /// What is known of it.
     pub(crate) begun: PhantomData<B>,
-}
-
-impl<'a, 'w, T: Drop, R: Reclaim<T>, W, B> Tells<'w, Forwards<'a, T, R>, W, B> {
-    ghost use Rattle.std.specs.Prelude.{[]};
-
-    /// It has had none.
-    pub(crate) fn new(
-        ender: &'a Ender<T, R>,
-        watch: &'w mut W,
-    ) -> Tells<'w, Forwards<'a, T, R>, W, B>
-        ensures same_reference { result.watch.ghost_name ≡ watch.entry.ghost_name }
-        ensures none { (result.forwards.ends.had ≡ []) × (result.forwards.ender.now ≡ ender.now) }
-        ensures watch { result.watch.now ≡ watch.old }
-    {
-        Tells {
-            forwards: Forwards::new(ender),
-            watch,
-            begun: PhantomData,
-        }
-    }
 }
 
 impl<T: Drop, R: Reclaim<T>, W: Watch<T>, B: Begun> handing::Reclaim<T>
