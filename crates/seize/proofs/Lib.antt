@@ -30,3 +30,4 @@ mod Stilled
 mod Lone
 mod Watched
 mod Linked
+mod Called

@@ -1,8 +1,8 @@
 -- Passes that are alone, and what lies in the places of slots while a collector is in one caller's hands.
 --     IsStill pass pass'     it is the same pass, and where it is alone it has seen just what it had seen
 --     IsOnly words r pass    a reservation for one guard of a slot of these words, and a pass of theirs that is alone
---     CallsSlot code puts told r pass r' pass' seen seen' Does     the slot of this reservation did that, once the pass was ready, which changed
---                            nothing. With what the reclaimer had it put as `puts` says, and the watch was told of that
+--     CallsSlot code puts told r pass r' pass' seen seen' Does     the slot of this reservation did that, once the pass was ready, which
+--                            changed nothing. With what the reclaimer had it put as `puts` says, and the watch was told of that
 use Rattle.std.specs.Prelude.{◌≡◌, ℕ, List}
 use base.Stored.{Gv}
 use Rattle.seize_book.specs.Book.{IsLegalList}

@@ -1,15 +1,20 @@
 //! The calls by which values may be gone, as works on a slot's place, while a collector is in one caller's hands. None of them waits, and
 //! each returns, since what the reclaimer puts weighs less than the value.
-ghost use Rattle.std.specs.Prelude.{◌≡◌, Bool, []};
+ghost use Rattle.std.specs.Prelude.{◌≡◌, Bool, [], None, Some};
 ghost use Rattle.seize_book.specs.Tokens.{IsSole};
+ghost use Rattle.seize_cells.specs.Locks.{HadLock, MayLock};
 ghost use Rattle.seize_calls.specs.Handing.{Had};
-ghost use Rattle.seize_calls.specs.Slots.{HasActivation, IsItsHead, IsPassFor, IsSlotOf, MayEnterWith, SlotLeaves, its_number};
+ghost use Rattle.seize_calls.specs.Slots.{HasActivation, IsActive, IsItsHead, IsLooseOf, IsPassFor, IsSlotOf, KeepsActivation};
+ghost use Rattle.seize_calls.specs.Slots.{MayEnterWith, SlotFlushes, SlotLeaves, SlotRefreshes, SlotRetires, its_number};
+ghost use Rattle.seize_calls.specs.declared.slot.Loose.{Loose as LooseValue};
 ghost use Rattle.seize_words.specs.Joined.{words_book};
+ghost use Rattle.seize_words.specs.declared.activation.Activation.{Activation};
 ghost use Rattle.seize.specs.Enders.{IsEnderOf};
 ghost use Rattle.seize_alone.specs.Gone.{PutAs};
 ghost use Rattle.seize.specs.Places.{CallsSlot, IsOnly};
-ghost use Rattle.seize.specs.Reservations.{IsUnit};
+ghost use Rattle.seize.specs.Reservations.{IsReservation, IsUnit, its_label};
 ghost use Rattle.seize.specs.Told.{HasTold};
+ghost use Rattle.seize.specs.declared.alone.place.Unit.{Unit as SlotUnit};
 
 use crate::alone::place::Unit;
 use crate::alone::tells::{Begun, Tells};
@@ -18,7 +23,7 @@ use crate::ends::Forwards;
 use crate::reclaim::{Reclaim, Watch};
 use crate::reservation::Reservation;
 use seize_calls::manner::Alone;
-use seize_calls::slot::Slot;
+use seize_calls::slot::{Loose, Slot};
 use seize_cells::{Lock, LockWork};
 use seize_words::activation::Activation;
 use seize_words::book::{Pass, Stay};
@@ -26,29 +31,450 @@ use seize_words::reservation::Head;
 use seize_words::words::Words;
 use std::marker::{Brand, PhantomData};
 
-// The slot leaves, and the watch is told.
-fn leave<B: Begun, T: Drop, R: Reclaim<T>, W: Watch<T>>(
+/// What is lent to a call beside the slot's place.
+#[derive(Drop)]
+pub(crate) struct Heard<'h, P, W> {
+    /// The pass.
+    pub(crate) pass: &'h mut P,
+    /// Who is told.
+    pub(crate) watch: &'h mut W,
+}
+
+// The slot leaves, by a reclaimer that tells the watch.
+fn leave_telling<B: Begun, T: Drop, R: Reclaim<T>, W: Watch<T>>(
     words: &Words<T>,
-    ender: &Ender<T, R>,
     slot: &mut Slot<T>,
     head: &Head,
     rest: &mut Activation,
-    watch: &mut W,
+    tells: &mut Tells<'_, Forwards<'_, T, R>, W, B>,
     pass: &mut Pass,
 )
     requires of { IsSlotOf words.now slot.old × IsPassFor words.now pass.old × IsSole pass.old.id }
     requires head { IsItsHead slot.old head.now }
     requires inside { HasActivation slot.old rest.old }
-    requires ender { IsEnderOf words.now ender.now }
-    requires begun { (watch.ghost_name ≡ B.name) × (W.coded.code (W.seen watch.old) ≡ B.first) }
+    requires new { (tells.old.forwards.ends.had ≡ []) × IsEnderOf words.now tells.old.forwards.ender.now }
+    requires begun { (tells.old.watch.ghost_name ≡ B.name) × (W.coded.code (W.seen tells.old.watch.now) ≡ B.first) }
+    ensures same_reference { tells.new.watch.ghost_name ≡ tells.old.watch.ghost_name }
     ensures of { IsSlotOf words.now slot.new × MayEnterWith slot.new rest.new }
     ensures leaves { (had : Had) × SlotLeaves slot.old pass.old [] slot.new pass.new had × PutAs T.row.coded.code R.puts had
-        × HasTold T.row.coded.code W.told (W.seen watch.old) (W.seen watch.new) had }
+        × HasTold T.row.coded.code W.told (W.seen tells.old.watch.now) (W.seen tells.new.watch.now) had }
 {
-    let mut tells = Tells::<T, R, W, B> {
-        forwards: Forwards::new(ender),
-        watch,
-        begun: PhantomData,
-    };
-    slot.leave(words, head, rest, &mut tells, pass, &Alone {});
+    slot.leave(words, head, rest, tells, pass, &Alone {});
+}
+
+// The slot leaves with its last guard.
+#[derive(Drop)]
+struct Leave<'a, T: Drop, R: Reclaim<T>> {
+    words: &'a Words<T>,
+    ender: &'a Ender<T, R>,
+    unit: Unit,
+}
+
+impl<'a, 'h, 'p, T: Drop, R: Reclaim<T>, W: Watch<T>> LockWork<
+    Reservation<T>,
+    Heard<'h, Pass<'p>, W>,
+    (),
+> for Leave<'a, T, R> {
+    ghost may = { λ work r heard. IsOnly work.words.now r heard.pass.now × IsEnderOf work.words.now work.ender.now
+        × IsUnit (words_book work.words.now) (its_number r.slot) work.unit.unit work.unit.seen };
+
+    ghost gives = { λ work r r' heard heard' _. (heard'.pass.ghost_name ≡ heard.pass.ghost_name)
+        × (heard'.watch.ghost_name ≡ heard.watch.ghost_name)
+        × CallsSlot T.row.coded.code R.puts W.told r heard.pass.now r' heard'.pass.now (W.seen heard.watch.now) (W.seen heard'.watch.now)
+        (λ slot ready slot' pass' had. SlotLeaves slot ready [] slot' pass' had) };
+
+    fn work(self, r: &mut Reservation<T>, heard: &mut Heard<'h, Pass<'p>, W>) {
+        let Leave { words, ender, unit } = self;
+        let Unit {
+            number: _,
+            unit,
+            seen,
+        } = unit;
+        r.current(words, &unit, &seen, heard.pass);
+        let head = r.slot.head(words, heard.pass);
+        r.rest.join(unit);
+        r.guards -= 1;
+        let mut tells = Tells {
+            forwards: Forwards::new(ender),
+            watch: &mut *heard.watch,
+            begun: PhantomData,
+        };
+        leave_telling::<Brand, T, R, W>(
+            words,
+            &mut r.slot,
+            head,
+            &mut r.rest,
+            &mut tells,
+            heard.pass,
+        );
+        // It is taken apart, and so what the watch has seen is known.
+        let Tells {
+            forwards: _forwards,
+            watch: _watch,
+            begun: _,
+        } = tells;
+    }
+}
+
+/// The slot leaves with its last guard.
+#[derive(Drop)]
+pub(crate) struct Leaving<'a, T: Drop, R: Reclaim<T>, W> {
+    /// The words of the collector.
+    pub(crate) words: &'a Words<T>,
+    /// Its reclaimer.
+    pub(crate) ender: &'a Ender<T, R>,
+    /// The slot's place.
+    pub(crate) lock: &'a mut Lock<Reservation<T>>,
+    /// The unit of the slot's activation.
+    pub(crate) unit: Option<Unit>,
+    /// Who is told.
+    pub(crate) watch: &'a mut W,
+}
+
+impl<'a, T: Drop, R: Reclaim<T>, W: Watch<T>> Stay<()> for Leaving<'a, T, R, W> {
+    ghost may = { λ call pass. (unit : SlotUnit) × (call.unit ≡ Some unit) × IsEnderOf call.words.now call.ender.now
+        × MayLock its_label IsReservation call.lock.now (λ r. IsOnly call.words.now r pass
+        × IsUnit (words_book call.words.now) (its_number r.slot) unit.unit unit.seen) };
+
+    ghost gives = { λ call call' pass pass' _. (call'.lock ≡ call.lock) × (call'.watch.ghost_name ≡ call.watch.ghost_name)
+        × HadLock its_label IsReservation call.lock.now (λ r r'. CallsSlot T.row.coded.code R.puts W.told r pass r' pass'
+        (W.seen call.watch.now) (W.seen call'.watch.now) (λ slot ready slot' pass' had. SlotLeaves slot ready [] slot' pass' had)) };
+
+    fn stay(&mut self, pass: &mut Pass<'static>) {
+        let Some(unit) = self.unit.take() else {
+            unreachable!()
+        };
+        let (words, ender) = (self.words, self.ender);
+        let mut heard = Heard {
+            pass: &mut *pass,
+            watch: &mut *self.watch,
+        };
+        self.lock.with_mut(Leave { words, ender, unit }, &mut heard)
+    }
+}
+
+// The slot's batch is attempted, by a reclaimer that tells the watch.
+fn flush_telling<B: Begun, T: Drop, R: Reclaim<T>, W: Watch<T>>(
+    words: &Words<T>,
+    slot: &mut Slot<T>,
+    tells: &mut Tells<'_, Forwards<'_, T, R>, W, B>,
+    pass: &mut Pass,
+)
+    requires of { IsSlotOf words.now slot.old × IsPassFor words.now pass.old × IsSole pass.old.id }
+    requires inside { IsActive slot.old }
+    requires new { (tells.old.forwards.ends.had ≡ []) × IsEnderOf words.now tells.old.forwards.ender.now }
+    requires begun { (tells.old.watch.ghost_name ≡ B.name) × (W.coded.code (W.seen tells.old.watch.now) ≡ B.first) }
+    ensures same_reference { tells.new.watch.ghost_name ≡ tells.old.watch.ghost_name }
+    ensures of { IsSlotOf words.now slot.new × KeepsActivation slot.old slot.new }
+    ensures flushes { (retired : Bool) × (had : Had) × SlotFlushes slot.old pass.old [] slot.new pass.new had retired
+        × PutAs T.row.coded.code R.puts had
+        × HasTold T.row.coded.code W.told (W.seen tells.old.watch.now) (W.seen tells.new.watch.now) had }
+{
+    slot.flush(words, tells, pass, &Alone {});
+}
+
+// The batch of a slot with a guard is attempted.
+#[derive(Drop)]
+struct Flush<'a, T: Drop, R: Reclaim<T>> {
+    words: &'a Words<T>,
+    ender: &'a Ender<T, R>,
+    unit: &'a Unit,
+}
+
+impl<'a, 'h, 'p, T: Drop, R: Reclaim<T>, W: Watch<T>> LockWork<
+    Reservation<T>,
+    Heard<'h, Pass<'p>, W>,
+    (),
+> for Flush<'a, T, R> {
+    ghost may = { λ work r heard. IsOnly work.words.now r heard.pass.now × IsEnderOf work.words.now work.ender.now
+        × IsUnit (words_book work.words.now) (its_number r.slot) work.unit.now.unit work.unit.now.seen };
+
+    ghost gives = { λ work r r' heard heard' _. (heard'.pass.ghost_name ≡ heard.pass.ghost_name)
+        × (heard'.watch.ghost_name ≡ heard.watch.ghost_name)
+        × CallsSlot T.row.coded.code R.puts W.told r heard.pass.now r' heard'.pass.now (W.seen heard.watch.now) (W.seen heard'.watch.now)
+        (λ slot ready slot' pass' had. (retired : Bool) × SlotFlushes slot ready [] slot' pass' had retired) };
+
+    fn work(self, r: &mut Reservation<T>, heard: &mut Heard<'h, Pass<'p>, W>) {
+        let Flush { words, ender, unit } = self;
+        r.current(words, &unit.unit, &unit.seen, heard.pass);
+        let mut tells = Tells {
+            forwards: Forwards::new(ender),
+            watch: &mut *heard.watch,
+            begun: PhantomData,
+        };
+        flush_telling::<Brand, T, R, W>(words, &mut r.slot, &mut tells, heard.pass);
+        // It is taken apart, and so what the watch has seen is known.
+        let Tells {
+            forwards: _forwards,
+            watch: _watch,
+            begun: _,
+        } = tells;
+    }
+}
+
+/// The batch of a slot with a guard is attempted.
+#[derive(Drop)]
+pub(crate) struct Flushing<'a, T: Drop, R: Reclaim<T>, W> {
+    /// The words of the collector.
+    pub(crate) words: &'a Words<T>,
+    /// Its reclaimer.
+    pub(crate) ender: &'a Ender<T, R>,
+    /// The slot's place.
+    pub(crate) lock: &'a mut Lock<Reservation<T>>,
+    /// The unit of the slot's activation.
+    pub(crate) unit: &'a Unit,
+    /// Who is told.
+    pub(crate) watch: &'a mut W,
+}
+
+impl<'a, T: Drop, R: Reclaim<T>, W: Watch<T>> Stay<()> for Flushing<'a, T, R, W> {
+    ghost may = { λ call pass. IsEnderOf call.words.now call.ender.now
+        × MayLock its_label IsReservation call.lock.now (λ r. IsOnly call.words.now r pass
+        × IsUnit (words_book call.words.now) (its_number r.slot) call.unit.now.unit call.unit.now.seen) };
+
+    ghost gives = { λ call call' pass pass' _. (call'.lock ≡ call.lock) × (call'.watch.ghost_name ≡ call.watch.ghost_name)
+        × HadLock its_label IsReservation call.lock.now (λ r r'. CallsSlot T.row.coded.code R.puts W.told r pass r' pass'
+        (W.seen call.watch.now) (W.seen call'.watch.now)
+        (λ slot ready slot' pass' had. (retired : Bool) × SlotFlushes slot ready [] slot' pass' had retired)) };
+
+    fn stay(&mut self, pass: &mut Pass<'static>) {
+        let unit = self.unit;
+        let (words, ender) = (self.words, self.ender);
+        let mut heard = Heard {
+            pass: &mut *pass,
+            watch: &mut *self.watch,
+        };
+        self.lock.with_mut(Flush { words, ender, unit }, &mut heard)
+    }
+}
+
+// A value is retired, by a reclaimer that tells the watch.
+fn retire_telling<B: Begun, T: Drop, R: Reclaim<T>, W: Watch<T>>(
+    words: &Words<T>,
+    slot: &mut Slot<T>,
+    value: Loose,
+    kind: u64,
+    tells: &mut Tells<'_, Forwards<'_, T, R>, W, B>,
+    pass: &mut Pass,
+)
+    requires of { IsSlotOf words.now slot.old × IsPassFor words.now pass.old × IsSole pass.old.id }
+    requires value { IsLooseOf words.now value }
+    requires new { (tells.old.forwards.ends.had ≡ []) × IsEnderOf words.now tells.old.forwards.ender.now }
+    requires begun { (tells.old.watch.ghost_name ≡ B.name) × (W.coded.code (W.seen tells.old.watch.now) ≡ B.first) }
+    ensures same_reference { tells.new.watch.ghost_name ≡ tells.old.watch.ghost_name }
+    ensures of { IsSlotOf words.now slot.new × KeepsActivation slot.old slot.new }
+    ensures retires { (retired : Bool) × (had : Had) × SlotRetires slot.old pass.old value kind [] slot.new pass.new had retired
+        × PutAs T.row.coded.code R.puts had
+        × HasTold T.row.coded.code W.told (W.seen tells.old.watch.now) (W.seen tells.new.watch.now) had }
+{
+    slot.retire(words, value, kind, tells, pass, &Alone {});
+}
+
+// A value is retired in a slot with or without a guard.
+struct Retire<'a, T: Drop, R: Reclaim<T>> {
+    words: &'a Words<T>,
+    ender: &'a Ender<T, R>,
+    loose: Loose,
+    kind: u64,
+}
+
+impl<'a, 'h, 'p, T: Drop, R: Reclaim<T>, W: Watch<T>> LockWork<
+    Reservation<T>,
+    Heard<'h, Pass<'p>, W>,
+    (),
+> for Retire<'a, T, R> {
+    ghost may = { λ work r heard. IsOnly work.words.now r heard.pass.now × IsEnderOf work.words.now work.ender.now
+        × IsLooseOf work.words.now work.loose };
+
+    ghost gives = { λ work r r' heard heard' _. (heard'.pass.ghost_name ≡ heard.pass.ghost_name)
+        × (heard'.watch.ghost_name ≡ heard.watch.ghost_name)
+        × CallsSlot T.row.coded.code R.puts W.told r heard.pass.now r' heard'.pass.now (W.seen heard.watch.now) (W.seen heard'.watch.now)
+        (λ slot ready slot' pass' had. (retired : Bool) × SlotRetires slot ready work.loose work.kind [] slot' pass' had retired) };
+
+    fn work(self, r: &mut Reservation<T>, heard: &mut Heard<'h, Pass<'p>, W>) {
+        let Retire {
+            words,
+            ender,
+            loose,
+            kind,
+        } = self;
+        r.slot.seen().agree(&words.blocks.book);
+        let mut tells = Tells {
+            forwards: Forwards::new(ender),
+            watch: &mut *heard.watch,
+            begun: PhantomData,
+        };
+        retire_telling::<Brand, T, R, W>(words, &mut r.slot, loose, kind, &mut tells, heard.pass);
+        // It is taken apart, and so what the watch has seen is known.
+        let Tells {
+            forwards: _forwards,
+            watch: _watch,
+            begun: _,
+        } = tells;
+    }
+}
+
+/// A value is retired in a slot with or without a guard. There is none afterwards where it was.
+#[derive(Drop)]
+pub(crate) struct Retiring<'a, T: Drop, R: Reclaim<T>, W> {
+    /// The words of the collector.
+    pub(crate) words: &'a Words<T>,
+    /// Its reclaimer.
+    pub(crate) ender: &'a Ender<T, R>,
+    /// The slot's place.
+    pub(crate) lock: &'a mut Lock<Reservation<T>>,
+    /// Where the value is.
+    pub(crate) loose: &'a mut Option<Loose>,
+    /// Its kind.
+    pub(crate) kind: u64,
+    /// Who is told.
+    pub(crate) watch: &'a mut W,
+}
+
+impl<'a, T: Drop, R: Reclaim<T>, W: Watch<T>> Stay<()> for Retiring<'a, T, R, W> {
+    ghost may = { λ call pass. (loose : LooseValue) × (call.loose.now ≡ Some loose) × IsLooseOf call.words.now loose
+        × IsEnderOf call.words.now call.ender.now
+        × MayLock its_label IsReservation call.lock.now (λ r. IsOnly call.words.now r pass) };
+
+    ghost gives = { λ call call' pass pass' _. (call'.lock ≡ call.lock) × (call'.watch.ghost_name ≡ call.watch.ghost_name)
+        × (call'.loose.ghost_name ≡ call.loose.ghost_name) × (call'.loose.now ≡ None)
+        × ((loose : LooseValue) → call.loose.now ≡ Some loose → HadLock its_label IsReservation call.lock.now
+        (λ r r'. CallsSlot T.row.coded.code R.puts W.told r pass r' pass'
+        (W.seen call.watch.now) (W.seen call'.watch.now) (λ slot ready slot' pass' had. (retired : Bool)
+        × SlotRetires slot ready loose call.kind [] slot' pass' had retired))) };
+
+    fn stay(&mut self, pass: &mut Pass<'static>) {
+        let Some(loose) = self.loose.take() else {
+            unreachable!()
+        };
+        let kind = self.kind;
+        let (words, ender) = (self.words, self.ender);
+        let mut heard = Heard {
+            pass: &mut *pass,
+            watch: &mut *self.watch,
+        };
+        let retire = Retire {
+            words,
+            ender,
+            loose,
+            kind,
+        };
+        self.lock.with_mut(retire, &mut heard)
+    }
+}
+
+// The slot refreshes, by a reclaimer that tells the watch.
+fn refresh_telling<B: Begun, T: Drop, R: Reclaim<T>, W: Watch<T>>(
+    words: &Words<T>,
+    slot: &mut Slot<T>,
+    head: &Head,
+    rest: &mut Activation,
+    tells: &mut Tells<'_, Forwards<'_, T, R>, W, B>,
+    pass: &mut Pass,
+)
+    requires of { IsSlotOf words.now slot.old × IsPassFor words.now pass.old × IsSole pass.old.id }
+    requires head { IsItsHead slot.old head.now }
+    requires inside { HasActivation slot.old rest.old }
+    requires new { (tells.old.forwards.ends.had ≡ []) × IsEnderOf words.now tells.old.forwards.ender.now }
+    requires begun { (tells.old.watch.ghost_name ≡ B.name) × (W.coded.code (W.seen tells.old.watch.now) ≡ B.first) }
+    ensures same_reference { tells.new.watch.ghost_name ≡ tells.old.watch.ghost_name }
+    ensures of { IsSlotOf words.now slot.new × HasActivation slot.new rest.new }
+    ensures refreshes { (had : Had) × SlotRefreshes slot.old pass.old rest.new [] slot.new pass.new had
+        × PutAs T.row.coded.code R.puts had
+        × HasTold T.row.coded.code W.told (W.seen tells.old.watch.now) (W.seen tells.new.watch.now) had }
+{
+    slot.refresh(words, head, rest, tells, pass, &Alone {});
+}
+
+// The slot refreshes for its only guard.
+#[derive(Drop)]
+struct Refresh<'a, T: Drop, R: Reclaim<T>> {
+    words: &'a Words<T>,
+    ender: &'a Ender<T, R>,
+    unit: Unit,
+}
+
+impl<'a, 'h, 'p, T: Drop, R: Reclaim<T>, W: Watch<T>> LockWork<
+    Reservation<T>,
+    Heard<'h, Pass<'p>, W>,
+    Unit,
+> for Refresh<'a, T, R> {
+    ghost may = { λ work r heard. IsOnly work.words.now r heard.pass.now × IsEnderOf work.words.now work.ender.now
+        × IsUnit (words_book work.words.now) (its_number r.slot) work.unit.unit work.unit.seen };
+
+    ghost gives = { λ work r r' heard heard' unit. (heard'.pass.ghost_name ≡ heard.pass.ghost_name)
+        × (heard'.watch.ghost_name ≡ heard.watch.ghost_name)
+        × CallsSlot T.row.coded.code R.puts W.told r heard.pass.now r' heard'.pass.now (W.seen heard.watch.now) (W.seen heard'.watch.now)
+        (λ slot ready slot' pass' had. (a : Activation) × SlotRefreshes slot ready a [] slot' pass' had)
+        × IsUnit (words_book work.words.now) (its_number r.slot) unit.unit unit.seen × (unit.number ≡ its_number r.slot) };
+
+    fn work(self, r: &mut Reservation<T>, heard: &mut Heard<'h, Pass<'p>, W>) -> Unit {
+        let Refresh { words, ender, unit } = self;
+        let Unit { number, unit, seen } = unit;
+        r.current(words, &unit, &seen, heard.pass);
+        let head = r.slot.head(words, heard.pass);
+        r.rest.join(unit);
+        let mut tells = Tells {
+            forwards: Forwards::new(ender),
+            watch: &mut *heard.watch,
+            begun: PhantomData,
+        };
+        refresh_telling::<Brand, T, R, W>(
+            words,
+            &mut r.slot,
+            head,
+            &mut r.rest,
+            &mut tells,
+            heard.pass,
+        );
+        // It is taken apart, and so what the watch has seen is known.
+        let Tells {
+            forwards: _forwards,
+            watch: _watch,
+            begun: _,
+        } = tells;
+        let unit = r.rest.split();
+        let seen = r.slot.seen();
+        Unit { number, unit, seen }
+    }
+}
+
+/// The slot refreshes for its only guard. It gives the unit of the new activation.
+#[derive(Drop)]
+pub(crate) struct Refreshing<'a, T: Drop, R: Reclaim<T>, W> {
+    /// The words of the collector.
+    pub(crate) words: &'a Words<T>,
+    /// Its reclaimer.
+    pub(crate) ender: &'a Ender<T, R>,
+    /// The slot's place.
+    pub(crate) lock: &'a mut Lock<Reservation<T>>,
+    /// The unit of the slot's activation, which ends.
+    pub(crate) unit: Option<Unit>,
+    /// Who is told.
+    pub(crate) watch: &'a mut W,
+}
+
+impl<'a, T: Drop, R: Reclaim<T>, W: Watch<T>> Stay<Unit> for Refreshing<'a, T, R, W> {
+    ghost may = { λ call pass. (unit : SlotUnit) × (call.unit ≡ Some unit) × IsEnderOf call.words.now call.ender.now
+        × MayLock its_label IsReservation call.lock.now (λ r. IsOnly call.words.now r pass
+        × IsUnit (words_book call.words.now) (its_number r.slot) unit.unit unit.seen) };
+
+    ghost gives = { λ call call' pass pass' unit. (call'.lock ≡ call.lock) × (call'.watch.ghost_name ≡ call.watch.ghost_name)
+        × HadLock its_label IsReservation call.lock.now (λ r r'. CallsSlot T.row.coded.code R.puts W.told r pass r' pass'
+        (W.seen call.watch.now) (W.seen call'.watch.now)
+        (λ slot ready slot' pass' had. (a : Activation) × SlotRefreshes slot ready a [] slot' pass' had)
+        × IsUnit (words_book call.words.now) (its_number r.slot) unit.unit unit.seen × (unit.number ≡ its_number r.slot)) };
+
+    fn stay(&mut self, pass: &mut Pass<'static>) -> Unit {
+        let Some(unit) = self.unit.take() else {
+            unreachable!()
+        };
+        let (words, ender) = (self.words, self.ender);
+        let mut heard = Heard {
+            pass: &mut *pass,
+            watch: &mut *self.watch,
+        };
+        self.lock
+            .with_mut(Refresh { words, ender, unit }, &mut heard)
+    }
 }

@@ -28,18 +28,19 @@ impl Begun for Brand {
     ghost first = { gnil };
 }
 
-/// Tells the watch of each value, and gives it to the collector's reclaimer.
+/// Tells the watch of each value, and gives it to the collector's reclaimer: `F` is `Forwards`, and `B` says which watch it is.
 #[derive(Drop)]
-pub(crate) struct Tells<'a, 'w, T: Drop, R: Reclaim<T>, W: Watch<T>, B> {
+pub(crate) struct Tells<'w, F: Drop, W, B> {
     /// Gives it on.
-    pub(crate) forwards: Forwards<'a, T, R>,
+    pub(crate) forwards: F,
     /// The watch.
     pub(crate) watch: &'w mut W,
     /// What is known of it.
     pub(crate) begun: PhantomData<B>,
 }
 
-impl<T: Drop, R: Reclaim<T>, W: Watch<T>, B: Begun> handing::Reclaim<T> for Tells<'_, '_, T, R, W, B> {
+impl<T: Drop, R: Reclaim<T>, W: Watch<T>, B: Begun> handing::Reclaim<T>
+    for Tells<'_, Forwards<'_, T, R>, W, B> {
     ghost had = { λ tells. tells.forwards.ends.had };
 
     ghost serves = { λ tells n. let had = tells.forwards.ends.had in
@@ -61,7 +62,8 @@ impl<T: Drop, R: Reclaim<T>, W: Watch<T>, B: Begun> handing::Reclaim<T> for Tell
 }
 
 /// What a reclaimer of the collector puts weighs less than the value.
-impl<T: Drop, R: Reclaim<T>, W: Watch<T>, B: Begun> Lightens<T> for Tells<'_, '_, T, R, W, B> {
+impl<T: Drop, R: Reclaim<T>, W: Watch<T>, B: Begun> Lightens<T>
+    for Tells<'_, Forwards<'_, T, R>, W, B> {
     ghost weighs = { Weighs T.row.coded.code R.weight };
 
     ghost once = { weighs_once T.row.coded R.weight };

@@ -1,6 +1,6 @@
 use Rattle.std.proofs.Common.{refl}
 use Rattle.seize.proofs.Watched.{told_more}
-use Rattle.seize.proofs.alone.tells.TellsReclaim.reclaim.Goals as goal
+use Rattle.seize.proofs.alone.tells.TellsForwardsReclaim.reclaim.Goals as goal
 
 pub returns-clause-serves : goal.returns-clause-serves
 returns-clause-serves g c =
