@@ -2,10 +2,11 @@
 --     told_of told seen gone     what a watch has seen that was told of these values, in order
 --     HasTold code told seen seen' had     a watch that had seen the one and has seen the other was told of the values that were had
 --     HasToldFrom c code told first seen' had     so it is with what it had seen first, of which this is the code
+--     only_refusal result        the result, where a refusal gives what the caller passed back
 --     Said a result new          the call answered as the model does, and this is the model's state after it
 --     Grew a result old new      so it did; or it was refused memory, and the state is as it was
 --     Answers told a result new seen seen'     so it did, and the watch was told exactly the values gone, in order
-use Rattle.std.specs.Prelude.{◌≡◌, ◌⊎◌, List, [], ◌∷◌, Result, Err}
+use Rattle.std.specs.Prelude.{◌≡◌, ◌⊎◌, List, [], ◌∷◌, Result, Err, Ok}
 use Rattle.std.specs.List.{fold}
 use base.Stored.{Coded, Gv}
 use Rattle.seize_model.specs.Waiting.State.{State}
@@ -27,6 +28,10 @@ HasTold {T} code told seen seen' had = (xs : List T) × AreCodes code xs had × 
 
 abbrev pub HasToldFrom : {T Seen : Type 0} → Coded Seen → (T → Gv) → (Seen → T → Seen) → Gv → Seen → Had → Type 0
 HasToldFrom {T} {Seen} c code told first seen' had = (seen : Seen) × (c.code seen ≡ first) × HasTold code told seen seen' had
+
+abbrev pub only_refusal : {A B : Type 0} → Result A (Refusal × B) → Result A Refusal
+only_refusal (Ok a) = Ok a
+only_refusal (Err e) = Err e.0
 
 abbrev pub Said : {A T R : Type 0} → Response A T R → Result A Refusal → State T R → Type 0
 Said a result new = (result ≡ a.0) × (new ≡ a.1.0)

@@ -1,0 +1,234 @@
+//! Calls by which values may be gone. Each tells a watch of them, in order, and then gives them to the reclaimer; what that puts weighs less,
+//! so each call returns. None of them waits or takes memory of its own.
+ghost use Rattle.seize_table.specs.declared.refusal.Refusal.{Refusal as RefusalValue};
+ghost use Rattle.seize.specs.declared.block.taken.Taken.{Taken as TakenValue};
+
+use crate::alone::calls::{Flushing, Leaving, Refreshing, Retiring};
+use crate::alone::hands::Hands;
+use crate::alone::place::{Place, back, out};
+use crate::alone::{Alone, Codes};
+use crate::block::Taken;
+use crate::reclaim::{Reclaim, Watch};
+use seize_table::Refusal;
+use std::marker::Brand;
+
+impl<T: Drop, R: Reclaim<T>> Alone<T, R> {
+    ghost use Rattle.std.specs.Prelude.{◌≡◌, ◌<◌, ◌||◌, ◌==◌, Err, Ok, false, true};
+    ghost use Rattle.seize_model.specs.Waiting.Calls as calls;
+    ghost use Rattle.seize_model.specs.Waiting.Further.{with_further};
+    ghost use Rattle.seize_model.specs.Waiting.State.{has_guard, slot_at};
+    ghost use Rattle.seize.specs.Alones.{IsSame};
+    ghost use Rattle.seize.specs.Blocks.{IsTakenOf, taken_content};
+    ghost use Rattle.seize.specs.Told.{Answers, only_refusal, told_of};
+
+    // The slot leaves with its last guard, and keeps its number.
+    fn part<W: Watch<T>>(&mut self, s: usize, watch: &mut W)
+        requires { let slot = slot_at self.old.state s in (calls.is_free slot.kind ≡ false) × (slot.guards ≡ 1) }
+        ensures done { let now = with_further R.puts R.weight s (calls.one_guard_less self.old.state s) in (self.new.state ≡ now.0)
+            × (W.seen watch.new ≡ told_of W.told (W.seen watch.old) now.1)
+            × (calls.is_free (slot_at now.0 s).kind ≡ false) × (has_guard (slot_at now.0 s) ≡ false) }
+        ensures same { IsSame self.old self.new }
+        ensures same_reference { watch.new.ghost_name ≡ watch.old.ghost_name }
+    {
+        let Place {
+            owned,
+            guards: _,
+            mut reservation,
+            unit,
+            shelf,
+        } = out(&mut self.places, s);
+        let mut call = Leaving {
+            words: &self.words,
+            ender: &self.ender,
+            lock: &mut reservation,
+            unit,
+            watch: &mut *watch,
+        };
+        self.porter.stay(&mut call);
+        let place = Place {
+            owned,
+            guards: 0,
+            reservation,
+            unit: None,
+            shelf,
+        };
+        back(&mut self.places, s, place);
+        self.hands = Hands::of::<Brand>(&self.hands, &self.porter, s);
+    }
+
+    // The slot, which is owned or has one guard, refreshes.
+    fn renew<W: Watch<T>>(&mut self, s: usize, watch: &mut W)
+        requires { let slot = slot_at self.old.state s in (calls.no_guard self.old.state s ≡ None)
+            × ((calls.is_owned slot.kind || (slot.guards == 1)) ≡ true) }
+        ensures done { Answers W.told (calls.refresh R.puts R.weight self.old.state s) (Ok tt) self.new.state
+            (W.seen watch.old) (W.seen watch.new) }
+        ensures same { IsSame self.old self.new }
+        ensures same_reference { watch.new.ghost_name ≡ watch.old.ghost_name }
+    {
+        let Place {
+            owned,
+            guards,
+            mut reservation,
+            unit,
+            shelf,
+        } = out(&mut self.places, s);
+        let mut call = Refreshing {
+            words: &self.words,
+            ender: &self.ender,
+            lock: &mut reservation,
+            unit,
+            watch: &mut *watch,
+        };
+        let unit = self.porter.stay(&mut call);
+        let place = Place {
+            owned,
+            guards,
+            reservation,
+            unit: Some(unit),
+            shelf,
+        };
+        back(&mut self.places, s, place);
+        self.hands = Hands::of::<Brand>(&self.hands, &self.porter, s);
+    }
+
+    /// Leaves with one guard of the slot. With its last one the slot is inactive; what waited for it alone is gone. An owned slot gives its
+    /// number back.
+    ///
+    /// # Errors
+    ///
+    /// In this order: `NotInUse`, `NotActive`.
+    pub fn leave<W: Watch<T>>(&mut self, s: usize, watch: &mut W) -> Result<(), Refusal>
+        ensures done { Answers W.told (calls.leave R.puts R.weight self.old.state s) result self.new.state
+            (W.seen watch.old) (W.seen watch.new) }
+        ensures same { IsSame self.old self.new }
+        ensures same_reference { watch.new.ghost_name ≡ watch.old.ghost_name }
+    {
+        let (owned, guards) = self.guarded(s)?;
+        if guards > 1 {
+            self.count(s, guards - 1);
+            return Ok(());
+        }
+        self.part(s, watch);
+        if owned {
+            self.free(s);
+        }
+        Ok(())
+    }
+
+    /// The slot leaves and enters again at once, where it is owned or has one guard; with more guards nothing happens. What waited for it
+    /// alone is gone.
+    ///
+    /// # Errors
+    ///
+    /// In this order: `NotInUse`, `NotActive`.
+    pub fn refresh<W: Watch<T>>(&mut self, s: usize, watch: &mut W) -> Result<(), Refusal>
+        ensures done { Answers W.told (calls.refresh R.puts R.weight self.old.state s) result self.new.state
+            (W.seen watch.old) (W.seen watch.new) }
+        ensures same { IsSame self.old self.new }
+        ensures same_reference { watch.new.ghost_name ≡ watch.old.ghost_name }
+    {
+        let (owned, guards) = self.guarded(s)?;
+        if owned || guards == 1 {
+            self.renew(s, watch);
+        }
+        Ok(())
+    }
+
+    /// Attempts the batch of the slot at any length: values that no active slot can read are gone, the others wait for those slots.
+    ///
+    /// # Errors
+    ///
+    /// In this order: `NotInUse`, `NotActive`.
+    pub fn flush<W: Watch<T>>(&mut self, s: usize, watch: &mut W) -> Result<(), Refusal>
+        ensures done { Answers W.told (calls.flush R.puts R.weight self.old.state s) result self.new.state
+            (W.seen watch.old) (W.seen watch.new) }
+        ensures same { IsSame self.old self.new }
+        ensures same_reference { watch.new.ghost_name ≡ watch.old.ghost_name }
+    {
+        self.guarded(s)?;
+        let Place {
+            owned,
+            guards,
+            mut reservation,
+            unit,
+            shelf,
+        } = out(&mut self.places, s);
+        let Some(unit) = unit else {
+            unreachable!()
+        };
+        let mut call = Flushing {
+            words: &self.words,
+            ender: &self.ender,
+            lock: &mut reservation,
+            unit: &unit,
+            watch: &mut *watch,
+        };
+        self.porter.stay(&mut call);
+        let place = Place {
+            owned,
+            guards,
+            reservation,
+            unit: Some(unit),
+            shelf,
+        };
+        back(&mut self.places, s, place);
+        self.hands = Hands::of::<Brand>(&self.hands, &self.porter, s);
+        Ok(())
+    }
+
+    /// Retires a value that is in no link. It goes into the slot's batch with its kind, which the reclaimer is given with it; the batch is
+    /// attempted where it is full.
+    ///
+    /// # Errors
+    ///
+    /// `NotInUse`. The value comes back.
+    pub fn retire<W: Watch<T>>(
+        &mut self,
+        s: usize,
+        value: Taken<T>,
+        kind: u64,
+        watch: &mut W,
+    ) -> Result<(), (Refusal, Taken<T>)>
+        requires { IsTakenOf T.row.coded.code self.old.book value }
+        ensures done { Answers W.told (calls.retire R.puts R.weight self.old.state s (taken_content value) kind) (only_refusal result)
+            self.new.state (W.seen watch.old) (W.seen watch.new) }
+        ensures back { (refusal : RefusalValue) (value' : TakenValue T) → (result ≡ Err (refusal, value')) → value' ≡ value }
+        ensures same { IsSame self.old self.new }
+        ensures same_reference { watch.new.ghost_name ≡ watch.old.ghost_name }
+    {
+        if self.known(s).is_none() {
+            return Err((Refusal::NotInUse, value));
+        }
+        let Place {
+            owned,
+            guards,
+            mut reservation,
+            unit,
+            shelf,
+        } = out(&mut self.places, s);
+        let mut loose = Some(value.into_loose());
+        let mut call = Retiring {
+            words: &self.words,
+            ender: &self.ender,
+            lock: &mut reservation,
+            loose: &mut loose,
+            kind,
+            watch: &mut *watch,
+        };
+        self.porter.stay(&mut call);
+        match loose {
+            None => {}
+            Some(_) => unreachable!(),
+        }
+        let place = Place {
+            owned,
+            guards,
+            reservation,
+            unit,
+            shelf,
+        };
+        back(&mut self.places, s, place);
+        self.hands = Hands::of::<Brand>(&self.hands, &self.porter, s);
+        Ok(())
+    }
+}
