@@ -21,7 +21,13 @@ fn unit_at<T: Drop>(places: &Vec<Option<Place<T>>>, s: usize) -> &Unit
     requires { is_some (held_in (get_or places.now.items s None)) ≡ true }
     ensures { held_in (get_or places.now.items s None) ≡ Some result.now }
 {
-    let Some(Place { unit: Some(unit), .. }) = &places[s] else {
+    let Some(
+        Place {
+            unit: Some(unit),
+            ..
+        },
+    ) = &places[s]
+    else {
         unreachable!()
     };
     unit
@@ -135,7 +141,8 @@ impl<T: Drop, R: Reclaim<T>> Alone<T, R> {
         Ok(self.exchange(s, link, new))
     }
 
-    /// Looks at what a link holds: where it holds a block, `look` is called with its value. It takes no memory.
+    /// Looks at what a link holds: where it holds a block, `look` is called with its value, and its answer is given. It is called once at
+    /// most, and with what the model's link holds. But for what `look` does, it takes no memory.
     ///
     /// # Errors
     ///
@@ -147,7 +154,7 @@ impl<T: Drop, R: Reclaim<T>> Alone<T, R> {
         look: F,
     ) -> Result<Option<A>, Refusal>
         requires range { link < length self.old.state.links }
-        requires look { F.IsAlwaysCallable look }
+        requires look { (found : _) → calls.link_at self.old.state link ≡ Some found.now → F.pre look found }
         ensures done { IfOk result (λ answer. (calls.no_guard self.old.state s ≡ None)
             × Looked (FnOnceReturnsAt F.FnOnce look) (calls.link_at self.old.state link) answer) }
         ensures refused { IfErr result (λ refusal. calls.no_guard self.old.state s ≡ Some refusal) }

@@ -17,7 +17,7 @@ pub out-old-requires-clause-content : goal.out-old-requires-clause-content
 out-old-requires-clause-content g c =
     let stay = c.stay-old.ensures in let k = knows c.self.invariant stay.shut in let hands = c.self.inside.hands in let gives = stay.gives in
     let swapped = swaps_held g.row.T.coded hands.state hands.names hands.kinds c.unit_at.result.now.number c.args.link gives.0 gives.1 (option_map content c.args.new) stay.lent stay.back gives.2 k.holds
-        (named_value g.row.T.coded.code c.args.new gives.0 gives.3) in
+    (named_value g.row.T.coded.code c.args.new gives.0 gives.3) in
     out_has g.row.T.coded gives.1 (link_at hands.state c.args.link) swapped.1 c.stay-old.result gives.4
 
 pub of-requires : goal.of-requires
@@ -25,7 +25,7 @@ of-requires g c =
     let a = c.self.invariant in let stay = c.stay-old.ensures in let k = knows a stay.shut in let hands = c.self.inside.hands in let gives = stay.gives in
     let new : Option g.row.T.Denot = option_map content c.args.new in
     let swapped = swaps_held g.row.T.coded hands.state hands.names hands.kinds c.unit_at.result.now.number c.args.link gives.0 gives.1 new stay.lent stay.back gives.2 k.holds
-        (named_value g.row.T.coded.code c.args.new gives.0 gives.3) in
+    (named_value g.row.T.coded.code c.args.new gives.0 gives.3) in
     (with_link hands.state c.args.link new, swapped.0.0, hands.kinds, ((new, refl), held_again a stay swapped.0.1))
 
 pub invariant_of-self : goal.invariant_of-self
@@ -43,7 +43,7 @@ pub returns-clause-held : goal.returns-clause-held
 returns-clause-held g c =
     let stay = c.stay-old.ensures in let k = knows c.self.invariant stay.shut in let hands = c.self.inside.hands in let gives = stay.gives in
     let swapped = swaps_held g.row.T.coded hands.state hands.names hands.kinds c.unit_at.result.now.number c.args.link gives.0 gives.1 (option_map content c.args.new) stay.lent stay.back gives.2 k.holds
-        (named_value g.row.T.coded.code c.args.new gives.0 gives.3) in
+    (named_value g.row.T.coded.code c.args.new gives.0 gives.3) in
     out_value g.row.T.coded gives.1 (link_at hands.state c.args.link) swapped.1 c.stay-old.result c.out-old.result gives.4 c.out-old.ensures
     ∙ ap (λ (v : View g.row.T.Denot). link_at v.state c.args.link) c.self.view_is
 
@@ -53,9 +53,9 @@ returns-clause-state g c =
     let new : Option g.row.T.Denot = option_map content c.args.new in let picked : Option g.row.T.Denot = c.of.ensures.0.0 in
     let now : c.of.result.state ≡ with_link hands.state link picked = c.of.ensures.0.1 in
     let swapped = swaps_held g.row.T.coded hands.state hands.names hands.kinds c.unit_at.result.now.number link gives.0 gives.1 new stay.lent stay.back gives.2 k.holds
-        (named_value g.row.T.coded.code c.args.new gives.0 gives.3) in
+    (named_value g.row.T.coded.code c.args.new gives.0 gives.3) in
     let porter = c.stay-old.new.self in
     let same : picked ≡ new = one_link g.row.T.coded hands.state link (subst (λ (v : View g.row.T.Denot). link < length v.state.links) (sym c.self.view_is) c.requires.range) picked new
-        (subst (λ (x : State g.row.T.Denot ℕ). Holds g.row.T.coded.code x c.of.result.names c.of.result.kinds porter.name porter.seen) now c.of.ensures.1)
-        (held_again a stay swapped.0.1) in
+    (subst (λ (x : State g.row.T.Denot ℕ). Holds g.row.T.coded.code x c.of.result.names c.of.result.kinds porter.name porter.seen) now c.of.ensures.1)
+    (held_again a stay swapped.0.1) in
     now ∙ ap (λ (x : Option g.row.T.Denot). with_link hands.state link x) same ∙ ap (λ (v : View g.row.T.Denot). with_link v.state link new) c.self.view_is
