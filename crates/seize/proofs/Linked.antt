@@ -1,13 +1,21 @@
 -- What reads and exchanges of links make where the pass is alone, with a unit of the slot's activation.
-use Rattle.std.proofs.Common.{◌≡◌, ℕ, Option, None, Some, IfNone, IfSome, option_map, ap, refl, subst, sym, ◌∙◌}
+use Rattle.std.proofs.Common.{◌≡◌, ℕ, ◌<◌, List, length, Option, None, Some, IfNone, IfSome, option_map, ap, refl, subst, sym, ◌∙◌}
+use Rattle.std.proofs.lemmas.List.{get_or-set_same}
 use base.Stored.{Coded, Gv}
 use Rattle.seize_machine.specs.Machine.Event.{ExchangeLink, ReadLink}
 use Rattle.seize_machine.specs.declared.machine.event.Answer.TheVariants.{Link as Held}
 use Rattle.seize_machine.specs.declared.machine.event.Exchange.TheVariants.{Swap}
+use Rattle.seize_machine.specs.Machine.State.{link_at as held_at}
+use Rattle.seize_model.specs.Waiting.Calls.{link_at}
+use Rattle.seize_model.specs.Waiting.State.{State}
 use Rattle.seize_alone.specs.Events.{IsHeldAs, MakesAlone}
+use Rattle.seize_alone.specs.Holding.{Holds}
 use Rattle.seize_alone.proofs.Ready.{read_alone, swapped_alone}
+use Rattle.seize_alone.proofs.Singles.{held_once, link_held}
+use Rattle.seize_book.specs.Book.{after}
+use Rattle.seize_book.specs.Entry.{Entry}
 use Rattle.seize_book.specs.Books.{Learns}
-use Rattle.seize_book.specs.Tokens.{IsSole, Name}
+use Rattle.seize_book.specs.Tokens.{IsSole, Name, start}
 use Rattle.seize_book.specs.declared.book.pass.Pass.{Pass}
 use Rattle.seize_book.specs.declared.book.seen.Seen.{Seen}
 use Rattle.seize_words.specs.Joined.{words_book}
@@ -19,6 +27,7 @@ use Rattle.seize_words.specs.declared.words.Words.{Words}
 use Rattle.seize_calls.specs.Slots.{IsLooseIn, IsLooseOf, IsReadable, its_value}
 use Rattle.seize_calls.specs.declared.slot.Loose.{Loose}
 use Rattle.seize.specs.Blocks.{HasContent, IsNamed, LooseComesOut, ShowsIn, TakesOut, content, shared_value, taken_content}
+use Rattle.seize.specs.Looks.{with_link}
 use Rattle.seize.specs.Places.{IsStill}
 use Rattle.seize.specs.Reservations.{IsUnitIn}
 use Rattle.seize.specs.declared.block.owned.Owned.{Owned}
@@ -98,3 +107,12 @@ named_value code (Some owned) (Some v) named = named
 named_value code None None named = tt
 named_value code (Some owned) None named = absurd named
 named_value code None (Some v) named = absurd named
+
+-- Where one list shows two states that differ in what a link holds alone, they are one.
+pub one_link : {T : Type 0} (c : Coded T) (st : State T ℕ) (l : ℕ) → l < length st.links → (x y : Option T) {names names' : List (ℕ × T)} {kinds kinds' : List (ℕ × ℕ)} {n : Name} {seen : List Entry}
+    → Holds c.code (with_link st l x) names kinds n seen → Holds c.code (with_link st l y) names' kinds' n seen → x ≡ y
+one_link {T} c st l less x y {names} {names'} {kinds} {kinds'} {n} {seen} one other =
+    sym (get_or-set_same st.links l x None less)
+    ∙ held_once c (held_at (after (start n) seen) l) (link_at (with_link st l x) l) (link_at (with_link st l y) l)
+    (link_held c (with_link st l x) names kinds n seen l one) (link_held c (with_link st l y) names' kinds' n seen l other)
+    ∙ get_or-set_same st.links l y None less

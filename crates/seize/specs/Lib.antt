@@ -9,6 +9,7 @@ pub mod Kinds
 pub mod Laws
 pub mod Lends
 pub mod Lighter
+pub mod Looks
 pub mod Loose
 pub mod Makes
 pub mod Numbers

@@ -1,6 +1,7 @@
 -- What lies in the places of slots while a collector is in one caller's hands, as its state says.
 --     Lies              whether the slot is owned, how many guards it has, the label of its reservation, the number and the list of the unit
 --                       of its activation, and its shelf
+--     held_in place     the unit of the activation of the slot in this place, where one lies there
 --     lies_in place     what lies in this place
 --     lying_in n slot s     what lies in the place of slot s of the list n, which is in use, where the state says this of it;  lies_for     so it
 --                       is, or nothing lies there where the slot is free
@@ -18,6 +19,10 @@ Lies = Bool × (ℕ × (ℕ × (Option (ℕ × Name) × ℕ)))
 
 abbrev pub unit_in : Held → ℕ × Name
 unit_in held = (held.number, held.seen.name)
+
+abbrev pub held_in : {T : Type 0} → Option (Place T) → Option Held
+held_in (Some place) = place.unit
+held_in None = None
 
 abbrev pub lies_in : {T : Type 0} → Place T → Lies
 lies_in place = (place.owned, (place.guards, (place.reservation, (option_map unit_in place.unit, place.shelf))))

@@ -5,6 +5,7 @@ ghost use Rattle.std.specs.Prelude.{box_value};
 ghost use Rattle.seize_words.specs.Joined.{words_book};
 ghost use Rattle.seize.specs.Alones.{IsAlone, View, view_coded};
 
+mod blocks;
 mod calls;
 mod codes;
 mod hands;

@@ -1,0 +1,61 @@
+use Rattle.std.proofs.Common.{◌≡◌, ℕ, ◌<◌, Option, length, option_map, refl, sym, ap, subst, ◌∙◌}
+use Rattle.std.proofs.lemmas.List.{length-set}
+use Rattle.seize_model.specs.Waiting.Calls.{link_at}
+use Rattle.seize_model.specs.Waiting.State.{State}
+use Rattle.seize_words.specs.Joined.{words_book}
+use Rattle.seize_alone.specs.Holding.{Holds}
+use Rattle.seize_alone.proofs.Singles.{swaps_held}
+use Rattle.seize.specs.Alones.{View}
+use Rattle.seize.specs.Blocks.{content}
+use Rattle.seize.specs.Looks.{with_link}
+use Rattle.seize.specs.Placing.{ArePlaces}
+use Rattle.seize.proofs.Linked.{named_value, one_link, out_has, out_value}
+use Rattle.seize.proofs.Lone.{alone_again, held_again, knows}
+use Rattle.seize.proofs.alone.Alone.exchange.Goals as goal
+
+pub out-old-requires-clause-content : goal.out-old-requires-clause-content
+out-old-requires-clause-content g c =
+    let stay = c.stay-old.ensures in let k = knows c.self.invariant stay.shut in let hands = c.self.inside.hands in let gives = stay.gives in
+    let swapped = swaps_held g.row.T.coded hands.state hands.names hands.kinds c.unit_at.result.now.number c.args.link gives.0 gives.1 (option_map content c.args.new) stay.lent stay.back gives.2 k.holds
+    (named_value g.row.T.coded.code c.args.new gives.0 gives.3) in
+    out_has g.row.T.coded gives.1 (link_at hands.state c.args.link) swapped.1 c.stay-old.result gives.4
+
+pub of-requires : goal.of-requires
+of-requires g c =
+    let a = c.self.invariant in let stay = c.stay-old.ensures in let k = knows a stay.shut in let hands = c.self.inside.hands in let gives = stay.gives in
+    let new : Option g.row.T.Denot = option_map content c.args.new in
+    let swapped = swaps_held g.row.T.coded hands.state hands.names hands.kinds c.unit_at.result.now.number c.args.link gives.0 gives.1 new stay.lent stay.back gives.2 k.holds
+    (named_value g.row.T.coded.code c.args.new gives.0 gives.3) in
+    (with_link hands.state c.args.link new, swapped.0.0, hands.kinds, ((new, refl), held_again a stay swapped.0.1))
+
+pub invariant_of-self : goal.invariant_of-self
+invariant_of-self g c =
+    let a = c.self.invariant in let inside = c.self.inside in let st = inside.hands.state in let new : Option g.row.T.Denot = c.of.ensures.0.0 in
+    let now : c.of.result.state ≡ with_link st c.args.link new = c.of.ensures.0.1 in
+    alone_again a c.stay-old.ensures c.of.result inside.places.items inside.made
+    (a.counted ∙ sym (ap (λ (x : State g.row.T.Denot ℕ). length x.slots) now))
+    (ap (λ (x : State g.row.T.Denot ℕ). x.size) now)
+    (ap (λ (x : State g.row.T.Denot ℕ). length x.links) now ∙ length-set st.links c.args.link new)
+    (subst (λ (x : State g.row.T.Denot ℕ). ArePlaces (words_book inside.words) x inside.places.items) (sym now) a.placed)
+    c.of.ensures.1
+
+pub returns-clause-held : goal.returns-clause-held
+returns-clause-held g c =
+    let stay = c.stay-old.ensures in let k = knows c.self.invariant stay.shut in let hands = c.self.inside.hands in let gives = stay.gives in
+    let swapped = swaps_held g.row.T.coded hands.state hands.names hands.kinds c.unit_at.result.now.number c.args.link gives.0 gives.1 (option_map content c.args.new) stay.lent stay.back gives.2 k.holds
+    (named_value g.row.T.coded.code c.args.new gives.0 gives.3) in
+    out_value g.row.T.coded gives.1 (link_at hands.state c.args.link) swapped.1 c.stay-old.result c.out-old.result gives.4 c.out-old.ensures
+    ∙ ap (λ (v : View g.row.T.Denot). link_at v.state c.args.link) c.self.view_is
+
+pub returns-clause-state : goal.returns-clause-state
+returns-clause-state g c =
+    let a = c.self.invariant in let stay = c.stay-old.ensures in let k = knows a stay.shut in let inside = c.self.inside in let hands = inside.hands in let gives = stay.gives in let link = c.args.link in
+    let new : Option g.row.T.Denot = option_map content c.args.new in let picked : Option g.row.T.Denot = c.of.ensures.0.0 in
+    let now : c.of.result.state ≡ with_link hands.state link picked = c.of.ensures.0.1 in
+    let swapped = swaps_held g.row.T.coded hands.state hands.names hands.kinds c.unit_at.result.now.number link gives.0 gives.1 new stay.lent stay.back gives.2 k.holds
+    (named_value g.row.T.coded.code c.args.new gives.0 gives.3) in
+    let porter = c.stay-old.new.self in
+    let same : picked ≡ new = one_link g.row.T.coded hands.state link (subst (λ (v : View g.row.T.Denot). link < length v.state.links) (sym c.self.view_is) c.requires.range) picked new
+    (subst (λ (x : State g.row.T.Denot ℕ). Holds g.row.T.coded.code x c.of.result.names c.of.result.kinds porter.name porter.seen) now c.of.ensures.1)
+    (held_again a stay swapped.0.1) in
+    now ∙ ap (λ (x : Option g.row.T.Denot). with_link hands.state link x) same ∙ ap (λ (v : View g.row.T.Denot). with_link v.state link new) c.self.view_is

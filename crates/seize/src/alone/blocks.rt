@@ -1,0 +1,189 @@
+//! Blocks and links of a collector in one caller's hands: each call on a link is exactly what the model says.
+ghost use Rattle.std.specs.Prelude.{◌≡◌, IfErr, IfOk, None, Some, get_or, is_some, true};
+ghost use Rattle.seize_words.specs.Joined.{words_book};
+ghost use Rattle.seize_table.specs.declared.refusal.Refusal.TheVariants.{NoMemory as no_memory};
+ghost use Rattle.seize.specs.Blocks.{content, store_name};
+ghost use Rattle.seize.specs.Placing.{held_in};
+
+use crate::alone::hands::Hands;
+use crate::alone::links::{Exchanging, Reading};
+use crate::alone::place::{Place, Unit};
+use crate::alone::{Alone, Codes};
+use crate::block::{Owned, Taken};
+use crate::reclaim::Reclaim;
+use seize_table::Refusal;
+use seize_words::book::{Pass, Stay};
+use seize_words::words::Words;
+use std::marker::Brand;
+
+// The unit of the activation of the slot in this place, which has guards.
+fn unit_at<T: Drop>(places: &Vec<Option<Place<T>>>, s: usize) -> &Unit
+    requires { is_some (held_in (get_or places.now.items s None)) ≡ true }
+    ensures { held_in (get_or places.now.items s None) ≡ Some result.now }
+{
+    let Some(
+        Place {
+            unit: Some(unit),
+            ..
+        },
+    ) = &places[s]
+    else {
+        unreachable!()
+    };
+    unit
+}
+
+// A block is made of a value. No event is made.
+#[derive(Drop)]
+struct Making<'a, T: Drop> {
+    words: &'a Words<T>,
+    // The value. The work takes it.
+    value: Option<T>,
+}
+
+impl<'a, T: Drop> Stay<Result<Owned<T>, (Refusal, T)>> for Making<'a, T> {
+    ghost may = { λ making pass. (words_book making.words.now ≡ pass.name) × ((value : T) × (making.value ≡ Some value)) };
+
+    ghost gives = { λ making _ pass pass' result. (pass' ≡ pass) × ((value : T) → making.value ≡ Some value
+        → IfOk result (λ owned. (store_name owned ≡ (words_book making.words.now).store) × (content owned ≡ value))
+        × IfErr result (λ refused. (refused.0 ≡ no_memory) × (refused.1 ≡ value))) };
+
+    fn stay(&mut self, pass: &mut Pass<'static>) -> Result<Owned<T>, (Refusal, T)> {
+        let Some(value) = self.value.take() else {
+            unreachable!()
+        };
+        let blocks = &self.words.blocks;
+        let (key, block) = blocks.add(value, pass)?;
+        Ok(Owned::of(key, block, &blocks.book))
+    }
+}
+
+impl<T: Drop, R: Reclaim<T>> Alone<T, R> {
+    ghost use Rattle.std.specs.Prelude.{◌<◌, IfSome, length, option_map};
+    ghost use Rattle.std.specs.Fn.{FnOnceReturnsAt};
+    ghost use Rattle.seize_model.specs.Waiting.Calls as calls;
+    ghost use Rattle.seize.specs.Alones.{IsSame};
+    ghost use Rattle.seize.specs.Blocks.{Belongs, IsTakenOf, taken_content};
+    ghost use Rattle.seize.specs.Looks.{Looked, with_link};
+
+    /// A block of this value. It asks for memory only where the store has no free place.
+    ///
+    /// # Errors
+    ///
+    /// `NoMemory` where that growth was refused; the value comes back.
+    pub fn owned(&mut self, value: T) -> Result<Owned<T>, (Refusal, T)>
+        ensures made { IfOk result (λ owned. (store_name owned ≡ self.old.book.store) × (content owned ≡ value)) }
+        ensures refused { IfErr result (λ refused. (refused.0 ≡ no_memory) × (refused.1 ≡ value)) }
+        ensures same { self.new ≡ self.old }
+    {
+        let mut making = Making {
+            words: &self.words,
+            value: Some(value),
+        };
+        self.porter.stay(&mut making)
+    }
+
+    /// A block that was never in a link, ready to be retired. No event is made, and it takes no memory.
+    pub fn taken(&self, owned: Owned<T>) -> Taken<T>
+        requires { Belongs R.owners self.now.book.store owned }
+        ensures of { IsTakenOf T.row.coded.code self.now.book result }
+        ensures content { taken_content result ≡ content owned }
+    {
+        Taken::from_owned(owned, &self.words, &self.ender)
+    }
+
+    // The link holds this block then, or none. It gives what that held. The slot has a guard.
+    fn exchange(&mut self, s: usize, link: usize, new: Option<Owned<T>>) -> Option<Taken<T>>
+        requires guard { calls.no_guard self.old.state s ≡ None }
+        requires range { link < length self.old.state.links }
+        requires own { IfSome new (Belongs R.owners self.old.book.store) }
+        ensures held { option_map taken_content result ≡ calls.link_at self.old.state link }
+        ensures own { IfSome result (IsTakenOf T.row.coded.code self.old.book) }
+        ensures state { self.new.state ≡ with_link self.old.state link (option_map content new) }
+        ensures same { IsSame self.old self.new }
+    {
+        let mut exchanging = Exchanging {
+            words: &self.words,
+            ender: &self.ender,
+            unit: unit_at(&self.places, s),
+            link,
+            new,
+        };
+        let old = self.porter.stay(&mut exchanging);
+        let old = Taken::out(old);
+        self.hands = Hands::of::<Brand>(&self.hands, &self.porter, link);
+        old
+    }
+
+    /// Exchanges what a link holds for this block, or for none. It gives what the link held, which is to be retired. It takes no memory.
+    ///
+    /// # Errors
+    ///
+    /// In this order: `NotInUse`, `NotActive` where the slot has no guard. The block comes back.
+    pub fn swap(
+        &mut self,
+        s: usize,
+        link: usize,
+        new: Option<Owned<T>>,
+    ) -> Result<Option<Taken<T>>, (Refusal, Option<Owned<T>>)>
+        requires range { link < length self.old.state.links }
+        requires own { IfSome new (Belongs R.owners self.old.book.store) }
+        ensures done { IfOk result (λ _. calls.no_guard self.old.state s ≡ None) }
+        ensures refused { IfErr result (λ refused. (calls.no_guard self.old.state s ≡ Some refused.0) × (refused.1 ≡ new)) }
+        ensures held { IfOk result (λ old. option_map taken_content old ≡ calls.link_at self.old.state link) }
+        ensures own { IfOk result (λ old. IfSome old (IsTakenOf T.row.coded.code self.old.book)) }
+        ensures state { self.new.state ≡ (calls.swap self.old.state s link (option_map content new)).1.0 }
+        ensures same { IsSame self.old self.new }
+    {
+        if let Err(refusal) = self.guarded(s) {
+            return Err((refusal, new));
+        }
+        Ok(self.exchange(s, link, new))
+    }
+
+    /// Looks at what a link holds: where it holds a block, `look` is called with its value, and its answer is given. It is called once at
+    /// most, and with what the model's link holds. But for what `look` does, it takes no memory.
+    ///
+    /// # Errors
+    ///
+    /// In this order: `NotInUse`, `NotActive` where the slot has no guard.
+    pub fn look<A, F: FnOnce(&T) -> A>(
+        &mut self,
+        s: usize,
+        link: usize,
+        look: F,
+    ) -> Result<Option<A>, Refusal>
+        requires range { link < length self.old.state.links }
+        requires look { (found : _) → calls.link_at self.old.state link ≡ Some found.now → F.pre look found }
+        ensures done { IfOk result (λ answer. (calls.no_guard self.old.state s ≡ None)
+            × Looked (FnOnceReturnsAt F.FnOnce look) (calls.link_at self.old.state link) answer) }
+        ensures refused { IfErr result (λ refusal. calls.no_guard self.old.state s ≡ Some refusal) }
+        ensures same { self.new ≡ self.old }
+    {
+        self.guarded(s)?;
+        let mut reading = Reading {
+            words: &self.words,
+            unit: unit_at(&self.places, s),
+            link,
+        };
+        let Some(shared) = self.porter.stay(&mut reading) else {
+            return Ok(None);
+        };
+        Ok(Some(look(&shared)))
+    }
+
+    /// Whether a link holds a block. It takes no memory.
+    ///
+    /// # Errors
+    ///
+    /// As `look`.
+    pub fn holds(&mut self, s: usize, link: usize) -> Result<bool, Refusal>
+        requires range { link < length self.old.state.links }
+        ensures done { IfOk result (λ holds. (calls.no_guard self.old.state s ≡ None)
+            × (holds ≡ is_some (calls.link_at self.old.state link))) }
+        ensures refused { IfErr result (λ refusal. calls.no_guard self.old.state s ≡ Some refusal) }
+        ensures same { self.new ≡ self.old }
+    {
+        Ok(self.look(s, link, |_| ())?.is_some())
+    }
+}
