@@ -137,7 +137,7 @@ impl<T: Drop, R: Reclaim<T>> Alone<T, R> {
         if number == self.made {
             self.made += 1;
         }
-        self.hands = Hands::of::<Brand>(&self.hands, &self.porter, number);
+        self.hands = Hands::of::<Brand, (usize, bool)>(&self.hands, &self.porter, &(number, owned));
         Ok(number)
     }
 
@@ -169,7 +169,7 @@ impl<T: Drop, R: Reclaim<T>> Alone<T, R> {
             shelf,
         };
         back(&mut self.places, s, place);
-        self.hands = Hands::of::<Brand>(&self.hands, &self.porter, s);
+        self.hands = Hands::of::<Brand, usize>(&self.hands, &self.porter, &s);
     }
 
     // The registered slot, which has guards, has so many then. No event is made.
@@ -181,7 +181,7 @@ impl<T: Drop, R: Reclaim<T>> Alone<T, R> {
         let mut place = out(&mut self.places, s);
         place.guards = guards;
         back(&mut self.places, s, place);
-        self.hands = Hands::of::<Brand>(&self.hands, &self.porter, s);
+        self.hands = Hands::of::<Brand, (usize, u64)>(&self.hands, &self.porter, &(s, guards));
     }
 
     // The number of the slot, which has no guard, goes back.
@@ -197,7 +197,7 @@ impl<T: Drop, R: Reclaim<T>> Alone<T, R> {
             numbers: &mut self.numbers,
         };
         self.porter.stay(&mut freeing);
-        self.hands = Hands::of::<Brand>(&self.hands, &self.porter, s);
+        self.hands = Hands::of::<Brand, usize>(&self.hands, &self.porter, &s);
     }
 
     /// Takes the least number that is not in use, for a registered slot without a guard. It asks for memory where no slot is left whose number
