@@ -193,7 +193,7 @@ impl<T: Drop, R: Reclaim<T>> Alone<T, R> {
         let place = out(&mut self.places, s);
         let mut freeing = Freeing {
             words: &self.words,
-            slot: Some(place.reservation.into_value().slot),
+            reservation: Some(place.reservation.into_value()),
             numbers: &mut self.numbers,
         };
         self.porter.stay(&mut freeing);
