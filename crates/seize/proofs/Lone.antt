@@ -1,5 +1,5 @@
 -- A collector in one caller's hands: what the porter's first pass knows of the state, and what lies in the places.
-use Rattle.std.proofs.Common.{◌≡◌, ◌⊎◌, ℕ, zero, suc, ◌==◌, ◌<◌, ◌≤◌, Bool, true, false, not, if◌then◌else◌, List, [], ◌∷◌, length, map, Option, Some, None, option_map, get_or, is_some, inl, inr, slice_set, refl, sym, ap, subst, ◌∙◌}
+use Rattle.std.proofs.Common.{arith, ◌≡◌, ◌⊎◌, ℕ, zero, suc, ◌==◌, ◌<◌, ◌≤◌, Bool, true, false, not, if◌then◌else◌, List, [], ◌∷◌, length, map, Option, Some, None, option_map, get_or, is_some, inl, inr, slice_set, refl, sym, ap, subst, ◌∙◌}
 use Rattle.std.proofs.lemmas.Bool.{cases_lt, false≢true}
 use Rattle.std.proofs.lemmas.List.{get_or-set_same, get_or-set_other, get_or_past}
 use base.Stored.{Gv}
@@ -130,3 +130,24 @@ module _ {T R : Type 0} {code : T → Gv} {words : Words T} {porter : Porter} {n
     placed = placed;
     holds = holds;
   }
+
+-- With no event.
+
+-- a slot with guards is active
+pub some_guards : (n : ℕ) → 0 < n → not (n == 0) ≡ true
+some_guards n some = grind arith
+
+-- the invariant, where the porter stayed at home
+pub alone_still : {T R : Type 0} {code : T → Gv} {words : Words T} {porter : Porter} {numbers : ℕ} {places : List (Option (Place T))} {made : ℕ} {ender : Ender T R} {hands : Hands T} → IsAlone code words porter numbers places made ender hands
+    → (hands' : Hands T) (places' : List (Option (Place T))) → length hands'.state.slots ≡ length hands.state.slots → hands'.state.size ≡ hands.state.size → length hands'.state.links ≡ length hands.state.links
+    → ArePlaces (words_book words) hands'.state places' → Holds code hands'.state hands'.names hands'.kinds porter.name porter.seen → IsAlone code words porter numbers places' made ender hands'
+alone_still a hands' places' slots size links placed holds = record {
+  lends = a.lends;
+  numbered = a.numbered;
+  ends = a.ends;
+  counted = a.counted ∙ sym slots;
+  sized = size ∙ a.sized;
+  linked = links ∙ a.linked;
+  placed = placed;
+  holds = holds;
+}

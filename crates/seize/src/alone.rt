@@ -139,7 +139,7 @@ impl<T: Drop, R: Reclaim<T>> Alone<T, R> {
         if number == self.made {
             self.made += 1;
         }
-        self.hands = Hands::of::<Brand>(&self.hands, &self.porter, number);
+        self.hands = Hands::of::<Brand, (usize, bool)>(&self.hands, &self.porter, &(number, owned));
         Ok(number)
     }
 
@@ -171,7 +171,7 @@ impl<T: Drop, R: Reclaim<T>> Alone<T, R> {
             shelf,
         };
         back(&mut self.places, s, place);
-        self.hands = Hands::of::<Brand>(&self.hands, &self.porter, s);
+        self.hands = Hands::of::<Brand, usize>(&self.hands, &self.porter, &s);
     }
 
     // The registered slot, which has guards, has so many then. No event is made.
@@ -183,7 +183,7 @@ impl<T: Drop, R: Reclaim<T>> Alone<T, R> {
         let mut place = out(&mut self.places, s);
         place.guards = guards;
         back(&mut self.places, s, place);
-        self.hands = Hands::of::<Brand>(&self.hands, &self.porter, s);
+        self.hands = Hands::of::<Brand, (usize, u64)>(&self.hands, &self.porter, &(s, guards));
     }
 
     // The number of the slot, which has no guard, goes back.
@@ -195,11 +195,11 @@ impl<T: Drop, R: Reclaim<T>> Alone<T, R> {
         let place = out(&mut self.places, s);
         let mut freeing = Freeing {
             words: &self.words,
-            slot: Some(place.reservation.into_value().slot),
+            reservation: Some(place.reservation.into_value()),
             numbers: &mut self.numbers,
         };
         self.porter.stay(&mut freeing);
-        self.hands = Hands::of::<Brand>(&self.hands, &self.porter, s);
+        self.hands = Hands::of::<Brand, usize>(&self.hands, &self.porter, &s);
     }
 
     /// Takes the least number that is not in use, for a registered slot without a guard. It asks for memory where no slot is left whose number

@@ -44,8 +44,8 @@ unsafe impl<T> Send for Hands<T> {}
 unsafe impl<T> Sync for Hands<T> {}
 
 impl<T> Hands<T> {
-    /// There are some, and these are they. It does nothing when the program runs.
-    pub(crate) fn of<H: Holding<T>>(_hands: &Hands<T>, _porter: &Porter, _slot: usize) -> Hands<T>
+    /// There are some, and these are they. What `_said` holds is for the proof that picks. It does nothing when the program runs.
+    pub(crate) fn of<H: Holding<T>, S>(_hands: &Hands<T>, _porter: &Porter, _said: &S) -> Hands<T>
         requires { (st : State T ℕ) × (names : List (ℕ × T)) × (kinds : List (ℕ × ℕ)) × H.are st names kinds }
         ensures { H.are result.state result.names result.kinds }
     {

@@ -1,16 +1,20 @@
 //! Numbers of slots taken and given back, as works that the porter's first pass is lent to.
-ghost use Rattle.std.specs.Prelude.{◌≡◌, IfErr, IfOk, IfSome, Some};
+ghost use Rattle.std.specs.Prelude.{◌≡◌, IfErr, IfOk, IfSome, Some, false};
 ghost use Rattle.seize_book.specs.Tokens.{IsSole};
+ghost use Rattle.seize_book.specs.Homesteads.{state_seen};
 ghost use Rattle.seize_machine.specs.Machine.Event.{Give};
+ghost use Rattle.seize_machine.specs.Machine.State.{head_at, is_active};
 ghost use Rattle.seize_machine.specs.declared.machine.event.Answer.{Answer};
 ghost use Rattle.seize_alone.specs.Events.{MakesAlone};
 ghost use Rattle.seize_calls.specs.Slots.{IsPassFor, its_number};
-ghost use Rattle.seize_calls.specs.declared.slot.Slot.{Slot};
 ghost use Rattle.seize_words.specs.Joined.{words_book};
-ghost use Rattle.seize.specs.Numbers.{HasTaken, MayEnd, TakesNone};
+ghost use Rattle.seize.specs.Numbers.{HasTaken, TakesNone};
+ghost use Rattle.seize.specs.Reservations.{IsReservation, IsReservationOf};
+ghost use Rattle.seize.specs.declared.reservation.Reservation.{Reservation};
 ghost use Rattle.seize.specs.Shelves.{IsShelfFor};
 
 use crate::numbers::{Ending, Numbers, Registering};
+use crate::reservation::Reservation;
 use crate::shelf::Shelf;
 use seize_calls::slot::Slot;
 use seize_cells::Lock;
@@ -52,8 +56,8 @@ impl<'a, T: Drop> Stay<Result<(Slot<T>, Shelf<T>), Refusal>> for Taking<'a, T> {
 pub(crate) struct Freeing<'a, T: Drop> {
     /// The words of the collector.
     pub(crate) words: &'a Words<T>,
-    /// The slot, which is inactive.
-    pub(crate) slot: Option<Slot<T>>,
+    /// The slot, which is inactive as the pass has seen. The work takes it.
+    pub(crate) reservation: Option<Reservation<T>>,
     /// The numbers.
     pub(crate) numbers: &'a mut Lock<Numbers<T>>,
 }
@@ -61,16 +65,26 @@ pub(crate) struct Freeing<'a, T: Drop> {
 impl<'a, T: Drop> Stay<()> for Freeing<'a, T> {
     ghost may = { λ freeing pass. IsPassFor freeing.words.now pass × IsSole pass.id
         × (freeing.numbers.now ≡ (words_book freeing.words.now).family)
-        × ((slot : Slot T) × (freeing.slot ≡ Some slot) × MayEnd freeing.words.now slot) };
+        × ((r : Reservation T) × (freeing.reservation ≡ Some r) × IsReservation r × IsReservationOf freeing.words.now r
+        × (is_active (head_at (state_seen pass) (its_number r.slot)) ≡ false)) };
 
     ghost gives = { λ freeing freeing' pass pass' _. (freeing'.numbers ≡ freeing.numbers)
-        × ((slot : Slot T) → freeing.slot ≡ Some slot → (answer : Answer) × MakesAlone pass pass' (Give (its_number slot)) answer) };
+        × ((r : Reservation T) → freeing.reservation ≡ Some r
+        → (answer : Answer) × MakesAlone pass pass' (Give (its_number r.slot)) answer) };
 
     fn stay(&mut self, pass: &mut Pass<'static>) {
-        let Some(slot) = self.slot.take() else {
+        let Some(reservation) = self.reservation.take() else {
             unreachable!()
         };
+        let Reservation {
+            mut slot,
+            rest: _,
+            guards: _,
+            most: _,
+        } = reservation;
         let words = self.words;
+        slot.seen().agree(&words.blocks.book);
+        slot.look(words, pass);
         self.numbers.with_mut(Ending { words, slot }, pass);
     }
 }
