@@ -15,9 +15,9 @@ mod reclaiming;
 mod taking;
 mod tells;
 
+pub use crate::alone::codes::Codes;
 use crate::alone::hands::Hands;
 use crate::alone::place::{Beginning, Place, Within, back, out, room};
-pub use crate::alone::codes::Codes;
 use crate::alone::taking::{Freeing, Taking};
 use crate::ender::Ender;
 use crate::numbers::Numbers;

@@ -21,6 +21,7 @@ use seize_words::book::Pass;
 use seize_words::link::MaybeKey;
 use seize_words::words::Words;
 pub use shared::Shared;
+pub(crate) use taken::Content;
 pub use taken::Taken;
 pub use unlinked::Unlinked;
 

@@ -111,7 +111,7 @@ impl<T: Drop, R: Reclaim<T>> Alone<T, R> {
         };
         let old = self.porter.stay(&mut exchanging);
         let old = Taken::out(old);
-        self.hands = Hands::of::<Brand>(&self.hands, &self.porter, link);
+        self.hands = Hands::of::<Brand, usize>(&self.hands, &self.porter, &link);
         old
     }
 

@@ -7,7 +7,7 @@ use crate::alone::calls::{Flushing, Leaving, Refreshing, Retiring};
 use crate::alone::hands::Hands;
 use crate::alone::place::{Place, back, out};
 use crate::alone::{Alone, Codes};
-use crate::block::Taken;
+use crate::block::{Content, Taken};
 use crate::reclaim::{Reclaim, Watch};
 use seize_table::Refusal;
 use std::marker::Brand;
@@ -53,7 +53,7 @@ impl<T: Drop, R: Reclaim<T>> Alone<T, R> {
             shelf,
         };
         back(&mut self.places, s, place);
-        self.hands = Hands::of::<Brand>(&self.hands, &self.porter, s);
+        self.hands = Hands::of::<Brand, usize>(&self.hands, &self.porter, &s);
     }
 
     // The slot, which is owned or has one guard, refreshes.
@@ -88,7 +88,7 @@ impl<T: Drop, R: Reclaim<T>> Alone<T, R> {
             shelf,
         };
         back(&mut self.places, s, place);
-        self.hands = Hands::of::<Brand>(&self.hands, &self.porter, s);
+        self.hands = Hands::of::<Brand, usize>(&self.hands, &self.porter, &s);
     }
 
     /// Leaves with one guard of the slot. With its last one the slot is inactive; what waited for it alone is gone. An owned slot gives its
@@ -153,9 +153,7 @@ impl<T: Drop, R: Reclaim<T>> Alone<T, R> {
             unit,
             shelf,
         } = out(&mut self.places, s);
-        let Some(unit) = unit else {
-            unreachable!()
-        };
+        let Some(unit) = unit else { unreachable!() };
         let mut call = Flushing {
             words: &self.words,
             ender: &self.ender,
@@ -172,7 +170,7 @@ impl<T: Drop, R: Reclaim<T>> Alone<T, R> {
             shelf,
         };
         back(&mut self.places, s, place);
-        self.hands = Hands::of::<Brand>(&self.hands, &self.porter, s);
+        self.hands = Hands::of::<Brand, usize>(&self.hands, &self.porter, &s);
         Ok(())
     }
 
@@ -206,7 +204,8 @@ impl<T: Drop, R: Reclaim<T>> Alone<T, R> {
             unit,
             shelf,
         } = out(&mut self.places, s);
-        let mut loose = Some(value.into_loose());
+        let (loose, content) = value.into_loose();
+        let mut loose = Some(loose);
         let mut call = Retiring {
             words: &self.words,
             ender: &self.ender,
@@ -228,7 +227,8 @@ impl<T: Drop, R: Reclaim<T>> Alone<T, R> {
             shelf,
         };
         back(&mut self.places, s, place);
-        self.hands = Hands::of::<Brand>(&self.hands, &self.porter, s);
+        let said = (s, kind, content);
+        self.hands = Hands::of::<Brand, (usize, u64, Content<T>)>(&self.hands, &self.porter, &said);
         Ok(())
     }
 }

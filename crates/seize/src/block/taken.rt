@@ -108,12 +108,13 @@ impl<T: Drop> Taken<T> {
         self.loose.peek(&words.blocks)
     }
 
-    /// What is retired. It has the name and the list that this had.
-    pub(crate) fn into_loose(self) -> Loose
-        ensures its { (its_value result ≡ taken_name self) × (loose_book result ≡ taken_book self) }
-        ensures may { MayRetire result.value × IsReadable result }
+    /// What is retired, with its content. It has the name and the list that this had.
+    pub(crate) fn into_loose(self) -> (Loose, Content<T>)
+        ensures its { (its_value result.0 ≡ taken_name self) × (loose_book result.0 ≡ taken_book self) }
+        ensures may { MayRetire result.0.value × IsReadable result.0 }
+        ensures content { result.1.value ≡ taken_content self }
     {
-        let Taken { loose, content: _ } = self;
-        loose
+        let Taken { loose, content } = self;
+        (loose, content)
     }
 }
