@@ -31,3 +31,4 @@ mod Lone
 mod Watched
 mod Linked
 mod Called
+mod Reclaimed

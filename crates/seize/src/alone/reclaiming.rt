@@ -28,7 +28,6 @@ impl<T: Drop, R: Reclaim<T>> Alone<T, R> {
             × (W.seen watch.new ≡ told_of W.told (W.seen watch.old) now.1)
             × (calls.is_free (slot_at now.0 s).kind ≡ false) × (has_guard (slot_at now.0 s) ≡ false) }
         ensures same { IsSame self.old self.new }
-        ensures same_reference { watch.new.ghost_name ≡ watch.old.ghost_name }
     {
         let Place {
             owned,
@@ -63,7 +62,6 @@ impl<T: Drop, R: Reclaim<T>> Alone<T, R> {
         ensures done { Answers W.told (calls.refresh R.puts R.weight self.old.state s) (Ok tt) self.new.state
             (W.seen watch.old) (W.seen watch.new) }
         ensures same { IsSame self.old self.new }
-        ensures same_reference { watch.new.ghost_name ≡ watch.old.ghost_name }
     {
         let Place {
             owned,
@@ -101,7 +99,6 @@ impl<T: Drop, R: Reclaim<T>> Alone<T, R> {
         ensures done { Answers W.told (calls.leave R.puts R.weight self.old.state s) result self.new.state
             (W.seen watch.old) (W.seen watch.new) }
         ensures same { IsSame self.old self.new }
-        ensures same_reference { watch.new.ghost_name ≡ watch.old.ghost_name }
     {
         let (owned, guards) = self.guarded(s)?;
         if guards > 1 {
@@ -125,7 +122,6 @@ impl<T: Drop, R: Reclaim<T>> Alone<T, R> {
         ensures done { Answers W.told (calls.refresh R.puts R.weight self.old.state s) result self.new.state
             (W.seen watch.old) (W.seen watch.new) }
         ensures same { IsSame self.old self.new }
-        ensures same_reference { watch.new.ghost_name ≡ watch.old.ghost_name }
     {
         let (owned, guards) = self.guarded(s)?;
         if owned || guards == 1 {
@@ -143,7 +139,6 @@ impl<T: Drop, R: Reclaim<T>> Alone<T, R> {
         ensures done { Answers W.told (calls.flush R.puts R.weight self.old.state s) result self.new.state
             (W.seen watch.old) (W.seen watch.new) }
         ensures same { IsSame self.old self.new }
-        ensures same_reference { watch.new.ghost_name ≡ watch.old.ghost_name }
     {
         self.guarded(s)?;
         let Place {
@@ -192,7 +187,6 @@ impl<T: Drop, R: Reclaim<T>> Alone<T, R> {
             self.new.state (W.seen watch.old) (W.seen watch.new) }
         ensures back { (refusal : RefusalValue) (value' : TakenValue T) → (result ≡ Err (refusal, value')) → value' ≡ value }
         ensures same { IsSame self.old self.new }
-        ensures same_reference { watch.new.ghost_name ≡ watch.old.ghost_name }
     {
         if self.known(s).is_none() {
             return Err((Refusal::NotInUse, value));

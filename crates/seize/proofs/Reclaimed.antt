@@ -1,0 +1,122 @@
+-- A call by which values may be gone, made where its pass is alone: the hands hold what the model says then, and the watch was told of the
+-- values gone, in order.
+use Rattle.std.proofs.Common.{◌≡◌, ℕ, ◌==◌, ◌||◌, Bool, true, false, List, [], ◌∷◌, refl, sym, ap, subst, ◌∙◌}
+use Rattle.std.specs.List.{fold}
+use Rattle.std.specs.Prelude.{Ok}
+use base.Stored.{Coded}
+use Rattle.seize_machine.specs.Machine.State.{are_distinct, linked_values}
+use Rattle.seize_model.specs.Waiting.Attempt.{StateAndGone}
+use Rattle.seize_model.specs.Waiting.Calls.{flush, is_free, is_owned, one_guard_less, refresh, retire}
+use Rattle.seize_model.specs.Waiting.Further.{Lighter, with_further}
+use Rattle.seize_model.specs.Waiting.State.{State, has_guard, slot_at}
+use Rattle.seize_book.specs.Entry.{Entry}
+use Rattle.seize_book.specs.Slots.{slot_number}
+use Rattle.seize_book.specs.Tokens.{Name}
+use Rattle.seize_book.specs.declared.book.pass.Pass.{Pass}
+use Rattle.seize_words.specs.Chunks.{IsLentAs}
+use Rattle.seize_words.specs.declared.activation.Activation.{Activation}
+use Rattle.seize_words.specs.declared.words.Words.{Words}
+use Rattle.seize_calls.specs.Handing.{Had}
+use Rattle.seize_calls.specs.Slots.{SlotFlushes, SlotLeaves, SlotRefreshes, SlotRetires, its_number, its_value}
+use Rattle.seize_calls.specs.declared.slot.Loose.{Loose}
+use Rattle.seize_calls.specs.declared.slot.Slot.{Slot}
+use Rattle.seize_alone.specs.Calls.{CallsAlone}
+use Rattle.seize_alone.specs.Gone.{HadAre}
+use Rattle.seize_alone.specs.Holding.{Holds, HoldsThen}
+use Rattle.seize_alone.proofs.Slots.{slot_flushes, slot_parts, slot_refreshes, slot_retires}
+use Rattle.seize.specs.Places.{CallsSlot}
+use Rattle.seize.specs.Told.{AreCodes, HasTold, told_of}
+use Rattle.seize.specs.declared.alone.hands.Hands.{Hands}
+use Rattle.seize.specs.declared.reservation.Reservation.{Reservation}
+use Rattle.seize.proofs.Called.{sole_still}
+use Rattle.seize.proofs.Lone.{Knows}
+
+-- The watch was told of values with the codes of those that were had, so it was told of these.
+pub told_gone : {T Seen : Type 0} (c : Coded T) (told : Seen → T → Seen) (seen : Seen) (xs : List T) (had : Had) (gone : List (T × ℕ)) → AreCodes c.code xs had → HadAre c.code had gone → fold told seen xs ≡ told_of told seen gone
+told_gone c told seen [] [] [] are has = refl
+told_gone {T} c told seen (x ∷ xs) (one ∷ had) (v ∷ gone) are has =
+    told_gone c told (told seen x) xs had gone are.1 has.1 ∙ ap (λ (y : T). told_of told (told seen y) gone) (c.inj x v.0 (are.0 ∙ has.0.0))
+told_gone c told seen [] [] (v ∷ gone) are has = absurd has
+told_gone c told seen (x ∷ xs) (one ∷ had) [] are has = absurd has
+told_gone c told seen [] (one ∷ had) gone are has = absurd are
+told_gone c told seen (x ∷ xs) [] gone are has = absurd are
+
+-- what the hands hold after a call with this outcome, and what the watch was told
+pub record Turned {T Seen : Type 0} (c : Coded T) (told : Seen → T → Seen) (o : StateAndGone T ℕ) (pass : Pass) (seen seen' : Seen) : Type 0 where
+  pub names : List (ℕ × T)
+  pub kinds : List (ℕ × ℕ)
+  pub holds : Holds c.code o.0 names kinds pass.name pass.seen
+  pub hears : seen' ≡ told_of told seen o.1
+
+pub turned : {T Seen : Type 0} (c : Coded T) (told : Seen → T → Seen) (o : StateAndGone T ℕ) (pass : Pass) (seen seen' : Seen) (had : Had) → HoldsThen c.code o had pass → HasTold c.code told seen seen' had → Turned c told o pass seen seen'
+turned c told o pass seen seen' had then_held tells = record {
+  names = then_held.0.0;
+  kinds = then_held.0.1.0;
+  holds = then_held.0.1.1;
+  hears = tells.2 ∙ told_gone c told seen tells.0 had o.1 tells.1 then_held.1;
+}
+
+module _ {T Seen : Type 0} (c : Coded T) (puts : ℕ → T → List T) (weight : T → ℕ) (lighter : Lighter puts weight) (told : Seen → T → Seen) {words : Words T} {hands : Hands T} {pass : Pass} (k : Knows c.code words hands pass) (r r' : Reservation T)
+    (pass' : Pass) (seen seen' : Seen) where
+  abbrev st : State T ℕ
+  st = hands.state
+
+  -- the pass is alone, once it was ready
+  called_alone : {Does : Slot T → Pass → Slot T → Pass → Had → Type 0} (calls : CallsSlot c.code puts told r pass r' pass' seen seen' Does) → CallsAlone c puts st hands.names hands.kinds calls.ready pass' calls.had
+  called_alone calls = record {
+    sole = sole_still calls.still k.sole;
+    legal = calls.legal;
+    distinct = ap (λ (n : Name). are_distinct (linked_values n.links)) calls.same.0 ∙ k.distinct;
+    size = k.size ∙ sym calls.still.same.2;
+    holds = subst (λ (t : Name × List Entry). Holds c.code st hands.names hands.kinds t.0 t.1) (λ j. (sym calls.still.same.0 j, sym (calls.still.alone k.sole) j)) k.holds;
+    put = calls.put;
+  }
+
+  -- it is the slot that lies in the place
+  its_slot : {Does : Slot T → Pass → Slot T → Pass → Had → Type 0} (calls : CallsSlot c.code puts told r pass r' pass' seen seen' Does) (s : ℕ) → its_number r.slot ≡ s → slot_number calls.slot.key ≡ s
+  its_slot calls s at = calls.slot.together.numbered ∙ calls.its ∙ at
+
+  -- a leave with the last guard
+  pub parted : (s : ℕ) → its_number r.slot ≡ s → CallsSlot c.code puts told r pass r' pass' seen seen' (λ slot ready slot' p had. SlotLeaves slot ready [] slot' p had) → is_free (slot_at st s).kind ≡ false → (slot_at st s).guards ≡ 1
+      → let now = with_further puts weight s (one_guard_less st s) in Turned c told now pass' seen seen' × (is_free (slot_at now.0 s).kind ≡ false) × (has_guard (slot_at now.0 s) ≡ false)
+  parted s at calls =
+      subst
+      (λ (s : ℕ). is_free (slot_at st s).kind ≡ false → (slot_at st s).guards ≡ 1
+      → Turned c told (with_further puts weight s (one_guard_less st s)) pass' seen seen' × (is_free (slot_at (with_further puts weight s (one_guard_less st s)).0 s).kind ≡ false) × (has_guard (slot_at (with_further puts weight s (one_guard_less st s)).0 s) ≡ false))
+      (its_slot calls s at)
+      (λ used guards.
+          let done = slot_parts c st hands.names hands.kinds calls.slot r'.slot calls.ready pass' puts weight lighter calls.had (called_alone calls) calls.does used guards in
+          (turned c told (with_further puts weight (slot_number calls.slot.key) (one_guard_less st (slot_number calls.slot.key))) pass' seen seen' calls.had done.0 calls.tells, done.1, done.2))
+
+  -- a refresh
+  pub refreshed : (s : ℕ) → its_number r.slot ≡ s → CallsSlot c.code puts told r pass r' pass' seen seen' (λ slot ready slot' p had. (a : Activation) × SlotRefreshes slot ready a [] slot' p had) → is_free (slot_at st s).kind ≡ false
+      → has_guard (slot_at st s) ≡ true → (is_owned (slot_at st s).kind || ((slot_at st s).guards == 1)) ≡ true → let now = refresh puts weight st s in (now.0 ≡ Ok tt) × Turned c told now.1 pass' seen seen'
+  refreshed s at calls =
+      subst
+      (λ (s : ℕ). is_free (slot_at st s).kind ≡ false → has_guard (slot_at st s) ≡ true → (is_owned (slot_at st s).kind || ((slot_at st s).guards == 1)) ≡ true
+      → ((refresh puts weight st s).0 ≡ Ok tt) × Turned c told (refresh puts weight st s).1 pass' seen seen')
+      (its_slot calls s at)
+      (λ used active parts.
+          let done = slot_refreshes c st hands.names hands.kinds calls.slot r'.slot calls.ready pass' puts weight lighter calls.had (called_alone calls) calls.does.0 calls.does.1 used active parts in
+          (done.0, turned c told (refresh puts weight st (slot_number calls.slot.key)).1 pass' seen seen' calls.had done.1 calls.tells))
+
+  -- a flush
+  pub flushed : (s : ℕ) → its_number r.slot ≡ s → CallsSlot c.code puts told r pass r' pass' seen seen' (λ slot ready slot' p had. (retired : Bool) × SlotFlushes slot ready [] slot' p had retired) → is_free (slot_at st s).kind ≡ false
+      → has_guard (slot_at st s) ≡ true → let now = flush puts weight st s in (now.0 ≡ Ok tt) × Turned c told now.1 pass' seen seen'
+  flushed s at calls =
+      subst
+      (λ (s : ℕ). is_free (slot_at st s).kind ≡ false → has_guard (slot_at st s) ≡ true → ((flush puts weight st s).0 ≡ Ok tt) × Turned c told (flush puts weight st s).1 pass' seen seen')
+      (its_slot calls s at)
+      (λ used active.
+          let done = slot_flushes c st hands.names hands.kinds calls.slot r'.slot calls.ready pass' puts weight lighter calls.had (called_alone calls) calls.does.0 calls.does.1 used active in
+          (done.0, turned c told (flush puts weight st (slot_number calls.slot.key)).1 pass' seen seen' calls.had done.1 calls.tells))
+
+  -- a retirement
+  pub retired : (s : ℕ) (loose : Loose) (kind : ℕ) (x : T) → its_number r.slot ≡ s
+      → CallsSlot c.code puts told r pass r' pass' seen seen' (λ slot ready slot' p had. (went : Bool) × SlotRetires slot ready loose kind [] slot' p had went) → IsLentAs (its_value loose) (c.code x) → is_free (slot_at st s).kind ≡ false
+      → let now = retire puts weight st s x kind in (now.0 ≡ Ok tt) × Turned c told now.1 pass' seen seen'
+  retired s loose kind x at calls lent =
+      subst (λ (s : ℕ). is_free (slot_at st s).kind ≡ false → ((retire puts weight st s x kind).0 ≡ Ok tt) × Turned c told (retire puts weight st s x kind).1 pass' seen seen') (its_slot calls s at)
+      (λ used.
+          let done = slot_retires c st hands.names hands.kinds calls.slot r'.slot calls.ready pass' puts weight lighter calls.had (called_alone calls) loose kind x calls.does.0 calls.does.1 lent used in
+          (done.0, turned c told (retire puts weight st (slot_number calls.slot.key) x kind).1 pass' seen seen' calls.had done.1 calls.tells))
