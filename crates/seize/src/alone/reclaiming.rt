@@ -28,6 +28,7 @@ impl<T: Drop, R: Reclaim<T>> Alone<T, R> {
             × (W.seen watch.new ≡ told_of W.told (W.seen watch.old) now.1)
             × (calls.is_free (slot_at now.0 s).kind ≡ false) × (has_guard (slot_at now.0 s) ≡ false) }
         ensures same { IsSame self.old self.new }
+        ensures same_reference { watch.exit.ghost_name ≡ watch.entry.ghost_name }
     {
         let Place {
             owned,
@@ -36,14 +37,16 @@ impl<T: Drop, R: Reclaim<T>> Alone<T, R> {
             unit,
             shelf,
         } = out(&mut self.places, s);
-        let mut call = Leaving {
-            words: &self.words,
-            ender: &self.ender,
-            lock: &mut reservation,
-            unit,
-            watch: &mut *watch,
-        };
-        self.porter.stay(&mut call);
+        {
+            let mut call = Leaving {
+                words: &self.words,
+                ender: &self.ender,
+                lock: &mut reservation,
+                unit,
+                watch: &mut *watch,
+            };
+            self.porter.stay(&mut call);
+        }
         let place = Place {
             owned,
             guards: 0,
@@ -62,6 +65,7 @@ impl<T: Drop, R: Reclaim<T>> Alone<T, R> {
         ensures done { Answers W.told (calls.refresh R.puts R.weight self.old.state s) (Ok tt) self.new.state
             (W.seen watch.old) (W.seen watch.new) }
         ensures same { IsSame self.old self.new }
+        ensures same_reference { watch.exit.ghost_name ≡ watch.entry.ghost_name }
     {
         let Place {
             owned,
@@ -70,14 +74,16 @@ impl<T: Drop, R: Reclaim<T>> Alone<T, R> {
             unit,
             shelf,
         } = out(&mut self.places, s);
-        let mut call = Refreshing {
-            words: &self.words,
-            ender: &self.ender,
-            lock: &mut reservation,
-            unit,
-            watch: &mut *watch,
+        let unit = {
+            let mut call = Refreshing {
+                words: &self.words,
+                ender: &self.ender,
+                lock: &mut reservation,
+                unit,
+                watch: &mut *watch,
+            };
+            self.porter.stay(&mut call)
         };
-        let unit = self.porter.stay(&mut call);
         let place = Place {
             owned,
             guards,
@@ -99,6 +105,7 @@ impl<T: Drop, R: Reclaim<T>> Alone<T, R> {
         ensures done { Answers W.told (calls.leave R.puts R.weight self.old.state s) result self.new.state
             (W.seen watch.old) (W.seen watch.new) }
         ensures same { IsSame self.old self.new }
+        ensures same_reference { watch.exit.ghost_name ≡ watch.entry.ghost_name }
     {
         let (owned, guards) = self.guarded(s)?;
         if guards > 1 {
@@ -122,6 +129,7 @@ impl<T: Drop, R: Reclaim<T>> Alone<T, R> {
         ensures done { Answers W.told (calls.refresh R.puts R.weight self.old.state s) result self.new.state
             (W.seen watch.old) (W.seen watch.new) }
         ensures same { IsSame self.old self.new }
+        ensures same_reference { watch.exit.ghost_name ≡ watch.entry.ghost_name }
     {
         let (owned, guards) = self.guarded(s)?;
         if owned || guards == 1 {
@@ -139,6 +147,7 @@ impl<T: Drop, R: Reclaim<T>> Alone<T, R> {
         ensures done { Answers W.told (calls.flush R.puts R.weight self.old.state s) result self.new.state
             (W.seen watch.old) (W.seen watch.new) }
         ensures same { IsSame self.old self.new }
+        ensures same_reference { watch.exit.ghost_name ≡ watch.entry.ghost_name }
     {
         self.guarded(s)?;
         let Place {
@@ -149,14 +158,16 @@ impl<T: Drop, R: Reclaim<T>> Alone<T, R> {
             shelf,
         } = out(&mut self.places, s);
         let Some(unit) = unit else { unreachable!() };
-        let mut call = Flushing {
-            words: &self.words,
-            ender: &self.ender,
-            lock: &mut reservation,
-            unit: &unit,
-            watch: &mut *watch,
-        };
-        self.porter.stay(&mut call);
+        {
+            let mut call = Flushing {
+                words: &self.words,
+                ender: &self.ender,
+                lock: &mut reservation,
+                unit: &unit,
+                watch: &mut *watch,
+            };
+            self.porter.stay(&mut call);
+        }
         let place = Place {
             owned,
             guards,
@@ -187,6 +198,7 @@ impl<T: Drop, R: Reclaim<T>> Alone<T, R> {
             self.new.state (W.seen watch.old) (W.seen watch.new) }
         ensures back { (refusal : RefusalValue) (value' : TakenValue T) → (result ≡ Err (refusal, value')) → value' ≡ value }
         ensures same { IsSame self.old self.new }
+        ensures same_reference { watch.exit.ghost_name ≡ watch.entry.ghost_name }
     {
         if self.known(s).is_none() {
             return Err((Refusal::NotInUse, value));
@@ -200,15 +212,17 @@ impl<T: Drop, R: Reclaim<T>> Alone<T, R> {
         } = out(&mut self.places, s);
         let (loose, content) = value.into_loose();
         let mut loose = Some(loose);
-        let mut call = Retiring {
-            words: &self.words,
-            ender: &self.ender,
-            lock: &mut reservation,
-            loose: &mut loose,
-            kind,
-            watch: &mut *watch,
-        };
-        self.porter.stay(&mut call);
+        {
+            let mut call = Retiring {
+                words: &self.words,
+                ender: &self.ender,
+                lock: &mut reservation,
+                loose: &mut loose,
+                kind,
+                watch: &mut *watch,
+            };
+            self.porter.stay(&mut call);
+        }
         match loose {
             None => {}
             Some(_) => unreachable!(),
