@@ -197,6 +197,12 @@ impl<T: Drop, R: Reclaim<T>> Alone<T, R> {
             numbers: &mut self.numbers,
         };
         self.porter.stay(&mut freeing);
+        let Freeing {
+            words: _,
+            reservation,
+            numbers: _,
+        } = freeing;
+        drop(reservation);
         self.hands = Hands::of::<Brand, usize>(&self.hands, &self.porter, &s);
     }
 
