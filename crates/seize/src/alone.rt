@@ -191,18 +191,13 @@ impl<T: Drop, R: Reclaim<T>> Alone<T, R> {
         ensures same { IsSame self.old self.new }
     {
         let place = out(&mut self.places, s);
+        let mut reservation = Some(place.reservation.into_value());
         let mut freeing = Freeing {
             words: &self.words,
-            reservation: Some(place.reservation.into_value()),
+            reservation: &mut reservation,
             numbers: &mut self.numbers,
         };
         self.porter.stay(&mut freeing);
-        let Freeing {
-            words: _,
-            reservation,
-            numbers: _,
-        } = freeing;
-        drop(reservation);
         self.hands = Hands::of::<Brand, usize>(&self.hands, &self.porter, &s);
     }
 
