@@ -28,5 +28,6 @@ mod Recovered
 mod OneLife
 mod Stilled
 mod Lone
+mod Grown
 mod Watched
 mod Linked
