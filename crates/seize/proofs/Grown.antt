@@ -1,11 +1,14 @@
 -- A number is taken, of a collector in one caller's hands: what lies in the places then, how many slots there are, and what stays.
-use Rattle.std.proofs.Common.{◌≡◌, ℕ, zero, suc, ◌+◌, ◌==◌, ◌<◌, ◌≤◌, Bool, true, false, not, if◌then◌else◌, List, [], ◌∷◌, ◌++◌, length, Option, Some, None, option_map, get_or, slice_set, refl, sym, ap, subst, ◌∙◌, arith}
+use Rattle.std.proofs.Common.{◌≡◌, ℕ, zero, suc, ◌+◌, ◌==◌, ◌<◌, ◌≤◌, Bool, true, false, not, if◌then◌else◌, List, [], ◌∷◌, ◌++◌, inl, inr, length, Option, Some, None, option_map, get_or, slice_set, refl, sym, ap, subst, ◌∙◌, arith}
+use Rattle.std.specs.Prelude.{Err, Ok}
 use Rattle.std.proofs.lemmas.Bool.{false≢true}
 use Rattle.std.proofs.lemmas.List.{get_or-set_other, get_or-set_same, length-append, length-set}
 use Rattle.std.proofs.lemmas.List.Sums.{prefix_len-le-length}
+use Rattle.seize_table.specs.Place.{all_numbers}
+use Rattle.seize_table.specs.declared.refusal.Refusal.TheVariants.{NoNumbers}
 use Rattle.seize_machine.proofs.Facts.{eq_true}
 use Rattle.seize_model.specs.declared.kind.Kind.{Kind}
-use Rattle.seize_model.specs.Waiting.Calls.{is_free, is_owned, least_unused, with_number_in_use}
+use Rattle.seize_model.specs.Waiting.Calls.{is_free, is_owned, least_unused, take_number, with_number_in_use}
 use Rattle.seize_model.specs.Waiting.State.{Slot, State, no_slot, slot_at}
 use Rattle.seize_model.proofs.Simulation.Numbers.{slot_taken, taken_if}
 use Rattle.seize_book.proofs.Facts.{equal}
@@ -13,6 +16,7 @@ use Rattle.seize_book.specs.Tokens.{Name}
 use Rattle.seize.specs.Kinds.{kind_of}
 use Rattle.seize.specs.Placing.{ArePlaces, Lies, lies_for, lies_in}
 use Rattle.seize.specs.Reservations.{place_label}
+use Rattle.seize.specs.Told.{Grew, Said}
 use Rattle.seize.specs.declared.alone.place.Place.{Place}
 
 -- Kinds.
@@ -107,3 +111,17 @@ module _ {T : Type 0} (st : State T ℕ) (k : ℕ) (kind : Kind) where
           let other : ¬ (t ≡ k) = λ one. false≢true (sym e ∙ equal k t (sym one)) in
           ap (λ (l : List (Option (Place T))). option_map lies_in (get_or l t None)) put ∙ ap (λ (o : Option (Place T)). option_map lies_in o) (get_or-set_other room k t (Some place) None other ∙ same t) ∙ are t
           ∙ ap (λ (x : Slot T ℕ). lies_for n x t) (sym (other_slot t other))
+
+-- What the model's call answered where it did so.
+
+module _ {T : Type 0} (st : State T ℕ) (kind : Kind) where
+  pub took : (n : ℕ) (mid : State T ℕ) → Grew (take_number st kind 0) (Ok n) st mid → (n ≡ least_unused st.slots) × ((n == all_numbers) ≡ false) × (mid ≡ with_number_in_use st n kind 0)
+  took n mid (inl refused) = absurd (cc)
+  took n mid (inr said) = took_if (least_unused st.slots == all_numbers) refl said
+    where
+      took_if : (b : Bool) → (least_unused st.slots == all_numbers) ≡ b → Said {T = T} {R = ℕ} (if b then (Err NoNumbers, (st, [])) else (Ok (least_unused st.slots), (with_number_in_use st (least_unused st.slots) kind 0, []))) (Ok n) mid
+          → (n ≡ least_unused st.slots) × ((n == all_numbers) ≡ false) × (mid ≡ with_number_in_use st n kind 0)
+      took_if true few is = absurd (cc)
+      took_if false few is =
+          let least : n ≡ least_unused st.slots = cc in
+          (least, ap (λ (l : ℕ). l == all_numbers) least ∙ few, is.1 ∙ ap (λ (l : ℕ). with_number_in_use st l kind 0) (sym least))
