@@ -28,6 +28,7 @@ mod Recovered
 mod OneLife
 mod Stilled
 mod Lone
+mod Grown
 mod Watched
 mod Linked
 mod Called

@@ -131,6 +131,11 @@ module _ {T R : Type 0} {code : T → Gv} {words : Words T} {porter : Porter} {n
     holds = holds;
   }
 
+-- and so it is where the numbers lie behind the same lock
+pub same_numbers : {T R : Type 0} {code : T → Gv} {words : Words T} {porter : Porter} {numbers numbers' : ℕ} {places : List (Option (Place T))} {made : ℕ} {ender : Ender T R} {hands : Hands T} → IsAlone code words porter numbers places made ender hands
+    → numbers' ≡ numbers → IsAlone code words porter numbers' places made ender hands
+same_numbers {code = code} {words = words} {porter = porter} {places = places} {made = made} {ender = ender} {hands = hands} a same = subst (λ (n : ℕ). IsAlone code words porter n places made ender hands) (sym same) a
+
 -- With no event.
 
 -- a slot with guards is active

@@ -193,9 +193,10 @@ impl<T: Drop, R: Reclaim<T>> Alone<T, R> {
         ensures same { IsSame self.old self.new }
     {
         let place = out(&mut self.places, s);
+        let mut reservation = Some(place.reservation.into_value());
         let mut freeing = Freeing {
             words: &self.words,
-            reservation: Some(place.reservation.into_value()),
+            reservation: &mut reservation,
             numbers: &mut self.numbers,
         };
         self.porter.stay(&mut freeing);

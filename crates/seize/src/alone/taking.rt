@@ -57,7 +57,7 @@ pub(crate) struct Freeing<'a, T: Drop> {
     /// The words of the collector.
     pub(crate) words: &'a Words<T>,
     /// The slot, which is inactive as the pass has seen. The work takes it.
-    pub(crate) reservation: Option<Reservation<T>>,
+    pub(crate) reservation: &'a mut Option<Reservation<T>>,
     /// The numbers.
     pub(crate) numbers: &'a mut Lock<Numbers<T>>,
 }
@@ -65,11 +65,11 @@ pub(crate) struct Freeing<'a, T: Drop> {
 impl<'a, T: Drop> Stay<()> for Freeing<'a, T> {
     ghost may = { λ freeing pass. IsPassFor freeing.words.now pass × IsSole pass.id
         × (freeing.numbers.now ≡ (words_book freeing.words.now).family)
-        × ((r : Reservation T) × (freeing.reservation ≡ Some r) × IsReservation r × IsReservationOf freeing.words.now r
+        × ((r : Reservation T) × (freeing.reservation.now ≡ Some r) × IsReservation r × IsReservationOf freeing.words.now r
         × (is_active (head_at (state_seen pass) (its_number r.slot)) ≡ false)) };
 
     ghost gives = { λ freeing freeing' pass pass' _. (freeing'.numbers ≡ freeing.numbers)
-        × ((r : Reservation T) → freeing.reservation ≡ Some r
+        × ((r : Reservation T) → freeing.reservation.now ≡ Some r
         → (answer : Answer) × MakesAlone pass pass' (Give (its_number r.slot)) answer) };
 
     fn stay(&mut self, pass: &mut Pass<'static>) {
