@@ -23,6 +23,7 @@ mod OfKind
 mod Swept
 mod Bare
 mod InUse
+mod Resting
 mod Cleared
 mod Recovered
 mod OneLife

@@ -10,6 +10,7 @@ mod codes;
 mod hands;
 mod links;
 mod place;
+mod sharing;
 mod taking;
 mod tells;
 

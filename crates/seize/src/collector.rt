@@ -42,12 +42,12 @@ const MOST_PROCESSORS: usize = 0x8000_0000_0000_0000;
 /// - where a guard is lost, or a registration with a guard, what waits for the slot or is attempted later: the slot is active for good.
 pub struct Collector<T: Drop, R: Reclaim<T> = Boxed> {
     pub(crate) words: Words<T>,
-    porter: Porter,
+    pub(crate) porter: Porter,
     pub(crate) numbers: Lock<Numbers<T>>,
     // In a box, so that the size of a collector does not depend on it: proofs of calls by a `&` to one ask that it is below 2^63.
     pub(crate) ender: Box<Ender<T, R>>,
-    id: u64,
-    alloc: Global,
+    pub(crate) id: u64,
+    pub(crate) alloc: Global,
     ghost lends: { (porter.name ≡ words_book words) × (porter.size ≡ words.size) × (porter.home ≡ false) },
     ghost numbered: { numbers ≡ (words_book words).family },
     ghost ends: { IsEnderOf words (box_value ender) },
