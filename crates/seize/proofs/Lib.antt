@@ -24,6 +24,7 @@ mod Swept
 mod Bare
 mod InUse
 mod Resting
+mod Homing
 mod Cleared
 mod Recovered
 mod OneLife

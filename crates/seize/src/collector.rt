@@ -172,6 +172,31 @@ impl<T: Drop, R: Reclaim<T>> Collector<T, R> {
         }
     }
 
+    /// Its parts, for one caller's hands.
+    pub(crate) fn into_parts(
+        self,
+    ) -> (
+        Words<T>,
+        Porter,
+        Lock<Numbers<T>>,
+        Box<Ender<T, R>>,
+        u64,
+        Global,
+    )
+        ensures { (result.0 ≡ self.words) × (result.1 ≡ self.porter) × (result.2 ≡ self.numbers) × (result.3 ≡ self.ender)
+            × (result.4 ≡ self.id) }
+    {
+        let Collector {
+            words,
+            porter,
+            numbers,
+            ender,
+            id,
+            alloc,
+        } = self;
+        (words, porter, numbers, ender, id, alloc)
+    }
+
     /// How many links it has.
     pub fn links(&self) -> usize
         ensures { result ≡ its_links self.now }

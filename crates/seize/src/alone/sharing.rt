@@ -43,6 +43,8 @@ fn rest<T: Drop, R: Reclaim<T>>(
 impl<T: Drop, R: Reclaim<T>> Collector<T, R> {
     ghost use Rattle.seize_model.specs.declared.kind.Kind.TheVariants.{Free};
     ghost use Rattle.seize_model.specs.Waiting.State.{slot_at};
+    ghost use Rattle.seize_model.specs.Agreement.Origins.{IsLedTo};
+    ghost use Rattle.seize_alone.specs.Holding.{some_state};
     ghost use Rattle.seize.specs.Collectors.{its_book, its_id, its_links, its_size};
     ghost use Rattle.seize.specs.Reclaims.{IsSameCollector};
 
@@ -56,17 +58,11 @@ impl<T: Drop, R: Reclaim<T>> Collector<T, R> {
     pub fn alone(self) -> Result<Alone<T, R>, Collector<T, R>>
         ensures made { IfOk result (λ alone. (alone.book ≡ its_book self) × (alone.size ≡ its_size self) × (alone.id ≡ its_id self)
             × (alone.state.size ≡ alone.size) × (length alone.state.links ≡ its_links self)
-            × ((s : ℕ) → ((slot_at alone.state s).kind ≡ Free) × ((slot_at alone.state s).guards ≡ 0))) }
+            × ((s : ℕ) → ((slot_at alone.state s).kind ≡ Free) × ((slot_at alone.state s).guards ≡ 0))
+            × IsLedTo (some_state alone.state)) }
         ensures back { IfErr result (λ c. IsSameCollector self c) }
     {
-        let Collector {
-            words,
-            mut porter,
-            numbers,
-            ender,
-            id,
-            alloc,
-        } = self;
+        let (words, mut porter, numbers, ender, id, alloc) = self.into_parts();
         let (made, numbers) = rest(&words, &ender, &mut porter, numbers);
         let Some(made) = made else {
             porter.leave_home();

@@ -1,7 +1,5 @@
-use Rattle.std.proofs.Common.{◌≡◌, refl, sym, ap, ◌∙◌, arith}
+use Rattle.std.proofs.Common.{refl, sym, ap, ◌∙◌, arith}
 use Rattle.seize_book.specs.Tokens.{IsSole}
-use Rattle.seize_book.specs.declared.book.pass.Pass.{Pass}
-use Rattle.seize.specs.Resting.{AreIdle}
 use Rattle.seize.specs.Sweeps.{KeepsOn}
 use Rattle.seize.proofs.Cleared.{keeps_looked}
 use Rattle.seize.proofs.InUse.{taken_still}
