@@ -1,14 +1,16 @@
 //! From a collector that threads share to one in one caller's hands, and back.
-ghost use Rattle.std.specs.Prelude.{◌≡◌, ℕ, IfErr, IfOk, length};
+ghost use Rattle.std.specs.Prelude.{◌≡◌, ℕ, IfErr, IfOk, None, Some, false, get_or, length};
 ghost use Rattle.seize_book.specs.Porters.{HadStay};
 ghost use Rattle.seize_words.specs.Joined.{words_book};
 ghost use Rattle.seize.specs.Enders.{IsEnderOf};
 ghost use Rattle.seize.specs.Laws.{HaveContents};
+ghost use Rattle.seize.specs.Placing.{MayLay};
 ghost use Rattle.seize.specs.Resting.{ComesToRest};
+ghost use Rattle.seize.specs.declared.alone.place.Place.{Place};
 
 use crate::alone::Alone;
 use crate::alone::hands::Hands;
-use crate::alone::place::Within;
+use crate::alone::place::{Place, Unit, Within};
 use crate::collector::Collector;
 use crate::ender::Ender;
 use crate::numbers::Numbers;
@@ -87,5 +89,67 @@ impl<T: Drop, R: Reclaim<T>> Collector<T, R> {
             alloc,
             hands,
         })
+    }
+}
+
+// What lies in this place is laid on its shelf, as if the holder of the slot had been forgotten.
+fn lay<T: Drop>(place: Place<T>, porter: &Porter)
+    requires porter { porter.now.home ≡ false }
+    requires place { MayLay porter.now.name place }
+{
+    let Place {
+        owned: _,
+        guards: _,
+        reservation,
+        unit,
+        shelf,
+    } = place;
+    if let Some(Unit { number, unit, seen }) = unit {
+        shelf.forget(number, unit, seen, &mut porter.pass());
+    }
+    shelf.lay(reservation.into_value());
+}
+
+// So is what lies in each of these places.
+fn lay_all<T: Drop>(places: &mut Vec<Option<Place<T>>>, porter: &Porter)
+    requires porter { porter.now.home ≡ false }
+    requires places { (s : ℕ) (place : Place T) → get_or places.old.items s None ≡ Some place → MayLay porter.now.name place }
+{
+    for n in 0..places.len() {
+        if let Some(place) = places[n].take() {
+            lay(place, porter);
+        }
+    }
+}
+
+impl<T: Drop, R: Reclaim<T>> Alone<T, R> {
+    ghost use Rattle.seize.specs.Collectors.{its_book, its_id, its_size};
+
+    /// The collector for threads to share. What is in use stays so, as if its holder had been forgotten: `reclaim_all` ends it, and so does
+    /// the drop. It takes no memory, makes no event and waits for nobody.
+    pub fn share(self) -> Collector<T, R>
+        ensures same { (its_book result ≡ self.book) × (its_size result ≡ self.size) × (its_id result ≡ self.id) }
+    {
+        let Alone {
+            words,
+            mut porter,
+            numbers,
+            mut places,
+            made: _,
+            ender,
+            id,
+            alloc,
+            hands: _,
+        } = self;
+        porter.leave_home();
+        lay_all(&mut places, &porter);
+        Collector {
+            words,
+            porter,
+            numbers,
+            ender,
+            id,
+            alloc,
+        }
     }
 }
