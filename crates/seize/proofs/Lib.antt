@@ -23,6 +23,8 @@ mod OfKind
 mod Swept
 mod Bare
 mod InUse
+mod Resting
+mod Homing
 mod Cleared
 mod Recovered
 mod OneLife

@@ -272,7 +272,7 @@ module _ {T : Type 0} (slot : Slot T) (pass : Pass) (slot' : Slot T) (pass' : Pa
   given_before =
       ap (λ (log : List Entry). after (start e.0.ready.name) log) (e.0.does.2.0.alone (prepared_sole slot pass e.0.ready e.0.prepares sole)) ∙ prepared_same slot pass e.0.ready e.0.prepares sole
 
-  given_later : state_seen pass' ≡ e.0.does.2.0.later
+  pub given_later : state_seen pass' ≡ e.0.does.2.0.later
   given_later = ap (λ (n : Name). after (start n) pass'.seen) e.0.does.0.0 ∙ e.0.does.2.0.leads
 
   own_left : LeavesNothing pass (its_number slot) → LeavesNothing pass' (its_number slot)

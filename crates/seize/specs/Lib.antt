@@ -20,6 +20,7 @@ pub mod Puts
 pub mod Reclaims
 pub mod Registrations
 pub mod Reservations
+pub mod Resting
 pub mod Served
 pub mod Shelves
 pub mod States

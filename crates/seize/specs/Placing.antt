@@ -6,7 +6,8 @@
 --     lying_in n slot s     what lies in the place of slot s of the list n, which is in use, where the state says this of it;  lies_for     so it
 --                       is, or nothing lies there where the slot is free
 --     ArePlaces n st places     so it is with each of these places
-use Rattle.std.specs.Prelude.{◌≡◌, ℕ, Bool, List, Option, None, Some, get_or, if◌then◌else◌, option_map}
+--     MayLay n place    what lies there is of a slot of the list n, and so is its shelf
+use Rattle.std.specs.Prelude.{◌≡◌, ℕ, Bool, List, Option, None, Some, IfSome, get_or, if◌then◌else◌, option_map}
 use Rattle.seize_model.specs.Waiting.Calls.{is_free, is_owned}
 use Rattle.seize_model.specs.Waiting.State.{Slot, State, has_guard, slot_at}
 use Rattle.seize_book.specs.Tokens.{Name}
@@ -35,3 +36,9 @@ lies_for n slot s = if is_free slot.kind then None else Some (lying_in n slot s)
 
 abbrev pub ArePlaces : {T : Type 0} → Name → State T ℕ → List (Option (Place T)) → Type 0
 ArePlaces n st places = (s : ℕ) → option_map lies_in (get_or places s None) ≡ lies_for n (slot_at st s) s
+
+pub record MayLay {T : Type 0} (n : Name) (place : Place T) : Type 0 where
+  pub slot : ℕ
+  pub reservation : place.reservation ≡ place_label n slot 1
+  pub shelf : place.shelf ≡ n.family
+  pub unit : IfSome place.unit (λ held. held.seen.name ≡ n)

@@ -12,6 +12,7 @@ mod hands;
 mod links;
 mod place;
 mod reclaiming;
+mod sharing;
 mod taking;
 mod tells;
 

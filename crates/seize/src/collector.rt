@@ -42,12 +42,12 @@ const MOST_PROCESSORS: usize = 0x8000_0000_0000_0000;
 /// - where a guard is lost, or a registration with a guard, what waits for the slot or is attempted later: the slot is active for good.
 pub struct Collector<T: Drop, R: Reclaim<T> = Boxed> {
     pub(crate) words: Words<T>,
-    porter: Porter,
+    pub(crate) porter: Porter,
     pub(crate) numbers: Lock<Numbers<T>>,
     // In a box, so that the size of a collector does not depend on it: proofs of calls by a `&` to one ask that it is below 2^63.
     pub(crate) ender: Box<Ender<T, R>>,
-    id: u64,
-    alloc: Global,
+    pub(crate) id: u64,
+    pub(crate) alloc: Global,
     ghost lends: { (porter.name ≡ words_book words) × (porter.size ≡ words.size) × (porter.home ≡ false) },
     ghost numbered: { numbers ≡ (words_book words).family },
     ghost ends: { IsEnderOf words (box_value ender) },
@@ -170,6 +170,31 @@ impl<T: Drop, R: Reclaim<T>> Collector<T, R> {
             id,
             alloc,
         }
+    }
+
+    /// Its parts, for one caller's hands.
+    pub(crate) fn into_parts(
+        self,
+    ) -> (
+        Words<T>,
+        Porter,
+        Lock<Numbers<T>>,
+        Box<Ender<T, R>>,
+        u64,
+        Global,
+    )
+        ensures { (result.0 ≡ self.words) × (result.1 ≡ self.porter) × (result.2 ≡ self.numbers) × (result.3 ≡ self.ender)
+            × (result.4 ≡ self.id) }
+    {
+        let Collector {
+            words,
+            porter,
+            numbers,
+            ender,
+            id,
+            alloc,
+        } = self;
+        (words, porter, numbers, ender, id, alloc)
     }
 
     /// How many links it has.

@@ -7,7 +7,7 @@
 //! may read a value, and who may end it. An `OwnedGuard` needs no registration, and threads share it.
 #![tactic(auto)]
 
-pub mod alone;
+mod alone;
 pub mod block;
 pub mod collector;
 mod ender;
@@ -23,11 +23,12 @@ mod reservation;
 mod shelf;
 mod works;
 
+pub use alone::{Alone, Codes};
 pub use block::{Failed, Owned, Shared, Taken, Unlinked};
 pub use collector::{Collector, IdSource};
 pub use guard::{Guard, LocalGuard};
 pub use owned::OwnedGuard;
-pub use reclaim::{Boxed, Further, Puts, Reclaim};
+pub use reclaim::{Boxed, Further, Puts, Reclaim, Watch};
 pub use registration::Registration;
 pub use seize_machine::machine;
 pub use seize_table::{Labelled, Refusal, thread_id, tls};

@@ -12,6 +12,7 @@ ghost use Rattle.seize.specs.Makes.{MakesOne};
 ghost use Rattle.seize.specs.Shelves.{IsShelfFor};
 
 mod recovering;
+pub(crate) mod resting;
 pub(crate) mod sweeping;
 
 use crate::shelf::{Shelf, Shelves};

@@ -8,6 +8,7 @@ ghost use Rattle.seize_words.specs.Joined.{words_book};
 ghost use Rattle.seize.specs.Enders.{IsEnderOf};
 ghost use Rattle.seize_calls.specs.Slots.{IsInactive, IsPassFor, IsSlotOf, its_number};
 ghost use Rattle.seize.specs.Numbers.{AreNumbers, AreTakenTo, IsLockFor, flags_of};
+ghost use Rattle.seize.specs.Resting.{AreIdle, IsIdle, KeepsIdleBut};
 ghost use Rattle.seize.specs.Sweeps.{AreOff, AreOffBelow, LiesHere, IsLedBy, IsOff, KeepsCleared, KeepsClearedBut, KeepsElse, KeepsOff, KeepsOn, KeepsPlaces, AreClearedBelow, LeavesNothing, Sweeps};
 
 use crate::ender::Ender;
@@ -78,15 +79,15 @@ impl<T: Drop> Numbers<T> {
         self.all_here()
     }
 
-    // Whether no number is in use: each slot that was made lies here.
-    fn all_here(&self) -> bool
+    /// Whether no number is in use: each slot that was made lies here.
+    pub(super) fn all_here(&self) -> bool
         ensures { result ≡ list_all is_some self.now.slots.items }
     {
         self.slots.iter().all(|slot| slot.is_some())
     }
 
-    // Each slot that lies here takes its number again, and is not active.
-    fn take_all(&mut self, words: &Words<T>, pass: &mut Pass)
+    /// Each slot that lies here takes its number again, and is not active.
+    pub(super) fn take_all(&mut self, words: &Words<T>, pass: &mut Pass)
         requires numbers { AreTakenTo 0 self.old × (self.old.book.name ≡ words_book words.now) }
         requires pass { IsPassFor words.now pass.old × IsSole pass.old.id }
         ensures taken { AreTakenTo (length self.new.slots.items) self.new × KeepsPlaces self.old self.new }
@@ -156,13 +157,14 @@ impl<T: Drop> Numbers<T> {
         }
     }
 
-    // The numbers go back, the last one first.
-    fn give_all(&mut self, words: &Words<T>, pass: &mut Pass)
+    /// The numbers go back, the last one first.
+    pub(super) fn give_all(&mut self, words: &Words<T>, pass: &mut Pass)
         requires taken { AreTakenTo (length self.old.slots.items) self.old × (self.old.book.name ≡ words_book words.now) }
         requires pass { IsPassFor words.now pass.old × IsSole pass.old.id }
         ensures numbers { AreTakenTo 0 self.new × KeepsPlaces self.old self.new }
         ensures left { KeepsOn pass.old pass.new × KeepsCleared pass.old pass.new }
         ensures others { KeepsElse (flags_of self.new.slots.items) pass.old pass.new }
+        ensures idle { AreIdle (flags_of self.new.slots.items) pass.new }
     {
         let many = self.slots.len();
         for given in 0..many {
@@ -177,6 +179,7 @@ impl<T: Drop> Numbers<T> {
         ensures taken { AreTakenTo n self.new × KeepsPlaces self.old self.new }
         ensures left { KeepsOn pass.old pass.new × KeepsCleared pass.old pass.new }
         ensures others { KeepsElse (flags_of self.new.slots.items) pass.old pass.new }
+        ensures idle { KeepsIdleBut n pass.old pass.new × (LiesHere (flags_of self.new.slots.items) n → IsIdle pass.new n) }
     {
         if let Some(slot) = self.slots[n].take() {
             let mut slot = slot;

@@ -1,14 +1,33 @@
-use Rattle.std.proofs.Common.{◌-◌, ◌+◌, ◌<◌, length, refl, ap, ◌∙◌, arith}
+use Rattle.std.proofs.Common.{◌≡◌, ◌-◌, ◌+◌, ◌<◌, ◌≤◌, ℕ, Bool, List, Option, length, refl, sym, ap, subst, ◌∙◌, arith}
+use Rattle.std.specs.Option.{is_none}
+use Rattle.std.proofs.lemmas.List.{length-map}
+use native.Mathlib.Decide.{ℕ_discrete}
+use Rattle.seize_book.specs.declared.book.pass.Pass.{Pass}
 use Rattle.seize.proofs.Placed.{still_for}
 use Rattle.seize.proofs.Swept.{keeps_none, keeps_then, still_sole, else_more, else_none}
 use Rattle.seize.proofs.InUse.{places_length, taken_as}
 use Rattle.seize.specs.Numbers.{flags_of}
+use Rattle.seize.specs.Resting.{AreIdleFrom, IsIdle, KeepsIdleBut}
+use Rattle.seize.specs.Sweeps.{LiesHere}
+use Rattle.seize.proofs.Cleared.{here_long}
 use Rattle.seize.proofs.numbers.Numbers.give_all.Goals as goal
+
+-- from the end on there is none
+none_idle : {X : Type 0} (items : List (Option X)) (pass : Pass) (k : ℕ) → length items ≤ k → AreIdleFrom k (flags_of items) pass
+none_idle items pass k past s from here = absurd (let less = here_long (flags_of items) s here in let long = length-map items is_none in omega (arith, past, from, less, long))
+
+-- one more gave its number back
+more_idle : (n k m : ℕ) (flags flags' : List Bool) (pass pass' : Pass) → k ≡ n + 1 → m ≡ n → flags' ≡ flags → KeepsIdleBut n pass pass' → AreIdleFrom k flags pass → (LiesHere flags' n → IsIdle pass' n) → AreIdleFrom m flags' pass'
+more_idle n k m flags flags' pass pass' next this same kept was one t from here = go (ℕ_discrete t n)
+  where
+    go : Dec (t ≡ n) → IsIdle pass' t
+    go (yes e) = subst (IsIdle pass') (sym e) (one (subst (LiesHere flags') e here))
+    go (no differs) = kept t differs (was t (let apart : t ≡ n → ⊥ = differs in omega (arith, from, next, this, apart)) (subst (λ (us : List Bool). LiesHere us t) same here))
 
 pub loop-given-init : goal.loop-given-init
 loop-given-init g c =
     let self = c.args.self.now in let many = c.len-many.ensures in
-    (taken_as self (c.len-many.result - 0) (length self.slots.items) (omega (arith, many)) c.requires.taken.0, (refl, refl), omega (arith, many), c.requires.pass.0, c.requires.pass.1, keeps_none c.args.pass.now, (λ t was. was), else_none _ c.args.pass.now)
+    (taken_as self (c.len-many.result - 0) (length self.slots.items) (omega (arith, many)) c.requires.taken.0, (refl, refl), omega (arith, many), c.requires.pass.0, c.requires.pass.1, keeps_none c.args.pass.now, (λ t was. was), else_none _ c.args.pass.now, none_idle self.slots.items c.args.pass.now (c.len-many.result - 0) (omega (arith, many)))
 
 pub give_at-requires : goal.give_at-requires
 give_at-requires g c =
@@ -32,9 +51,13 @@ loop-given-preserved g c =
       keeps_then c.args.pass.now was now i.5 one.left.0,
       λ t left. one.left.1 t (i.6 t left),
       else_more (flags_of c.loop-given.self.slots.items) (flags_of self'.slots.items) c.args.pass.now was now one.taken.1.1 i.7 one.others,
+      more_idle (many - 1 - given) (many - given) (many - (given + 1)) (flags_of c.loop-given.self.slots.items) (flags_of self'.slots.items) was now (omega (arith, less)) (omega (arith, less)) one.taken.1.1 one.idle.0 i.8 one.idle.1,
     )
 
 pub returns-clause-numbers : goal.returns-clause-numbers
 returns-clause-numbers g c =
     let i = c.loop-given.invariant in let over = c.loop-given-test.false in
     (taken_as c.loop-given.self 0 (c.len-many.result - c.loop-given.given) (omega (arith, over)) i.0, i.1)
+
+pub returns-clause-idle : goal.returns-clause-idle
+returns-clause-idle g c t here = let over = c.loop-given-test.false in c.loop-given.invariant.8 t (omega (arith, over)) here

@@ -1,4 +1,4 @@
-use Rattle.std.proofs.Common.{◌≡◌, ℕ, arith, refl, sym, ap, subst, ◌∙◌}
+use Rattle.std.proofs.Common.{ℕ, sym, subst, ◌∙◌}
 use Rattle.seize_machine.specs.Machine.Event.{Enter}
 use Rattle.seize_alone.specs.Events.{MakesAlone}
 use Rattle.seize_book.specs.Tokens.{IsSole}

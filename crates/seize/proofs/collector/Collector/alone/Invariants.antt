@@ -1,0 +1,5 @@
+use Rattle.seize.proofs.Homing.{StartsAt}
+use Rattle.seize.proofs.collector.Collector.alone.Given as goal
+
+abbrev pub ghosts-first : goal.ghosts-first
+ghosts-first g a = record { are = StartsAt g.row.T.coded.code a._porter.now }
