@@ -1,10 +1,8 @@
-use Rattle.std.proofs.Common.{◌≡◌, ℕ, ◌<◌, Bool, false, List, Option, None, Some, if◌then◌else◌, length, option_map, slice_set, refl, sym, ap, subst, ◌∙◌}
+use Rattle.std.proofs.Common.{◌≡◌, ℕ, ◌<◌, false, None, Some, length, refl, sym, ap, subst, ◌∙◌}
 use Rattle.std.proofs.lemmas.List.{length-set}
 use Rattle.seize_model.specs.Waiting.Calls.{is_free, set_guards}
 use Rattle.seize_model.specs.Waiting.State.{Slot, State, has_guard, slot_at}
 use Rattle.seize_machine.specs.Machine.Event.{Enter}
-use Rattle.seize_book.specs.Porters.{Shuts}
-use Rattle.seize_book.specs.Tokens.{Name}
 use Rattle.seize_words.specs.Joined.{words_book}
 use Rattle.seize_alone.proofs.Singles.{enters_held}
 use Rattle.seize_alone.specs.Events.{MakesAlone}
