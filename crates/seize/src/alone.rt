@@ -1,6 +1,6 @@
 //! The collector in one caller's hands. Nobody shares it, so each call is exactly what the model of waiting sets says (`seize_model`): its
-//! answer, the state after it, and the values that are gone, in order. A slot lies in its place (`place`), events and calls are works that the
-//! porter's first pass is lent to, and the state is kept in `hands`, which has no bytes.
+//! answer, the state after it, and the values that are gone, in order. A slot lies in its place (`place`), events and calls are works that
+//! the porter's first pass is lent to, and the state is kept in `hands`, which has no bytes.
 ghost use Rattle.std.specs.Prelude.{box_value};
 ghost use Rattle.seize_words.specs.Joined.{words_book};
 ghost use Rattle.seize.specs.Alones.{IsAlone, View, view_coded};
@@ -204,8 +204,8 @@ impl<T: Drop, R: Reclaim<T>> Alone<T, R> {
         self.hands = Hands::of::<Brand, usize>(&self.hands, &self.porter, &s);
     }
 
-    /// Takes the least number that is not in use, for a registered slot without a guard. It asks for memory where no slot is left whose number
-    /// went back.
+    /// Takes the least number that is not in use, for a registered slot without a guard. It asks for memory where no slot is left whose
+    /// number went back.
     ///
     /// # Errors
     ///
@@ -252,8 +252,8 @@ impl<T: Drop, R: Reclaim<T>> Alone<T, R> {
         Ok(())
     }
 
-    /// Gives the number of a registered slot back, and says whether it did: a guard keeps it. The slot's batch stays for the next one who has
-    /// the number. It takes no memory.
+    /// Gives the number of a registered slot back, and says whether it did: a guard keeps it. The slot's batch stays for the next one who
+    /// has the number. It takes no memory.
     ///
     /// # Errors
     ///

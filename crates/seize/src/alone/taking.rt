@@ -1,7 +1,8 @@
-//! Numbers of slots taken and given back, as works that the porter's first pass is lent to.
+//! Numbers of slots taken and given back, as works that the porter's first pass is lent to. A work that holds `&mut numbers` owns nothing
+//! that is dropped, so that the caller knows of its numbers when the work is over.
 ghost use Rattle.std.specs.Prelude.{◌≡◌, IfErr, IfOk, IfSome, Some, false};
-ghost use Rattle.seize_book.specs.Tokens.{IsSole};
 ghost use Rattle.seize_book.specs.Homesteads.{state_seen};
+ghost use Rattle.seize_book.specs.Tokens.{IsSole};
 ghost use Rattle.seize_machine.specs.Machine.Event.{Give};
 ghost use Rattle.seize_machine.specs.Machine.State.{head_at, is_active};
 ghost use Rattle.seize_machine.specs.declared.machine.event.Answer.{Answer};
@@ -10,8 +11,8 @@ ghost use Rattle.seize_calls.specs.Slots.{IsPassFor, its_number};
 ghost use Rattle.seize_words.specs.Joined.{words_book};
 ghost use Rattle.seize.specs.Numbers.{HasTaken, TakesNone};
 ghost use Rattle.seize.specs.Reservations.{IsReservation, IsReservationOf};
-ghost use Rattle.seize.specs.declared.reservation.Reservation.{Reservation};
 ghost use Rattle.seize.specs.Shelves.{IsShelfFor};
+ghost use Rattle.seize.specs.declared.reservation.Reservation.{Reservation};
 
 use crate::numbers::{Ending, Numbers, Registering};
 use crate::reservation::Reservation;

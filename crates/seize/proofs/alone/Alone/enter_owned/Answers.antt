@@ -1,4 +1,4 @@
-use Rattle.std.proofs.Common.{◌≡◌, Ok, inr, sym, ap, ◌∙◌}
+use Rattle.std.proofs.Common.{inr, sym, ap, ◌∙◌}
 use Rattle.seize_model.specs.declared.kind.Kind.TheVariants.{Owned}
 use Rattle.seize_model.specs.Waiting.Calls.{set_guards}
 use Rattle.seize_model.specs.Waiting.State.{State}

@@ -1,4 +1,4 @@
-use Rattle.std.proofs.Common.{◌≡◌, ℕ, ◌<◌, Bool, true, false, List, Option, None, Some, if◌then◌else◌, length, option_map, slice_set, refl, sym, ap, subst, ◌∙◌}
+use Rattle.std.proofs.Common.{◌≡◌, ℕ, false, List, Option, None, length, refl, sym, ap, subst, ◌∙◌}
 use Rattle.std.proofs.lemmas.List.{length-set}
 use Rattle.seize_machine.specs.Machine.Event.{Give}
 use Rattle.seize_model.specs.declared.kind.Kind.TheVariants.{Free}
@@ -45,12 +45,12 @@ invariant_of-self g c =
     let slot' : Slot g.row.T.Denot ℕ = record (slot_at st s) { kind = Free; guards = 0 } in
     let now : c.of.result.state ≡ with_number_free st s = c.of.ensures.0 in
     same_numbers (
-      alone_again a stay c.of.result c.out-place.new.places.items inside.made
-      (a.counted ∙ sym (ap (λ (x : State g.row.T.Denot ℕ). length x.slots) now ∙ length-set st.slots s slot'))
-      (ap (λ (x : State g.row.T.Denot ℕ). x.size) now) (ap (λ (x : State g.row.T.Denot ℕ). length x.links) now)
-      (subst (λ (t : State g.row.T.Denot ℕ × List (Option (Place g.row.T.Denot))). ArePlaces n t.0 t.1) (λ j. (sym now j, sym c.out-place.ensures.places.0 j))
-      (set_place n st items s slot' None a.placed (slot_there st s used) c.out-place.ensures.places.1 refl))
-      c.of.ensures.1
+    alone_again a stay c.of.result c.out-place.new.places.items inside.made
+    (a.counted ∙ sym (ap (λ (x : State g.row.T.Denot ℕ). length x.slots) now ∙ length-set st.slots s slot'))
+    (ap (λ (x : State g.row.T.Denot ℕ). x.size) now) (ap (λ (x : State g.row.T.Denot ℕ). length x.links) now)
+    (subst (λ (t : State g.row.T.Denot ℕ × List (Option (Place g.row.T.Denot))). ArePlaces n t.0 t.1) (λ j. (sym now j, sym c.out-place.ensures.places.0 j))
+    (set_place n st items s slot' None a.placed (slot_there st s used) c.out-place.ensures.places.1 refl))
+    c.of.ensures.1
     ) (λ j. (stay.gives.0 j).now)
 
 pub returns-clause-done : goal.returns-clause-done

@@ -1,9 +1,7 @@
-use Rattle.std.proofs.Common.{◌≡◌, ℕ, ◌+◌, ◌<◌, Bool, true, false, [], List, Option, None, Some, Ok, IfOk, Result, inr, length, refl, sym, ap, subst, ◌∙◌, box_value}
+use Rattle.std.proofs.Common.{◌≡◌, ℕ, ◌+◌, None, Ok, IfOk, inr, length, sym, ap, subst, ◌∙◌, box_value}
 use Rattle.seize_machine.specs.Machine.Event.{Take}
-use Rattle.seize_model.specs.declared.kind.Kind.{Kind}
-use Rattle.seize_model.specs.Waiting.Calls.{least_unused, take_number, with_number_in_use}
+use Rattle.seize_model.specs.Waiting.Calls.{take_number, with_number_in_use}
 use Rattle.seize_model.specs.Waiting.State.{State}
-use Rattle.seize_book.specs.declared.book.pass.Pass.{Pass}
 use Rattle.seize_book.specs.declared.book.porter.Porter.{Porter}
 use Rattle.seize_words.specs.Joined.{words_book}
 use Rattle.seize_alone.specs.Events.{MakesAlone}
@@ -68,17 +66,17 @@ invariant_of-self-2 g c =
     (λ j. (sym (kind_owned c.args.owned) j, (0, (label j, (None, made.1 j)))))) in
     let at : (many : ℕ) → many ≡ length (with_number_in_use st n kind 0).slots → IsAlone g.row.T.coded.code words c.stay.new.self c.stay.new.work.numbers.now items many (box_value inside.ender) result =
     λ many counted.
-        same_numbers
-        (alone_again a stay result items many (counted ∙ sym (ap (λ (x : State g.row.T.Denot ℕ). length x.slots) now))
-        (ap (λ (x : State g.row.T.Denot ℕ). x.size) now ∙ grown_size st n kind) (ap (λ (x : State g.row.T.Denot ℕ). length x.links) now ∙ grown_links st n kind) placed holds)
-        (λ j. (stay.gives.0 j).now) in
+    same_numbers
+    (alone_again a stay result items many (counted ∙ sym (ap (λ (x : State g.row.T.Denot ℕ). length x.slots) now))
+    (ap (λ (x : State g.row.T.Denot ℕ). x.size) now ∙ grown_size st n kind) (ap (λ (x : State g.row.T.Denot ℕ). length x.links) now ∙ grown_links st n kind) placed holds)
+    (λ j. (stay.gives.0 j).now) in
     elim c.if-number-self.branch [
-      then-number-self w ↦
+      | then-number-self w ↦
           subst (λ x. IsAlone g.row.T.coded.code x.words x.porter x.numbers x.places.items x.made (box_value x.ender) result) (sym w.self-inside-is)
           (at (inside.made + 1) (ap (λ (m : ℕ). m + 1) a.counted ∙ sym (one_more st n kind (w.if-number-self.true ∙ a.counted))))
-    | else-number-self w ↦
-        subst (λ x. IsAlone g.row.T.coded.code x.words x.porter x.numbers x.places.items x.made (box_value x.ender) result) (sym w.self-inside-is)
-        (at inside.made (a.counted ∙ sym (as_many st n kind (λ same. w.if-number-self.false (same ∙ sym a.counted)))))
+      | else-number-self w ↦
+          subst (λ x. IsAlone g.row.T.coded.code x.words x.porter x.numbers x.places.items x.made (box_value x.ender) result) (sym w.self-inside-is)
+          (at inside.made (a.counted ∙ sym (as_many st n kind (λ same. w.if-number-self.false (same ∙ sym a.counted)))))
     ]
 
 pub returns-clause-done : goal.returns-clause-done

@@ -1,8 +1,7 @@
 -- `of` takes the state, the names and the kinds out of what is asked.
-use Rattle.seize_book.proofs.Kit.{ℕ, List, [], ◌∷◌, refl, w64, proved, named, Val, vint, vptr, SProp, emp, Fml, ftrue, fsep, flft, ‵, raw, ◌⊛◌, ◌$◌, ◌∵◌, !, qed, by, move, keep, split, fjoin, use0, no_more, and_then, returns, enter, alloc_all, pass_all, free_all, look_at, get, sets, agg, fact, fact_i, heard, tables, yes, owns, types_at, plain, RefOf, shr_vals, shr_Tells, uint_vals, uint_Tells, RattleType, nothing, Stays, stay_dropped, walk_of, Goes-dropped}
+use Rattle.seize_book.proofs.Kit.{ℕ, List, [], ◌∷◌, refl, proved, named, Val, vptr, SProp, emp, Fml, ftrue, fsep, flft, ‵, raw, ◌⊛◌, ◌$◌, ◌∵◌, !, qed, by, move, keep, split, fjoin, use0, no_more, and_then, returns, enter, alloc_all, pass_all, free_all, look_at, get, sets, agg, fact, fact_i, heard, tables, yes, owns, types_at, plain, RefOf, shr_vals, shr_Tells, RattleType, nothing, Stays, stay_dropped, walk_of, Goes-dropped}
 use mir.Syntax.{a_type, dcons, dnil}
 use mir.MapTy.{inst_fn}
-use denote.Builtin.{usize}
 use denote.Param.{param, bounded}
 use Rattle.seize_model.specs.Waiting.State.{State}
 use Rattle.seize_book.proofs.Fields.{Token, token, token_made, ends}

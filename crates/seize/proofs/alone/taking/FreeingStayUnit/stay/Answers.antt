@@ -1,4 +1,4 @@
-use Rattle.std.proofs.Common.{◌≡◌, Some, refl, sym, ap, subst, ◌∙◌}
+use Rattle.std.proofs.Common.{sym, subst, ◌∙◌}
 use Rattle.seize_machine.specs.Machine.Event.{Give}
 use Rattle.seize_book.specs.Tokens.{IsSole}
 use Rattle.seize_alone.specs.Events.{MakesAlone}
