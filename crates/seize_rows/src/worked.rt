@@ -135,7 +135,7 @@ fn what_another_thread_retired_ends_with_the_lone_refresh(rt: HostRuntime) -> Re
 type Telling<'a> = Collector<Digit<'a>>;
 
 // A collector with one link, and batches of this many values.
-fn telling<'a>(alloc: Global, size: usize) -> Result<Telling<'a>, Refusal>
+pub(crate) fn telling<'a>(alloc: Global, size: usize) -> Result<Telling<'a>, Refusal>
     ensures { IfOk result (λ made. 0 < its_links made) }
 {
     let made: Telling<'a> = Collector::new(alloc, &mut IdSource::new(), 1, 1)?;
