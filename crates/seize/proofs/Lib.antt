@@ -35,3 +35,4 @@ mod Watched
 mod Linked
 mod Called
 mod Reclaimed
+mod Outlined

@@ -33,20 +33,27 @@ impl<T: Drop, R: Reclaim<T>> Alone<T, R> {
         let Place {
             owned,
             guards: _,
-            mut reservation,
+            reservation,
             unit,
             shelf,
         } = out(&mut self.places, s);
-        {
-            let mut call = Leaving {
-                words: &self.words,
-                ender: &self.ender,
-                lock: &mut reservation,
-                unit,
-                watch: &mut *watch,
-            };
-            self.porter.stay(&mut call);
-        }
+        let mut call = Leaving {
+            words: &self.words,
+            ender: &self.ender,
+            lock: reservation,
+            unit,
+            watch: &mut *watch,
+        };
+        self.porter.stay(&mut call);
+        // It is taken apart, and so what the watch has seen is known.
+        let Leaving {
+            words: _words,
+            ender: _ender,
+            lock: reservation,
+            unit,
+            watch: _watch,
+        } = call;
+        drop(unit);
         let place = Place {
             owned,
             guards: 0,
@@ -70,20 +77,27 @@ impl<T: Drop, R: Reclaim<T>> Alone<T, R> {
         let Place {
             owned,
             guards,
-            mut reservation,
+            reservation,
             unit,
             shelf,
         } = out(&mut self.places, s);
-        let unit = {
-            let mut call = Refreshing {
-                words: &self.words,
-                ender: &self.ender,
-                lock: &mut reservation,
-                unit,
-                watch: &mut *watch,
-            };
-            self.porter.stay(&mut call)
+        let mut call = Refreshing {
+            words: &self.words,
+            ender: &self.ender,
+            lock: reservation,
+            unit,
+            watch: &mut *watch,
         };
+        let unit = self.porter.stay(&mut call);
+        // It is taken apart, and so what the watch has seen is known.
+        let Refreshing {
+            words: _words,
+            ender: _ender,
+            lock: reservation,
+            unit: ended,
+            watch: _watch,
+        } = call;
+        drop(ended);
         let place = Place {
             owned,
             guards,
