@@ -17,6 +17,7 @@ mod tells;
 use crate::alone::hands::Hands;
 use crate::alone::place::{Beginning, Place, Within, back, out, room};
 pub use crate::alone::codes::Codes;
+use crate::alone::sharing::shared;
 use crate::alone::taking::{Freeing, Taking};
 use crate::ender::Ender;
 use crate::numbers::Numbers;
@@ -30,7 +31,9 @@ use std::alloc::Global;
 use std::marker::{Brand, Model};
 
 /// A collector in one caller's hands. No call waits for anybody, and each returns.
-#[derive(Drop)]
+///
+/// Its drop is that of a collector which threads share: first what is in use ends, then what waits is reclaimed, and then each value in a link
+/// goes to the reclaimer.
 pub struct Alone<T: Drop + Codes, R: Reclaim<T> = Boxed> {
     words: Words<T>,
     porter: Porter,
@@ -264,5 +267,22 @@ impl<T: Drop, R: Reclaim<T>> Alone<T, R> {
         }
         self.free(s);
         Ok(true)
+    }
+}
+
+impl<T: Drop + Codes, R: Reclaim<T>> Drop for Alone<T, R> {
+    fn drop(self) {
+        let Alone {
+            words,
+            porter,
+            numbers,
+            places,
+            made: _,
+            ender,
+            id,
+            alloc,
+            hands: _,
+        } = self;
+        drop(shared(words, porter, numbers, places, ender, id, alloc));
     }
 }
