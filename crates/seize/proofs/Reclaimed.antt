@@ -96,8 +96,8 @@ module _ {T Seen : Type 0} (c : Coded T) (puts : ℕ → T → List T) (weight :
       → Turned c told (with_further puts weight s (one_guard_less st s)) pass' seen seen' × (is_free (slot_at (with_further puts weight s (one_guard_less st s)).0 s).kind ≡ false) × (has_guard (slot_at (with_further puts weight s (one_guard_less st s)).0 s) ≡ false))
       (its_slot calls s at)
       (λ used guards.
-          let done = slot_parts c st hands.names hands.kinds calls.slot r'.slot calls.ready pass' puts weight lighter calls.had (called_alone calls) calls.does used guards in
-          (turned c told (with_further puts weight (slot_number calls.slot.key) (one_guard_less st (slot_number calls.slot.key))) pass' seen seen' calls.had done.0 calls.tells, done.1, done.2))
+      let done = slot_parts c st hands.names hands.kinds calls.slot r'.slot calls.ready pass' puts weight lighter calls.had (called_alone calls) calls.does used guards in
+      (turned c told (with_further puts weight (slot_number calls.slot.key) (one_guard_less st (slot_number calls.slot.key))) pass' seen seen' calls.had done.0 calls.tells, done.1, done.2))
 
   -- a refresh
   pub refreshed : (s : ℕ) → its_number r.slot ≡ s → CallsSlot c.code puts told r pass r' pass' seen seen' (λ slot ready slot' p had. (a : Activation) × SlotRefreshes slot ready a [] slot' p had) → is_free (slot_at st s).kind ≡ false
@@ -108,8 +108,8 @@ module _ {T Seen : Type 0} (c : Coded T) (puts : ℕ → T → List T) (weight :
       → ((refresh puts weight st s).0 ≡ Ok tt) × Turned c told (refresh puts weight st s).1 pass' seen seen')
       (its_slot calls s at)
       (λ used active parts.
-          let done = slot_refreshes c st hands.names hands.kinds calls.slot r'.slot calls.ready pass' puts weight lighter calls.had (called_alone calls) calls.does.0 calls.does.1 used active parts in
-          (done.0, turned c told (refresh puts weight st (slot_number calls.slot.key)).1 pass' seen seen' calls.had done.1 calls.tells))
+      let done = slot_refreshes c st hands.names hands.kinds calls.slot r'.slot calls.ready pass' puts weight lighter calls.had (called_alone calls) calls.does.0 calls.does.1 used active parts in
+      (done.0, turned c told (refresh puts weight st (slot_number calls.slot.key)).1 pass' seen seen' calls.had done.1 calls.tells))
 
   -- a flush
   pub flushed : (s : ℕ) → its_number r.slot ≡ s → CallsSlot c.code puts told r pass r' pass' seen seen' (λ slot ready slot' p had. (retired : Bool) × SlotFlushes slot ready [] slot' p had retired) → is_free (slot_at st s).kind ≡ false
@@ -119,8 +119,8 @@ module _ {T Seen : Type 0} (c : Coded T) (puts : ℕ → T → List T) (weight :
       (λ (s : ℕ). is_free (slot_at st s).kind ≡ false → has_guard (slot_at st s) ≡ true → ((flush puts weight st s).0 ≡ Ok tt) × Turned c told (flush puts weight st s).1 pass' seen seen')
       (its_slot calls s at)
       (λ used active.
-          let done = slot_flushes c st hands.names hands.kinds calls.slot r'.slot calls.ready pass' puts weight lighter calls.had (called_alone calls) calls.does.0 calls.does.1 used active in
-          (done.0, turned c told (flush puts weight st (slot_number calls.slot.key)).1 pass' seen seen' calls.had done.1 calls.tells))
+      let done = slot_flushes c st hands.names hands.kinds calls.slot r'.slot calls.ready pass' puts weight lighter calls.had (called_alone calls) calls.does.0 calls.does.1 used active in
+      (done.0, turned c told (flush puts weight st (slot_number calls.slot.key)).1 pass' seen seen' calls.had done.1 calls.tells))
 
   -- a retirement
   pub retired : (s : ℕ) (loose : Loose) (kind : ℕ) (x : T) → its_number r.slot ≡ s
@@ -129,5 +129,5 @@ module _ {T Seen : Type 0} (c : Coded T) (puts : ℕ → T → List T) (weight :
   retired s loose kind x at calls lent =
       subst (λ (s : ℕ). is_free (slot_at st s).kind ≡ false → ((retire puts weight st s x kind).0 ≡ Ok tt) × Turned c told (retire puts weight st s x kind).1 pass' seen seen') (its_slot calls s at)
       (λ used.
-          let done = slot_retires c st hands.names hands.kinds calls.slot r'.slot calls.ready pass' puts weight lighter calls.had (called_alone calls) loose kind x calls.does.0 calls.does.1 lent used in
-          (done.0, turned c told (retire puts weight st (slot_number calls.slot.key) x kind).1 pass' seen seen' calls.had done.1 calls.tells))
+      let done = slot_retires c st hands.names hands.kinds calls.slot r'.slot calls.ready pass' puts weight lighter calls.had (called_alone calls) loose kind x calls.does.0 calls.does.1 lent used in
+      (done.0, turned c told (retire puts weight st (slot_number calls.slot.key) x kind).1 pass' seen seen' calls.had done.1 calls.tells))

@@ -61,8 +61,11 @@ given_idle words slot pass slot' pass' n sole e free at =
     let batch : values_of (keys_in slot'.batch) ≡ (slot_at (state_seen pass') n).batch = slot'.together.batch_is.1 ∙ sym (ap (λ (z : Record). z.batch) is) in record {
       call = ap (λ (z : Record). z.call) is ∙ slot'.together.call;
       off = (λ j. is_active (head_at (later j) (sym number j))) ∙ sym moves.is_now_active ∙ free.2;
-      told = (kepts_of (keys_in slot'.batch), subst (λ (vs : List ℕ). AllTold pass'.seen vs (kepts_of (keys_in slot'.batch))) batch
-          (subst (λ (log : List Entry). AllTold log (values_of (keys_in slot'.batch)) (kepts_of (keys_in slot'.batch))) e.0.seen (all_of_told slot'.seen.seen (keys_in slot'.batch).keys.held free.0.told)));
+      told = (
+        kepts_of (keys_in slot'.batch),
+        subst (λ (vs : List ℕ). AllTold pass'.seen vs (kepts_of (keys_in slot'.batch))) batch
+            (subst (λ (log : List Entry). AllTold log (values_of (keys_in slot'.batch)) (kepts_of (keys_in slot'.batch))) e.0.seen (all_of_told slot'.seen.seen (keys_in slot'.batch).keys.held free.0.told)),
+      );
     }
 
 no_call : {A : Type 0} (o : Option A) → is_some o ≡ false → o ≡ None
@@ -96,9 +99,9 @@ module _ (p q r : Pass) (keeps : KeepsOn p q) (looks : LooksOn q r) (sole : IsSo
       let unused = unused_all (state_seen r).slots (subst AreAllHere (sym flags) here) in (
         sym (length-map items is_none) ∙ sym long ∙ length-map (state_seen r).slots (λ slot. slot.used),
         λ s. (
-            each_of (IsIdle r) (length (flags_of items)) (λ t less. looked_idle q r looks sole t (idle t (here_in (flags_of items) t here less))) (λ t past. nothing_idle r t (past_nothing r legal distinct t (omega (arith, past, long)))) s,
-            unused s,
-          ),
+          each_of (IsIdle r) (length (flags_of items)) (λ t less. looked_idle q r looks sole t (idle t (here_in (flags_of items) t here less))) (λ t past. nothing_idle r t (past_nothing r legal distinct t (omega (arith, past, long)))) s,
+          unused s,
+        ),
       )
 
 -- Another look changes nothing of that.

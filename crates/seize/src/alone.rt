@@ -19,6 +19,7 @@ mod tells;
 pub use crate::alone::codes::Codes;
 use crate::alone::hands::Hands;
 use crate::alone::place::{Beginning, Place, Within, back, out, room};
+use crate::alone::sharing::shared;
 use crate::alone::taking::{Freeing, Taking};
 use crate::ender::Ender;
 use crate::numbers::Numbers;
@@ -32,7 +33,9 @@ use std::alloc::Global;
 use std::marker::{Brand, Model};
 
 /// A collector in one caller's hands. No call waits for anybody, and each returns.
-#[derive(Drop)]
+///
+/// Its drop is that of a collector which threads share: first what is in use ends, then what waits is reclaimed, and then each value in a link
+/// goes to the reclaimer.
 pub struct Alone<T: Drop + Codes, R: Reclaim<T> = Boxed> {
     words: Words<T>,
     porter: Porter,
@@ -267,5 +270,22 @@ impl<T: Drop, R: Reclaim<T>> Alone<T, R> {
         }
         self.free(s);
         Ok(true)
+    }
+}
+
+impl<T: Drop + Codes, R: Reclaim<T>> Drop for Alone<T, R> {
+    fn drop(self) {
+        let Alone {
+            words,
+            porter,
+            numbers,
+            places,
+            made: _,
+            ender,
+            id,
+            alloc,
+            hands: _,
+        } = self;
+        drop(shared(words, porter, numbers, places, ender, id, alloc));
     }
 }

@@ -1,5 +1,6 @@
 //! From a collector that threads share to one in one caller's hands, and back.
-ghost use Rattle.std.specs.Prelude.{◌≡◌, ℕ, IfErr, IfOk, None, Some, false, get_or, length};
+ghost use Rattle.std.specs.Prelude.{◌≡◌, ℕ, IfErr, IfOk, None, Some, box_value, false, get_or, length};
+ghost use Rattle.seize.specs.Collectors.{its_book, its_id, its_size};
 ghost use Rattle.seize_book.specs.Porters.{HadStay};
 ghost use Rattle.seize_words.specs.Joined.{words_book};
 ghost use Rattle.seize.specs.Enders.{IsEnderOf};
@@ -19,6 +20,7 @@ use crate::reclaim::Reclaim;
 use seize_cells::Lock;
 use seize_words::book::Porter;
 use seize_words::words::Words;
+use std::alloc::Global;
 use std::marker::Brand;
 
 // How many slots were made, where no number is in use. The porter is at home afterwards.
@@ -47,7 +49,7 @@ impl<T: Drop, R: Reclaim<T>> Collector<T, R> {
     ghost use Rattle.seize_model.specs.Waiting.State.{slot_at};
     ghost use Rattle.seize_model.specs.Agreement.Origins.{IsLedTo};
     ghost use Rattle.seize_alone.specs.Holding.{some_state};
-    ghost use Rattle.seize.specs.Collectors.{its_book, its_id, its_links, its_size};
+    ghost use Rattle.seize.specs.Collectors.{its_links};
     ghost use Rattle.seize.specs.Reclaims.{IsSameCollector};
 
     /// The collector in one caller's hands, where no number is in use. What is in the batches of its slots waits there. It takes no memory,
@@ -122,9 +124,37 @@ fn lay_all<T: Drop>(places: &mut Vec<Option<Place<T>>>, porter: &Porter)
     }
 }
 
-impl<T: Drop, R: Reclaim<T>> Alone<T, R> {
-    ghost use Rattle.seize.specs.Collectors.{its_book, its_id, its_size};
+/// The collector of these parts, for threads to share. What lies in the places stays in use, as if its holder had been forgotten.
+pub(super) fn shared<T: Drop, R: Reclaim<T>>(
+    words: Words<T>,
+    porter: Porter,
+    numbers: Lock<Numbers<T>>,
+    places: Vec<Option<Place<T>>>,
+    ender: Box<Ender<T, R>>,
+    id: u64,
+    alloc: Global,
+) -> Collector<T, R>
+    requires porter { (porter.name ≡ words_book words) × (porter.size ≡ words.size) }
+    requires numbers { numbers ≡ (words_book words).family }
+    requires ender { IsEnderOf words (box_value ender) }
+    requires places { (s : ℕ) (place : Place T) → get_or places.items s None ≡ Some place → MayLay (words_book words) place }
+    ensures same { (its_book result ≡ words_book words) × (its_size result ≡ words.size) × (its_id result ≡ id) }
+{
+    let mut porter = porter;
+    let mut places = places;
+    porter.leave_home();
+    lay_all(&mut places, &porter);
+    Collector {
+        words,
+        porter,
+        numbers,
+        ender,
+        id,
+        alloc,
+    }
+}
 
+impl<T: Drop, R: Reclaim<T>> Alone<T, R> {
     /// The collector for threads to share. What is in use stays so, as if its holder had been forgotten: `reclaim_all` ends it, and so does
     /// the drop. It takes no memory, makes no event and waits for nobody.
     pub fn share(self) -> Collector<T, R>
@@ -132,24 +162,15 @@ impl<T: Drop, R: Reclaim<T>> Alone<T, R> {
     {
         let Alone {
             words,
-            mut porter,
+            porter,
             numbers,
-            mut places,
+            places,
             made: _,
             ender,
             id,
             alloc,
             hands: _,
         } = self;
-        porter.leave_home();
-        lay_all(&mut places, &porter);
-        Collector {
-            words,
-            porter,
-            numbers,
-            ender,
-            id,
-            alloc,
-        }
+        shared(words, porter, numbers, places, ender, id, alloc)
     }
 }

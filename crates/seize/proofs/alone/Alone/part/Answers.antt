@@ -71,7 +71,7 @@ returns-clause-done g c =
     let done = parted g.row.T.coded P.puts P.weight P.lighter g.W.Watch.told k had.before had.after stay.back _ _ s at.1 had.gives used one in (
       c.of.ensures.0 ∙ ap (λ (v : View g.row.T.Denot). (with_further P.puts P.weight s (one_guard_less v.state s)).0) c.self.view_is,
       ap g.W.Watch.seen (c.watch-1.given.1 (sym stay.gives.1)) ∙ done.0.hears
-      ∙ ap (λ (v : View g.row.T.Denot). told_of g.W.Watch.told (g.W.Watch.seen c.args.watch.now) (with_further P.puts P.weight s (one_guard_less v.state s)).1) c.self.view_is,
+          ∙ ap (λ (v : View g.row.T.Denot). told_of g.W.Watch.told (g.W.Watch.seen c.args.watch.now) (with_further P.puts P.weight s (one_guard_less v.state s)).1) c.self.view_is,
       sym (ap (λ (v : View g.row.T.Denot). is_free (slot_at (with_further P.puts P.weight s (one_guard_less v.state s)).0 s).kind) c.self.view_is) ∙ done.1,
       sym (ap (λ (v : View g.row.T.Denot). has_guard (slot_at (with_further P.puts P.weight s (one_guard_less v.state s)).0 s)) c.self.view_is) ∙ done.2,
     )

@@ -31,6 +31,12 @@ pub returns-clause-made : goal.returns-clause-made
 returns-clause-made g c =
     let self = c.args.self in let parts = c.into_parts-words.ensures in let stay = c.rest-made.ensures.stay in let first = c.first-hands.ensures in let hands = c.first-hands.result in let words = c.into_parts-words.result.0 in
     let name : c.rest-made.new.porter.name ≡ its_book self = sym stay.again.0.0 ∙ stay.same.0 ∙ stay.shut.book.0 ∙ ap (λ porter. porter.name) parts.1 ∙ self.lends.0 in
-    let size : c.rest-made.new.porter.size ≡ words.size = sym stay.again.0.1 ∙ stay.same.2 ∙ stay.shut.book.1 ∙ ap (λ porter. porter.size) parts.1 ∙ self.lends.1 ∙ sym (ap (λ w. w.size) parts.0) in
-    (ap words_book parts.0, ap (λ w. w.size) parts.0, parts.4, first.1 ∙ size, first.2 ∙ ap (λ (n : Name). length n.links) name, first.3,
-    led_to g.row.T.coded.code stay.lent stay.back c.rest-made.new.porter c.rest-made.result.0 c.in-Some.made c.in-Some.is stay.gives.0 stay.again hands.state hands.names hands.kinds first.0)
+    let size : c.rest-made.new.porter.size ≡ words.size = sym stay.again.0.1 ∙ stay.same.2 ∙ stay.shut.book.1 ∙ ap (λ porter. porter.size) parts.1 ∙ self.lends.1 ∙ sym (ap (λ w. w.size) parts.0) in (
+      ap words_book parts.0,
+      ap (λ w. w.size) parts.0,
+      parts.4,
+      first.1 ∙ size,
+      first.2 ∙ ap (λ (n : Name). length n.links) name,
+      first.3,
+      led_to g.row.T.coded.code stay.lent stay.back c.rest-made.new.porter c.rest-made.result.0 c.in-Some.made c.in-Some.is stay.gives.0 stay.again hands.state hands.names hands.kinds first.0,
+    )
