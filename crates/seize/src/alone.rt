@@ -34,8 +34,8 @@ use std::marker::{Brand, Model};
 
 /// A collector in one caller's hands. No call waits for anybody, and each returns.
 ///
-/// Its drop is that of a collector which threads share: first what is in use ends, then what waits is reclaimed, and then each value in a link
-/// goes to the reclaimer.
+/// Its drop is that of a collector which threads share: first what is in use ends, then what waits is reclaimed, and then each value in a
+/// link goes to the reclaimer.
 pub struct Alone<T: Drop + Codes, R: Reclaim<T> = Boxed> {
     words: Words<T>,
     porter: Porter,
