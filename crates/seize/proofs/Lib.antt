@@ -32,3 +32,4 @@ mod Watched
 mod Linked
 mod Called
 mod Reclaimed
+mod Outlined

@@ -51,8 +51,8 @@ pub record Turned {T Seen : Type 0} (c : Coded T) (told : Seen → T → Seen) (
 pub turned : {T Seen : Type 0} (c : Coded T) (told : Seen → T → Seen) (o : StateAndGone T ℕ) (pass : Pass) (seen seen' : Seen) (had : Had) → HoldsThen c.code o had pass → HasTold c.code told seen seen' had → Turned c told o pass seen seen'
 turned c told o pass seen seen' had then_held tells = record {
   names = then_held.0.0;
-  kinds = then_held.0.1.0;
-  holds = then_held.0.1.1;
+  kinds = then_held.0.1;
+  holds = then_held.0.2;
   hears = tells.2 ∙ told_gone c told seen tells.0 had o.1 tells.1 then_held.1;
 }
 

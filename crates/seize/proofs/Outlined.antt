@@ -1,0 +1,59 @@
+-- A call that leaves kinds, guards and links as they were: what lies in the places, and the invariant.
+use Rattle.std.proofs.Common.{◌≡◌, ℕ, ◌<◌, Bool, true, false, List, [], length, Option, Some, None, if◌then◌else◌, option_map, slice_set, refl, sym, ap, ◌∙◌}
+use base.Stored.{Gv}
+use Rattle.seize_model.specs.declared.kind.Kind.{Kind}
+use Rattle.seize_model.specs.Waiting.Calls.{is_free}
+use Rattle.seize_model.specs.Waiting.State.{State, has_guard, set_slot, slot_at}
+use Rattle.seize_book.specs.Porters.{HadStay}
+use Rattle.seize_book.specs.Tokens.{Name}
+use Rattle.seize_book.specs.declared.book.pass.Pass.{Pass}
+use Rattle.seize_book.specs.declared.book.porter.Porter.{Porter}
+use Rattle.seize_words.specs.Joined.{words_book}
+use Rattle.seize_words.specs.declared.words.Words.{Words}
+use Rattle.seize_alone.proofs.Outlines.{frame, guards_in, kind_in, outline, set_frame, slots_in}
+use Rattle.seize_alone.specs.Holding.{Holds}
+use Rattle.seize.specs.Alones.{IsAlone}
+use Rattle.seize.specs.Kinds.{kind_of}
+use Rattle.seize.specs.Placing.{ArePlaces, lies_for, lies_in, lying_in, unit_in}
+use Rattle.seize.specs.declared.alone.hands.Hands.{Hands}
+use Rattle.seize.specs.declared.alone.place.Place.{Place}
+use Rattle.seize.specs.declared.alone.place.Unit.{Unit as Held}
+use Rattle.seize.specs.declared.ender.Ender.{Ender}
+use Rattle.seize.proofs.Lone.{alone_again, laid, slot_there}
+
+pub kind_used : (owned : Bool) → is_free (kind_of owned) ≡ false
+kind_used true = refl
+kind_used false = refl
+
+-- the unit of a place is of the slot that the state says
+pub held_there : (n : Name) (s : ℕ) (unit : Option Held) (held : Held) (on : Bool) → option_map unit_in unit ≡ (if on then Some (s, n) else None) → unit ≡ Some held → on ≡ true → (held.number ≡ s) × (held.seen.name ≡ n)
+held_there n s unit held on is some active =
+    let both : Some (unit_in held) ≡ Some (s, n) = sym (ap (λ (o : Option Held). option_map unit_in o) some) ∙ is ∙ ap (λ (b : Bool). if b then Some (s, n) else None) active in
+    let same : unit_in held ≡ (s, n) = one both in (λ j. (same j).0, λ j. (same j).1)
+  where
+    one : {a b : ℕ × Name} → Some a ≡ Some b → a ≡ b
+    one e = cc
+
+-- The places.
+
+pub places_still : {U : Type 0} (n : Name) (st now : State U ℕ) (places : List (Option (Place U))) → outline now ≡ outline st → ArePlaces n st places → ArePlaces n now places
+places_still {U} n st now places same are t = are t ∙ (λ j. lies_for {T = U} n (record { kind = kind_in st now (sym same) t j; guards = guards_in st now (sym same) t j; batch = []; order = [] }) t)
+
+-- what was taken out of a place lies there again
+pub laid_again : {U : Type 0} (n : Name) (st now : State U ℕ) (s : ℕ) (items out back : List (Option (Place U))) (place : Place U) → outline now ≡ outline st → ArePlaces n st items → is_free (slot_at st s).kind ≡ false → s < length items
+    → out ≡ slice_set items s None → back ≡ slice_set out s (Some place) → lies_in place ≡ lying_in n (slot_at st s) s → ArePlaces n now back
+laid_again {U} n st now s items out back place same are used lies taken put is =
+    let there : State U ℕ = set_slot st s (slot_at st s) in
+    places_still n there now back (same ∙ sym (ap (λ f. f.0) (set_frame st s (slot_at st s) refl)))
+    (laid n st s (slot_at st s) items out back place are (slot_there st s used) lies taken put used is)
+
+-- The invariant, after such a call as a work of the porter's first pass.
+
+module _ {T R : Type 0} {code : T → Gv} {words : Words T} {porter : Porter} {numbers : ℕ} {places : List (Option (Place T))} {made : ℕ} {ender : Ender T R} {hands : Hands T} (a : IsAlone code words porter numbers places made ender hands)
+    {gave : Pass → Pass → Type 0} {porter' : Porter} (stay : HadStay gave porter porter') where
+  pub outlined_again : (now : State T ℕ) (hands' : Hands T) (places' : List (Option (Place T))) → hands'.state ≡ now → outline now ≡ outline hands.state → now.links ≡ hands.state.links → now.size ≡ hands.state.size
+      → ArePlaces (words_book words) now places' → Holds code hands'.state hands'.names hands'.kinds porter'.name porter'.seen → IsAlone code words porter' numbers places' made ender hands'
+  outlined_again now hands' places' is same links size placed holds =
+      alone_again a stay hands' places' made (a.counted ∙ sym (slots_in now hands.state same) ∙ ap (λ (x : State T ℕ). length x.slots) (sym is))
+      (ap (λ (x : State T ℕ). x.size) is ∙ size) (ap (λ (x : State T ℕ). length x.links) is ∙ ap (λ (l : List (Option T)). length l) links)
+      (λ s. placed s ∙ ap (λ (x : State T ℕ). lies_for (words_book words) (slot_at x s) s) (sym is)) holds
