@@ -1,4 +1,4 @@
-use Rattle.std.proofs.Common.{◌≡◌, ℕ, ◌<◌, Bool, true, false, List, Option, None, Some, length, option_map, refl, sym, ap, subst, ◌∙◌}
+use Rattle.std.proofs.Common.{◌≡◌, ℕ, ◌<◌, true, false, option_map, refl, sym, ap, subst, ◌∙◌}
 use Rattle.seize_model.specs.Waiting.Calls.{flush, is_free}
 use Rattle.seize_model.specs.Waiting.State.{State, has_guard, slot_at}
 use Rattle.seize_words.specs.Joined.{words_book}
@@ -6,7 +6,7 @@ use Rattle.seize_alone.proofs.Outlines.{flush_links, flush_outline}
 use Rattle.seize_alone.proofs.Sizes.{size_stays}
 use Rattle.seize.specs.Alones.{View}
 use Rattle.seize.specs.Enders.{IsEnderOf}
-use Rattle.seize.specs.Placing.{ArePlaces, Lies, unit_in}
+use Rattle.seize.specs.Placing.{Lies, unit_in}
 use Rattle.seize.specs.Told.{told_of}
 use Rattle.seize.proofs.Called.{only_there, unit_there}
 use Rattle.seize.proofs.Lone.{held_again, knows, place_is, some_guards}
