@@ -1,6 +1,6 @@
 -- A call by which values may be gone, made where its pass is alone: the hands hold what the model says then, and the watch was told of the
 -- values gone, in order.
-use Rattle.std.proofs.Common.{◌≡◌, ℕ, ◌==◌, ◌||◌, Bool, true, false, List, [], ◌∷◌, refl, sym, ap, subst, ◌∙◌}
+use Rattle.std.proofs.Common.{◌≡◌, ℕ, ◌==◌, ◌||◌, Bool, true, false, if◌then◌else◌, List, [], ◌∷◌, Option, Some, None, option_map, refl, sym, ap, subst, ◌∙◌}
 use Rattle.std.specs.List.{fold}
 use Rattle.std.specs.Prelude.{Ok}
 use base.Stored.{Coded}
@@ -26,10 +26,21 @@ use Rattle.seize_alone.specs.Holding.{Holds, HoldsThen}
 use Rattle.seize_alone.proofs.Slots.{slot_flushes, slot_parts, slot_refreshes, slot_retires}
 use Rattle.seize.specs.Places.{CallsSlot}
 use Rattle.seize.specs.Told.{AreCodes, HasTold, told_of}
+use Rattle.seize.specs.Placing.{unit_in}
 use Rattle.seize.specs.declared.alone.hands.Hands.{Hands}
+use Rattle.seize.specs.declared.alone.place.Unit.{Unit as Held}
 use Rattle.seize.specs.declared.reservation.Reservation.{Reservation}
 use Rattle.seize.proofs.Called.{sole_still}
 use Rattle.seize.proofs.Lone.{Knows}
+
+-- the unit of the activation lies in the place of a slot with guards
+pub unit_held : (n : Name) (s : ℕ) (unit : Option Held) (on : Bool) → option_map unit_in unit ≡ (if on then Some (s, n) else None) → on ≡ true → (held : Held) × (unit ≡ Some held) × (held.number ≡ s) × (held.seen.name ≡ n)
+unit_held n s (Some held) on is active =
+    let same : (held.number, held.seen.name) ≡ (s, n) = one (is ∙ ap (λ (b : Bool). if b then Some (s, n) else None) active) in (held, refl, λ j. (same j).0, λ j. (same j).1)
+  where
+    one : {a b : ℕ × Name} → Some a ≡ Some b → a ≡ b
+    one e = cc
+unit_held n s None on is active = absurd (let both : None ≡ Some (s, n) = is ∙ ap (λ (b : Bool). if b then Some (s, n) else None) active in cc)
 
 -- The watch was told of values with the codes of those that were had, so it was told of these.
 pub told_gone : {T Seen : Type 0} (c : Coded T) (told : Seen → T → Seen) (seen : Seen) (xs : List T) (had : Had) (gone : List (T × ℕ)) → AreCodes c.code xs had → HadAre c.code had gone → fold told seen xs ≡ told_of told seen gone

@@ -123,8 +123,8 @@ pub(crate) struct Leaving<'a, T: Drop, R: Reclaim<T>, W> {
     pub(crate) words: &'a Words<T>,
     /// Its reclaimer.
     pub(crate) ender: &'a Ender<T, R>,
-    /// The slot's place.
-    pub(crate) lock: &'a mut Lock<Reservation<T>>,
+    /// The slot's place. It lies here meanwhile.
+    pub(crate) lock: Lock<Reservation<T>>,
     /// The unit of the slot's activation.
     pub(crate) unit: Option<Unit>,
     /// Who is told.
@@ -133,11 +133,11 @@ pub(crate) struct Leaving<'a, T: Drop, R: Reclaim<T>, W> {
 
 impl<'a, T: Drop, R: Reclaim<T>, W: Watch<T>> Stay<()> for Leaving<'a, T, R, W> {
     ghost may = { λ call pass. (unit : SlotUnit) × (call.unit ≡ Some unit) × IsEnderOf call.words.now call.ender.now
-        × MayLock its_label IsReservation call.lock.now (λ r. IsOnly call.words.now r pass
+        × MayLock its_label IsReservation call.lock (λ r. IsOnly call.words.now r pass
         × IsUnit (words_book call.words.now) (its_number r.slot) unit.unit unit.seen) };
 
     ghost gives = { λ call call' pass pass' _. (call'.lock ≡ call.lock) × (call'.watch.ghost_name ≡ call.watch.ghost_name)
-        × HadLock its_label IsReservation call.lock.now (λ r r'. CallsSlot T.row.coded.code R.puts W.told r pass r' pass'
+        × HadLock its_label IsReservation call.lock (λ r r'. CallsSlot T.row.coded.code R.puts W.told r pass r' pass'
         (W.seen call.watch.now) (W.seen call'.watch.now) (λ slot ready slot' pass' had. SlotLeaves slot ready [] slot' pass' had)) };
 
     fn stay(&mut self, pass: &mut Pass<'static>) {
@@ -446,8 +446,8 @@ pub(crate) struct Refreshing<'a, T: Drop, R: Reclaim<T>, W> {
     pub(crate) words: &'a Words<T>,
     /// Its reclaimer.
     pub(crate) ender: &'a Ender<T, R>,
-    /// The slot's place.
-    pub(crate) lock: &'a mut Lock<Reservation<T>>,
+    /// The slot's place. It lies here meanwhile.
+    pub(crate) lock: Lock<Reservation<T>>,
     /// The unit of the slot's activation, which ends.
     pub(crate) unit: Option<Unit>,
     /// Who is told.
@@ -456,11 +456,11 @@ pub(crate) struct Refreshing<'a, T: Drop, R: Reclaim<T>, W> {
 
 impl<'a, T: Drop, R: Reclaim<T>, W: Watch<T>> Stay<Unit> for Refreshing<'a, T, R, W> {
     ghost may = { λ call pass. (unit : SlotUnit) × (call.unit ≡ Some unit) × IsEnderOf call.words.now call.ender.now
-        × MayLock its_label IsReservation call.lock.now (λ r. IsOnly call.words.now r pass
+        × MayLock its_label IsReservation call.lock (λ r. IsOnly call.words.now r pass
         × IsUnit (words_book call.words.now) (its_number r.slot) unit.unit unit.seen) };
 
     ghost gives = { λ call call' pass pass' unit. (call'.lock ≡ call.lock) × (call'.watch.ghost_name ≡ call.watch.ghost_name)
-        × HadLock its_label IsReservation call.lock.now (λ r r'. CallsSlot T.row.coded.code R.puts W.told r pass r' pass'
+        × HadLock its_label IsReservation call.lock (λ r r'. CallsSlot T.row.coded.code R.puts W.told r pass r' pass'
         (W.seen call.watch.now) (W.seen call'.watch.now)
         (λ slot ready slot' pass' had. (a : Activation) × SlotRefreshes slot ready a [] slot' pass' had)
         × IsUnit (words_book call.words.now) (its_number r.slot) unit.unit unit.seen × (unit.number ≡ its_number r.slot)) };

@@ -28,22 +28,32 @@ impl<T: Drop, R: Reclaim<T>> Alone<T, R> {
             × (W.seen watch.new ≡ told_of W.told (W.seen watch.old) now.1)
             × (calls.is_free (slot_at now.0 s).kind ≡ false) × (has_guard (slot_at now.0 s) ≡ false) }
         ensures same { IsSame self.old self.new }
+        ensures same_reference { watch.exit.ghost_name ≡ watch.entry.ghost_name }
     {
         let Place {
             owned,
             guards: _,
-            mut reservation,
+            reservation,
             unit,
             shelf,
         } = out(&mut self.places, s);
         let mut call = Leaving {
             words: &self.words,
             ender: &self.ender,
-            lock: &mut reservation,
+            lock: reservation,
             unit,
             watch: &mut *watch,
         };
         self.porter.stay(&mut call);
+        // It is taken apart, and so what the watch has seen is known.
+        let Leaving {
+            words: _words,
+            ender: _ender,
+            lock: reservation,
+            unit,
+            watch: _watch,
+        } = call;
+        drop(unit);
         let place = Place {
             owned,
             guards: 0,
@@ -62,22 +72,32 @@ impl<T: Drop, R: Reclaim<T>> Alone<T, R> {
         ensures done { Answers W.told (calls.refresh R.puts R.weight self.old.state s) (Ok tt) self.new.state
             (W.seen watch.old) (W.seen watch.new) }
         ensures same { IsSame self.old self.new }
+        ensures same_reference { watch.exit.ghost_name ≡ watch.entry.ghost_name }
     {
         let Place {
             owned,
             guards,
-            mut reservation,
+            reservation,
             unit,
             shelf,
         } = out(&mut self.places, s);
         let mut call = Refreshing {
             words: &self.words,
             ender: &self.ender,
-            lock: &mut reservation,
+            lock: reservation,
             unit,
             watch: &mut *watch,
         };
         let unit = self.porter.stay(&mut call);
+        // It is taken apart, and so what the watch has seen is known.
+        let Refreshing {
+            words: _words,
+            ender: _ender,
+            lock: reservation,
+            unit: ended,
+            watch: _watch,
+        } = call;
+        drop(ended);
         let place = Place {
             owned,
             guards,
@@ -99,6 +119,7 @@ impl<T: Drop, R: Reclaim<T>> Alone<T, R> {
         ensures done { Answers W.told (calls.leave R.puts R.weight self.old.state s) result self.new.state
             (W.seen watch.old) (W.seen watch.new) }
         ensures same { IsSame self.old self.new }
+        ensures same_reference { watch.exit.ghost_name ≡ watch.entry.ghost_name }
     {
         let (owned, guards) = self.guarded(s)?;
         if guards > 1 {
@@ -122,6 +143,7 @@ impl<T: Drop, R: Reclaim<T>> Alone<T, R> {
         ensures done { Answers W.told (calls.refresh R.puts R.weight self.old.state s) result self.new.state
             (W.seen watch.old) (W.seen watch.new) }
         ensures same { IsSame self.old self.new }
+        ensures same_reference { watch.exit.ghost_name ≡ watch.entry.ghost_name }
     {
         let (owned, guards) = self.guarded(s)?;
         if owned || guards == 1 {
@@ -139,6 +161,7 @@ impl<T: Drop, R: Reclaim<T>> Alone<T, R> {
         ensures done { Answers W.told (calls.flush R.puts R.weight self.old.state s) result self.new.state
             (W.seen watch.old) (W.seen watch.new) }
         ensures same { IsSame self.old self.new }
+        ensures same_reference { watch.exit.ghost_name ≡ watch.entry.ghost_name }
     {
         self.guarded(s)?;
         let Place {
@@ -187,6 +210,7 @@ impl<T: Drop, R: Reclaim<T>> Alone<T, R> {
             self.new.state (W.seen watch.old) (W.seen watch.new) }
         ensures back { (refusal : RefusalValue) (value' : TakenValue T) → (result ≡ Err (refusal, value')) → value' ≡ value }
         ensures same { IsSame self.old self.new }
+        ensures same_reference { watch.exit.ghost_name ≡ watch.entry.ghost_name }
     {
         if self.known(s).is_none() {
             return Err((Refusal::NotInUse, value));
