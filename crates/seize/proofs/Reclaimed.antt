@@ -1,6 +1,6 @@
 -- A call by which values may be gone, made where its pass is alone: the hands hold what the model says then, and the watch was told of the
 -- values gone, in order.
-use Rattle.std.proofs.Common.{◌≡◌, ℕ, ◌==◌, ◌||◌, ◌⊎◌, inl, inr, ◌≤◌, Bool, true, false, if◌then◌else◌, List, [], ◌∷◌, Option, Some, None, option_map, refl, sym, ap, subst, ◌∙◌}
+use Rattle.std.proofs.Common.{◌≡◌, ℕ, ◌==◌, ◌||◌, ◌⊎◌, inl, inr, ◌<◌, ◌≤◌, Bool, true, false, if◌then◌else◌, List, [], ◌∷◌, Option, Some, None, option_map, refl, sym, ap, subst, ◌∙◌, arith}
 use Rattle.std.specs.List.{fold}
 use Rattle.std.specs.Prelude.{Err, Ok, Result}
 use base.Stored.{Coded, Gv}
@@ -70,6 +70,10 @@ alone_so st s owned guards kind are (inr is) = ap (λ (m : ℕ). is_owned (slot_
     or_true : (b : Bool) → (b || true) ≡ true
     or_true true = refl
     or_true false = refl
+
+-- it has more than one, then
+pub many_so : (m guards : ℕ) → m ≡ guards → 0 < guards → (guards ≡ 1 → ⊥) → 2 ≤ m
+many_so m guards are some other = grind arith
 
 -- the model's call did nothing, and no watch was told
 pub answered_none : {T Seen : Type 0} (told : Seen → T → Seen) (st : State T ℕ) (seen : Seen) (result : Result (Unit {0}) Refusal) (a : Response (Unit {0}) T ℕ) → a ≡ (result, (st, [])) → Answers told a result st seen seen
