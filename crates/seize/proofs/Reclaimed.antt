@@ -8,8 +8,9 @@ use Rattle.seize_table.specs.declared.refusal.Refusal.{Refusal}
 use Rattle.seize_table.specs.declared.refusal.Refusal.TheVariants.{NotActive, NotInUse}
 use Rattle.seize_machine.specs.Machine.State.{are_distinct, linked_values}
 use Rattle.seize_model.specs.declared.kind.Kind.{Kind}
+use Rattle.seize_model.specs.declared.kind.Kind.TheVariants.{Registered}
 use Rattle.seize_model.specs.Waiting.Attempt.{StateAndGone}
-use Rattle.seize_model.specs.Waiting.Calls.{Response, first_refusal, flush, is_free, is_owned, no_guard, one_guard_less, refresh, retire, unless}
+use Rattle.seize_model.specs.Waiting.Calls.{Response, first_refusal, flush, is_free, is_owned, leave, no_guard, one_guard_less, refresh, retire, unless, with_number_free_if}
 use Rattle.seize_model.specs.Waiting.Further.{Lighter, with_further}
 use Rattle.seize_model.specs.Waiting.State.{Slot as WaitingSlot, State, has_guard, slot_at}
 use Rattle.seize_book.specs.Entry.{Entry}
@@ -78,6 +79,28 @@ many_so m guards are some other = grind arith
 -- the model's call did nothing, and no watch was told
 pub answered_none : {T Seen : Type 0} (told : Seen → T → Seen) (st : State T ℕ) (seen : Seen) (result : Result (Unit {0}) Refusal) (a : Response (Unit {0}) T ℕ) → a ≡ (result, (st, [])) → Answers told a result st seen seen
 answered_none {T} told st seen result a is = subst (λ (x : Response (Unit {0}) T ℕ). Answers told x result st seen seen) (sym is) ((refl, refl), refl)
+
+-- it answered so
+pub answered_so : {T Seen : Type 0} (told : Seen → T → Seen) (now new : State T ℕ) (gone : List (T × ℕ)) (seen seen' : Seen) (result : Result (Unit {0}) Refusal) (a : Response (Unit {0}) T ℕ) → a ≡ (result, (now, gone)) → new ≡ now → seen' ≡ told_of told seen gone
+    → Answers told a result new seen seen'
+answered_so {T} told now new gone seen seen' result a is same hears = subst (λ (x : Response (Unit {0}) T ℕ). Answers told x result new seen seen') (sym is) ((refl, same), hears)
+
+-- a slot with guards besides is registered
+pub beside_so : {T : Type 0} (st : State T ℕ) (s : ℕ) (owned : Bool) (guards : ℕ) → (slot_at st s).kind ≡ kind_of owned → (slot_at st s).guards ≡ guards → 1 < guards → (is_owned (slot_at st s).kind ≡ true → (slot_at st s).guards ≤ 1) → (slot_at st s).kind ≡ Registered
+beside_so st s true guards kind are many one = let few = one (ap is_owned kind) in absurd (omega (arith, are, many, few))
+beside_so st s false guards kind are many one = kind
+
+-- what a leave with the last guard answers
+pub left_last : {T : Type 0} (puts : ℕ → T → List T) (weight : T → ℕ) (st : State T ℕ) (s : ℕ) (owned : Bool) → no_guard st s ≡ None → (slot_at st s).kind ≡ kind_of owned
+    → leave puts weight st s ≡ (Ok tt, with_number_free_if owned s (with_further puts weight s (one_guard_less st s)))
+left_last {T} puts weight st s owned none kind =
+    let o : StateAndGone T ℕ = with_further puts weight s (one_guard_less st s) in
+    ap (λ (r : Option Refusal). unless {A = Unit {0}} r st (Ok tt, with_number_free_if (is_owned (slot_at st s).kind) s o)) none
+    ∙ ap (λ (k : Kind). (Ok tt, with_number_free_if (is_owned k) s o)) kind ∙ ap (λ (b : Bool). (Ok tt, with_number_free_if b s o)) (same owned)
+  where
+    same : (b : Bool) → is_owned (kind_of b) ≡ b
+    same true = refl
+    same false = refl
 
 -- it is refused without a guard
 pub refused_none : {T : Type 0} (st : State T ℕ) (s : ℕ) (refusal : Refusal) (a : Response (Unit {0}) T ℕ) → no_guard st s ≡ Some refusal → unless (no_guard st s) st a ≡ (Err refusal, (st, []))

@@ -1,14 +1,34 @@
-use Rattle.std.proofs.Common.{◌≡◌, refl, sym, ap, subst, ◌∙◌}
+use Rattle.std.proofs.Common.{◌≡◌, ◌==◌, ◌-◌, ℕ, not, lit<, [], refl, sym, ap, subst, ◌∙◌, arith}
+use Rattle.std.specs.Prelude.{Err, Ok}
+use Rattle.std.proofs.lemmas.Result.{err_from_is_err_and}
+use Rattle.seize_model.specs.Waiting.Calls.{is_free, one_guard_less, set_guards, with_number_free}
+use Rattle.seize_model.specs.Waiting.Further.{with_further}
+use Rattle.seize_model.specs.Waiting.State.{State, has_guard, slot_at}
+use Rattle.seize_alone.proofs.Ready.{left_beside}
+use Rattle.seize.proofs.Lone.{some_guards}
+use Rattle.seize.proofs.Reclaimed.{answered_none, beside_so, may_act, refused_none}
 use Rattle.seize.proofs.alone.Alone.leave.Goals as goal
 
 pub returns-in_err-owned-clause-done : goal.returns-in_err-owned-clause-done
-returns-in_err-owned-clause-done g c = ?
+returns-in_err-owned-clause-done g c =
+    let st = c.args.self.now.state in let p = err_from_is_err_and c.from_residual.result c.from_residual.ensures.1 in
+    answered_none g.W.Watch.told st (g.W.Watch.seen c.args.watch.now) c.from_residual.result _
+    (refused_none st c.args.s c.in_err-owned.field-0.0 _ c.in_err-owned.ensures.refused ∙ ap (λ r. (r, (st, []))) (sym (p.1 ∙ ap Err p.2)))
 
 pub count-requires : goal.count-requires
-count-requires g c = ?
+count-requires g c =
+    let it = c.in_ok-owned.ensures.it in let st = c.args.self.now.state in let s = c.args.s in let many = c.if-guards-gt1.true in
+    (lit< tt, (beside_so st s c.in_ok-owned.owned c.in_ok-owned.guards it.1 it.2 many c.in_ok-owned.ensures.one, (may_act st s it.0).1, omega (arith, many)))
 
 pub part-requires : goal.part-requires
-part-requires g c = ?
+part-requires g c =
+    let it = c.in_ok-owned.ensures.it in let st = c.args.self.now.state in let few = c.if-guards-gt1.false in let are = it.2 in let some = it.3 in
+    (lit< tt, ((may_act st c.args.s it.0).0, omega (arith, few, are, some)))
 
 pub free-requires : goal.free-requires
-free-requires g c = ?
+free-requires g c =
+    let done = c.part.ensures.done in let s = c.args.s in
+    (lit< tt, (ap (λ (x : State g.row.T.Denot ℕ). is_free (slot_at x s).kind) done.0 ∙ done.2, ap (λ (x : State g.row.T.Denot ℕ). has_guard (slot_at x s)) done.0 ∙ done.3))
+
+pub returns-clause-done : goal.returns-clause-done
+returns-clause-done g c = ?
