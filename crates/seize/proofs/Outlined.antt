@@ -1,16 +1,15 @@
 -- A call that leaves kinds, guards and links as they were: what lies in the places, and the invariant.
 use Rattle.std.proofs.Common.{◌≡◌, ℕ, ◌<◌, Bool, true, false, List, [], length, Option, Some, None, if◌then◌else◌, option_map, slice_set, refl, sym, ap, ◌∙◌}
 use base.Stored.{Gv}
-use Rattle.seize_model.specs.declared.kind.Kind.{Kind}
 use Rattle.seize_model.specs.Waiting.Calls.{is_free}
-use Rattle.seize_model.specs.Waiting.State.{State, has_guard, set_slot, slot_at}
+use Rattle.seize_model.specs.Waiting.State.{State, set_slot, slot_at}
 use Rattle.seize_book.specs.Porters.{HadStay}
 use Rattle.seize_book.specs.Tokens.{Name}
 use Rattle.seize_book.specs.declared.book.pass.Pass.{Pass}
 use Rattle.seize_book.specs.declared.book.porter.Porter.{Porter}
 use Rattle.seize_words.specs.Joined.{words_book}
 use Rattle.seize_words.specs.declared.words.Words.{Words}
-use Rattle.seize_alone.proofs.Outlines.{frame, guards_in, kind_in, outline, set_frame, slots_in}
+use Rattle.seize_alone.proofs.Outlines.{guards_in, kind_in, outline, set_frame, slots_in}
 use Rattle.seize_alone.specs.Holding.{Holds}
 use Rattle.seize.specs.Alones.{IsAlone}
 use Rattle.seize.specs.Kinds.{kind_of}

@@ -1,14 +1,18 @@
 -- A call by which values may be gone, made where its pass is alone: the hands hold what the model says then, and the watch was told of the
 -- values gone, in order.
-use Rattle.std.proofs.Common.{◌≡◌, ℕ, ◌==◌, ◌||◌, Bool, true, false, if◌then◌else◌, List, [], ◌∷◌, Option, Some, None, option_map, refl, sym, ap, subst, ◌∙◌}
+use Rattle.std.proofs.Common.{◌≡◌, ℕ, ◌==◌, ◌||◌, ◌⊎◌, inl, inr, ◌<◌, ◌≤◌, Bool, true, false, if◌then◌else◌, List, [], ◌∷◌, Option, Some, None, option_map, refl, sym, ap, subst, ◌∙◌, arith}
 use Rattle.std.specs.List.{fold}
-use Rattle.std.specs.Prelude.{Ok}
-use base.Stored.{Coded}
+use Rattle.std.specs.Prelude.{Err, Ok, Result}
+use base.Stored.{Coded, Gv}
+use Rattle.seize_table.specs.declared.refusal.Refusal.{Refusal}
+use Rattle.seize_table.specs.declared.refusal.Refusal.TheVariants.{NotActive, NotInUse}
 use Rattle.seize_machine.specs.Machine.State.{are_distinct, linked_values}
+use Rattle.seize_model.specs.declared.kind.Kind.{Kind}
+use Rattle.seize_model.specs.declared.kind.Kind.TheVariants.{Registered}
 use Rattle.seize_model.specs.Waiting.Attempt.{StateAndGone}
-use Rattle.seize_model.specs.Waiting.Calls.{flush, is_free, is_owned, one_guard_less, refresh, retire}
+use Rattle.seize_model.specs.Waiting.Calls.{Response, first_refusal, flush, is_free, is_owned, leave, no_guard, one_guard_less, refresh, retire, unless, with_number_free_if}
 use Rattle.seize_model.specs.Waiting.Further.{Lighter, with_further}
-use Rattle.seize_model.specs.Waiting.State.{State, has_guard, slot_at}
+use Rattle.seize_model.specs.Waiting.State.{Slot as WaitingSlot, State, has_guard, slot_at}
 use Rattle.seize_book.specs.Entry.{Entry}
 use Rattle.seize_book.specs.Slots.{slot_number}
 use Rattle.seize_book.specs.Tokens.{Name}
@@ -22,10 +26,12 @@ use Rattle.seize_calls.specs.declared.slot.Loose.{Loose}
 use Rattle.seize_calls.specs.declared.slot.Slot.{Slot}
 use Rattle.seize_alone.specs.Calls.{CallsAlone}
 use Rattle.seize_alone.specs.Gone.{HadAre}
-use Rattle.seize_alone.specs.Holding.{Holds, HoldsThen}
+use Rattle.seize_alone.specs.Holding.{Holds, HoldsThen, some_slot, some_state}
+use Rattle.seize_alone.proofs.Mapped.{slot_same}
 use Rattle.seize_alone.proofs.Slots.{slot_flushes, slot_parts, slot_refreshes, slot_retires}
+use Rattle.seize.specs.Kinds.{kind_of}
 use Rattle.seize.specs.Places.{CallsSlot}
-use Rattle.seize.specs.Told.{AreCodes, HasTold, told_of}
+use Rattle.seize.specs.Told.{Answers, AreCodes, HasTold, told_of}
 use Rattle.seize.specs.Placing.{unit_in}
 use Rattle.seize.specs.declared.alone.hands.Hands.{Hands}
 use Rattle.seize.specs.declared.alone.place.Unit.{Unit as Held}
@@ -41,6 +47,64 @@ unit_held n s (Some held) on is active =
     one : {a b : ℕ × Name} → Some a ≡ Some b → a ≡ b
     one e = cc
 unit_held n s None on is active = absurd (let both : None ≡ Some (s, n) = is ∙ ap (λ (b : Bool). if b then Some (s, n) else None) active in cc)
+
+-- what a call asks that needs a guard of the slot
+pub may_act : {T : Type 0} (st : State T ℕ) (s : ℕ) → no_guard st s ≡ None → (is_free (slot_at st s).kind ≡ false) × (has_guard (slot_at st s) ≡ true)
+may_act st s none = go (is_free (slot_at st s).kind) (has_guard (slot_at st s)) none
+  where
+    go : (free on : Bool) → first_refusal (if free then Some NotInUse else None) (if on then None else Some NotActive) ≡ None → (free ≡ false) × (on ≡ true)
+    go true on e = absurd (cc)
+    go false true e = (refl, refl)
+    go false false e = absurd (cc)
+
+-- an owned slot has one guard at most
+pub owned_one : {T : Type 0} {code : T → Gv} {st : State T ℕ} {names : List (ℕ × T)} {kinds : List (ℕ × ℕ)} {n : Name} {seen : List Entry} → Holds code st names kinds n seen → (s : ℕ) → is_owned (slot_at st s).kind ≡ true → (slot_at st s).guards ≤ 1
+owned_one {T} {code} {st} holds s owned =
+    let same : slot_at (some_state st) s ≡ some_slot (slot_at st s) = slot_same st s in
+    subst (λ (x : WaitingSlot (Option T) (Option ℕ)). x.guards ≤ 1) same ((holds.shows.slot s).owned (ap (λ (x : WaitingSlot (Option T) (Option ℕ)). is_owned x.kind) same ∙ owned))
+
+-- an owned slot parts, and so does one with one guard
+pub alone_so : {T : Type 0} (st : State T ℕ) (s : ℕ) (owned : Bool) (guards : ℕ) → (slot_at st s).kind ≡ kind_of owned → (slot_at st s).guards ≡ guards → (owned ≡ true) ⊎ ((owned ≡ false) × (guards ≡ 1)) → (is_owned (slot_at st s).kind || ((slot_at st s).guards == 1)) ≡ true
+alone_so st s owned guards kind are (inl is) = ap (λ (k : Kind). is_owned k || ((slot_at st s).guards == 1)) (kind ∙ ap kind_of is)
+alone_so st s owned guards kind are (inr is) = ap (λ (m : ℕ). is_owned (slot_at st s).kind || (m == 1)) (are ∙ is.1) ∙ or_true (is_owned (slot_at st s).kind)
+  where
+    or_true : (b : Bool) → (b || true) ≡ true
+    or_true true = refl
+    or_true false = refl
+
+-- it has more than one, then
+pub many_so : (m guards : ℕ) → m ≡ guards → 0 < guards → (guards ≡ 1 → ⊥) → 2 ≤ m
+many_so m guards are some other = grind arith
+
+-- the model's call did nothing, and no watch was told
+pub answered_none : {T Seen : Type 0} (told : Seen → T → Seen) (st : State T ℕ) (seen : Seen) (result : Result (Unit {0}) Refusal) (a : Response (Unit {0}) T ℕ) → a ≡ (result, (st, [])) → Answers told a result st seen seen
+answered_none {T} told st seen result a is = subst (λ (x : Response (Unit {0}) T ℕ). Answers told x result st seen seen) (sym is) ((refl, refl), refl)
+
+-- it answered so
+pub answered_so : {T Seen : Type 0} (told : Seen → T → Seen) (now new : State T ℕ) (gone : List (T × ℕ)) (seen seen' : Seen) (result : Result (Unit {0}) Refusal) (a : Response (Unit {0}) T ℕ) → a ≡ (result, (now, gone)) → new ≡ now → seen' ≡ told_of told seen gone
+    → Answers told a result new seen seen'
+answered_so {T} told now new gone seen seen' result a is same hears = subst (λ (x : Response (Unit {0}) T ℕ). Answers told x result new seen seen') (sym is) ((refl, same), hears)
+
+-- a slot with guards besides is registered
+pub beside_so : {T : Type 0} (st : State T ℕ) (s : ℕ) (owned : Bool) (guards : ℕ) → (slot_at st s).kind ≡ kind_of owned → (slot_at st s).guards ≡ guards → 1 < guards → (is_owned (slot_at st s).kind ≡ true → (slot_at st s).guards ≤ 1) → (slot_at st s).kind ≡ Registered
+beside_so st s true guards kind are many one = let few = one (ap is_owned kind) in absurd (omega (arith, are, many, few))
+beside_so st s false guards kind are many one = kind
+
+-- what a leave with the last guard answers
+pub left_last : {T : Type 0} (puts : ℕ → T → List T) (weight : T → ℕ) (st : State T ℕ) (s : ℕ) (owned : Bool) → no_guard st s ≡ None → (slot_at st s).kind ≡ kind_of owned
+    → leave puts weight st s ≡ (Ok tt, with_number_free_if owned s (with_further puts weight s (one_guard_less st s)))
+left_last {T} puts weight st s owned none kind =
+    let o : StateAndGone T ℕ = with_further puts weight s (one_guard_less st s) in
+    ap (λ (r : Option Refusal). unless {A = Unit {0}} r st (Ok tt, with_number_free_if (is_owned (slot_at st s).kind) s o)) none
+    ∙ ap (λ (k : Kind). (Ok tt, with_number_free_if (is_owned k) s o)) kind ∙ ap (λ (b : Bool). (Ok tt, with_number_free_if b s o)) (same owned)
+  where
+    same : (b : Bool) → is_owned (kind_of b) ≡ b
+    same true = refl
+    same false = refl
+
+-- it is refused without a guard
+pub refused_none : {T : Type 0} (st : State T ℕ) (s : ℕ) (refusal : Refusal) (a : Response (Unit {0}) T ℕ) → no_guard st s ≡ Some refusal → unless (no_guard st s) st a ≡ (Err refusal, (st, []))
+refused_none {T} st s refusal a is = ap (λ (r : Option Refusal). unless r st a) is
 
 -- The watch was told of values with the codes of those that were had, so it was told of these.
 pub told_gone : {T Seen : Type 0} (c : Coded T) (told : Seen → T → Seen) (seen : Seen) (xs : List T) (had : Had) (gone : List (T × ℕ)) → AreCodes c.code xs had → HadAre c.code had gone → fold told seen xs ≡ told_of told seen gone

@@ -61,7 +61,7 @@ impl<T: Drop + Codes, R: Reclaim<T>> Model for Alone<T, R> {
 }
 
 impl<T: Drop, R: Reclaim<T>> Alone<T, R> {
-    ghost use Rattle.std.specs.Prelude.{◌≡◌, ◌<◌, length, true, None, Some, IfErr, IfOk, false, if◌then◌else◌};
+    ghost use Rattle.std.specs.Prelude.{◌≡◌, ◌<◌, ◌≤◌, length, true, None, Some, IfErr, IfOk, false, if◌then◌else◌};
     ghost use Rattle.seize_model.specs.Waiting.Calls as calls;
     ghost use Rattle.seize_model.specs.Waiting.State.{has_guard, slot_at};
     ghost use Rattle.seize_model.specs.declared.kind.Kind.TheVariants.{Owned as owned_slot, Registered as registered};
@@ -83,10 +83,11 @@ impl<T: Drop, R: Reclaim<T>> Alone<T, R> {
         self.id
     }
 
-    // Whether the slot is owned, and how many guards it has, where its number is in use.
+    // Whether the slot is owned, and how many guards it has, where its number is in use. An owned one has one at most.
     fn known(&self, s: usize) -> Option<(bool, u64)>
-        ensures { let slot = slot_at self.now.state s in
+        ensures it { let slot = slot_at self.now.state s in
             result ≡ (if calls.is_free slot.kind then None else Some (calls.is_owned slot.kind, slot.guards)) }
+        ensures one { let slot = slot_at self.now.state s in (calls.is_owned slot.kind ≡ true) → slot.guards ≤ 1 }
     {
         let place = self.places.get(s)?.as_ref()?;
         Some((place.owned, place.guards))
@@ -110,6 +111,7 @@ impl<T: Drop, R: Reclaim<T>> Alone<T, R> {
         ensures it { IfOk result (λ known. let slot = slot_at self.now.state s in (calls.no_guard self.now.state s ≡ None)
             × (slot.kind ≡ kind_of known.0) × (slot.guards ≡ known.1) × (0 < known.1)) }
         ensures refused { IfErr result (λ refusal. calls.no_guard self.now.state s ≡ Some refusal) }
+        ensures one { let slot = slot_at self.now.state s in (calls.is_owned slot.kind ≡ true) → slot.guards ≤ 1 }
     {
         match self.known(s) {
             None => Err(Refusal::NotInUse),

@@ -172,16 +172,14 @@ impl<T: Drop, R: Reclaim<T>> Alone<T, R> {
             shelf,
         } = out(&mut self.places, s);
         let Some(unit) = unit else { unreachable!() };
-        {
-            let mut call = Flushing {
-                words: &self.words,
-                ender: &self.ender,
-                lock: &mut reservation,
-                unit: &unit,
-                watch: &mut *watch,
-            };
-            self.porter.stay(&mut call);
-        }
+        let mut call = Flushing {
+            words: &self.words,
+            ender: &self.ender,
+            lock: &mut reservation,
+            unit: &unit,
+            watch: &mut *watch,
+        };
+        self.porter.stay(&mut call);
         let place = Place {
             owned,
             guards,
@@ -226,17 +224,15 @@ impl<T: Drop, R: Reclaim<T>> Alone<T, R> {
         } = out(&mut self.places, s);
         let (loose, content) = value.into_loose();
         let mut loose = Some(loose);
-        {
-            let mut call = Retiring {
-                words: &self.words,
-                ender: &self.ender,
-                lock: &mut reservation,
-                loose: &mut loose,
-                kind,
-                watch: &mut *watch,
-            };
-            self.porter.stay(&mut call);
-        }
+        let mut call = Retiring {
+            words: &self.words,
+            ender: &self.ender,
+            lock: &mut reservation,
+            loose: &mut loose,
+            kind,
+            watch: &mut *watch,
+        };
+        self.porter.stay(&mut call);
         match loose {
             None => {}
             Some(_) => unreachable!(),

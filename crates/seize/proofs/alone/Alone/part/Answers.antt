@@ -1,6 +1,5 @@
-use Rattle.std.proofs.Common.{◌≡◌, ◌==◌, ◌-◌, false, true, not, ℕ, List, Option, None, length, refl, sym, ap, subst, ◌∙◌}
+use Rattle.std.proofs.Common.{◌≡◌, ◌==◌, ◌-◌, false, not, ℕ, List, Option, None, length, refl, sym, ap, subst, ◌∙◌}
 use Rattle.std.proofs.lemmas.List.{length-set}
-use Rattle.seize_model.specs.Waiting.Attempt.{StateAndGone}
 use Rattle.seize_model.specs.Waiting.Calls.{is_free, one_guard_less, set_guards}
 use Rattle.seize_model.specs.Waiting.Further.{with_further}
 use Rattle.seize_model.specs.Waiting.State.{Slot, State, has_guard, slot_at}
