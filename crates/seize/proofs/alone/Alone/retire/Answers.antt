@@ -1,11 +1,10 @@
-use Rattle.std.proofs.Common.{◌≡◌, ℕ, ◌<◌, Bool, true, false, List, Option, None, Some, if◌then◌else◌, is_some, length, option_map, refl, sym, ap, subst, ◌∙◌}
+use Rattle.std.proofs.Common.{◌≡◌, ℕ, Bool, true, false, Option, None, Some, if◌then◌else◌, is_some, refl, sym, ap, subst, ◌∙◌}
 use Rattle.std.proofs.lemmas.Bool.{false≢true}
-use Rattle.std.proofs.lemmas.List.{length-set}
 use Rattle.seize_model.specs.Waiting.Calls.{is_free, retire}
 use Rattle.seize_model.specs.Waiting.State.{State, slot_at}
 use Rattle.seize_words.specs.Chunks.{IsLentAs}
 use Rattle.seize_words.specs.Joined.{words_book}
-use Rattle.seize_calls.specs.Slots.{its_value, loose_book}
+use Rattle.seize_calls.specs.Slots.{its_value}
 use Rattle.seize_alone.proofs.Outlines.{retire_links, retire_outline}
 use Rattle.seize_alone.proofs.Sizes.{size_stays}
 use Rattle.seize.specs.Alones.{View}
