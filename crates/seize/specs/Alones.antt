@@ -1,10 +1,10 @@
 -- What contracts see of a collector in one caller's hands.
---     View T            its list of events, by its name, its batch size, its id, and its state, as of waiting sets (`seize_model`);  view_coded
---                       the code of views, by that of values
+--     View T            the name of its list of events, its batch size, its id, and its state, as of waiting sets (`seize_model`)
+--     view_coded        the code of views, by that of values
 --     IsSame a a'       it is the same collector: by its list, its batch size and its id
---     IsAlone code words porter numbers places made ender hands     what is so of its parts: all are of one list. The porter is at home. The
---                       hands hold the state, which what the porter has seen shows, with the batch size; and so many slots were made. What lies
---                       in the places is what the state says of the slots
+--     IsAlone code words porter numbers places made ender hands     what is so of its parts: all are of one list. The porter is at home.
+--                       The hands hold the state, which what the porter has seen shows, with the batch size; and so many slots were made.
+--                       What lies in the places is what the state says of the slots
 use Rattle.std.specs.Prelude.{◌≡◌, ℕ, List, Option, length, true}
 use mathlib.Core.Path.{refl}
 use base.Stored.{Coded, Gv, coded×, coded_ℕ}

@@ -7,8 +7,8 @@
 --     MakesOne pass pass' event answer     this one event was made
 --     MakesNone pass pass'    none was
 --     StaysActive s pass pass'    none was, and slot s is active, as the pass has seen then
---     IsStepOf IsPut s step   it is a step of a call of slot s between its begin and its return. Where it hands a value v, the reclaimer put
---                             blocks with the names vs: `IsPut v vs` says of which it may be so;  AreStepsOf IsPut s steps     so is each
+--     IsStepOf IsPut s step   it is a step of a call of slot s between its begin and its return. Where it hands a value v, the reclaimer
+--                             put blocks with the names vs: `IsPut v vs` says of which it may be so;  AreStepsOf IsPut s steps   so is each
 --     MakesCall IsPut s job pass pass'     a whole call of slot s: from its begin with this job to its return, and between them its steps,
 --                             with `IsPut` of the pass as it is then
 --     Defers s job pass pass'     a whole call of slot s, and none of its steps hands a value to its reclaimer

@@ -1,10 +1,10 @@
 -- What lies in the places of slots while a collector is in one caller's hands, as its state says.
---     Lies              whether the slot is owned, how many guards it has, the label of its reservation, the number and the list of the unit
---                       of its activation, and its shelf
+--     Lies              whether the slot is owned, how many guards it has, the label of its reservation, the number and the list of the
+--                       unit of its activation, and its shelf
 --     held_in place     the unit of the activation of the slot in this place, where one lies there
 --     lies_in place     what lies in this place
---     lying_in n slot s     what lies in the place of slot s of the list n, which is in use, where the state says this of it;  lies_for     so it
---                       is, or nothing lies there where the slot is free
+--     lying_in n slot s     what lies in the place of slot s of the list n, which is in use, where the state says this of it
+--     lies_for n slot s     so it is, or nothing lies there where the slot is free
 --     ArePlaces n st places     so it is with each of these places
 --     MayLay n place    what lies there is of a slot of the list n, and so is its shelf
 use Rattle.std.specs.Prelude.{◌≡◌, ℕ, Bool, List, Option, None, Some, IfSome, get_or, if◌then◌else◌, option_map}

@@ -1,6 +1,6 @@
 -- What is known of a value that a call hands to the reclaimer, and of the blocks that this puts.
---     PutBy code puts pass v vs     v has a kind and a content, as the pass has seen. The blocks vs have the contents that `puts` says of this
---                                   kind and this content, in order, and each of them is of the same kind
+--     PutBy code puts pass v vs     v has a kind and a content, as the pass has seen. The blocks vs have the contents that `puts` says of
+--                                   this kind and this content, in order, and each of them is of the same kind
 use Rattle.std.specs.Prelude.{ℕ, All, List}
 use base.Stored.{Gv}
 use Rattle.seize_book.specs.declared.book.pass.Pass.{Pass}

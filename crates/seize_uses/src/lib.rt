@@ -6,6 +6,7 @@ pub mod alone;
 pub mod cache;
 pub mod machine;
 pub mod nest;
+pub mod one_caller;
 pub mod reclaimers;
 pub mod reclaiming;
 pub mod replacing;

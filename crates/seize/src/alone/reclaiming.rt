@@ -1,7 +1,5 @@
-//! Calls by which values may be gone. Each tells a watch of them, in order, and then gives them to the reclaimer; what that puts weighs less,
-//! so each call returns. None of them waits or takes memory of its own.
-ghost use Rattle.seize_table.specs.declared.refusal.Refusal.{Refusal as RefusalValue};
-ghost use Rattle.seize.specs.declared.block.taken.Taken.{Taken as TakenValue};
+//! Calls by which values may be gone. Each tells a watch of them, in order, and then gives them to the reclaimer. What that puts weighs
+//! less, so each call returns. None of them waits or takes memory of its own.
 
 use crate::alone::calls::{Flushing, Leaving, Refreshing, Retiring};
 use crate::alone::hands::Hands;
@@ -13,7 +11,7 @@ use seize_table::Refusal;
 use std::marker::Brand;
 
 impl<T: Drop, R: Reclaim<T>> Alone<T, R> {
-    ghost use Rattle.std.specs.Prelude.{◌≡◌, ◌<◌, ◌||◌, ◌==◌, Err, Ok, false, true};
+    ghost use Rattle.std.specs.Prelude.{◌<◌, ◌==◌, ◌||◌, ◌≡◌, IfErr, Ok, false, true};
     ghost use Rattle.seize_model.specs.Waiting.Calls as calls;
     ghost use Rattle.seize_model.specs.Waiting.Further.{with_further};
     ghost use Rattle.seize_model.specs.Waiting.State.{has_guard, slot_at};
@@ -208,7 +206,7 @@ impl<T: Drop, R: Reclaim<T>> Alone<T, R> {
         requires { IsTakenOf T.row.coded.code self.old.book value }
         ensures done { Answers W.told (calls.retire R.puts R.weight self.old.state s (taken_content value) kind) (only_refusal result)
             self.new.state (W.seen watch.old) (W.seen watch.new) }
-        ensures back { (refusal : RefusalValue) (value' : TakenValue T) → (result ≡ Err (refusal, value')) → value' ≡ value }
+        ensures back { IfErr result (λ refused. refused.1 ≡ value) }
         ensures same { IsSame self.old self.new }
         ensures same_reference { watch.exit.ghost_name ≡ watch.entry.ghost_name }
     {

@@ -26,13 +26,13 @@ in_use false a o is some = refl
 pub out-owned-requires : goal.out-owned-requires
 out-owned-requires g c =
     let inside = c.self.inside in let s = c.args.s in let st = inside.hands.state in
-    let used : is_free (slot_at st s).kind ≡ false = ap (λ (v : View g.row.T.Denot). is_free (slot_at v.state s).kind) c.self.view_is ∙ in_use (is_free (slot_at c.args.self.now.state s).kind) _ c.known.result c.known.ensures c.if-is_none.ensures in
+    let used : is_free (slot_at st s).kind ≡ false = ap (λ (v : View g.row.T.Denot). is_free (slot_at v.state s).kind) c.self.view_is ∙ in_use (is_free (slot_at c.args.self.now.state s).kind) _ c.known.result c.known.ensures.it c.if-is_none.ensures in
     some_place (words_book inside.words) st inside.places.items c.self.invariant.placed s used
 
 pub stay-requires : goal.stay-requires
 stay-requires g c pass shuts =
     let a = c.self.invariant in let k = knows a shuts in let inside = c.self.inside in let s = c.args.s in let n = words_book inside.words in let st = inside.hands.state in
-    let used : is_free (slot_at st s).kind ≡ false = ap (λ (v : View g.row.T.Denot). is_free (slot_at v.state s).kind) c.self.view_is ∙ in_use (is_free (slot_at c.args.self.now.state s).kind) _ c.known.result c.known.ensures c.if-is_none.ensures in
+    let used : is_free (slot_at st s).kind ≡ false = ap (λ (v : View g.row.T.Denot). is_free (slot_at v.state s).kind) c.self.view_is ∙ in_use (is_free (slot_at c.args.self.now.state s).kind) _ c.known.result c.known.ensures.it c.if-is_none.ensures in
     let is = place_is n st inside.places.items a.placed s used c.out-owned.result c.out-owned.ensures.place in
     let its = c.into_loose-loose.ensures in (
       c.into_loose-loose.result.0,
@@ -45,7 +45,7 @@ stay-requires g c pass shuts =
 pub of-requires : goal.of-requires
 of-requires g c =
     let a = c.self.invariant in let stay = c.stay.ensures in let k = knows a stay.shut in let inside = c.self.inside in let s = c.args.s in let n = words_book inside.words in let st = inside.hands.state in
-    let used : is_free (slot_at st s).kind ≡ false = ap (λ (v : View g.row.T.Denot). is_free (slot_at v.state s).kind) c.self.view_is ∙ in_use (is_free (slot_at c.args.self.now.state s).kind) _ c.known.result c.known.ensures c.if-is_none.ensures in
+    let used : is_free (slot_at st s).kind ≡ false = ap (λ (v : View g.row.T.Denot). is_free (slot_at v.state s).kind) c.self.view_is ∙ in_use (is_free (slot_at c.args.self.now.state s).kind) _ c.known.result c.known.ensures.it c.if-is_none.ensures in
     let is = place_is n st inside.places.items a.placed s used c.out-owned.result c.out-owned.ensures.place in
     let loose = c.into_loose-loose.result.0 in let x = c.into_loose-loose.result.1.value in let kind = c.args.kind in
     let had = stay.gives.4 loose refl in let at = in_place n s 1 had.before (had.was.0 ∙ ap (λ (t : Lies). t.1.1.0) is) in
@@ -56,7 +56,7 @@ of-requires g c =
 pub invariant_of-self : goal.invariant_of-self
 invariant_of-self g c =
     let a = c.self.invariant in let stay = c.stay.ensures in let inside = c.self.inside in let s = c.args.s in let n = words_book inside.words in let st = inside.hands.state in
-    let used : is_free (slot_at st s).kind ≡ false = ap (λ (v : View g.row.T.Denot). is_free (slot_at v.state s).kind) c.self.view_is ∙ in_use (is_free (slot_at c.args.self.now.state s).kind) _ c.known.result c.known.ensures c.if-is_none.ensures in
+    let used : is_free (slot_at st s).kind ≡ false = ap (λ (v : View g.row.T.Denot). is_free (slot_at v.state s).kind) c.self.view_is ∙ in_use (is_free (slot_at c.args.self.now.state s).kind) _ c.known.result c.known.ensures.it c.if-is_none.ensures in
     let is = place_is n st inside.places.items a.placed s used c.out-owned.result c.out-owned.ensures.place in
     let x = c.into_loose-loose.result.1.value in let kind = c.args.kind in
     let now : State g.row.T.Denot ℕ = (retire g.R.Puts.puts g.R.Puts.weight st s x kind).1.0 in let same = retire_outline g.R.Puts.puts g.R.Puts.weight st s x kind in
@@ -68,7 +68,7 @@ invariant_of-self g c =
 pub returns-clause-done : goal.returns-clause-done
 returns-clause-done g c =
     let a = c.self.invariant in let stay = c.stay.ensures in let k = knows a stay.shut in let inside = c.self.inside in let s = c.args.s in let n = words_book inside.words in let st = inside.hands.state in
-    let used : is_free (slot_at st s).kind ≡ false = ap (λ (v : View g.row.T.Denot). is_free (slot_at v.state s).kind) c.self.view_is ∙ in_use (is_free (slot_at c.args.self.now.state s).kind) _ c.known.result c.known.ensures c.if-is_none.ensures in
+    let used : is_free (slot_at st s).kind ≡ false = ap (λ (v : View g.row.T.Denot). is_free (slot_at v.state s).kind) c.self.view_is ∙ in_use (is_free (slot_at c.args.self.now.state s).kind) _ c.known.result c.known.ensures.it c.if-is_none.ensures in
     let is = place_is n st inside.places.items a.placed s used c.out-owned.result c.out-owned.ensures.place in
     let loose = c.into_loose-loose.result.0 in let x = c.into_loose-loose.result.1.value in let kind = c.args.kind in
     let had = stay.gives.4 loose refl in let at = in_place n s 1 had.before (had.was.0 ∙ ap (λ (t : Lies). t.1.1.0) is) in
