@@ -7,8 +7,8 @@
 --     AreTakenTo n numbers     the key knows that just these numbers are in use, the slots that lie there are those of the others and of
 --                              the first n, and the next one is there
 --     AreNumbers numbers       so others find them: no slot that lies there has taken its number
---     HasTaken words pass pass' slot     the slot's number was taken with the pass, by the event `Take`; where the pass is alone, that is the
---                              only entry of the list since (MakesAlone). The slot is in use, and inactive
+--     HasTaken words pass pass' slot     the slot's number was taken with the pass, by the event `Take`; where the pass is alone, that is
+--                              the only entry of the list since (MakesAlone). The slot is in use, and inactive
 --     TakesNone pass pass' refusal     no number was taken, for want of memory, and the pass made nothing (IsStill)
 --     IsLockFor words numbers  they are of the list of these words;  MayEnd words slot     the slot is in use, and inactive
 use Rattle.std.specs.Prelude.{◌≡◌, ◌<◌, ◌≤◌, ℕ, suc, zero, Bool, true, map, List, [], ◌∷◌, Option, Some, None, get_or}
