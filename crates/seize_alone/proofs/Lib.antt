@@ -12,3 +12,4 @@ pub mod Slots
 pub mod Sizes
 pub mod Outlines
 pub mod Begins
+pub mod Reclaiming
