@@ -1,9 +1,9 @@
 -- Steps of single slots, slot after slot, are a reclaim of all.
 --     freed slot          a slot that parted and gave its number back
 --     from f k xs         f of each element from the k-th on
-use Rattle.std.proofs.Common.{◌≡◌, ◌≢◌, ℕ, zero, suc, ◌+◌, ◌-◌, ◌<◌, ◌≤◌, ◌==◌, ◌||◌, Bool, true, false, not, if◌then◌else◌, nat_lt, List, [], ◌∷◌, ◌++◌, length, map, get_or, set, replicate, refl, sym, ◌∙◌, ap, subst, arith}
+use Rattle.std.proofs.Common.{◌≡◌, ◌≢◌, ℕ, zero, suc, ◌+◌, ◌-◌, ◌<◌, ◌≤◌, ◌==◌, ◌||◌, Bool, true, false, not, if◌then◌else◌, nat_lt, List, [], ◌∷◌, ◌++◌, length, map, get_or, set, replicate, refl, sym, ◌∙◌, ap, subst, ◌⊎◌, inl, inr, arith}
 use Rattle.std.specs.List.{count_by, flat_map, list_any, range_with_len}
-use Rattle.std.proofs.lemmas.List.{append-nil, append_assoc, get_or-set_same, get_or_past, length-map, length-set, set-get_or, set-set}
+use Rattle.std.proofs.lemmas.List.{append-nil, append_assoc, get_or-set_other, get_or-set_same, length-map, length-set, set-get_or, set-set}
 use Rattle.std.proofs.lemmas.List.Concat.{flat_map-cons}
 use Rattle.std.proofs.lemmas.Grind.{common_steps}
 use Rattle.seize_model.specs.declared.kind.Kind.{Kind}
@@ -12,10 +12,14 @@ use Rattle.seize_model.specs.Waiting.State.{Slot, State, has_guard, is_kept, no_
 use Rattle.seize_model.specs.Waiting.Attempt.{StateAndGone, active_slots, attempt, part, release, release_all, wait_if_active, with_gone}
 use Rattle.seize_model.specs.Waiting.Calls.{is_free, one_guard_less, part_all, reclaim_all, set_guards, with_number_free, with_number_free_if, with_number_in_use, without_batch}
 use Rattle.seize_model.specs.Waiting.Further.{further, gone_from}
+use Rattle.seize_machine.specs.Machine.State.{has}
+use Rattle.seize_machine.proofs.Facts.{is_true}
 use Rattle.seize_machine.proofs.Invariants.Kept.{at_set}
-use Rattle.seize_model.proofs.Cases.{either}
+use Rattle.seize_model.proofs.Cases.{or_same}
+use Rattle.seize_model.proofs.Counts.{any_counts, count_same}
+use Rattle.seize_model.proofs.WaitingSets.GoneBatches.{IsClean}
 use Rattle.seize_model.proofs.WaitingSets.LinkCounts.{releases_beside}
-use Rattle.seize_alone.specs.Reclaiming.{IsOrderly, ReclaimsInTurn, batch_in_turn, batches_in_turn, entered_as, in_turn, last_guard_left, numbers_in_turn, part_in_turn, parts_in_turn, with_gone_below}
+use Rattle.seize_alone.specs.Reclaiming.{IsOrderly, ReclaimsInTurn, batch_in_turn, batches_in_turn, entered_as, in_turn, last_guard_left, numbers_in_turn, part_in_turn, parts_in_turn, with_gone_below, with_order_from}
 use Rattle.seize_alone.proofs.Mapped.{any_map, set_map}
 
 -- Element after element.
@@ -385,3 +389,178 @@ module _ {T R : Type 0} where
       numbers_go n (k + 1) (with_number_free st k) (omega (arith, h, length-set st.slots k (free (slot_at st k))))
       ∙ ap (λ (m : ℕ). record st { slots = from free m (set st.slots k (free (slot_at st k))) }) one
       ∙ ap (λ (l : List (Slot T R)). record st { slots = l }) (from_next free k st.slots no_slot within)
+
+-- Retired batches: those that wait for no slot are gone.
+
+emptied_at : {X : Type 0} (xs : List (List X)) (b : ℕ) → get_or (set xs b []) b [] ≡ []
+emptied_at [] b = refl
+emptied_at (x ∷ xs) zero = refl
+emptied_at (x ∷ xs) (suc b) = emptied_at xs b
+
+has_rest : (b c : ℕ) (cs : List ℕ) → b ≢ c → has b (c ∷ cs) ≡ true → has b cs ≡ true
+has_rest b c cs other t = let no : (c == b) ≡ false = grind arith in sym (ap (λ (u : Bool). u || has b cs) no) ∙ t
+
+module _ {T R : Type 0} where
+  abbrev IsKeptOrGone : State T R → List ℕ → Type 0
+  IsKeptOrGone st bs = (b : ℕ) → is_kept st b ≡ false → (has b bs ≡ true) ⊎ (retired_at st b ≡ [])
+
+  release_rest : (st : State T R) (c : ℕ) (cs : List ℕ) → IsKeptOrGone st (c ∷ cs) → IsKeptOrGone (release st c).0 cs
+  release_rest st c cs h = go (is_kept st c) refl
+    where
+      go : (k : Bool) → is_kept st c ≡ k → (let o : StateAndGone T R = if k then (st, []) else (record st { retired = set st.retired c [] }, retired_at st c) in IsKeptOrGone o.0 cs)
+      go true kept b e = elim (or_same b c) [
+        | inl same ↦ absurd (let k : true ≡ false = sym kept ∙ ap (is_kept st) (sym same) ∙ e in cc)
+        | inr other ↦ elim (h b e) [ inl t ↦ inl (has_rest b c cs other t) | inr none ↦ inr none ]
+      ]
+      go false kept b e = elim (or_same b c) [
+        | inl same ↦ inr (ap (λ (k : ℕ). get_or (set st.retired c []) k []) same ∙ emptied_at st.retired c)
+        | inr other ↦ elim (h b e) [ inl t ↦ inl (has_rest b c cs other t) | inr none ↦ inr (get_or-set_other st.retired c b [] [] other ∙ none) ]
+      ]
+
+  releases_clean : (bs : List ℕ) (st : State T R) → IsKeptOrGone st bs → IsClean (release_all st bs).0
+  releases_clean [] st h b e = elim (h b e) [ inl t ↦ absurd (cc) | inr none ↦ none ]
+  releases_clean (c ∷ cs) st h b e = releases_clean cs (release st c).0 (release_rest st c cs h) b e
+
+  waits_other : (st : State T R) (s b : ℕ) → (has b (slot_at st s).order ≡ false) → is_kept (set_slot st s (record (slot_at st s) { order = [] })) b ≡ is_kept st b
+  waits_other st s b none =
+      any_counts (waits_for b) (set st.slots s (record (slot_at st s) { order = [] }))
+      ∙ ap (λ (n : ℕ). not (n == 0)) (count_same (waits_for b) st.slots s (record (slot_at st s) { order = [] }) no_slot (sym none)) ∙ sym (any_counts (waits_for b) st.slots)
+
+  part_clean : (st : State T R) (s : ℕ) → IsClean st → IsClean (part st s).0
+  part_clean st s clean =
+      releases_clean (slot_at st s).order (set_slot st s (record (slot_at st s) { order = [] })) (λ b e. go b e (is_true (has b (slot_at st s).order)))
+    where
+      go : (b : ℕ) → is_kept (set_slot st s (record (slot_at st s) { order = [] })) b ≡ false → (has b (slot_at st s).order ≡ true) ⊎ (has b (slot_at st s).order ≡ false)
+          → (has b (slot_at st s).order ≡ true) ⊎ (retired_at st b ≡ [])
+      go b e (inl t) = inl t
+      go b e (inr f) = inr (clean b (sym (waits_other st s b f) ∙ e))
+
+  next_clean : (st : State T R) (s : ℕ) → s < length st.slots → IsClean st → IsClean (with_number_free (part st s).0 s)
+  next_clean st s h clean b e =
+      let parted : State T R = (part st s).0 in
+      let orders : map (λ (x : Slot T R). x.order) (with_number_free (part st s).0 s).slots ≡ map (λ (x : Slot T R). x.order) (part st s).0.slots =
+      ap (map (λ (x : Slot T R). x.order)) (next_slots st s h) ∙ set_map (λ (x : Slot T R). x.order) st.slots s (freed (slot_at st s))
+      ∙ sym (set_map (λ (x : Slot T R). x.order) st.slots s (record (slot_at st s) { order = [] }))
+      ∙ ap (map (λ (x : Slot T R). x.order)) (sym (release_slots (set_slot st s (record (slot_at st s) { order = [] })) (slot_at st s).order)) in
+      part_clean st s clean b (sym (kept_by b (with_number_free (part st s).0 s).slots (part st s).0.slots orders) ∙ e)
+
+  parted_clean : (n k : ℕ) (st : State T R) → k + n ≡ length st.slots → IsClean st → IsClean (part_all st (range_with_len k n)).0
+  parted_clean zero k st h clean = clean
+  parted_clean (suc n) k st h clean =
+      let within : k < length st.slots = omega (arith, h) in
+      let long : k + 1 + n ≡ length (with_number_free (part st k).0 k).slots =
+      omega (arith, h, ap (λ (l : List (Slot T R)). length l) (next_slots st k within), length-set st.slots k (freed (slot_at st k))) in
+      parted_clean n (k + 1) (with_number_free (part st k).0 k) long (next_clean st k within clean)
+
+-- All of it.
+
+abbrev AllGone : {X : Type 0} → List (List X) → Type 0
+AllGone xs = (b : ℕ) → get_or xs b [] ≡ []
+
+append_gone : {X : Type 0} (xs ys : List (List X)) → AllGone xs → AllGone ys → AllGone (xs ++ ys)
+append_gone [] ys xg yg b = yg b
+append_gone (x ∷ xs) ys xg yg zero = xg zero
+append_gone (x ∷ xs) ys xg yg (suc b) = append_gone xs ys (λ c. xg (suc c)) yg b
+
+gone_many : {X : Type 0} (xs : List (List X)) → AllGone xs → xs ≡ replicate (length xs) [] ++ []
+gone_many [] gone = refl
+gone_many (x ∷ xs) gone = λ i. gone zero i ∷ gone_many xs (λ b. gone (suc b)) i
+
+module _ {T R : Type 0} where
+  left_gone : (vs : List (T × R)) → AllGone (left_of vs)
+  left_gone [] b = refl
+  left_gone (v ∷ vs) zero = refl
+  left_gone (v ∷ vs) (suc b) = refl
+
+  lefts_gone : (xs : List (Slot T R)) → AllGone (flat_map (λ (slot : Slot T R). left_of slot.batch) xs)
+  lefts_gone [] b = refl
+  lefts_gone (x ∷ xs) b =
+      ap (λ (l : List (List (T × R))). get_or l b []) (flat_map-cons (λ (slot : Slot T R). left_of slot.batch) x xs)
+      ∙ append_gone (left_of x.batch) (flat_map (λ (slot : Slot T R). left_of slot.batch) xs) (left_gone x.batch) (lefts_gone xs) b
+
+  all_quiet : (xs : List (Slot T R)) → AreQuiet (map (λ (slot : Slot T R). freed slot) xs)
+  all_quiet [] s = (refl, refl)
+  all_quiet (x ∷ xs) zero = (refl, refl)
+  all_quiet (x ∷ xs) (suc s) = all_quiet xs s
+
+  slots_end : (kind : Kind) (xs : List (Slot T R))
+      → map (λ (slot : Slot T R). record slot { kind = Free; guards = 0 }) (map (λ (slot : Slot T R). emptied kind) (map (λ (slot : Slot T R). freed slot) xs)) ≡ map without_batch (map (λ (slot : Slot T R). freed slot) xs)
+  slots_end kind [] = refl
+  slots_end kind (x ∷ xs) = ap (λ (l : List (Slot T R)). emptied Free ∷ l) (slots_end kind xs)
+
+  same_orders : (n : ℕ) (xs : List (Slot T R)) → map without_batch (map (λ (slot : Slot T R). freed slot) xs) ≡ map (with_order_from n) (map without_batch (map (λ (slot : Slot T R). freed slot) xs))
+  same_orders n [] = refl
+  same_orders n (x ∷ xs) = ap (λ (l : List (Slot T R)). emptied Free ∷ l) (same_orders n xs)
+
+  module _ (st : State T R) (kind : Kind) (o : IsOrderly st) where
+    abbrev all : List ℕ
+    all = range_with_len 0 (length st.slots)
+
+    abbrev parted : StateAndGone T R
+    parted = part_all st (range_with_len 0 (length st.slots))
+
+    abbrev lefts : List (List (T × R))
+    lefts = (part_all st (range_with_len 0 (length st.slots))).0.retired ++ flat_map (λ (slot : Slot T R). left_of slot.batch) (part_all st (range_with_len 0 (length st.slots))).0.slots
+
+    abbrev reclaimed : StateAndGone T R
+    reclaimed = (record parted.0 { slots = map without_batch parted.0.slots; retired = lefts }, parted.1 ++ flat_map (λ slot. slot.batch) parted.0.slots)
+
+    whole : 0 + length st.slots ≡ length st.slots
+    whole = omega arith
+
+    parted_slots_are : (part_all st (range_with_len 0 (length st.slots))).0.slots ≡ map (λ (slot : Slot T R). freed slot) st.slots
+    unfolding from
+    parted_slots_are = parted_are (length st.slots) 0 st whole
+
+    parted_quiet : AreQuiet (part_all st (range_with_len 0 (length st.slots))).0.slots
+    parted_quiet = subst (λ (l : List (Slot T R)). AreQuiet l) (sym parted_slots_are) (all_quiet st.slots)
+
+    parted_many : 0 + length st.slots ≡ length (part_all st (range_with_len 0 (length st.slots))).0.slots
+    parted_many = whole ∙ sym (ap (λ (l : List (Slot T R)). length l) parted_slots_are ∙ length-map st.slots (λ (slot : Slot T R). freed slot))
+
+    abbrev away : StateAndGone T R
+    away = (record parted.0 { slots = map (λ (slot : Slot T R). emptied kind) parted.0.slots; retired = lefts }, flat_map (λ (slot : Slot T R). slot.batch) parted.0.slots)
+
+    batches_away : batches_in_turn kind parted.0 all ≡ away
+    unfolding from flat_from
+    batches_away = batches_go kind (length st.slots) 0 parted.0 parted_many parted_quiet
+
+    numbers_back : numbers_in_turn away.0 all ≡ reclaimed.0
+    unfolding from
+    numbers_back =
+        numbers_go (length st.slots) 0 away.0 (parted_many ∙ sym (length-map parted.0.slots (λ (slot : Slot T R). emptied kind)))
+        ∙ ap (λ (l : List (Slot T R)). record parted.0 { slots = map (λ (slot : Slot T R). record slot { kind = Free; guards = 0 }) (map (λ (slot : Slot T R). emptied kind) l); retired = lefts }) parted_slots_are
+        ∙ ap (λ (l : List (Slot T R)). record parted.0 { slots = l; retired = lefts }) (slots_end kind st.slots)
+        ∙ ap (λ (l : List (Slot T R)). record parted.0 { slots = map without_batch l; retired = lefts }) (sym parted_slots_are)
+
+    pub in_turn_is : in_turn kind st ≡ reclaimed
+    in_turn_is =
+        let ends : StateAndGone T R → StateAndGone T R → StateAndGone T R = λ p b. (numbers_in_turn b.0 all, p.1 ++ b.1) in
+        ap (λ (p : StateAndGone T R). ends p (batches_in_turn kind p.0 all)) (parts_are (length st.slots) 0 st whole (λ s. (o.free s, o.inactive s)))
+        ∙ ap (ends parted) batches_away
+        ∙ (λ i. (numbers_back i, parted.1 ++ flat_map (λ (slot : Slot T R). slot.batch) parted.0.slots))
+
+    lefts_are_gone : AllGone lefts
+    lefts_are_gone =
+        append_gone parted.0.retired (flat_map (λ (slot : Slot T R). left_of slot.batch) parted.0.slots)
+        (λ b. parted_clean (length st.slots) 0 st whole o.gone b (kept_for_none b parted.0.slots parted_quiet)) (lefts_gone parted.0.slots)
+
+    abbrev modelled : State T R
+    modelled = record parted.0 { slots = map without_batch parted.0.slots; retired = [] }
+
+    below : reclaimed.0 ≡ with_gone_below (length lefts) modelled
+    below =
+        let n = length lefts in
+        λ i. record parted.0 {
+          slots = (ap (map without_batch) parted_slots_are ∙ same_orders n st.slots ∙ ap (λ (l : List (Slot T R)). map (with_order_from n) (map without_batch l)) (sym parted_slots_are)) i;
+          retired = gone_many lefts lefts_are_gone i;
+        }
+
+pub reclaims_in_turn : {T : Type 0} (puts : ℕ → T → List T) (weight : T → ℕ) → ReclaimsInTurn puts weight
+reclaims_in_turn {T} puts weight st kind o =
+    let is : in_turn kind st ≡ reclaimed st kind o = in_turn_is st kind o in (
+      ap (λ (x : StateAndGone T ℕ). x.1 ++ gone_from puts weight (further puts x.1)) is,
+      ap (λ (x : StateAndGone T ℕ). record x.0 { retired = [] }) is,
+      ap (λ (x : StateAndGone T ℕ). x.0) is ∙ below st kind o
+      ∙ ap (λ (x : StateAndGone T ℕ). with_gone_below (length x.0.retired) (modelled st kind o)) (sym is),
+    )
