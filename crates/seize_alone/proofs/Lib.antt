@@ -13,3 +13,4 @@ pub mod Sizes
 pub mod Outlines
 pub mod Begins
 pub mod Reclaiming
+pub mod Orderly
