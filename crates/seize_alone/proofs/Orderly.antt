@@ -1,6 +1,7 @@
 -- A state that hands hold is orderly: what the list shows of a slot and of a retired batch says so.
-use Rattle.std.proofs.Common.{◌≡◌, ℕ, zero, suc, ◌<◌, ◌==◌, ◌||◌, Bool, true, false, if◌then◌else◌, List, [], ◌∷◌, length, map, get_or, Option, Some, None, refl, sym, ◌∙◌, ap, subst, inl, inr, arith}
+use Rattle.std.proofs.Common.{◌≡◌, ℕ, zero, suc, ◌<◌, ◌≤◌, ◌==◌, Bool, true, false, not, if◌then◌else◌, List, [], ◌∷◌, length, map, get_or, Option, Some, None, refl, sym, ◌∙◌, ap, subst, inl, inr, arith}
 use Rattle.std.specs.List.{Contains, list_any}
+use Rattle.std.proofs.lemmas.List.{set-get_or}
 use base.Stored.{Gv}
 use Rattle.seize_machine.specs.Machine.State as machine
 use Rattle.seize_machine.specs.Machine.State.{Active, Head, Inactive, are_distinct, batch_at, has, head_at, linked_values, waiting_at}
@@ -8,6 +9,7 @@ use Rattle.seize_machine.specs.Machine.History.{answers_of}
 use Rattle.seize_machine.specs.Machine.Laws.{IsHeld, detached_by, walk_of}
 use Rattle.seize_machine.proofs.Facts.{law_holders}
 use Rattle.seize_model.specs.Waiting.State as waiting
+use Rattle.seize_model.specs.Waiting.Calls.{is_owned, set_guards}
 use Rattle.seize_model.specs.Agreement.Shows.{ShowsSlot, head_of}
 use Rattle.seize_model.proofs.Cases.{or_false}
 use Rattle.seize_book.specs.Book.{IsLegalList, after, moments}
@@ -72,6 +74,17 @@ module _ {T : Type 0} (code : T → Gv) (st : waiting.State T ℕ) (names : List
         map_nothing some_value (waiting.retired_at st b)
         (sym (retired_same st b) ∙ map_nothing (λ (v : Option T × Option ℕ). v.0) (waiting.retired_at (some_state st) b) (sym (holds.shows.values b) ∙ ap (map (found names)) values));
   }
+
+-- an owned slot has one guard at most
+pub owned_guard : {T : Type 0} (code : T → Gv) (st : waiting.State T ℕ) (names : List (ℕ × T)) (kinds : List (ℕ × ℕ)) (n : Name) (seen : List Entry) (s : ℕ) → Holds code st names kinds n seen
+    → is_owned (waiting.slot_at st s).kind ≡ true → waiting.has_guard (waiting.slot_at st s) ≡ true → set_guards st s 1 ≡ st
+owned_guard {T} code st names kinds n seen s holds owned on =
+    let shown : ShowsSlot (Option T) (Option ℕ) (found names) (some_slot (waiting.slot_at st s)) (machine.slot_at (after (start n) seen) s) =
+    subst (λ (x : waiting.Slot (Option T) (Option ℕ)). ShowsSlot (Option T) (Option ℕ) (found names) x (machine.slot_at (after (start n) seen) s)) (slot_same st s) (holds.shows.slot s) in
+    ap (λ (k : ℕ). set_guards st s k) (sym (one (waiting.slot_at st s).guards (shown.owned owned) on)) ∙ ap (λ (l : List (waiting.Slot T ℕ)). record st { slots = l }) (set-get_or st.slots s waiting.no_slot)
+  where
+    one : (k : ℕ) → k ≤ 1 → not (k == 0) ≡ true → k ≡ 1
+    one k few some = grind arith
 
 pub orderly_held : {T : Type 0} (code : T → Gv) → OrderlyHeld code
 orderly_held code st names kinds n seen legal distinct holds = orderly code st names kinds n seen legal distinct holds

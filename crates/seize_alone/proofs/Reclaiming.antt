@@ -1,6 +1,11 @@
 -- Steps of single slots, slot after slot, are a reclaim of all.
---     freed slot          a slot that parted and gave its number back
---     from f k xs         f of each element from the k-th on
+--     from f k xs, flat_from g k xs     f of each element from the k-th on;  what g makes of these
+--     freed slot, emptied kind     a slot that parted and gave its number back;  one that left without a batch
+--     turn_parts, parted_are       a slot's first step is a parting, and what the slots are after all of them
+--     batch_goes, batches_go       a slot's batch goes, and all batches go
+--     numbers_go                   the numbers go back
+--     parted_clean                 partings leave no values in a retired batch that waits for no slot
+--     in_turn_is                   all steps, by the slots after the partings
 use Rattle.std.proofs.Common.{◌≡◌, ◌≢◌, ℕ, zero, suc, ◌+◌, ◌-◌, ◌<◌, ◌≤◌, ◌==◌, ◌||◌, Bool, true, false, not, if◌then◌else◌, nat_lt, List, [], ◌∷◌, ◌++◌, length, map, get_or, set, replicate, refl, sym, ◌∙◌, ap, subst, ◌⊎◌, inl, inr, arith}
 use Rattle.std.specs.List.{count_by, flat_map, list_any, range_with_len}
 use Rattle.std.proofs.lemmas.List.{append-nil, append_assoc, get_or-set_other, get_or-set_same, length-map, length-set, set-get_or, set-set}
@@ -10,7 +15,7 @@ use Rattle.seize_model.specs.declared.kind.Kind.{Kind}
 use Rattle.seize_model.specs.declared.kind.Kind.TheVariants.{Free, Owned, Registered}
 use Rattle.seize_model.specs.Waiting.State.{Slot, State, has_guard, is_kept, no_slot, retired_at, set_slot, slot_at, waits_for}
 use Rattle.seize_model.specs.Waiting.Attempt.{StateAndGone, active_slots, attempt, part, release, release_all, wait_if_active, with_gone}
-use Rattle.seize_model.specs.Waiting.Calls.{is_free, one_guard_less, part_all, reclaim_all, set_guards, with_number_free, with_number_free_if, with_number_in_use, without_batch}
+use Rattle.seize_model.specs.Waiting.Calls.{is_free, one_guard_less, part_all, set_guards, with_number_free, with_number_free_if, without_batch}
 use Rattle.seize_model.specs.Waiting.Further.{further, gone_from}
 use Rattle.seize_machine.specs.Machine.State.{has}
 use Rattle.seize_machine.proofs.Facts.{is_true}
@@ -19,7 +24,7 @@ use Rattle.seize_model.proofs.Cases.{or_same}
 use Rattle.seize_model.proofs.Counts.{any_counts, count_same}
 use Rattle.seize_model.proofs.WaitingSets.GoneBatches.{IsClean}
 use Rattle.seize_model.proofs.WaitingSets.LinkCounts.{releases_beside}
-use Rattle.seize_alone.specs.Reclaiming.{IsOrderly, ReclaimsInTurn, batch_in_turn, batches_in_turn, entered_as, in_turn, last_guard_left, numbers_in_turn, part_in_turn, parts_in_turn, with_gone_below, with_order_from}
+use Rattle.seize_alone.specs.Reclaiming.{IsOrderly, ReclaimsInTurn, batch_in_turn, batches_in_turn, entered_as, in_turn, numbers_in_turn, part_in_turn, parts_in_turn, with_gone_below, with_order_from}
 use Rattle.seize_alone.proofs.Mapped.{any_map, set_map}
 
 -- Element after element.
@@ -43,7 +48,7 @@ from_end f zero (x ∷ xs) h = absurd (omega (arith, h))
 from_end f (suc k) [] h = refl
 from_end f (suc k) (x ∷ xs) h = ap (λ rest. x ∷ rest) (from_end f k xs (omega (arith, h)))
 
-abbrev slot_order : {T R : Type 0} → Slot T R → List ℕ
+abbrev pub slot_order : {T R : Type 0} → Slot T R → List ℕ
 slot_order slot = slot.order
 
 -- The first steps: parting.
@@ -54,7 +59,7 @@ is_free_kind Registered e = absurd (cc)
 is_free_kind Owned e = absurd (cc)
 
 module _ {T R : Type 0} where
-  abbrev freed : Slot T R → Slot T R
+  abbrev pub freed : Slot T R → Slot T R
   freed slot = record { kind = Free; guards = 0; batch = slot.batch; order = [] }
 
   kept_by : (b : ℕ) (xs ys : List (Slot T R)) → map (λ (slot : Slot T R). slot.order) xs ≡ map (λ (slot : Slot T R). slot.order) ys → list_any (waits_for b) xs ≡ list_any (waits_for b) ys
@@ -103,7 +108,7 @@ module _ {T R : Type 0} where
       ∙ ap (λ (x : Slot T R). release_all (set_slot (set_slot st s (record slot { guards = 0 })) s (record x { order = [] })) x.order) (get_or-set_same st.slots s (record slot { guards = 0 }) no_slot h)
       ∙ ap (λ (k : State T R). release_all k slot.order) (set_again st s (record slot { guards = 0 }) (record slot { guards = 0; order = [] }))
 
-  abbrev Parted : State T R → ℕ → StateAndGone T R
+  abbrev pub Parted : State T R → ℕ → StateAndGone T R
   Parted st s = (with_number_free (part st s).0 s, (part st s).1)
 
   parted_slots : (st : State T R) (s : ℕ) → s < length st.slots → with_number_free (part st s).0 s ≡ record (part st s).0 { slots = set st.slots s (freed (slot_at st s)) }
@@ -143,13 +148,13 @@ module _ {T R : Type 0} where
 
   -- A slot's own step is a parting, after which its number goes back.
 
-  abbrev IsSound : Slot T R → Type 0
+  abbrev pub IsSound : Slot T R → Type 0
   IsSound slot = (is_free slot.kind ≡ true → slot.guards ≡ 0) × (has_guard slot ≡ false → slot.order ≡ [])
 
   abbrev AreSound : List (Slot T R) → Type 0
   AreSound xs = (s : ℕ) → IsSound (get_or xs s no_slot)
 
-  turn_parts : (st : State T R) (s : ℕ) → s < length st.slots → IsSound (slot_at st s) → part_in_turn st s ≡ Parted st s
+  pub turn_parts : (st : State T R) (s : ℕ) → s < length st.slots → IsSound (slot_at st s) → part_in_turn st s ≡ Parted st s
   turn_parts st s h sound = go (is_free (slot_at st s).kind) refl (has_guard (slot_at st s)) refl
     where
       nothing : (slot_at st s).order ≡ [] → Parted st s ≡ (with_number_free st s, [])
@@ -163,7 +168,7 @@ module _ {T R : Type 0} where
       go false f true e = active_parts st s h
       go false f false e = sym (nothing (sound.1 e))
 
-  next_slots : (st : State T R) (s : ℕ) → s < length st.slots → (with_number_free (part st s).0 s).slots ≡ set st.slots s (freed (slot_at st s))
+  pub next_slots : (st : State T R) (s : ℕ) → s < length st.slots → (with_number_free (part st s).0 s).slots ≡ set st.slots s (freed (slot_at st s))
   next_slots st s h = ap (λ (k : State T R). k.slots) (parted_slots st s h)
 
   sound_next : (st : State T R) (s : ℕ) → s < length st.slots → AreSound st.slots → AreSound (with_number_free (part st s).0 s).slots
@@ -253,17 +258,17 @@ few n = grind arith
 
 module _ {T R : Type 0} where
   -- no slot is active, and none is waited for
-  abbrev AreQuiet : List (Slot T R) → Type 0
+  abbrev pub AreQuiet : List (Slot T R) → Type 0
   AreQuiet xs = (s : ℕ) → (has_guard (get_or xs s no_slot) ≡ false) × (slot_order (get_or xs s no_slot) ≡ [])
 
-  abbrev emptied : Kind → Slot T R
+  abbrev pub emptied : Kind → Slot T R
   emptied kind = record { kind = kind; guards = 0; batch = []; order = [] }
 
   abbrev holding : Kind → List (T × R) → Slot T R
   holding kind batch = record { kind = kind; guards = 1; batch = batch; order = [] }
 
   -- what is left of a retired batch
-  abbrev left_of : List (T × R) → List (List (T × R))
+  abbrev pub left_of : List (T × R) → List (List (T × R))
   left_of [] = []
   left_of (v ∷ vs) = [] ∷ []
 
@@ -293,7 +298,7 @@ module _ {T R : Type 0} where
         ∙ set_again st s used (record used { guards = 1 })
         ∙ ap (λ (o : List ℕ). set_slot st s (record used { guards = 1; order = o })) (quiet s).1
 
-    abbrev ended : List (T × R) → StateAndGone T R
+    abbrev pub ended : List (T × R) → StateAndGone T R
     ended vs = (record st { slots = set st.slots s (emptied kind); retired = st.retired ++ left_of vs }, vs)
 
     abbrev tries : List (T × R) → StateAndGone T R
@@ -353,7 +358,7 @@ module _ {T R : Type 0} where
     in_turn_from [] = ap leaves (tries_own []) ∙ leaves_begun
     in_turn_from (v ∷ vs) = ap leaves (tries_some v vs) ∙ leaves_waited v vs
 
-    batch_goes : batch_in_turn kind st s ≡ ended (slot_at st s).batch
+    pub batch_goes : batch_in_turn kind st s ≡ ended (slot_at st s).batch
     batch_goes = ap (λ (k : State T R). leaves (attempt k s)) enters ∙ in_turn_from (slot_at st s).batch
 
   batches_go : (kind : Kind) (n k : ℕ) (st : State T R) → k + n ≡ length st.slots → AreQuiet st.slots
@@ -361,9 +366,13 @@ module _ {T R : Type 0} where
       ≡ (record st { slots = from (λ (slot : Slot T R). emptied kind) k st.slots; retired = st.retired ++ flat_from (λ (slot : Slot T R). left_of slot.batch) k st.slots }, flat_from (λ (slot : Slot T R). slot.batch) k st.slots)
   batches_go kind zero k st h quiet =
       let past : length st.slots ≤ k = omega (arith, h) in
-      λ i. (record st { slots = sym (from_end (λ (slot : Slot T R). emptied kind) k st.slots past) i;
-        retired = (sym (append-nil st.retired) ∙ ap (λ (l : List (List (T × R))). st.retired ++ l) (sym (flat_end (λ (slot : Slot T R). left_of slot.batch) k st.slots past))) i },
-      sym (flat_end (λ (slot : Slot T R). slot.batch) k st.slots past) i)
+      λ i. (
+        record st {
+          slots = sym (from_end (λ (slot : Slot T R). emptied kind) k st.slots past) i;
+          retired = (sym (append-nil st.retired) ∙ ap (λ (l : List (List (T × R))). st.retired ++ l) (sym (flat_end (λ (slot : Slot T R). left_of slot.batch) k st.slots past))) i;
+        },
+        sym (flat_end (λ (slot : Slot T R). slot.batch) k st.slots past) i,
+      )
   batches_go kind (suc n) k st h quiet =
       let within : k < length st.slots = omega (arith, h) in
       let later : State T R = record st { slots = set st.slots k (emptied kind); retired = st.retired ++ left_of (slot_at st k).batch } in
@@ -373,10 +382,14 @@ module _ {T R : Type 0} where
       ap (λ (o : StateAndGone T R). with_gone o.1 (batches_in_turn kind o.0 (range_with_len (k + 1) n))) (batch_goes kind st k within quiet)
       ∙ ap (with_gone batch) (batches_go kind n (k + 1) later long (quiet_set st.slots k kind quiet))
       ∙ ap (λ (m : ℕ). (record st { slots = from (λ (slot : Slot T R). emptied kind) m later.slots; retired = later.retired ++ flat_from (λ (slot : Slot T R). left_of slot.batch) m later.slots }, batch ++ flat_from (λ (slot : Slot T R). slot.batch) m later.slots)) one
-      ∙ (λ i. (record st { slots = from_next (λ (slot : Slot T R). emptied kind) k st.slots no_slot within i;
-        retired = (append_assoc st.retired (left_of batch) (flat_from (λ (slot : Slot T R). left_of slot.batch) (suc k) later.slots)
-        ∙ ap (λ (l : List (List (T × R))). st.retired ++ l) (flat_next (λ (slot : Slot T R). left_of slot.batch) k st.slots (emptied kind) no_slot within)) i },
-      flat_next (λ (slot : Slot T R). slot.batch) k st.slots (emptied kind) no_slot within i))
+      ∙ (λ i. (
+        record st {
+          slots = from_next (λ (slot : Slot T R). emptied kind) k st.slots no_slot within i;
+          retired = (append_assoc st.retired (left_of batch) (flat_from (λ (slot : Slot T R). left_of slot.batch) (suc k) later.slots)
+              ∙ ap (λ (l : List (List (T × R))). st.retired ++ l) (flat_next (λ (slot : Slot T R). left_of slot.batch) k st.slots (emptied kind) no_slot within)) i;
+        },
+        flat_next (λ (slot : Slot T R). slot.batch) k st.slots (emptied kind) no_slot within i,
+      ))
 
   -- The third steps: the numbers.
 
@@ -508,11 +521,11 @@ module _ {T R : Type 0} where
     whole : 0 + length st.slots ≡ length st.slots
     whole = omega arith
 
-    parted_slots_are : (part_all st (range_with_len 0 (length st.slots))).0.slots ≡ map (λ (slot : Slot T R). freed slot) st.slots
+    pub parted_slots_are : (part_all st (range_with_len 0 (length st.slots))).0.slots ≡ map (λ (slot : Slot T R). freed slot) st.slots
     unfolding from
     parted_slots_are = parted_are (length st.slots) 0 st whole
 
-    parted_quiet : AreQuiet (part_all st (range_with_len 0 (length st.slots))).0.slots
+    pub parted_quiet : AreQuiet (part_all st (range_with_len 0 (length st.slots))).0.slots
     parted_quiet = subst (λ (l : List (Slot T R)). AreQuiet l) (sym parted_slots_are) (all_quiet st.slots)
 
     parted_many : 0 + length st.slots ≡ length (part_all st (range_with_len 0 (length st.slots))).0.slots
@@ -562,5 +575,5 @@ reclaims_in_turn {T} puts weight st kind o =
       ap (λ (x : StateAndGone T ℕ). x.1 ++ gone_from puts weight (further puts x.1)) is,
       ap (λ (x : StateAndGone T ℕ). record x.0 { retired = [] }) is,
       ap (λ (x : StateAndGone T ℕ). x.0) is ∙ below st kind o
-      ∙ ap (λ (x : StateAndGone T ℕ). with_gone_below (length x.0.retired) (modelled st kind o)) (sym is),
+          ∙ ap (λ (x : StateAndGone T ℕ). with_gone_below (length x.0.retired) (modelled st kind o)) (sym is),
     )

@@ -1,14 +1,15 @@
 -- Reclaiming all, by steps of single slots. Nothing is put in these steps: what the values gone put is reclaimed afterwards.
---     parts_in_turn st ss      each of these slots, in order, that is in use leaves with its last guard, where it has any, and gives its number back
---     batches_in_turn kind st ss     each of these slots, in order, has its number taken for this kind and enters, its batch is attempted, and it
---                         leaves. It keeps its number, so that each number is the least one that is not in use as it is taken
+--     parts_in_turn st ss      each of these slots in order: one in use leaves with its last guard, where it has any, and gives its number
+--                         back
+--     batches_in_turn kind st ss     each of these slots in order: its number is taken for this kind, it enters, its batch is attempted, and
+--                         it leaves. It keeps its number: so each number is the least one not in use as it is taken
 --     numbers_in_turn st ss    each of these slots gives its number back
 --     in_turn kind st     these three, of all slots: the state, and the values gone in order
---     IsOrderly st        a slot whose number is free has no guard, no batch waits for a slot without a guard, and a retired batch that waits for
---                         no slot has no values left
+--     IsOrderly st        a slot whose number is free has no guard, no batch waits for a slot without a guard, and a retired batch that waits
+--                         for no slot has no values left
 --     with_gone_below n st     the state with so many retired batches more, which are older and gone
---     ReclaimsInTurn      of an orderly state the steps, and then what the values gone put, are a reclaim of all: the same values are gone, in the
---                         same order, and the state is the same but for retired batches, which all are gone
+--     ReclaimsInTurn      of an orderly state the steps, and then what the values gone put, are a reclaim of all: the same values are gone in
+--                         the same order, and the state is the same but for retired batches, which all are gone
 --     OrderlyHeld         a state that hands hold is orderly, where the list is legal
 use Rattle.std.specs.Prelude.{◌≡◌, ℕ, true, false, ◌+◌, if◌then◌else◌, List, [], ◌∷◌, ◌++◌, length, map, replicate}
 use Rattle.std.specs.List.{range_with_len}
@@ -17,7 +18,8 @@ use Rattle.seize_machine.specs.Machine.State.{are_distinct, linked_values}
 use Rattle.seize_model.specs.declared.kind.Kind.{Kind}
 use Rattle.seize_model.specs.Waiting.State.{Slot, State, has_guard, is_kept, retired_at, slot_at}
 use Rattle.seize_model.specs.Waiting.Attempt.{StateAndGone, attempt, with_gone}
-use Rattle.seize_model.specs.Waiting.Calls.{is_free, one_guard_less, reclaim_all, set_guards, with_number_free, with_number_free_if, with_number_in_use}
+use Rattle.seize_model.specs.Waiting.Calls.{is_free, one_guard_less, reclaim_all, set_guards}
+use Rattle.seize_model.specs.Waiting.Calls.{with_number_free, with_number_free_if, with_number_in_use}
 use Rattle.seize_model.specs.Waiting.Further.{further, gone_from}
 use Rattle.seize_book.specs.Book.{IsLegalList}
 use Rattle.seize_book.specs.Entry.{Entry}
