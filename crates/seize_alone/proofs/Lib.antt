@@ -14,3 +14,4 @@ pub mod Outlines
 pub mod Begins
 pub mod Reclaiming
 pub mod Orderly
+pub mod Below
