@@ -6,13 +6,15 @@ use Rattle.std.proofs.Common.{◌≡◌, ℕ, zero, suc, ◌+◌, ◌-◌, ◌^�
 use Rattle.std.specs.Prelude.{Err, Ok, is_some}
 use Rattle.std.specs.List.{flat_map, fold, list_any, range_with_len}
 use Rattle.std.proofs.lemmas.List.{append_assoc, length-append, length-map, length-replicate, map-append}
+use Rattle.seize_table.specs.Place.{all_numbers}
 use Rattle.seize_table.specs.declared.refusal.Refusal.{Refusal}
+use Rattle.seize_table.specs.declared.refusal.Refusal.TheVariants.{NoNumbers, NotActive, NotInUse, TooManyGuards, WrongKind}
 use Rattle.seize_model.specs.declared.kind.Kind.{Kind}
 use Rattle.seize_model.specs.declared.kind.Kind.TheVariants.{Free, Owned, Registered}
 use Rattle.seize_model.specs.Waiting.State.{Slot, State, has_guard, is_kept, no_slot, retired_at, set_slot, slot_at, waits_for}
 use Rattle.seize_model.specs.Waiting.Attempt.{StateAndGone, active_slots, attempt, gives_up, part, put, release, release_all, wait_if_active, with_batch_retired, with_batch_value, with_gone}
 use Rattle.seize_model.specs.Waiting.Calls as calls
-use Rattle.seize_model.specs.Waiting.Calls.{Response, is_free, is_owned, least_unused, no_guard, not_registered, one_guard_less, part_all, part_if_alone, reclaim_all, set_guards, too_many, unless, unused, with_number_free, with_number_free_if, with_number_in_use, without_batch}
+use Rattle.seize_model.specs.Waiting.Calls.{Response, first_refusal, is_free, is_owned, least_unused, no_guard, not_registered, one_guard_less, part_all, part_if_alone, reclaim_all, set_guards, too_many, unless, unused, with_number_free, with_number_free_if, with_number_in_use, without_batch}
 use Rattle.seize_model.specs.Waiting.Further.{afterwards, further, gone_from, settle, still_to_come, with_further}
 use Rattle.seize_model.specs.Waiting.Lists.{Call, Effect, Reply, Register, EnterOwned, Enter, Leave, End, Refresh, Flush, Retire, Protect, Swap, done_reply, end_reply, reply, retire_old, step}
 use Rattle.seize_alone.specs.Reclaiming.{with_gone_below, with_order_from}
@@ -153,3 +155,147 @@ module _ {T R : Type 0} (n : ℕ) where
   freed_if_below : (owned : Bool) (s : ℕ) (o : StateAndGone T R) → with_number_free_if owned s (below_out o) ≡ below_out (with_number_free_if owned s o)
   freed_if_below true s o = λ i. (free_below o.0 s i, o.1)
   freed_if_below false s o = refl
+
+  use_below : (st : State T R) (m : ℕ) (kind : Kind) (guards : ℕ) → with_number_in_use (with_gone_below n st) m kind guards ≡ with_gone_below n (with_number_in_use st m kind guards)
+  use_below st m kind guards =
+      ap (λ (k : ℕ). if m == k then record (with_gone_below n st) { slots = map (with_order_from n) st.slots ++ made ∷ [] } else set_slot (with_gone_below n st) m (record (slot_at (with_gone_below n st) m) { kind = kind; guards = guards })) (length-map st.slots (with_order_from n))
+      ∙ by_case (m == length st.slots)
+    where
+      made : Slot T R
+      made = record { kind = kind; guards = guards; batch = []; order = [] }
+
+      by_case : (k : Bool) → (if k then record (with_gone_below n st) { slots = map (with_order_from n) st.slots ++ record { kind = kind; guards = guards; batch = []; order = [] } ∷ [] } else set_slot (with_gone_below n st) m (record (slot_at (with_gone_below n st) m) { kind = kind; guards = guards }))
+          ≡ with_gone_below n (if k then record st { slots = st.slots ++ record { kind = kind; guards = guards; batch = []; order = [] } ∷ [] } else set_slot st m (record (slot_at st m) { kind = kind; guards = guards }))
+      by_case true = λ i. record (with_gone_below n st) { slots = sym (map-append (with_order_from n) st.slots (made ∷ [])) i }
+      by_case false = ap (λ (slot : Slot T R). set_slot (with_gone_below n st) m (record slot { kind = kind; guards = guards })) (slot_below st m) ∙ write_below st m (record (slot_at st m) { kind = kind; guards = guards })
+
+  least_below : (slots : List (Slot T R)) → least_unused (map (with_order_from n) slots) ≡ least_unused slots
+  least_below [] = refl
+  least_below (slot ∷ slots) = ap (λ (k : ℕ). cond (not (is_free slot.kind)) (1 + k) 0) (least_below slots)
+
+  -- The further values.
+
+  module _ (puts : R → T → List T) where
+    settle_below : (m : ℕ) (st : State T R) (s : ℕ) (queue : List (T × R)) → settle puts m (with_gone_below n st) s queue ≡ below_out (settle puts m st s queue)
+    settle_below zero st s queue = refl
+    settle_below (suc m) st s [] = refl
+    settle_below (suc m) st s (v ∷ queue) =
+        ap (λ (o : StateAndGone T R). with_gone o.1 (settle puts m o.0 s (queue ++ further puts o.1))) (put_below st s v)
+        ∙ ap (λ (o : StateAndGone T R). with_gone (put st s v).1 o) (settle_below m (put st s v).0 s (queue ++ further puts (put st s v).1))
+
+    module _ (weight : T → ℕ) where
+      further_below : (s : ℕ) (o : StateAndGone T R) → with_further puts weight s (below_out o) ≡ below_out (with_further puts weight s o)
+      further_below s o =
+          ap (λ (slot : Slot T R). with_gone o.1 (settle puts (still_to_come weight slot.batch (further puts o.1)) (with_gone_below n o.0) s (further puts o.1))) (slot_below o.0 s)
+          ∙ ap (λ (p : StateAndGone T R). with_gone o.1 p) (settle_below (still_to_come weight (slot_at o.0 s).batch (further puts o.1)) o.0 s (further puts o.1))
+
+  -- Calls.
+
+  abbrev below_answer : {A : Type 0} → Response A T R → Response A T R
+  below_answer a = (a.0, below_out a.1)
+
+  unless_below : {A : Type 0} (refusal : Option Refusal) (st : State T R) (a : Response A T R) → unless refusal (with_gone_below n st) (below_answer a) ≡ below_answer (unless refusal st a)
+  unless_below None st a = refl
+  unless_below (Some r) st a = refl
+
+  unused_below : (st : State T R) (s : ℕ) → unused (with_gone_below n st) s ≡ unused st s
+  unused_below st s = ap (λ (slot : Slot T R). if is_free slot.kind then Some NotInUse else None) (slot_below st s)
+
+  no_guard_below : (st : State T R) (s : ℕ) → no_guard (with_gone_below n st) s ≡ no_guard st s
+  no_guard_below st s = ap (λ (slot : Slot T R). first_refusal (if is_free slot.kind then Some NotInUse else None) (if has_guard slot then None else Some NotActive)) (slot_below st s)
+
+  registered_below : (st : State T R) (s : ℕ) → not_registered (with_gone_below n st) s ≡ not_registered st s
+  registered_below st s = ap (λ (slot : Slot T R). first_refusal (if is_free slot.kind then Some NotInUse else None) (if is_owned slot.kind then Some WrongKind else None)) (slot_below st s)
+
+  many_guards_below : (st : State T R) (s : ℕ) → too_many (with_gone_below n st) s ≡ too_many st s
+  many_guards_below st s = ap (λ (slot : Slot T R). if slot.guards == 2 ^ 64 - 1 then Some TooManyGuards else None) (slot_below st s)
+
+  abbrev taken : State T R → Kind → ℕ → Bool → ℕ → Response ℕ T R
+  taken st kind guards k m = if k then (Err NoNumbers, (st, [])) else (Ok m, (with_number_in_use st m kind guards, []))
+
+  take_below : (st : State T R) (kind : Kind) (guards : ℕ) → calls.take_number (with_gone_below n st) kind guards ≡ below_answer (calls.take_number st kind guards)
+  take_below st kind guards =
+      ap (λ (m : ℕ). taken (with_gone_below n st) kind guards (m == all_numbers) m) (least_below st.slots) ∙ by_case (least_unused st.slots == all_numbers)
+    where
+      by_case : (k : Bool) → taken (with_gone_below n st) kind guards k (least_unused st.slots) ≡ below_answer (taken st kind guards k (least_unused st.slots))
+      by_case true = refl
+      by_case false = λ i. (Ok (least_unused st.slots), (use_below st (least_unused st.slots) kind guards i, []))
+
+  enter_below : (st : State T R) (s : ℕ) → calls.enter (with_gone_below n st) s ≡ below_answer (calls.enter st s)
+  enter_below st s =
+      (λ i. unless (first_refusal (registered_below st s i) (many_guards_below st s i)) (with_gone_below n st) (Ok tt, (set_guards (with_gone_below n st) s ((slot_below st s i).guards + 1), [])))
+      ∙ ap (λ (k : State T R). unless (first_refusal (not_registered st s) (too_many st s)) (with_gone_below n st) (Ok tt, (k, []))) (guards_below st s ((slot_at st s).guards + 1))
+      ∙ unless_below (first_refusal (not_registered st s) (too_many st s)) st (Ok tt, (set_guards st s ((slot_at st s).guards + 1), []))
+
+  end_below : (st : State T R) (s : ℕ) → calls.end_slot (with_gone_below n st) s ≡ below_answer (calls.end_slot st s)
+  end_below st s =
+      (λ i. unless (registered_below st s i) (with_gone_below n st) (if has_guard (slot_below st s i) then (Ok false, (with_gone_below n st, [])) else (Ok true, (free_below st s i, []))))
+      ∙ ap (unless (not_registered st s) (with_gone_below n st)) (by_case (has_guard (slot_at st s)))
+      ∙ unless_below (not_registered st s) st (if has_guard (slot_at st s) then (Ok false, (st, [])) else (Ok true, (with_number_free st s, [])))
+    where
+      by_case : (k : Bool) → ◌≡◌ {A = Response Bool T R} (if k then (Ok false, (with_gone_below n st, [])) else (Ok true, (with_gone_below n (with_number_free st s), []))) (below_answer (if k then (Ok false, (st, [])) else (Ok true, (with_number_free st s, []))))
+      by_case true = refl
+      by_case false = refl
+
+  protect_below : (st : State T R) (s link : ℕ) → calls.protect (with_gone_below n st) s link ≡ below_answer (calls.protect st s link)
+  protect_below st s link =
+      ap (λ (r : Option Refusal). unless r (with_gone_below n st) (Ok (calls.link_at st link), (with_gone_below n st, []))) (no_guard_below st s)
+      ∙ unless_below (no_guard st s) st (Ok (calls.link_at st link), (st, []))
+
+  swap_below : (st : State T R) (s link : ℕ) (new : Option T) → calls.swap (with_gone_below n st) s link new ≡ below_answer (calls.swap st s link new)
+  swap_below st s link new =
+      ap (λ (r : Option Refusal). unless r (with_gone_below n st) (Ok (calls.link_at st link), (record (with_gone_below n st) { links = set st.links link new }, []))) (no_guard_below st s)
+      ∙ unless_below (no_guard st s) st (Ok (calls.link_at st link), (record st { links = set st.links link new }, []))
+
+  module _ (puts : R → T → List T) (weight : T → ℕ) where
+    -- a call by a slot, with what the values gone put
+    done_below : (refusal : Option Refusal) (st : State T R) (s : ℕ) (o o' : StateAndGone T R) → o ≡ below_out o' → unless {A = Unit {0}} refusal (with_gone_below n st) (Ok tt, with_further puts weight s o) ≡ below_answer (unless refusal st (Ok tt, with_further puts weight s o'))
+    done_below refusal st s o o' is =
+        ap (λ (p : StateAndGone T R). unless {A = Unit {0}} refusal (with_gone_below n st) (Ok tt, p)) (ap (with_further puts weight s) is ∙ further_below puts weight s o')
+        ∙ unless_below refusal st (Ok tt, with_further puts weight s o')
+
+    retire_below : (st : State T R) (s : ℕ) (value : T) (reclaim : R) → calls.retire puts weight (with_gone_below n st) s value reclaim ≡ below_answer (calls.retire puts weight st s value reclaim)
+    retire_below st s value reclaim =
+        ap (λ (r : Option Refusal). unless {A = Unit {0}} r (with_gone_below n st) (Ok tt, with_further puts weight s (put (with_gone_below n st) s (value, reclaim)))) (unused_below st s)
+        ∙ done_below (unused st s) st s (put (with_gone_below n st) s (value, reclaim)) (put st s (value, reclaim)) (put_below st s (value, reclaim))
+
+    flush_below : (st : State T R) (s : ℕ) → calls.flush puts weight (with_gone_below n st) s ≡ below_answer (calls.flush puts weight st s)
+    flush_below st s =
+        ap (λ (r : Option Refusal). unless {A = Unit {0}} r (with_gone_below n st) (Ok tt, with_further puts weight s (attempt (with_gone_below n st) s))) (no_guard_below st s)
+        ∙ done_below (no_guard st s) st s (attempt (with_gone_below n st) s) (attempt st s) (attempt_below st s)
+
+    refresh_below : (st : State T R) (s : ℕ) → calls.refresh puts weight (with_gone_below n st) s ≡ below_answer (calls.refresh puts weight st s)
+    refresh_below st s =
+        ap (λ (r : Option Refusal). unless {A = Unit {0}} r (with_gone_below n st) (Ok tt, with_further puts weight s (part_if_alone (with_gone_below n st) s))) (no_guard_below st s)
+        ∙ done_below (no_guard st s) st s (part_if_alone (with_gone_below n st) s) (part_if_alone st s) (alone_below st s)
+
+    leave_below : (st : State T R) (s : ℕ) → calls.leave puts weight (with_gone_below n st) s ≡ below_answer (calls.leave puts weight st s)
+    leave_below st s =
+        (λ i. unless (no_guard_below st s i) (with_gone_below n st) (Ok tt, with_number_free_if (is_owned (slot_below st s i).kind) s (with_further puts weight s (less_below st s i))))
+        ∙ ap (λ (o : StateAndGone T R). unless (no_guard st s) (with_gone_below n st) (Ok tt, with_number_free_if (is_owned (slot_at st s).kind) s o)) (further_below puts weight s (one_guard_less st s))
+        ∙ ap (λ (o : StateAndGone T R). unless (no_guard st s) (with_gone_below n st) (Ok tt, o)) (freed_if_below (is_owned (slot_at st s).kind) s (with_further puts weight s (one_guard_less st s)))
+        ∙ unless_below (no_guard st s) st (Ok tt, with_number_free_if (is_owned (slot_at st s).kind) s (with_further puts weight s (one_guard_less st s)))
+
+    -- Each call.
+
+    abbrev below_effect : Effect T R → Effect T R
+    below_effect a = (a.0, below_out a.1)
+
+    old_below : (s : ℕ) (new : Option T) (reclaim : R) (answer : Result (Option T) Refusal) (o : StateAndGone T R) → retire_old puts weight s new reclaim answer (below_out o) ≡ below_effect (retire_old puts weight s new reclaim answer o)
+    old_below s new reclaim (Err r) o = refl
+    old_below s new reclaim (Ok None) o = refl
+    old_below s new reclaim (Ok (Some v)) o = ap (reply done_reply (Some v)) (retire_below o.0 s v reclaim)
+
+    pub step_below : (st : State T R) (call : Call T R) → step puts weight (with_gone_below n st) call ≡ below_effect (step puts weight st call)
+    step_below st Register = ap (reply Reply.Number None) (take_below st Registered 0)
+    step_below st EnterOwned = ap (reply Reply.Number None) (take_below st Owned 1)
+    step_below st (Enter s) = ap (reply done_reply None) (enter_below st s)
+    step_below st (Leave s) = ap (reply done_reply None) (leave_below st s)
+    step_below st (End s) = ap (reply end_reply None) (end_below st s)
+    step_below st (Refresh s) = ap (reply done_reply None) (refresh_below st s)
+    step_below st (Flush s) = ap (reply done_reply None) (flush_below st s)
+    step_below st (Retire s v r) = ap (reply done_reply (Some v)) (retire_below st s v r)
+    step_below st (Protect s l) = ap (reply (λ found. Reply.Found (is_some found)) None) (protect_below st s l)
+    step_below st (Swap s l new r) =
+        ap (λ (a : Response (Option T) T R). retire_old puts weight s new r a.0 a.1) (swap_below st s l new)
+        ∙ old_below s new r (calls.swap st s l new).0 (calls.swap st s l new).1
