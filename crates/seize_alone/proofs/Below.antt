@@ -4,7 +4,7 @@
 --     reclaim_below    a reclaim of all gives the same, and forgets them
 use Rattle.std.proofs.Common.{◌≡◌, ℕ, zero, suc, ◌+◌, ◌-◌, ◌^◌, ◌==◌, ◌||◌, Bool, true, false, not, cond, if◌then◌else◌, nat_lt, nat_le, max, List, [], ◌∷◌, ◌++◌, length, map, get_or, set, replicate, Option, Some, None, Result, refl, sym, ap, ◌∙◌, arith}
 use Rattle.std.specs.Prelude.{Err, Ok, is_some}
-use Rattle.std.specs.List.{flat_map, fold, list_any, range_with_len}
+use Rattle.std.specs.List.{flat_map, list_any, range_with_len}
 use Rattle.std.proofs.lemmas.List.{append_assoc, length-append, length-map, length-replicate, map-append}
 use Rattle.seize_table.specs.Place.{all_numbers}
 use Rattle.seize_table.specs.declared.refusal.Refusal.{Refusal}
@@ -15,10 +15,11 @@ use Rattle.seize_model.specs.Waiting.State.{Slot, State, has_guard, is_kept, no_
 use Rattle.seize_model.specs.Waiting.Attempt.{StateAndGone, active_slots, attempt, gives_up, part, put, release, release_all, wait_if_active, with_batch_retired, with_batch_value, with_gone}
 use Rattle.seize_model.specs.Waiting.Calls as calls
 use Rattle.seize_model.specs.Waiting.Calls.{Response, first_refusal, is_free, is_owned, least_unused, no_guard, not_registered, one_guard_less, part_all, part_if_alone, reclaim_all, set_guards, too_many, unless, unused, with_number_free, with_number_free_if, with_number_in_use, without_batch}
-use Rattle.seize_model.specs.Waiting.Further.{afterwards, further, gone_from, settle, still_to_come, with_further}
+use Rattle.seize_model.specs.Waiting.Further.{further, gone_from, settle, still_to_come, with_further}
 use Rattle.seize_model.specs.Waiting.Lists.{Call, Effect, Reply, Register, EnterOwned, Enter, Leave, End, Refresh, Flush, Retire, Protect, Swap, done_reply, end_reply, reply, retire_old, step}
-use Rattle.seize_alone.specs.Reclaiming.{with_gone_below, with_order_from}
-use Rattle.seize_alone.proofs.Mapped.{any_map, fold_map, get_map, map_map, set_map}
+use Rattle.seize_alone.specs.Reclaiming.{SameBelow, with_gone_below, with_order_from}
+use Rattle.seize_alone.proofs.Mapped.{fold_map, get_map, map_map, set_map}
+use Rattle.seize_alone.proofs.Reclaiming.{freed, parted_all}
 
 get_below : {X : Type 0} (n m b : ℕ) (xs : List (List X)) → m ≡ n + b → get_or (replicate n [] ++ xs) m [] ≡ get_or xs b []
 get_below zero m b xs is = ap (λ (k : ℕ). get_or xs k []) (let same : m ≡ b = omega (arith, is) in same)
@@ -299,3 +300,30 @@ module _ {T R : Type 0} (n : ℕ) where
     step_below st (Swap s l new r) =
         ap (λ (a : Response (Option T) T R). retire_old puts weight s new r a.0 a.1) (swap_below st s l new)
         ∙ old_below s new r (calls.swap st s l new).0 (calls.swap st s l new).1
+
+-- A reclaim of all.
+
+module _ {T R : Type 0} (n : ℕ) where
+  parts_below : (st : State T R) (ss : List ℕ) → part_all (with_gone_below n st) ss ≡ below_out n (part_all st ss)
+  parts_below st [] = refl
+  parts_below st (s ∷ ss) =
+      ap (λ (o : StateAndGone T R). with_gone o.1 (part_all (with_number_free o.0 s) ss)) (part_below n st s)
+      ∙ ap (λ (k : State T R). with_gone (part st s).1 (part_all k ss)) (free_below n (part st s).0 s)
+      ∙ ap (λ (o : StateAndGone T R). with_gone (part st s).1 o) (parts_below (with_number_free (part st s).0 s) ss)
+
+  none_above : (xs : List (Slot T R)) → map (with_order_from n) (map (λ (slot : Slot T R). freed slot) xs) ≡ map (λ (slot : Slot T R). freed slot) xs
+  none_above [] = refl
+  none_above (x ∷ xs) = ap (λ (l : List (Slot T R)). freed x ∷ l) (none_above xs)
+
+  pub reclaim_below : (puts : R → T → List T) (weight : T → ℕ) (st : State T R) → reclaim_all puts weight (with_gone_below n st) ≡ reclaim_all puts weight st
+  reclaim_below puts weight st =
+      let all : List ℕ = range_with_len 0 (length st.slots) in
+      let parted : StateAndGone T R = part_all st all in
+      let end : StateAndGone T R → StateAndGone T R = λ o. let gone = o.1 ++ flat_map (λ slot. slot.batch) o.0.slots in
+      (record o.0 { slots = map without_batch o.0.slots; retired = [] }, gone ++ gone_from puts weight (further puts gone)) in
+      ap (λ (k : ℕ). end (part_all (with_gone_below n st) (range_with_len 0 k))) (length-map st.slots (with_order_from n))
+      ∙ ap end (parts_below st all)
+      ∙ ap (λ (l : List (Slot T R)). end (record parted.0 { slots = l }, parted.1)) (ap (map (with_order_from n)) (parted_all st) ∙ none_above st.slots ∙ sym (parted_all st))
+
+pub same_below : {T : Type 0} (puts : ℕ → T → List T) (weight : T → ℕ) → SameBelow puts weight
+same_below puts weight n st = (λ call. step_below n puts weight st call, reclaim_below n puts weight st)

@@ -13,5 +13,5 @@ pub mod Sizes
 pub mod Outlines
 pub mod Begins
 pub mod Reclaiming
-pub mod Orderly
 pub mod Below
+pub mod Orderly

@@ -1,7 +1,7 @@
 -- Steps of single slots, slot after slot, are a reclaim of all.
 --     from f k xs, flat_from g k xs     f of each element from the k-th on;  what g makes of these
 --     freed slot, emptied kind     a slot that parted and gave its number back;  one that left without a batch
---     turn_parts, parted_are       a slot's first step is a parting, and what the slots are after all of them
+--     turn_parts, parted_all       a slot's first step is a parting, and what the slots are after all of them
 --     batch_goes, batches_go       a slot's batch goes, and all batches go
 --     numbers_go                   the numbers go back
 --     parted_clean                 partings leave no values in a retired batch that waits for no slot
@@ -505,6 +505,11 @@ module _ {T R : Type 0} where
   same_orders n [] = refl
   same_orders n (x ∷ xs) = ap (λ (l : List (Slot T R)). emptied Free ∷ l) (same_orders n xs)
 
+  -- what the slots are after all partings
+  pub parted_all : (st : State T R) → (part_all st (range_with_len 0 (length st.slots))).0.slots ≡ map (λ (slot : Slot T R). freed slot) st.slots
+  unfolding from
+  parted_all st = parted_are (length st.slots) 0 st (omega arith)
+
   module _ (st : State T R) (kind : Kind) (o : IsOrderly st) where
     abbrev all : List ℕ
     all = range_with_len 0 (length st.slots)
@@ -521,15 +526,11 @@ module _ {T R : Type 0} where
     whole : 0 + length st.slots ≡ length st.slots
     whole = omega arith
 
-    pub parted_slots_are : (part_all st (range_with_len 0 (length st.slots))).0.slots ≡ map (λ (slot : Slot T R). freed slot) st.slots
-    unfolding from
-    parted_slots_are = parted_are (length st.slots) 0 st whole
-
     pub parted_quiet : AreQuiet (part_all st (range_with_len 0 (length st.slots))).0.slots
-    parted_quiet = subst (λ (l : List (Slot T R)). AreQuiet l) (sym parted_slots_are) (all_quiet st.slots)
+    parted_quiet = subst (λ (l : List (Slot T R)). AreQuiet l) (sym (parted_all st)) (all_quiet st.slots)
 
     parted_many : 0 + length st.slots ≡ length (part_all st (range_with_len 0 (length st.slots))).0.slots
-    parted_many = whole ∙ sym (ap (λ (l : List (Slot T R)). length l) parted_slots_are ∙ length-map st.slots (λ (slot : Slot T R). freed slot))
+    parted_many = whole ∙ sym (ap (λ (l : List (Slot T R)). length l) (parted_all st) ∙ length-map st.slots (λ (slot : Slot T R). freed slot))
 
     abbrev away : StateAndGone T R
     away = (record parted.0 { slots = map (λ (slot : Slot T R). emptied kind) parted.0.slots; retired = lefts }, flat_map (λ (slot : Slot T R). slot.batch) parted.0.slots)
@@ -542,9 +543,9 @@ module _ {T R : Type 0} where
     unfolding from
     numbers_back =
         numbers_go (length st.slots) 0 away.0 (parted_many ∙ sym (length-map parted.0.slots (λ (slot : Slot T R). emptied kind)))
-        ∙ ap (λ (l : List (Slot T R)). record parted.0 { slots = map (λ (slot : Slot T R). record slot { kind = Free; guards = 0 }) (map (λ (slot : Slot T R). emptied kind) l); retired = lefts }) parted_slots_are
+        ∙ ap (λ (l : List (Slot T R)). record parted.0 { slots = map (λ (slot : Slot T R). record slot { kind = Free; guards = 0 }) (map (λ (slot : Slot T R). emptied kind) l); retired = lefts }) (parted_all st)
         ∙ ap (λ (l : List (Slot T R)). record parted.0 { slots = l; retired = lefts }) (slots_end kind st.slots)
-        ∙ ap (λ (l : List (Slot T R)). record parted.0 { slots = map without_batch l; retired = lefts }) (sym parted_slots_are)
+        ∙ ap (λ (l : List (Slot T R)). record parted.0 { slots = map without_batch l; retired = lefts }) (sym (parted_all st))
 
     pub in_turn_is : in_turn kind st ≡ reclaimed
     in_turn_is =
@@ -565,7 +566,7 @@ module _ {T R : Type 0} where
     below =
         let n = length lefts in
         λ i. record parted.0 {
-          slots = (ap (map without_batch) parted_slots_are ∙ same_orders n st.slots ∙ ap (λ (l : List (Slot T R)). map (with_order_from n) (map without_batch l)) (sym parted_slots_are)) i;
+          slots = (ap (map without_batch) (parted_all st) ∙ same_orders n st.slots ∙ ap (λ (l : List (Slot T R)). map (with_order_from n) (map without_batch l)) (sym (parted_all st))) i;
           retired = gone_many lefts lefts_are_gone i;
         }
 

@@ -1,15 +1,17 @@
 -- Reclaiming all, by steps of single slots. Nothing is put in these steps: what the values gone put is reclaimed afterwards.
 --     parts_in_turn st ss      each of these slots in order: one in use leaves with its last guard, where it has any, and gives its number
 --                         back
---     batches_in_turn kind st ss     each of these slots in order: its number is taken for this kind, it enters, its batch is attempted, and
---                         it leaves. It keeps its number: so each number is the least one not in use as it is taken
+--     batches_in_turn kind st ss     each of these slots in order: its number is taken for this kind, it enters, its batch is attempted,
+--                         and it leaves. It keeps its number: so each number is the least one not in use as it is taken
 --     numbers_in_turn st ss    each of these slots gives its number back
 --     in_turn kind st     these three, of all slots: the state, and the values gone in order
---     IsOrderly st        a slot whose number is free has no guard, no batch waits for a slot without a guard, and a retired batch that waits
---                         for no slot has no values left
+--     IsOrderly st        a slot whose number is free has no guard, no batch waits for a slot without a guard, and a retired batch that
+--                         waits for no slot has no values left
 --     with_gone_below n st     the state with so many retired batches more, which are older and gone
---     ReclaimsInTurn      of an orderly state the steps, and then what the values gone put, are a reclaim of all: the same values are gone in
---                         the same order, and the state is the same but for retired batches, which all are gone
+--     ReclaimsInTurn      of an orderly state the steps, and then what the values gone put, are a reclaim of all: the same values are gone
+--                         in the same order, and the state is the same but for retired batches, which all are gone
+--     SameBelow           with retired batches more, older and gone, each call gives the same reply and the same values gone, and then the
+--                         state with them; and a reclaim of all gives the same, and forgets them
 --     OrderlyHeld         a state that hands hold is orderly, where the list is legal
 use Rattle.std.specs.Prelude.{◌≡◌, ℕ, true, false, ◌+◌, if◌then◌else◌, List, [], ◌∷◌, ◌++◌, length, map, replicate}
 use Rattle.std.specs.List.{range_with_len}
@@ -21,6 +23,7 @@ use Rattle.seize_model.specs.Waiting.Attempt.{StateAndGone, attempt, with_gone}
 use Rattle.seize_model.specs.Waiting.Calls.{is_free, one_guard_less, reclaim_all, set_guards}
 use Rattle.seize_model.specs.Waiting.Calls.{with_number_free, with_number_free_if, with_number_in_use}
 use Rattle.seize_model.specs.Waiting.Further.{further, gone_from}
+use Rattle.seize_model.specs.Waiting.Lists.{Call, step}
 use Rattle.seize_book.specs.Book.{IsLegalList}
 use Rattle.seize_book.specs.Entry.{Entry}
 use Rattle.seize_book.specs.Tokens.{Name, start}
@@ -82,6 +85,13 @@ ReclaimsInTurn {T} puts weight =
     (st : State T ℕ) (kind : Kind) → IsOrderly st → let now = in_turn kind st in let all = reclaim_all puts weight st in
     (now.1 ++ gone_from puts weight (further puts now.1) ≡ all.1) × (record now.0 { retired = [] } ≡ all.0)
     × (now.0 ≡ with_gone_below (length now.0.retired) all.0)
+
+abbrev pub SameBelow : {T : Type 0} → (ℕ → T → List T) → (T → ℕ) → Type 0
+SameBelow {T} puts weight =
+    (n : ℕ) (st : State T ℕ)
+    → ((call : Call T ℕ) → let told = step puts weight st call in
+    step puts weight (with_gone_below n st) call ≡ (told.0, (with_gone_below n told.1.0, told.1.1)))
+    × (reclaim_all puts weight (with_gone_below n st) ≡ reclaim_all puts weight st)
 
 abbrev pub OrderlyHeld : {T : Type 0} → (T → Gv) → Type 0
 OrderlyHeld {T} code =
