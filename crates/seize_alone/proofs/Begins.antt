@@ -31,11 +31,11 @@ use Rattle.seize_alone.proofs.Mapped.{get_map, retired_same, slot_same}
 
 -- Retired batches: nobody holds one, so each is given up.
 
-nothing_in : (xs : List ℕ) (v : ℕ) → xs ≡ [] → Contains xs v → ⊥
+pub nothing_in : (xs : List ℕ) (v : ℕ) → xs ≡ [] → Contains xs v → ⊥
 nothing_in [] v none c = let within : c.0 < 0 = c.1 in omega arith
 nothing_in (x ∷ xs) v none c = cc
 
-all_out : (xs : List ℕ) → ((v : ℕ) → Contains xs v → ⊥) → xs ≡ []
+pub all_out : (xs : List ℕ) → ((v : ℕ) → Contains xs v → ⊥) → xs ≡ []
 all_out [] none = refl
 all_out (x ∷ xs) none = absurd (none x (zero, omega arith, refl))
 
@@ -43,7 +43,7 @@ nothing_waits : (head : Head) → is_active head ≡ false → waiting_at head �
 nothing_waits Inactive off = refl
 nothing_waits (Active waiting) off = absurd (cc)
 
-abbrev NoCalls : machine.State → Type 0
+abbrev pub NoCalls : machine.State → Type 0
 NoCalls now = (s : ℕ) → (machine.slot_at now s).call ≡ None
 
 abbrev NoneActive : machine.State → Type 0

@@ -12,3 +12,6 @@ pub mod Slots
 pub mod Sizes
 pub mod Outlines
 pub mod Begins
+pub mod Reclaiming
+pub mod Below
+pub mod Orderly

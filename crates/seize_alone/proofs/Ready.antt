@@ -3,9 +3,14 @@
 --     entry_alone, made_alone      an event that a slot's holder added;  the number of a slot that was just made is taken
 --     read_alone, swapped_alone    a link was read, or exchanged
 --     ready_holds, ready_sole      the pass that was made ready for a call has seen what it had seen, where it is alone
+--     nothing_further, nothing_flushed     what a call does where the reclaimer puts nothing
+--     least_is                     which number is taken
 --     entered, ended, kept, protected, exchanged, left_beside, refreshed_beside, taken     what the model's calls answer
-use Rattle.std.proofs.Common.{◌≡◌, ℕ, ◌==◌, ◌||◌, ◌+◌, ◌-◌, ◌^◌, ◌≤◌, Bool, true, false, not, ◌&&◌, if◌then◌else◌, List, [], length, set, Option, Some, None, refl, sym, ap, subst, ◌∙◌, arith}
+use Rattle.std.proofs.Common.{◌≡◌, ℕ, ◌<◌, ◌==◌, ◌||◌, ◌+◌, ◌-◌, ◌^◌, ◌≤◌, Bool, true, false, not, ◌&&◌, if◌then◌else◌, List, [], ◌∷◌, length, get_or, set, Option, Some, None, refl, sym, ap, subst, ◌∙◌, arith}
 use Rattle.std.specs.Prelude.{Err, Ok}
+use Rattle.std.proofs.lemmas.List.{append-nil}
+use Rattle.std.proofs.lemmas.List.Concat.{flat_map-cons}
+use Rattle.std.proofs.lemmas.List.Sums.{position_or_len_is}
 use base.Stored.{Coded}
 use Rattle.seize_table.specs.Place.{all_numbers}
 use Rattle.seize_table.specs.declared.refusal.Refusal.{Refusal}
@@ -20,9 +25,10 @@ use Rattle.seize_machine.proofs.Facts.{if_some, swapped}
 use Rattle.seize_model.specs.declared.kind.Kind.{Kind}
 use Rattle.seize_model.specs.declared.kind.Kind.TheVariants.{Registered}
 use Rattle.seize_model.specs.Waiting.State as waiting
-use Rattle.seize_model.specs.Waiting.Attempt.{StateAndGone, part}
-use Rattle.seize_model.specs.Waiting.Calls.{Response, end_slot, enter, first_refusal, is_free, is_owned, leave, least_unused, link_at, not_registered, one_guard_less, part_if_alone, protect, refresh, set_guards, swap, take_number, unless, with_number_free, with_number_free_if, with_number_in_use}
-use Rattle.seize_model.specs.Waiting.Further.{with_further}
+use Rattle.seize_model.specs.Waiting.Attempt.{StateAndGone, attempt, part, with_gone}
+use Rattle.seize_model.specs.Waiting.Calls.{Response, end_slot, enter, first_refusal, flush, is_free, is_owned, leave, least_unused, link_at, not_registered, one_guard_less, part_if_alone, protect, refresh, set_guards, swap, take_number, unless, with_number_free, with_number_free_if, with_number_in_use}
+use Rattle.seize_model.specs.Waiting.Further.{Lighter, afterwards, further, put_by, with_further}
+use Rattle.seize_model.proofs.WaitingSets.FurtherValues.{afterwards-nil}
 use Rattle.seize_model.proofs.Simulation.Jobs.{settled_nothing}
 use Rattle.seize_model.proofs.Simulation.Numbers.{slot_taken}
 use Rattle.seize_model.proofs.Simulation.Plays.{both_same}
@@ -134,3 +140,33 @@ taken {T} st n kind guards least few =
 pub taken_slot : {T : Type 0} (st : waiting.State T ℕ) (n : ℕ) (kind : Kind) → n ≡ least_unused st.slots
     → ((waiting.slot_at (with_number_in_use st n kind 0) n).kind ≡ kind) × (waiting.has_guard (waiting.slot_at (with_number_in_use st n kind 0) n) ≡ false) × (set_guards (with_number_in_use st n kind 0) n 1 ≡ with_number_in_use st n kind 1)
 taken_slot st n kind least = let own = slot_taken st n kind (n == length st.slots) least refl in (own.0, ap (λ (k : ℕ). not (k == 0)) own.1, own.2)
+
+-- Where a reclaimer puts nothing, nothing is done besides.
+
+abbrev pub nothing : {T R : Type 0} → R → T → List T
+nothing r v = []
+
+pub nothing_lighter : {T R : Type 0} → Lighter {T = T} {R = R} nothing (λ v. 1)
+nothing_lighter r v = omega arith
+
+module _ {T R : Type 0} (weight : T → ℕ) where
+  no_further : (gone : List (T × R)) → further nothing gone ≡ []
+  no_further [] = refl
+  no_further (v ∷ gone) = flat_map-cons (put_by nothing) v gone ∙ no_further gone
+
+  pub nothing_further : (s : ℕ) (o : StateAndGone T R) → with_further nothing weight s o ≡ o
+  nothing_further s o =
+      ap (λ (q : List (T × R)). with_gone o.1 (afterwards nothing weight o.0 s q)) (no_further o.1)
+      ∙ ap (λ (p : StateAndGone T R). with_gone o.1 p) (afterwards-nil nothing weight o.0 s)
+      ∙ (λ i. (o.0, append-nil o.1 i))
+
+-- a flush is its attempt, where the reclaimer puts nothing
+pub nothing_flushed : {T : Type 0} (st : waiting.State T ℕ) (s : ℕ) (weight : T → ℕ) → is_free (waiting.slot_at st s).kind ≡ false → waiting.has_guard (waiting.slot_at st s) ≡ true → flush nothing weight st s ≡ (Ok tt, attempt st s)
+nothing_flushed {T} st s weight used on =
+    ap (λ (r : Option Refusal). unless {A = Unit {0}} r st (Ok tt, with_further nothing weight s (attempt st s))) (guarded st s used on)
+    ∙ ap (λ (o : StateAndGone T ℕ). (Ok tt, o)) (nothing_further weight s (attempt st s))
+
+-- The least number that is not in use, where those below are in use.
+
+pub least_is : {T R : Type 0} (slots : List (waiting.Slot T R)) (s : ℕ) → s < length slots → ((i : ℕ) → i < s → is_free (get_or slots i waiting.no_slot).kind ≡ false) → is_free (get_or slots s waiting.no_slot).kind ≡ true → least_unused slots ≡ s
+least_is {T} {R} slots s h used free = position_or_len_is (λ (slot : waiting.Slot T R). is_free slot.kind) slots s waiting.no_slot (omega (arith, h)) used (λ within. free)

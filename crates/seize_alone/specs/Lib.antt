@@ -3,3 +3,4 @@ pub mod Holding
 pub mod Calls
 pub mod Events
 pub mod Begins
+pub mod Reclaiming

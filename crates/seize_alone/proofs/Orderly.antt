@@ -1,0 +1,90 @@
+-- A state that hands hold is orderly: what the list shows of a slot and of a retired batch says so.
+use Rattle.std.proofs.Common.{◌≡◌, ℕ, zero, suc, ◌<◌, ◌≤◌, ◌==◌, Bool, true, false, not, if◌then◌else◌, List, [], ◌∷◌, length, map, get_or, Option, Some, None, refl, sym, ◌∙◌, ap, subst, inl, inr, arith}
+use Rattle.std.specs.List.{Contains, list_any}
+use Rattle.std.proofs.lemmas.List.{set-get_or}
+use base.Stored.{Gv}
+use Rattle.seize_machine.specs.Machine.State as machine
+use Rattle.seize_machine.specs.Machine.State.{Active, Head, Inactive, are_distinct, batch_at, has, head_at, linked_values, waiting_at}
+use Rattle.seize_machine.specs.Machine.History.{answers_of}
+use Rattle.seize_machine.specs.Machine.Laws.{IsHeld, detached_by, walk_of}
+use Rattle.seize_machine.proofs.Facts.{law_holders}
+use Rattle.seize_model.specs.Waiting.State as waiting
+use Rattle.seize_model.specs.Waiting.Calls.{is_owned, set_guards}
+use Rattle.seize_model.specs.Agreement.Shows.{ShowsSlot, head_of}
+use Rattle.seize_model.proofs.Cases.{or_false}
+use Rattle.seize_book.specs.Book.{IsLegalList, after, moments}
+use Rattle.seize_book.specs.Entry.{Entry, events_of}
+use Rattle.seize_book.specs.Tokens.{Name, start}
+use Rattle.seize_book.proofs.Facts.{as_legal, equal}
+use Rattle.seize_alone.specs.Holding.{Holds, found, some_slot, some_state, some_value}
+use Rattle.seize_alone.specs.Reclaiming.{IsOrderly, OrderlyHeld}
+use Rattle.seize_alone.proofs.Begins.{all_out, nothing_in}
+use Rattle.seize_alone.proofs.Mapped.{get_map, retired_same, slot_same}
+
+none_has : (xs : List ℕ) (b i : ℕ) → has b xs ≡ false → i < length xs → get_or xs i b ≡ b → ⊥
+none_has [] b i none h is = omega (arith, h)
+none_has (x ∷ xs) b zero none h is = let c : true ≡ false = sym (equal x b is) ∙ (or_false (x == b) (has b xs) none).0 in cc
+none_has (x ∷ xs) b (suc i) none h is = none_has xs b i (or_false (x == b) (has b xs) none).1 (omega (arith, h)) is
+
+none_at : {X : Type 0} (p : X → Bool) (xs : List X) (i : ℕ) (d : X) → p d ≡ false → list_any p xs ≡ false → p (get_or xs i d) ≡ false
+none_at p [] i d out none = out
+none_at p (x ∷ xs) zero d out none = (or_false (p x) (list_any p xs) none).0
+none_at p (x ∷ xs) (suc i) d out none = none_at p xs i d out (or_false (p x) (list_any p xs) none).1
+
+map_nothing : {X Y : Type 0} (h : X → Y) (xs : List X) → map h xs ≡ [] → xs ≡ []
+map_nothing h [] none = refl
+map_nothing h (x ∷ xs) none = absurd (cc)
+
+-- a slot for which a batch does not wait does not list it
+unlisted : {T R : Type 0} (slot : waiting.Slot T R) (b : ℕ) → has b slot.order ≡ false → Contains (waiting_at (head_of slot)) b → ⊥
+unlisted slot b none = go (waiting.has_guard slot)
+  where
+    go : (g : Bool) → Contains (waiting_at (if g then Active slot.order else Inactive)) b → ⊥
+    go true c = none_has slot.order b c.0 none c.1 c.2
+    go false c = nothing_in [] b refl c
+
+module _ {T : Type 0} (code : T → Gv) (st : waiting.State T ℕ) (names : List (ℕ × T)) (kinds : List (ℕ × ℕ)) (n : Name) (seen : List Entry)
+    (legal : IsLegalList (start n) seen) (distinct : are_distinct (linked_values n.links) ≡ true) (holds : Holds code st names kinds n seen) where
+  abbrev now : machine.State
+  now = after (start n) seen
+
+  shown : (s : ℕ) → ShowsSlot (Option T) (Option ℕ) (found names) (some_slot (waiting.slot_at st s)) (machine.slot_at (after (start n) seen) s)
+  shown s = subst (λ (x : waiting.Slot (Option T) (Option ℕ)). ShowsSlot (Option T) (Option ℕ) (found names) x (machine.slot_at now s)) (slot_same st s) (holds.shows.slot s)
+
+  head_is : (s : ℕ) → head_at (after (start n) seen) s ≡ head_of (some_slot (waiting.slot_at st s))
+  head_is s =
+      ap (λ (l : List Head). get_or l s Inactive) holds.shows.heads
+      ∙ get_map head_of (some_state st).slots s waiting.no_slot Inactive refl
+      ∙ ap (λ (x : waiting.Slot (Option T) (Option ℕ)). head_of x) (slot_same st s)
+
+  unheld : (b : ℕ) → waiting.is_kept st b ≡ false → IsHeld (after (start n) seen) b → ⊥
+  unheld b none (inl held) =
+      unlisted (some_slot (waiting.slot_at st held.0)) b (none_at (waiting.waits_for b) st.slots held.0 waiting.no_slot refl none)
+      (subst (λ (h : Head). Contains (waiting_at h) b) (head_is held.0) held.1)
+  unheld b none (inr (inl held)) = nothing_in _ b (ap walk_of (shown held.0).idle) held.1
+  unheld b none (inr (inr held)) = let is : None ≡ Some b = sym (ap detached_by (shown held.0).idle) ∙ held.1 in cc
+
+  orderly : IsOrderly st
+  orderly = record {
+    free = λ s. (shown s).free;
+    inactive = λ s. (shown s).inactive;
+    gone = λ b none.
+        let holders = law_holders n.slots n.links (events_of seen) (answers_of (moments (start n) seen)) now distinct (as_legal (start n) seen legal) in
+        let values : (batch_at now b).values ≡ [] = all_out _ (λ v c. unheld b none (holders b v c)) in
+        map_nothing some_value (waiting.retired_at st b)
+        (sym (retired_same st b) ∙ map_nothing (λ (v : Option T × Option ℕ). v.0) (waiting.retired_at (some_state st) b) (sym (holds.shows.values b) ∙ ap (map (found names)) values));
+  }
+
+-- an owned slot has one guard at most
+pub owned_guard : {T : Type 0} (code : T → Gv) (st : waiting.State T ℕ) (names : List (ℕ × T)) (kinds : List (ℕ × ℕ)) (n : Name) (seen : List Entry) (s : ℕ) → Holds code st names kinds n seen
+    → is_owned (waiting.slot_at st s).kind ≡ true → waiting.has_guard (waiting.slot_at st s) ≡ true → set_guards st s 1 ≡ st
+owned_guard {T} code st names kinds n seen s holds owned on =
+    let shown : ShowsSlot (Option T) (Option ℕ) (found names) (some_slot (waiting.slot_at st s)) (machine.slot_at (after (start n) seen) s) =
+    subst (λ (x : waiting.Slot (Option T) (Option ℕ)). ShowsSlot (Option T) (Option ℕ) (found names) x (machine.slot_at (after (start n) seen) s)) (slot_same st s) (holds.shows.slot s) in
+    ap (λ (k : ℕ). set_guards st s k) (sym (one (waiting.slot_at st s).guards (shown.owned owned) on)) ∙ ap (λ (l : List (waiting.Slot T ℕ)). record st { slots = l }) (set-get_or st.slots s waiting.no_slot)
+  where
+    one : (k : ℕ) → k ≤ 1 → not (k == 0) ≡ true → k ≡ 1
+    one k few some = grind arith
+
+pub orderly_held : {T : Type 0} (code : T → Gv) → OrderlyHeld code
+orderly_held code st names kinds n seen legal distinct holds = orderly code st names kinds n seen legal distinct holds
