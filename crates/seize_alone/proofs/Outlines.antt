@@ -163,9 +163,9 @@ module _ {T R : Type 0} (puts : R → T → List T) (weight : T → ℕ) where
 same_outline : {T : Type 0} (st now : State T ℕ) → frame now ≡ frame st → SameOutline st now
 same_outline {T} st now same =
     let o : outline now ≡ outline st = ap (λ (f : List (Kind × ℕ) × List (Option T)). f.0) same in (
-    λ t. (kind_in now st o t, guards_in now st o t),
-    ap (λ (f : List (Kind × ℕ) × List (Option T)). f.1) same,
-  )
+      λ t. (kind_in now st o t, guards_in now st o t),
+      ap (λ (f : List (Kind × ℕ) × List (Option T)). f.1) same,
+    )
 
 pub outline_stays : {T : Type 0} (puts : ℕ → T → List T) (weight : T → ℕ) → OutlineStays puts weight
 outline_stays puts weight st s = (
