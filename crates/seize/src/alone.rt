@@ -32,7 +32,8 @@ use seize_words::words::Words;
 use std::alloc::Global;
 use std::marker::{Brand, Model};
 
-/// A collector in one caller's hands. No call waits for anybody, and each returns.
+/// A collector in one caller's hands. No call waits, and each returns, but for what a reclaimer, a watch, the `Drop` of a value or the closure
+/// of `look` does.
 ///
 /// Its drop is that of a collector which threads share: first what is in use ends, then what waits is reclaimed, and then each value in a
 /// link goes to the reclaimer.
@@ -209,12 +210,12 @@ impl<T: Drop, R: Reclaim<T>> Alone<T, R> {
         self.hands = Hands::of::<Brand, usize>(&self.hands, &self.porter, &s);
     }
 
-    /// Takes the least number that is not in use, for a registered slot without a guard. It asks for memory where no slot is left whose
-    /// number went back.
+    /// Takes the least number that is not in use, for a registered slot without a guard. It asks for memory where a slot is made, and where
+    /// the list of places has none for it yet.
     ///
     /// # Errors
     ///
-    /// `NoMemory` where the allocator refuses.
+    /// `NoMemory` where the allocator refuses; `NoNumbers` where all 2^64 - 32 numbers are in use.
     pub fn register(&mut self) -> Result<usize, Refusal>
         ensures done { Grew (calls.take_number self.old.state registered 0) result self.old.state self.new.state }
         ensures same { IsSame self.old self.new }
@@ -226,7 +227,7 @@ impl<T: Drop, R: Reclaim<T>> Alone<T, R> {
     ///
     /// # Errors
     ///
-    /// `NoMemory` where the allocator refuses.
+    /// As `register`.
     pub fn enter_owned(&mut self) -> Result<usize, Refusal>
         ensures done { Grew (calls.take_number self.old.state owned_slot 1) result self.old.state self.new.state }
         ensures same { IsSame self.old self.new }
@@ -257,8 +258,8 @@ impl<T: Drop, R: Reclaim<T>> Alone<T, R> {
         Ok(())
     }
 
-    /// Gives the number of a registered slot back, and says whether it did: a guard keeps it. The slot's batch stays for the next one who
-    /// has the number. It takes no memory.
+    /// Gives the number of a registered slot back. It answers false where the slot has a guard, and changes nothing. The slot's batch stays for
+    /// the next one who has the number. It takes no memory.
     ///
     /// # Errors
     ///

@@ -150,3 +150,19 @@ fn what_one_caller_left_ends_as_the_shared_collector_drops(rt: HostRuntime) -> R
     assert_eq!(&rt; told.load(Ordering::SeqCst), 21);
     Ok(())
 }
+
+// So it is without sharing.
+#[test]
+fn what_one_caller_left_ends_as_it_drops(rt: HostRuntime) -> Result<(), Fail> {
+    let told = AtomicU64::new(0);
+    match telling(rt.alloc(), 3)?.alone() {
+        Ok(mut alone) => {
+            leave_two(&rt, &mut alone, &told)?;
+            assert_eq!(&rt; told.load(Ordering::SeqCst), 0);
+            drop(alone);
+        }
+        Err(_) => return Err(Fail::new("a number is in use")),
+    }
+    assert_eq!(&rt; told.load(Ordering::SeqCst), 21);
+    Ok(())
+}

@@ -83,7 +83,8 @@ impl<T: Drop, R: Reclaim<T>> Alone<T, R> {
         self.porter.stay(&mut making)
     }
 
-    /// A block that was never in a link, ready to be retired. No event is made, and it takes no memory.
+    /// A block that was never in a link, ready to be retired. The block is of this collector, with each block inside it that the reclaimer's
+    /// `owners` names. No event is made, and it takes no memory.
     pub fn taken(&self, owned: Owned<T>) -> Taken<T>
         requires { Belongs R.owners self.now.book.store owned }
         ensures of { IsTakenOf T.row.coded.code self.now.book result }
@@ -115,7 +116,8 @@ impl<T: Drop, R: Reclaim<T>> Alone<T, R> {
         old
     }
 
-    /// Exchanges what a link holds for this block, or for none. It gives what the link held, which is to be retired. It takes no memory.
+    /// Exchanges what a link holds for this block, or for none. It gives what the link held, which is to be retired. The link is below
+    /// `links()`; the block is of this collector, with each block inside it that the reclaimer's `owners` names. It takes no memory.
     ///
     /// # Errors
     ///
@@ -141,8 +143,8 @@ impl<T: Drop, R: Reclaim<T>> Alone<T, R> {
         Ok(self.exchange(s, link, new))
     }
 
-    /// Looks at what a link holds: where it holds a block, `look` is called with its value, and its answer is given. It is called once at
-    /// most, and with what the model's link holds. But for what `look` does, it takes no memory.
+    /// Looks at what a link holds: where it holds a block, `look` is called once, with its value, and its answer is given. The link is below
+    /// `links()`. Within the closure this is borrowed, so copy out what you need. But for what `look` does, it takes no memory.
     ///
     /// # Errors
     ///
@@ -172,7 +174,7 @@ impl<T: Drop, R: Reclaim<T>> Alone<T, R> {
         Ok(Some(look(&shared)))
     }
 
-    /// Whether a link holds a block. It takes no memory.
+    /// Whether a link holds a block. The link is below `links()`. It takes no memory.
     ///
     /// # Errors
     ///

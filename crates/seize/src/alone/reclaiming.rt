@@ -110,6 +110,8 @@ impl<T: Drop, R: Reclaim<T>> Alone<T, R> {
     /// Leaves with one guard of the slot. With its last one the slot is inactive; what waited for it alone is gone. An owned slot gives its
     /// number back.
     ///
+    /// The watch is told of each value that is gone, in order. It takes no memory and waits for nobody, but for what watch and reclaimer do.
+    ///
     /// # Errors
     ///
     /// In this order: `NotInUse`, `NotActive`.
@@ -131,8 +133,10 @@ impl<T: Drop, R: Reclaim<T>> Alone<T, R> {
         Ok(())
     }
 
-    /// The slot leaves and enters again at once, where it is owned or has one guard; with more guards nothing happens. What waited for it
-    /// alone is gone.
+    /// The slot leaves and enters again at once, where it is owned, and so has one guard, or has just one; with more guards nothing happens.
+    /// What waited for it alone is gone.
+    ///
+    /// The watch is told of each value that is gone, in order. It takes no memory and waits for nobody, but for what watch and reclaimer do.
     ///
     /// # Errors
     ///
@@ -150,7 +154,10 @@ impl<T: Drop, R: Reclaim<T>> Alone<T, R> {
         Ok(())
     }
 
-    /// Attempts the batch of the slot at any length: values that no active slot can read are gone, the others wait for those slots.
+    /// Attempts the batch of the slot at any length: if it has at least as many values as slots are active, it waits for these slots, and for
+    /// no others.
+    ///
+    /// The watch is told of each value that is gone, in order. It takes no memory and waits for nobody, but for what watch and reclaimer do.
     ///
     /// # Errors
     ///
@@ -190,8 +197,10 @@ impl<T: Drop, R: Reclaim<T>> Alone<T, R> {
         Ok(())
     }
 
-    /// Retires a value that is in no link. It goes into the slot's batch with its kind, which the reclaimer is given with it; the batch is
-    /// attempted where it is full.
+    /// Retires a value that is in no link, of this collector. It goes into the slot's batch with its kind, which the reclaimer is given with
+    /// it; the batch is attempted where it is full. What the reclaimer puts is retired in this call.
+    ///
+    /// The watch is told of each value that is gone, in order. It takes no memory and waits for nobody, but for what watch and reclaimer do.
     ///
     /// # Errors
     ///

@@ -52,13 +52,14 @@ impl<T: Drop, R: Reclaim<T>> Collector<T, R> {
     ghost use Rattle.seize.specs.Collectors.{its_links};
     ghost use Rattle.seize.specs.Reclaims.{IsSameCollector};
 
-    /// The collector in one caller's hands, where no number is in use. What is in the batches of its slots waits there. It takes no memory,
-    /// makes no atomic step and waits for nobody.
+    /// Gives the collector to one caller, where no number is in use. It goes by value, so passes, guards and registrations are over. What its
+    /// links hold, and what is in the batches of its slots, stays there; that no clause says. It takes no memory, makes no atomic step and
+    /// waits for nobody.
     ///
     /// # Errors
     ///
     /// The collector comes back where a number is in use: that of a registration or of an owned guard that was forgotten. `reclaim_all`
-    /// ends it.
+    /// ends it, unless that answers false: then a holder is lost for good.
     pub fn alone(self) -> Result<Alone<T, R>, Collector<T, R>>
         ensures made { IfOk result (λ alone. (alone.book ≡ its_book self) × (alone.size ≡ its_size self) × (alone.id ≡ its_id self)
             × (alone.state.size ≡ alone.size) × (length alone.state.links ≡ its_links self)
@@ -155,8 +156,8 @@ pub(super) fn shared<T: Drop, R: Reclaim<T>>(
 }
 
 impl<T: Drop, R: Reclaim<T>> Alone<T, R> {
-    /// The collector for threads to share. What is in use stays so, as if its holder had been forgotten: `reclaim_all` ends it, and so does
-    /// the drop. It takes no memory, makes no event and waits for nobody.
+    /// Gives the collector to threads. What is in use stays so, as if its holder had been forgotten, until `reclaim_all` or the drop: so leave
+    /// and end slots first, or what is retired later waits for them. It takes no memory, makes no event and waits for nobody.
     pub fn share(self) -> Collector<T, R>
         ensures same { (its_book result ≡ self.book) × (its_size result ≡ self.size) × (its_id result ≡ self.id) }
     {

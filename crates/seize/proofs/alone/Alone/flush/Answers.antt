@@ -59,8 +59,11 @@ returns-clause-done g c =
     let on : has_guard (slot_at st s) ≡ true = ap (λ (v : View g.row.T.Denot). has_guard (slot_at v.state s)) c.self.view_is ∙ some_guards (slot_at c.args.self.now.state s).guards (subst (λ (n : ℕ). 0 < n) (sym known.2) known.3) in
     let is = place_is n st inside.places.items a.placed s used c.out-owned.result c.out-owned.ensures.place in
     let had = stay.gives.2 in let at = in_place n s 1 had.before (had.was.0 ∙ ap (λ (t : Lies). t.1.1.0) is) in
-    let done = flushed g.row.T.coded g.R.Puts.puts g.R.Puts.weight g.R.Puts.lighter g.W.Watch.told k had.before had.after stay.back (g.W.Watch.seen c.args.watch.now) (g.W.Watch.seen c.stay.new.work.watch.now) s at.1 had.gives used on in
-    ((sym done.0 ∙ ap (λ (v : View g.row.T.Denot). (flush g.R.Puts.puts g.R.Puts.weight v.state s).0) c.self.view_is,
-      c.of.ensures.0 ∙ ap (λ (v : View g.row.T.Denot). (flush g.R.Puts.puts g.R.Puts.weight v.state s).1.0) c.self.view_is),
+    let done = flushed g.row.T.coded g.R.Puts.puts g.R.Puts.weight g.R.Puts.lighter g.W.Watch.told k had.before had.after stay.back (g.W.Watch.seen c.args.watch.now) (g.W.Watch.seen c.stay.new.work.watch.now) s at.1 had.gives used on in (
+      (
+        sym done.0 ∙ ap (λ (v : View g.row.T.Denot). (flush g.R.Puts.puts g.R.Puts.weight v.state s).0) c.self.view_is,
+        c.of.ensures.0 ∙ ap (λ (v : View g.row.T.Denot). (flush g.R.Puts.puts g.R.Puts.weight v.state s).1.0) c.self.view_is,
+      ),
       ap (λ w. g.W.Watch.seen w) (c.watch-1.given.1 (sym stay.gives.1)) ∙ done.1.hears
-      ∙ ap (λ (v : View g.row.T.Denot). told_of g.W.Watch.told (g.W.Watch.seen c.args.watch.now) (flush g.R.Puts.puts g.R.Puts.weight v.state s).1.1) c.self.view_is)
+          ∙ ap (λ (v : View g.row.T.Denot). told_of g.W.Watch.told (g.W.Watch.seen c.args.watch.now) (flush g.R.Puts.puts g.R.Puts.weight v.state s).1.1) c.self.view_is,
+    )

@@ -68,5 +68,5 @@ returns-clause-done g c =
         c.of.ensures.0 ∙ ap (λ (v : View g.row.T.Denot). (refresh P.puts P.weight v.state s).1.0) c.self.view_is,
       ),
       ap g.W.Watch.seen (c.watch-1.given.1 (sym stay.gives.1)) ∙ done.1.hears
-      ∙ ap (λ (v : View g.row.T.Denot). told_of g.W.Watch.told (g.W.Watch.seen c.args.watch.now) (refresh P.puts P.weight v.state s).1.1) c.self.view_is,
+          ∙ ap (λ (v : View g.row.T.Denot). told_of g.W.Watch.told (g.W.Watch.seen c.args.watch.now) (refresh P.puts P.weight v.state s).1.1) c.self.view_is,
     )

@@ -74,8 +74,11 @@ returns-clause-done g c =
     let had = stay.gives.4 loose refl in let at = in_place n s 1 had.before (had.was.0 ∙ ap (λ (t : Lies). t.1.1.0) is) in
     let lent : IsLentAs (its_value loose) (g.row.T.coded.code x) = subst (λ (t : ℕ × g.row.T.Denot). IsLentAs t.0 (g.row.T.coded.code t.1)) (λ j. (sym c.into_loose-loose.ensures.its.0 j, sym c.into_loose-loose.ensures.content j)) c.requires.1 in
     let done = retired g.row.T.coded g.R.Puts.puts g.R.Puts.weight g.R.Puts.lighter g.W.Watch.told k had.before had.after stay.back (g.W.Watch.seen c.args.watch.now) (g.W.Watch.seen c.stay.new.work.watch.now) s loose kind x at.1 had.gives lent used in
-    let given : (st, x) ≡ (c.args.self.now.state, taken_content c.args.value) = λ j. ((ap (λ (v : View g.row.T.Denot). v.state) c.self.view_is) j, c.into_loose-loose.ensures.content j) in
-    ((sym done.0 ∙ ap (λ (t : State g.row.T.Denot ℕ × g.row.T.Denot). (retire g.R.Puts.puts g.R.Puts.weight t.0 s t.1 kind).0) given,
-      c.of.ensures.0 ∙ ap (λ (t : State g.row.T.Denot ℕ × g.row.T.Denot). (retire g.R.Puts.puts g.R.Puts.weight t.0 s t.1 kind).1.0) given),
+    let given : (st, x) ≡ (c.args.self.now.state, taken_content c.args.value) = λ j. ((ap (λ (v : View g.row.T.Denot). v.state) c.self.view_is) j, c.into_loose-loose.ensures.content j) in (
+      (
+        sym done.0 ∙ ap (λ (t : State g.row.T.Denot ℕ × g.row.T.Denot). (retire g.R.Puts.puts g.R.Puts.weight t.0 s t.1 kind).0) given,
+        c.of.ensures.0 ∙ ap (λ (t : State g.row.T.Denot ℕ × g.row.T.Denot). (retire g.R.Puts.puts g.R.Puts.weight t.0 s t.1 kind).1.0) given,
+      ),
       ap (λ w. g.W.Watch.seen w) (c.watch-1.given.1 (sym stay.gives.1)) ∙ done.1.hears
-      ∙ ap (λ (t : State g.row.T.Denot ℕ × g.row.T.Denot). told_of g.W.Watch.told (g.W.Watch.seen c.args.watch.now) (retire g.R.Puts.puts g.R.Puts.weight t.0 s t.1 kind).1.1) given)
+          ∙ ap (λ (t : State g.row.T.Denot ℕ × g.row.T.Denot). told_of g.W.Watch.told (g.W.Watch.seen c.args.watch.now) (retire g.R.Puts.puts g.R.Puts.weight t.0 s t.1 kind).1.1) given,
+    )
