@@ -32,8 +32,8 @@ use seize_words::words::Words;
 use std::alloc::Global;
 use std::marker::{Brand, Model};
 
-/// A collector in one caller's hands. No call waits, and each returns, but for what a reclaimer, a watch, the `Drop` of a value or the closure
-/// of `look` does.
+/// A collector in one caller's hands. No call waits, and each returns, but for what a reclaimer, a watch, the `Drop` of a value or the
+/// closure of `look` does.
 ///
 /// Its drop is that of a collector which threads share: first what is in use ends, then what waits is reclaimed, and then each value in a
 /// link goes to the reclaimer.
@@ -258,8 +258,8 @@ impl<T: Drop, R: Reclaim<T>> Alone<T, R> {
         Ok(())
     }
 
-    /// Gives the number of a registered slot back. It answers false where the slot has a guard, and changes nothing. The slot's batch stays for
-    /// the next one who has the number. It takes no memory.
+    /// Gives the number of a registered slot back. It answers false where the slot has a guard, and changes nothing. The slot's batch
+    /// stays for the next one who has the number. It takes no memory.
     ///
     /// # Errors
     ///

@@ -83,8 +83,8 @@ impl<T: Drop, R: Reclaim<T>> Alone<T, R> {
         self.porter.stay(&mut making)
     }
 
-    /// A block that was never in a link, ready to be retired. The block is of this collector, with each block inside it that the reclaimer's
-    /// `owners` names. No event is made, and it takes no memory.
+    /// A block that was never in a link, ready to be retired. The block is of this collector, with each block inside it that the
+    /// reclaimer's `owners` names. No event is made, and it takes no memory.
     pub fn taken(&self, owned: Owned<T>) -> Taken<T>
         requires { Belongs R.owners self.now.book.store owned }
         ensures of { IsTakenOf T.row.coded.code self.now.book result }
@@ -143,8 +143,8 @@ impl<T: Drop, R: Reclaim<T>> Alone<T, R> {
         Ok(self.exchange(s, link, new))
     }
 
-    /// Looks at what a link holds: where it holds a block, `look` is called once, with its value, and its answer is given. The link is below
-    /// `links()`. Within the closure this is borrowed, so copy out what you need. But for what `look` does, it takes no memory.
+    /// Looks at what a link holds: where it holds a block, `look` is called once, with its value, and its answer is given. The link is
+    /// below `links()`. Within the closure this is borrowed, so copy out what you need. But for what `look` does, it takes no memory.
     ///
     /// # Errors
     ///

@@ -110,7 +110,8 @@ impl<T: Drop, R: Reclaim<T>> Alone<T, R> {
     /// Leaves with one guard of the slot. With its last one the slot is inactive; what waited for it alone is gone. An owned slot gives its
     /// number back.
     ///
-    /// The watch is told of each value that is gone, in order. It takes no memory and waits for nobody, but for what watch and reclaimer do.
+    /// The watch is told of each value that is gone, in order. It takes no memory and waits for nobody, but for what watch and reclaimer
+    /// do.
     ///
     /// # Errors
     ///
@@ -133,10 +134,11 @@ impl<T: Drop, R: Reclaim<T>> Alone<T, R> {
         Ok(())
     }
 
-    /// The slot leaves and enters again at once, where it is owned, and so has one guard, or has just one; with more guards nothing happens.
-    /// What waited for it alone is gone.
+    /// The slot leaves and enters again at once, where it is owned, and so has one guard, or has just one; with more guards nothing
+    /// happens. What waited for it alone is gone.
     ///
-    /// The watch is told of each value that is gone, in order. It takes no memory and waits for nobody, but for what watch and reclaimer do.
+    /// The watch is told of each value that is gone, in order. It takes no memory and waits for nobody, but for what watch and reclaimer
+    /// do.
     ///
     /// # Errors
     ///
@@ -154,10 +156,11 @@ impl<T: Drop, R: Reclaim<T>> Alone<T, R> {
         Ok(())
     }
 
-    /// Attempts the batch of the slot at any length: if it has at least as many values as slots are active, it waits for these slots, and for
-    /// no others.
+    /// Attempts the batch of the slot at any length: if it has at least as many values as slots are active, it waits for these slots, and
+    /// for no others.
     ///
-    /// The watch is told of each value that is gone, in order. It takes no memory and waits for nobody, but for what watch and reclaimer do.
+    /// The watch is told of each value that is gone, in order. It takes no memory and waits for nobody, but for what watch and reclaimer
+    /// do.
     ///
     /// # Errors
     ///
@@ -197,10 +200,11 @@ impl<T: Drop, R: Reclaim<T>> Alone<T, R> {
         Ok(())
     }
 
-    /// Retires a value that is in no link, of this collector. It goes into the slot's batch with its kind, which the reclaimer is given with
-    /// it; the batch is attempted where it is full. What the reclaimer puts is retired in this call.
+    /// Retires a value that is in no link, of this collector. It goes into the slot's batch with its kind, which the reclaimer is given
+    /// with it; the batch is attempted where it is full. What the reclaimer puts is retired in this call.
     ///
-    /// The watch is told of each value that is gone, in order. It takes no memory and waits for nobody, but for what watch and reclaimer do.
+    /// The watch is told of each value that is gone, in order. It takes no memory and waits for nobody, but for what watch and reclaimer
+    /// do.
     ///
     /// # Errors
     ///

@@ -47,8 +47,8 @@ impl<T> Content<T> {
     }
 }
 
-/// A value that is in no link, and is to be retired, while its collector is in one caller's hands. It borrows nothing, so the collector may be
-/// changed meanwhile.
+/// A value that is in no link, and is to be retired, while its collector is in one caller's hands. It borrows nothing, so the collector
+/// may be changed meanwhile.
 ///
 /// It has no `Drop`, so it can't be lost by oversight: `Alone::retire` spends it. Retire it before the collector is shared again. Where a
 /// retirement is refused it comes back; by a slot that has a guard it is never refused.
