@@ -1,6 +1,6 @@
 //! A collector in one caller's hands, and shared again: which values are gone at which call, in which order, and what ends at the drop.
-ghost use Rattle.std.specs.Prelude.{◌≡◌, ◌<◌, length};
-ghost use Rattle.seize.specs.Blocks.{IsTakenOf, content, store_name};
+ghost use Rattle.std.specs.Prelude.{◌≡◌};
+ghost use Rattle.seize.specs.Blocks.{IsTakenOf};
 ghost use base.Stored.{coded_unit};
 
 use crate::worked::telling;
@@ -111,25 +111,21 @@ fn leave_two<'a>(
     rt: &impl Abort,
     alone: &mut Telling<'a>,
     told: &'a AtomicU64,
-) -> Result<(), Refusal>
-    requires { 0 < length alone.old.state.links }
-{
+) -> Result<(), Refusal> {
     let mut heard = Heard { digits: 0 };
     let slot = alone.register()?;
     alone.enter(slot)?;
     let one = alone
         .owned(Digit { digit: 1, told })
         .map_err(|(refusal, _)| refusal)?;
+    assert!(rt; 0 < alone.links());
     assert!(rt; !alone.holds(slot, 0)?);
     match alone.swap(slot, 0, Some(one)) {
         Ok(None) => {}
         Ok(Some(_taken)) => rt.abort(),
         Err((refusal, _)) => return Err(refusal),
     }
-    assert_eq!(rt;
-        alone.look(slot, 0, |found| found.digit)?,
-        Some(1)
-    );
+    assert_eq!(rt; alone.look(slot, 0, |found| found.digit)?, Some(1));
     defer(rt, alone, slot, 2, told, &mut heard)?;
     assert_eq!(rt; heard.digits, 0);
     Ok(())
