@@ -28,11 +28,7 @@ pub fn put_and_read(
 /// # Errors
 ///
 /// In this order: `NotInUse`, `NotActive` where the slot has no guard.
-pub fn replace(
-    alone: &mut Alone<u64>,
-    slot: usize,
-    new: Option<Owned<u64>>,
-) -> Result<(), Refusal>
+pub fn replace(alone: &mut Alone<u64>, slot: usize, new: Option<Owned<u64>>) -> Result<(), Refusal>
     requires link { 0 < length alone.old.state.links }
     requires own { IfSome new (λ owned. store_name owned ≡ alone.old.book.store) }
     ensures held { IfOk result (λ _. calls.link_at alone.new.state 0 ≡ option_map content new) }
