@@ -8,6 +8,7 @@ ghost use Rattle.seize.specs.Alones.{IsAlone, View, view_coded};
 mod blocks;
 mod calls;
 mod codes;
+mod draining;
 mod hands;
 mod links;
 mod place;
