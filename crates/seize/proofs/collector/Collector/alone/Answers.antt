@@ -35,6 +35,7 @@ returns-clause-made g c =
       ap words_book parts.0,
       ap (λ w. w.size) parts.0,
       parts.4,
+      ap (λ w. length (words_book w).links) parts.0,
       first.1 ∙ size,
       first.2 ∙ ap (λ (n : Name). length n.links) name,
       first.3,
