@@ -14,4 +14,5 @@ pub mod Outlines
 pub mod Begins
 pub mod Reclaiming
 pub mod Below
+pub mod Shown
 pub mod Orderly
