@@ -16,3 +16,4 @@ pub mod Reclaiming
 pub mod Below
 pub mod Shown
 pub mod Orderly
+pub mod Forgotten

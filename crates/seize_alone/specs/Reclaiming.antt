@@ -12,6 +12,8 @@
 --     SameBelow           with retired batches more, older and gone, each call gives the same reply and the same values gone, and then the
 --                         state with them; and a reclaim of all gives the same, and forgets them
 --     OrderlyHeld         a state that hands hold is orderly, where the list is legal
+--     AllGoneHeld         from a state that hands hold these steps lead to one that they hold then, so they hold what a reclaim of all
+--                         leaves, by the same names and kinds; and with what the values gone put, the same values are gone
 use Rattle.std.specs.Prelude.{◌≡◌, ℕ, true, false, if◌then◌else◌, List, [], ◌∷◌, ◌++◌, length}
 use Rattle.std.specs.List.{range_with_len}
 use base.Stored.{Gv}
@@ -87,3 +89,10 @@ abbrev pub OrderlyHeld : {T : Type 0} → (T → Gv) → Type 0
 OrderlyHeld {T} code =
     (st : State T ℕ) (names : List (ℕ × T)) (kinds : List (ℕ × ℕ)) (n : Name) (seen : List Entry)
     → IsLegalList (start n) seen → are_distinct (linked_values n.links) ≡ true → Holds code st names kinds n seen → IsOrderly st
+
+abbrev pub AllGoneHeld : {T : Type 0} → (T → Gv) → (ℕ → T → List T) → (T → ℕ) → Type 0
+AllGoneHeld {T} code puts weight =
+    (st : State T ℕ) (names names' : List (ℕ × T)) (kinds kinds' : List (ℕ × ℕ)) (kind : Kind) (n : Name) (seen seen' : List Entry)
+    → IsLegalList (start n) seen → are_distinct (linked_values n.links) ≡ true → Holds code st names kinds n seen
+    → let now = in_turn kind st in let all = reclaim_all puts weight st in Holds code now.0 names' kinds' n seen'
+    → Holds code all.0 names' kinds' n seen' × (now.1 ++ gone_from puts weight (further puts now.1) ≡ all.1)
