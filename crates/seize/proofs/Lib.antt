@@ -36,3 +36,6 @@ mod Linked
 mod Called
 mod Reclaimed
 mod Outlined
+mod Behind
+mod Going
+mod Turning
