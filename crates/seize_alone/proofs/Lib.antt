@@ -14,4 +14,6 @@ pub mod Outlines
 pub mod Begins
 pub mod Reclaiming
 pub mod Below
+pub mod Shown
 pub mod Orderly
+pub mod Forgotten

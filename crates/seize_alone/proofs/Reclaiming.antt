@@ -24,7 +24,8 @@ use Rattle.seize_model.proofs.Cases.{or_same}
 use Rattle.seize_model.proofs.Counts.{any_counts, count_same}
 use Rattle.seize_model.proofs.WaitingSets.GoneBatches.{IsClean}
 use Rattle.seize_model.proofs.WaitingSets.LinkCounts.{releases_beside}
-use Rattle.seize_alone.specs.Reclaiming.{IsOrderly, ReclaimsInTurn, batch_in_turn, batches_in_turn, entered_as, in_turn, numbers_in_turn, part_in_turn, parts_in_turn, with_gone_below, with_order_from}
+use Rattle.seize_alone.specs.Holding.{with_gone_below, with_order_from}
+use Rattle.seize_alone.specs.Reclaiming.{IsOrderly, ReclaimsInTurn, batch_in_turn, batches_in_turn, entered_as, in_turn, numbers_in_turn, part_in_turn, parts_in_turn}
 use Rattle.seize_alone.proofs.Mapped.{any_map, set_map}
 
 -- Element after element.
