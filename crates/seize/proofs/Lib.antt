@@ -37,3 +37,6 @@ mod Called
 mod Reclaimed
 mod Outlined
 mod Aparts
+mod Behind
+mod Going
+mod Turning
