@@ -1,5 +1,5 @@
-//! The end of reclaiming all: what reclaimers put meanwhile was put apart, into a queue, and each value there goes to its reclaimer now. None
-//! of them was ever named, so no event is made.
+//! The end of reclaiming all: what reclaimers put meanwhile was put apart, into a queue, and each value there goes to its reclaimer now.
+//! None of them was ever named, so no event is made.
 ghost use Rattle.std.specs.Prelude.{◌≡◌, ◌≢◌, ◌++◌, ◌∷◌, [], ℕ, List};
 ghost use base.Fml.{ftrue};
 ghost use base.Stored.{coded×, coded_list, coded_ℕ};
