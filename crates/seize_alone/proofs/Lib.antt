@@ -17,3 +17,4 @@ pub mod Below
 pub mod Shown
 pub mod Orderly
 pub mod Forgotten
+pub mod Turns

@@ -4,7 +4,7 @@
 --     batches_in_turn kind st ss     each of these slots in order: its number is taken for this kind, it enters, its batch is attempted,
 --                         and it leaves. It keeps its number: so each number is the least one not in use as it is taken
 --     numbers_in_turn st ss    each of these slots gives its number back
---     in_turn kind st     these three, of all slots: the state, and the values gone in order
+--     in_turn kind st     these three, of all slots: the state, and the values gone in order. The numbers go back last first
 --     IsOrderly st        a slot whose number is free has no guard, no batch waits for a slot without a guard, and a retired batch that
 --                         waits for no slot has no values left
 --     ReclaimsInTurn      of an orderly state the steps, and then what the values gone put, are a reclaim of all: the same values are gone
@@ -14,7 +14,7 @@
 --     OrderlyHeld         a state that hands hold is orderly, where the list is legal
 --     AllGoneHeld         from a state that hands hold these steps lead to one that they hold then, so they hold what a reclaim of all
 --                         leaves, by the same names and kinds; and with what the values gone put, the same values are gone
-use Rattle.std.specs.Prelude.{◌≡◌, ℕ, true, false, if◌then◌else◌, List, [], ◌∷◌, ◌++◌, length}
+use Rattle.std.specs.Prelude.{◌≡◌, ℕ, true, false, if◌then◌else◌, List, [], ◌∷◌, ◌++◌, length, reverse}
 use Rattle.std.specs.List.{range_with_len}
 use base.Stored.{Gv}
 use Rattle.seize_machine.specs.Machine.State.{are_distinct, linked_values}
@@ -65,7 +65,7 @@ in_turn kind st =
     let all = range_with_len 0 (length st.slots) in
     let parted = parts_in_turn st all in
     let emptied = batches_in_turn kind parted.0 all in
-    (numbers_in_turn emptied.0 all, parted.1 ++ emptied.1)
+    (numbers_in_turn emptied.0 (reverse all), parted.1 ++ emptied.1)
 
 pub record IsOrderly {T R : Type 0} (st : State T R) : Type 0 where
   pub free : (s : ℕ) → is_free (slot_at st s).kind ≡ true → (slot_at st s).guards ≡ 0
