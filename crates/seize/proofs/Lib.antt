@@ -39,3 +39,4 @@ mod Outlined
 mod Behind
 mod Going
 mod Turning
+mod Parting

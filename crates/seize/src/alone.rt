@@ -12,7 +12,7 @@ mod calls;
 mod codes;
 mod hands;
 mod links;
-mod place;
+pub(crate) mod place;
 mod reclaiming;
 mod sharing;
 mod taking;

@@ -11,8 +11,9 @@ ghost use Rattle.seize_machine.specs.declared.machine.event.Answer.TheVariants.{
 ghost use Rattle.seize.specs.Makes.{MakesOne};
 ghost use Rattle.seize.specs.Shelves.{IsShelfFor};
 
-pub(crate) mod emptying;
+mod emptying;
 mod recovering;
+mod parting;
 pub(crate) mod resting;
 pub(crate) mod sweeping;
 
