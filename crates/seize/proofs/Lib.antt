@@ -40,3 +40,4 @@ mod Behind
 mod Going
 mod Turning
 mod Parting
+mod Turned

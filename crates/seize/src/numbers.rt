@@ -16,6 +16,7 @@ mod recovering;
 mod parting;
 pub(crate) mod resting;
 pub(crate) mod sweeping;
+pub(crate) mod turning;
 
 use crate::shelf::{Shelf, Shelves};
 use seize_calls::slot::Slot;

@@ -1,13 +1,13 @@
 //! Each slot in use leaves with its last guard, where it has any, and its number goes back, by a pass that is alone. A watch is told of each
 //! value that goes, and what the reclaimer puts waits in a queue.
-ghost use Rattle.std.specs.Prelude.{◌≡◌, ◌<◌, ℕ, None, false, get_or, length, slice_set};
+ghost use Rattle.std.specs.Prelude.{◌≡◌, ◌<◌, ℕ, None, false, get_or, length, slice_set, true};
 ghost use Rattle.std.specs.List.{range_with_len};
 ghost use Rattle.seize_book.specs.Tokens.{IsSole};
 ghost use Rattle.seize_words.specs.Joined.{words_book};
 ghost use Rattle.seize_machine.specs.Machine.Event.{Give};
 ghost use Rattle.seize_machine.specs.declared.machine.event.Answer.{Answer};
 ghost use Rattle.seize_model.specs.Waiting.Calls.{is_free, one_guard_less};
-ghost use Rattle.seize_model.specs.Waiting.State.{slot_at};
+ghost use Rattle.seize_model.specs.Waiting.State.{State, slot_at};
 ghost use Rattle.seize_calls.specs.Furthers.{further_in};
 ghost use Rattle.seize_calls.specs.Handing.{IsServed};
 ghost use Rattle.seize_calls.specs.Slots.{IsInactive, IsPassFor, IsSlotOf, its_number};
@@ -116,6 +116,8 @@ impl<T: Drop> Numbers<T> {
         ensures same { KeepsAside aside.old aside.new }
         ensures numbers { AreNumbers self.new × (self.new.book ≡ self.old.book) }
         ensures places { (s : ℕ) → get_or places.new.items s None ≡ None }
+        ensures free { (st : State T ℕ) → MayGo pass.old places.old.items st → (s : ℕ)
+            → is_free (slot_at (parts_in_turn st (range_with_len 0 (length st.slots))).0 s).kind ≡ true }
         ensures goes { Goes T.row.coded.code R.puts W.told (MayGo pass.old places.old.items)
             (λ st. parts_in_turn st (range_with_len 0 (length st.slots))) pass.old pass.new
             (W.seen aside.old.watch.now) (W.seen aside.new.watch.now) aside.old.queue.now aside.new.queue.now }

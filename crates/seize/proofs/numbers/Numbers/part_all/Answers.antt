@@ -1,8 +1,10 @@
-use Rattle.std.proofs.Common.{◌≡◌, ◌<◌, ◌+◌, ℕ, List, Option, None, get_or, slice_set, length, refl, sym, ap, subst, ◌∙◌, arith}
+use Rattle.std.proofs.Common.{◌≡◌, ◌<◌, ◌+◌, ℕ, List, Option, None, get_or, slice_set, true, length, refl, sym, ap, subst, ◌∙◌, arith}
 use Rattle.std.specs.List.{range_with_len}
 use Rattle.std.proofs.lemmas.List.{get_or-set_same, get_or-set_other, get_or_past, length-set}
 use native.Mathlib.Decide.{ℕ_discrete}
-use Rattle.seize_model.specs.Waiting.State.{State}
+use Rattle.seize_model.specs.Waiting.Attempt.{StateAndGone}
+use Rattle.seize_model.specs.Waiting.Calls.{is_free}
+use Rattle.seize_model.specs.Waiting.State.{State, slot_at}
 use Rattle.seize_book.specs.Tokens.{Name}
 use Rattle.seize_calls.specs.Furthers.{further_in}
 use Rattle.seize_calls.specs.Handing.{IsServed}
@@ -12,7 +14,7 @@ use Rattle.seize.specs.Placing.{ArePlaces}
 use Rattle.seize.specs.declared.alone.place.Place.{Place}
 use Rattle.seize.proofs.Cleared.{each_of}
 use Rattle.seize.proofs.Going.{fits_then, goes_as, goes_none, goes_then, part_more}
-use Rattle.seize.proofs.Parting.{held_then, none_more, parts_all, parts_size, places_parted}
+use Rattle.seize.proofs.Parting.{free_none, held_then, none_more, parts_all, parts_size, places_parted}
 use Rattle.seize.proofs.Placed.{still_for}
 use Rattle.seize.proofs.Swept.{still_sole}
 use Rattle.seize.proofs.numbers.Numbers.part_all.Goals as goal
@@ -69,3 +71,10 @@ returns-clause-goes g c =
     let i = c.loop-n.invariant in let W = g.W.Watch in let T = g.row.T in let end = c.loop-n.auto.n-end in let over = c.loop-n-test.false in let many = c.len-n-end.ensures in let long = i.6 in let items = c.loop-n.places.items in
     let all : length items ≡ c.loop-n.n = omega (arith, end, over, many, long) in
     goes_as T.coded.code g.R.Puts.puts W.told (λ st may. may) (λ st may. parts_all st c.args.pass.now.name items c.loop-n.n (i.8 st may.1) all) i.9
+
+pub returns-clause-free : goal.returns-clause-free
+returns-clause-free g c st may s =
+    let i = c.loop-n.invariant in let end = c.loop-n.auto.n-end in let over = c.loop-n-test.false in let many = c.len-n-end.ensures in let long = i.6 in let items = c.loop-n.places.items in let name = c.args.pass.now.name in
+    let all : length items ≡ c.loop-n.n = omega (arith, end, over, many, long) in let placed = i.8 st may.1 in
+    let none = each_of (λ (t : ℕ). get_or items t None ≡ None) c.loop-n.n i.7 (λ t past. get_or_past items t None (omega (arith, end, over, many, long, past))) s in
+    subst (λ (o : StateAndGone g.row.T.Denot ℕ). is_free (slot_at o.0 s).kind ≡ true) (parts_all st name items c.loop-n.n placed all) (free_none name (parts_in_turn st (range_with_len 0 c.loop-n.n)).0 items placed s none)
