@@ -12,8 +12,8 @@ ghost use Rattle.seize.specs.Makes.{MakesOne};
 ghost use Rattle.seize.specs.Shelves.{IsShelfFor};
 
 mod emptying;
-mod recovering;
 mod parting;
+mod recovering;
 pub(crate) mod resting;
 pub(crate) mod sweeping;
 pub(crate) mod turning;

@@ -1,7 +1,6 @@
-use Rattle.std.proofs.Common.{◌≡◌, ◌<◌, ◌+◌, ℕ, List, Option, None, get_or, slice_set, true, length, refl, sym, ap, subst, ◌∙◌, arith}
+use Rattle.std.proofs.Common.{◌≡◌, ◌<◌, ℕ, List, Option, None, get_or, true, length, refl, sym, ap, subst, ◌∙◌, arith}
 use Rattle.std.specs.List.{range_with_len}
-use Rattle.std.proofs.lemmas.List.{get_or-set_same, get_or-set_other, get_or_past, length-set}
-use native.Mathlib.Decide.{ℕ_discrete}
+use Rattle.std.proofs.lemmas.List.{get_or_past, length-set}
 use Rattle.seize_model.specs.Waiting.Attempt.{StateAndGone}
 use Rattle.seize_model.specs.Waiting.Calls.{is_free}
 use Rattle.seize_model.specs.Waiting.State.{State, slot_at}
@@ -9,7 +8,7 @@ use Rattle.seize_book.specs.Tokens.{Name}
 use Rattle.seize_calls.specs.Furthers.{further_in}
 use Rattle.seize_calls.specs.Handing.{IsServed}
 use Rattle.seize_alone.specs.Reclaiming.{parts_in_turn}
-use Rattle.seize.specs.Aparts.{Goes, IsSomeHeld, MayGo}
+use Rattle.seize.specs.Aparts.{IsSomeHeld, MayGo}
 use Rattle.seize.specs.Placing.{ArePlaces}
 use Rattle.seize.specs.declared.alone.place.Place.{Place}
 use Rattle.seize.proofs.Cleared.{each_of}
@@ -38,8 +37,10 @@ pub part_at-requires : goal.part_at-requires
 part_at-requires g c =
     let i = c.loop-n.invariant in let less = c.loop-n-test.true in let long = i.6 in let many = c.len-n-end.ensures in let end = c.loop-n.auto.n-end in let first = c.args.pass.now in let was = c.loop-n.pass in
     let held : IsSomeHeld g.row.T.coded.code was (MayGo was c.loop-n.places.items) =
-    held_then g.row.T.coded.code g.R.Puts.puts g.W.Watch.told i.9 c.requires.held (λ st may. (fits_then first was st (parts_in_turn st (range_with_len 0 c.loop-n.n)).0 i.9.same (parts_size st (range_with_len 0 c.loop-n.n)) may.0,
-    subst (λ (n : Name). ArePlaces n (parts_in_turn st (range_with_len 0 c.loop-n.n)).0 c.loop-n.places.items) (sym i.9.same.0) (i.8 st may.1))) in
+    held_then g.row.T.coded.code g.R.Puts.puts g.W.Watch.told i.9 c.requires.held (λ st may. (
+      fits_then first was st (parts_in_turn st (range_with_len 0 c.loop-n.n)).0 i.9.same (parts_size st (range_with_len 0 c.loop-n.n)) may.0,
+      subst (λ (n : Name). ArePlaces n (parts_in_turn st (range_with_len 0 c.loop-n.n)).0 c.loop-n.places.items) (sym i.9.same.0) (i.8 st may.1),
+    )) in
     (omega arith, ((i.0, ap (λ seen. seen.name) i.1 ∙ c.requires.numbers.1), ((i.2, i.3), ((held, omega (arith, less, long, many, end)), (c.requires.ender, i.4)))))
 
 pub loop-n-preserved : goal.loop-n-preserved
@@ -57,8 +58,10 @@ loop-n-preserved g c =
       none_more n places c.part_at.new.places.items parted below i.7,
       (λ st placed. subst (λ (t : State T.Denot ℕ × List (Option (Place T.Denot))). ArePlaces first.name t.0 t.1) (λ j. ((sym (part_more st n) j).0, sym parted j)) (places_parted first.name (parts_in_turn st (range_with_len 0 n)).0 places n (i.8 st placed) below)),
       goes_as T.coded.code puts W.told (λ st may. may) (λ st may. sym (part_more st n))
-          (goes_then T.coded.code puts W.told i.9 one.goes (λ st names kinds may holds held. (fits_then first was st (parts_in_turn st (range_with_len 0 n)).0 i.9.same (parts_size st (range_with_len 0 n)) may.0,
-          subst (λ (m : Name). ArePlaces m (parts_in_turn st (range_with_len 0 n)).0 places) (sym i.9.same.0) (i.8 st may.1)))),
+          (goes_then T.coded.code puts W.told i.9 one.goes (λ st names kinds may holds held. (
+            fits_then first was st (parts_in_turn st (range_with_len 0 n)).0 i.9.same (parts_size st (range_with_len 0 n)) may.0,
+            subst (λ (m : Name). ArePlaces m (parts_in_turn st (range_with_len 0 n)).0 places) (sym i.9.same.0) (i.8 st may.1),
+          ))),
     )
 
 pub returns-clause-places : goal.returns-clause-places

@@ -1,11 +1,9 @@
-use Rattle.std.proofs.Common.{◌≡◌, ℕ, None, [], get_or, refl, sym, ap, subst, ◌∙◌, arith}
+use Rattle.std.proofs.Common.{None, sym, subst, ◌∙◌, arith}
 use Rattle.std.proofs.lemmas.List.{get_or_default}
-use Rattle.std.specs.Prelude.{slice_set}
 use Rattle.seize_book.specs.Tokens.{Name}
 use Rattle.seize_calls.specs.Furthers.{further_in}
 use Rattle.seize_calls.specs.Handing.{IsServed}
 use Rattle.seize.proofs.Going.{goes_as, goes_none, goes_then}
-use Rattle.seize.proofs.InUse.{set_twice}
 use Rattle.seize.proofs.Lone.{place_is}
 use Rattle.seize.proofs.Parting.{free_none, give_goes, left_rests, part_free, part_used, used_some}
 use Rattle.seize.proofs.Placed.{still_for}

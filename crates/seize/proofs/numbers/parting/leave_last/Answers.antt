@@ -1,4 +1,4 @@
-use Rattle.std.proofs.Common.{◌<◌, ◌≡◌, arith, refl, sym, ◌∙◌}
+use Rattle.std.proofs.Common.{◌<◌, ◌≡◌, arith, ◌∙◌}
 use Rattle.seize.proofs.Called.{sole_still}
 use Rattle.seize.proofs.Parting.{leave_goes}
 use Rattle.seize.proofs.Placed.{at_some, still_for, units_joined, units_within}

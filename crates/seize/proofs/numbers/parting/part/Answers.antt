@@ -1,7 +1,7 @@
-use Rattle.std.proofs.Common.{◌≡◌, ℕ, false, [], refl, sym, ap, subst, ◌∙◌, arith}
+use Rattle.std.proofs.Common.{◌≡◌, ℕ, false, sym, ap, subst, ◌∙◌, arith}
 use Rattle.seize_machine.specs.Machine.State.{head_at, is_active}
 use Rattle.seize_model.specs.Waiting.Calls.{is_free, one_guard_less, set_guards}
-use Rattle.seize_model.specs.Waiting.State.{State, has_guard, slot_at}
+use Rattle.seize_model.specs.Waiting.State.{has_guard, slot_at}
 use Rattle.seize_book.specs.Book.{after}
 use Rattle.seize_book.specs.Tokens.{Name, start}
 use Rattle.seize_book.specs.declared.book.pass.Pass.{Pass}
