@@ -10,7 +10,6 @@ use Rattle.seize_calls.specs.Furthers.{further_in}
 use Rattle.seize_calls.specs.Handing.{Had, IsServed}
 use Rattle.seize_calls.specs.Weights.{AreLight, AreWeighed}
 use Rattle.seize_calls.specs.declared.further.Further.{Further}
-use Rattle.seize_alone.specs.Gone.{HadAre, PutAs}
 use Rattle.seize.specs.Aparts.{IsBehind, WaitsBehind, values_put_in, words_put_in}
 
 -- With nothing put.

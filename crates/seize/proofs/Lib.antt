@@ -40,3 +40,5 @@ mod Aparts
 mod Behind
 mod Going
 mod Turning
+mod Parting
+mod Turned

@@ -1,11 +1,11 @@
 -- A collector in one caller's hands: what the porter's first pass knows of the state, and what lies in the places.
-use Rattle.std.proofs.Common.{arith, ◌≡◌, ◌⊎◌, ℕ, ◌==◌, ◌<◌, ◌≤◌, Bool, true, false, not, if◌then◌else◌, List, [], length, Option, Some, None, option_map, get_or, is_some, inl, inr, slice_set, refl, sym, ap, subst, ◌∙◌}
+use Rattle.std.proofs.Common.{arith, ◌≡◌, ◌⊎◌, ℕ, ◌==◌, ◌<◌, ◌≤◌, Bool, true, false, not, if◌then◌else◌, List, length, Option, Some, None, option_map, get_or, is_some, inl, inr, slice_set, refl, sym, ap, subst, ◌∙◌}
 use Rattle.std.proofs.lemmas.Bool.{cases_lt, false≢true}
 use Rattle.std.proofs.lemmas.List.{get_or-set_same, get_or-set_other, get_or_past}
 use base.Stored.{Gv}
 use Rattle.seize_machine.proofs.Facts.{eq_true}
 use Rattle.seize_machine.specs.Machine.State.{are_distinct, head_at, is_active, linked_values}
-use Rattle.seize_model.specs.Waiting.Calls.{is_free, is_owned, set_guards}
+use Rattle.seize_model.specs.Waiting.Calls.{is_free}
 use Rattle.seize_model.specs.Waiting.State.{Slot, State, has_guard, no_slot, set_slot, slot_at}
 use Rattle.seize_model.proofs.Simulation.Events.{set_twice}
 use Rattle.seize_book.proofs.Facts.{equal}
@@ -17,12 +17,11 @@ use Rattle.seize_book.specs.declared.book.pass.Pass.{Pass}
 use Rattle.seize_book.specs.declared.book.porter.Porter.{Porter}
 use Rattle.seize_words.specs.Joined.{words_book}
 use Rattle.seize_words.specs.declared.words.Words.{Words}
-use Rattle.seize_calls.specs.Slots.{IsPassFor, its_book, its_number}
+use Rattle.seize_calls.specs.Slots.{IsPassFor}
 use Rattle.seize_alone.specs.Holding.{Holds}
 use Rattle.seize_alone.proofs.Shown.{active_shown}
 use Rattle.seize.specs.Alones.{IsAlone}
 use Rattle.seize.specs.Placing.{ArePlaces, Lies, lies_for, lies_in, lying_in}
-use Rattle.seize.specs.Reservations.{its_label, place_label}
 use Rattle.seize.specs.declared.alone.hands.Hands.{Hands}
 use Rattle.seize.specs.declared.alone.place.Place.{Place}
 use Rattle.seize.specs.declared.ender.Ender.{Ender}

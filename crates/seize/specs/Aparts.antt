@@ -8,17 +8,21 @@
 --     DidApart code puts told sees n had aside aside'     the reclaimer had this and put as `puts` says; what it put waits, and the watch was
 --                            told
 --     Fits pass st           the state has the size of the pass, and the links of the pass's list begin with values that differ
+--     MayGo pass places st   it fits, and what lies in these places is what the state says
+--     IsIn pass s place st   it fits, and slot s is in use there; what lies in its place is this
+--     IsSomeHeld code pass May     the hands hold some state of which `May` says so, as the pass has seen
 --     GivesBack k pass pass'     the numbers below k went back, by events made alone, one after another, the last one first
 --     Goes code puts told May does pass pass' seen seen' queue queue'     where the hands hold a state of which `May` says so, they hold the
 --                            one that `does` gives of it. What the reclaimer had are the values that are gone then; it put as `puts` says,
 --                            what it put waits, and the watch was told
-use Rattle.std.specs.Prelude.{◌≡◌, ℕ, zero, suc, true, List, [], ◌∷◌, ◌++◌, map}
+use Rattle.std.specs.Prelude.{◌≡◌, ℕ, zero, suc, true, false, Option, List, [], ◌∷◌, ◌++◌, map}
 use base.Stored.{Gv}
 use Rattle.seize_machine.specs.Machine.Event.{Give}
 use Rattle.seize_machine.specs.declared.machine.event.Answer.{Answer}
 use Rattle.seize_machine.specs.Machine.State.{are_distinct, linked_values}
 use Rattle.seize_model.specs.Waiting.Attempt.{StateAndGone}
-use Rattle.seize_model.specs.Waiting.State.{State}
+use Rattle.seize_model.specs.Waiting.Calls.{is_free}
+use Rattle.seize_model.specs.Waiting.State.{State, slot_at}
 use Rattle.seize_book.specs.Kept.{kepts_of}
 use Rattle.seize_book.specs.Passes.{IsSamePass}
 use Rattle.seize_book.specs.Tokens.{Name}
@@ -30,8 +34,10 @@ use Rattle.seize_calls.specs.declared.further.Further.{Further}
 use Rattle.seize_alone.specs.Events.{MakesAlone}
 use Rattle.seize_alone.specs.Gone.{AreNamesOf, PutAs}
 use Rattle.seize_alone.specs.Holding.{Holds, HoldsThen}
+use Rattle.seize.specs.Placing.{ArePlaces, lies_in, lying_in}
 use Rattle.seize.specs.Told.{HasTold}
 use Rattle.seize.specs.declared.alone.aside.Aside.{Aside}
+use Rattle.seize.specs.declared.alone.place.Place.{Place}
 
 abbrev pub values_put_in : Had → List ℕ
 values_put_in [] = []
@@ -66,6 +72,16 @@ AreWaiting {T} code queue vs =
 
 abbrev pub Fits : {T : Type 0} → Pass → State T ℕ → Type 0
 Fits pass st = (st.size ≡ pass.size) × (are_distinct (linked_values pass.name.links) ≡ true)
+
+abbrev pub MayGo : {T : Type 0} → Pass → List (Option (Place T)) → State T ℕ → Type 0
+MayGo pass places st = Fits pass st × ArePlaces pass.name st places
+
+abbrev pub IsIn : {T : Type 0} → Pass → ℕ → Place T → State T ℕ → Type 0
+IsIn pass s place st = Fits pass st × (is_free (slot_at st s).kind ≡ false) × (lies_in place ≡ lying_in pass.name (slot_at st s) s)
+
+abbrev pub IsSomeHeld : {T : Type 0} → (T → Gv) → Pass → (State T ℕ → Type 0) → Type 0
+IsSomeHeld {T} code pass May =
+    (st : State T ℕ) × (names : List (ℕ × T)) × (kinds : List (ℕ × ℕ)) × Holds code st names kinds pass.name pass.seen × May st
 
 abbrev pub GivesBack : ℕ → Pass → Pass → Type 0
 GivesBack zero pass pass' = pass' ≡ pass

@@ -13,7 +13,7 @@ mod codes;
 mod draining;
 mod hands;
 mod links;
-mod place;
+pub(crate) mod place;
 mod reclaiming;
 mod sharing;
 mod taking;

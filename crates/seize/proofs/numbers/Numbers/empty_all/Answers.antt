@@ -1,7 +1,5 @@
 use Rattle.std.proofs.Common.{◌≡◌, ℕ, length, refl, sym, ap, subst, ◌∙◌, arith}
 use Rattle.std.specs.List.{range_with_len}
-use Rattle.seize_book.specs.Tokens.{Name}
-use Rattle.seize_words.specs.Joined.{words_book}
 use Rattle.seize_model.specs.declared.kind.Kind.TheVariants.{Registered}
 use Rattle.seize_calls.specs.Furthers.{further_in}
 use Rattle.seize_calls.specs.Handing.{IsServed}

@@ -1,5 +1,5 @@
-use Rattle.std.proofs.Common.{◌≡◌, length, true, is_some}
-use Rattle.std.specs.List.{list_all, range_with_len}
+use Rattle.std.proofs.Common.{◌≡◌, length}
+use Rattle.std.specs.List.{range_with_len}
 use Rattle.seize_book.specs.Tokens.{IsSole}
 use Rattle.seize_words.specs.Joined.{words_book}
 use Rattle.seize_model.specs.declared.kind.Kind.TheVariants.{Registered}

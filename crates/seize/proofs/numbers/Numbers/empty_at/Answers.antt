@@ -4,7 +4,7 @@ use Rattle.std.specs.Prelude.{slice_set}
 use Rattle.seize_book.specs.Others.{use_flags}
 use Rattle.seize_book.specs.Slots.{slot_of}
 use Rattle.seize_model.specs.declared.kind.Kind.TheVariants.{Registered}
-use Rattle.seize_calls.specs.Slots.{IsOfList, its_number}
+use Rattle.seize_calls.specs.Slots.{IsOfList}
 use Rattle.seize_alone.specs.Reclaiming.{batch_in_turn}
 use Rattle.seize.specs.Aparts.{Fits, Goes}
 use Rattle.seize.specs.Numbers.{IsTakenAt, flags_to}

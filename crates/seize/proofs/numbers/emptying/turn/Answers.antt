@@ -1,4 +1,4 @@
-use Rattle.std.proofs.Common.{refl, sym, ◌∙◌, arith}
+use Rattle.std.proofs.Common.{refl, sym}
 use Rattle.seize.proofs.Turning.{turn_goes, turn_number}
 use Rattle.seize.proofs.numbers.emptying.turn.Goals as goal
 
