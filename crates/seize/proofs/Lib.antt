@@ -42,3 +42,4 @@ mod Going
 mod Turning
 mod Parting
 mod Turned
+mod Running
