@@ -2,7 +2,7 @@ use Rattle.std.proofs.Common.{◌≡◌, ℕ, [], ◌∷◌, refl, arith}
 use Rattle.seize_calls.specs.Aparts.{without_puts}
 use Rattle.seize_calls.specs.Handing.{Had}
 use Rattle.seize_calls.specs.Weights.{AreLight}
-use Rattle.seize_calls.proofs.apart.ApartLightens.lightens.Goals as goal
+use Rattle.seize_calls_rows.proofs.apart.ApartLightens.lightens.Goals as goal
 
 none_light : (had : Had) → AreLight (λ _ (n : ℕ). n ≡ 0) (without_puts had)
 none_light [] = tt

@@ -7,9 +7,9 @@ ghost use Rattle.seize_calls.specs.Aparts.{without_puts};
 ghost use Rattle.seize_calls.specs.Furthers.{further_in};
 ghost use Rattle.seize_calls.specs.Handing.{IsServed};
 
-use crate::draining::Lightens;
-use crate::further::Further;
-use crate::handing::Reclaim;
+use seize_calls::draining::Lightens;
+use seize_calls::further::Further;
+use seize_calls::handing::Reclaim;
 use seize_words::blocks::Blocks;
 use seize_words::book::Permit;
 

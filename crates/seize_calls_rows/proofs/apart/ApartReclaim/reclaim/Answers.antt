@@ -6,7 +6,7 @@ use Rattle.seize_book.specs.Private.{labels_of}
 use Rattle.seize_calls.specs.Aparts.{without_puts}
 use Rattle.seize_calls.specs.Handing.{Had}
 use Rattle.seize_calls.proofs.Chains.{no_keys}
-use Rattle.seize_calls.proofs.apart.ApartReclaim.reclaim.Goals as goal
+use Rattle.seize_calls_rows.proofs.apart.ApartReclaim.reclaim.Goals as goal
 
 without_append : (a b : Had) → without_puts (a ++ b) ≡ without_puts a ++ without_puts b
 without_append [] b = refl

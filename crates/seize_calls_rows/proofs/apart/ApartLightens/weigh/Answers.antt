@@ -1,6 +1,6 @@
 use Rattle.std.proofs.Common.{◌≡◌, ℕ, List, [], ◌∷◌, refl}
 use Rattle.seize_calls.specs.Weights.{AreWeighed}
-use Rattle.seize_calls.proofs.apart.ApartLightens.weigh.Goals as goal
+use Rattle.seize_calls_rows.proofs.apart.ApartLightens.weigh.Goals as goal
 
 all_nothing : (ls : List ℕ) → AreWeighed (λ _ (n : ℕ). n ≡ 0) ls
 all_nothing [] = ([], tt)
