@@ -43,3 +43,4 @@ mod Turning
 mod Parting
 mod Turned
 mod Running
+mod Everything

@@ -4,7 +4,7 @@
 --                            that were had
 --     WaitsBehind n had queue queue'     what was put with them waits behind what waited before;  AreWaiting code queue vs     in the queue
 --                            these values wait, each with its kind
---     KeepsAside aside aside'    it is the same watch, and the same queue
+--     KeepsAside aside aside'    it is the same watch
 --     DidApart code puts told sees n had aside aside'     the reclaimer had this and put as `puts` says; what it put waits, and the watch was
 --                            told
 --     Fits pass st           the state has the size of the pass, and the links of the pass's list begin with values that differ
@@ -15,13 +15,14 @@
 --     Goes code puts told May does pass pass' seen seen' queue queue'     where the hands hold a state of which `May` says so, they hold the
 --                            one that `does` gives of it. What the reclaimer had are the values that are gone then; it put as `puts` says,
 --                            what it put waits, and the watch was told
+--     GoesAll                so it is where all is reclaimed with what is put, and the watch was told of that too
 use Rattle.std.specs.Prelude.{◌≡◌, ℕ, zero, suc, true, false, Option, List, [], ◌∷◌, ◌++◌, map}
 use base.Stored.{Gv}
 use Rattle.seize_machine.specs.Machine.Event.{Give}
 use Rattle.seize_machine.specs.declared.machine.event.Answer.{Answer}
 use Rattle.seize_machine.specs.Machine.State.{are_distinct, linked_values}
 use Rattle.seize_model.specs.Waiting.Attempt.{StateAndGone}
-use Rattle.seize_model.specs.Waiting.Calls.{is_free}
+use Rattle.seize_model.specs.Waiting.Calls.{is_free, reclaim_all}
 use Rattle.seize_model.specs.Waiting.State.{State, slot_at}
 use Rattle.seize_book.specs.Kept.{kepts_of}
 use Rattle.seize_book.specs.Passes.{IsSamePass}
@@ -35,7 +36,7 @@ use Rattle.seize_alone.specs.Events.{MakesAlone}
 use Rattle.seize_alone.specs.Gone.{AreNamesOf, PutAs}
 use Rattle.seize_alone.specs.Holding.{Holds, HoldsThen}
 use Rattle.seize.specs.Placing.{ArePlaces, lies_in, lying_in}
-use Rattle.seize.specs.Told.{HasTold}
+use Rattle.seize.specs.Told.{HasTold, told_of}
 use Rattle.seize.specs.declared.alone.aside.Aside.{Aside}
 use Rattle.seize.specs.declared.alone.place.Place.{Place}
 
@@ -58,13 +59,13 @@ pub record WaitsBehind (n : Name) (had : Had) (queue queue' : Further) : Type 0 
   pub words : kepts_of (further_in queue') ≡ kepts_of (further_in queue) ++ words_put_in had
 
 abbrev pub KeepsAside : {W : Type 0} → Aside W → Aside W → Type 0
-KeepsAside aside aside' = (aside'.watch.ghost_name ≡ aside.watch.ghost_name) × (aside'.queue.ghost_name ≡ aside.queue.ghost_name)
+KeepsAside aside aside' = aside'.watch.ghost_name ≡ aside.watch.ghost_name
 
 pub record DidApart {T W Seen : Type 0} (code : T → Gv) (puts : ℕ → T → List T) (told : Seen → T → Seen) (sees : W → Seen) (n : Name)
     (had : Had) (aside aside' : Aside W) : Type 0 where
   pub put : PutAs code puts had
   pub tells : HasTold code told (sees aside.watch.now) (sees aside'.watch.now) had
-  pub waits : WaitsBehind n had aside.queue.now aside'.queue.now
+  pub waits : WaitsBehind n had aside.queue aside'.queue
 
 abbrev pub AreWaiting : {T : Type 0} → (T → Gv) → Further → List (T × ℕ) → Type 0
 AreWaiting {T} code queue vs =
@@ -96,3 +97,10 @@ pub record Goes {T Seen : Type 0} (code : T → Gv) (puts : ℕ → T → List T
   pub waits : WaitsBehind pass.name had queue queue'
   pub holds : (st : State T ℕ) (names : List (ℕ × T)) (kinds : List (ℕ × ℕ)) → May st → Holds code st names kinds pass.name pass.seen
       → HoldsThen code (does st) had pass'
+
+abbrev pub GoesAll : {T Seen : Type 0} → (T → Gv) → (ℕ → T → List T) → (T → ℕ) → (Seen → T → Seen) → (State T ℕ → Type 0) → Pass → Pass → Seen → Seen
+    → Type 0
+GoesAll {T} code puts weight told May pass pass' seen seen' =
+    (st : State T ℕ) (names : List (ℕ × T)) (kinds : List (ℕ × ℕ)) → May st → Holds code st names kinds pass.name pass.seen
+    → let all = reclaim_all puts weight st in ((names' : List (ℕ × T)) × (kinds' : List (ℕ × ℕ)) × Holds code all.0 names' kinds' pass'.name pass'.seen)
+    × (seen' ≡ told_of told seen all.1)

@@ -39,8 +39,6 @@ pub(crate) trait Waited {
 
     ghost watch: { ℕ };
 
-    ghost queue: { ℕ };
-
     ghost first: { Gv };
 
     ghost values: { List ℕ };
@@ -53,8 +51,6 @@ impl Waited for Brand {
 
     ghost watch = { 0 };
 
-    ghost queue = { 0 };
-
     ghost first = { gnil };
 
     ghost values = { [] };
@@ -65,11 +61,11 @@ impl Waited for Brand {
 /// Tells the watch of each value, and gives it to the collector's reclaimer: `F` is `Forwards`, and `B` says which watch it is, and which
 /// queue. What is put comes last there.
 #[derive(Drop)]
-pub(crate) struct Apart<'w, 'h, F: Drop, W, B> {
+pub(crate) struct Apart<'a, 'w, F: Drop, W, B> {
     /// Gives it on.
     pub(crate) forwards: F,
     /// The watch, and the queue.
-    pub(crate) aside: &'w mut Aside<'h, W>,
+    pub(crate) aside: &'a mut Aside<'w, W>,
     /// What is known of both.
     pub(crate) begun: PhantomData<B>,
 }
@@ -81,9 +77,8 @@ impl<T: Drop, R: Reclaim<T>, W: Watch<T>, B: Waited> handing::Reclaim<T>
     ghost serves = { λ apart n. let had = apart.forwards.ends.had in
         IsEnderIn n apart.forwards.ender.now × PutAs T.row.coded.code R.puts had
         × HasToldFrom W.coded T.row.coded.code W.told B.first (W.seen apart.aside.now.watch.now) had
-        × IsBehind n B.values B.words had apart.aside.now.queue.now
-        × (apart.aside.ghost_name ≡ B.name) × (apart.aside.now.watch.ghost_name ≡ B.watch)
-        × (apart.aside.now.queue.ghost_name ≡ B.queue) };
+        × IsBehind n B.values B.words had apart.aside.now.queue
+        × (apart.aside.ghost_name ≡ B.name) × (apart.aside.now.watch.ghost_name ≡ B.watch) };
 
     fn reclaim(
         &mut self,
@@ -127,8 +122,7 @@ pub(crate) fn leave_apart<B: Waited, T: Drop, R: Reclaim<T>, W: Watch<T>>(
     requires watch { (apart.old.aside.ghost_name ≡ B.name) × (apart.old.aside.now.watch.ghost_name ≡ B.watch)
         × (W.coded.code (W.seen apart.old.aside.now.watch.now) ≡ B.first) }
     requires queue { let queue = apart.old.aside.now.queue in
-        (queue.ghost_name ≡ B.queue) × IsServed (further_in queue.now) (words_book words.now)
-        × (values_of (further_in queue.now) ≡ B.values) × (kepts_of (further_in queue.now) ≡ B.words) }
+        IsServed (further_in queue) (words_book words.now) × (values_of (further_in queue) ≡ B.values) × (kepts_of (further_in queue) ≡ B.words) }
     ensures same { (apart.new.aside.ghost_name ≡ apart.old.aside.ghost_name) × KeepsAside apart.old.aside.now apart.new.aside.now }
     ensures of { IsSlotOf words.now slot.new × MayEnterWith slot.new rest.new }
     ensures leaves { (had : Had) × SlotLeaves slot.old pass.old [] slot.new pass.new (without_puts had)
@@ -151,7 +145,7 @@ pub(crate) fn leave_into<T: Drop, R: Reclaim<T>, W: Watch<T>>(
     requires head { IsItsHead slot.old head.now }
     requires inside { HasActivation slot.old rest.old }
     requires ender { IsEnderOf words.now ender.now }
-    requires queue { IsServed (further_in aside.old.queue.now) (words_book words.now) }
+    requires queue { IsServed (further_in aside.old.queue) (words_book words.now) }
     ensures same { KeepsAside aside.old aside.new }
     ensures of { IsSlotOf words.now slot.new × MayEnterWith slot.new rest.new }
     ensures leaves { (had : Had) × SlotLeaves slot.old pass.old [] slot.new pass.new (without_puts had)
@@ -184,8 +178,7 @@ pub(crate) fn flush_apart<B: Waited, T: Drop, R: Reclaim<T>, W: Watch<T>>(
     requires watch { (apart.old.aside.ghost_name ≡ B.name) × (apart.old.aside.now.watch.ghost_name ≡ B.watch)
         × (W.coded.code (W.seen apart.old.aside.now.watch.now) ≡ B.first) }
     requires queue { let queue = apart.old.aside.now.queue in
-        (queue.ghost_name ≡ B.queue) × IsServed (further_in queue.now) (words_book words.now)
-        × (values_of (further_in queue.now) ≡ B.values) × (kepts_of (further_in queue.now) ≡ B.words) }
+        IsServed (further_in queue) (words_book words.now) × (values_of (further_in queue) ≡ B.values) × (kepts_of (further_in queue) ≡ B.words) }
     ensures same { (apart.new.aside.ghost_name ≡ apart.old.aside.ghost_name) × KeepsAside apart.old.aside.now apart.new.aside.now }
     ensures of { IsSlotOf words.now slot.new × KeepsActivation slot.old slot.new }
     ensures flushes { (retired : Bool) × (had : Had) × SlotFlushes slot.old pass.old [] slot.new pass.new (without_puts had) retired
@@ -205,7 +198,7 @@ pub(crate) fn flush_into<T: Drop, R: Reclaim<T>, W: Watch<T>>(
     requires of { IsSlotOf words.now slot.old × IsPassFor words.now pass.old × IsSole pass.old.id }
     requires inside { IsActive slot.old }
     requires ender { IsEnderOf words.now ender.now }
-    requires queue { IsServed (further_in aside.old.queue.now) (words_book words.now) }
+    requires queue { IsServed (further_in aside.old.queue) (words_book words.now) }
     ensures same { KeepsAside aside.old aside.new }
     ensures of { IsSlotOf words.now slot.new × KeepsActivation slot.old slot.new }
     ensures flushes { (retired : Bool) × (had : Had) × SlotFlushes slot.old pass.old [] slot.new pass.new (without_puts had) retired

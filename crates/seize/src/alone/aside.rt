@@ -2,11 +2,12 @@
 
 use seize_calls::further::Further;
 
-/// Who is told of values that go, and where what reclaimers put waits.
+/// Where what reclaimers put waits, and who is told of values that go. The watch comes last: so what it has seen is known when this is
+/// taken apart.
 #[derive(Drop)]
-pub(crate) struct Aside<'h, W> {
-    /// The watch.
-    pub(crate) watch: &'h mut W,
+pub(crate) struct Aside<'w, W> {
     /// The queue.
-    pub(crate) queue: &'h mut Further,
+    pub(crate) queue: Further,
+    /// The watch.
+    pub(crate) watch: &'w mut W,
 }

@@ -38,12 +38,12 @@ fn turn<T: Drop, R: Reclaim<T>, W: Watch<T>>(
     requires numbers { AreNumbersOf key.old pass.old × MayTakeNumber key.old (its_key slot.old) }
     requires pass { IsPassFor words.now pass.old × IsSole pass.old.id }
     requires ender { IsEnderOf words.now ender.now }
-    requires queue { IsServed (further_in aside.old.queue.now) (words_book words.now) }
+    requires queue { IsServed (further_in aside.old.queue) (words_book words.now) }
     ensures same { KeepsAside aside.old aside.new }
     ensures slot { IsSlotOf words.now slot.new × IsInactive slot.new × (its_number slot.new ≡ its_number slot.old) }
     ensures numbers { (mid : APass) × SetsUse key.old mid key.new slot.old true }
     ensures goes { Goes T.row.coded.code R.puts W.told (Fits pass.old) (λ st. batch_in_turn registered st (its_number slot.old))
-        pass.old pass.new (W.seen aside.old.watch.now) (W.seen aside.new.watch.now) aside.old.queue.now aside.new.queue.now }
+        pass.old pass.new (W.seen aside.old.watch.now) (W.seen aside.new.watch.now) aside.old.queue aside.new.queue }
 {
     slot.take_again(words, key, pass);
     let mut activation = slot.activation();
@@ -66,12 +66,12 @@ impl<T: Drop> Numbers<T> {
         requires here { list_all is_some self.old.slots.items ≡ true }
         requires pass { IsPassFor words.now pass.old × IsSole pass.old.id }
         requires ender { IsEnderOf words.now ender.now }
-        requires queue { IsServed (further_in aside.old.queue.now) (words_book words.now) }
+        requires queue { IsServed (further_in aside.old.queue) (words_book words.now) }
         ensures same { KeepsAside aside.old aside.new }
         ensures taken { AreTakenTo (length self.new.slots.items) self.new × KeepsPlaces self.old self.new }
         ensures goes { let all = range_with_len 0 (length self.old.slots.items) in
             Goes T.row.coded.code R.puts W.told (Fits pass.old) (λ st. batches_in_turn registered st all)
-            pass.old pass.new (W.seen aside.old.watch.now) (W.seen aside.new.watch.now) aside.old.queue.now aside.new.queue.now }
+            pass.old pass.new (W.seen aside.old.watch.now) (W.seen aside.new.watch.now) aside.old.queue aside.new.queue }
     {
         for n in 0..self.slots.len() {
             self.empty_at(words, ender, n, aside, pass);
@@ -91,11 +91,11 @@ impl<T: Drop> Numbers<T> {
         requires here { list_all is_some self.old.slots.items ≡ true }
         requires pass { IsPassFor words.now pass.old × IsSole pass.old.id }
         requires ender { IsEnderOf words.now ender.now }
-        requires queue { IsServed (further_in aside.old.queue.now) (words_book words.now) }
+        requires queue { IsServed (further_in aside.old.queue) (words_book words.now) }
         ensures same { KeepsAside aside.old aside.new }
         ensures taken { AreTakenTo (n + 1) self.new × KeepsPlaces self.old self.new }
         ensures goes { Goes T.row.coded.code R.puts W.told (Fits pass.old) (λ st. batch_in_turn registered st n)
-            pass.old pass.new (W.seen aside.old.watch.now) (W.seen aside.new.watch.now) aside.old.queue.now aside.new.queue.now }
+            pass.old pass.new (W.seen aside.old.watch.now) (W.seen aside.new.watch.now) aside.old.queue aside.new.queue }
     {
         let Some(mut slot) = self.slots[n].take() else {
             unreachable!()

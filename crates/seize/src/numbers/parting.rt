@@ -42,12 +42,12 @@ fn leave_last<T: Drop, R: Reclaim<T>, W: Watch<T>>(
     requires r { IsReservation r.old × IsOnly words.now r.old pass.old }
     requires unit { IsUnit (words_book words.now) (its_number r.old.slot) unit.unit unit.seen }
     requires ender { IsEnderOf words.now ender.now }
-    requires queue { IsServed (further_in aside.old.queue.now) (words_book words.now) }
+    requires queue { IsServed (further_in aside.old.queue) (words_book words.now) }
     ensures same { KeepsAside aside.old aside.new }
     ensures slot { IsSlotOf words.now r.new.slot × IsInactive r.new.slot × (its_number r.new.slot ≡ its_number r.old.slot) }
     ensures goes { let s = its_number r.old.slot in Goes T.row.coded.code R.puts W.told
         (λ st. Fits pass.old st × (is_free (slot_at st s).kind ≡ false) × ((slot_at st s).guards ≡ 1)) (λ st. one_guard_less st s)
-        pass.old pass.new (W.seen aside.old.watch.now) (W.seen aside.new.watch.now) aside.old.queue.now aside.new.queue.now }
+        pass.old pass.new (W.seen aside.old.watch.now) (W.seen aside.new.watch.now) aside.old.queue aside.new.queue }
 {
     let Unit {
         number: _,
@@ -72,11 +72,11 @@ fn part<T: Drop, R: Reclaim<T>, W: Watch<T>>(
     requires pass { IsPassFor words.now pass.old × IsSole pass.old.id }
     requires held { IsSomeHeld T.row.coded.code pass.old (IsIn pass.old _s place) }
     requires ender { IsEnderOf words.now ender.now }
-    requires queue { IsServed (further_in aside.old.queue.now) (words_book words.now) }
+    requires queue { IsServed (further_in aside.old.queue) (words_book words.now) }
     ensures same { KeepsAside aside.old aside.new }
     ensures slot { IsSlotOf words.now result × IsInactive result × (its_number result ≡ _s) }
     ensures goes { Goes T.row.coded.code R.puts W.told (IsIn pass.old _s place) (λ st. last_guard_left st _s)
-        pass.old pass.new (W.seen aside.old.watch.now) (W.seen aside.new.watch.now) aside.old.queue.now aside.new.queue.now }
+        pass.old pass.new (W.seen aside.old.watch.now) (W.seen aside.new.watch.now) aside.old.queue aside.new.queue }
 {
     let Place {
         owned: _,
@@ -112,7 +112,7 @@ impl<T: Drop> Numbers<T> {
         requires pass { IsPassFor words.now pass.old × IsSole pass.old.id }
         requires held { IsSomeHeld T.row.coded.code pass.old (MayGo pass.old places.old.items) }
         requires ender { IsEnderOf words.now ender.now }
-        requires queue { IsServed (further_in aside.old.queue.now) (words_book words.now) }
+        requires queue { IsServed (further_in aside.old.queue) (words_book words.now) }
         ensures same { KeepsAside aside.old aside.new }
         ensures numbers { AreNumbers self.new × (self.new.book ≡ self.old.book) }
         ensures places { (s : ℕ) → get_or places.new.items s None ≡ None }
@@ -120,7 +120,7 @@ impl<T: Drop> Numbers<T> {
             → is_free (slot_at (parts_in_turn st (range_with_len 0 (length st.slots))).0 s).kind ≡ true }
         ensures goes { Goes T.row.coded.code R.puts W.told (MayGo pass.old places.old.items)
             (λ st. parts_in_turn st (range_with_len 0 (length st.slots))) pass.old pass.new
-            (W.seen aside.old.watch.now) (W.seen aside.new.watch.now) aside.old.queue.now aside.new.queue.now }
+            (W.seen aside.old.watch.now) (W.seen aside.new.watch.now) aside.old.queue aside.new.queue }
     {
         for n in 0..places.len() {
             self.part_at(words, ender, n, places, aside, pass);
@@ -141,12 +141,12 @@ impl<T: Drop> Numbers<T> {
         requires pass { IsPassFor words.now pass.old × IsSole pass.old.id }
         requires held { IsSomeHeld T.row.coded.code pass.old (MayGo pass.old places.old.items) × (n < length places.old.items) }
         requires ender { IsEnderOf words.now ender.now }
-        requires queue { IsServed (further_in aside.old.queue.now) (words_book words.now) }
+        requires queue { IsServed (further_in aside.old.queue) (words_book words.now) }
         ensures same { KeepsAside aside.old aside.new }
         ensures numbers { AreNumbers self.new × (self.new.book ≡ self.old.book) }
         ensures places { places.new.items ≡ slice_set places.old.items n None }
         ensures goes { Goes T.row.coded.code R.puts W.told (MayGo pass.old places.old.items) (λ st. part_in_turn st n)
-            pass.old pass.new (W.seen aside.old.watch.now) (W.seen aside.new.watch.now) aside.old.queue.now aside.new.queue.now }
+            pass.old pass.new (W.seen aside.old.watch.now) (W.seen aside.new.watch.now) aside.old.queue aside.new.queue }
     {
         if let Some(place) = places[n].take() {
             let slot = part(words, ender, n, place, aside, pass);

@@ -8,8 +8,7 @@ abbrev pub ghosts-leave_apart : goal.ghosts-leave_apart
 ghosts-leave_apart g a = record {
   name = a.apart.now.aside.ghost_name;
   watch = a.apart.now.aside.now.watch.ghost_name;
-  queue = a.apart.now.aside.now.queue.ghost_name;
   first = g.W.Watch.coded.code (g.W.Watch.seen a.apart.now.aside.now.watch.now);
-  values = values_of (further_in a.apart.now.aside.now.queue.now);
-  words = kepts_of (further_in a.apart.now.aside.now.queue.now);
+  values = values_of (further_in a.apart.now.aside.now.queue);
+  words = kepts_of (further_in a.apart.now.aside.now.queue);
 }

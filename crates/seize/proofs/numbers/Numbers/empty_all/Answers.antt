@@ -21,8 +21,8 @@ loop-n-init g c =
       c.requires.pass.0,
       c.requires.pass.1,
       c.requires.queue,
-      (refl, refl),
-      goes_none g.row.T.coded.code g.R.Puts.puts g.W.Watch.told (Fits pass) pass (g.W.Watch.seen c.args.aside.now.watch.now) c.args.aside.now.queue.now (subst (IsServed (further_in c.args.aside.now.queue.now)) c.requires.pass.0.0 c.requires.queue),
+      refl,
+      goes_none g.row.T.coded.code g.R.Puts.puts g.W.Watch.told (Fits pass) pass (g.W.Watch.seen c.args.aside.now.watch.now) c.args.aside.now.queue (subst (IsServed (further_in c.args.aside.now.queue)) c.requires.pass.0.0 c.requires.queue),
     )
 
 pub empty_at-requires : goal.empty_at-requires
@@ -43,8 +43,8 @@ loop-n-preserved g c =
       places_length self self' one.taken.1 ∙ i.2,
       still_for words was now i.3 same,
       still_sole was now same i.4,
-      subst (IsServed (further_in c.empty_at.new.aside.queue.now)) (sym i.3.0) one.goes.waits.served,
-      (one.same.0 ∙ i.6.0, one.same.1 ∙ i.6.1),
+      subst (IsServed (further_in c.empty_at.new.aside.queue)) (sym i.3.0) one.goes.waits.served,
+      one.same ∙ i.6,
       goes_as g.row.T.coded.code g.R.Puts.puts W.told (λ st fits. fits) (λ st fits. sym (batch_more Registered st n))
           (goes_then g.row.T.coded.code g.R.Puts.puts W.told i.7 one.goes (λ st names kinds fits holds held. fits_then first was st (batches_in_turn Registered st (range_with_len 0 n)).0 i.7.same (batches_size Registered st (range_with_len 0 n)) fits)),
     )
@@ -58,4 +58,4 @@ pub returns-clause-goes : goal.returns-clause-goes
 returns-clause-goes g c =
     let i = c.loop-n.invariant in let W = g.W.Watch in let end = c.loop-n.auto.n-end in let over = c.loop-n-test.false in let many = c.len-n-end.ensures in let same = i.2 in
     let n : c.loop-n.n ≡ length c.args.self.now.slots.items = omega (arith, end, over, many, same) in
-    subst (λ (k : ℕ). Goes g.row.T.coded.code g.R.Puts.puts W.told (Fits c.args.pass.now) (λ st. batches_in_turn Registered st (range_with_len 0 k)) c.args.pass.now c.loop-n.pass (W.seen c.args.aside.now.watch.now) (W.seen c.loop-n.aside.watch.now) c.args.aside.now.queue.now c.loop-n.aside.queue.now) n i.7
+    subst (λ (k : ℕ). Goes g.row.T.coded.code g.R.Puts.puts W.told (Fits c.args.pass.now) (λ st. batches_in_turn Registered st (range_with_len 0 k)) c.args.pass.now c.loop-n.pass (W.seen c.args.aside.now.watch.now) (W.seen c.loop-n.aside.watch.now) c.args.aside.now.queue c.loop-n.aside.queue) n i.7

@@ -14,5 +14,5 @@ use Rattle.seize.proofs.numbers.Numbers.empty_all.Given as goal
 
 abbrev pub invariant-loop-n : goal.invariant-loop-n
 invariant-loop-n g l =
-    AreTakenTo l.n l.self × KeepsPlaces l.fn.self l.self × (length l.self.slots.items ≡ length l.fn.self.slots.items) × IsPassFor l.words l.pass × IsSole l.pass.id × IsServed (further_in l.aside.queue.now) (words_book l.words) × KeepsAside l.fn.aside l.aside
-    × Goes g.row.T.coded.code g.R.Puts.puts g.W.Watch.told (Fits l.fn.pass) (λ st. batches_in_turn Registered st (range_with_len 0 l.n)) l.fn.pass l.pass (g.W.Watch.seen l.fn.aside.watch.now) (g.W.Watch.seen l.aside.watch.now) l.fn.aside.queue.now l.aside.queue.now
+    AreTakenTo l.n l.self × KeepsPlaces l.fn.self l.self × (length l.self.slots.items ≡ length l.fn.self.slots.items) × IsPassFor l.words l.pass × IsSole l.pass.id × IsServed (further_in l.aside.queue) (words_book l.words) × KeepsAside l.fn.aside l.aside
+    × Goes g.row.T.coded.code g.R.Puts.puts g.W.Watch.told (Fits l.fn.pass) (λ st. batches_in_turn Registered st (range_with_len 0 l.n)) l.fn.pass l.pass (g.W.Watch.seen l.fn.aside.watch.now) (g.W.Watch.seen l.aside.watch.now) l.fn.aside.queue l.aside.queue

@@ -53,5 +53,5 @@ pub returns-clause-goes : goal.returns-clause-goes
 returns-clause-goes g c =
     let numbers = c.requires.numbers in let items = c.args.self.now.slots.items in let n = c.args.n in let slot = c.in-Some.slot in let W = g.W.Watch in
     let is = get_or_default items n None c.index_mut.result.now numbers.2 ∙ sym c.index_mut.ensures.value ∙ sym c.take.ensures.value ∙ c.in-Some.is in
-    subst (λ (k : ℕ). Goes g.row.T.coded.code g.R.Puts.puts W.told (Fits c.args.pass.now) (λ st. batch_in_turn Registered st k) c.args.pass.now c.turn.new.pass (W.seen c.args.aside.now.watch.now) (W.seen c.turn.new.aside.watch.now) c.args.aside.now.queue.now c.turn.new.aside.queue.now)
+    subst (λ (k : ℕ). Goes g.row.T.coded.code g.R.Puts.puts W.told (Fits c.args.pass.now) (λ st. batch_in_turn Registered st k) c.args.pass.now c.turn.new.pass (W.seen c.args.aside.now.watch.now) (W.seen c.turn.new.aside.watch.now) c.args.aside.now.queue c.turn.new.aside.queue)
     (numbers.0.slots n slot is).number c.turn.ensures.goes

@@ -20,13 +20,13 @@ use Rattle.seize.proofs.numbers.Numbers.part_all.Goals as goal
 
 pub loop-n-init : goal.loop-n-init
 loop-n-init g c =
-    let pass = c.args.pass.now in let places = c.args.places.now.items in let queue = c.args.aside.now.queue.now in (
+    let pass = c.args.pass.now in let places = c.args.places.now.items in let queue = c.args.aside.now.queue in (
       c.requires.numbers.0,
       refl,
       c.requires.pass.0,
       c.requires.pass.1,
       c.requires.queue,
-      (refl, refl),
+      refl,
       refl,
       (λ s less. absurd (omega (arith, less))),
       (λ st placed. placed),
@@ -46,14 +46,14 @@ part_at-requires g c =
 pub loop-n-preserved : goal.loop-n-preserved
 loop-n-preserved g c =
     let i = c.loop-n.invariant in let one = c.part_at.ensures in let T = g.row.T in let W = g.W.Watch in let puts = g.R.Puts.puts in let words = c.args.words.now in let first = c.args.pass.now in let was = c.loop-n.pass in let now = c.part_at.new.pass in let n = c.loop-n.n in
-    let places = c.loop-n.places.items in let same = one.goes.same in let parted = one.places in let queue = c.part_at.new.aside.queue.now in let aside = one.same in
+    let places = c.loop-n.places.items in let same = one.goes.same in let parted = one.places in let queue = c.part_at.new.aside.queue in let aside = one.same in
     let below : n < length places = (let less = c.loop-n-test.true in let long = i.6 in let many = c.len-n-end.ensures in let end = c.loop-n.auto.n-end in omega (arith, less, long, many, end)) in (
       one.numbers.0,
       one.numbers.1 ∙ i.1,
       still_for words was now i.2 same,
       still_sole was now same i.3,
       subst (IsServed (further_in queue)) (sym i.2.0) one.goes.waits.served,
-      (aside.0 ∙ i.5.0, aside.1 ∙ i.5.1),
+      aside ∙ i.5,
       ap (λ (l : List (Option (Place T.Denot))). length l) parted ∙ length-set places n None ∙ i.6,
       none_more n places c.part_at.new.places.items parted below i.7,
       (λ st placed. subst (λ (t : State T.Denot ℕ × List (Option (Place T.Denot))). ArePlaces first.name t.0 t.1) (λ j. ((sym (part_more st n) j).0, sym parted j)) (places_parted first.name (parts_in_turn st (range_with_len 0 n)).0 places n (i.8 st placed) below)),

@@ -25,7 +25,7 @@ give_back-requires g c =
 
 pub returns-in-Some-clause-goes : goal.returns-in-Some-clause-goes
 returns-in-Some-clause-goes g c =
-    let W = g.W.Watch in let T = g.row.T in let puts = g.R.Puts.puts in let pass = c.args.pass.now in let n = c.args.n in let places = c.args.places.now.items in let mid = c.part-slot.new.pass in let gives = c.give_back.ensures.gives in let queue = c.part-slot.new.aside.queue.now in
+    let W = g.W.Watch in let T = g.row.T in let puts = g.R.Puts.puts in let pass = c.args.pass.now in let n = c.args.n in let places = c.args.places.now.items in let mid = c.part-slot.new.pass in let gives = c.give_back.ensures.gives in let queue = c.part-slot.new.aside.queue in
     let is = get_or_default places n None c.index_mut.result.now c.requires.held.1 ∙ sym c.index_mut.ensures.value ∙ sym c.take.ensures.value ∙ c.in-Some.is in let left = c.part-slot.ensures.goes in
     let served = subst (λ (m : Name). IsServed (further_in queue) m) (sym left.same.0) left.waits.served in
     goes_as T.coded.code puts W.told
@@ -35,7 +35,7 @@ returns-in-Some-clause-goes g c =
 
 pub returns-in_default-clause-goes : goal.returns-in_default-clause-goes
 returns-in_default-clause-goes g c =
-    let W = g.W.Watch in let T = g.row.T in let puts = g.R.Puts.puts in let pass = c.args.pass.now in let n = c.args.n in let places = c.args.places.now.items in let queue = c.args.aside.now.queue.now in
+    let W = g.W.Watch in let T = g.row.T in let puts = g.R.Puts.puts in let pass = c.args.pass.now in let n = c.args.n in let places = c.args.places.now.items in let queue = c.args.aside.now.queue in
     let none = get_or_default places n None c.index_mut.result.now c.requires.held.1 ∙ sym c.index_mut.ensures.value ∙ sym c.take.ensures.value ∙ c.in_default.is in
     goes_as T.coded.code puts W.told (λ st may. may) (λ st may. sym (part_free st n (free_none pass.name st places may.1 n none)))
     (goes_none T.coded.code puts W.told (MayGo pass places) pass (W.seen c.args.aside.now.watch.now) queue (subst (IsServed (further_in queue)) c.requires.pass.0.0 c.requires.queue))

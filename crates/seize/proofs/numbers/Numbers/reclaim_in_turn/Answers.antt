@@ -16,7 +16,7 @@ use Rattle.seize.proofs.numbers.Numbers.reclaim_in_turn.Goals as goal
 pub empty_all-requires : goal.empty_all-requires
 empty_all-requires g c =
     let words = c.args.words.now in let parted = c.part_all.new.self in let part = c.part_all.ensures in let look = c.look.ensures in let p = c.args.pass.now in let q = c.part_all.new.pass in let r = c.look.new.pass in let W = g.W.Watch in
-    let sole = still_sole p q part.goes.same c.requires.pass.1 in let for = still_for words p q c.requires.pass.0 part.goes.same in let queue = c.part_all.new.aside.queue.now in
+    let sole = still_sole p q part.goes.same c.requires.pass.1 in let for = still_for words p q c.requires.pass.0 part.goes.same in let queue = c.part_all.new.aside.queue in
     let held = held_then g.row.T.coded.code g.R.Puts.puts W.told part.goes c.requires.held (λ st may. part.free st may) in (
       omega arith,
       (
@@ -34,7 +34,7 @@ empty_all-requires g c =
 pub returns-clause-goes : goal.returns-clause-goes
 returns-clause-goes g c =
     let words = c.args.words.now in let parted = c.part_all.new.self in let part = c.part_all.ensures in let look = c.look.ensures in let p = c.args.pass.now in let q = c.part_all.new.pass in let r = c.look.new.pass in let W = g.W.Watch in
-    let s = c.empty_all.new.pass in let t = c.give_all.new.pass in let emptied = c.empty_all.new.self in let empty = c.empty_all.ensures in let queue = c.empty_all.new.aside.queue.now in
+    let s = c.empty_all.new.pass in let t = c.give_all.new.pass in let emptied = c.empty_all.new.self in let empty = c.empty_all.ensures in let queue = c.empty_all.new.aside.queue in
     let sole = still_sole p q part.goes.same c.requires.pass.1 in let flags = look.used.0 ∙ part.numbers.0.flags in
     let held = held_then g.row.T.coded.code g.R.Puts.puts W.told part.goes c.requires.held (λ st may. part.free st may) in
     let here : list_all is_some parted.slots.items ≡ true = all_lie g.row.T.coded parted.slots.items q r look.looks.0 sole flags held in

@@ -32,4 +32,4 @@ returns-clause-goes g c =
     let W = g.W.Watch in let words = c.args.words.now in let at = c.current.new.self in let only = c.requires.r.1 in let leave = c.leave_into in let leaves = leave.ensures.leaves in
     let still = still_then c.current.ensures.still (still_prepared at.slot c.head-head.ensures.pass) in
     leave_goes g.row.T.coded g.R.Puts.puts W.told words at.slot leave.new.slot c.args.pass.now c.head-head.new.pass leave.new.pass _ c.current.ensures.same only.2 only.3 still leave.ensures.of.0.0 leaves.0 leaves.1
-    leaves.2.put (W.seen c.args.aside.now.watch.now) (W.seen leave.new.aside.watch.now) c.args.aside.now.queue.now leave.new.aside.queue.now leaves.2.tells leaves.2.waits
+    leaves.2.put (W.seen c.args.aside.now.watch.now) (W.seen leave.new.aside.watch.now) c.args.aside.now.queue leave.new.aside.queue leaves.2.tells leaves.2.waits

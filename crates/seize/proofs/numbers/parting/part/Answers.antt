@@ -42,7 +42,7 @@ returns-in_default-clause-slot g c =
 
 pub returns-in_default-clause-goes : goal.returns-in_default-clause-goes
 returns-in_default-clause-goes g c =
-    let W = g.W.Watch in let code = g.row.T.coded.code in let puts = g.R.Puts.puts in let pass = c.args.pass.now in let s = c.args._s in let place = c.args.place in let seen = W.seen c.args.aside.now.watch.now in let queue = c.args.aside.now.queue.now in
+    let W = g.W.Watch in let code = g.row.T.coded.code in let puts = g.R.Puts.puts in let pass = c.args.pass.now in let s = c.args._s in let place = c.args.place in let seen = W.seen c.args.aside.now.watch.now in let queue = c.args.aside.now.queue in
     let same = same_pass c.requires.pass.1 (still_looked c.into_value-r.result.slot c.look.new.self c.look.ensures.looks) in
     subst (λ (q : Pass). Goes code puts W.told (IsIn pass s place) (λ st. last_guard_left st s) pass q seen seen queue queue) (sym same)
     (goes_as code puts W.told (λ st is. is) (λ st is. left_off st s (unit_none pass.name s place.unit (has_guard (slot_at st s)) (ap (λ (t : Lies). t.1.1.1.0) is.2) c.in_default.is))
@@ -69,7 +69,7 @@ returns-clause-goes g c =
     let label : place.reservation ≡ place_label (words_book words) s 1 = ap (λ (t : Lies). t.1.1.0) held.4.2 ∙ ap (λ (n : Name). place_label n s 1) (sym for.0) in
     let only = only_there words s pass place.reservation label for c.requires.pass.1 c.into_value-r.result c.into_value-r.ensures in
     let left = subst (λ (k : ℕ). Goes T.coded.code puts W.told (λ st. Fits pass st × (is_free (slot_at st k).kind ≡ false) × ((slot_at st k).guards ≡ 1)) (λ st. one_guard_less st k)
-    pass c.leave_last.new.pass (W.seen c.args.aside.now.watch.now) (W.seen c.leave_last.new.aside.watch.now) c.args.aside.now.queue.now c.leave_last.new.aside.queue.now) only.1 c.leave_last.ensures.goes in
+    pass c.leave_last.new.pass (W.seen c.args.aside.now.watch.now) (W.seen c.leave_last.new.aside.watch.now) c.args.aside.now.queue c.leave_last.new.aside.queue) only.1 c.leave_last.ensures.goes in
     goes_from T.coded puts W.told (λ st. set_guards st s 1)
     (λ st names kinds may holds.
     let on = (unit_some pass.name s place.unit c.in-Some.unit (has_guard (slot_at st s)) (ap (λ (t : Lies). t.1.1.1.0) may.2) c.in-Some.is).0 in

@@ -27,5 +27,4 @@ returns-clause-serves g c =
       behind_more _ B.values B.words _ _ _ _ _ before.3 reclaim.had (append.joins.book ∙ before.3.served.0, (append.new before.3.served.1 reclaim.further.1).0) append.joins.all append.joins.kept,
       before.4,
       before.5,
-      before.6,
     )
