@@ -1,6 +1,6 @@
 -- What a swap and a retirement do to the links of the model.
 use Rattle.std.proofs.Common.{◌≡◌, ℕ, zero, suc, ◌<◌, nat_le, max, Bool, true, false, if◌then◌else◌, List, [], ◌∷◌, ◌++◌, length, Option, Some, None, Ok, refl, ◌∙◌, sym, subst, slice_set}
-use Rattle.std.proofs.lemmas.List.{get_or-set_same, length-set}
+use Rattle.std.proofs.lemmas.List.{get_or-set_same}
 use Rattle.seize_plain.specs.Waiting.State.{State, slot_at, is_kept}
 use Rattle.seize_plain.specs.Waiting.Attempt.{StateAndGone, release, attempt, gives_up, with_batch_retired, put, with_batch_value}
 use Rattle.seize_plain.specs.Waiting.Further.{settle, further, with_further}
@@ -51,12 +51,3 @@ module _ {T R : Type 0} where
   swapped_at st s link new guarded there =
       subst (λ refusal. link_at (unless refusal st (Ok (link_at st link), (record st { links = slice_set st.links link new }, []))).1.0 link ≡ new)
       (sym guarded) (get_or-set_same st.links link new None there)
-
-  -- a swap leaves the number of links
-  pub swapped_links : (st : State T R) (s link : ℕ) (new : Option T) → length (swap st s link new).1.0.links ≡ length st.links
-  swapped_links st s link new = swapped_length st s link new (no_guard st s)
-    where
-      swapped_length : (st : State T R) (s link : ℕ) (new : Option T) (refusal : Option _)
-          → length (unless {A = Option T} refusal st (Ok (link_at st link), (record st { links = slice_set st.links link new }, []))).1.0.links ≡ length st.links
-      swapped_length st s link new None = length-set st.links link new
-      swapped_length st s link new (Some refusal) = refl

@@ -1,5 +1,5 @@
 //! A caller who has a collector alone: what is put into a link is found there, and the block that came out is retired.
-ghost use Rattle.std.specs.Prelude.{◌≡◌, ◌<◌, IfOk, IfSome, Some, length, option_map};
+ghost use Rattle.std.specs.Prelude.{◌≡◌, ◌<◌, IfOk, IfSome, Some, option_map};
 ghost use Rattle.seize_model.specs.Waiting.Calls as calls;
 ghost use Rattle.seize.specs.Blocks.{content, store_name};
 
@@ -15,7 +15,7 @@ pub fn put_and_read(
     slot: usize,
     number: u64,
 ) -> Result<Option<u64>, Refusal>
-    requires link { 0 < length alone.old.state.links }
+    requires link { 0 < alone.old.links }
     ensures { IfOk result (λ read. read ≡ Some number) }
 {
     let block = alone.owned(number).map_err(|(refusal, _)| refusal)?;
@@ -29,10 +29,10 @@ pub fn put_and_read(
 ///
 /// In this order: `NotInUse`, `NotActive` where the slot has no guard.
 pub fn replace(alone: &mut Alone<u64>, slot: usize, new: Option<Owned<u64>>) -> Result<(), Refusal>
-    requires link { 0 < length alone.old.state.links }
+    requires link { 0 < alone.old.links }
     requires own { IfSome new (λ owned. store_name owned ≡ alone.old.book.store) }
     ensures held { IfOk result (λ _. calls.link_at alone.new.state 0 ≡ option_map content new) }
-    ensures links { length alone.new.state.links ≡ length alone.old.state.links }
+    ensures links { alone.new.links ≡ alone.old.links }
 {
     let Some(old) = alone.swap(slot, 0, new).map_err(|(refusal, _)| refusal)? else {
         return Ok(());
