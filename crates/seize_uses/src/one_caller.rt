@@ -1,9 +1,33 @@
 //! A caller who has a collector alone: what is put into a link is found there, and the block that came out is retired.
-ghost use Rattle.std.specs.Prelude.{◌≡◌, ◌<◌, IfOk, IfSome, Some, length, option_map};
+ghost use Rattle.std.specs.Prelude.{◌≡◌, ◌<◌, IfOk, IfSome, Some, option_map};
 ghost use Rattle.seize_model.specs.Waiting.Calls as calls;
 ghost use Rattle.seize.specs.Blocks.{content, store_name};
 
-use seize::{Alone, Owned, Refusal};
+use seize::{Alone, Collector, IdSource, Owned, Refusal};
+use std::alloc::Global;
+
+/// Puts a number into the one link of a new collector, reads it there, takes it out and retires it. What was read is that number.
+///
+/// # Errors
+///
+/// `NoMemory` where the allocator refuses.
+pub fn read_and_retire(alloc: Global, number: u64) -> Result<Option<u64>, Refusal>
+    ensures { IfOk result (λ read. read ≡ Some number) }
+{
+    let collector: Collector<u64> = Collector::new(alloc, &mut IdSource::new(), 1, 1)?;
+    // A new one has no number in use, which no clause says.
+    let Ok(mut alone) = collector.alone() else {
+        return Err(Refusal::NoMemory);
+    };
+    let slot = alone.register()?;
+    alone.enter(slot)?;
+    let block = alone.owned(number).map_err(|(refusal, _)| refusal)?;
+    replace(&mut alone, slot, Some(block))?;
+    let read = alone.look(slot, 0, |found| *found)?;
+    replace(&mut alone, slot, None)?;
+    alone.leave(slot, &mut ())?;
+    Ok(read)
+}
 
 /// Puts a number into link 0, and reads it there. The slot has a guard, else this is refused.
 ///
@@ -15,7 +39,7 @@ pub fn put_and_read(
     slot: usize,
     number: u64,
 ) -> Result<Option<u64>, Refusal>
-    requires link { 0 < length alone.old.state.links }
+    requires link { 0 < alone.old.links }
     ensures { IfOk result (λ read. read ≡ Some number) }
 {
     let block = alone.owned(number).map_err(|(refusal, _)| refusal)?;
@@ -29,10 +53,10 @@ pub fn put_and_read(
 ///
 /// In this order: `NotInUse`, `NotActive` where the slot has no guard.
 pub fn replace(alone: &mut Alone<u64>, slot: usize, new: Option<Owned<u64>>) -> Result<(), Refusal>
-    requires link { 0 < length alone.old.state.links }
+    requires link { 0 < alone.old.links }
     requires own { IfSome new (λ owned. store_name owned ≡ alone.old.book.store) }
     ensures held { IfOk result (λ _. calls.link_at alone.new.state 0 ≡ option_map content new) }
-    ensures links { length alone.new.state.links ≡ length alone.old.state.links }
+    ensures links { alone.new.links ≡ alone.old.links }
 {
     let Some(old) = alone.swap(slot, 0, new).map_err(|(refusal, _)| refusal)? else {
         return Ok(());
