@@ -36,3 +36,4 @@ mod Linked
 mod Called
 mod Reclaimed
 mod Outlined
+mod Running

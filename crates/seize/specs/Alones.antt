@@ -32,7 +32,8 @@ pub record View (T : Type 0) : Type 0 where
 
 abbrev pub view_coded : {T : Type 0} → Coded T → Coded (View T)
 view_coded {T} c =
-    code_by (Name × (ℕ × (ℕ × (ℕ × State T ℕ)))) (coded× name_coded (coded× coded_ℕ (coded× coded_ℕ (coded× coded_ℕ (state_coded c coded_ℕ)))))
+    code_by (Name × (ℕ × (ℕ × (ℕ × State T ℕ))))
+    (coded× name_coded (coded× coded_ℕ (coded× coded_ℕ (coded× coded_ℕ (state_coded c coded_ℕ)))))
     (λ a. (a.book, (a.size, (a.id, (a.links, a.state)))))
     (λ x. record { book = x.0; size = x.1.0; id = x.1.1.0; links = x.1.1.1.0; state = x.1.1.1.1 }) (λ _. refl)
 

@@ -21,6 +21,7 @@ pub mod Reclaims
 pub mod Registrations
 pub mod Reservations
 pub mod Resting
+pub mod Running
 pub mod Served
 pub mod Shelves
 pub mod States

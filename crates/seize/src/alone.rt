@@ -12,6 +12,7 @@ mod hands;
 mod links;
 mod place;
 mod reclaiming;
+mod running;
 mod sharing;
 mod taking;
 mod tells;
@@ -19,6 +20,7 @@ mod tells;
 pub use crate::alone::codes::Codes;
 use crate::alone::hands::Hands;
 use crate::alone::place::{Beginning, Place, Within, back, out, room};
+pub use crate::alone::running::{Call, Reply};
 use crate::alone::sharing::shared;
 use crate::alone::taking::{Freeing, Taking};
 use crate::ender::Ender;
@@ -68,7 +70,7 @@ impl<T: Drop + Codes, R: Reclaim<T>> Model for Alone<T, R> {
 }
 
 impl<T: Drop, R: Reclaim<T>> Alone<T, R> {
-    ghost use Rattle.std.specs.Prelude.{◌≡◌, ◌<◌, ◌≤◌, true, None, Some, IfErr, IfOk, false, if◌then◌else◌};
+    ghost use Rattle.std.specs.Prelude.{◌≡◌, ◌<◌, ◌≤◌, length, true, None, Some, IfErr, IfOk, false, if◌then◌else◌};
     ghost use Rattle.seize_model.specs.Waiting.Calls as calls;
     ghost use Rattle.seize_model.specs.Waiting.State.{has_guard, slot_at};
     ghost use Rattle.seize_model.specs.declared.kind.Kind.TheVariants.{Owned as owned_slot, Registered as registered};
@@ -78,7 +80,8 @@ impl<T: Drop, R: Reclaim<T>> Alone<T, R> {
 
     /// How many links it has.
     pub fn links(&self) -> usize
-        ensures { result ≡ self.now.links }
+        ensures links { result ≡ self.now.links }
+        ensures state { length self.now.state.links ≡ self.now.links }
     {
         self.words.links.len()
     }

@@ -23,7 +23,7 @@ mod reservation;
 mod shelf;
 mod works;
 
-pub use alone::{Alone, Codes};
+pub use alone::{Alone, Call, Codes, Reply};
 pub use block::{Failed, Owned, Shared, Taken, Unlinked};
 pub use collector::{Collector, IdSource};
 pub use guard::{Guard, LocalGuard};

@@ -101,6 +101,7 @@ impl<T: Drop, R: Reclaim<T>> Alone<T, R> {
         ensures held { option_map taken_content result ≡ calls.link_at self.old.state link }
         ensures own { IfSome result (IsTakenOf T.row.coded.code self.old.book) }
         ensures state { self.new.state ≡ with_link self.old.state link (option_map content new) }
+        ensures holds { calls.link_at self.new.state link ≡ option_map content new }
         ensures same { IsSame self.old self.new }
     {
         let mut exchanging = Exchanging {
@@ -135,6 +136,7 @@ impl<T: Drop, R: Reclaim<T>> Alone<T, R> {
         ensures held { IfOk result (λ old. option_map taken_content old ≡ calls.link_at self.old.state link) }
         ensures own { IfOk result (λ old. IfSome old (IsTakenOf T.row.coded.code self.old.book)) }
         ensures state { self.new.state ≡ (calls.swap self.old.state s link (option_map content new)).1.0 }
+        ensures holds { IfOk result (λ _. calls.link_at self.new.state link ≡ option_map content new) }
         ensures same { IsSame self.old self.new }
     {
         if let Err(refusal) = self.guarded(s) {

@@ -1,5 +1,5 @@
-use Rattle.std.proofs.Common.{◌≡◌, ℕ, ◌<◌, Option, length, option_map, refl, sym, ap, subst, ◌∙◌}
-use Rattle.std.proofs.lemmas.List.{length-set}
+use Rattle.std.proofs.Common.{◌≡◌, ℕ, ◌<◌, Option, None, length, option_map, refl, sym, ap, subst, ◌∙◌}
+use Rattle.std.proofs.lemmas.List.{get_or-set_same, length-set}
 use Rattle.seize_model.specs.Waiting.Calls.{link_at}
 use Rattle.seize_model.specs.Waiting.State.{State}
 use Rattle.seize_words.specs.Joined.{words_book}
@@ -59,3 +59,10 @@ returns-clause-state g c =
     (subst (λ (x : State g.row.T.Denot ℕ). Holds g.row.T.coded.code x c.of.result.names c.of.result.kinds porter.name porter.seen) now c.of.ensures.1)
     (held_again a stay swapped.0.1) in
     now ∙ ap (λ (x : Option g.row.T.Denot). with_link hands.state link x) same ∙ ap (λ (v : View g.row.T.Denot). with_link v.state link new) c.self.view_is
+
+pub returns-clause-holds : goal.returns-clause-holds
+returns-clause-holds g c =
+    let st = c.args.self.now.state in let link = c.args.link in let new : Option g.row.T.Denot = option_map content c.args.new in
+    let less : link < length st.links = subst (λ (v : View g.row.T.Denot). link < length v.state.links) c.self.view_is
+    (subst (λ (m : ℕ). link < m) (ap (λ (v : View g.row.T.Denot). v.links) (sym c.self.view_is) ∙ sym c.self.invariant.linked) c.requires.range) in
+    ap (λ (x : State g.row.T.Denot ℕ). link_at x link) (returns-clause-state g c) ∙ get_or-set_same st.links link new None less
