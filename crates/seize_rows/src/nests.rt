@@ -5,7 +5,6 @@ ghost use Rattle.seize.specs.Blocks.{Belongs};
 ghost use Rattle.seize.specs.Collectors.{its_links};
 ghost use Rattle.seize_uses.specs.Nests.{inside_of, owners_of, weight_of};
 ghost use Rattle.seize_uses.specs.Weights.{inside_lighter};
-
 ghost use base.Stored.{coded_unit};
 
 use crate::oracle::Value;
@@ -74,9 +73,7 @@ impl Ends {
     /// Whether they are these values, in any order.
     pub(crate) fn have(&self, values: &[Value]) -> bool {
         self.many() == values.len() as u64
-            && values
-                .iter()
-                .all(|value| (0..self.ends.len()).any(|n| self.is_at(n, *value)))
+            && values.iter().all(|value| (0..self.ends.len()).any(|n| self.is_at(n, *value)))
     }
 }
 

@@ -339,7 +339,9 @@ impl Lists {
         let from = self.gone.len();
         for n in 0..self.links.len() {
             if let Some(number) = self.links[n].take() {
-                self.gone.push(Value { number, kind: 0 }).map_err(AllocError::from)?;
+                self.gone
+                    .push(Value { number, kind: 0 })
+                    .map_err(AllocError::from)?;
             }
         }
         self.drain(from)

@@ -217,10 +217,7 @@ fn any_call(
             "retire",
             retire_new(rt, alloc, alone, lists, chance, s, heard)?,
         )),
-        2 => Ok((
-            "swap",
-            swap_new(rt, alloc, alone, lists, chance, s, heard)?,
-        )),
+        2 => Ok(("swap", swap_new(rt, alloc, alone, lists, chance, s, heard)?)),
         _ => call(alone, lists, chance, s, heard),
     }
 }
@@ -232,10 +229,8 @@ fn are_told(lists: &Lists, heard: &Heard, ends: &Ends) -> bool {
     if told.len() != gone.len() || ends.many() != gone.len() as u64 {
         return false;
     }
-    told.iter()
-        .zip(gone.iter())
-        .enumerate()
-        .all(|(n, (number, value))| *number == value.number && ends.is_at(n, *value))
+    told.iter().zip(gone.iter()).enumerate().all(|(n, (number, value))| *number == value.number
+        && ends.is_at(n, *value))
 }
 
 // A collector of this size, where no number is in use.
@@ -258,9 +253,7 @@ fn run<'a>(rt: &impl Abort, alloc: Global, seed: u64, ends: &'a Ends) -> Result<
     for n in 0..CALLS {
         let (what, well) = any_call(rt, alloc, &mut alone, &mut lists, &mut chance, &mut heard)?;
         if !well || !are_told(&lists, &heard, ends) {
-            return Err(Fail::new(format_args!(
-                "seed {seed}: call {n}, of {what}, differs"
-            )));
+            return Err(Fail::new(format_args!("seed {seed}: call {n}, of {what}, differs")));
         }
     }
     drop(alone);
