@@ -162,9 +162,9 @@ impl Lists {
         let Some(slot) = self.slots.get_mut(s) else {
             return Ok(());
         };
-        let mut waiting = mem::replace(&mut slot.waiting, Vec::new(self.alloc));
-        while let Some(batch) = waiting.pop() {
-            self.release(batch)?;
+        let waiting = mem::replace(&mut slot.waiting, Vec::new(self.alloc));
+        for batch in waiting.iter().rev() {
+            self.release(*batch)?;
         }
         Ok(())
     }

@@ -1,13 +1,13 @@
 //! Lists of calls that come by chance, on a collector in one caller's hands and on one of plain lists: what each answers, which values the
 //! watch and the reclaimer are told of, in order, and what is left in the end.
-ghost use Rattle.std.specs.Prelude.{◌≡◌, ◌<◌, IfOk};
+ghost use Rattle.std.specs.Prelude.{◌≡◌, ◌<◌, IfOk, length};
+ghost use Rattle.seize.specs.Alones.{IsSame};
 ghost use Rattle.seize.specs.Blocks.{Belongs, IsTakenOf};
 ghost use Rattle.seize_uses.specs.Nests.{owners_of};
 
 use crate::nests::{AloneNests, Block, Ends, Heard, leaf, nests, round};
 use crate::oracle::{Lists, Value};
-use seize::{Refusal, Taken};
-use seize_uses::nest::Nest;
+use seize::{Alone, Reclaim, Refusal, Taken, Watch};
 use std::alloc::Global;
 use std::process::Abort;
 use std::test::*;
@@ -81,16 +81,16 @@ fn block(
 }
 
 // Retires what is in no link. Where that is refused, another slot retires it, which is in use.
-fn retire(
+fn retire<T: Drop, R: Reclaim<T>>(
     rt: &impl Abort,
-    alone: &mut AloneNests<'_>,
+    alone: &mut Alone<T, R>,
     s: usize,
-    taken: Taken<Nest>,
+    taken: Taken<T>,
     kind: u64,
     other: usize,
-    heard: &mut Heard,
+    heard: &mut impl Watch<T>,
 ) -> Result<(), Refusal>
-    requires { IsTakenOf Nest.row.coded.code alone.old.book taken }
+    requires { IsTakenOf T.row.coded.code alone.old.book taken }
     ensures { IsSame alone.old alone.new }
 {
     let Err((refusal, back)) = alone.retire(s, taken, kind, heard) else {
@@ -235,9 +235,20 @@ fn are_told(lists: &Lists, heard: &Heard, ends: &Ends) -> bool {
 
 // A collector of this size, where no number is in use.
 fn alone<'a>(alloc: Global, size: usize, ends: &'a Ends) -> Result<AloneNests<'a>, Fail>
-    ensures { IfOk result (λ alone. alone.links ≡ 3) }
+    ensures { IfOk result (λ alone. (alone.links ≡ 3) × (length alone.book.links ≡ 3)) }
 {
     match nests(alloc, size, LINKS, ends)?.alone() {
+        Ok(alone) => Ok(alone),
+        Err(_) => Err(Fail::new("a number is in use")),
+    }
+}
+
+// The collector is shared, and nobody uses it. Then one caller has it again.
+fn shared_and_back<'a>(alone: AloneNests<'a>) -> Result<AloneNests<'a>, Fail>
+    requires { length alone.book.links ≡ 3 }
+    ensures { IfOk result (λ alone. (alone.links ≡ 3) × (length alone.book.links ≡ 3)) }
+{
+    match alone.share().alone() {
         Ok(alone) => Ok(alone),
         Err(_) => Err(Fail::new("a number is in use")),
     }
@@ -251,6 +262,9 @@ fn run<'a>(rt: &impl Abort, alloc: Global, seed: u64, ends: &'a Ends) -> Result<
     let mut lists = Lists::new(alloc, size, LINKS)?;
     let mut heard = Heard::with_room(alloc, VALUES as usize)?;
     for n in 0..CALLS {
+        if lists.used().is_none() {
+            alone = shared_and_back(alone)?;
+        }
         let (what, well) = any_call(rt, alloc, &mut alone, &mut lists, &mut chance, &mut heard)?;
         if !well || !are_told(&lists, &heard, ends) {
             return Err(Fail::new(format_args!("seed {seed}: call {n}, of {what}, differs")));
