@@ -1,5 +1,5 @@
 //! A collector in one caller's hands, and shared again: which values are gone at which call, in which order, and what ends at the drop.
-ghost use Rattle.std.specs.Prelude.{◌≡◌};
+ghost use Rattle.std.specs.Prelude.{◌<◌, ◌≡◌};
 ghost use Rattle.seize.specs.Blocks.{IsTakenOf};
 ghost use base.Stored.{coded_unit};
 
@@ -111,14 +111,15 @@ fn leave_two<'a>(
     rt: &impl Abort,
     alone: &mut Telling<'a>,
     told: &'a AtomicU64,
-) -> Result<(), Refusal> {
+) -> Result<(), Refusal>
+    requires { 0 < alone.old.links }
+{
     let mut heard = Heard { digits: 0 };
     let slot = alone.register()?;
     alone.enter(slot)?;
     let one = alone
         .owned(Digit { digit: 1, told })
         .map_err(|(refusal, _)| refusal)?;
-    assert!(rt; 0 < alone.links());
     assert!(rt; !alone.holds(slot, 0)?);
     match alone.swap(slot, 0, Some(one)) {
         Ok(None) => {}
