@@ -31,5 +31,6 @@ pub use owned::OwnedGuard;
 pub use reclaim::{Boxed, Further, Puts, Reclaim, Watch};
 pub use registration::Registration;
 pub use seize_machine::machine;
+pub use seize_model::{agreement, waiting};
 pub use seize_table::{Labelled, Refusal, thread_id, tls};
 pub use seize_words::book::{Pass, Seen};

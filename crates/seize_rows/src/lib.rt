@@ -15,7 +15,11 @@ mod memory;
 #[cfg(test)]
 mod nested;
 #[cfg(test)]
+mod nests;
+#[cfg(test)]
 mod numbers;
+#[cfg(test)]
+mod oracle;
 #[cfg(test)]
 mod owned;
 #[cfg(test)]
@@ -24,6 +28,8 @@ mod owners;
 mod passed_on;
 #[cfg(test)]
 mod places;
+#[cfg(test)]
+mod random;
 #[cfg(test)]
 mod refused;
 mod threads;

@@ -1,8 +1,6 @@
-//! Callers of `seize` and `seize_plain`, as README.md, CALLING.md and docs/ALONE.md show them. Each says by its contract what a caller may
-//! count on.
+//! Callers of `seize`, as README.md and CALLING.md show them. Each says by its contract what a caller may count on.
 #![tactic(auto)]
 
-pub mod alone;
 pub mod cache;
 pub mod machine;
 pub mod nest;

@@ -3,7 +3,31 @@ ghost use Rattle.std.specs.Prelude.{◌≡◌, ◌<◌, IfOk, IfSome, Some, opti
 ghost use Rattle.seize_model.specs.Waiting.Calls as calls;
 ghost use Rattle.seize.specs.Blocks.{content, store_name};
 
-use seize::{Alone, Owned, Refusal};
+use seize::{Alone, Collector, IdSource, Owned, Refusal};
+use std::alloc::Global;
+
+/// Puts a number into the one link of a new collector, reads it there, takes it out and retires it. What was read is that number.
+///
+/// # Errors
+///
+/// `NoMemory` where the allocator refuses.
+pub fn read_and_retire(alloc: Global, number: u64) -> Result<Option<u64>, Refusal>
+    ensures { IfOk result (λ read. read ≡ Some number) }
+{
+    let collector: Collector<u64> = Collector::new(alloc, &mut IdSource::new(), 1, 1)?;
+    // A new one has no number in use, which no clause says.
+    let Ok(mut alone) = collector.alone() else {
+        return Err(Refusal::NoMemory);
+    };
+    let slot = alone.register()?;
+    alone.enter(slot)?;
+    let block = alone.owned(number).map_err(|(refusal, _)| refusal)?;
+    replace(&mut alone, slot, Some(block))?;
+    let read = alone.look(slot, 0, |found| *found)?;
+    replace(&mut alone, slot, None)?;
+    alone.leave(slot, &mut ())?;
+    Ok(read)
+}
 
 /// Puts a number into link 0, and reads it there. The slot has a guard, else this is refused.
 ///

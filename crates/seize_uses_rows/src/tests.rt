@@ -1,42 +1,60 @@
 //! Each caller once, where memory is there.
-ghost use Rattle.std.specs.Prelude.{◌<◌};
+ghost use Rattle.std.specs.Prelude.{◌≡◌, ◌<◌, IfOk};
 ghost use Rattle.seize.specs.Collectors.{IsPassOf, its_links};
 ghost use Rattle.seize.specs.Registrations.{registered_in};
 
 use seize::thread_id::{Numbers, Thread};
 use seize::tls::ThreadLocal;
-use seize::{Pass, Refusal, Registration};
-use seize_plain::{Collector, IdSource};
-use seize_uses::alone::{Number, read_and_retire};
+use seize::{Alone, Collector, IdSource, Pass, Refusal, Registration};
 use seize_uses::cache::{self, Entry};
 use seize_uses::machine::with_active_slot;
+use seize_uses::one_caller::{self, read_and_retire};
 use seize_uses::reclaimers::{Counting, Counts, collector, put, remove};
 use seize_uses::reclaiming::{reclaim, retire};
 use seize_uses::replacing::{add, exchange};
 use seize_uses::shared::{audit, put_and_read, read, replace};
 use seize_uses::table::loaded_twice;
 use seize_uses::watched::{Newest, retire_under_guard};
+use std::alloc::Global;
 use std::sync::Wait;
 use std::sync::atomic::AtomicU64;
 use std::test::Fail;
 
 #[test]
 fn a_number_is_read_and_retired(rt: HostRuntime) -> Result<(), Fail> {
-    assert_eq!(rt; read_and_retire(rt.alloc(), Number(7))?, Some(Number(7)));
+    assert_eq!(rt; read_and_retire(rt.alloc(), 7)?, Some(7));
+    Ok(())
+}
+
+// A collector with one link, and batches of one value, in one caller's hands.
+fn with_one_link(alloc: Global) -> Result<Alone<u64>, Fail>
+    ensures { IfOk result (λ alone. alone.links ≡ 1) }
+{
+    let collector: Collector<u64> = Collector::new(alloc, &mut IdSource::new(), 1, 1)?;
+    match collector.batch_size(1).alone() {
+        Ok(alone) => Ok(alone),
+        Err(_) => Err(Fail::new("a number is in use")),
+    }
+}
+
+#[test]
+fn a_number_is_put_in_and_read_alone(rt: HostRuntime) -> Result<(), Fail> {
+    let mut alone = with_one_link(rt.alloc())?;
+    let slot = alone.enter_owned()?;
+    assert_eq!(rt; one_caller::put_and_read(&mut alone, slot, 7)?, Some(7));
     Ok(())
 }
 
 #[test]
 fn a_watch_is_told_once_the_guard_leaves(rt: HostRuntime) -> Result<(), Fail> {
-    let mut ids = IdSource::new();
-    let collector: Collector<Number> = Collector::new(rt.alloc(), &mut ids, 1, 0)?;
-    let mut collector = collector.batch_size(1);
     let mut newest = Newest(None);
-    let mut alone = collector.alone();
+    let mut alone = with_one_link(rt.alloc())?;
     let slot = alone.enter_owned()?;
-    let block = alone.owned(Number(7)).expect(&rt, "memory");
-    let number = alone.unlinked(block);
-    retire_under_guard(&mut alone, slot, number, &mut newest)?;
+    // By this answer the slot has a guard.
+    assert!(rt; !alone.holds(slot, 0)?);
+    let block = alone.owned(7).expect(&rt, "memory");
+    let number = alone.taken(block);
+    retire_under_guard(&mut alone, slot, number, &mut newest);
     assert_eq!(rt; newest, Newest(None));
     alone.leave(slot, &mut newest)?;
     assert_eq!(rt; newest, Newest(Some(7)));
@@ -60,8 +78,8 @@ fn a_slot_enters(rt: HostRuntime) -> Result<(), Fail> {
 
 #[test]
 fn a_shared_number_is_replaced_and_read(rt: HostRuntime) -> Result<(), Fail> {
-    let mut ids = seize::IdSource::new();
-    let collector: seize::Collector<u64> = seize::Collector::new(rt.alloc(), &mut ids, 1, 1)?;
+    let mut ids = IdSource::new();
+    let collector: Collector<u64> = Collector::new(rt.alloc(), &mut ids, 1, 1)?;
     let mut pass = collector.pass();
     let registration = collector.register(&rt, &mut pass)?;
     let before = read(&registration, &rt, &mut pass);
@@ -82,8 +100,8 @@ fn a_shared_number_is_replaced_and_read(rt: HostRuntime) -> Result<(), Fail> {
 
 #[test]
 fn numbers_are_reclaimed_by_who_has_the_collector_alone(rt: HostRuntime) -> Result<(), Fail> {
-    let mut ids = seize::IdSource::new();
-    let mut collector: seize::Collector<u64> = seize::Collector::new(rt.alloc(), &mut ids, 1, 0)?;
+    let mut ids = IdSource::new();
+    let mut collector: Collector<u64> = Collector::new(rt.alloc(), &mut ids, 1, 0)?;
     for number in 0..3u64 {
         let known = retire(&collector, number, &rt)?;
         assert!(rt; reclaim(&mut collector, &known));
@@ -124,7 +142,7 @@ fn each_number_is_counted_by_its_kind(rt: HostRuntime) -> Result<(), Fail> {
         replaced: AtomicU64::new(0),
         removed: AtomicU64::new(0),
     };
-    let mut ids = seize::IdSource::new();
+    let mut ids = IdSource::new();
     let collector = collector(rt.alloc(), &mut ids, 1, &counts)?;
     let mut pass = collector.pass();
     let registration = collector.register(&rt, &mut pass)?;
@@ -158,8 +176,8 @@ fn found_in_a_cache(
 
 #[test]
 fn a_cache_has_the_last_entry_of_a_place(rt: HostRuntime) -> Result<(), Fail> {
-    let mut ids = seize::IdSource::new();
-    let collector: seize::Collector<Entry> = seize::Collector::new(rt.alloc(), &mut ids, 1, 2)?;
+    let mut ids = IdSource::new();
+    let collector: Collector<Entry> = Collector::new(rt.alloc(), &mut ids, 1, 2)?;
     let mut pass = collector.pass();
     let registration = collector.register(&rt, &mut pass)?;
     let found = found_in_a_cache(&registration, &rt, &mut pass);

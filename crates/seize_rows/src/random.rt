@@ -1,0 +1,288 @@
+//! Lists of calls that come by chance, on a collector in one caller's hands and on one of plain lists: what each answers, which values the
+//! watch and the reclaimer are told of, in order, and what is left in the end.
+ghost use Rattle.std.specs.Prelude.{◌≡◌, ◌<◌, IfOk, length};
+ghost use Rattle.seize.specs.Alones.{IsSame};
+ghost use Rattle.seize.specs.Blocks.{Belongs, IsTakenOf};
+ghost use Rattle.seize_uses.specs.Nests.{owners_of};
+
+use crate::nests::{AloneNests, Block, Ends, Heard, leaf, nests, round};
+use crate::oracle::{Lists, Value};
+use seize::{Alone, Reclaim, Refusal, Taken, Watch};
+use std::alloc::Global;
+use std::process::Abort;
+use std::test::*;
+
+// How many lists there are, and how many calls each has.
+const LISTS: u64 = 300;
+
+const CALLS: u64 = 100;
+
+// How many slots and links a collector has at most.
+const SLOTS: usize = 5;
+
+const LINKS: usize = 3;
+
+// How many values a list may make: each call makes three at most.
+const VALUES: u64 = 3 * CALLS;
+
+// Numbers that seem to come by chance, and are the same in each run.
+#[derive(Drop)]
+struct Chance {
+    state: u64,
+}
+
+impl Chance {
+    // The next one, below this.
+    fn below(&mut self, bound: u64) -> u64
+        requires { 0 < bound }
+        ensures { result < bound }
+    {
+        self.state = self
+            .state
+            .wrapping_mul(6_364_136_223_846_793_005)
+            .wrapping_add(1_442_695_040_888_963_407);
+        (self.state >> 33) % bound
+    }
+}
+
+// Whether the answers are the same. Where memory was refused the list ends.
+fn same<A: PartialEq>(
+    answer: &Result<A, Refusal>,
+    wanted: &Result<A, Refusal>,
+) -> Result<bool, Refusal> {
+    match (answer, wanted) {
+        (Err(Refusal::NoMemory), _) | (_, Err(Refusal::NoMemory)) => Err(Refusal::NoMemory),
+        (Ok(answer), Ok(wanted)) => Ok(*answer == *wanted),
+        (Err(answer), Err(wanted)) => Ok(*answer == *wanted),
+        _ => Ok(false),
+    }
+}
+
+// A new block, in which there may be another one, and one in that. It gives its number too.
+fn block(
+    alloc: Global,
+    alone: &mut AloneNests<'_>,
+    lists: &mut Lists,
+    chance: &mut Chance,
+) -> Result<(Block, u64), Refusal>
+    ensures made { IfOk result (λ made. Belongs owners_of alone.old.book.store made.0) }
+    ensures same { alone.new ≡ alone.old }
+{
+    let mut number = lists.value(None)?;
+    let mut block = leaf(alloc, alone, number)?;
+    for _ in 0..2u64 {
+        if chance.below(3) > 0 {
+            break;
+        }
+        number = lists.value(Some(number))?;
+        block = round(alloc, alone, number, block)?;
+    }
+    Ok((block, number))
+}
+
+// Retires what is in no link. Where that is refused, another slot retires it, which is in use.
+fn retire<T: Drop, R: Reclaim<T>>(
+    rt: &impl Abort,
+    alone: &mut Alone<T, R>,
+    s: usize,
+    taken: Taken<T>,
+    kind: u64,
+    other: usize,
+    heard: &mut impl Watch<T>,
+) -> Result<(), Refusal>
+    requires { IsTakenOf T.row.coded.code alone.old.book taken }
+    ensures { IsSame alone.old alone.new }
+{
+    let Err((refusal, back)) = alone.retire(s, taken, kind, heard) else {
+        return Ok(());
+    };
+    match alone.retire(other, back, kind, heard) {
+        Ok(()) => Err(refusal),
+        Err((_, _taken)) => rt.abort(),
+    }
+}
+
+// A new block is retired by this slot, or by another one, if one is in use.
+fn retire_new(
+    rt: &impl Abort,
+    alloc: Global,
+    alone: &mut AloneNests<'_>,
+    lists: &mut Lists,
+    chance: &mut Chance,
+    s: usize,
+    heard: &mut Heard,
+) -> Result<bool, Refusal>
+    ensures { IsSame alone.old alone.new }
+{
+    let Some(other) = lists.used() else {
+        return Ok(true);
+    };
+    let (block, number) = block(alloc, alone, lists, chance)?;
+    let kind = chance.below(4);
+    let taken = alone.taken(block);
+    let answer = retire(rt, alone, s, taken, kind, other, heard);
+    let value = Value { number, kind };
+    let wanted = lists.retire(s, value);
+    if wanted.is_err() {
+        lists.retire(other, value)?;
+    }
+    same(&answer, &wanted)
+}
+
+// A new block is exchanged for what a link holds, or nothing is. The slot retires what came out.
+fn swap_new(
+    rt: &impl Abort,
+    alloc: Global,
+    alone: &mut AloneNests<'_>,
+    lists: &mut Lists,
+    chance: &mut Chance,
+    s: usize,
+    heard: &mut Heard,
+) -> Result<bool, Refusal>
+    requires { alone.old.links ≡ 3 }
+    ensures { IsSame alone.old alone.new }
+{
+    let link = chance.below(LINKS as u64) as usize;
+    let (new, number) = if chance.below(4) > 0 {
+        let (block, number) = block(alloc, alone, lists, chance)?;
+        (Some(block), Some(number))
+    } else {
+        (None, None)
+    };
+    let kind = chance.below(4);
+    match (alone.swap(s, link, new), lists.swap(s, link, number)) {
+        (Ok(Some(taken)), wanted) => {
+            retire(rt, alone, s, taken, kind, s, heard)?;
+            let Some(number) = wanted? else {
+                return Ok(false);
+            };
+            lists.retire(s, Value { number, kind })?;
+            Ok(true)
+        }
+        (Ok(None), wanted) => Ok(wanted? == None),
+        (Err((refusal, _)), wanted) => same(&Err(refusal), &wanted),
+    }
+}
+
+// A call that comes by chance, but for a retirement and an exchange. It says which it is, and whether the answers are the same.
+fn call(
+    alone: &mut AloneNests<'_>,
+    lists: &mut Lists,
+    chance: &mut Chance,
+    s: usize,
+    heard: &mut Heard,
+) -> Result<(&'static str, bool), Refusal>
+    requires { alone.old.links ≡ 3 }
+    ensures { IsSame alone.old alone.new }
+{
+    match chance.below(12) {
+        0 if lists.has_number(SLOTS) => {
+            Ok(("register", same(&alone.register(), &lists.register())?))
+        }
+        1 if lists.has_number(SLOTS) => Ok((
+            "enter_owned",
+            same(&alone.enter_owned(), &lists.enter_owned())?,
+        )),
+        2 | 3 => Ok(("enter", same(&alone.enter(s), &lists.enter(s))?)),
+        4..8 => Ok(("leave", same(&alone.leave(s, heard), &lists.leave(s))?)),
+        8 => Ok(("end", same(&alone.end(s), &lists.end(s))?)),
+        9 => Ok((
+            "refresh",
+            same(&alone.refresh(s, heard), &lists.refresh(s))?,
+        )),
+        10 => Ok(("flush", same(&alone.flush(s, heard), &lists.flush(s))?)),
+        _ => {
+            let link = chance.below(LINKS as u64) as usize;
+            let found = alone.look(s, link, |found| found.number);
+            Ok(("look", same(&found, &lists.look(s, link))?))
+        }
+    }
+}
+
+// Any call that comes by chance.
+fn any_call(
+    rt: &impl Abort,
+    alloc: Global,
+    alone: &mut AloneNests<'_>,
+    lists: &mut Lists,
+    chance: &mut Chance,
+    heard: &mut Heard,
+) -> Result<(&'static str, bool), Refusal>
+    requires { alone.old.links ≡ 3 }
+    ensures { IsSame alone.old alone.new }
+{
+    let s = chance.below((lists.made() as u64).saturating_add(1)) as usize;
+    match chance.below(6) {
+        0 | 1 => Ok((
+            "retire",
+            retire_new(rt, alloc, alone, lists, chance, s, heard)?,
+        )),
+        2 => Ok(("swap", swap_new(rt, alloc, alone, lists, chance, s, heard)?)),
+        _ => call(alone, lists, chance, s, heard),
+    }
+}
+
+// Whether the watch and the reclaimer were told of the values that are gone in the lists, in order.
+fn are_told(lists: &Lists, heard: &Heard, ends: &Ends) -> bool {
+    let gone = lists.gone();
+    let told = heard.numbers.as_slice();
+    if told.len() != gone.len() || ends.many() != gone.len() as u64 {
+        return false;
+    }
+    told.iter().zip(gone.iter()).enumerate().all(|(n, (number, value))| *number == value.number
+        && ends.is_at(n, *value))
+}
+
+// A collector of this size, where no number is in use.
+fn alone<'a>(alloc: Global, size: usize, ends: &'a Ends) -> Result<AloneNests<'a>, Fail>
+    ensures { IfOk result (λ alone. (alone.links ≡ 3) × (length alone.book.links ≡ 3)) }
+{
+    match nests(alloc, size, LINKS, ends)?.alone() {
+        Ok(alone) => Ok(alone),
+        Err(_) => Err(Fail::new("a number is in use")),
+    }
+}
+
+// The collector is shared, and nobody uses it. Then one caller has it again.
+fn shared_and_back<'a>(alone: AloneNests<'a>) -> Result<AloneNests<'a>, Fail>
+    requires { length alone.book.links ≡ 3 }
+    ensures { IfOk result (λ alone. (alone.links ≡ 3) × (length alone.book.links ≡ 3)) }
+{
+    match alone.share().alone() {
+        Ok(alone) => Ok(alone),
+        Err(_) => Err(Fail::new("a number is in use")),
+    }
+}
+
+// One list, of which this is the seed.
+fn run<'a>(rt: &impl Abort, alloc: Global, seed: u64, ends: &'a Ends) -> Result<(), Fail> {
+    let mut chance = Chance { state: seed };
+    let size = (seed % 5) as usize;
+    let mut alone = alone(alloc, size, ends)?;
+    let mut lists = Lists::new(alloc, size, LINKS)?;
+    let mut heard = Heard::with_room(alloc, VALUES as usize)?;
+    for n in 0..CALLS {
+        if lists.used().is_none() {
+            alone = shared_and_back(alone)?;
+        }
+        let (what, well) = any_call(rt, alloc, &mut alone, &mut lists, &mut chance, &mut heard)?;
+        if !well || !are_told(&lists, &heard, ends) {
+            return Err(Fail::new(format_args!("seed {seed}: call {n}, of {what}, differs")));
+        }
+    }
+    drop(alone);
+    lists.end_all()?;
+    if !ends.have(lists.gone()) {
+        return Err(Fail::new(format_args!("seed {seed}: the drop differs")));
+    }
+    Ok(())
+}
+
+#[test]
+fn calls_that_come_by_chance_do_as_plain_lists_do(rt: HostRuntime) -> Result<(), Fail> {
+    for seed in 0..LISTS {
+        let ends = Ends::with_room(rt.alloc(), VALUES)?;
+        run(&rt, rt.alloc(), seed, &ends)?;
+    }
+    Ok(())
+}
