@@ -1,0 +1,49 @@
+-- What is put apart while a collector in one caller's hands reclaims all, and what is known of each part of that.
+--     values_put_in had, words_put_in had     the values that were put with those that were had, in order, and the words kept of these
+--     WaitsBehind had queue queue'     what was put with them waits behind what waited before;  AreWaiting code queue vs     in the queue
+--                            these values wait, each with its kind
+--     Goes code puts told May does pass pass' seen seen' queue queue'     where the hands hold a state of which `May` says so, they hold the
+--                            one that `does` gives of it. What the reclaimer had are the values that are gone then; it put as `puts` says,
+--                            what it put waits, and the watch was told
+use Rattle.std.specs.Prelude.{◌≡◌, ℕ, List, [], ◌∷◌, ◌++◌, map}
+use base.Stored.{Gv}
+use Rattle.seize_model.specs.Waiting.Attempt.{StateAndGone}
+use Rattle.seize_model.specs.Waiting.State.{State}
+use Rattle.seize_book.specs.Kept.{kepts_of}
+use Rattle.seize_book.specs.Passes.{IsSamePass}
+use Rattle.seize_book.specs.Tokens.{Name}
+use Rattle.seize_book.specs.Values.{values_of}
+use Rattle.seize_book.specs.declared.book.pass.Pass.{Pass}
+use Rattle.seize_calls.specs.Furthers.{further_in}
+use Rattle.seize_calls.specs.Handing.{Had, IsServed}
+use Rattle.seize_calls.specs.declared.further.Further.{Further}
+use Rattle.seize_alone.specs.Gone.{AreNamesOf, PutAs}
+use Rattle.seize_alone.specs.Holding.{Holds, HoldsThen}
+use Rattle.seize.specs.Told.{HasTold}
+
+abbrev pub values_put_in : Had → List ℕ
+values_put_in [] = []
+values_put_in (one ∷ had) = one.2 ++ values_put_in had
+
+abbrev pub words_put_in : Had → List ℕ
+words_put_in [] = []
+words_put_in (one ∷ had) = one.3 ++ words_put_in had
+
+pub record WaitsBehind (n : Name) (had : Had) (queue queue' : Further) : Type 0 where
+  pub served : IsServed (further_in queue') n
+  pub values : values_of (further_in queue') ≡ values_of (further_in queue) ++ values_put_in had
+  pub words : kepts_of (further_in queue') ≡ kepts_of (further_in queue) ++ words_put_in had
+
+abbrev pub AreWaiting : {T : Type 0} → (T → Gv) → Further → List (T × ℕ) → Type 0
+AreWaiting {T} code queue vs =
+    AreNamesOf code (values_of (further_in queue)) (map (λ (v : T × ℕ). v.0) vs) × (kepts_of (further_in queue) ≡ map (λ (v : T × ℕ). v.1) vs)
+
+pub record Goes {T Seen : Type 0} (code : T → Gv) (puts : ℕ → T → List T) (told : Seen → T → Seen) (May : State T ℕ → Type 0)
+    (does : State T ℕ → StateAndGone T ℕ) (pass pass' : Pass) (seen seen' : Seen) (queue queue' : Further) : Type 0 where
+  pub same : IsSamePass pass pass'
+  pub had : Had
+  pub put : PutAs code puts had
+  pub tells : HasTold code told seen seen' had
+  pub waits : WaitsBehind pass.name had queue queue'
+  pub holds : (st : State T ℕ) (names : List (ℕ × T)) (kinds : List (ℕ × ℕ)) → May st → Holds code st names kinds pass.name pass.seen
+      → HoldsThen code (does st) had pass'
