@@ -36,3 +36,7 @@ mod Linked
 mod Called
 mod Reclaimed
 mod Outlined
+mod Aparts
+mod Behind
+mod Going
+mod Turning

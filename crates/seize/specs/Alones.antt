@@ -1,7 +1,8 @@
 -- What contracts see of a collector in one caller's hands.
---     View T            the name of its list of events, its batch size, its id, and its state, as of waiting sets (`seize_model`)
+--     View T            the name of its list of events, its batch size, its id, how many links it has, and its state, as of waiting sets
+--                       (`seize_model`)
 --     view_coded        the code of views, by that of values
---     IsSame a a'       it is the same collector: by its list, its batch size and its id
+--     IsSame a a'       it is the same collector: by its list, its batch size, its id and how many links it has
 --     IsAlone code words porter numbers places made ender hands     what is so of its parts: all are of one list. The porter is at home.
 --                       The hands hold the state, which what the porter has seen shows, with the batch size; and so many slots were made.
 --                       What lies in the places is what the state says of the slots
@@ -26,15 +27,17 @@ pub record View (T : Type 0) : Type 0 where
   pub book : Name
   pub size : ℕ
   pub id : ℕ
+  pub links : ℕ
   pub state : State T ℕ
 
 abbrev pub view_coded : {T : Type 0} → Coded T → Coded (View T)
 view_coded {T} c =
-    code_by (Name × (ℕ × (ℕ × State T ℕ))) (coded× name_coded (coded× coded_ℕ (coded× coded_ℕ (state_coded c coded_ℕ))))
-    (λ a. (a.book, (a.size, (a.id, a.state)))) (λ x. record { book = x.0; size = x.1.0; id = x.1.1.0; state = x.1.1.1 }) (λ _. refl)
+    code_by (Name × (ℕ × (ℕ × (ℕ × State T ℕ)))) (coded× name_coded (coded× coded_ℕ (coded× coded_ℕ (coded× coded_ℕ (state_coded c coded_ℕ)))))
+    (λ a. (a.book, (a.size, (a.id, (a.links, a.state)))))
+    (λ x. record { book = x.0; size = x.1.0; id = x.1.1.0; links = x.1.1.1.0; state = x.1.1.1.1 }) (λ _. refl)
 
 abbrev pub IsSame : {T : Type 0} → View T → View T → Type 0
-IsSame a a' = (a'.book ≡ a.book) × (a'.size ≡ a.size) × (a'.id ≡ a.id)
+IsSame a a' = (a'.book ≡ a.book) × (a'.size ≡ a.size) × (a'.id ≡ a.id) × (a'.links ≡ a.links)
 
 pub record IsAlone {T R : Type 0} (code : T → Gv) (words : Words T) (porter : Porter) (numbers : ℕ) (places : List (Option (Place T)))
     (made : ℕ) (ender : Ender T R) (hands : Hands T) : Type 0 where

@@ -1,13 +1,16 @@
 //! The collector in one caller's hands. Nobody shares it, so each call is exactly what the model of waiting sets says (`seize_model`): its
 //! answer, the state after it, and the values that are gone, in order. A slot lies in its place (`place`), events and calls are works that
 //! the porter's first pass is lent to, and the state is kept in `hands`, which has no bytes.
-ghost use Rattle.std.specs.Prelude.{box_value};
+ghost use Rattle.std.specs.Prelude.{box_value, length};
 ghost use Rattle.seize_words.specs.Joined.{words_book};
 ghost use Rattle.seize.specs.Alones.{IsAlone, View, view_coded};
 
+pub(crate) mod apart;
+pub(crate) mod aside;
 mod blocks;
 mod calls;
 mod codes;
+mod draining;
 mod hands;
 mod links;
 mod place;
@@ -56,13 +59,19 @@ impl<T: Drop + Codes, R: Reclaim<T>> Model for Alone<T, R> {
 
     ghost coded = { view_coded T.code };
 
-    ghost view = { λ a. record { book = words_book a.words; size = a.words.size; id = a.id; state = a.hands.state } };
+    ghost view = { λ a. record {
+      book = words_book a.words;
+      size = a.words.size;
+      id = a.id;
+      links = length (words_book a.words).links;
+      state = a.hands.state;
+    } };
 
     ghost invariant = { λ a. IsAlone T.its.code a.words a.porter a.numbers a.places.items a.made (box_value a.ender) a.hands };
 }
 
 impl<T: Drop, R: Reclaim<T>> Alone<T, R> {
-    ghost use Rattle.std.specs.Prelude.{◌≡◌, ◌<◌, ◌≤◌, length, true, None, Some, IfErr, IfOk, false, if◌then◌else◌};
+    ghost use Rattle.std.specs.Prelude.{◌≡◌, ◌<◌, ◌≤◌, true, None, Some, IfErr, IfOk, false, if◌then◌else◌};
     ghost use Rattle.seize_model.specs.Waiting.Calls as calls;
     ghost use Rattle.seize_model.specs.Waiting.State.{has_guard, slot_at};
     ghost use Rattle.seize_model.specs.declared.kind.Kind.TheVariants.{Owned as owned_slot, Registered as registered};
@@ -72,7 +81,7 @@ impl<T: Drop, R: Reclaim<T>> Alone<T, R> {
 
     /// How many links it has.
     pub fn links(&self) -> usize
-        ensures { result ≡ length self.now.state.links }
+        ensures { result ≡ self.now.links }
     {
         self.words.links.len()
     }

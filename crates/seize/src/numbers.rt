@@ -11,6 +11,7 @@ ghost use Rattle.seize_machine.specs.declared.machine.event.Answer.TheVariants.{
 ghost use Rattle.seize.specs.Makes.{MakesOne};
 ghost use Rattle.seize.specs.Shelves.{IsShelfFor};
 
+pub(crate) mod emptying;
 mod recovering;
 pub(crate) mod resting;
 pub(crate) mod sweeping;

@@ -59,7 +59,7 @@ impl<'a, T: Drop> Stay<Result<Owned<T>, (Refusal, T)>> for Making<'a, T> {
 }
 
 impl<T: Drop, R: Reclaim<T>> Alone<T, R> {
-    ghost use Rattle.std.specs.Prelude.{◌<◌, IfSome, length, option_map};
+    ghost use Rattle.std.specs.Prelude.{◌<◌, IfSome, option_map};
     ghost use Rattle.std.specs.Fn.{FnOnceReturnsAt};
     ghost use Rattle.seize_model.specs.Waiting.Calls as calls;
     ghost use Rattle.seize.specs.Alones.{IsSame};
@@ -96,7 +96,7 @@ impl<T: Drop, R: Reclaim<T>> Alone<T, R> {
     // The link holds this block then, or none. It gives what that held. The slot has a guard.
     fn exchange(&mut self, s: usize, link: usize, new: Option<Owned<T>>) -> Option<Taken<T>>
         requires guard { calls.no_guard self.old.state s ≡ None }
-        requires range { link < length self.old.state.links }
+        requires range { link < self.old.links }
         requires own { IfSome new (Belongs R.owners self.old.book.store) }
         ensures held { option_map taken_content result ≡ calls.link_at self.old.state link }
         ensures own { IfSome result (IsTakenOf T.row.coded.code self.old.book) }
@@ -128,7 +128,7 @@ impl<T: Drop, R: Reclaim<T>> Alone<T, R> {
         link: usize,
         new: Option<Owned<T>>,
     ) -> Result<Option<Taken<T>>, (Refusal, Option<Owned<T>>)>
-        requires range { link < length self.old.state.links }
+        requires range { link < self.old.links }
         requires own { IfSome new (Belongs R.owners self.old.book.store) }
         ensures done { IfOk result (λ _. calls.no_guard self.old.state s ≡ None) }
         ensures refused { IfErr result (λ refused. (calls.no_guard self.old.state s ≡ Some refused.0) × (refused.1 ≡ new)) }
@@ -155,7 +155,7 @@ impl<T: Drop, R: Reclaim<T>> Alone<T, R> {
         link: usize,
         look: F,
     ) -> Result<Option<A>, Refusal>
-        requires range { link < length self.old.state.links }
+        requires range { link < self.old.links }
         requires look { (found : _) → calls.link_at self.old.state link ≡ Some found.now → F.pre look found }
         ensures done { IfOk result (λ answer. (calls.no_guard self.old.state s ≡ None)
             × Looked (FnOnceReturnsAt F.FnOnce look) (calls.link_at self.old.state link) answer) }
@@ -180,7 +180,7 @@ impl<T: Drop, R: Reclaim<T>> Alone<T, R> {
     ///
     /// As `look`.
     pub fn holds(&mut self, s: usize, link: usize) -> Result<bool, Refusal>
-        requires range { link < length self.old.state.links }
+        requires range { link < self.old.links }
         ensures done { IfOk result (λ holds. (calls.no_guard self.old.state s ≡ None)
             × (holds ≡ is_some (calls.link_at self.old.state link))) }
         ensures refused { IfErr result (λ refusal. calls.no_guard self.old.state s ≡ Some refusal) }

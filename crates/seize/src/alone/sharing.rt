@@ -62,7 +62,7 @@ impl<T: Drop, R: Reclaim<T>> Collector<T, R> {
     /// ends it, unless that answers false: then a holder is lost for good.
     pub fn alone(self) -> Result<Alone<T, R>, Collector<T, R>>
         ensures made { IfOk result (λ alone. (alone.book ≡ its_book self) × (alone.size ≡ its_size self) × (alone.id ≡ its_id self)
-            × (alone.state.size ≡ alone.size) × (length alone.state.links ≡ its_links self)
+            × (alone.links ≡ its_links self) × (alone.state.size ≡ alone.size) × (length alone.state.links ≡ its_links self)
             × ((s : ℕ) → ((slot_at alone.state s).kind ≡ Free) × ((slot_at alone.state s).guards ≡ 0))
             × IsLedTo (some_state alone.state)) }
         ensures back { IfErr result (λ c. IsSameCollector self c) }

@@ -55,7 +55,7 @@ returns-clause-state g c =
     let swapped = swaps_held g.row.T.coded hands.state hands.names hands.kinds c.unit_at.result.now.number link gives.0 gives.1 new stay.lent stay.back gives.2 k.holds
     (named_value g.row.T.coded.code c.args.new gives.0 gives.3) in
     let porter = c.stay-old.new.self in
-    let same : picked ≡ new = one_link g.row.T.coded hands.state link (subst (λ (v : View g.row.T.Denot). link < length v.state.links) (sym c.self.view_is) c.requires.range) picked new
+    let same : picked ≡ new = one_link g.row.T.coded hands.state link (subst (λ (m : ℕ). link < m) (ap (λ (v : View g.row.T.Denot). v.links) (sym c.self.view_is) ∙ sym a.linked) c.requires.range) picked new
     (subst (λ (x : State g.row.T.Denot ℕ). Holds g.row.T.coded.code x c.of.result.names c.of.result.kinds porter.name porter.seen) now c.of.ensures.1)
     (held_again a stay swapped.0.1) in
     now ∙ ap (λ (x : Option g.row.T.Denot). with_link hands.state link x) same ∙ ap (λ (v : View g.row.T.Denot). with_link v.state link new) c.self.view_is

@@ -3,7 +3,7 @@ use Rattle.seize_book.specs.Tokens.{Name}
 use Rattle.seize_words.specs.Joined.{words_book}
 use Rattle.seize.specs.Collectors.{its_book}
 use Rattle.seize.specs.Enders.{IsEnderOf}
-use Rattle.seize.proofs.Homing.{led_to, many_slots, no_places, starts}
+use Rattle.seize.proofs.Homing.{many_slots, no_places, starts}
 use Rattle.seize.proofs.collector.Collector.alone.Goals as goal
 
 pub first-hands-requires : goal.first-hands-requires
@@ -35,8 +35,9 @@ returns-clause-made g c =
       ap words_book parts.0,
       ap (λ w. w.size) parts.0,
       parts.4,
+      ap (λ w. length (words_book w).links) parts.0,
       first.1 ∙ size,
       first.2 ∙ ap (λ (n : Name). length n.links) name,
       first.3,
-      led_to g.row.T.coded.code stay.lent stay.back c.rest-made.new.porter c.rest-made.result.0 c.in-Some.made c.in-Some.is stay.gives.0 stay.again hands.state hands.names hands.kinds first.0,
+      first.4,
     )
