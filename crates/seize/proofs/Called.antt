@@ -29,7 +29,7 @@ pub sole_still : {pass pass' : Pass} → IsStill pass pass' → IsSole pass.id �
 sole_still still sole = subst IsSole (sym still.same.1) sole
 
 -- what the pass has seen is a legal list then, since it is what the slot has seen
-legal_then : {T : Type 0} (words : Words T) (slot slot' : Slot T) (pass pass' : Pass) (Does : Pass → Type 0) (calls : CallsWith slot pass slot' pass' Does) → IsOfWords words slot' → IsPassFor words pass → IsSamePass calls.ready pass'
+pub legal_then : {T : Type 0} (words : Words T) (slot slot' : Slot T) (pass pass' : Pass) (Does : Pass → Type 0) (calls : CallsWith slot pass slot' pass' Does) → IsOfWords words slot' → IsPassFor words pass → IsSamePass calls.ready pass'
     → IsLegalList (start pass'.name) pass'.seen
 legal_then words slot slot' pass pass' Does calls of for same =
     subst (λ (t : Name × List Entry). IsLegalList (start t.0) t.1) (λ j. ((of.book ∙ for.0 ∙ sym calls.prepares.same.0 ∙ sym same.0) j, calls.seen j)) of.knows.legal

@@ -1,5 +1,5 @@
 -- What a reclaimer is given, and what it put.
-use Rattle.std.proofs.Common.{◌≡◌, ℕ, List, [], ◌∷◌, ◌++◌, refl, sym, ap, subst, ◌∙◌, append_assoc}
+use Rattle.std.proofs.Common.{◌≡◌, ℕ, List, [], ◌∷◌, ◌++◌, sym, ap, subst, ◌∙◌, append_assoc}
 use base.Stored.{Coded, Gv}
 use Rattle.seize_book.specs.Loans.{loan_number}
 use Rattle.seize_book.specs.Permits.{AllAre}

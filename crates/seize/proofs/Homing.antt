@@ -1,7 +1,8 @@
 -- A collector comes from threads that shared it into one caller's hands: what these hold first, and what lies in no place.
---     StartsAt code porter st names kinds     the hands hold this state first, as the porter has seen: no number is in use
-use Rattle.std.proofs.Common.{Bool, false, IfSome, slice_set, ⊎_elim, ◌≡◌, ℕ, true, if◌then◌else◌, List, [], length, Option, None, Some, option_map, get_or, refl, sym, ap, subst, ◌∙◌, arith}
-use Rattle.std.proofs.lemmas.List.{get_or_past, length-map}
+--     StartsAt code porter st names kinds     the hands hold this state first, as the porter has seen: no number is in use. A legal list of
+--                             events leads to it
+use Rattle.std.proofs.Common.{Bool, false, IfSome, slice_set, ⊎_elim, ◌≡◌, ℕ, true, if◌then◌else◌, List, [], length, Option, None, Some, option_map, get_or, sym, ap, subst, ◌∙◌, arith}
+use Rattle.std.proofs.lemmas.List.{get_or_past}
 use base.Stored.{Gv}
 use Rattle.seize_model.specs.declared.kind.Kind.{Kind}
 use Rattle.seize_model.specs.declared.kind.Kind.TheVariants.{Free}
@@ -10,14 +11,13 @@ use Rattle.seize_model.specs.Waiting.State.{has_guard, State, slot_at}
 use Rattle.seize_model.specs.Agreement.Origins.{IsLedTo}
 use Rattle.seize_book.specs.Book.{after}
 use Rattle.seize_book.specs.Entry.{Entry}
-use Rattle.seize_book.specs.Homesteads.{state_seen}
-use Rattle.seize_book.specs.Porters.{GoesOnTo, OpensAgain}
+use Rattle.seize_book.specs.Porters.{OpensAgain}
 use Rattle.seize_book.specs.Tokens.{Name, start}
 use Rattle.seize_book.specs.declared.book.pass.Pass.{Pass}
 use Rattle.seize_book.specs.declared.book.porter.Porter.{Porter}
 use Rattle.seize_alone.specs.Begins.{Begun}
-use Rattle.seize_book.proofs.Facts.{reached_after}
-use Rattle.seize_alone.specs.Holding.{Holds, found, some_slot, some_state}
+use Rattle.seize_alone.specs.Holding.{Holds, some_state}
+use Rattle.seize_alone.proofs.Shown.{many_shown}
 use Rattle.seize.specs.Laws.{HaveContents}
 use Rattle.seize.specs.Placing.{ArePlaces, Lies, MayLay, lies_in, lying_in, unit_in}
 use Rattle.seize.specs.Resting.{ComesToRest}
@@ -30,7 +30,7 @@ abbrev pub AllFree : {T : Type 0} → State T ℕ → Type 0
 AllFree st = (s : ℕ) → ((slot_at st s).kind ≡ Free) × ((slot_at st s).guards ≡ 0)
 
 abbrev pub StartsAt : {T : Type 0} → (T → Gv) → Porter → State T ℕ → List (ℕ × T) → List (ℕ × ℕ) → Type 0
-StartsAt code porter st names kinds = Holds code st names kinds porter.name porter.seen × (st.size ≡ porter.size) × (length st.links ≡ length porter.name.links) × AllFree st
+StartsAt code porter st names kinds = Holds code st names kinds porter.name porter.seen × (st.size ≡ porter.size) × (length st.links ≡ length porter.name.links) × AllFree st × IsLedTo (some_state st)
 
 module _ {T : Type 0} (code : T → Gv) (lent back : Pass) (porter : Porter) (made : Option ℕ) (many : ℕ) (is : made ≡ Some many) (comes : ComesToRest lent back made) (again : OpensAgain back porter) where
   rests : ComesToRest lent back (Some many)
@@ -40,18 +40,12 @@ module _ {T : Type 0} (code : T → Gv) (lent back : Pass) (porter : Porter) (ma
   pub starts : HaveContents code back → (st : State T ℕ) × (names : List (ℕ × T)) × (kinds : List (ℕ × ℕ)) × StartsAt code porter st names kinds
   starts contents =
       let b : Begun code porter.size porter.name porter.seen = subst (λ (t : Name × List Entry). Begun code porter.size t.0 t.1) (λ j. (again.0.0 j, sym again.1 j)) (rests_held code lent back many porter.size rests contents) in
-      (b.state, b.names, b.kinds, (b.holds, b.sized, b.links, b.free))
+      (b.state, b.names, b.kinds, (b.holds, b.sized, b.links, b.free, b.led))
 
   -- so many slots are in it
   pub many_slots : (st : State T ℕ) (names : List (ℕ × T)) (kinds : List (ℕ × ℕ)) → Holds code st names kinds porter.name porter.seen → many ≡ length st.slots
   many_slots st names kinds holds =
-      rests.rests.0 ∙ (λ j. length (after (start (again.0.0 j)) (sym again.1 j)).slots) ∙ holds.shows.slots ∙ length-map st.slots some_slot
-
-  -- and a legal list of events leads to it
-  pub led_to : (st : State T ℕ) (names : List (ℕ × T)) (kinds : List (ℕ × ℕ)) → Holds code st names kinds porter.name porter.seen → IsLedTo (some_state st)
-  led_to st names kinds holds =
-      let goes : GoesOnTo porter.name lent.seen porter.seen = subst (λ (t : Name × List Entry). GoesOnTo t.0 lent.seen t.1) (λ j. ((sym comes.same.0 ∙ again.0.0) j, sym again.1 j)) comes.goes_on in
-      (found names, found kinds, after (start porter.name) porter.seen, reached_after porter.name porter.seen goes.distinct goes.legal, holds.shows, holds.reclaimers)
+      rests.rests.0 ∙ (λ j. length (after (start (again.0.0 j)) (sym again.1 j)).slots) ∙ many_shown holds
 
 -- nothing lies in the place of a slot whose number is free
 pub no_places : {T : Type 0} (n : Name) (st : State T ℕ) (places : List (Option (Place T))) → places ≡ [] → AllFree st → ArePlaces n st places

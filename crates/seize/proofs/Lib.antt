@@ -36,4 +36,11 @@ mod Linked
 mod Called
 mod Reclaimed
 mod Outlined
+mod Aparts
+mod Behind
+mod Going
+mod Turning
+mod Parting
+mod Turned
 mod Running
+mod Everything

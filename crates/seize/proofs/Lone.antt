@@ -1,14 +1,12 @@
 -- A collector in one caller's hands: what the porter's first pass knows of the state, and what lies in the places.
-use Rattle.std.proofs.Common.{arith, ◌≡◌, ◌⊎◌, ℕ, zero, suc, ◌==◌, ◌<◌, ◌≤◌, Bool, true, false, not, if◌then◌else◌, List, [], ◌∷◌, length, map, Option, Some, None, option_map, get_or, is_some, inl, inr, slice_set, refl, sym, ap, subst, ◌∙◌}
+use Rattle.std.proofs.Common.{arith, ◌≡◌, ◌⊎◌, ℕ, ◌==◌, ◌<◌, ◌≤◌, Bool, true, false, not, if◌then◌else◌, List, length, Option, Some, None, option_map, get_or, is_some, inl, inr, slice_set, refl, sym, ap, subst, ◌∙◌}
 use Rattle.std.proofs.lemmas.Bool.{cases_lt, false≢true}
 use Rattle.std.proofs.lemmas.List.{get_or-set_same, get_or-set_other, get_or_past}
 use base.Stored.{Gv}
 use Rattle.seize_machine.proofs.Facts.{eq_true}
-use Rattle.seize_machine.specs.Machine.State.{Head, Inactive, are_distinct, head_at, is_active, linked_values}
-use Rattle.seize_model.specs.Agreement.Shows.{head_of}
-use Rattle.seize_model.specs.Waiting.Calls.{is_free, is_owned, set_guards}
+use Rattle.seize_machine.specs.Machine.State.{are_distinct, head_at, is_active, linked_values}
+use Rattle.seize_model.specs.Waiting.Calls.{is_free}
 use Rattle.seize_model.specs.Waiting.State.{Slot, State, has_guard, no_slot, set_slot, slot_at}
-use Rattle.seize_model.proofs.Simulation.Beginnings.{head_active}
 use Rattle.seize_model.proofs.Simulation.Events.{set_twice}
 use Rattle.seize_book.proofs.Facts.{equal}
 use Rattle.seize_book.specs.Book.{after}
@@ -19,20 +17,14 @@ use Rattle.seize_book.specs.declared.book.pass.Pass.{Pass}
 use Rattle.seize_book.specs.declared.book.porter.Porter.{Porter}
 use Rattle.seize_words.specs.Joined.{words_book}
 use Rattle.seize_words.specs.declared.words.Words.{Words}
-use Rattle.seize_calls.specs.Slots.{IsPassFor, its_book, its_number}
-use Rattle.seize_alone.specs.Holding.{Holds, some_slot}
+use Rattle.seize_calls.specs.Slots.{IsPassFor}
+use Rattle.seize_alone.specs.Holding.{Holds}
+use Rattle.seize_alone.proofs.Shown.{active_shown}
 use Rattle.seize.specs.Alones.{IsAlone}
 use Rattle.seize.specs.Placing.{ArePlaces, Lies, lies_for, lies_in, lying_in}
-use Rattle.seize.specs.Reservations.{its_label, place_label}
 use Rattle.seize.specs.declared.alone.hands.Hands.{Hands}
 use Rattle.seize.specs.declared.alone.place.Place.{Place}
 use Rattle.seize.specs.declared.ender.Ender.{Ender}
-
--- `get_or-map` of std, past the end too
-get_or_map : {A B : Type 0} (f : A → B) (xs : List A) (i : ℕ) (d : A) → get_or (map f xs) i (f d) ≡ f (get_or xs i d)
-get_or_map f [] i d = refl
-get_or_map f (x ∷ xs) zero d = refl
-get_or_map f (x ∷ xs) (suc i) d = get_or_map f xs i d
 
 -- The pass.
 
@@ -56,10 +48,7 @@ knows {T} {R} {code} {words} {porter} {hands = hands} {pass = pass} a shuts = re
 
 -- a slot is active where it has a guard
 pub head_held : {T : Type 0} {code : T → Gv} {st : State T ℕ} {names : List (ℕ × T)} {kinds : List (ℕ × ℕ)} {n : Name} {seen : List Entry} → Holds code st names kinds n seen → (s : ℕ) → is_active (head_at (after (start n) seen) s) ≡ has_guard (slot_at st s)
-head_held {T} {code} {st} {names} {kinds} {n} {seen} holds s =
-    ap (λ (heads : List Head). is_active (get_or heads s Inactive)) holds.shows.heads
-    ∙ ap is_active (get_or_map head_of (map some_slot st.slots) s no_slot ∙ ap head_of (get_or_map some_slot st.slots s no_slot))
-    ∙ head_active (some_slot (slot_at st s))
+head_held holds s = active_shown holds s
 
 -- What lies in places.
 

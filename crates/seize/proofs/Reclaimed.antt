@@ -12,7 +12,7 @@ use Rattle.seize_model.specs.declared.kind.Kind.TheVariants.{Registered}
 use Rattle.seize_model.specs.Waiting.Attempt.{StateAndGone}
 use Rattle.seize_model.specs.Waiting.Calls.{Response, first_refusal, flush, is_free, is_owned, leave, no_guard, one_guard_less, refresh, retire, unless, with_number_free_if}
 use Rattle.seize_model.specs.Waiting.Further.{Lighter, with_further}
-use Rattle.seize_model.specs.Waiting.State.{Slot as WaitingSlot, State, has_guard, slot_at}
+use Rattle.seize_model.specs.Waiting.State.{State, has_guard, slot_at}
 use Rattle.seize_book.specs.Entry.{Entry}
 use Rattle.seize_book.specs.Slots.{slot_number}
 use Rattle.seize_book.specs.Tokens.{Name}
@@ -26,8 +26,8 @@ use Rattle.seize_calls.specs.declared.slot.Loose.{Loose}
 use Rattle.seize_calls.specs.declared.slot.Slot.{Slot}
 use Rattle.seize_alone.specs.Calls.{CallsAlone}
 use Rattle.seize_alone.specs.Gone.{HadAre}
-use Rattle.seize_alone.specs.Holding.{Holds, HoldsThen, some_slot, some_state}
-use Rattle.seize_alone.proofs.Mapped.{slot_same}
+use Rattle.seize_alone.specs.Holding.{Holds, HoldsThen}
+use Rattle.seize_alone.proofs.Shown.{owned_shown}
 use Rattle.seize_alone.proofs.Slots.{slot_flushes, slot_parts, slot_refreshes, slot_retires}
 use Rattle.seize.specs.Kinds.{kind_of}
 use Rattle.seize.specs.Places.{CallsSlot}
@@ -59,9 +59,7 @@ may_act st s none = go (is_free (slot_at st s).kind) (has_guard (slot_at st s)) 
 
 -- an owned slot has one guard at most
 pub owned_one : {T : Type 0} {code : T → Gv} {st : State T ℕ} {names : List (ℕ × T)} {kinds : List (ℕ × ℕ)} {n : Name} {seen : List Entry} → Holds code st names kinds n seen → (s : ℕ) → is_owned (slot_at st s).kind ≡ true → (slot_at st s).guards ≤ 1
-owned_one {T} {code} {st} holds s owned =
-    let same : slot_at (some_state st) s ≡ some_slot (slot_at st s) = slot_same st s in
-    subst (λ (x : WaitingSlot (Option T) (Option ℕ)). x.guards ≤ 1) same ((holds.shows.slot s).owned (ap (λ (x : WaitingSlot (Option T) (Option ℕ)). is_owned x.kind) same ∙ owned))
+owned_one holds s owned = owned_shown holds s owned
 
 -- an owned slot parts, and so does one with one guard
 pub alone_so : {T : Type 0} (st : State T ℕ) (s : ℕ) (owned : Bool) (guards : ℕ) → (slot_at st s).kind ≡ kind_of owned → (slot_at st s).guards ≡ guards → (owned ≡ true) ⊎ ((owned ≡ false) × (guards ≡ 1)) → (is_owned (slot_at st s).kind || ((slot_at st s).guards == 1)) ≡ true

@@ -1,7 +1,7 @@
 -- What the reclaimer of a collector puts, and whether it is that of some words.
 --     IsEnderIn n ender, IsEnderOf words ender     its list of permits is that of book n, or of that of these words
 --     Weighs code weight l n    this number, of what is lent with a value, stands for what weighs one more than n; 0 stands for nothing
-use Rattle.std.specs.Prelude.{◌≡◌, ℕ, zero, suc, List}
+use Rattle.std.specs.Prelude.{◌≡◌, ℕ, zero, suc}
 use base.Stored.{Gv}
 use Rattle.seize_book.specs.Lending.{ArePermitsOf}
 use Rattle.seize_book.specs.Loans.{loan_number}

@@ -1,4 +1,5 @@
 pub mod Alones
+pub mod Aparts
 pub mod Blocks
 pub mod Collectors
 pub mod Enders

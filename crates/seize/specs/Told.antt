@@ -5,10 +5,12 @@
 --     only_refusal result        the result, where a refusal gives what the caller passed back
 --     Said a result new          the call answered as the model does, and this is the model's state after it
 --     Grew a result old new      so it did; or it was refused memory, and the state is as it was
---     Answers told a result new seen seen'     so it did, and the watch was told exactly the values gone, in order
+--     Did told o new seen seen'  the state is that of this outcome, and the watch was told exactly the values gone, in order
+--     Answers told a result new seen seen'     the call answered as the model does, and so it did
 use Rattle.std.specs.Prelude.{◌≡◌, ◌⊎◌, List, [], ◌∷◌, Result, Err, Ok}
 use Rattle.std.specs.List.{fold}
 use base.Stored.{Coded, Gv}
+use Rattle.seize_model.specs.Waiting.Attempt.{StateAndGone}
 use Rattle.seize_model.specs.Waiting.State.{State}
 use Rattle.seize_model.specs.Waiting.Calls.{Response}
 use Rattle.seize_table.specs.declared.refusal.Refusal.{Refusal}
@@ -41,3 +43,6 @@ Grew a result old new = ((result ≡ Err NoMemory) × (new ≡ old)) ⊎ Said a 
 
 abbrev pub Answers : {A T R Seen : Type 0} → (Seen → T → Seen) → Response A T R → Result A Refusal → State T R → Seen → Seen → Type 0
 Answers told a result new seen seen' = Said a result new × (seen' ≡ told_of told seen a.1.1)
+
+abbrev pub Did : {T R Seen : Type 0} → (Seen → T → Seen) → StateAndGone T R → State T R → Seen → Seen → Type 0
+Did told o new seen seen' = (new ≡ o.0) × (seen' ≡ told_of told seen o.1)

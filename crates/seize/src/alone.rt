@@ -5,12 +5,16 @@ ghost use Rattle.std.specs.Prelude.{box_value, length};
 ghost use Rattle.seize_words.specs.Joined.{words_book};
 ghost use Rattle.seize.specs.Alones.{IsAlone, View, view_coded};
 
+mod all;
+pub(crate) mod apart;
+pub(crate) mod aside;
 mod blocks;
 mod calls;
 mod codes;
+pub(crate) mod draining;
 mod hands;
 mod links;
-mod place;
+pub(crate) mod place;
 mod reclaiming;
 mod running;
 mod sharing;

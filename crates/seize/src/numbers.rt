@@ -11,9 +11,12 @@ ghost use Rattle.seize_machine.specs.declared.machine.event.Answer.TheVariants.{
 ghost use Rattle.seize.specs.Makes.{MakesOne};
 ghost use Rattle.seize.specs.Shelves.{IsShelfFor};
 
+mod emptying;
+mod parting;
 mod recovering;
 pub(crate) mod resting;
 pub(crate) mod sweeping;
+pub(crate) mod turning;
 
 use crate::shelf::{Shelf, Shelves};
 use seize_calls::slot::Slot;

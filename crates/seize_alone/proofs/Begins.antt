@@ -25,7 +25,8 @@ use Rattle.seize_book.proofs.Facts.{as_legal, equal, reached_after}
 use Rattle.seize_book.proofs.Lives.{legal_first}
 use Rattle.seize_words.specs.Chunks.{IsLentAs}
 use Rattle.seize_alone.specs.Begins.{BeginsHeld, Begun}
-use Rattle.seize_alone.specs.Holding.{AreLent, AreOfKinds, found, some_slot, some_state, some_value}
+use Rattle.seize_alone.specs.Holding.{AreLent, AreOfKinds, HoldsAll, found, some_slot, some_state, some_value}
+use Rattle.seize_alone.proofs.Below.{none_below}
 use Rattle.seize_alone.proofs.Found.{Has, Knows, has_first, has_left, has_right, told_append}
 use Rattle.seize_alone.proofs.Mapped.{get_map, retired_same, slot_same}
 
@@ -305,7 +306,12 @@ module _ {T : Type 0} (code : T → Gv) (n : Name) (seen : List Entry) (size : �
     state = begun;
     names = names;
     kinds = kinds;
-    holds = record { shows = shown; reclaimers = by_kinds; lent = names_lent code now.named lent; told = up_to_told seen batch told (length now.slots) };
+    holds = record {
+      gone = 0;
+      all = subst (λ (st : waiting.State T ℕ). HoldsAll code st names kinds n seen) (sym (none_below begun))
+          (record { shows = shown; reclaimers = by_kinds; lent = names_lent code now.named lent; told = up_to_told seen batch told (length now.slots) });
+    };
+    led = (found names, found kinds, now, reached, shown, by_kinds);
     sized = refl;
     links = length-map now.links (link_by names kinds) ∙ links_stay (start n) seen legal;
     free = λ s.

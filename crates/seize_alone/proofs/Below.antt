@@ -1,5 +1,8 @@
 -- Retired batches that are gone, below all others, change nothing but the numbers of later batches.
+--     none_below       with none of them the state is the same
+--     twice_below      with some and then others it is the state with all of these
 --     below_out o      the outcome with them
+--     used_below, active_below, off_below     what is so of a slot is so with them
 --     step_below       each call of a list gives the same reply and the same values gone, and then the state with them
 --     reclaim_below    a reclaim of all gives the same, and forgets them
 use Rattle.std.proofs.Common.{◌≡◌, ℕ, zero, suc, ◌+◌, ◌-◌, ◌^◌, ◌==◌, ◌||◌, Bool, true, false, not, cond, if◌then◌else◌, nat_lt, nat_le, max, List, [], ◌∷◌, ◌++◌, length, map, get_or, set, replicate, Option, Some, None, Result, refl, sym, ap, ◌∙◌, arith}
@@ -17,11 +20,12 @@ use Rattle.seize_model.specs.Waiting.Calls as calls
 use Rattle.seize_model.specs.Waiting.Calls.{Response, first_refusal, is_free, is_owned, least_unused, no_guard, not_registered, one_guard_less, part_all, part_if_alone, reclaim_all, set_guards, too_many, unless, unused, with_number_free, with_number_free_if, with_number_in_use, without_batch}
 use Rattle.seize_model.specs.Waiting.Further.{further, gone_from, settle, still_to_come, with_further}
 use Rattle.seize_model.specs.Waiting.Lists.{Call, Effect, Reply, Register, EnterOwned, Enter, Leave, End, Refresh, Flush, Retire, Protect, Swap, done_reply, end_reply, reply, retire_old, step}
-use Rattle.seize_alone.specs.Reclaiming.{SameBelow, with_gone_below, with_order_from}
+use Rattle.seize_alone.specs.Holding.{with_gone_below, with_order_from}
+use Rattle.seize_alone.specs.Reclaiming.{SameBelow}
 use Rattle.seize_alone.proofs.Mapped.{fold_map, get_map, map_map, set_map}
 use Rattle.seize_alone.proofs.Reclaiming.{freed, parted_all}
 
-get_below : {X : Type 0} (n m b : ℕ) (xs : List (List X)) → m ≡ n + b → get_or (replicate n [] ++ xs) m [] ≡ get_or xs b []
+pub get_below : {X : Type 0} (n m b : ℕ) (xs : List (List X)) → m ≡ n + b → get_or (replicate n [] ++ xs) m [] ≡ get_or xs b []
 get_below zero m b xs is = ap (λ (k : ℕ). get_or xs k []) (let same : m ≡ b = omega (arith, is) in same)
 get_below (suc n) zero b xs is = absurd (omega (arith, is))
 get_below (suc n) (suc m) b xs is = get_below n m b xs (omega (arith, is))
@@ -38,17 +42,55 @@ any_above : (n b : ℕ) (order : List ℕ) → list_any (λ x. x == n + b) (map 
 any_above n b [] = refl
 any_above n b (x ∷ order) = λ i. same_above n x b i || any_above n b order i
 
+-- Of none, and of some and others.
+
+order_same : (order : List ℕ) → map (λ b. 0 + b) order ≡ order
+order_same [] = refl
+order_same (b ∷ order) = let one : 0 + b ≡ b = omega arith in λ i. one i ∷ order_same order i
+
+slots_same : {T R : Type 0} (slots : List (Slot T R)) → map (with_order_from 0) slots ≡ slots
+slots_same [] = refl
+slots_same (slot ∷ slots) = λ i. record slot { order = order_same slot.order i } ∷ slots_same slots i
+
+pub none_below : {T R : Type 0} (st : State T R) → with_gone_below 0 st ≡ st
+none_below st = λ i. record st { slots = slots_same st.slots i }
+
+order_twice : (m n : ℕ) (order : List ℕ) → map (λ b. m + b) (map (λ b. n + b) order) ≡ map (λ b. (m + n) + b) order
+order_twice m n [] = refl
+order_twice m n (b ∷ order) = let one : m + (n + b) ≡ (m + n) + b = omega arith in λ i. one i ∷ order_twice m n order i
+
+slots_twice : {T R : Type 0} (m n : ℕ) (slots : List (Slot T R)) → map (with_order_from m) (map (with_order_from n) slots) ≡ map (with_order_from (m + n)) slots
+slots_twice m n [] = refl
+slots_twice m n (slot ∷ slots) = λ i. record slot { order = order_twice m n slot.order i } ∷ slots_twice m n slots i
+
+retired_twice : {X : Type 0} (m n k : ℕ) (xs : List (List X)) → k ≡ m + n → replicate m [] ++ (replicate n [] ++ xs) ≡ replicate k [] ++ xs
+retired_twice zero n k xs is = ap (λ (j : ℕ). replicate j [] ++ xs) (let same : n ≡ k = omega (arith, is) in same)
+retired_twice (suc m) n zero xs is = absurd (omega (arith, is))
+retired_twice (suc m) n (suc k) xs is = ap (λ (l : List (List _)). [] ∷ l) (retired_twice m n k xs (omega (arith, is)))
+
+pub twice_below : {T R : Type 0} (m n : ℕ) (st : State T R) → with_gone_below m (with_gone_below n st) ≡ with_gone_below (m + n) st
+twice_below m n st = λ i. record st { slots = slots_twice m n st.slots i; retired = retired_twice m n (m + n) st.retired refl i }
+
 module _ {T R : Type 0} (n : ℕ) where
   abbrev pub below_out : StateAndGone T R → StateAndGone T R
   below_out o = (with_gone_below n o.0, o.1)
 
-  slot_below : (st : State T R) (s : ℕ) → slot_at (with_gone_below n st) s ≡ with_order_from n (slot_at st s)
+  pub slot_below : (st : State T R) (s : ℕ) → slot_at (with_gone_below n st) s ≡ with_order_from n (slot_at st s)
   slot_below st s = get_map (with_order_from n) st.slots s no_slot no_slot refl
+
+  pub used_below : (st : State T R) (s : ℕ) → is_free (slot_at st s).kind ≡ false → is_free (slot_at (with_gone_below n st) s).kind ≡ false
+  used_below st s used = ap (λ (slot : Slot T R). is_free slot.kind) (slot_below st s) ∙ used
+
+  pub active_below : (st : State T R) (s : ℕ) → has_guard (slot_at st s) ≡ true → has_guard (slot_at (with_gone_below n st) s) ≡ true
+  active_below st s active = ap (λ (slot : Slot T R). has_guard slot) (slot_below st s) ∙ active
+
+  pub off_below : (st : State T R) (s : ℕ) → has_guard (slot_at st s) ≡ false → has_guard (slot_at (with_gone_below n st) s) ≡ false
+  off_below st s off = ap (λ (slot : Slot T R). has_guard slot) (slot_below st s) ∙ off
 
   write_below : (st : State T R) (s : ℕ) (slot : Slot T R) → set_slot (with_gone_below n st) s (with_order_from n slot) ≡ with_gone_below n (set_slot st s slot)
   write_below st s slot = λ i. record (with_gone_below n st) { slots = sym (set_map (with_order_from n) st.slots s slot) i }
 
-  kept_below : (st : State T R) (b : ℕ) → is_kept (with_gone_below n st) (n + b) ≡ is_kept st b
+  pub kept_below : (st : State T R) (b : ℕ) → is_kept (with_gone_below n st) (n + b) ≡ is_kept st b
   kept_below st b = all st.slots
     where
       all : (xs : List (Slot T R)) → list_any (waits_for (n + b)) (map (with_order_from n) xs) ≡ list_any (waits_for b) xs
@@ -130,10 +172,10 @@ module _ {T R : Type 0} (n : ℕ) where
 
   -- Single steps.
 
-  guards_below : (st : State T R) (s k : ℕ) → set_guards (with_gone_below n st) s k ≡ with_gone_below n (set_guards st s k)
+  pub guards_below : (st : State T R) (s k : ℕ) → set_guards (with_gone_below n st) s k ≡ with_gone_below n (set_guards st s k)
   guards_below st s k = ap (λ (slot : Slot T R). set_slot (with_gone_below n st) s (record slot { guards = k })) (slot_below st s) ∙ write_below st s (record (slot_at st s) { guards = k })
 
-  free_below : (st : State T R) (s : ℕ) → with_number_free (with_gone_below n st) s ≡ with_gone_below n (with_number_free st s)
+  pub free_below : (st : State T R) (s : ℕ) → with_number_free (with_gone_below n st) s ≡ with_gone_below n (with_number_free st s)
   free_below st s = ap (λ (slot : Slot T R). set_slot (with_gone_below n st) s (record slot { kind = Free; guards = 0 })) (slot_below st s) ∙ write_below st s (record (slot_at st s) { kind = Free; guards = 0 })
 
   less_below : (st : State T R) (s : ℕ) → one_guard_less (with_gone_below n st) s ≡ below_out (one_guard_less st s)
@@ -157,7 +199,7 @@ module _ {T R : Type 0} (n : ℕ) where
   freed_if_below true s o = λ i. (free_below o.0 s i, o.1)
   freed_if_below false s o = refl
 
-  use_below : (st : State T R) (m : ℕ) (kind : Kind) (guards : ℕ) → with_number_in_use (with_gone_below n st) m kind guards ≡ with_gone_below n (with_number_in_use st m kind guards)
+  pub use_below : (st : State T R) (m : ℕ) (kind : Kind) (guards : ℕ) → with_number_in_use (with_gone_below n st) m kind guards ≡ with_gone_below n (with_number_in_use st m kind guards)
   use_below st m kind guards =
       ap (λ (k : ℕ). if m == k then record (with_gone_below n st) { slots = map (with_order_from n) st.slots ++ made ∷ [] } else set_slot (with_gone_below n st) m (record (slot_at (with_gone_below n st) m) { kind = kind; guards = guards })) (length-map st.slots (with_order_from n))
       ∙ by_case (m == length st.slots)
@@ -170,7 +212,7 @@ module _ {T R : Type 0} (n : ℕ) where
       by_case true = λ i. record (with_gone_below n st) { slots = sym (map-append (with_order_from n) st.slots (made ∷ [])) i }
       by_case false = ap (λ (slot : Slot T R). set_slot (with_gone_below n st) m (record slot { kind = kind; guards = guards })) (slot_below st m) ∙ write_below st m (record (slot_at st m) { kind = kind; guards = guards })
 
-  least_below : (slots : List (Slot T R)) → least_unused (map (with_order_from n) slots) ≡ least_unused slots
+  pub least_below : (slots : List (Slot T R)) → least_unused (map (with_order_from n) slots) ≡ least_unused slots
   least_below [] = refl
   least_below (slot ∷ slots) = ap (λ (k : ℕ). cond (not (is_free slot.kind)) (1 + k) 0) (least_below slots)
 
@@ -185,7 +227,7 @@ module _ {T R : Type 0} (n : ℕ) where
         ∙ ap (λ (o : StateAndGone T R). with_gone (put st s v).1 o) (settle_below m (put st s v).0 s (queue ++ further puts (put st s v).1))
 
     module _ (weight : T → ℕ) where
-      further_below : (s : ℕ) (o : StateAndGone T R) → with_further puts weight s (below_out o) ≡ below_out (with_further puts weight s o)
+      pub further_below : (s : ℕ) (o : StateAndGone T R) → with_further puts weight s (below_out o) ≡ below_out (with_further puts weight s o)
       further_below s o =
           ap (λ (slot : Slot T R). with_gone o.1 (settle puts (still_to_come weight slot.batch (further puts o.1)) (with_gone_below n o.0) s (further puts o.1))) (slot_below o.0 s)
           ∙ ap (λ (p : StateAndGone T R). with_gone o.1 p) (settle_below (still_to_come weight (slot_at o.0 s).batch (further puts o.1)) o.0 s (further puts o.1))

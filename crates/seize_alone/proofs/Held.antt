@@ -29,7 +29,8 @@ use Rattle.seize_book.specs.Tokens.{start}
 use Rattle.seize_book.specs.declared.book.pass.Pass.{Pass}
 use Rattle.seize_calls.specs.Handing.{AreTheirs, Had, values_handed}
 use Rattle.seize_alone.specs.Calls.{FlushesHeld, LeavesHeld, PartsHeld, RefreshesHeld, RetiresHeld, CallsAlone}
-use Rattle.seize_alone.specs.Holding.{AreLent, AreOfKinds, HoldsThen, found, some_slot, some_state, some_value}
+use Rattle.seize_alone.specs.Holding.{AreLent, AreOfKinds, HoldsThen, found, some_slot, some_state, some_value, with_gone_below}
+use Rattle.seize_alone.proofs.Below.{active_below, attempt_below, below_out, further_below, guards_below, part_below, put_below, slot_below, used_below}
 use Rattle.seize_alone.proofs.Found.{Knows, all_later, found_lent, found_told, has_first, has_left, has_right, lent_append, reclaimers_on, shows_on, told_append}
 use Rattle.seize_alone.proofs.Mapped.{attempt_same, guards_same, part_same, put_same, slot_same, some_out, with_further_same}
 use Rattle.seize_alone.proofs.Names.{are_had, its_kinds, its_names, kinds_told, names_lent, puts_some, serve_all, some_lighter, weight_some}
@@ -55,12 +56,12 @@ module _ {T : Type 0} (c : Coded T) (puts : ℕ → T → List T) (st : waiting.
 
   pub lent_then : AreLent c.code names_then
   lent_then =
-      lent_append c names (own ++ its_names c puts w.handed had' a.put) a.holds.lent
+      lent_append c names (own ++ its_names c puts w.handed had' a.put) a.holds.all.lent
       (lent_append c own (its_names c puts w.handed had' a.put) own_lent (names_lent c puts w.handed w.kepts had' a.put theirs))
 
   pub told_then : AreOfKinds pass'.seen kinds_then
   told_then =
-      told_append pass'.seen kinds (own_kinds ++ its_kinds w.handed had') (all_later pass.seen pass'.seen w.grows kinds a.holds.told)
+      told_append pass'.seen kinds (own_kinds ++ its_kinds w.handed had') (all_later pass.seen pass'.seen w.grows kinds a.holds.all.told)
       (told_append pass'.seen own_kinds (its_kinds w.handed had') own_told (kinds_told c puts pass'.seen w.handed w.kepts had' a.put theirs w.told (whole_said w)))
 
   pub own_there : Knows own names_then
@@ -77,11 +78,12 @@ module _ {T : Type 0} (c : Coded T) (puts : ℕ → T → List T) (st : waiting.
 
   -- where the call begins, and its events
 
-  pub near_before : NearAt (with_reclaimers (found names_then) (found kinds_then)) [] (some_state st) before
+  pub near_before : NearAt (with_reclaimers (found names_then) (found kinds_then)) [] (some_state (with_gone_below a.holds.gone st)) before
   near_before =
-      near_with (found names_then) (found kinds_then) (some_state st) before
-      (shows_on names (own ++ its_names c puts w.handed had' a.put) kinds (own_kinds ++ its_kinds w.handed had') st before a.holds.shows)
-      (reclaimers_on names (own ++ its_names c puts w.handed had' a.put) kinds (own_kinds ++ its_kinds w.handed had') st before a.holds.reclaimers)
+      let whole : waiting.State T ℕ = with_gone_below a.holds.gone st in
+      near_with (found names_then) (found kinds_then) (some_state whole) before
+      (shows_on names (own ++ its_names c puts w.handed had' a.put) kinds (own_kinds ++ its_kinds w.handed had') whole before a.holds.all.shows)
+      (reclaimers_on names (own ++ its_names c puts w.handed had' a.put) kinds (own_kinds ++ its_kinds w.handed had') whole before a.holds.all.reclaimers)
 
   pub legal : play st.size before (events_made (all_made w)) ≡ Some (later, answers_made (all_made w))
   legal = subst (λ (size : ℕ). play size before (events_made (all_made w)) ≡ Some (later, answers_made (all_made w))) (sym a.size) (whole_played w a.sole a.legal)
@@ -93,15 +95,16 @@ module _ {T : Type 0} (c : Coded T) (puts : ℕ → T → List T) (st : waiting.
 
   -- where it ends
 
-  pub held_then : (guards : ℕ) (o : StateAndGone T ℕ) (o' : StateAndGone (Option T) (Option ℕ)) → o' ≡ some_out o → JobEnds (with_reclaimers (found names_then) (found kinds_then)) s guards o' later (answers_made (all_made w)) → HoldsThen c.code o had' pass'
+  pub held_then : (guards : ℕ) (o : StateAndGone T ℕ) (o' : StateAndGone (Option T) (Option ℕ)) → o' ≡ some_out (below_out a.holds.gone o) → JobEnds (with_reclaimers (found names_then) (found kinds_then)) s guards o' later (answers_made (all_made w)) → HoldsThen c.code o had' pass'
   held_then guards o o' is ends =
-      let d : JobEnds (with_reclaimers (found names_then) (found kinds_then)) s guards (some_out o) later (answers_made (all_made w)) =
+      let whole : waiting.State T ℕ = with_gone_below a.holds.gone o.0 in
+      let d : JobEnds (with_reclaimers (found names_then) (found kinds_then)) s guards (some_out (below_out a.holds.gone o)) later (answers_made (all_made w)) =
       subst (λ (x : StateAndGone (Option T) (Option ℕ)). JobEnds (with_reclaimers (found names_then) (found kinds_then)) s guards x later (answers_made (all_made w))) is ends in
-      let both : ShowsState (Option T) (Option ℕ) (found names_then) (some_state o.0) later × ShowsReclaimers (Option T) (Option ℕ) (found names_then) (found kinds_then) (some_state o.0) later =
-      shows_with (found names_then) (found kinds_then) (some_state o.0) later (subst (λ (k : machine.State). NearAt (with_reclaimers (found names_then) (found kinds_then)) [] (some_state o.0) k) (sym d.is) d.near) in
+      let both : ShowsState (Option T) (Option ℕ) (found names_then) (some_state whole) later × ShowsReclaimers (Option T) (Option ℕ) (found names_then) (found kinds_then) (some_state whole) later =
+      shows_with (found names_then) (found kinds_then) (some_state whole) later (subst (λ (k : machine.State). NearAt (with_reclaimers (found names_then) (found kinds_then)) [] (some_state whole) k) (sym d.is) d.near) in
       let gone : StandFor (found names_then) (found kinds_then) (values_handed w.handed) (map some_value o.1) =
       subst (λ (vs : List ℕ). StandFor (found names_then) (found kinds_then) vs (map some_value o.1)) (whole_handed w) (stand_for (found names_then) (found kinds_then) (handed_by (answers_made (all_made w))) (map some_value o.1) d.gone) in (
-        (names_then, kinds_then, record { shows = both.0; reclaimers = both.1; lent = lent_then; told = told_then }),
+        (names_then, kinds_then, record { gone = a.holds.gone; all = record { shows = both.0; reclaimers = both.1; lent = lent_then; told = told_then } }),
         are_had c puts pass'.name pass'.seen a.distinct a.legal names_then kinds_then lent_then told_then w.handed w.kepts had' a.put theirs w.told its_there kinds_there o.1 gone,
       )
 
@@ -143,6 +146,9 @@ not_refused {T} st refusal o none = ap (λ (r : Option Refusal). unless {A = Uni
 pub answered : {T : Type 0} (c : Coded T) (had' : Had) (pass' : Pass) (o : StateAndGone T ℕ) (told : Response (Unit {0}) T ℕ) → told ≡ (Ok tt, o) → HoldsThen c.code o had' pass' → (told.0 ≡ Ok tt) × HoldsThen c.code told.1 had' pass'
 answered {T} c had' pass' o told is held = (ap (λ (r : Response (Unit {0}) T ℕ). r.0) is, subst (λ (r : Response (Unit {0}) T ℕ). HoldsThen c.code r.1 had' pass') (sym is) held)
 
+rested_below : {T : Type 0} (n : ℕ) (st : waiting.State T ℕ) (s : ℕ) → Rested (with_gone_below n st) s → Rested st s
+rested_below {T} n st s = subst (λ (slot : waiting.Slot T ℕ). (is_free slot.kind ≡ false) × (waiting.has_guard slot ≡ false)) (slot_below n st s)
+
 module _ {T : Type 0} (c : Coded T) (puts : ℕ → T → List T) (weight : T → ℕ) (lighter : Lighter puts weight) where
   some_lighter_so : Lighter (puts_some puts) (weight_some weight)
   some_lighter_so = some_lighter puts weight lighter
@@ -150,39 +156,52 @@ module _ {T : Type 0} (c : Coded T) (puts : ℕ → T → List T) (weight : T �
   further_some : (s : ℕ) (o : StateAndGone T ℕ) → with_further (puts_some puts) (weight_some weight) s (some_out o) ≡ some_out (with_further puts weight s o)
   further_some s o = with_further_same puts (puts_some puts) (λ r v. refl) weight (weight_some weight) (λ v. refl) s o
 
+  -- with retired batches below that are gone
+  further_so : (n s : ℕ) (o o' : StateAndGone T ℕ) → o ≡ below_out n o' → with_further (puts_some puts) (weight_some weight) s (some_out o) ≡ some_out (below_out n (with_further puts weight s o'))
+  further_so n s o o' is = further_some s o ∙ ap some_out (ap (with_further puts weight s) is ∙ further_below n puts weight s o')
+
   pub retires_held : RetiresHeld c puts weight
   retires_held st names kinds v kind x retired key pass keys key' pass' keys' had' r a lent used =
       let s = slot_number key in let w : Whole pass pass' s (RetireJob v) (kind ∷ []) [] had' = retired_whole r in
+      let n = a.holds.gone in let whole : waiting.State T ℕ = with_gone_below a.holds.gone st in
       let own : List (ℕ × T) = (v, x) ∷ [] in let own_kinds : List (ℕ × ℕ) = (v, kind) ∷ [] in
       let own_lent : AreLent c.code own = (lent, tt) in let own_told : AreOfKinds pass'.seen own_kinds = (begin_said w v kind (inl (refl, refl)), tt) in
       let named = found_lent c _ (lent_then c puts st names kinds w a own own_lent own_kinds own_told) v x lent (own_there c puts st names kinds w a own own_lent own_kinds own_told v (has_first (v, x) [])) in
       let of_kind = found_told pass'.name pass'.seen a.distinct a.legal _ (told_then c puts st names kinds w a own own_lent own_kinds own_told) v kind own_told.0 (own_kinds_there c puts st names kinds w a own own_lent own_kinds own_told v (has_first (v, kind) [])) in
       let o = with_further puts weight s (put st s (x, kind)) in
       answered c had' pass' o (retire puts weight st s x kind) (not_refused st (unused st s) o (λ i. if used i then Some NotInUse else None))
-      (held_then c puts st names kinds w a own own_lent own_kinds own_told _ o _ (ap (with_further (puts_some puts) (weight_some weight) s) (put_same st s (x, kind)) ∙ further_some s (put st s (x, kind)))
-      (retire_job_list (puts_some puts) (weight_some weight) some_lighter_so _ _ (some_state st) _ s v (Some x) (Some kind) (events_made (all_made w)) (answers_made (all_made w)) _
-      (near_before c puts st names kinds w a own own_lent own_kinds own_told) (some_used st s used) named (whole_job w) (legal c puts st names kinds w a own own_lent own_kinds own_told) of_kind (put_so c puts st names kinds w a own own_lent own_kinds own_told)))
+      (held_then c puts st names kinds w a own own_lent own_kinds own_told _ o _
+      (ap (with_further (puts_some puts) (weight_some weight) s) (put_same whole s (x, kind)) ∙ further_so n s (put whole s (x, kind)) (put st s (x, kind)) (put_below n st s (x, kind)))
+      (retire_job_list (puts_some puts) (weight_some weight) some_lighter_so _ _ (some_state whole) _ s v (Some x) (Some kind) (events_made (all_made w)) (answers_made (all_made w)) _
+      (near_before c puts st names kinds w a own own_lent own_kinds own_told) (some_used whole s (used_below n st s used)) named (whole_job w) (legal c puts st names kinds w a own own_lent own_kinds own_told) of_kind (put_so c puts st names kinds w a own own_lent own_kinds own_told)))
 
   pub flushes_held : FlushesHeld c puts weight
   flushes_held st names kinds retired key pass keys key' pass' keys' had' r a used active =
       let s = slot_number key in let w : Whole pass pass' s FlushJob [] [] had' = flushed_whole r in
+      let n = a.holds.gone in let whole : waiting.State T ℕ = with_gone_below a.holds.gone st in
       let o = with_further puts weight s (attempt st s) in
       answered c had' pass' o (flush puts weight st s) (not_refused st (no_guard st s) o (guarded st s used active))
-      (held_then c puts st names kinds w a [] tt [] tt _ o _ (ap (with_further (puts_some puts) (weight_some weight) s) (attempt_same st s) ∙ further_some s (attempt st s))
-      (flush_job_list (puts_some puts) (weight_some weight) some_lighter_so _ _ (some_state st) _ s (events_made (all_made w)) (answers_made (all_made w)) _
-      (near_before c puts st names kinds w a [] tt [] tt) (some_used st s used) (some_active st s active) (whole_job w) (legal c puts st names kinds w a [] tt [] tt) (put_so c puts st names kinds w a [] tt [] tt)))
+      (held_then c puts st names kinds w a [] tt [] tt _ o _
+      (ap (with_further (puts_some puts) (weight_some weight) s) (attempt_same whole s) ∙ further_so n s (attempt whole s) (attempt st s) (attempt_below n st s))
+      (flush_job_list (puts_some puts) (weight_some weight) some_lighter_so _ _ (some_state whole) _ s (events_made (all_made w)) (answers_made (all_made w)) _
+      (near_before c puts st names kinds w a [] tt [] tt) (some_used whole s (used_below n st s used)) (some_active whole s (active_below n st s active)) (whole_job w)
+      (legal c puts st names kinds w a [] tt [] tt) (put_so c puts st names kinds w a [] tt [] tt)))
 
   pub parts_held : PartsHeld c puts weight
   parts_held st names kinds key pass keys key' pass' keys' had' r a used guards =
       let s = slot_number key in let w : Whole pass pass' s LeaveJob [] [] had' = left_whole r (refl, refl) in
+      let n = a.holds.gone in let whole : waiting.State T ℕ = with_gone_below a.holds.gone st in
       let active : waiting.has_guard (waiting.slot_at st s) ≡ true = ap (λ (n : ℕ). not (n == 0)) guards in
       let o = with_further puts weight s (part (set_guards st s 0) s) in
       let less : one_guard_less st s ≡ part (set_guards st s 0) s = ap (λ (n : ℕ). if n == 1 then part (set_guards st s 0) s else (set_guards st s (n - 1), [])) guards in
-      let same : with_further (puts_some puts) (weight_some weight) s (part (set_guards (some_state st) s 0) s) ≡ some_out o =
-      ap (λ (now : waiting.State (Option T) (Option ℕ)). with_further (puts_some puts) (weight_some weight) s (part now s)) (guards_same st s 0) ∙ ap (with_further (puts_some puts) (weight_some weight) s) (part_same (set_guards st s 0) s) ∙ further_some s (part (set_guards st s 0) s) in
-      let ends = leave_job_list (puts_some puts) (weight_some weight) some_lighter_so _ _ (some_state st) _ s (events_made (all_made w)) (answers_made (all_made w)) _
-      (near_before c puts st names kinds w a [] tt [] tt) (some_used st s used) (some_active st s active) (whole_job w) (legal c puts st names kinds w a [] tt [] tt) (put_so c puts st names kinds w a [] tt [] tt) in
-      let rests : Rested o.0 s = rested o _ same _ _ s _ _ ends in
+      let same : with_further (puts_some puts) (weight_some weight) s (part (set_guards (some_state whole) s 0) s) ≡ some_out (below_out n o) =
+      ap (λ (now : waiting.State (Option T) (Option ℕ)). with_further (puts_some puts) (weight_some weight) s (part now s)) (guards_same whole s 0)
+      ∙ ap (with_further (puts_some puts) (weight_some weight) s) (part_same (set_guards whole s 0) s)
+      ∙ further_so n s (part (set_guards whole s 0) s) (part (set_guards st s 0) s) (ap (λ (now : waiting.State T ℕ). part now s) (guards_below n st s 0) ∙ part_below n (set_guards st s 0) s) in
+      let ends = leave_job_list (puts_some puts) (weight_some weight) some_lighter_so _ _ (some_state whole) _ s (events_made (all_made w)) (answers_made (all_made w)) _
+      (near_before c puts st names kinds w a [] tt [] tt) (some_used whole s (used_below n st s used)) (some_active whole s (active_below n st s active)) (whole_job w)
+      (legal c puts st names kinds w a [] tt [] tt) (put_so c puts st names kinds w a [] tt [] tt) in
+      let rests : Rested o.0 s = rested_below n o.0 s (rested (below_out n o) _ same _ _ s _ _ ends) in
       subst (λ (now : StateAndGone T ℕ). HoldsThen c.code now had' pass' × (is_free (waiting.slot_at now.0 s).kind ≡ false) × (waiting.has_guard (waiting.slot_at now.0 s) ≡ false)) (ap (with_further puts weight s) (sym less))
       (held_then c puts st names kinds w a [] tt [] tt _ o _ same ends, rests.0, rests.1)
 
@@ -197,9 +216,11 @@ module _ {T : Type 0} (c : Coded T) (puts : ℕ → T → List T) (weight : T �
   pub refreshes_held : RefreshesHeld c puts weight
   refreshes_held st names kinds life key pass keys key' pass' keys' had' r a used active parts =
       let s = slot_number key in let w : Whole pass pass' s RefreshJob [] [] had' = left_whole r (refl, refl) in
+      let n = a.holds.gone in let whole : waiting.State T ℕ = with_gone_below a.holds.gone st in
       let o = with_further puts weight s (part st s) in
       answered c had' pass' o (refresh puts weight st s)
       (not_refused st (no_guard st s) (with_further puts weight s (part_if_alone st s)) (guarded st s used active) ∙ ap (λ (b : Bool). (Ok tt, with_further puts weight s (if b then part st s else (st, [])))) parts)
-      (held_then c puts st names kinds w a [] tt [] tt _ o _ (ap (with_further (puts_some puts) (weight_some weight) s) (part_same st s) ∙ further_some s (part st s))
-      (refresh_job_list (puts_some puts) (weight_some weight) some_lighter_so _ _ (some_state st) _ s (events_made (all_made w)) (answers_made (all_made w)) _
-      (near_before c puts st names kinds w a [] tt [] tt) (some_used st s used) (some_active st s active) (whole_job w) (legal c puts st names kinds w a [] tt [] tt) (put_so c puts st names kinds w a [] tt [] tt)))
+      (held_then c puts st names kinds w a [] tt [] tt _ o _ (ap (with_further (puts_some puts) (weight_some weight) s) (part_same whole s) ∙ further_so n s (part whole s) (part st s) (part_below n st s))
+      (refresh_job_list (puts_some puts) (weight_some weight) some_lighter_so _ _ (some_state whole) _ s (events_made (all_made w)) (answers_made (all_made w)) _
+      (near_before c puts st names kinds w a [] tt [] tt) (some_used whole s (used_below n st s used)) (some_active whole s (active_below n st s active)) (whole_job w)
+      (legal c puts st names kinds w a [] tt [] tt) (put_so c puts st names kinds w a [] tt [] tt)))

@@ -14,4 +14,7 @@ pub mod Outlines
 pub mod Begins
 pub mod Reclaiming
 pub mod Below
+pub mod Shown
 pub mod Orderly
+pub mod Forgotten
+pub mod Turns

@@ -1,25 +1,27 @@
 -- A state that hands hold is orderly: what the list shows of a slot and of a retired batch says so.
-use Rattle.std.proofs.Common.{◌≡◌, ℕ, zero, suc, ◌<◌, ◌≤◌, ◌==◌, Bool, true, false, not, if◌then◌else◌, List, [], ◌∷◌, length, map, get_or, Option, Some, None, refl, sym, ◌∙◌, ap, subst, inl, inr, arith}
+use Rattle.std.proofs.Common.{◌≡◌, ℕ, zero, suc, ◌+◌, ◌<◌, ◌≤◌, ◌==◌, Bool, true, false, not, if◌then◌else◌, List, [], ◌∷◌, length, map, get_or, Option, Some, None, refl, sym, ◌∙◌, ap, subst, inl, inr, arith}
 use Rattle.std.specs.List.{Contains, list_any}
 use Rattle.std.proofs.lemmas.List.{set-get_or}
 use base.Stored.{Gv}
 use Rattle.seize_machine.specs.Machine.State as machine
-use Rattle.seize_machine.specs.Machine.State.{Active, Head, Inactive, are_distinct, batch_at, has, head_at, linked_values, waiting_at}
+use Rattle.seize_machine.specs.Machine.State.{Active, Head, Inactive, are_distinct, batch_at, has, linked_values, waiting_at}
 use Rattle.seize_machine.specs.Machine.History.{answers_of}
 use Rattle.seize_machine.specs.Machine.Laws.{IsHeld, detached_by, walk_of}
 use Rattle.seize_machine.proofs.Facts.{law_holders}
 use Rattle.seize_model.specs.Waiting.State as waiting
-use Rattle.seize_model.specs.Waiting.Calls.{is_owned, set_guards}
-use Rattle.seize_model.specs.Agreement.Shows.{ShowsSlot, head_of}
+use Rattle.seize_model.specs.Waiting.Calls.{is_free, is_owned, set_guards}
+use Rattle.seize_model.specs.Agreement.Shows.{head_of}
 use Rattle.seize_model.proofs.Cases.{or_false}
 use Rattle.seize_book.specs.Book.{IsLegalList, after, moments}
 use Rattle.seize_book.specs.Entry.{Entry, events_of}
 use Rattle.seize_book.specs.Tokens.{Name, start}
 use Rattle.seize_book.proofs.Facts.{as_legal, equal}
-use Rattle.seize_alone.specs.Holding.{Holds, found, some_slot, some_state, some_value}
+use Rattle.seize_alone.specs.Holding.{Holds, HoldsAll, found, some_slot, some_state, some_value, with_gone_below}
 use Rattle.seize_alone.specs.Reclaiming.{IsOrderly, OrderlyHeld}
 use Rattle.seize_alone.proofs.Begins.{all_out, nothing_in}
-use Rattle.seize_alone.proofs.Mapped.{get_map, retired_same, slot_same}
+use Rattle.seize_alone.proofs.Mapped.{retired_same}
+use Rattle.seize_alone.proofs.Below.{get_below, kept_below, slot_below}
+use Rattle.seize_alone.proofs.Shown.{head_all, owned_shown, slot_all}
 
 none_has : (xs : List ℕ) (b i : ℕ) → has b xs ≡ false → i < length xs → get_or xs i b ≡ b → ⊥
 none_has [] b i none h is = omega (arith, h)
@@ -43,31 +45,23 @@ unlisted slot b none = go (waiting.has_guard slot)
     go true c = none_has slot.order b c.0 none c.1 c.2
     go false c = nothing_in [] b refl c
 
+-- with all retired batches
 module _ {T : Type 0} (code : T → Gv) (st : waiting.State T ℕ) (names : List (ℕ × T)) (kinds : List (ℕ × ℕ)) (n : Name) (seen : List Entry)
-    (legal : IsLegalList (start n) seen) (distinct : are_distinct (linked_values n.links) ≡ true) (holds : Holds code st names kinds n seen) where
+    (legal : IsLegalList (start n) seen) (distinct : are_distinct (linked_values n.links) ≡ true) (holds : HoldsAll code st names kinds n seen) where
   abbrev now : machine.State
   now = after (start n) seen
-
-  shown : (s : ℕ) → ShowsSlot (Option T) (Option ℕ) (found names) (some_slot (waiting.slot_at st s)) (machine.slot_at (after (start n) seen) s)
-  shown s = subst (λ (x : waiting.Slot (Option T) (Option ℕ)). ShowsSlot (Option T) (Option ℕ) (found names) x (machine.slot_at now s)) (slot_same st s) (holds.shows.slot s)
-
-  head_is : (s : ℕ) → head_at (after (start n) seen) s ≡ head_of (some_slot (waiting.slot_at st s))
-  head_is s =
-      ap (λ (l : List Head). get_or l s Inactive) holds.shows.heads
-      ∙ get_map head_of (some_state st).slots s waiting.no_slot Inactive refl
-      ∙ ap (λ (x : waiting.Slot (Option T) (Option ℕ)). head_of x) (slot_same st s)
 
   unheld : (b : ℕ) → waiting.is_kept st b ≡ false → IsHeld (after (start n) seen) b → ⊥
   unheld b none (inl held) =
       unlisted (some_slot (waiting.slot_at st held.0)) b (none_at (waiting.waits_for b) st.slots held.0 waiting.no_slot refl none)
-      (subst (λ (h : Head). Contains (waiting_at h) b) (head_is held.0) held.1)
-  unheld b none (inr (inl held)) = nothing_in _ b (ap walk_of (shown held.0).idle) held.1
-  unheld b none (inr (inr held)) = let is : None ≡ Some b = sym (ap detached_by (shown held.0).idle) ∙ held.1 in cc
+      (subst (λ (h : Head). Contains (waiting_at h) b) (head_all holds held.0) held.1)
+  unheld b none (inr (inl held)) = nothing_in _ b (ap walk_of (slot_all holds held.0).idle) held.1
+  unheld b none (inr (inr held)) = let is : None ≡ Some b = sym (ap detached_by (slot_all holds held.0).idle) ∙ held.1 in cc
 
   orderly : IsOrderly st
   orderly = record {
-    free = λ s. (shown s).free;
-    inactive = λ s. (shown s).inactive;
+    free = λ s. (slot_all holds s).free;
+    inactive = λ s. (slot_all holds s).inactive;
     gone = λ b none.
         let holders = law_holders n.slots n.links (events_of seen) (answers_of (moments (start n) seen)) now distinct (as_legal (start n) seen legal) in
         let values : (batch_at now b).values ≡ [] = all_out _ (λ v c. unheld b none (holders b v c)) in
@@ -75,16 +69,25 @@ module _ {T : Type 0} (code : T → Gv) (st : waiting.State T ℕ) (names : List
         (sym (retired_same st b) ∙ map_nothing (λ (v : Option T × Option ℕ). v.0) (waiting.retired_at (some_state st) b) (sym (holds.shows.values b) ∙ ap (map (found names)) values));
   }
 
+-- and without those that are gone below
+orderly_above : {T : Type 0} (n : ℕ) (st : waiting.State T ℕ) → IsOrderly (with_gone_below n st) → IsOrderly st
+orderly_above {T} n st o = record {
+  free = λ s. subst (λ (slot : waiting.Slot T ℕ). is_free slot.kind ≡ true → slot.guards ≡ 0) (slot_below n st s) (o.free s);
+  inactive = λ s off.
+      map_nothing (λ (b : ℕ). n + b) (waiting.slot_at st s).order
+      (subst (λ (slot : waiting.Slot T ℕ). waiting.has_guard slot ≡ false → slot.order ≡ []) (slot_below n st s) (o.inactive s) off);
+  gone = λ b none. sym (get_below n (n + b) b st.retired refl) ∙ o.gone (n + b) (kept_below n st b ∙ none);
+}
+
 -- an owned slot has one guard at most
 pub owned_guard : {T : Type 0} (code : T → Gv) (st : waiting.State T ℕ) (names : List (ℕ × T)) (kinds : List (ℕ × ℕ)) (n : Name) (seen : List Entry) (s : ℕ) → Holds code st names kinds n seen
     → is_owned (waiting.slot_at st s).kind ≡ true → waiting.has_guard (waiting.slot_at st s) ≡ true → set_guards st s 1 ≡ st
 owned_guard {T} code st names kinds n seen s holds owned on =
-    let shown : ShowsSlot (Option T) (Option ℕ) (found names) (some_slot (waiting.slot_at st s)) (machine.slot_at (after (start n) seen) s) =
-    subst (λ (x : waiting.Slot (Option T) (Option ℕ)). ShowsSlot (Option T) (Option ℕ) (found names) x (machine.slot_at (after (start n) seen) s)) (slot_same st s) (holds.shows.slot s) in
-    ap (λ (k : ℕ). set_guards st s k) (sym (one (waiting.slot_at st s).guards (shown.owned owned) on)) ∙ ap (λ (l : List (waiting.Slot T ℕ)). record st { slots = l }) (set-get_or st.slots s waiting.no_slot)
+    ap (λ (k : ℕ). set_guards st s k) (sym (one (waiting.slot_at st s).guards (owned_shown holds s owned) on)) ∙ ap (λ (l : List (waiting.Slot T ℕ)). record st { slots = l }) (set-get_or st.slots s waiting.no_slot)
   where
     one : (k : ℕ) → k ≤ 1 → not (k == 0) ≡ true → k ≡ 1
     one k few some = grind arith
 
 pub orderly_held : {T : Type 0} (code : T → Gv) → OrderlyHeld code
-orderly_held code st names kinds n seen legal distinct holds = orderly code st names kinds n seen legal distinct holds
+orderly_held code st names kinds n seen legal distinct holds =
+    orderly_above holds.gone st (orderly code (with_gone_below holds.gone st) names kinds n seen legal distinct holds.all)

@@ -3,11 +3,12 @@
 --     freed slot, emptied kind     a slot that parted and gave its number back;  one that left without a batch
 --     turn_parts, parted_all       a slot's first step is a parting, and what the slots are after all of them
 --     batch_goes, batches_go       a slot's batch goes, and all batches go
---     numbers_go                   the numbers go back
+--     numbers_go                   the numbers go back, last first
 --     parted_clean                 partings leave no values in a retired batch that waits for no slot
 --     in_turn_is                   all steps, by the slots after the partings
-use Rattle.std.proofs.Common.{◌≡◌, ◌≢◌, ℕ, zero, suc, ◌+◌, ◌-◌, ◌<◌, ◌≤◌, ◌==◌, ◌||◌, Bool, true, false, not, if◌then◌else◌, nat_lt, List, [], ◌∷◌, ◌++◌, length, map, get_or, set, replicate, refl, sym, ◌∙◌, ap, subst, ◌⊎◌, inl, inr, arith}
+use Rattle.std.proofs.Common.{◌≡◌, ◌≢◌, ℕ, zero, suc, ◌+◌, ◌-◌, ◌<◌, ◌≤◌, ◌==◌, ◌||◌, Bool, true, false, not, if◌then◌else◌, nat_lt, List, [], ◌∷◌, ◌++◌, length, map, get_or, set, replicate, reverse, refl, sym, ◌∙◌, ap, subst, ◌⊎◌, inl, inr, arith}
 use Rattle.std.specs.List.{count_by, flat_map, list_any, range_with_len}
+use mathlib.Core.List.{reverse-cons}
 use Rattle.std.proofs.lemmas.List.{append-nil, append_assoc, get_or-set_other, get_or-set_same, length-map, length-set, set-get_or, set-set}
 use Rattle.std.proofs.lemmas.List.Concat.{flat_map-cons}
 use Rattle.std.proofs.lemmas.Grind.{common_steps}
@@ -24,7 +25,8 @@ use Rattle.seize_model.proofs.Cases.{or_same}
 use Rattle.seize_model.proofs.Counts.{any_counts, count_same}
 use Rattle.seize_model.proofs.WaitingSets.GoneBatches.{IsClean}
 use Rattle.seize_model.proofs.WaitingSets.LinkCounts.{releases_beside}
-use Rattle.seize_alone.specs.Reclaiming.{IsOrderly, ReclaimsInTurn, batch_in_turn, batches_in_turn, entered_as, in_turn, numbers_in_turn, part_in_turn, parts_in_turn, with_gone_below, with_order_from}
+use Rattle.seize_alone.specs.Holding.{with_gone_below, with_order_from}
+use Rattle.seize_alone.specs.Reclaiming.{IsOrderly, ReclaimsInTurn, batch_in_turn, batches_in_turn, entered_as, in_turn, numbers_in_turn, part_in_turn, parts_in_turn}
 use Rattle.seize_alone.proofs.Mapped.{any_map, set_map}
 
 -- Element after element.
@@ -40,6 +42,13 @@ from_next f zero [] d h = absurd (omega (arith, h))
 from_next f zero (x ∷ xs) d h = refl
 from_next f (suc k) [] d h = absurd (omega (arith, h))
 from_next f (suc k) (x ∷ xs) d h = ap (λ rest. x ∷ rest) (from_next f k xs d (omega (arith, h)))
+
+from_before : {X : Type 0} (f : X → X) (k : ℕ) (xs : List X) (d : X) → k < length xs → set (from f (suc k) xs) k (f (get_or (from f (suc k) xs) k d)) ≡ from f k xs
+unfolding from
+from_before f zero [] d h = absurd (omega (arith, h))
+from_before f zero (x ∷ xs) d h = refl
+from_before f (suc k) [] d h = absurd (omega (arith, h))
+from_before f (suc k) (x ∷ xs) d h = ap (λ rest. x ∷ rest) (from_before f k xs d (omega (arith, h)))
 
 from_end : {X : Type 0} (f : X → X) (k : ℕ) (xs : List X) → length xs ≤ k → from f k xs ≡ xs
 unfolding from
@@ -393,15 +402,20 @@ module _ {T R : Type 0} where
 
   -- The third steps: the numbers.
 
-  numbers_go : (n k : ℕ) (st : State T R) → k + n ≡ length st.slots → numbers_in_turn st (range_with_len k n) ≡ record st { slots = from (λ (slot : Slot T R). record slot { kind = Free; guards = 0 }) k st.slots }
+  numbers_append : (st : State T R) (ss ts : List ℕ) → numbers_in_turn st (ss ++ ts) ≡ numbers_in_turn (numbers_in_turn st ss) ts
+  numbers_append st [] ts = refl
+  numbers_append st (s ∷ ss) ts = numbers_append (with_number_free st s) ss ts
+
+  numbers_go : (n k : ℕ) (st : State T R) → k + n ≡ length st.slots → numbers_in_turn st (reverse (range_with_len k n)) ≡ record st { slots = from (λ (slot : Slot T R). record slot { kind = Free; guards = 0 }) k st.slots }
   numbers_go zero k st h = ap (λ (l : List (Slot T R)). record st { slots = l }) (sym (from_end (λ (slot : Slot T R). record slot { kind = Free; guards = 0 }) k st.slots (omega (arith, h))))
   numbers_go (suc n) k st h =
       let within : k < length st.slots = omega (arith, h) in
       let one : k + 1 ≡ suc k = omega arith in
       let free : Slot T R → Slot T R = λ slot. record slot { kind = Free; guards = 0 } in
-      numbers_go n (k + 1) (with_number_free st k) (omega (arith, h, length-set st.slots k (free (slot_at st k))))
-      ∙ ap (λ (m : ℕ). record st { slots = from free m (set st.slots k (free (slot_at st k))) }) one
-      ∙ ap (λ (l : List (Slot T R)). record st { slots = l }) (from_next free k st.slots no_slot within)
+      ap (numbers_in_turn st) (reverse-cons k (range_with_len (k + 1) n)) ∙ numbers_append st (reverse (range_with_len (k + 1) n)) (k ∷ [])
+      ∙ ap (λ (now : State T R). with_number_free now k) (numbers_go n (k + 1) st (omega (arith, h)))
+      ∙ ap (λ (m : ℕ). with_number_free (record st { slots = from free m st.slots }) k) one
+      ∙ ap (λ (l : List (Slot T R)). record st { slots = l }) (from_before free k st.slots no_slot within)
 
 -- Retired batches: those that wait for no slot are gone.
 
@@ -539,7 +553,7 @@ module _ {T R : Type 0} where
     unfolding from flat_from
     batches_away = batches_go kind (length st.slots) 0 parted.0 parted_many parted_quiet
 
-    numbers_back : numbers_in_turn away.0 all ≡ reclaimed.0
+    numbers_back : numbers_in_turn away.0 (reverse all) ≡ reclaimed.0
     unfolding from
     numbers_back =
         numbers_go (length st.slots) 0 away.0 (parted_many ∙ sym (length-map parted.0.slots (λ (slot : Slot T R). emptied kind)))
@@ -549,7 +563,7 @@ module _ {T R : Type 0} where
 
     pub in_turn_is : in_turn kind st ≡ reclaimed
     in_turn_is =
-        let ends : StateAndGone T R → StateAndGone T R → StateAndGone T R = λ p b. (numbers_in_turn b.0 all, p.1 ++ b.1) in
+        let ends : StateAndGone T R → StateAndGone T R → StateAndGone T R = λ p b. (numbers_in_turn b.0 (reverse all), p.1 ++ b.1) in
         ap (λ (p : StateAndGone T R). ends p (batches_in_turn kind p.0 all)) (parts_are (length st.slots) 0 st whole (λ s. (o.free s, o.inactive s)))
         ∙ ap (ends parted) batches_away
         ∙ (λ i. (numbers_back i, parted.1 ++ flat_map (λ (slot : Slot T R). slot.batch) parted.0.slots))

@@ -27,7 +27,8 @@ use Rattle.seize_book.specs.Slots.{slot_number}
 use Rattle.seize_book.specs.Tokens.{Name, start}
 use Rattle.seize_book.specs.declared.book.pass.Pass.{Pass}
 use Rattle.seize_alone.specs.Events.{EntersHeld, GivesHeld, GuardsHeld, IsHeldAs, MakesAlone, OpensHeld, OwnedLeavesHeld, ReadsHeld, SwapsHeld, TakesHeld}
-use Rattle.seize_alone.specs.Holding.{AreLent, AreOfKinds, Holds, found, some_state}
+use Rattle.seize_alone.specs.Holding.{AreLent, AreOfKinds, Holds, found, some_state, with_gone_below}
+use Rattle.seize_alone.proofs.Below.{active_below, free_below, guards_below, least_below, off_below, slot_below, use_below, used_below}
 use Rattle.seize_alone.proofs.Found.{all_later, found_lent, has_first, has_right, lent_append, lent_found, one_lent, reclaimers_on, same_some, shows_on}
 use Rattle.seize_alone.proofs.Held.{answered, guarded, not_refused, parts_held, some_active, some_used}
 use Rattle.seize_alone.proofs.Mapped.{free_same, guards_same, least_same, link_same, slot_same, swap_same, use_same}
@@ -53,20 +54,23 @@ module _ {T : Type 0} (c : Coded T) where
   abbrev NearHands : List (ℕ × T) → List (ℕ × ℕ) → waiting.State T ℕ → machine.State → Type 0
   NearHands names kinds st ms = NearAt (with_reclaimers (found names) (found kinds)) [] (some_state st) ms
 
-  pub near_of : (st : waiting.State T ℕ) (names : List (ℕ × T)) (kinds : List (ℕ × ℕ)) (n : Name) (seen : List Entry) → Holds c.code st names kinds n seen → NearHands names kinds st (after (start n) seen)
-  near_of st names kinds n seen holds = near_with (found names) (found kinds) (some_state st) (after (start n) seen) holds.shows holds.reclaimers
+  -- what the list shows: the state, with the retired batches that the hands have forgotten
+  pub near_of : (st : waiting.State T ℕ) (names : List (ℕ × T)) (kinds : List (ℕ × ℕ)) (n : Name) (seen : List Entry) (holds : Holds c.code st names kinds n seen) → NearHands names kinds (with_gone_below holds.gone st) (after (start n) seen)
+  near_of st names kinds n seen holds = near_with (found names) (found kinds) (some_state (with_gone_below holds.gone st)) (after (start n) seen) holds.all.shows holds.all.reclaimers
 
-  pub held_of : (st : waiting.State T ℕ) (names : List (ℕ × T)) (kinds : List (ℕ × ℕ)) (n : Name) (seen : List Entry) → AreLent c.code names → AreOfKinds seen kinds → NearHands names kinds st (after (start n) seen) → Holds c.code st names kinds n seen
-  held_of st names kinds n seen lent told near =
-      let both : ShowsState (Option T) (Option ℕ) (found names) (some_state st) (after (start n) seen) × ShowsReclaimers (Option T) (Option ℕ) (found names) (found kinds) (some_state st) (after (start n) seen) =
-      shows_with (found names) (found kinds) (some_state st) (after (start n) seen) near in
-      record { shows = both.0; reclaimers = both.1; lent = lent; told = told }
+  pub held_of : (gone : ℕ) (st : waiting.State T ℕ) (names : List (ℕ × T)) (kinds : List (ℕ × ℕ)) (n : Name) (seen : List Entry) → AreLent c.code names → AreOfKinds seen kinds → NearHands names kinds (with_gone_below gone st) (after (start n) seen)
+      → Holds c.code st names kinds n seen
+  held_of gone st names kinds n seen lent told near =
+      let whole : waiting.State T ℕ = with_gone_below gone st in
+      let both : ShowsState (Option T) (Option ℕ) (found names) (some_state whole) (after (start n) seen) × ShowsReclaimers (Option T) (Option ℕ) (found names) (found kinds) (some_state whole) (after (start n) seen) =
+      shows_with (found names) (found kinds) (some_state whole) (after (start n) seen) near in
+      record { gone = gone; all = record { shows = both.0; reclaimers = both.1; lent = lent; told = told } }
 
   -- the hands hold another state by the same names and kinds
-  held_made : {pass pass' : Pass} {event : Event} {answer : Answer} (m : MakesAlone pass pass' event answer) (st now : waiting.State T ℕ) (now' : waiting.State (Option T) (Option ℕ)) (names : List (ℕ × T)) (kinds : List (ℕ × ℕ)) → Holds c.code st names kinds pass.name pass.seen → now' ≡ some_state now
-      → NearAt (with_reclaimers (found names) (found kinds)) [] now' (state_then m) → Holds c.code now names kinds pass'.name pass'.seen
+  held_made : {pass pass' : Pass} {event : Event} {answer : Answer} (m : MakesAlone pass pass' event answer) (st now : waiting.State T ℕ) (now' : waiting.State (Option T) (Option ℕ)) (names : List (ℕ × T)) (kinds : List (ℕ × ℕ)) (holds : Holds c.code st names kinds pass.name pass.seen)
+      → now' ≡ some_state (with_gone_below holds.gone now) → NearAt (with_reclaimers (found names) (found kinds)) [] now' (state_then m) → Holds c.code now names kinds pass'.name pass'.seen
   held_made {pass} {pass'} m st now now' names kinds holds is near =
-      held_of now names kinds pass'.name pass'.seen holds.lent (all_later pass.seen pass'.seen (made_grows m) kinds holds.told)
+      held_of holds.gone now names kinds pass'.name pass'.seen holds.all.lent (all_later pass.seen pass'.seen (made_grows m) kinds holds.all.told)
       (subst (λ (x : waiting.State (Option T) (Option ℕ)). NearAt (with_reclaimers (found names) (found kinds)) [] x (state_then m)) is near)
 
   -- A book just opened.
@@ -80,11 +84,14 @@ module _ {T : Type 0} (c : Coded T) where
       let started : start n ≡ machine.opening 0 (replicate links None) = λ i. machine.opening (slots i) (empty i) in
       let model : some_state (waiting.new {T = T} {R = ℕ} size links) ≡ waiting.new size links = ap (λ (l : List (Option (Option T))). record (waiting.new {T = Option T} {R = Option ℕ} size links) { links = l }) (all_empty links) in
       record {
-        shows = subst (λ (k : machine.State). ShowsState (Option T) (Option ℕ) (found []) (some_state (waiting.new {T = T} {R = ℕ} size links)) k) (sym started)
-            (subst (λ (x : waiting.State (Option T) (Option ℕ)). ShowsState (Option T) (Option ℕ) (found []) x (machine.opening 0 (replicate links None))) (sym model) (new_shown (found []) size links));
-        reclaimers = subst (λ (k : machine.State). ShowsReclaimers (Option T) (Option ℕ) (found []) (found []) (some_state (waiting.new {T = T} {R = ℕ} size links)) k) (sym started) (record { batches = λ s. refl; retired = λ b. refl });
-        lent = tt;
-        told = tt;
+        gone = 0;
+        all = record {
+          shows = subst (λ (k : machine.State). ShowsState (Option T) (Option ℕ) (found []) (some_state (waiting.new {T = T} {R = ℕ} size links)) k) (sym started)
+              (subst (λ (x : waiting.State (Option T) (Option ℕ)). ShowsState (Option T) (Option ℕ) (found []) x (machine.opening 0 (replicate links None))) (sym model) (new_shown (found []) size links));
+          reclaimers = subst (λ (k : machine.State). ShowsReclaimers (Option T) (Option ℕ) (found []) (found []) (some_state (waiting.new {T = T} {R = ℕ} size links)) k) (sym started) (record { batches = λ s. refl; retired = λ b. refl });
+          lent = tt;
+          told = tt;
+        };
       }
 
   some_inactive : (st : waiting.State T ℕ) (s : ℕ) → waiting.has_guard (waiting.slot_at st s) ≡ false → waiting.has_guard (waiting.slot_at (some_state st) s) ≡ false
@@ -94,48 +101,59 @@ module _ {T : Type 0} (c : Coded T) where
 
   pub enters_held : EntersHeld c.code
   enters_held st names kinds s answer pass pass' m holds used off =
+      let n = holds.gone in let whole : waiting.State T ℕ = with_gone_below holds.gone st in
       let near = near_of st names kinds pass.name pass.seen holds in
-      let ends = both_same (state_then m, answer) (_, Done) (sym (made_next m) ∙ enter_step (with_reclaimers (found names) (found kinds)) m.deed.size (some_state st) (state_before m) s near (some_used st s used) (some_inactive st s off)) in
-      held_made m st (set_guards st s 1) _ names kinds holds (guards_same st s 1)
-      (subst (λ (k : machine.State). NearAt (with_reclaimers (found names) (found kinds)) [] (set_guards (some_state st) s 1) k) (sym ends.0)
-      (near_entered (with_reclaimers (found names) (found kinds)) (some_state st) (state_before m) s 1 near (some_used st s used) (some_inactive st s off) (omega arith) (λ owned. omega arith)))
+      let used_so = some_used whole s (used_below n st s used) in let off_so = some_inactive whole s (off_below n st s off) in
+      let ends = both_same (state_then m, answer) (_, Done) (sym (made_next m) ∙ enter_step (with_reclaimers (found names) (found kinds)) m.deed.size (some_state whole) (state_before m) s near used_so off_so) in
+      held_made m st (set_guards st s 1) _ names kinds holds (guards_same whole s 1 ∙ ap some_state (guards_below n st s 1))
+      (subst (λ (k : machine.State). NearAt (with_reclaimers (found names) (found kinds)) [] (set_guards (some_state whole) s 1) k) (sym ends.0)
+      (near_entered (with_reclaimers (found names) (found kinds)) (some_state whole) (state_before m) s 1 near used_so off_so (omega arith) (λ owned. omega arith)))
 
   pub gives_held : GivesHeld c.code
   gives_held st names kinds s answer pass pass' m holds used off =
+      let n = holds.gone in let whole : waiting.State T ℕ = with_gone_below holds.gone st in
       let near = near_of st names kinds pass.name pass.seen holds in
-      let ends = both_same (state_then m, answer) (_, Done) (sym (made_next m) ∙ end_step (with_reclaimers (found names) (found kinds)) (some_state st) (state_before m) s near (some_used st s used) (some_inactive st s off)) in
-      held_made m st (with_number_free st s) _ names kinds holds (free_same st s)
-      (subst (λ (k : machine.State). NearAt (with_reclaimers (found names) (found kinds)) [] (with_number_free (some_state st) s) k) (sym ends.0)
-      (end_near (with_reclaimers (found names) (found kinds)) (some_state st) (state_before m) s near (some_used st s used) (some_inactive st s off)))
+      let used_so = some_used whole s (used_below n st s used) in let off_so = some_inactive whole s (off_below n st s off) in
+      let ends = both_same (state_then m, answer) (_, Done) (sym (made_next m) ∙ end_step (with_reclaimers (found names) (found kinds)) (some_state whole) (state_before m) s near used_so off_so) in
+      held_made m st (with_number_free st s) _ names kinds holds (free_same whole s ∙ ap some_state (free_below n st s))
+      (subst (λ (k : machine.State). NearAt (with_reclaimers (found names) (found kinds)) [] (with_number_free (some_state whole) s) k) (sym ends.0)
+      (end_near (with_reclaimers (found names) (found kinds)) (some_state whole) (state_before m) s near used_so off_so))
 
   pub takes_held : TakesHeld c.code
   takes_held st names kinds n kind answer pass pass' m holds used =
+      let whole : waiting.State T ℕ = with_gone_below holds.gone st in
       let near = near_of st names kinds pass.name pass.seen holds in
-      let ends = take_ends (with_reclaimers (found names) (found kinds)) m.deed.size (some_state st) (state_before m) (state_then m) n answer kind near (made_next m) used in
-      (ends.0 ∙ least_same st.slots, ends.1, held_made m st (with_number_in_use st n kind 0) _ names kinds holds (use_same st n kind 0) ends.2)
+      let ends = take_ends (with_reclaimers (found names) (found kinds)) m.deed.size (some_state whole) (state_before m) (state_then m) n answer kind near (made_next m) used in (
+        ends.0 ∙ least_same whole.slots ∙ least_below holds.gone st.slots,
+        ends.1,
+        held_made m st (with_number_in_use st n kind 0) _ names kinds holds (use_same whole n kind 0 ∙ ap some_state (use_below holds.gone st n kind 0)) ends.2,
+      )
 
   -- Guards beside others.
 
   pub guards_held : GuardsHeld c.code
   guards_held st names kinds s guards pass holds kind active some =
-      let owned : is_owned (waiting.slot_at (some_state st) s).kind ≡ false = ap (λ (slot : waiting.Slot (Option T) (Option ℕ)). is_owned slot.kind) (slot_same st s) ∙ ap is_owned kind in
-      held_of (set_guards st s guards) names kinds pass.name pass.seen holds.lent holds.told
-      (subst (λ (x : waiting.State (Option T) (Option ℕ)). NearAt (with_reclaimers (found names) (found kinds)) [] x (after (start pass.name) pass.seen)) (guards_same st s guards)
-      (near_guards (with_reclaimers (found names) (found kinds)) (some_state st) (after (start pass.name) pass.seen) s guards (near_of st names kinds pass.name pass.seen holds)
-      (some_used st s (ap is_free kind)) (some_active st s active) some (λ is. absurd (let e : true ≡ false = sym is ∙ owned in cc))))
+      let n = holds.gone in let whole : waiting.State T ℕ = with_gone_below holds.gone st in
+      let owned : is_owned (waiting.slot_at (some_state whole) s).kind ≡ false =
+      ap (λ (slot : waiting.Slot (Option T) (Option ℕ)). is_owned slot.kind) (slot_same whole s) ∙ ap (λ (slot : waiting.Slot T ℕ). is_owned slot.kind) (slot_below n st s) ∙ ap is_owned kind in
+      held_of n (set_guards st s guards) names kinds pass.name pass.seen holds.all.lent holds.all.told
+      (subst (λ (x : waiting.State (Option T) (Option ℕ)). NearAt (with_reclaimers (found names) (found kinds)) [] x (after (start pass.name) pass.seen)) (guards_same whole s guards ∙ ap some_state (guards_below n st s guards))
+      (near_guards (with_reclaimers (found names) (found kinds)) (some_state whole) (after (start pass.name) pass.seen) s guards (near_of st names kinds pass.name pass.seen holds)
+      (some_used whole s (used_below n st s (ap is_free kind))) (some_active whole s (active_below n st s active)) some (λ is. absurd (let e : true ≡ false = sym is ∙ owned in cc))))
 
   -- Links.
 
   -- what a link holds on both sides
   pub link_held : (st : waiting.State T ℕ) (names : List (ℕ × T)) (kinds : List (ℕ × ℕ)) (n : Name) (seen : List Entry) (l : ℕ) → Holds c.code st names kinds n seen → IsHeldAs c.code (machine.link_at (after (start n) seen) l) (link_at st l)
   link_held st names kinds n seen l holds =
-      held_by (machine.link_at (after (start n) seen) l) (link_at st l) (sym (link_same st l) ∙ same_link (with_reclaimers (found names) (found kinds)) (some_state st) (after (start n) seen) l (near_of st names kinds n seen holds))
+      let whole : waiting.State T ℕ = with_gone_below holds.gone st in
+      held_by (machine.link_at (after (start n) seen) l) (link_at st l) (sym (link_same whole l) ∙ same_link (with_reclaimers (found names) (found kinds)) (some_state whole) (after (start n) seen) l (near_of st names kinds n seen holds))
     where
       held_by : (o : Option ℕ) (value : Option T) → option_map Some value ≡ held_value (found names) o → IsHeldAs c.code o value
       held_by None None is = tt
       held_by None (Some x) is = absurd (cc)
       held_by (Some v) None is = absurd (cc)
-      held_by (Some v) (Some x) is = lent_found c names holds.lent v x (sym (same_some (Some x) (found names v) is))
+      held_by (Some v) (Some x) is = lent_found c names holds.all.lent v x (sym (same_some (Some x) (found names v) is))
 
   same_answer : (o o' : Option ℕ) → Link o ≡ Link o' → o ≡ o'
   same_answer o o' e = ap in_link e
@@ -149,7 +167,7 @@ module _ {T : Type 0} (c : Coded T) where
       let near = near_of st names kinds pass.name pass.seen holds in
       let done = if_some (can_link (state_before m) s l) (state_before m, Link (machine.link_at (state_before m) l)) (state_then m, Link o) (made_next m) in
       let ends = both_same (state_before m, Link (machine.link_at (state_before m) l)) (state_then m, Link o) (ap Some done.1) in (
-        held_made m st st _ names kinds holds refl (subst (λ (k : machine.State). NearHands names kinds st k) ends.0 near),
+        held_made m st st _ names kinds holds refl (subst (λ (k : machine.State). NearHands names kinds (with_gone_below holds.gone st) k) ends.0 near),
         subst (λ (x : Option ℕ). IsHeldAs c.code x (link_at st l)) (same_answer (machine.link_at (state_before m) l) o ends.1) (link_held st names kinds pass.name pass.seen l holds),
       )
 
@@ -160,7 +178,7 @@ module _ {T : Type 0} (c : Coded T) where
 
   pub swaps_held : SwapsHeld c.code
   swaps_held st names kinds s l number o new pass pass' m holds held = (
-    (names ++ more, record { shows = both.0; reclaimers = both.1; lent = lent_then; told = all_later pass.seen pass'.seen (made_grows m) kinds holds.told }),
+    (names ++ more, record { gone = holds.gone; all = record { shows = both.0; reclaimers = both.1; lent = lent_then; told = all_later pass.seen pass'.seen (made_grows m) kinds holds.all.told } }),
     subst (λ (x : Option ℕ). IsHeldAs c.code x (link_at st l)) (same_answer (machine.link_at (state_before m) l) o ends.1) (link_held st names kinds pass.name pass.seen l holds),
   )
     where
@@ -174,7 +192,7 @@ module _ {T : Type 0} (c : Coded T) where
       lent_more (Some v) (Some x) is = (is, tt)
 
       lent_then : AreLent c.code (names ++ more)
-      lent_then = lent_append c names more holds.lent (lent_more number new held)
+      lent_then = lent_append c names more holds.all.lent (lent_more number new held)
 
       named : (n : Option ℕ) (x : Option T) → IsHeldAs c.code n x → AreLent c.code (names ++ new_names n x) → held_value (found (names ++ new_names n x)) n ≡ option_map Some x
       named None None is lent = refl
@@ -182,21 +200,27 @@ module _ {T : Type 0} (c : Coded T) where
       named (Some v) None is lent = absurd is
       named (Some v) (Some x) is lent = ap Some (found_lent c (names ++ (v, x) ∷ []) lent v x is (has_right names ((v, x) ∷ []) v (has_first (v, x) [])))
 
-      near : NearHands (names ++ more) kinds st (state_before m)
-      near = near_with (found (names ++ more)) (found kinds) (some_state st) (state_before m) (shows_on names more kinds [] st (state_before m) holds.shows)
-          (subst (λ (ks : List (ℕ × ℕ)). ShowsReclaimers (Option T) (Option ℕ) (found (names ++ more)) (found ks) (some_state st) (state_before m)) (append-nil kinds) (reclaimers_on names more kinds [] st (state_before m) holds.reclaimers))
+      whole : waiting.State T ℕ
+      whole = with_gone_below holds.gone st
+
+      near : NearHands (names ++ more) kinds whole (state_before m)
+      near = near_with (found (names ++ more)) (found kinds) (some_state whole) (state_before m) (shows_on names more kinds [] whole (state_before m) holds.all.shows)
+          (subst (λ (ks : List (ℕ × ℕ)). ShowsReclaimers (Option T) (Option ℕ) (found (names ++ more)) (found ks) (some_state whole) (state_before m)) (append-nil kinds) (reclaimers_on names more kinds [] whole (state_before m) holds.all.reclaimers))
 
       ends : (swapped (state_before m) l number ≡ state_then m) × (Link (machine.link_at (state_before m) l) ≡ Link o)
       ends = both_same (swapped (state_before m) l number, Link (machine.link_at (state_before m) l)) (state_then m, Link o)
           (ap Some (if_some (can_link (state_before m) s l && is_none_or_fresh (state_before m) number) (swapped (state_before m) l number, Link (machine.link_at (state_before m) l)) (state_then m, Link o) (made_next m)).1)
 
-      near_then : NearHands (names ++ more) kinds (record st { links = set st.links l new }) (state_then m)
-      near_then = subst (λ (k : machine.State). NearHands (names ++ more) kinds (record st { links = set st.links l new }) k) ends.0
-          (subst (λ (x : waiting.State (Option T) (Option ℕ)). NearAt (with_reclaimers (found (names ++ more)) (found kinds)) [] x (swapped (state_before m) l number)) (swap_same st l new)
-          (swapped_near (with_reclaimers (found (names ++ more)) (found kinds)) (some_state st) (state_before m) l number (option_map Some new) near (named number new held lent_then)))
+      then_whole : waiting.State T ℕ
+      then_whole = with_gone_below holds.gone (record st { links = set st.links l new })
 
-      both : ShowsState (Option T) (Option ℕ) (found (names ++ more)) (some_state (record st { links = set st.links l new })) (state_then m) × ShowsReclaimers (Option T) (Option ℕ) (found (names ++ more)) (found kinds) (some_state (record st { links = set st.links l new })) (state_then m)
-      both = shows_with (found (names ++ more)) (found kinds) (some_state (record st { links = set st.links l new })) (state_then m) near_then
+      near_then : NearHands (names ++ more) kinds then_whole (state_then m)
+      near_then = subst (λ (k : machine.State). NearHands (names ++ more) kinds then_whole k) ends.0
+          (subst (λ (x : waiting.State (Option T) (Option ℕ)). NearAt (with_reclaimers (found (names ++ more)) (found kinds)) [] x (swapped (state_before m) l number)) (swap_same whole l new)
+          (swapped_near (with_reclaimers (found (names ++ more)) (found kinds)) (some_state whole) (state_before m) l number (option_map Some new) near (named number new held lent_then)))
+
+      both : ShowsState (Option T) (Option ℕ) (found (names ++ more)) (some_state then_whole) (state_then m) × ShowsReclaimers (Option T) (Option ℕ) (found (names ++ more)) (found kinds) (some_state then_whole) (state_then m)
+      both = shows_with (found (names ++ more)) (found kinds) (some_state then_whole) (state_then m) near_then
 
   -- A number holds one value.
 

@@ -18,7 +18,7 @@ release_size st b = by_case (is_kept st b)
     by_case true = refl
     by_case false = refl
 
-attempt_size : {T R : Type 0} (st : State T R) (s : ℕ) → (attempt st s).0.size ≡ st.size
+pub attempt_size : {T R : Type 0} (st : State T R) (s : ℕ) → (attempt st s).0.size ≡ st.size
 attempt_size st s = by_case (gives_up st s)
   where
     by_case : (k : Bool) → size_of (if k then (st, []) else release (with_batch_retired st s) (length st.retired)) ≡ st.size

@@ -4,11 +4,14 @@
 --     some_state st          the state with `Some` of each value and of each kind, since not each number stands for one
 --     AreLent code names     with each of these numbers the code of its value is lent, so that the number says which value it is
 --     AreOfKinds log kinds   the list says of each of these numbers that it is of this kind
---     Holds code st names kinds n seen     what was seen of the list of book n leads to a machine that shows the state, by these names and
---                            kinds
+--     with_gone_below n st   the state with so many retired batches more, which are older and gone
+--     HoldsAll code st names kinds n seen     what was seen of the list of book n leads to a machine that shows the state with each of its
+--                            retired batches, by these names and kinds
+--     Holds code st names kinds n seen     so it is with some number of retired batches more, which are older and gone: the machine keeps
+--                            these for ever, and the hands may have forgotten them
 --     HoldsThen code o had pass     so it is with the state of this outcome and what the pass has seen, by some names and kinds; and what
 --                            was had are its values gone
-use Rattle.std.specs.Prelude.{◌==◌, ℕ, if◌then◌else◌, List, [], ◌∷◌, map, Option, Some, None, option_map}
+use Rattle.std.specs.Prelude.{◌+◌, ◌==◌, ℕ, if◌then◌else◌, List, [], ◌∷◌, ◌++◌, map, replicate, Option, Some, None, option_map}
 use base.Stored.{Gv}
 use Rattle.seize_model.specs.Waiting.State.{Slot, State}
 use Rattle.seize_model.specs.Waiting.Attempt.{StateAndGone}
@@ -48,12 +51,26 @@ abbrev pub AreOfKinds : List Entry → List (ℕ × ℕ) → Type 0
 AreOfKinds log [] = Unit {0}
 AreOfKinds log (p ∷ ps) = IsTold log p.0 p.1 × AreOfKinds log ps
 
-pub record Holds {T : Type 0} (code : T → Gv) (st : State T ℕ) (names : List (ℕ × T)) (kinds : List (ℕ × ℕ)) (n : Name)
+abbrev pub with_order_from : {T R : Type 0} → ℕ → Slot T R → Slot T R
+with_order_from n slot = record slot { order = map (λ b. n + b) slot.order }
+
+abbrev pub with_gone_below : {T R : Type 0} → ℕ → State T R → State T R
+with_gone_below n st = record st {
+  slots = map (with_order_from n) st.slots;
+  retired = replicate n [] ++ st.retired;
+}
+
+pub record HoldsAll {T : Type 0} (code : T → Gv) (st : State T ℕ) (names : List (ℕ × T)) (kinds : List (ℕ × ℕ)) (n : Name)
     (seen : List Entry) : Type 0 where
   pub shows : ShowsState (Option T) (Option ℕ) (found names) (some_state st) (after (start n) seen)
   pub reclaimers : ShowsReclaimers (Option T) (Option ℕ) (found names) (found kinds) (some_state st) (after (start n) seen)
   pub lent : AreLent code names
   pub told : AreOfKinds seen kinds
+
+pub record Holds {T : Type 0} (code : T → Gv) (st : State T ℕ) (names : List (ℕ × T)) (kinds : List (ℕ × ℕ)) (n : Name)
+    (seen : List Entry) : Type 0 where
+  pub gone : ℕ
+  pub all : HoldsAll code (with_gone_below gone st) names kinds n seen
 
 abbrev pub HoldsThen : {T : Type 0} → (T → Gv) → StateAndGone T ℕ → Had → Pass → Type 0
 HoldsThen {T} code o had pass =

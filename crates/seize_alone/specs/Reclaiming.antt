@@ -4,21 +4,22 @@
 --     batches_in_turn kind st ss     each of these slots in order: its number is taken for this kind, it enters, its batch is attempted,
 --                         and it leaves. It keeps its number: so each number is the least one not in use as it is taken
 --     numbers_in_turn st ss    each of these slots gives its number back
---     in_turn kind st     these three, of all slots: the state, and the values gone in order
+--     in_turn kind st     these three, of all slots: the state, and the values gone in order. The numbers go back last first
 --     IsOrderly st        a slot whose number is free has no guard, no batch waits for a slot without a guard, and a retired batch that
 --                         waits for no slot has no values left
---     with_gone_below n st     the state with so many retired batches more, which are older and gone
 --     ReclaimsInTurn      of an orderly state the steps, and then what the values gone put, are a reclaim of all: the same values are gone
 --                         in the same order, and the state is the same but for retired batches, which all are gone
 --     SameBelow           with retired batches more, older and gone, each call gives the same reply and the same values gone, and then the
 --                         state with them; and a reclaim of all gives the same, and forgets them
 --     OrderlyHeld         a state that hands hold is orderly, where the list is legal
-use Rattle.std.specs.Prelude.{◌≡◌, ℕ, true, false, ◌+◌, if◌then◌else◌, List, [], ◌∷◌, ◌++◌, length, map, replicate}
+--     AllGoneHeld         from a state that hands hold these steps lead to one that they hold then, so they hold what a reclaim of all
+--                         leaves, by the same names and kinds; and with what the values gone put, the same values are gone
+use Rattle.std.specs.Prelude.{◌≡◌, ℕ, true, false, if◌then◌else◌, List, [], ◌∷◌, ◌++◌, length, reverse}
 use Rattle.std.specs.List.{range_with_len}
 use base.Stored.{Gv}
 use Rattle.seize_machine.specs.Machine.State.{are_distinct, linked_values}
 use Rattle.seize_model.specs.declared.kind.Kind.{Kind}
-use Rattle.seize_model.specs.Waiting.State.{Slot, State, has_guard, is_kept, retired_at, slot_at}
+use Rattle.seize_model.specs.Waiting.State.{State, has_guard, is_kept, retired_at, slot_at}
 use Rattle.seize_model.specs.Waiting.Attempt.{StateAndGone, attempt, with_gone}
 use Rattle.seize_model.specs.Waiting.Calls.{is_free, one_guard_less, reclaim_all, set_guards}
 use Rattle.seize_model.specs.Waiting.Calls.{with_number_free, with_number_free_if, with_number_in_use}
@@ -27,7 +28,7 @@ use Rattle.seize_model.specs.Waiting.Lists.{Call, step}
 use Rattle.seize_book.specs.Book.{IsLegalList}
 use Rattle.seize_book.specs.Entry.{Entry}
 use Rattle.seize_book.specs.Tokens.{Name, start}
-use Rattle.seize_alone.specs.Holding.{Holds}
+use Rattle.seize_alone.specs.Holding.{Holds, with_gone_below}
 
 abbrev pub last_guard_left : {T R : Type 0} → State T R → ℕ → StateAndGone T R
 last_guard_left st s = if has_guard (slot_at st s) then one_guard_less (set_guards st s 1) s else (st, [])
@@ -64,21 +65,12 @@ in_turn kind st =
     let all = range_with_len 0 (length st.slots) in
     let parted = parts_in_turn st all in
     let emptied = batches_in_turn kind parted.0 all in
-    (numbers_in_turn emptied.0 all, parted.1 ++ emptied.1)
+    (numbers_in_turn emptied.0 (reverse all), parted.1 ++ emptied.1)
 
 pub record IsOrderly {T R : Type 0} (st : State T R) : Type 0 where
   pub free : (s : ℕ) → is_free (slot_at st s).kind ≡ true → (slot_at st s).guards ≡ 0
   pub inactive : (s : ℕ) → has_guard (slot_at st s) ≡ false → (slot_at st s).order ≡ []
   pub gone : (b : ℕ) → is_kept st b ≡ false → retired_at st b ≡ []
-
-abbrev pub with_order_from : {T R : Type 0} → ℕ → Slot T R → Slot T R
-with_order_from n slot = record slot { order = map (λ b. n + b) slot.order }
-
-abbrev pub with_gone_below : {T R : Type 0} → ℕ → State T R → State T R
-with_gone_below n st = record st {
-  slots = map (with_order_from n) st.slots;
-  retired = replicate n [] ++ st.retired;
-}
 
 abbrev pub ReclaimsInTurn : {T : Type 0} → (ℕ → T → List T) → (T → ℕ) → Type 0
 ReclaimsInTurn {T} puts weight =
@@ -97,3 +89,10 @@ abbrev pub OrderlyHeld : {T : Type 0} → (T → Gv) → Type 0
 OrderlyHeld {T} code =
     (st : State T ℕ) (names : List (ℕ × T)) (kinds : List (ℕ × ℕ)) (n : Name) (seen : List Entry)
     → IsLegalList (start n) seen → are_distinct (linked_values n.links) ≡ true → Holds code st names kinds n seen → IsOrderly st
+
+abbrev pub AllGoneHeld : {T : Type 0} → (T → Gv) → (ℕ → T → List T) → (T → ℕ) → Type 0
+AllGoneHeld {T} code puts weight =
+    (st : State T ℕ) (names names' : List (ℕ × T)) (kinds kinds' : List (ℕ × ℕ)) (kind : Kind) (n : Name) (seen seen' : List Entry)
+    → IsLegalList (start n) seen → are_distinct (linked_values n.links) ≡ true → Holds code st names kinds n seen
+    → let now = in_turn kind st in let all = reclaim_all puts weight st in Holds code now.0 names' kinds' n seen'
+    → Holds code all.0 names' kinds' n seen' × (now.1 ++ gone_from puts weight (further puts now.1) ≡ all.1)

@@ -3,7 +3,7 @@ ghost use Rattle.std.specs.Prelude.{ℕ, List};
 ghost use Rattle.seize_model.specs.Waiting.Further.{Lighter};
 ghost use Rattle.seize_alone.specs.Begins.{BeginsHeld};
 ghost use Rattle.seize_alone.specs.Calls.{FlushesHeld, LeavesHeld, OutlineStays, PartsHeld, RefreshesHeld, RetiresHeld, SizeStays};
-ghost use Rattle.seize_alone.specs.Reclaiming.{OrderlyHeld, ReclaimsInTurn, SameBelow};
+ghost use Rattle.seize_alone.specs.Reclaiming.{AllGoneHeld, OrderlyHeld, ReclaimsInTurn, SameBelow};
 ghost use Rattle.seize_alone.specs.Events.{EntersHeld, GivesHeld, GuardsHeld, OpensHeld, OwnedLeavesHeld, ReadsHeld, SwapsHeld, TakesHeld};
 
 /// Calls by which values may be gone, where the pass is alone and its hands hold the state. The answer is the model's, they hold the state
@@ -34,9 +34,10 @@ pub fn events_alone<T>()
 
 /// Steps of single slots, slot after slot, reclaim all as the model says: the same values are gone in the same order, and the state is the
 /// model's but for retired batches, which all are gone. With such batches calls go on as without them. A state that hands hold is orderly,
-/// as is asked.
+/// as is asked. And where hands hold the state before the steps and the one after them, they hold the model's after its reclaim of all.
 pub fn reclaiming_alone<T>()
     ensures reclaim_all { (puts : ℕ → T → List T) (weight : T → ℕ) → ReclaimsInTurn puts weight }
     ensures below { (puts : ℕ → T → List T) (weight : T → ℕ) → SameBelow puts weight }
     ensures orderly { OrderlyHeld T.row.coded.code }
+    ensures all_gone { (puts : ℕ → T → List T) (weight : T → ℕ) → AllGoneHeld T.row.coded.code puts weight }
 {}

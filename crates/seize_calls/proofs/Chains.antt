@@ -85,3 +85,9 @@ one_new n (h ∷ []) one unnamed vacant lent = ((unnamed, vacant, lent), tt)
 
 pub is_new : (value : ValueKey) (number : ℕ) → IsNextIn value number → IsLentKey value → IsNewValue value
 is_new value number next lent = one_new (book_of value) value.keys.held value.one next.0 next.1 lent
+
+pub first_new : (n : Name) (one rest : Keys) → is_one blocks one ≡ true → AllNew n (one ++ rest)
+    → (has (label_of one) (after (start n) (own_of one)).named ≡ false) × IsVacant (after (start n) (own_of one)) (home_of (label_of one)) × CarriesOne (label_of one) × AllNew n rest
+first_new n [] rest one all = absurd (cc)
+first_new n (h ∷ k ∷ held) rest one all = absurd (cc)
+first_new n (h ∷ []) rest one all = (all.0.0, all.0.1, all.0.2, all.1)

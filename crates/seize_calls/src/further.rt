@@ -25,7 +25,7 @@ pub struct Further {
 }
 
 impl Further {
-    ghost use Rattle.std.specs.Prelude.{◌≢◌, [], is_some};
+    ghost use Rattle.std.specs.Prelude.{◌≢◌, ◌↔◌, [], is_some};
     ghost use Rattle.seize_machine.specs.Machine.Event.{Hand};
     ghost use Rattle.seize_book.specs.Adding.{deed_with_words};
     ghost use Rattle.seize_book.specs.Books.{IsNextIn};
@@ -58,6 +58,13 @@ impl Further {
             last: 0,
             values: self.values.none(),
         }
+    }
+
+    /// Whether there are none. It compares one word.
+    pub fn is_empty(&self) -> bool
+        ensures { (result ≡ true) ↔ (values_of (further_in self.now) ≡ []) }
+    {
+        self.front == 0
     }
 
     /// Puts one value more, which comes last: that of the block with this number, which is lent there. It was never named. This is kept of
@@ -108,13 +115,14 @@ impl Further {
         other.front = 0;
     }
 
-    /// The first of them, which there is, with the number of its block and what is kept of it.
+    /// The first of them, which there is, with the number of its block and what is kept of it. Where they may be put, it was never named.
     ///
     /// It takes no memory: a look-up and a plain read.
     pub fn next<T: Drop>(&mut self, blocks: &Blocks<T>) -> (ValueKey, u64, u64)
         requires book { keys_book (further_in self.old) ≡ blocks_book blocks.now }
         requires some { values_of (further_in self.old) ≢ [] }
-        ensures { IsFirstOut (further_in self.old) result.0 result.1 result.2 (further_in self.new) }
+        ensures first { IsFirstOut (further_in self.old) result.0 result.1 result.2 (further_in self.new) }
+        ensures new { AreNew (further_in self.old) → IsNextIn result.0 result.1 × IsLentKey result.0 × AreNew (further_in self.new) }
     {
         let mut value = self.values.next();
         let number = self.front - 1;

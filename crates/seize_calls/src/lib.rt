@@ -2,13 +2,11 @@
 //! code over the calls of `seize_words`, and holds beside whatever others add meanwhile.
 //!
 //! `batch` is what a slot's holder keeps of its batch, and `round` goes through it, from block to block. `marking` and `inserting` are the
-//! two halves of an attempt, which `attempt` joins. `handing` gives values to reclaimers, `further` is what these put, and `apart` keeps
-//! that from the call. `settling` and `draining` are what a call does with its batch and with its queue, and `limit` is how many values may
-//! come to a queue. `manner` is how a call is made, beside others or by a pass that is alone. `slot` has all that belongs to a slot in one
-//! value, with its calls.
+//! two halves of an attempt, which `attempt` joins. `handing` gives values to reclaimers, and `further` is what these put. `settling` and
+//! `draining` are what a call does with its batch and with its queue, and `limit` is how many values may come to a queue. `manner` is how a
+//! call is made, beside others or by a pass that is alone. `slot` has all that belongs to a slot in one value, with its calls.
 #![tactic(auto)]
 
-pub mod apart;
 pub mod attempt;
 pub mod batch;
 pub mod calls;

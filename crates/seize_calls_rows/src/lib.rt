@@ -3,6 +3,7 @@
 //! caller.
 #![tactic(auto)]
 
+pub mod apart;
 pub mod beside;
 pub mod by_look_up;
 pub mod counting;

@@ -4,8 +4,10 @@ ghost use Rattle.seize.specs.Blocks.{IsTakenOf};
 ghost use base.Stored.{coded_unit};
 
 use crate::worked::telling;
-use seize::{Alone, Refusal, Taken, Watch};
+use seize::{Alone, Call, Refusal, Reply, Taken, Watch};
 use seize_threads_rows::values::Digit;
+use std::alloc::{AllocError, Global};
+use std::collections::VecDeque;
 use std::process::Abort;
 use std::sync::atomic::{AtomicU64, Ordering};
 use std::test::*;
@@ -161,5 +163,62 @@ fn what_one_caller_left_ends_as_it_drops(rt: HostRuntime) -> Result<(), Fail> {
         Err(_) => return Err(Fail::new("a number is in use")),
     }
     assert_eq!(&rt; told.load(Ordering::SeqCst), 21);
+    Ok(())
+}
+
+// A value goes into the link, is found there, comes out and is gone, by one list of calls. The last one needs a number in use.
+fn run_a_list<'a>(
+    rt: &impl Abort,
+    alone: &mut Telling<'a>,
+    told: &'a AtomicU64,
+    alloc: Global,
+) -> Result<(), Refusal>
+    requires { 0 < alone.old.links }
+{
+    let mut heard = Heard { digits: 0 };
+    let one = alone
+        .owned(Digit { digit: 1, told })
+        .map_err(|(refusal, _)| refusal)?;
+    let mut calls = VecDeque::new(alloc);
+    let mut replies = Vec::new(alloc);
+    calls.push_back(Call::EnterOwned).map_err(AllocError::from)?;
+    calls
+        .push_back(Call::Swap(0, 0, Some(one), 0))
+        .map_err(AllocError::from)?;
+    calls
+        .push_back(Call::Protect(0, 0))
+        .map_err(AllocError::from)?;
+    calls
+        .push_back(Call::Swap(0, 0, None, 0))
+        .map_err(AllocError::from)?;
+    calls
+        .push_back(Call::Protect(0, 0))
+        .map_err(AllocError::from)?;
+    calls.push_back(Call::Flush(0)).map_err(AllocError::from)?;
+    calls.push_back(Call::Leave(0)).map_err(AllocError::from)?;
+    calls.push_back(Call::Enter(0)).map_err(AllocError::from)?;
+    alone.run(&mut calls, &mut replies, &mut heard)?;
+    assert_eq!(rt; heard.digits, 1);
+    assert_eq!(rt; replies.len(), 8);
+    assert!(rt; matches!(replies.get(0), Some(Reply::Slot(0))));
+    assert!(rt; matches!(replies.get(2), Some(Reply::Found(true))));
+    assert!(rt; matches!(replies.get(4), Some(Reply::Found(false))));
+    assert!(rt;
+        matches!(
+            replies.get(7),
+            Some(Reply::Refused(Refusal::NotInUse, None))
+        )
+    );
+    Ok(())
+}
+
+#[test]
+fn one_caller_runs_a_list_of_calls(rt: HostRuntime) -> Result<(), Fail> {
+    let told = AtomicU64::new(0);
+    match telling(rt.alloc(), 3)?.alone() {
+        Ok(mut alone) => run_a_list(&rt, &mut alone, &told, rt.alloc())?,
+        Err(_) => return Err(Fail::new("a number is in use")),
+    }
+    assert_eq!(&rt; told.load(Ordering::SeqCst), 1);
     Ok(())
 }

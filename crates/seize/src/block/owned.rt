@@ -40,6 +40,13 @@ impl<T: Drop> Owned<T> {
         }
     }
 
+    // The value by value. The block's place in the store is free again, by one swap.
+    pub(crate) fn into_value(self) -> T
+        ensures { result ≡ content self }
+    {
+        self.block.into_inner()
+    }
+
     // The key of its next value, and the block without it.
     fn open(self, blocks: &Blocks<T>) -> (ValueKey, Bare<Header, Part, T>)
         requires store { store_name self ≡ (blocks_book blocks.now).store }

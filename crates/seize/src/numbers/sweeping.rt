@@ -1,10 +1,14 @@
 //! What is done with the slots that nobody has, where nobody shares the collector. Each takes its number again, enters, attempts its batch
 //! at any length, and leaves; then the numbers go back. The pass is alone, so no call waits, and each returns. The batch size is at most 1,
 //! so each value that a reclaimer puts is attempted at once, and where no other slot is active none stays in a batch.
-ghost use Rattle.std.specs.Prelude.{◌≡◌, ◌<◌, ◌≤◌, ◌+◌, is_some, length};
+ghost use Rattle.std.specs.Prelude.{◌≡◌, ◌<◌, ◌≤◌, ◌+◌, None, get_or, is_some, length, true};
 ghost use Rattle.std.specs.List.{list_all};
 ghost use Rattle.seize_book.specs.Tokens.{IsSole};
 ghost use Rattle.seize_words.specs.Joined.{words_book};
+ghost use Rattle.seize_machine.specs.Machine.Event.{Give};
+ghost use Rattle.seize_machine.specs.declared.machine.event.Answer.{Answer};
+ghost use Rattle.seize_alone.specs.Events.{MakesAlone};
+ghost use Rattle.seize.specs.Aparts.{GivesBack};
 ghost use Rattle.seize.specs.Enders.{IsEnderOf};
 ghost use Rattle.seize_calls.specs.Slots.{IsInactive, IsPassFor, IsSlotOf, its_number};
 ghost use Rattle.seize.specs.Numbers.{AreNumbers, AreTakenTo, IsLockFor, flags_of};
@@ -165,6 +169,7 @@ impl<T: Drop> Numbers<T> {
         ensures left { KeepsOn pass.old pass.new × KeepsCleared pass.old pass.new }
         ensures others { KeepsElse (flags_of self.new.slots.items) pass.old pass.new }
         ensures idle { AreIdle (flags_of self.new.slots.items) pass.new }
+        ensures gives { list_all is_some self.old.slots.items ≡ true → GivesBack (length self.old.slots.items) pass.old pass.new }
     {
         let many = self.slots.len();
         for given in 0..many {
@@ -180,6 +185,8 @@ impl<T: Drop> Numbers<T> {
         ensures left { KeepsOn pass.old pass.new × KeepsCleared pass.old pass.new }
         ensures others { KeepsElse (flags_of self.new.slots.items) pass.old pass.new }
         ensures idle { KeepsIdleBut n pass.old pass.new × (LiesHere (flags_of self.new.slots.items) n → IsIdle pass.new n) }
+        ensures gives { is_some (get_or self.old.slots.items n None) ≡ true
+            → (answer : Answer) × MakesAlone pass.old pass.new (Give n) answer }
     {
         if let Some(slot) = self.slots[n].take() {
             let mut slot = slot;

@@ -1,9 +1,9 @@
 //! A guest whose number goes back and is taken again, beside others and then by the pass of a shut gate.
 use super::marks;
+use crate::apart::Apart;
 use crate::counting::Counting;
 use crate::guest::Guest;
 use crate::hall::AnyCode;
-use seize_calls::apart::Apart;
 use seize_calls::further::Further;
 use seize_words::words::Words;
 use std::alloc::Global;

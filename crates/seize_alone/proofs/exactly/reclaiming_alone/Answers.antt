@@ -1,4 +1,5 @@
 use Rattle.seize_alone.proofs.Below.{same_below}
+use Rattle.seize_alone.proofs.Forgotten.{all_gone_held}
 use Rattle.seize_alone.proofs.Orderly.{orderly_held}
 use Rattle.seize_alone.proofs.Reclaiming.{reclaims_in_turn}
 use Rattle.seize_alone.proofs.exactly.reclaiming_alone.Goals as goal
@@ -8,4 +9,5 @@ returns g c = record {
   reclaim_all = reclaims_in_turn;
   below = same_below;
   orderly = orderly_held g.row.T.coded.code;
+  all_gone = all_gone_held g.row.T.coded.code;
 }

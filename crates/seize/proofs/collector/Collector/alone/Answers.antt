@@ -3,7 +3,7 @@ use Rattle.seize_book.specs.Tokens.{Name}
 use Rattle.seize_words.specs.Joined.{words_book}
 use Rattle.seize.specs.Collectors.{its_book}
 use Rattle.seize.specs.Enders.{IsEnderOf}
-use Rattle.seize.proofs.Homing.{led_to, many_slots, no_places, starts}
+use Rattle.seize.proofs.Homing.{many_slots, no_places, starts}
 use Rattle.seize.proofs.collector.Collector.alone.Goals as goal
 
 pub first-hands-requires : goal.first-hands-requires
@@ -39,5 +39,5 @@ returns-clause-made g c =
       first.1 ∙ size,
       first.2 ∙ ap (λ (n : Name). length n.links) name,
       first.3,
-      led_to g.row.T.coded.code stay.lent stay.back c.rest-made.new.porter c.rest-made.result.0 c.in-Some.made c.in-Some.is stay.gives.0 stay.again hands.state hands.names hands.kinds first.0,
+      first.4,
     )

@@ -1,8 +1,14 @@
-use Rattle.std.proofs.Common.{◌≡◌, ◌+◌, ℕ, Some, None, true, false, refl, sym, ap, subst, ◌∙◌, arith}
+use Rattle.std.proofs.Common.{◌≡◌, ◌+◌, ℕ, Some, None, is_some, true, false, refl, sym, ap, subst, ◌∙◌, arith}
 use Rattle.std.proofs.lemmas.List.{get_or_default}
 use Rattle.std.specs.Prelude.{slice_set}
 use Rattle.seize_book.specs.Others.{use_flags}
+use Rattle.seize_machine.specs.Machine.Event.{Give}
+use Rattle.seize_machine.specs.declared.machine.event.Answer.{Answer}
+use Rattle.seize_book.specs.Tokens.{IsSole}
 use Rattle.seize_calls.specs.Slots.{IsOfList, its_number}
+use Rattle.seize_alone.specs.Events.{MakesAlone}
+use Rattle.seize_alone.proofs.Ready.{entry_alone}
+use Rattle.seize.proofs.Stilled.{alone_from, still_prepared}
 use Rattle.seize.specs.Numbers.{IsTakenAt, flags_to}
 use Rattle.seize.proofs.Swept.{given_left, gives, keeps_none, keeps_on, else_led, else_none}
 use Rattle.seize.proofs.Resting.{given_idle, kept_idle}
@@ -74,3 +80,16 @@ returns-in-Some-clause-idle g c =
 
 pub returns-in_default-clause-idle : goal.returns-in_default-clause-idle
 returns-in_default-clause-idle g c = ((λ t differs was. was), λ here. none_here c.args.self.now.slots.items c.args.n c.take.new.self c.take.ensures.after here)
+
+pub returns-in-Some-clause-gives : goal.returns-in-Some-clause-gives
+returns-in-Some-clause-gives g c _ =
+    let self = c.args.self.now in let n = c.args.n in let items = self.slots.items in let numbers = c.requires.taken in let slot = c.in-Some.slot in let one = c.give in let p = c.args.pass.now in let sole = c.requires.pass.1 in
+    let is = get_or_default items n None c.index_mut.result.now numbers.2 ∙ sym c.index_mut.ensures.value ∙ sym c.take.ensures.value ∙ c.in-Some.is in
+    let gives = one.ensures.gives.0 in let still = still_prepared slot gives.prepares in let answer : Answer = gives.does.2.0.answer in
+    (answer, subst (λ (k : ℕ). MakesAlone p one.new.pass (Give k) answer) (numbers.0.slots n slot is).number (alone_from sole still (entry_alone (subst IsSole (sym still.same.1) sole) gives.does)))
+
+pub returns-in_default-clause-gives : goal.returns-in_default-clause-gives
+returns-in_default-clause-gives g c here =
+    let n = c.args.n in let items = c.args.self.now.slots.items in
+    let none = get_or_default items n None c.index_mut.result.now c.requires.taken.2 ∙ sym c.index_mut.ensures.value ∙ sym c.take.ensures.value ∙ c.in_default.is in
+    absurd (let e : false ≡ true = sym (ap is_some none) ∙ here in cc)

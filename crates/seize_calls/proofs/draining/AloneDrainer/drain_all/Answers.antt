@@ -24,7 +24,7 @@ loop-queue-init g c =
 -- the first of the queue, with the word that the list says is kept of it
 pub put-requires : goal.put-requires
 put-requires g c =
-    let l = c.loop-queue in let out = c.next-value.ensures in let on = l.invariant.1 in let rests = l.invariant.2 in let sits = l.invariant.3 in let same = sym on.same.0 in let word = c.requires.words.1 ∙ same in
+    let l = c.loop-queue in let out = c.next-value.ensures.first in let on = l.invariant.1 in let rests = l.invariant.2 in let sits = l.invariant.3 in let same = sym on.same.0 in let word = c.requires.words.1 ∙ same in
     let queue = further_in l.queue in let left = further_in c.next-value.new.self in let v = value_of c.next-value.result.0 in
     let told = first_told l.pass.seen queue.keys.held left.keys.held v c.next-value.result.2 out.first out.its_word sits.queue.1 in (
       lit< tt,
@@ -50,7 +50,7 @@ put-requires g c =
 
 pub loop-queue-preserved : goal.loop-queue-preserved
 loop-queue-preserved g c =
-    let l = c.loop-queue in let put = c.put in let out = c.next-value.ensures in let v = value_of c.next-value.result.0 in let queue = further_in c.next-value.new.self in let had = g.R.Reclaim.had l.reclaimer in
+    let l = c.loop-queue in let put = c.put in let out = c.next-value.ensures.first in let v = value_of c.next-value.result.0 in let queue = further_in c.next-value.new.self in let had = g.R.Reclaim.had l.reclaimer in
     let from : CallState = record { key = l.key; pass = l.pass; batch = l.batch.values; queue = queue; had = had } in let to = call_state put.new.key put.new.pass put.new.batch put.new.queue (g.R.Reclaim.had put.new.reclaimer) in
     let round = put.ensures.drains_one in (
       Drains.goes_on (call_state l.key l.pass l.batch l.queue had) to queue v c.next-value.result.2 put.result l.invariant.0 (out.book.1, out.first, out.its_word) round,
@@ -64,6 +64,6 @@ loop-queue-preserved g c =
 
 pub loop-queue-smaller : goal.loop-queue-smaller
 loop-queue-smaller g c =
-    let l = c.loop-queue in let put = c.put in let out = c.next-value.ensures in let queue = further_in c.next-value.new.self in let had = g.R.Reclaim.had l.reclaimer in
+    let l = c.loop-queue in let put = c.put in let out = c.next-value.ensures.first in let queue = further_in c.next-value.new.self in let had = g.R.Reclaim.had l.reclaimer in
     let from : CallState = record { key = l.key; pass = l.pass; batch = l.batch.values; queue = queue; had = had } in let to = call_state put.new.key put.new.pass put.new.batch put.new.queue (g.R.Reclaim.had put.new.reclaimer) in
     (round_lighter g.R.Lightens.weighs g.met.R.Lightens.once (further_in l.queue) from (value_of c.next-value.result.0) c.next-value.result.2 to put.result (c.of-limit.result.number + puts_of (g.R.Reclaim.had c.args.reclaimer.now)) (out.book.1, out.first, out.its_word) put.ensures.drains_one c.lightens.ensures l.invariant.6).1

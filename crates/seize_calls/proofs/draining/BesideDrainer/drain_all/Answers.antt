@@ -14,7 +14,7 @@ loop-init g c = (Drains.over, onward_none c.args.key.now c.args.pass.now, c.requ
 -- the first of the queue, with the word that the list says is kept of it
 pub put-requires : goal.put-requires
 put-requires g c =
-    let l = c.loop in let out = c.next-value.ensures in let on = l.invariant.1 in let rests = l.invariant.2 in let sits = l.invariant.3 in let same = sym on.same.0 in let word = c.requires.words.1 ∙ same in
+    let l = c.loop in let out = c.next-value.ensures.first in let on = l.invariant.1 in let rests = l.invariant.2 in let sits = l.invariant.3 in let same = sym on.same.0 in let word = c.requires.words.1 ∙ same in
     let queue = further_in l.queue in let left = further_in c.next-value.new.self in let v = value_of c.next-value.result.0 in
     let told = first_told l.pass.seen queue.keys.held left.keys.held v c.next-value.result.2 out.first out.its_word sits.queue.1 in (
       lit< tt,
@@ -40,7 +40,7 @@ put-requires g c =
 
 pub loop-preserved : goal.loop-preserved
 loop-preserved g c =
-    let l = c.loop in let put = c.put in let out = c.next-value.ensures in let v = value_of c.next-value.result.0 in let queue = further_in c.next-value.new.self in let had = g.R.Reclaim.had l.reclaimer in
+    let l = c.loop in let put = c.put in let out = c.next-value.ensures.first in let v = value_of c.next-value.result.0 in let queue = further_in c.next-value.new.self in let had = g.R.Reclaim.had l.reclaimer in
     let from : CallState = record { key = l.key; pass = l.pass; batch = l.batch.values; queue = queue; had = had } in let to = call_state put.new.key put.new.pass put.new.batch put.new.queue (g.R.Reclaim.had put.new.reclaimer) in
     let round = put.ensures.drains_one in (
       Drains.goes_on (call_state l.key l.pass l.batch l.queue had) to queue v c.next-value.result.2 put.result l.invariant.0 (out.book.1, out.first, out.its_word) round,
