@@ -154,7 +154,9 @@ fn texts_of_collectors_and_guards(rt: HostRuntime) -> Result<(), Fail> {
     for (processors, text) in [
         (0, "Collector { batch_size: 32 }"),
         (1, "Collector { batch_size: 32 }"),
+        (32, "Collector { batch_size: 32 }"),
         (33, "Collector { batch_size: 64 }"),
+        (64, "Collector { batch_size: 64 }"),
         (100, "Collector { batch_size: 128 }"),
     ] {
         let made: Collector<u64> = Collector::new(rt.alloc(), &mut IdSource::new(), processors, 0)?;

@@ -5,6 +5,12 @@
 #[cfg(test)]
 mod alone;
 #[cfg(test)]
+mod alone_further;
+#[cfg(test)]
+mod alone_links;
+#[cfg(test)]
+mod alone_lists;
+#[cfg(test)]
 mod guards;
 #[cfg(test)]
 mod ids;

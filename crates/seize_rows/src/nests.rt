@@ -1,6 +1,7 @@
 //! Values that hold blocks of their own type, for a collector in one caller's hands: a reclaimer that keeps which values ended, in order,
 //! and puts what they held; and a watch that keeps of which it was told.
-ghost use Rattle.std.specs.Prelude.{◌≡◌, All, IfOk};
+ghost use Rattle.std.specs.Prelude.{◌≡◌, All, IfOk, length};
+ghost use Rattle.seize.specs.Alones.{IsSame};
 ghost use Rattle.seize.specs.Blocks.{Belongs};
 ghost use Rattle.seize.specs.Collectors.{its_links};
 ghost use Rattle.seize_uses.specs.Nests.{inside_of, owners_of, weight_of};
@@ -11,7 +12,9 @@ use crate::oracle::Value;
 use seize::{Alone, Collector, Further, IdSource, Owned, Puts, Reclaim, Refusal, Watch};
 use seize_uses::nest::Nest;
 use std::alloc::{AllocError, Global};
+use std::process::Abort;
 use std::sync::atomic::{AtomicU64, Ordering};
+use std::test::Fail;
 
 // A value that ended.
 #[derive(Drop)]
@@ -68,6 +71,15 @@ impl Ends {
             end.kind.load(Ordering::SeqCst),
         );
         (n as u64) < self.many() && number == value.number && kind == value.kind
+    }
+
+    /// Whether they have these numbers, in this order.
+    pub(crate) fn are(&self, numbers: &[u64]) -> bool {
+        self.many() == numbers.len() as u64
+            && self.ends.iter().zip(numbers.iter()).all(|(end, number)| end
+                .number
+                .load(Ordering::SeqCst)
+                == *number)
     }
 
     /// Whether they are these values, in any order.
@@ -194,4 +206,53 @@ pub(crate) fn round(
     let mut inside = Vec::new(alloc);
     inside.push(block).map_err(AllocError::from)?;
     around(alone, number, inside)
+}
+
+/// The collector in one caller's hands. No number is in use.
+pub(crate) fn alone_nests<'a>(
+    alloc: Global,
+    size: usize,
+    links: usize,
+    ends: &'a Ends,
+) -> Result<AloneNests<'a>, Fail>
+    ensures { IfOk result (λ alone. (alone.links ≡ links) × (length alone.book.links ≡ links)) }
+{
+    match nests(alloc, size, links, ends)?.alone() {
+        Ok(alone) => Ok(alone),
+        Err(_) => Err(Fail::new("a number is in use")),
+    }
+}
+
+/// The slot, which is in use, retires a block that was in no link.
+pub(crate) fn retire(
+    rt: &impl Abort,
+    alone: &mut AloneNests<'_>,
+    s: usize,
+    block: Block,
+    heard: &mut Heard,
+)
+    requires { Belongs owners_of alone.old.book.store block }
+    ensures { IsSame alone.old alone.new }
+{
+    let taken = alone.taken(block);
+    match alone.retire(s, taken, 0, heard) {
+        Ok(()) => {}
+        Err((_, _taken)) => rt.abort(),
+    }
+}
+
+/// The slot retires a new value of this number.
+pub(crate) fn retire_new(
+    rt: &impl Abort,
+    alloc: Global,
+    alone: &mut AloneNests<'_>,
+    s: usize,
+    number: u64,
+    heard: &mut Heard,
+) -> Result<(), Refusal>
+    ensures { IsSame alone.old alone.new }
+{
+    let block = leaf(alloc, alone, number)?;
+    retire(rt, alone, s, block, heard);
+    Ok(())
 }

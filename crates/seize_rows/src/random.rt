@@ -5,7 +5,7 @@ ghost use Rattle.seize.specs.Alones.{IsSame};
 ghost use Rattle.seize.specs.Blocks.{Belongs, IsTakenOf};
 ghost use Rattle.seize_uses.specs.Nests.{owners_of};
 
-use crate::nests::{AloneNests, Block, Ends, Heard, leaf, nests, round};
+use crate::nests::{AloneNests, Block, Ends, Heard, alone_nests, leaf, round};
 use crate::oracle::{Lists, Value};
 use seize::{Alone, Reclaim, Refusal, Taken, Watch};
 use std::alloc::Global;
@@ -233,16 +233,6 @@ fn are_told(lists: &Lists, heard: &Heard, ends: &Ends) -> bool {
         && ends.is_at(n, *value))
 }
 
-// A collector of this size, where no number is in use.
-fn alone<'a>(alloc: Global, size: usize, ends: &'a Ends) -> Result<AloneNests<'a>, Fail>
-    ensures { IfOk result (λ alone. (alone.links ≡ 3) × (length alone.book.links ≡ 3)) }
-{
-    match nests(alloc, size, LINKS, ends)?.alone() {
-        Ok(alone) => Ok(alone),
-        Err(_) => Err(Fail::new("a number is in use")),
-    }
-}
-
 // The collector is shared, and nobody uses it. Then one caller has it again.
 fn shared_and_back<'a>(alone: AloneNests<'a>) -> Result<AloneNests<'a>, Fail>
     requires { length alone.book.links ≡ 3 }
@@ -258,7 +248,7 @@ fn shared_and_back<'a>(alone: AloneNests<'a>) -> Result<AloneNests<'a>, Fail>
 fn run<'a>(rt: &impl Abort, alloc: Global, seed: u64, ends: &'a Ends) -> Result<(), Fail> {
     let mut chance = Chance { state: seed };
     let size = (seed % 5) as usize;
-    let mut alone = alone(alloc, size, ends)?;
+    let mut alone = alone_nests(alloc, size, LINKS, ends)?;
     let mut lists = Lists::new(alloc, size, LINKS)?;
     let mut heard = Heard::with_room(alloc, VALUES as usize)?;
     for n in 0..CALLS {
