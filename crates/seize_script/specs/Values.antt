@@ -1,7 +1,6 @@
 -- The values in a value's brackets, and what a value weighs: 1, and what the values in its brackets weigh.
 use Rattle.std.specs.Prelude.{ℕ, ◌+◌, List, map, sum}
-use Rattle.seize_plain.specs.Names.{CollectorName}
-use Rattle.seize_plain.specs.Blocks.{content, owners_in}
+use Rattle.seize.specs.Blocks.{content, owners_in}
 use Rattle.seize_script.specs.declared.value.Value.{Value}
 use Rattle.seize_script.specs.declared.value.Value.TheOpen.{Value-F}
 use Rattle.seize_script.specs.declared.value.Value.TheViews.{out-Value}
@@ -18,9 +17,9 @@ weight_step value = sum (map content value.inside.items) + 1
 abbrev pub weight_of : Value → ℕ
 weight_of = fold-Value ℕ weight_step
 
--- the collectors of the blocks in the brackets, however deep
-abbrev pub owners_step : Value-F (List CollectorName) → List CollectorName
+-- the stores of the blocks in the brackets, however deep
+abbrev pub owners_step : Value-F (List (List ℕ)) → List (List ℕ)
 owners_step value = owners_in (λ owners. owners) value.inside.items
 
-abbrev pub owners_of : Value → List CollectorName
-owners_of = fold-Value (List CollectorName) owners_step
+abbrev pub owners_of : Value → List (List ℕ)
+owners_of = fold-Value (List (List ℕ)) owners_step

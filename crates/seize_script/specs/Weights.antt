@@ -1,6 +1,6 @@
--- What a value weighs: at least 1, and more than the values in its brackets together.
-use Rattle.std.proofs.Common.{◌≡◌, ℕ, ◌+◌, ◌≤◌, ◌<◌, map, sum, ap, refl, ◌∙◌, arith}
-use Rattle.seize_plain.proofs.Contents.{contents_map}
+-- What a value weighs: more than the values in its brackets together.
+use Rattle.std.proofs.Common.{◌≡◌, ℕ, ◌+◌, ◌<◌, map, sum, ap, refl, ◌∙◌, arith}
+use Rattle.seize.proofs.Contents.{contents_map}
 use Rattle.seize_script.specs.Values.{inside_of, weight_step, weight_of}
 use Rattle.seize_script.specs.declared.value.Value.{Value}
 use Rattle.seize_script.specs.declared.value.Value.TheViews.{out-Value}
@@ -10,9 +10,6 @@ weight_out : (value : Value) → weight_of value ≡ sum (map weight_of (inside_
 weight_out value =
     fold_out-Value ℕ weight_step value ∙ ap (λ weights. sum weights + 1)
     (contents_map weight_of _ (λ owned. refl) (out-Value value).inside.items)
-
-pub weight_at_least_one : (value : Value) → 1 ≤ weight_of value
-weight_at_least_one value = omega (arith, weight_out value)
 
 pub inside_lighter : (value : Value) → sum (map weight_of (inside_of value)) < weight_of value
 inside_lighter value = omega (arith, weight_out value)

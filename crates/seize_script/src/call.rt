@@ -1,15 +1,14 @@
 //! The grammar of one line: a call, and the values in it, whose blocks are made as they are read.
 ghost use Rattle.std.specs.Prelude.{All, ◌≡◌, ◌≤◌, ◌<◌, length, IfOk};
-ghost use Rattle.seize_plain.specs.Alone.{IsFor};
-ghost use Rattle.seize_plain.specs.Blocks.{Belongs};
-ghost use Rattle.seize_plain.specs.Collectors.{about};
+ghost use Rattle.seize.specs.Blocks.{Belongs};
+ghost use Rattle.seize_script.specs.Ranges.{IsCallFor, range_of};
 ghost use Rattle.seize_script.specs.Readers.{read_for};
 ghost use Rattle.seize_script.specs.Values.{owners_of};
 
 use crate::line::{Line, LineError};
 use crate::name::Name;
 use crate::value::{PutInside, Value};
-use seize_plain::{Call, Collector, Owned};
+use seize::{Call, Collector, Owned};
 use std::alloc::Global;
 
 /// How deep values may stand in one another's brackets; one without brackets is 1 deep.
@@ -20,23 +19,17 @@ const DEEPEST: usize = 64;
 pub struct CallReader<'c> {
     alloc: Global,
     collector: &'c Collector<Value, PutInside>,
-    reclaim: PutInside,
     values: usize,
 }
 
 impl<'c> CallReader<'c> {
-    /// Reads calls on this collector, whose values are retired with this reclaimer.
-    pub fn new(
-        alloc: Global,
-        collector: &'c Collector<Value, PutInside>,
-        reclaim: PutInside,
-    ) -> CallReader<'c>
-        ensures { read_for result ≡ about collector.now }
+    /// Reads calls on this collector.
+    pub fn new(alloc: Global, collector: &'c Collector<Value, PutInside>) -> CallReader<'c>
+        ensures { read_for result ≡ range_of collector.now }
     {
         CallReader {
             alloc,
             collector,
-            reclaim,
             values: 0,
         }
     }
@@ -47,12 +40,8 @@ impl<'c> CallReader<'c> {
     }
 
     /// A call that begins with this word.
-    pub fn call(
-        &mut self,
-        word: &[u8],
-        line: &mut Line<'_>,
-    ) -> Result<Call<Value, PutInside>, LineError>
-        ensures call { IfOk result (λ call. IsFor owners_of (read_for self.old) call) }
+    pub fn call(&mut self, word: &[u8], line: &mut Line<'_>) -> Result<Call<Value>, LineError>
+        ensures call { IfOk result (IsCallFor (read_for self.old)) }
         ensures same { read_for self.new ≡ read_for self.old }
     {
         match word {
@@ -70,18 +59,18 @@ impl<'c> CallReader<'c> {
         }
     }
 
-    fn retire(&mut self, line: &mut Line<'_>) -> Result<Call<Value, PutInside>, LineError>
-        ensures call { IfOk result (λ call. IsFor owners_of (read_for self.old) call) }
+    fn retire(&mut self, line: &mut Line<'_>) -> Result<Call<Value>, LineError>
+        ensures call { IfOk result (IsCallFor (read_for self.old)) }
         ensures same { read_for self.new ≡ read_for self.old }
     {
         let slot = line.number()?;
         line.expect(b" ")?;
         let block = self.block(line, DEEPEST)?;
-        Ok(Call::Retire(slot, block, self.reclaim))
+        Ok(Call::Retire(slot, block, 0))
     }
 
-    fn swap(&mut self, line: &mut Line<'_>) -> Result<Call<Value, PutInside>, LineError>
-        ensures call { IfOk result (λ call. IsFor owners_of (read_for self.old) call) }
+    fn swap(&mut self, line: &mut Line<'_>) -> Result<Call<Value>, LineError>
+        ensures call { IfOk result (IsCallFor (read_for self.old)) }
         ensures same { read_for self.new ≡ read_for self.old }
     {
         let slot = line.number()?;
@@ -92,11 +81,11 @@ impl<'c> CallReader<'c> {
         } else {
             Some(self.block(line, DEEPEST)?)
         };
-        Ok(Call::Swap(slot, link, new, self.reclaim))
+        Ok(Call::Swap(slot, link, new, 0))
     }
 
     fn link(&self, line: &mut Line<'_>) -> Result<usize, LineError>
-        ensures { IfOk result (λ link. link < (read_for self.now).links) }
+        ensures { IfOk result (λ link. link < (read_for self.now).1) }
     {
         let link = line.number()?;
         if link < self.collector.links() {
@@ -108,7 +97,7 @@ impl<'c> CallReader<'c> {
 
     /// A value in a block, at most this deep.
     fn block(&mut self, line: &mut Line<'_>, deepest: usize) -> Result<Owned<Value>, LineError>
-        ensures own { IfOk result (Belongs owners_of (read_for self.old).name) }
+        ensures own { IfOk result (Belongs owners_of (read_for self.old).0) }
         ensures same { read_for self.new ≡ read_for self.old }
         ensures shorter { length line.new ≤ length line.old }
     {
@@ -130,10 +119,10 @@ impl<'c> CallReader<'c> {
 
     /// A block with the value of this name that has these blocks of the collector in its brackets.
     fn nest(&self, name: Name, inside: Vec<Owned<Value>>) -> Result<Owned<Value>, LineError>
-        requires { All (Belongs owners_of (read_for self.now).name) inside.items }
-        ensures { IfOk result (Belongs owners_of (read_for self.now).name) }
+        requires { All (Belongs owners_of (read_for self.now).0) inside.items }
+        ensures { IfOk result (Belongs owners_of (read_for self.now).0) }
     {
-        match Owned::new(self.collector, Value { name, inside }) {
+        match self.collector.owned(Value { name, inside }) {
             Ok(block) => Ok(block),
             Err(_) => Err(LineError::NoMemory),
         }

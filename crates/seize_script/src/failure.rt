@@ -3,7 +3,7 @@ ghost use Rattle.std.specs.Prelude.{◌≡◌};
 ghost use Rattle.seize_script.specs.Statuses.{status_of};
 ghost use Rattle.seize_script.specs.declared.failure.Failure.TheVariants.{NoMemory};
 
-use seize_plain::Refusal;
+use seize::Refusal;
 use std::alloc::{AllocError, AllocFailed};
 use std::fmt;
 

@@ -1,7 +1,9 @@
 //! Who is told of the values gone: it notes their names, to be printed.
+ghost use base.Stored.{coded_unit};
+
 use crate::name::Name;
 use crate::value::Value;
-use seize_plain::Watch;
+use seize::Watch;
 use std::alloc::{AllocError, Global};
 
 /// The names of the values gone, in order.
@@ -31,6 +33,8 @@ impl Names {
 
 impl Watch<Value> for Names {
     ghost Seen = { Unit {0} };
+
+    ghost coded = { coded_unit };
 
     ghost seen = { λ _. tt };
 

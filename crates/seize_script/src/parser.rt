@@ -1,7 +1,6 @@
 //! The grammar of scripts: their lines and groups. A script is read and checked whole before anything of it runs.
 ghost use Rattle.std.specs.Prelude.{◌≡◌, length, IfOk, OnOk};
-ghost use Rattle.seize_script.specs.Ranges.{AreGroupsFor, IsWhole, IsReady};
-ghost use Rattle.seize_plain.specs.Collectors.{about};
+ghost use Rattle.seize_script.specs.Ranges.{AreGroupsFor, IsReady, IsWhole, range_of};
 ghost use Rattle.seize_script.specs.Readers.{parsed_for};
 
 use crate::call::CallReader;
@@ -9,7 +8,7 @@ use crate::failure::Failure;
 use crate::line::{Line, LineError};
 use crate::script::{Calls, Group, GroupEnd, Script};
 use crate::value::{PutInside, Value};
-use seize_plain::{Call, Collector, IdSource};
+use seize::{Call, Collector, IdSource};
 use std::alloc::{AllocError, Global};
 use std::collections::VecDeque;
 use std::mem;
@@ -26,8 +25,14 @@ pub fn parse<'a>(alloc: Global, text: &[u8], reclaim: PutInside) -> Result<Scrip
     ensures { IfOk result IsWhole }
 {
     let Header { size, links, line } = first_line(text)?;
-    let collector = Collector::new(alloc, &mut IdSource::new(), 1, links)?.batch_size(size);
-    let calls = later_lines(alloc, text, line, &collector, reclaim)?;
+    let collector = Collector::with_reclaimer(
+        alloc,
+        &mut IdSource::new(),
+        1,
+        links,
+        reclaim,
+    )?.batch_size(size);
+    let calls = later_lines(alloc, text, line, &collector)?;
     Ok(Script { collector, calls })
 }
 
@@ -57,11 +62,10 @@ fn later_lines<'a>(
     text: &[u8],
     first: usize,
     collector: &Collector<Value, PutInside>,
-    reclaim: PutInside,
 ) -> Result<Calls, Failure<'a>>
-    ensures { IfOk result (AreGroupsFor (about collector.now)) }
+    ensures { IfOk result (AreGroupsFor (range_of collector.now)) }
 {
-    let mut parser = Parser::new(alloc, collector, reclaim);
+    let mut parser = Parser::new(alloc, collector);
     let mut number = first;
     for bytes in text.split(is_line_feed).skip(first) {
         number = number.saturating_add(1);
@@ -107,20 +111,16 @@ struct Parser<'c> {
     // the groups that are ended
     groups: Vec<Group>,
     // the calls of the group that is not
-    calls: VecDeque<Call<Value, PutInside>>,
+    calls: VecDeque<Call<Value>>,
 }
 
 impl<'c> Parser<'c> {
-    fn new(
-        alloc: Global,
-        collector: &'c Collector<Value, PutInside>,
-        reclaim: PutInside,
-    ) -> Parser<'c>
+    fn new(alloc: Global, collector: &'c Collector<Value, PutInside>) -> Parser<'c>
         ensures ready { IsReady result }
-        ensures same { parsed_for result ≡ about collector.now }
+        ensures same { parsed_for result ≡ range_of collector.now }
     {
         Parser {
-            reader: CallReader::new(alloc, collector, reclaim),
+            reader: CallReader::new(alloc, collector),
             groups: Vec::new(alloc),
             calls: VecDeque::new(alloc),
         }

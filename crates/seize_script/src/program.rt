@@ -1,9 +1,7 @@
 //! The program between its arguments and its status: which script it runs, and what it prints. It is over any reader and writers.
 ghost use Rattle.std.specs.Prelude.{◌≡◌, ◌≤◌};
-ghost use Rattle.seize_plain.specs.Alone.{AreFor};
-ghost use Rattle.seize_plain.specs.Collectors.{whose, lent};
-ghost use Rattle.seize_script.specs.Values.{owners_of};
-ghost use Rattle.seize_script.specs.Ranges.{IsGroupFor, IsWhole};
+ghost use Rattle.seize.specs.Alones.{IsSame};
+ghost use Rattle.seize_script.specs.Ranges.{AreCallsFor, IsGroupFor, IsWhole, range_in};
 ghost use Rattle.seize_script.specs.Statuses.{status_of};
 
 use crate::failure::Failure;
@@ -12,7 +10,7 @@ use crate::parser::parse;
 use crate::row;
 use crate::script::{Calls, Group, GroupEnd, Script};
 use crate::value::{PutInside, Value};
-use seize_plain::{Alone, Call, Refusal, Reply};
+use seize::{Alone, Call, Refusal, Reply};
 use std::alloc::Global;
 use std::collections::VecDeque;
 use std::io;
@@ -98,11 +96,14 @@ fn run_script<'a, O: Write>(
     requires { IsWhole script }
 {
     let Script {
-        mut collector,
+        collector,
         calls: Calls { groups, values },
     } = script;
     let mut names = Names::with_room(alloc, values)?;
-    let mut alone = collector.alone();
+    // never refused, since no number of the collector is in use yet
+    let Ok(mut alone) = collector.alone() else {
+        return Err(Failure::NoMemory);
+    };
     for group in groups {
         run_group(alloc, &mut alone, group, &mut names, output)?;
     }
@@ -111,13 +112,13 @@ fn run_script<'a, O: Write>(
 
 fn run_group<'a, O: Write>(
     alloc: Global,
-    alone: &mut Alone<'_, Value, PutInside>,
+    alone: &mut Alone<Value, PutInside>,
     group: Group,
     names: &mut Names,
     output: &mut O,
 ) -> Result<(), Failure<'a>>
-    requires { IsGroupFor (whose alone.old) group }
-    ensures { lent alone.new ≡ lent alone.old }
+    requires { IsGroupFor (range_in alone.old) group }
+    ensures { IsSame alone.old alone.new }
 {
     let Group { calls, end } = group;
     run_calls(alloc, alone, calls, names, output)?;
@@ -128,26 +129,21 @@ fn run_group<'a, O: Write>(
     }
 }
 
-/// Runs calls, and prints the names of the values gone and then the replies.
-///
-/// Where the allocator refused, the replies are printed only if one of them says so: else what was done is not known.
+/// Runs calls, and prints the names of the values gone and then the replies. Where a reply is that memory was refused, the program ends.
 fn run_calls<'a, O: Write>(
     alloc: Global,
-    alone: &mut Alone<'_, Value, PutInside>,
-    mut calls: VecDeque<Call<Value, PutInside>>,
+    alone: &mut Alone<Value, PutInside>,
+    mut calls: VecDeque<Call<Value>>,
     names: &mut Names,
     output: &mut O,
 ) -> Result<(), Failure<'a>>
-    requires { AreFor owners_of (whose alone.old) calls.items }
-    ensures { lent alone.new ≡ lent alone.old }
+    requires { AreCallsFor (range_in alone.old) calls.items }
+    ensures { IsSame alone.old alone.new }
 {
     let mut replies = Vec::new(alloc);
     alone.run(&mut calls, &mut replies, names)?;
-    let is_refused = replies.iter().any(is_no_memory);
-    if is_refused || !alone.is_short() {
-        print_group(names, replies.as_slice(), output).map_err(|_| Failure::CannotWrite)?;
-    }
-    if is_refused || alone.is_short() {
+    print_group(names, replies.as_slice(), output).map_err(|_| Failure::CannotWrite)?;
+    if replies.iter().any(is_no_memory) {
         return Err(Failure::NoMemory);
     }
     names.clear();
@@ -156,16 +152,13 @@ fn run_calls<'a, O: Write>(
 
 /// Reclaims all, and prints the names of the values gone.
 fn reclaim_all<'a, O: Write>(
-    alone: &mut Alone<'_, Value, PutInside>,
+    alone: &mut Alone<Value, PutInside>,
     names: &mut Names,
     output: &mut O,
 ) -> Result<(), Failure<'a>>
-    ensures { lent alone.new ≡ lent alone.old }
+    ensures { IsSame alone.old alone.new }
 {
     alone.reclaim_all(names);
-    if alone.is_short() {
-        return Err(Failure::NoMemory);
-    }
     print_group(names, &[], output).map_err(|_| Failure::CannotWrite)?;
     names.clear();
     Ok(())

@@ -1,6 +1,6 @@
 //! A script that was read whole: the collector that its first line asks for, and the calls on it.
 use crate::value::{PutInside, Value};
-use seize_plain::{Call, Collector};
+use seize::{Call, Collector};
 use std::collections::VecDeque;
 
 /// What a script asks for.
@@ -21,7 +21,7 @@ pub struct Calls {
 /// Calls that are run together, and what follows them.
 #[derive(Drop)]
 pub struct Group {
-    pub calls: VecDeque<Call<Value, PutInside>>,
+    pub calls: VecDeque<Call<Value>>,
     pub end: GroupEnd,
 }
 
