@@ -1,9 +1,8 @@
 -- In which states one caller may find a collector.
-use Rattle.std.specs.Prelude.{◌≡◌, ◌⊎◌, ℕ, Bool, true, List}
+use Rattle.std.specs.Prelude.{ℕ}
 use Rattle.seize_machine.specs.Machine.State as machine
 use Rattle.seize_machine.specs.Machine.History as history
 use Rattle.seize_model.specs.Waiting.State as waiting
-use Rattle.seize_model.specs.Waiting.Reached.{Reached}
 use Rattle.seize_model.specs.Agreement.Shows.{ShowsReclaimers, ShowsState}
 
 -- **By events.** A machine shows the state, and a legal list of events leads to the machine's. Threads that shared the collector leave
@@ -12,7 +11,3 @@ abbrev pub IsLedTo : {T R : Type 0} → waiting.State T R → Type 0
 IsLedTo {T} {R} st =
     (of : ℕ → T) × (by : ℕ → R) × (shown : machine.State)
     × history.IsReached shown × ShowsState T R of st shown × ShowsReclaimers T R of by st shown
-
--- calls made one after another led to the state, or a legal list of events did, or a growth was refused
-abbrev pub IsFound : {T R : Type 0} → (R → T → List T) → (T → ℕ) → Bool → waiting.State T R → Type 0
-IsFound puts weight short st = ∥ (short ≡ true) ⊎ Reached puts weight st ⊎ IsLedTo st ∥₁

@@ -1,5 +1,5 @@
 -- The states that a collector comes to, whatever calls are made.
-use Rattle.std.specs.Prelude.{◌≡◌, ◌⊎◌, ℕ, Bool, true, false, List, [], Option}
+use Rattle.std.specs.Prelude.{◌≡◌, ℕ, false, List, [], Option}
 use Rattle.seize_model.specs.Waiting.State.{State, new, is_kept, retired_at}
 use Rattle.seize_model.specs.Waiting.Calls as calls
 use Rattle.seize_model.specs.Waiting.Lists.{Call, step}
@@ -16,7 +16,3 @@ pub data Reached {T R : Type 0} (puts : R → T → List T) (weight : T → ℕ)
 -- **Gone.** In a reached state a retired batch that waits for no slot has no values left.
 abbrev pub GoneLaw : {T R : Type 0} → (R → T → List T) → (T → ℕ) → Type 0
 GoneLaw {T} {R} puts weight = (st : State T R) → Reached puts weight st → (b : ℕ) → is_kept st b ≡ false → retired_at st b ≡ []
-
--- the state is reached, or a growth was refused
-abbrev pub IsReachedByCalls : {T R : Type 0} → (R → T → List T) → (T → ℕ) → Bool → State T R → Type 0
-IsReachedByCalls puts weight short st = ∥ (short ≡ true) ⊎ Reached puts weight st ∥₁

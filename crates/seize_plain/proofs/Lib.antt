@@ -1,9 +1,0 @@
-pub mod Contents
-pub mod EmptiedBatches
-pub mod FurtherLoops
-pub mod JoinedPuts
-pub mod Numbering
-pub mod QueuedPuts
-pub mod Quieting
-pub mod ReachedStates
-pub mod Running

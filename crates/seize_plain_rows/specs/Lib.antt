@@ -1,2 +1,0 @@
-pub mod Nests
-pub mod Weights
