@@ -5,16 +5,16 @@
 --     WaitsBehind n had queue queue'     what was put with them waits behind what waited before;  AreWaiting code queue vs     in the queue
 --                            these values wait, each with its kind
 --     KeepsAside aside aside'    it is the same watch
---     DidApart code puts told sees n had aside aside'     the reclaimer had this and put as `puts` says; what it put waits, and the watch was
---                            told
+--     DidApart code puts told sees n had aside aside'     the reclaimer had this and put as `puts` says; what it put waits, and the watch
+--                            was told
 --     Fits pass st           the state has the size of the pass, and the links of the pass's list begin with values that differ
 --     MayGo pass places st   it fits, and what lies in these places is what the state says
 --     IsIn pass s place st   it fits, and slot s is in use there; what lies in its place is this
 --     IsSomeHeld code pass May     the hands hold some state of which `May` says so, as the pass has seen
 --     GivesBack k pass pass'     the numbers below k went back, by events made alone, one after another, the last one first
---     Goes code puts told May does pass pass' seen seen' queue queue'     where the hands hold a state of which `May` says so, they hold the
---                            one that `does` gives of it. What the reclaimer had are the values that are gone then; it put as `puts` says,
---                            what it put waits, and the watch was told
+--     Goes code puts told May does pass pass' seen seen' queue queue'     where the hands hold a state of which `May` says so, they hold
+--                            the one that `does` gives of it. What the reclaimer had are the values that are gone then; it put as `puts`
+--                            says, what it put waits, and the watch was told
 --     GoesAll                so it is where all is reclaimed with what is put, and the watch was told of that too
 use Rattle.std.specs.Prelude.{◌≡◌, ℕ, zero, suc, true, false, Option, List, [], ◌∷◌, ◌++◌, map}
 use base.Stored.{Gv}
@@ -69,7 +69,8 @@ pub record DidApart {T W Seen : Type 0} (code : T → Gv) (puts : ℕ → T → 
 
 abbrev pub AreWaiting : {T : Type 0} → (T → Gv) → Further → List (T × ℕ) → Type 0
 AreWaiting {T} code queue vs =
-    AreNamesOf code (values_of (further_in queue)) (map (λ (v : T × ℕ). v.0) vs) × (kepts_of (further_in queue) ≡ map (λ (v : T × ℕ). v.1) vs)
+    AreNamesOf code (values_of (further_in queue)) (map (λ (v : T × ℕ). v.0) vs)
+    × (kepts_of (further_in queue) ≡ map (λ (v : T × ℕ). v.1) vs)
 
 abbrev pub Fits : {T : Type 0} → Pass → State T ℕ → Type 0
 Fits pass st = (st.size ≡ pass.size) × (are_distinct (linked_values pass.name.links) ≡ true)
@@ -98,9 +99,10 @@ pub record Goes {T Seen : Type 0} (code : T → Gv) (puts : ℕ → T → List T
   pub holds : (st : State T ℕ) (names : List (ℕ × T)) (kinds : List (ℕ × ℕ)) → May st → Holds code st names kinds pass.name pass.seen
       → HoldsThen code (does st) had pass'
 
-abbrev pub GoesAll : {T Seen : Type 0} → (T → Gv) → (ℕ → T → List T) → (T → ℕ) → (Seen → T → Seen) → (State T ℕ → Type 0) → Pass → Pass → Seen → Seen
-    → Type 0
+abbrev pub GoesAll : {T Seen : Type 0} → (T → Gv) → (ℕ → T → List T) → (T → ℕ) → (Seen → T → Seen) → (State T ℕ → Type 0)
+    → Pass → Pass → Seen → Seen → Type 0
 GoesAll {T} code puts weight told May pass pass' seen seen' =
     (st : State T ℕ) (names : List (ℕ × T)) (kinds : List (ℕ × ℕ)) → May st → Holds code st names kinds pass.name pass.seen
-    → let all = reclaim_all puts weight st in ((names' : List (ℕ × T)) × (kinds' : List (ℕ × ℕ)) × Holds code all.0 names' kinds' pass'.name pass'.seen)
+    → let all = reclaim_all puts weight st in
+    ((names' : List (ℕ × T)) × (kinds' : List (ℕ × ℕ)) × Holds code all.0 names' kinds' pass'.name pass'.seen)
     × (seen' ≡ told_of told seen all.1)

@@ -122,7 +122,8 @@ pub(crate) fn leave_apart<B: Waited, T: Drop, R: Reclaim<T>, W: Watch<T>>(
     requires watch { (apart.old.aside.ghost_name ≡ B.name) × (apart.old.aside.now.watch.ghost_name ≡ B.watch)
         × (W.coded.code (W.seen apart.old.aside.now.watch.now) ≡ B.first) }
     requires queue { let queue = apart.old.aside.now.queue in
-        IsServed (further_in queue) (words_book words.now) × (values_of (further_in queue) ≡ B.values) × (kepts_of (further_in queue) ≡ B.words) }
+        IsServed (further_in queue) (words_book words.now)
+        × (values_of (further_in queue) ≡ B.values) × (kepts_of (further_in queue) ≡ B.words) }
     ensures same { (apart.new.aside.ghost_name ≡ apart.old.aside.ghost_name) × KeepsAside apart.old.aside.now apart.new.aside.now }
     ensures of { IsSlotOf words.now slot.new × MayEnterWith slot.new rest.new }
     ensures leaves { (had : Had) × SlotLeaves slot.old pass.old [] slot.new pass.new (without_puts had)
@@ -178,7 +179,8 @@ pub(crate) fn flush_apart<B: Waited, T: Drop, R: Reclaim<T>, W: Watch<T>>(
     requires watch { (apart.old.aside.ghost_name ≡ B.name) × (apart.old.aside.now.watch.ghost_name ≡ B.watch)
         × (W.coded.code (W.seen apart.old.aside.now.watch.now) ≡ B.first) }
     requires queue { let queue = apart.old.aside.now.queue in
-        IsServed (further_in queue) (words_book words.now) × (values_of (further_in queue) ≡ B.values) × (kepts_of (further_in queue) ≡ B.words) }
+        IsServed (further_in queue) (words_book words.now)
+        × (values_of (further_in queue) ≡ B.values) × (kepts_of (further_in queue) ≡ B.words) }
     ensures same { (apart.new.aside.ghost_name ≡ apart.old.aside.ghost_name) × KeepsAside apart.old.aside.now apart.new.aside.now }
     ensures of { IsSlotOf words.now slot.new × KeepsActivation slot.old slot.new }
     ensures flushes { (retired : Bool) × (had : Had) × SlotFlushes slot.old pass.old [] slot.new pass.new (without_puts had) retired

@@ -1,5 +1,5 @@
-//! Each slot in use leaves with its last guard, where it has any, and its number goes back, by a pass that is alone. A watch is told of each
-//! value that goes, and what the reclaimer puts waits in a queue.
+//! Each slot in use leaves with its last guard, where it has any, and its number goes back, by a pass that is alone. A watch is told of
+//! each value that goes, and what the reclaimer puts waits in a queue.
 ghost use Rattle.std.specs.Prelude.{◌≡◌, ◌<◌, ℕ, None, false, get_or, length, slice_set, true};
 ghost use Rattle.std.specs.List.{range_with_len};
 ghost use Rattle.seize_book.specs.Tokens.{IsSole};

@@ -104,8 +104,8 @@ impl<'a, 'h, 'l, 'w, 'p, T: Drop, R: Reclaim<T>, W: Watch<T>> LockWork<
     Turns<'h, 'l, 'w, Pass<'p>, T, W>,
     (),
 > for Turning<'a, T, R> {
-    ghost may = { λ work numbers turns. IsLockFor work.words.now numbers × IsPassFor work.words.now turns.pass.now × IsSole turns.pass.now.id
-        × IsLegalList (start turns.pass.now.name) turns.pass.now.seen
+    ghost may = { λ work numbers turns. IsLockFor work.words.now numbers × IsPassFor work.words.now turns.pass.now
+        × IsSole turns.pass.now.id × IsLegalList (start turns.pass.now.name) turns.pass.now.seen
         × IsSomeHeld T.row.coded.code turns.pass.now (MayGo turns.pass.now turns.places.now.items)
         × IsEnderOf work.words.now work.ender.now };
 
