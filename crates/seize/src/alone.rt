@@ -41,8 +41,8 @@ use std::marker::{Brand, Model};
 /// A collector in one caller's hands. No call waits, and each returns, but for what a reclaimer, a watch, the `Drop` of a value or the
 /// closure of `look` does.
 ///
-/// Its drop is that of a collector which threads share: first what is in use ends, then what waits is reclaimed, and then each value in a
-/// link goes to the reclaimer.
+/// Its drop is that of a collector which threads share: first what is in use ends, then what waits is reclaimed, slot by slot, and then
+/// each value in a link goes to the reclaimer. For the order of `reclaim_all`, and a watch, call that first.
 pub struct Alone<T: Drop + Codes, R: Reclaim<T> = Boxed> {
     words: Words<T>,
     porter: Porter,
@@ -228,7 +228,8 @@ impl<T: Drop, R: Reclaim<T>> Alone<T, R> {
     ///
     /// # Errors
     ///
-    /// `NoMemory` where the allocator refuses; `NoNumbers` where all 2^64 - 32 numbers are in use.
+    /// `NoMemory` where the allocator refuses. It is never `NoNumbers`: a list has room for fewer than 2^63 slots, so memory is refused
+    /// before all 2^64 - 32 numbers are in use. That no clause says.
     pub fn register(&mut self) -> Result<usize, Refusal>
         ensures done { Grew (calls.take_number self.old.state registered 0) result self.old.state self.new.state }
         ensures same { IsSame self.old self.new }

@@ -55,9 +55,9 @@ impl<T: Drop, R: Reclaim<T>> Alone<T, R> {
     ghost use Rattle.seize.specs.Alones.{IsSame};
     ghost use Rattle.seize.specs.Told.{Did};
 
-    /// Every slot leaves and gives its number back, in order of numbers; then each slot's batch is gone, in order; then each value that the
-    /// reclaimer put meanwhile, the first first, with what is put with these, until none is left. So every number is free then, every batch
-    /// is empty, and no retired batch is left. The links hold what they held.
+    /// Every slot leaves and gives its number back, in order of numbers; then each slot's batch is gone, in order. Then what the reclaimer
+    /// put meanwhile is gone, oldest first; what it puts with these joins the end, until none is left. So every number is free then, every
+    /// batch is empty, and no retired batch is left. The links hold what they held.
     ///
     /// The watch is told of each value that is gone, in order. It takes no memory and waits for nobody, but for what watch and reclaimer
     /// do.

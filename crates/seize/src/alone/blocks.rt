@@ -93,6 +93,14 @@ impl<T: Drop, R: Reclaim<T>> Alone<T, R> {
         Taken::from_owned(owned, &self.words, &self.ender)
     }
 
+    /// The value of what is in no link, of this collector, for as long as both are borrowed. It takes no memory.
+    pub fn peek<'g>(&'g self, taken: &'g Taken<T>) -> &'g T
+        requires { IsTakenOf T.row.coded.code self.now.book taken.now }
+        ensures { result.now ≡ taken_content taken.now }
+    {
+        taken.peek(&self.words)
+    }
+
     // The link holds this block then, or none. It gives what that held. The slot has a guard.
     fn exchange(&mut self, s: usize, link: usize, new: Option<Owned<T>>) -> Option<Taken<T>>
         requires guard { calls.no_guard self.old.state s ≡ None }

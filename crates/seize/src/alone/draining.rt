@@ -97,6 +97,7 @@ pub(crate) fn drain<T: Drop, R: Reclaim<T>, W: Watch<T>>(
     requires waits { (vs : List (T × ℕ)) × AreWaiting T.row.coded.code queue.old vs }
     ensures pass { pass.new ≡ pass.old }
     ensures same_reference { watch.exit.ghost_name ≡ watch.entry.ghost_name }
+    ensures empty { values_of (further_in queue.new) ≡ [] }
     ensures told { (vs : List (T × ℕ)) → AreWaiting T.row.coded.code queue.old vs
         → W.seen watch.new ≡ told_of W.told (W.seen watch.old) (gone_from R.puts R.weight vs) }
 {

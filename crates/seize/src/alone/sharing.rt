@@ -53,8 +53,8 @@ impl<T: Drop, R: Reclaim<T>> Collector<T, R> {
     ghost use Rattle.seize.specs.Reclaims.{IsSameCollector};
 
     /// Gives the collector to one caller, where no number is in use. It goes by value, so passes, guards and registrations are over. What
-    /// its links hold, and what is in the batches of its slots, stays there; that no clause says. It takes no memory, makes no atomic
-    /// step and waits for nobody.
+    /// its links hold, and what is in the batches of its slots, stays there; that no clause says. It takes no memory and waits for nobody.
+    /// Its list of events goes on: each number is taken and goes back, without an atomic step.
     ///
     /// # Errors
     ///
@@ -156,10 +156,14 @@ pub(super) fn shared<T: Drop, R: Reclaim<T>>(
 }
 
 impl<T: Drop, R: Reclaim<T>> Alone<T, R> {
-    /// Gives the collector to threads. What is in use stays so, as if its holder had been forgotten, until `reclaim_all` or the drop: so
-    /// leave and end slots first, or what is retired later waits for them. It takes no memory, makes no event and waits for nobody.
+    ghost use Rattle.seize.specs.Collectors.{its_links};
+
+    /// Gives the collector to threads. What is in use stays so, as if its holder had been forgotten, until `Collector::reclaim_all` or the
+    /// drop; what is retired later may wait for it, and `Collector::alone` is refused. So leave and end slots first, or call `reclaim_all`.
+    /// It takes no memory, makes no event and waits for nobody.
     pub fn share(self) -> Collector<T, R>
-        ensures same { (its_book result ≡ self.book) × (its_size result ≡ self.size) × (its_id result ≡ self.id) }
+        ensures same { (its_book result ≡ self.book) × (its_size result ≡ self.size) × (its_id result ≡ self.id)
+            × (its_links result ≡ self.links) }
     {
         let Alone {
             words,
