@@ -4,7 +4,7 @@ use Rattle.std.proofs.lemmas.List.Elements.{All-nil, All-cons, All-append, All-s
 use Rattle.std.proofs.lemmas.List.{append_assoc, append-nil, map-append}
 use Rattle.std.proofs.lemmas.List.Sums.{fold-append}
 use Rattle.seize_model.specs.Waiting.Attempt.{StateAndGone, with_gone}
-use Rattle.seize_model.specs.Waiting.Lists.{Call, Reply, step, Answered, Replied}
+use Rattle.seize_model.specs.Waiting.Lists.{Call, step, Answered, Replied}
 use Rattle.seize_model.specs.Waiting.State.{State}
 use Rattle.seize_model.proofs.WaitingSets.Lists.{replied_more}
 use Rattle.seize.specs.Running.{call_of, reply_of, AreFor, DoesCall}
@@ -20,17 +20,17 @@ module _ {T Seen : Type 0} (puts : ℕ → T → List T) (weight : T → ℕ) (t
   -- what was done so far
   abbrev pub Made : List (CodeCall T) → List (CodeCall T) → List (CodeReply T) → List (CodeReply T) → State T ℕ → State T ℕ → Seen → Seen → Type 0
   Made calls0 calls replies0 replies old now seen seen' =
-      (made : List (Call T ℕ)) × (answers : List (Reply T)) × (o : StateAndGone T ℕ)
-      × Replied puts weight old made answers o
+      (made : List (Call T ℕ)) × (added : List (CodeReply T)) × (o : StateAndGone T ℕ)
+      × Replied puts weight old made (map reply_of added) o
       × (made ++ map call_of calls ≡ map call_of calls0)
       × AreFor owners store links calls
-      × (map reply_of replies ≡ map reply_of replies0 ++ answers)
+      × (replies ≡ replies0 ++ added)
       × (now ≡ o.0) × (seen' ≡ told_of told seen o.1)
 
   pub made_none_yet : (calls : List (CodeCall T)) (replies start : List (CodeReply T)) (now : State T ℕ) (seen : Seen)
       → AreFor owners store links calls → start ≡ replies → Made calls calls replies start now now seen seen
   made_none_yet calls replies start now seen h e =
-      ([], [], (now, []), Replied.no_call now, refl, h, ap (map reply_of) e ∙ sym (append-nil (map reply_of replies)), refl, refl)
+      ([], [], (now, []), Replied.no_call now, refl, h, e ∙ sym (append-nil replies), refl, refl)
 
   -- one call after these
   one_more : (calls0 calls : List (CodeCall T)) (replies0 replies more : List (CodeReply T)) (old now next : State T ℕ) (seen heard after : Seen)
@@ -41,15 +41,16 @@ module _ {T Seen : Type 0} (puts : ℕ → T → List T) (weight : T → ℕ) (t
       → next ≡ last.0 → after ≡ told_of told heard last.1
       → more ≡ replies ++ reply ∷ []
       → Made calls0 rest replies0 more old next seen after
-  one_more calls0 calls replies0 replies more old now next seen heard after call rest reply last (made, answers, o, replied, split, ranges, texts, state, before) e answered is tells pushed = (
+  one_more calls0 calls replies0 replies more old now next seen heard after call rest reply last (made, added, o, replied, split, ranges, texts, state, before) e answered is tells pushed = (
     made ++ call_of call ∷ [],
-    answers ++ reply_of reply ∷ [],
+    added ++ reply ∷ [],
     with_gone o.1 last,
-    replied_more puts weight old made answers o (call_of call) (reply_of reply) last replied
-        (subst (λ k. Answered puts weight k (call_of call) (reply_of reply) last) state answered),
+    subst (λ answers. Replied puts weight old (made ++ call_of call ∷ []) answers (with_gone o.1 last)) (sym (map-append reply_of added (reply ∷ [])))
+        (replied_more puts weight old made (map reply_of added) o (call_of call) (reply_of reply) last replied
+        (subst (λ k. Answered puts weight k (call_of call) (reply_of reply) last) state answered)),
     append_assoc made (call_of call ∷ []) (map call_of rest) ∙ ap (λ cs. made ++ map call_of cs) (sym e) ∙ split,
     (subst (λ (cs : List (CodeCall T)). AreFor owners store links cs) e ranges).1,
-    ap (map reply_of) pushed ∙ map-append reply_of replies (reply ∷ []) ∙ ap (λ rs. rs ++ reply_of reply ∷ []) texts ∙ append_assoc (map reply_of replies0) answers (reply_of reply ∷ []),
+    pushed ∙ ap (λ rs. rs ++ reply ∷ []) texts ∙ append_assoc replies0 added (reply ∷ []),
     is,
     tells ∙ ap (λ s. told_of told s last.1) before ∙ sym (fold-append (λ s v. told s v.0) seen o.1 last.1),
   )

@@ -80,5 +80,5 @@ DoesCall puts weight told call reply old new seen seen' =
 abbrev pub Ran : {T Seen : Type 0} → (ℕ → T → List T) → (T → ℕ) → (Seen → T → Seen) → List (CodeCall T) → List (CodeReply T)
     → List (CodeReply T) → State T ℕ → State T ℕ → Seen → Seen → Type 0
 Ran {T} puts weight told calls replies replies' old new seen seen' =
-    (answers : List (Reply T)) × (o : StateAndGone T ℕ) × Replied puts weight old (map call_of calls) answers o
-    × (map reply_of replies' ≡ map reply_of replies ++ answers) × (new ≡ o.0) × (seen' ≡ told_of told seen o.1)
+    (added : List (CodeReply T)) × (o : StateAndGone T ℕ) × Replied puts weight old (map call_of calls) (map reply_of added) o
+    × (replies' ≡ replies ++ added) × (new ≡ o.0) × (seen' ≡ told_of told seen o.1)
