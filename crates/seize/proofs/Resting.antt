@@ -111,6 +111,7 @@ come_on p q r made comes looks sole =
       same = same_twice p q r comes.same looks.same;
       goes_on = subst (λ (log : List Entry). GoesOnTo p.name p.seen log) (sym (looks.alone sole)) comes.goes_on;
       rests = go made comes.rests;
+      kept = λ none unused. comes.kept none (subst (λ (st : State). (s : ℕ) → (slot_at st s).used ≡ false) same unused);
     }
   where
     go : (o : Option ℕ) → IfSome o (λ many. (many ≡ length (state_seen q).slots) × AllRest q) → IfSome o (λ many. (many ≡ length (state_seen r).slots) × AllRest r)

@@ -4,7 +4,8 @@
 --     AreIdleFrom k flags pass   so is each from k on
 --     KeepsIdleBut n pass pass'  each slot but n that is idle stays so
 --     AllRest pass             each slot is idle, and its number is not in use
---     ComesToRest pass pass' made    it is the same pass, with a list that goes on. Where no number is in use, so many slots were made
+--     ComesToRest pass pass' made    it is the same pass, with a list that goes on. Where no number is in use, so many slots were made; it
+--                              says none only where one is in use
 use Rattle.std.specs.Prelude.{◌≡◌, ◌≤◌, ℕ, Bool, false, List, Option, None, IfSome, length}
 use Rattle.seize_machine.specs.Machine.State.{slot_at}
 use Rattle.seize_book.specs.Homesteads.{state_seen}
@@ -35,3 +36,4 @@ pub record ComesToRest (pass pass' : Pass) (made : Option ℕ) : Type 0 where
   pub same : IsSamePass pass pass'
   pub goes_on : GoesOnTo pass.name pass.seen pass'.seen
   pub rests : IfSome made (λ many. (many ≡ length (state_seen pass').slots) × AllRest pass')
+  pub kept : made ≡ None → ¬ ((s : ℕ) → (slot_at (state_seen pass') s).used ≡ false)

@@ -50,7 +50,7 @@ impl<T: Drop, R: Reclaim<T>> Collector<T, R> {
     ghost use Rattle.seize_model.specs.Agreement.Origins.{IsLedTo};
     ghost use Rattle.seize_alone.specs.Holding.{some_state};
     ghost use Rattle.seize.specs.Collectors.{its_links};
-    ghost use Rattle.seize.specs.Reclaims.{IsSameCollector};
+    ghost use Rattle.seize.specs.Reclaims.{IsSameCollector, NoneInUse};
 
     /// Gives the collector to one caller, where no number is in use. It goes by value, so passes, guards and registrations are over. What
     /// its links hold, and what is in the batches of its slots, stays there; that no clause says. It takes no memory and waits for nobody.
@@ -65,7 +65,7 @@ impl<T: Drop, R: Reclaim<T>> Collector<T, R> {
             × (alone.links ≡ its_links self) × (alone.state.size ≡ alone.size) × (length alone.state.links ≡ its_links self)
             × ((s : ℕ) → ((slot_at alone.state s).kind ≡ Free) × ((slot_at alone.state s).guards ≡ 0))
             × IsLedTo (some_state alone.state)) }
-        ensures back { IfErr result (λ c. IsSameCollector self c) }
+        ensures back { IfErr result (λ c. IsSameCollector self c × ¬ (NoneInUse c)) }
     {
         let (words, mut porter, numbers, ender, id, alloc) = self.into_parts();
         let (made, numbers) = rest(&words, &ender, &mut porter, numbers);

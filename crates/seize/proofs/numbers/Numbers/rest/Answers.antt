@@ -1,8 +1,9 @@
-use Rattle.std.proofs.Common.{refl, sym, ap, ◌∙◌, arith}
+use Rattle.std.proofs.Common.{refl, sym, ap, subst, true≢false, ◌∙◌, arith}
+use Rattle.seize_book.specs.Homesteads.{state_seen}
 use Rattle.seize_book.specs.Tokens.{IsSole}
 use Rattle.seize.specs.Sweeps.{KeepsOn}
 use Rattle.seize.proofs.Cleared.{keeps_looked}
-use Rattle.seize.proofs.InUse.{taken_still}
+use Rattle.seize.proofs.InUse.{AreAllHere, all_unused, here_all, taken_still}
 use Rattle.seize.proofs.Placed.{still_for}
 use Rattle.seize.proofs.Resting.{all_resting, rested_on, rested_same}
 use Rattle.seize.proofs.Swept.{keeps_then, still_sole}
@@ -40,7 +41,7 @@ returns-then-all_here-clause-rests g c =
     let sole : IsSole p.id = c.requires.pass.1 in let keeps : KeepsOn p p2 = keeps_then p p0 p2 (keeps_looked p p0 look0.looks.0 sole) (keeps_then p0 p1 p2 take.off.0 give.left.0) in let sole2 : IsSole p2.id = still_sole p p2 keeps.0 sole in
     let items = c.give_all.new.self.slots.items in
     let all = all_resting p p2 p3 keeps look1.looks.0 sole2 items (look1.used.0 ∙ give.numbers.0.flags) give.idle (sym c.all_here.ensures ∙ c.if-all_here.true) in
-    record { same = rested_same p p2 p3 keeps look1.looks.0 sole2; goes_on = rested_on p p2 p3 keeps look1.looks.0 sole2; rests = (let len = c.len.ensures in let many = all.0 in omega (arith, len, many), all.1) }
+    record { same = rested_same p p2 p3 keeps look1.looks.0 sole2; goes_on = rested_on p p2 p3 keeps look1.looks.0 sole2; rests = (let len = c.len.ensures in let many = all.0 in omega (arith, len, many), all.1); kept = λ none. absurd (cc) }
 
 pub returns-else-all_here-clause-numbers : goal.returns-else-all_here-clause-numbers
 returns-else-all_here-clause-numbers g c =
@@ -52,4 +53,9 @@ returns-else-all_here-clause-rests g c =
     let p = c.args.pass.now in let p0 = c.look.new.pass in let p1 = c.take_all.new.pass in let p2 = c.give_all.new.pass in let p3 = c.look-2.new.pass in
     let look0 = c.look.ensures in let look1 = c.look-2.ensures in let sole : IsSole p.id = c.requires.pass.1 in
     let keeps : KeepsOn p p2 = keeps_then p p0 p2 (keeps_looked p p0 look0.looks.0 sole) (keeps_then p0 p1 p2 c.take_all.ensures.off.0 c.give_all.ensures.left.0) in let sole2 : IsSole p2.id = still_sole p p2 keeps.0 sole in
-    record { same = rested_same p p2 p3 keeps look1.looks.0 sole2; goes_on = rested_on p p2 p3 keeps look1.looks.0 sole2; rests = tt }
+    let items = c.give_all.new.self.slots.items in record {
+      same = rested_same p p2 p3 keeps look1.looks.0 sole2;
+      goes_on = rested_on p p2 p3 keeps look1.looks.0 sole2;
+      rests = tt;
+      kept = λ _ unused. true≢false (sym (c.all_here.ensures ∙ here_all items (subst AreAllHere (look1.used.0 ∙ c.give_all.ensures.numbers.0.flags) (all_unused (state_seen p3).slots unused))) ∙ c.if-all_here.false);
+    }
