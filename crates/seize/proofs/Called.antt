@@ -13,7 +13,7 @@ use Rattle.seize_calls.specs.Handing.{Had}
 use Rattle.seize_calls.specs.Slots.{CallsWith, IsOfWords, IsPassFor, its_book, its_number}
 use Rattle.seize_calls.specs.declared.slot.Slot.{Slot}
 use Rattle.seize_alone.specs.Gone.{PutAs}
-use Rattle.seize.specs.Places.{CallsSlot, IsOnly, IsStill}
+use Rattle.seize.specs.Places.{CallsSlot, IsOnly, IsUnmoved}
 use Rattle.seize.specs.Reservations.{IsReservation, IsUnit, its_label, place_label}
 use Rattle.seize.specs.declared.alone.place.Unit.{Unit}
 use Rattle.seize.specs.Told.{HasTold}
@@ -21,11 +21,11 @@ use Rattle.seize.specs.declared.reservation.Reservation.{Reservation}
 use Rattle.seize.proofs.Placed.{label_family, label_most, label_number, still_for}
 
 -- nothing was done
-pub still_none : (pass : Pass) → IsStill pass pass
+pub still_none : (pass : Pass) → IsUnmoved pass pass
 still_none pass = record { same = (refl, refl, refl); alone = λ _. refl }
 
 -- it is alone still
-pub sole_still : {pass pass' : Pass} → IsStill pass pass' → IsSole pass.id → IsSole pass'.id
+pub sole_still : {pass pass' : Pass} → IsUnmoved pass pass' → IsSole pass.id → IsSole pass'.id
 sole_still still sole = subst IsSole (sym still.same.1) sole
 
 -- what the pass has seen is a legal list then, since it is what the slot has seen
@@ -36,7 +36,7 @@ legal_then words slot slot' pass pass' Does calls of for same =
 
 module _ {T Seen : Type 0} (code : T → Gv) (puts : ℕ → T → List T) (told : Seen → T → Seen) (words : Words T) (r : Reservation T) (pass : Pass) (r' : Reservation T) (pass' : Pass) (seen seen' : Seen)
     (Does : Slot T → Pass → Slot T → Pass → Had → Type 0) where
-  pub called : (slot : Slot T) (ready : Pass) (had : Had) (Did : Pass → Type 0) → its_number slot ≡ its_number r.slot → IsStill pass ready → IsPassFor words pass → IsOfWords words r'.slot → Does slot ready r'.slot pass' had
+  pub called : (slot : Slot T) (ready : Pass) (had : Had) (Did : Pass → Type 0) → its_number slot ≡ its_number r.slot → IsUnmoved pass ready → IsPassFor words pass → IsOfWords words r'.slot → Does slot ready r'.slot pass' had
       → (calls : CallsWith slot ready r'.slot pass' Did) → IsSamePass calls.ready pass' → PutAs code puts had → HasTold code told seen seen' had → CallsSlot code puts told r pass r' pass' seen seen' Does
   called slot ready had Did its still for of does calls same put tells = record {
     same = (same.0 ∙ calls.prepares.same.0 ∙ still.same.0, same.1 ∙ calls.prepares.same.1 ∙ still.same.1, same.2 ∙ calls.prepares.same.2 ∙ still.same.2);

@@ -28,7 +28,7 @@ use Rattle.seize_calls.specs.Slots.{IsLooseIn, IsLooseOf, IsReadable, its_value}
 use Rattle.seize_calls.specs.declared.slot.Loose.{Loose}
 use Rattle.seize.specs.Blocks.{HasContent, IsNamed, LooseComesOut, ShowsIn, TakesOut, content, shared_value, taken_content}
 use Rattle.seize.specs.Looks.{with_link}
-use Rattle.seize.specs.Places.{IsStill}
+use Rattle.seize.specs.Places.{IsUnmoved}
 use Rattle.seize.specs.Reservations.{IsUnitIn}
 use Rattle.seize.specs.declared.block.owned.Owned.{Owned}
 use Rattle.seize.specs.declared.block.shared.Shared.{Shared}
@@ -53,7 +53,7 @@ module _ (n : Name) (s : ℕ) (unit : Activation) (seen : Seen) (its : IsUnitIn 
       → MakesAlone pass pass' (ExchangeLink s number (Swap (value_held key))) (Held (held_before t.0))
   alone_swaps key ready key' pass' v same t =
       subst (λ (k : ℕ × ℕ). MakesAlone pass pass' (ExchangeLink k.0 k.1 (Swap (value_held key))) (Held (held_before t.0))) (λ j. (its.slot j, at j))
-      (alone_from sole (subst (IsStill pass) (sym same) (still_learned seen learns)) (swapped_alone (subst (λ (p : Pass). IsSole p.id) (sym same) sole_learned) t.0))
+      (alone_from sole (subst (IsUnmoved pass) (sym same) (still_learned seen learns)) (swapped_alone (subst (λ (p : Pass). IsSole p.id) (sym same) sole_learned) t.0))
 
 -- What came out is what the link held, of these words, and can be read; or there is neither.
 pub came_out : {T : Type 0} (words : Words T) (link : Link) (a : Activation) (key : MaybeKey) (pass : Pass) (key' : MaybeKey) (pass' : Pass) (v : ℕ) (t : Swaps link a key pass key' pass' v) (result : Option Loose)

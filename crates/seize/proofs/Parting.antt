@@ -30,7 +30,7 @@ use Rattle.seize_alone.proofs.Orderly.{owned_guard}
 use Rattle.seize_alone.proofs.Outlines.{guards_in, kind_in, less_frame, outline, outline_of, slot_in, slots_in}
 use Rattle.seize_alone.proofs.Singles.{gives_held, guards_held}
 use Rattle.seize.specs.Aparts.{Fits, Goes, IsSomeHeld, WaitsBehind}
-use Rattle.seize.specs.Places.{IsStill}
+use Rattle.seize.specs.Places.{IsUnmoved}
 use Rattle.seize.specs.Placing.{ArePlaces, Lies, lies_for, lies_in, lying_in, unit_in}
 use Rattle.seize.specs.Told.{HasTold}
 use Rattle.seize.specs.declared.alone.place.Unit.{Unit as Held}
@@ -254,7 +254,7 @@ parts_all {T} st n places many are long = go (past_or many (length st.slots))
 
 module _ {T Seen : Type 0} (c : Coded T) (puts : ℕ → T → List T) (told : Seen → T → Seen) where
   -- the last guard leaves
-  pub leave_goes : (words : Words T) (slot slot' : Slot T) (pass ready pass' : Pass) (n : ℕ) → its_number slot ≡ n → IsPassFor words pass → IsSole pass.id → IsStill pass ready → IsOfWords words slot' → (had : Had) → SlotLeaves slot ready [] slot' pass' (without_puts had)
+  pub leave_goes : (words : Words T) (slot slot' : Slot T) (pass ready pass' : Pass) (n : ℕ) → its_number slot ≡ n → IsPassFor words pass → IsSole pass.id → IsUnmoved pass ready → IsOfWords words slot' → (had : Had) → SlotLeaves slot ready [] slot' pass' (without_puts had)
       → PutAs c.code puts had → (seen seen' : Seen) (queue queue' : Further) → HasTold c.code told seen seen' had → WaitsBehind (words_book words) had queue queue'
       → Goes c.code puts told (λ st. Fits pass st × (is_free (slot_at st n).kind ≡ false) × ((slot_at st n).guards ≡ 1)) (λ st. one_guard_less st n) pass pass' seen seen' queue queue'
   leave_goes words slot slot' pass ready pass' n at for sole still of had leaves put seen seen' queue queue' tells waits =

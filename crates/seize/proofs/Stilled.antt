@@ -10,33 +10,33 @@ use Rattle.seize_book.specs.declared.book.seen.Seen.{Seen}
 use Rattle.seize_calls.specs.Slots.{Prepares, SlotLooks}
 use Rattle.seize_calls.specs.declared.slot.Slot.{Slot}
 use Rattle.seize_alone.specs.Events.{MakesAlone}
-use Rattle.seize.specs.Places.{IsStill}
+use Rattle.seize.specs.Places.{IsUnmoved}
 
 -- Passes by which nothing was done.
 
-pub still_then : {p q r : Pass} → IsStill p q → IsStill q r → IsStill p r
+pub still_then : {p q r : Pass} → IsUnmoved p q → IsUnmoved q r → IsUnmoved p r
 still_then {p} {q} {r} one two = record {
   same = (two.same.0 ∙ one.same.0, two.same.1 ∙ one.same.1, two.same.2 ∙ one.same.2);
   alone = λ sole. two.alone (subst IsSole (sym one.same.1) sole) ∙ one.alone sole;
 }
 
-pub still_prepared : {T : Type 0} (slot : Slot T) {p q : Pass} → Prepares slot p q → IsStill p q
+pub still_prepared : {T : Type 0} (slot : Slot T) {p q : Pass} → Prepares slot p q → IsUnmoved p q
 still_prepared slot prepares = record { same = prepares.same; alone = prepares.alone }
 
-pub still_looked : {T : Type 0} (slot slot' : Slot T) {p q : Pass} → SlotLooks slot p slot' q → IsStill p q
+pub still_looked : {T : Type 0} (slot slot' : Slot T) {p q : Pass} → SlotLooks slot p slot' q → IsUnmoved p q
 still_looked slot slot' {p} {q} looks =
     let on : LooksOn looks.0.ready q = looks.0.does.on in
     still_then (still_prepared slot looks.0.prepares) (record { same = on.same; alone = on.alone })
 
-pub still_learned : {p q : Pass} (seen : Seen) → Learns p seen q → IsStill p q
+pub still_learned : {p q : Pass} (seen : Seen) → Learns p seen q → IsUnmoved p q
 still_learned seen learns = record { same = learns.0; alone = learns.3 }
 
-pub same_pass : {p q : Pass} → IsSole p.id → IsStill p q → q ≡ p
+pub same_pass : {p q : Pass} → IsSole p.id → IsUnmoved p q → q ≡ p
 same_pass sole still = λ j. record { marker = record {}; name = still.same.0 j; size = still.same.2 j; id = still.same.1 j; seen = still.alone sole j }
 
-pub alone_from : {p q r : Pass} {event : Event} {answer : Answer} → IsSole p.id → IsStill p q → MakesAlone q r event answer → MakesAlone p r event answer
+pub alone_from : {p q r : Pass} {event : Event} {answer : Answer} → IsSole p.id → IsUnmoved p q → MakesAlone q r event answer → MakesAlone p r event answer
 alone_from {p} {q} {r} {event} {answer} sole still makes = subst (λ (t : Pass). MakesAlone t r event answer) (same_pass sole still) makes
 
-pub alone_then : {p q r : Pass} {event : Event} {answer : Answer} → MakesAlone p q event answer → IsStill q r → MakesAlone p r event answer
+pub alone_then : {p q r : Pass} {event : Event} {answer : Answer} → MakesAlone p q event answer → IsUnmoved q r → MakesAlone p r event answer
 alone_then {p} {q} {r} {event} {answer} makes still =
     subst (λ (t : Pass). MakesAlone p t event answer) (sym (same_pass (subst IsSole (sym makes.same.1) makes.sole) still)) makes

@@ -31,7 +31,7 @@ use Rattle.seize_alone.proofs.Shown.{active_shown, many_shown, slot_shown}
 use Rattle.seize_alone.proofs.Singles.{gives_held, made_next}
 use Rattle.seize.specs.Aparts.{Fits, GivesBack, Goes, IsSomeHeld}
 use Rattle.seize.specs.Numbers.{flags_of}
-use Rattle.seize.specs.Places.{IsStill}
+use Rattle.seize.specs.Places.{IsUnmoved}
 use Rattle.seize.proofs.Going.{fits_then, goes_then, range_append, waits_none}
 use Rattle.seize.proofs.InUse.{AreAllHere, all_unused, here_all}
 use Rattle.seize.proofs.Parting.{goes_from, parts_long, parts_size}
@@ -85,7 +85,7 @@ gives_back {T} c (suc k) p q back st names kinds holds =
 
 -- a look changes nothing
 pub looked_pass : (p q : Pass) → LooksOn p q → IsSole p.id → q ≡ p
-looked_pass p q looks sole = let still : IsStill p q = record { same = looks.same; alone = looks.alone } in same_pass sole still
+looked_pass p q looks sole = let still : IsUnmoved p q = record { same = looks.same; alone = looks.alone } in same_pass sole still
 
 pub all_lie : {T X : Type 0} (c : Coded T) (items : List (Option X)) (p q : Pass) → LooksOn p q → IsSole p.id → used (state_seen q) ≡ flags_of items → IsSomeHeld c.code p (λ (st : State T ℕ). (s : ℕ) → is_free (slot_at st s).kind ≡ true) → list_all is_some items ≡ true
 all_lie {T} c items p q looks sole flags held =

@@ -9,7 +9,7 @@
 --     AreNumbers numbers       so others find them: no slot that lies there has taken its number
 --     HasTaken words pass pass' slot     the slot's number was taken with the pass, by the event `Take`; where the pass is alone, that is
 --                              the only entry of the list since (MakesAlone). The slot is in use, and inactive
---     TakesNone pass pass' refusal     no number was taken, for want of memory, and the pass made nothing (IsStill)
+--     TakesNone pass pass' refusal     no number was taken, for want of memory, and the pass made nothing (IsUnmoved)
 --     IsLockFor words numbers  they are of the list of these words;  MayEnd words slot     the slot is in use, and inactive
 use Rattle.std.specs.Prelude.{◌≡◌, ◌<◌, ◌≤◌, ℕ, suc, zero, Bool, true, map, List, [], ◌∷◌, Option, Some, None, get_or}
 use Rattle.std.specs.Option.{is_none}
@@ -32,7 +32,7 @@ use Rattle.seize_calls.specs.Slots.{IsInUse, IsInactive, IsOfList, IsSlotOf, its
 use Rattle.seize_calls.specs.declared.slot.Slot.{Slot}
 use Rattle.seize_alone.specs.Events.{MakesAlone}
 use Rattle.seize.specs.Makes.{MakesNone, MakesOne}
-use Rattle.seize.specs.Places.{IsStill}
+use Rattle.seize.specs.Places.{IsUnmoved}
 use Rattle.seize.specs.declared.numbers.Numbers.{Numbers}
 
 abbrev pub flags_of : {X : Type 0} → List (Option X) → List Bool
@@ -74,7 +74,7 @@ pub record HasTaken {T : Type 0} (words : Words T) (pass pass' : Pass) (slot : S
   pub alone : IsSole pass.id → (answer : Answer) × MakesAlone pass pass' (Take (its_number slot)) answer
 
 abbrev pub TakesNone : Pass → Pass → Refusal → Type 0
-TakesNone pass pass' refusal = MakesNone pass pass' × IsStill pass pass' × (refusal ≡ NoMemory)
+TakesNone pass pass' refusal = MakesNone pass pass' × IsUnmoved pass pass' × (refusal ≡ NoMemory)
 
 abbrev pub IsLockFor : {T : Type 0} → Words T → Numbers T → Type 0
 IsLockFor words numbers = numbers.book.name.family ≡ (words_book words).family

@@ -1,5 +1,5 @@
 -- Passes that are alone, and what lies in the places of slots while a collector is in one caller's hands.
---     IsStill pass pass'     it is the same pass, and where it is alone it has seen just what it had seen
+--     IsUnmoved pass pass'     it is the same pass, and where it is alone it has seen just what it had seen
 --     IsOnly words r pass    a reservation for one guard of a slot of these words, and a pass of theirs that is alone
 --     CallsSlot code puts told r pass r' pass' seen seen' Does     the slot of this reservation did that, once the pass was ready, which
 --                            changed nothing. With what the reclaimer had it put as `puts` says, and the watch was told of that
@@ -18,7 +18,7 @@ use Rattle.seize.specs.Reservations.{IsReservationOf}
 use Rattle.seize.specs.Told.{HasTold}
 use Rattle.seize.specs.declared.reservation.Reservation.{Reservation}
 
-pub record IsStill (pass pass' : Pass) : Type 0 where
+pub record IsUnmoved (pass pass' : Pass) : Type 0 where
   pub same : IsSamePass pass pass'
   pub alone : IsSole pass.id → pass'.seen ≡ pass.seen
 
@@ -31,7 +31,7 @@ pub record CallsSlot {T Seen : Type 0} (code : T → Gv) (puts : ℕ → T → L
   pub slot : Slot T
   pub ready : Pass
   pub its : its_number slot ≡ its_number r.slot
-  pub still : IsStill pass ready
+  pub still : IsUnmoved pass ready
   pub had : Had
   pub does : Does slot ready r'.slot pass' had
   pub legal : IsLegalList (start pass'.name) pass'.seen

@@ -42,7 +42,7 @@ impl<T: Drop> Reservation<T> {
     ghost use Rattle.seize_words.specs.Joined.{words_book};
     ghost use Rattle.seize_alone.specs.Events.{MakesAlone};
     ghost use Rattle.seize.specs.Enders.{IsEnderOf};
-    ghost use Rattle.seize.specs.Places.{IsStill};
+    ghost use Rattle.seize.specs.Places.{IsUnmoved};
     ghost use Rattle.seize_calls.specs.Slots.{InActivation, IsInactive, IsPassFor, IsSlotOf, its_number};
     ghost use Rattle.seize_book.specs.Tokens.{IsSole};
     ghost use Rattle.seize.specs.Makes.{MakesOne, StaysActive};
@@ -129,7 +129,7 @@ impl<T: Drop> Reservation<T> {
         ensures active { (0 < self.old.guards) × IsSlotOf words.now self.new.slot × InActivation self.new.slot unit.now }
         ensures same { its_number self.new.slot ≡ its_number self.old.slot }
         ensures active_still { StaysActive (its_number self.old.slot) pass.old pass.new }
-        ensures still { IsStill pass.old pass.new }
+        ensures still { IsUnmoved pass.old pass.new }
     {
         self.slot.seen().agree(&words.blocks.book);
         pass.learn(seen);
