@@ -14,8 +14,8 @@ use std::process::Abort;
 use std::sync::atomic::AtomicU64;
 use std::test::*;
 
-// How long the chain and how wide the value.
-const MANY: u64 = 10_000;
+/// How long the chain and how wide the value.
+pub(crate) const MANY: u64 = 10_000;
 
 // A block with these two inside.
 fn around_two(
@@ -66,8 +66,8 @@ fn each_reclaimer_is_called_once(rt: HostRuntime) -> Result<(), Fail> {
     Ok(())
 }
 
-// Whether the numbers are 1, 2, 3 and so on.
-fn count_up(numbers: &[u64]) -> bool {
+/// Whether the numbers are 1, 2, 3 and so on.
+pub(crate) fn count_up(numbers: &[u64]) -> bool {
     numbers.iter().zip(1..).all(|(number, n)| *number == n)
 }
 
@@ -83,8 +83,8 @@ fn chain(alloc: Global, alone: &mut AloneNests<'_>) -> Result<Block, Refusal>
     Ok(block)
 }
 
-// A slot without a guard retires it.
-fn retire_a_chain(
+/// A slot without a guard retires such a chain.
+pub(crate) fn retire_a_chain(
     rt: &impl Abort,
     alloc: Global,
     alone: &mut AloneNests<'_>,
@@ -108,13 +108,18 @@ fn a_long_chain_goes_in_one_call(rt: HostRuntime) -> Result<(), Fail> {
     Ok(())
 }
 
-// So many blocks, of the numbers from this one on.
-fn leaves(alloc: Global, alone: &mut AloneNests<'_>, from: u64) -> Result<Vec<Block>, Refusal>
+/// So many blocks, of the numbers from this one on.
+pub(crate) fn leaves(
+    alloc: Global,
+    alone: &mut AloneNests<'_>,
+    from: u64,
+    many: u64,
+) -> Result<Vec<Block>, Refusal>
     ensures made { IfOk result (λ blocks. All (Belongs owners_of alone.old.book.store) blocks.items) }
     ensures same { alone.new ≡ alone.old }
 {
     let mut inside = Vec::new(alloc);
-    for n in 0..MANY {
+    for n in 0..many {
         let block = leaf(alloc, alone, from.wrapping_add(n))?;
         inside.push(block).map_err(AllocError::from)?;
     }
@@ -129,7 +134,7 @@ fn retire_a_wide_value(
     heard: &mut Heard,
 ) -> Result<(), Refusal> {
     let s = alone.register()?;
-    let inside = leaves(alloc, alone, 4)?;
+    let inside = leaves(alloc, alone, 4, MANY)?;
     let first = around(alone, 1, inside)?;
     retire(rt, alone, s, first, heard);
     retire_new(rt, alloc, alone, s, 2, heard)?;

@@ -11,6 +11,10 @@ mod alone_links;
 #[cfg(test)]
 mod alone_lists;
 #[cfg(test)]
+mod alone_memory;
+#[cfg(test)]
+mod alone_reclaiming;
+#[cfg(test)]
 mod guards;
 #[cfg(test)]
 mod ids;

@@ -212,14 +212,41 @@ fn any_call(
     ensures { IsSame alone.old alone.new }
 {
     let s = chance.below((lists.made() as u64).saturating_add(1)) as usize;
-    match chance.below(6) {
-        0 | 1 => Ok((
+    match chance.below(40) {
+        0 => {
+            alone.reclaim_all(heard);
+            lists.reclaim_all()?;
+            Ok(("reclaim_all", true))
+        }
+        1..14 => Ok((
             "retire",
             retire_new(rt, alloc, alone, lists, chance, s, heard)?,
         )),
-        2 => Ok(("swap", swap_new(rt, alloc, alone, lists, chance, s, heard)?)),
+        14..20 => Ok(("swap", swap_new(rt, alloc, alone, lists, chance, s, heard)?)),
         _ => call(alone, lists, chance, s, heard),
     }
+}
+
+// All is reclaimed, so the least number is free. Whether the links hold what they held.
+fn reclaim(
+    alone: &mut AloneNests<'_>,
+    lists: &mut Lists,
+    heard: &mut Heard,
+) -> Result<bool, Refusal>
+    requires { alone.old.links ≡ 3 }
+    ensures { IsSame alone.old alone.new }
+{
+    alone.reclaim_all(heard);
+    lists.reclaim_all()?;
+    let (s, wanted) = (alone.enter_owned()?, lists.enter_owned()?);
+    let mut well = s == wanted;
+    for link in 0..LINKS {
+        let found = alone.look(s, link, |found| found.number);
+        well = well && same(&found, &lists.look(s, link))?;
+    }
+    alone.leave(s, heard)?;
+    lists.leave(s)?;
+    Ok(well)
 }
 
 // Whether the watch and the reclaimer were told of the values that are gone in the lists, in order.
@@ -259,6 +286,9 @@ fn run<'a>(rt: &impl Abort, alloc: Global, seed: u64, ends: &'a Ends) -> Result<
         if !well || !are_told(&lists, &heard, ends) {
             return Err(Fail::new(format_args!("seed {seed}: call {n}, of {what}, differs")));
         }
+    }
+    if !reclaim(&mut alone, &mut lists, &mut heard)? || !are_told(&lists, &heard, ends) {
+        return Err(Fail::new(format_args!("seed {seed}: what is left differs")));
     }
     drop(alone);
     lists.end_all()?;

@@ -132,7 +132,7 @@ fn what_another_thread_retired_ends_with_the_lone_refresh(rt: HostRuntime) -> Re
     Ok(())
 }
 
-type Telling<'a> = Collector<Digit<'a>>;
+pub(crate) type Telling<'a> = Collector<Digit<'a>>;
 
 // A collector with one link, and batches of this many values.
 pub(crate) fn telling<'a>(alloc: Global, size: usize) -> Result<Telling<'a>, Refusal>
@@ -159,7 +159,7 @@ fn defer<'a>(
 }
 
 // A guard does so that leaves then.
-fn defer_alone<'a>(
+pub(crate) fn defer_alone<'a>(
     rt: &(impl Wait + Abort),
     registration: &Registration<'_, Digit<'a>>,
     digit: u64,
