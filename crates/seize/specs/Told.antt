@@ -1,5 +1,6 @@
 -- What a watch was told, and what calls of a collector in one caller's hands answer.
 --     told_of told seen gone     what a watch has seen that was told of these values, in order
+--     AreCodes code xs had       these values have the codes of those that were had, in order
 --     HasTold code told seen seen' had     a watch that had seen the one and has seen the other was told of the values that were had
 --     HasToldFrom c code told first seen' had     so it is with what it had seen first, of which this is the code
 --     only_refusal result        the result, where a refusal gives what the caller passed back

@@ -1,6 +1,10 @@
 -- Reclaiming all, by steps of single slots. Nothing is put in these steps: what the values gone put is reclaimed afterwards.
+--     last_guard_left st s     the slot leaves with its last guard, where it has any;  part_in_turn st s     so it does where it is in use,
+--                         and gives its number back
 --     parts_in_turn st ss      each of these slots in order: one in use leaves with its last guard, where it has any, and gives its number
 --                         back
+--     entered_as kind st s     the slot's number is taken for this kind, and it enters;  batch_in_turn kind st s     its batch is attempted
+--                         then, and it leaves
 --     batches_in_turn kind st ss     each of these slots in order: its number is taken for this kind, it enters, its batch is attempted,
 --                         and it leaves. It keeps its number: so each number is the least one not in use as it is taken
 --     numbers_in_turn st ss    each of these slots gives its number back

@@ -54,7 +54,8 @@ fn turn<T: Drop, R: Reclaim<T>, W: Watch<T>>(
 }
 
 impl<T: Drop> Numbers<T> {
-    /// So does each slot, in order of numbers. It takes no memory and waits for nobody, but for what watch and reclaimer do.
+    /// Each slot takes its number again, enters, attempts its batch and leaves, in order of numbers. It takes no memory and waits for nobody,
+    /// but for what watch and reclaimer do.
     pub(super) fn empty_all<R: Reclaim<T>, W: Watch<T>>(
         &mut self,
         words: &Words<T>,
@@ -78,7 +79,7 @@ impl<T: Drop> Numbers<T> {
         }
     }
 
-    // So does the slot in this place. The numbers before are in use.
+    // The slot in this place takes its number again, enters, attempts its batch and leaves. The numbers before are in use.
     fn empty_at<R: Reclaim<T>, W: Watch<T>>(
         &mut self,
         words: &Words<T>,

@@ -60,7 +60,7 @@ fn leave_last<T: Drop, R: Reclaim<T>, W: Watch<T>>(
     leave_into(words, ender, &mut r.slot, head, &mut r.rest, aside, pass);
 }
 
-// The slot whose place this is leaves with its last guard, where it has any. It gives the slot.
+// The slot whose place this is leaves with its last guard, where it has any. It gives the slot. Clauses alone use the number `_s`.
 fn part<T: Drop, R: Reclaim<T>, W: Watch<T>>(
     words: &Words<T>,
     ender: &Ender<T, R>,
@@ -127,7 +127,7 @@ impl<T: Drop> Numbers<T> {
         }
     }
 
-    // So does the slot in this place.
+    // The slot in this place leaves with its last guard, where it has any, and its number goes back.
     fn part_at<R: Reclaim<T>, W: Watch<T>>(
         &mut self,
         words: &Words<T>,

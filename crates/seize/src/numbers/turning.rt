@@ -49,6 +49,7 @@ impl<T: Drop> Numbers<T> {
             pass.old pass.new (W.seen aside.old.watch.now) (W.seen aside.new.watch.now) aside.old.queue aside.new.queue }
     {
         self.part_all(words, ender, places, aside, pass);
+        // So the key knows that no number is in use, and each slot lies here.
         self.key.look(pass);
         self.empty_all(words, ender, aside, pass);
         self.give_all(words, pass);
