@@ -54,8 +54,8 @@ fn turn<T: Drop, R: Reclaim<T>, W: Watch<T>>(
 }
 
 impl<T: Drop> Numbers<T> {
-    /// Each slot takes its number again, enters, attempts its batch and leaves, in order of numbers. It takes no memory and waits for nobody,
-    /// but for what watch and reclaimer do.
+    /// Each slot takes its number again, enters, attempts its batch and leaves, in order of numbers. It takes no memory and waits for
+    /// nobody, but for what watch and reclaimer do.
     pub(super) fn empty_all<R: Reclaim<T>, W: Watch<T>>(
         &mut self,
         words: &Words<T>,
