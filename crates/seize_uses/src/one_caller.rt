@@ -15,7 +15,7 @@ pub fn read_and_retire(alloc: Global, number: u64) -> Result<Option<u64>, Refusa
     ensures { IfOk result (λ read. read ≡ Some number) }
 {
     let collector: Collector<u64> = Collector::new(alloc, &mut IdSource::new(), 1, 1)?;
-    // A new one has no number in use, which no clause says.
+    // It is refused only where a number is in use. A new collector has none, but no clause says that its list is still empty here.
     let Ok(mut alone) = collector.alone() else {
         return Err(Refusal::NoMemory);
     };
