@@ -13,12 +13,10 @@ use Rattle.seize_book.specs.Tokens.{Name}
 use Rattle.seize_book.specs.Values.{values_of}
 use Rattle.seize_book.specs.declared.book.pass.Pass.{Pass}
 use Rattle.seize_book.proofs.Facts.{same_twice}
-use Rattle.seize_calls.specs.Aparts.{without_puts}
 use Rattle.seize_calls.specs.Furthers.{further_in}
 use Rattle.seize_calls.specs.Handing.{Had, IsServed}
 use Rattle.seize_calls.specs.declared.further.Further.{Further}
-use Rattle.seize_alone.proofs.Ready.{nothing}
-use Rattle.seize_alone.specs.Gone.{HadAre, PutAs}
+use Rattle.seize_alone.proofs.Nothing.{had_append}
 use Rattle.seize_alone.specs.Holding.{Holds, HoldsThen}
 use Rattle.seize_alone.specs.Reclaiming.{batch_in_turn, batches_in_turn, part_in_turn, parts_in_turn}
 use Rattle.seize.specs.Aparts.{Fits, Goes, WaitsBehind, values_put_in, words_put_in}
@@ -27,12 +25,6 @@ use Rattle.seize.proofs.Behind.{values_append, words_append}
 use Rattle.seize.proofs.Given.{put_more}
 
 -- What was had, twice.
-
-pub had_then : {T : Type 0} (code : T → Gv) (a b : Had) (gone more : List (T × ℕ)) → HadAre code a gone → HadAre code b more → HadAre code (a ++ b) (gone ++ more)
-had_then code [] b [] more one two = two
-had_then code (x ∷ a) b (v ∷ gone) more one two = (one.0, had_then code a b gone more one.1 two)
-had_then code [] b (v ∷ gone) more one two = absurd one
-had_then code (x ∷ a) b [] more one two = absurd one
 
 codes_then : {T : Type 0} (code : T → Gv) (xs ys : List T) (a b : Had) → AreCodes code xs a → AreCodes code ys b → AreCodes code (xs ++ ys) (a ++ b)
 codes_then code [] ys [] b one two = two
@@ -61,18 +53,6 @@ waits_none n queue served = record { served = served; values = sym (append-nil (
 -- of another name that is the same
 pub waits_as : (n m : Name) (had : Had) (p q : Further) → m ≡ n → WaitsBehind n had p q → WaitsBehind m had p q
 waits_as n m had p q same is = subst (λ (x : Name). WaitsBehind x had p q) (sym same) is
-
--- With nothing put.
-
-pub had_without : {T : Type 0} (code : T → Gv) (had : Had) (gone : List (T × ℕ)) → HadAre code (without_puts had) gone → HadAre code had gone
-had_without code [] [] are = tt
-had_without code (one ∷ had) (v ∷ gone) are = (are.0, had_without code had gone are.1)
-had_without code [] (v ∷ gone) are = absurd are
-had_without code (one ∷ had) [] are = absurd are
-
-pub put_nothing : {T : Type 0} (code : T → Gv) (puts : ℕ → T → List T) (had : Had) → PutAs code puts had → PutAs code nothing (without_puts had)
-put_nothing code puts [] put = tt
-put_nothing code puts (one ∷ had) put = ((put.0.0, put.0.1, tt, refl), put_nothing code puts had put.1)
 
 -- Parts.
 
@@ -113,7 +93,7 @@ module _ {T Seen : Type 0} (code : T → Gv) (puts : ℕ → T → List T) (told
     waits = waits_then p.name one.had two.had queue queue' queue'' one.waits (waits_as q.name p.name two.had queue' queue'' (sym one.same.0) two.waits);
     holds = λ st names kinds may holds.
         let mid = one.holds st names kinds may holds in let end = two.holds (does st).0 mid.0.0 mid.0.1 (may_then st names kinds may holds mid) mid.0.2 in
-        (end.0, had_then code one.had two.had (does st).1 (does' (does st).0).1 mid.1 end.1);
+        (end.0, had_append code one.had two.had (does st).1 (does' (does st).0).1 mid.1 end.1);
   }
 
 -- the same pass fits a state of the same size

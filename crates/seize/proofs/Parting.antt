@@ -36,7 +36,8 @@ use Rattle.seize.specs.Told.{HasTold}
 use Rattle.seize.specs.declared.alone.place.Unit.{Unit as Held}
 use Rattle.seize.specs.Reservations.{place_label}
 use Rattle.seize.specs.declared.alone.place.Place.{Place}
-use Rattle.seize.proofs.Going.{had_without, parts_append, put_nothing, range_append, waits_as, waits_none}
+use Rattle.seize_alone.proofs.Nothing.{had_with, put_nothing}
+use Rattle.seize.proofs.Going.{parts_append, range_append, waits_as, waits_none}
 use Rattle.seize.proofs.Lone.{slot_there}
 use Rattle.seize.proofs.Stilled.{same_pass}
 use Rattle.seize.proofs.Turning.{guarded_slot, leave_same, leave_step, less_size}
@@ -266,7 +267,7 @@ module _ {T Seen : Type 0} (c : Coded T) (puts : ℕ → T → List T) (told : S
         waits = waits_as (words_book words) pass.name had queue queue' (sym for.0) waits;
         holds = λ st names kinds may holds.
             let left = leave_step c words n (record { at = at; sole = sole; for = for; of = of; distinct = may.0.1; size = may.0.0; holds = holds }) (without_puts had) (put_nothing c.code puts had put) e may.1 may.2 in
-            (left.0.0, had_without c.code had (one_guard_less st n).1 left.0.1);
+            (left.0.0, had_with c.code had (one_guard_less st n).1 left.0.1);
       }
 
   -- a number goes back

@@ -30,7 +30,7 @@ use Rattle.seize_alone.specs.Holding.{Holds, HoldsThen}
 use Rattle.seize_alone.specs.Reclaiming.{batch_in_turn, batches_in_turn}
 use Rattle.seize_alone.proofs.Outlines.{attempt_frame, guards_in, kind_in}
 use Rattle.seize_alone.proofs.Ready.{nothing, nothing_flushed, nothing_further, nothing_lighter, ready_holds, taken_slot}
-use Rattle.seize_alone.proofs.Sizes.{parts_size}
+use Rattle.seize_alone.proofs.Sizes.{attempt_size, parts_size}
 use Rattle.seize_alone.proofs.Slots.{slot_enters, slot_flushes, slot_gives, slot_parts, slot_takes}
 use Rattle.seize.proofs.Called.{legal_then}
 use Rattle.seize.specs.Aparts.{Fits, Goes, WaitsBehind}
@@ -38,17 +38,13 @@ use Rattle.seize.specs.Sweeps.{KeepsPlaces}
 use Rattle.seize.specs.Told.{HasTold}
 use Rattle.seize.specs.declared.numbers.Numbers.{Numbers}
 use Rattle.seize.proofs.InUse.{AreAllHere, all_here, here_all}
-use Rattle.seize.proofs.Going.{had_then, had_without, put_nothing, told_then, waits_as, waits_then}
+use Rattle.seize_alone.proofs.Nothing.{had_append, had_with, put_nothing}
+use Rattle.seize.proofs.Going.{told_then, waits_as, waits_then}
 use Rattle.seize.proofs.Given.{put_more}
 use Rattle.seize.proofs.Lone.{slot_there}
 use Rattle.seize.proofs.Placed.{still_for}
 
 -- Sizes.
-
-pub attempt_size : {T R : Type 0} (st : State T R) (s : ℕ) → (attempt st s).0.size ≡ st.size
-attempt_size {T} {R} st s =
-    let out : State T R = with_batch_retired st s in
-    either (λ (o : StateAndGone T R). o.0.size ≡ st.size) (gives_up st s) _ _ refl (either (λ (o : StateAndGone T R). o.0.size ≡ st.size) (is_kept out (length st.retired)) _ _ refl refl)
 
 pub less_size : {T : Type 0} (st : State T ℕ) (s : ℕ) → (one_guard_less st s).0.size ≡ st.size
 less_size {T} st s = ap (λ (o : StateAndGone T ℕ). o.0.size) (sym (nothing_further (λ (x : T). 1) s (one_guard_less st s))) ∙ parts_size nothing (λ (x : T). 1) st s
@@ -193,7 +189,7 @@ module _ {T Seen : Type 0} (c : Coded T) (puts : ℕ → T → List T) (told : S
           let used3 : is_free (slot_at o.0 n).kind ≡ false = ap is_free (kind_in o.0 st2 outline n) ∙ used2 in let one3 : (slot_at o.0 n).guards ≡ 1 = guards_in o.0 st2 outline n ∙ one2 in
           let left = leave_step c words n (record { at = at3; sole = sole_then p4 same4; for = still_for words p0 p4 for same4; of = of4; distinct = ap (λ (m : Name). are_distinct (linked_values m.links)) same4.0 ∙ fits.1; size = attempt_size st2 n ∙ use_size st n Registered 0 ∙ fits.0 ∙ sym same4.2; holds = flushed.0.2 })
           (without_puts had2) (put_nothing c.code puts had2 put2) leaves used3 one3 in
-          (left.0.0, had_then c.code had1 had2 o.1 (one_guard_less o.0 n).1 (had_without c.code had1 o.1 flushed.1) (had_without c.code had2 (one_guard_less o.0 n).1 left.0.1))
+          (left.0.0, had_append c.code had1 had2 o.1 (one_guard_less o.0 n).1 (had_with c.code had1 o.1 flushed.1) (had_with c.code had2 (one_guard_less o.0 n).1 left.0.1))
 
       pub turn_goes : (seen seen' seen'' : Seen) (queue queue' queue'' : Further) (name : Name) → p0.name ≡ name → HasTold c.code told seen seen' had1 → WaitsBehind name had1 queue queue' → HasTold c.code told seen' seen'' had2 → WaitsBehind name had2 queue' queue''
           → Goes c.code puts told (Fits p0) (λ st. batch_in_turn Registered st n) p0 p5 seen seen'' queue queue''

@@ -17,4 +17,4 @@ pub mod Below
 pub mod Shown
 pub mod Orderly
 pub mod Forgotten
-pub mod Turns
+pub mod Nothing
