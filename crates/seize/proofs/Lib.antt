@@ -11,6 +11,7 @@ pub mod Wholly
 pub mod Current
 pub mod Readable
 mod Numbered
+mod Lawful
 mod Lighter
 pub mod Contents
 mod Given

@@ -2,16 +2,18 @@
 use Rattle.std.proofs.Common.{arith, ◌≡◌, ◌⊎◌, ℕ, ◌==◌, ◌<◌, ◌≤◌, Bool, true, false, not, if◌then◌else◌, List, length, Option, Some, None, option_map, get_or, is_some, inl, inr, slice_set, refl, sym, ap, subst, ◌∙◌}
 use Rattle.std.proofs.lemmas.Bool.{cases_lt, false≢true}
 use Rattle.std.proofs.lemmas.List.{get_or-set_same, get_or-set_other, get_or_past}
+use base.Growing.{prefix_trans}
 use base.Stored.{Gv}
+use mathlib.Core.List.{IsPrefix}
 use Rattle.seize_machine.proofs.Facts.{eq_true}
 use Rattle.seize_machine.specs.Machine.State.{are_distinct, head_at, is_active, linked_values}
 use Rattle.seize_model.specs.Waiting.Calls.{is_free}
 use Rattle.seize_model.specs.Waiting.State.{Slot, State, has_guard, no_slot, set_slot, slot_at}
 use Rattle.seize_model.proofs.Simulation.Events.{set_twice}
 use Rattle.seize_book.proofs.Facts.{equal}
-use Rattle.seize_book.specs.Book.{after}
+use Rattle.seize_book.specs.Book.{IsLegalList, after}
 use Rattle.seize_book.specs.Entry.{Entry}
-use Rattle.seize_book.specs.Porters.{HadStay, Shuts}
+use Rattle.seize_book.specs.Porters.{ComesHome, GoesOnTo, HadStay, Shuts}
 use Rattle.seize_book.specs.Tokens.{IsSole, Name, start}
 use Rattle.seize_book.specs.declared.book.pass.Pass.{Pass}
 use Rattle.seize_book.specs.declared.book.porter.Porter.{Porter}
@@ -20,7 +22,7 @@ use Rattle.seize_words.specs.declared.words.Words.{Words}
 use Rattle.seize_calls.specs.Slots.{IsPassFor}
 use Rattle.seize_alone.specs.Holding.{Holds}
 use Rattle.seize_alone.proofs.Shown.{active_shown}
-use Rattle.seize.specs.Alones.{IsAlone}
+use Rattle.seize.specs.Alones.{AsListed, IsAlone, View}
 use Rattle.seize.specs.Placing.{ArePlaces, Lies, lies_for, lies_in, lying_in}
 use Rattle.seize.specs.declared.alone.hands.Hands.{Hands}
 use Rattle.seize.specs.declared.alone.place.Place.{Place}
@@ -101,11 +103,21 @@ slot_there st s used = go (cases_lt s (length st.slots))
 
 -- After a work of the porter's first pass.
 
+-- the list goes on from what the porter had seen, if it does from what the pass was lent with
+pub goes_through : {gave : Pass → Pass → Type 0} {porter porter' : Porter} (stay : HadStay gave porter porter') → GoesOnTo stay.lent.name stay.lent.seen stay.back.seen → GoesOnTo porter.name porter.seen porter'.seen
+goes_through {porter = porter} stay on =
+    let at : GoesOnTo porter.name stay.lent.seen stay.back.seen = subst (λ (n : Name). GoesOnTo n stay.lent.seen stay.back.seen) stay.shut.book.0 on in
+    subst (GoesOnTo porter.name porter.seen) (sym stay.again.1) (record { grows = prefix_trans porter.seen stay.lent.seen stay.back.seen stay.shut.goes_on.grows at.grows; legal = at.legal; sound = at.sound; lent = at.lent; distinct = at.distinct })
+
 module _ {T R : Type 0} {code : T → Gv} {words : Words T} {porter : Porter} {numbers : ℕ} {places : List (Option (Place T))} {made : ℕ} {ender : Ender T R} {hands : Hands T} (a : IsAlone code words porter numbers places made ender hands)
     {gave : Pass → Pass → Type 0} {porter' : Porter} (stay : HadStay gave porter porter') where
   -- the hands hold what they hold as the porter has seen then
   pub held_again : {st : State T ℕ} {names : List (ℕ × T)} {kinds : List (ℕ × ℕ)} → Holds code st names kinds stay.back.name stay.back.seen → Holds code st names kinds porter'.name porter'.seen
   held_again {st} {names} {kinds} holds = subst (λ (t : Name × List Entry). Holds code st names kinds t.0 t.1) (λ j. (stay.again.0.0 j, sym stay.again.1 j)) holds
+
+  -- the list goes on from what it was
+  pub list_grows : {seen : List Entry} → porter.seen ≡ seen → IsPrefix seen porter'.seen
+  list_grows {seen} is = subst (IsPrefix seen) (sym stay.again.1) (subst (λ (x : List Entry). IsPrefix x stay.back.seen) (stay.shut.was a.lends.2 ∙ is) stay.grows)
 
   pub alone_again : (hands' : Hands T) (places' : List (Option (Place T))) (made' : ℕ) → made' ≡ length hands'.state.slots → hands'.state.size ≡ hands.state.size → length hands'.state.links ≡ length hands.state.links
       → ArePlaces (words_book words) hands'.state places' → Holds code hands'.state hands'.names hands'.kinds porter'.name porter'.seen → IsAlone code words porter' numbers places' made' ender hands'
@@ -145,3 +157,29 @@ alone_still a hands' places' slots size links placed holds = record {
   placed = placed;
   holds = holds;
 }
+
+-- What the porter at home knows, as it comes home once more.
+
+module _ {T R : Type 0} {code : T → Gv} {words : Words T} {porter porter' : Porter} {numbers : ℕ} {places : List (Option (Place T))} {made : ℕ} {ender : Ender T R} {hands : Hands T} (a : IsAlone code words porter numbers places made ender hands)
+    (home : ComesHome porter porter') where
+  pub seen_still : porter'.seen ≡ porter.seen
+  seen_still = home.was a.lends.2
+
+  pub alone_home : IsAlone code words porter' numbers places made ender hands
+  alone_home = record {
+    lends = (home.book.0 ∙ a.lends.0, home.book.1 ∙ a.lends.1, home.home);
+    numbered = a.numbered;
+    ends = a.ends;
+    counted = a.counted;
+    sized = a.sized;
+    linked = a.linked;
+    placed = a.placed;
+    holds = subst (λ (t : Name × List Entry). Holds code hands.state hands.names hands.kinds t.0 t.1) (λ j. (sym home.book.0 j, sym seen_still j)) a.holds;
+  }
+
+  pub goes_home : GoesOnTo (words_book words) porter.seen porter.seen
+  goes_home = subst (λ (t : Name × List Entry). GoesOnTo t.0 porter.seen t.1) (λ j. (a.lends.0 j, seen_still j)) home.goes_on
+
+-- what the list says of the state
+pub as_listed : {T : Type 0} {code : T → Gv} (v : View T) (names : List (ℕ × T)) (kinds : List (ℕ × ℕ)) → IsLegalList (start v.book) v.seen → Holds code v.state names kinds v.book v.seen → AsListed code v
+as_listed v names kinds legal holds = record { legal = legal; quiet = λ s. (holds.all.shows.slot s).idle; names = names; kinds = kinds; holds = holds }

@@ -1,17 +1,24 @@
 -- What contracts see of a collector in one caller's hands.
---     View T            the name of its list of events, its batch size, its id, how many links it has, and its state, as of waiting sets
---                       (`seize_model`)
+--     View T            the name of its list of events, its batch size, its id, how many links it has, its state, as of waiting sets
+--                       (`seize_model`), and the events of the list
 --     view_coded        the code of views, by that of values
 --     IsSame a a'       it is the same collector: by its list, its batch size, its id and how many links it has
+--     ListGrows a a'        the list had what it has had, and may have more events
+--     AsListed code a   the list is legal; where it ends no call is under way; and it leads to a machine that shows the state, where numbers
+--                       stand for values by their names, and for kinds as the list says (`Holds`)
 --     IsAlone code words porter numbers places made ender hands     what is so of its parts: all are of one list. The porter is at home.
 --                       The hands hold the state, which what the porter has seen shows, with the batch size; and so many slots were made.
 --                       What lies in the places is what the state says of the slots
-use Rattle.std.specs.Prelude.{◌≡◌, ℕ, List, Option, length, true}
+use Rattle.std.specs.Prelude.{◌≡◌, ℕ, List, Option, None, length, true}
+use mathlib.Core.List.{IsPrefix}
 use mathlib.Core.Path.{refl}
-use base.Stored.{Coded, Gv, coded×, coded_ℕ}
+use base.Stored.{Coded, Gv, coded×, coded_list, coded_ℕ}
 use Rattle.std.specs.Coded.{code_by}
+use Rattle.seize_machine.specs.Machine.State as machine
 use Rattle.seize_model.specs.Waiting.State.{State}
-use Rattle.seize_book.specs.Tokens.{Name, name_coded}
+use Rattle.seize_book.specs.Book.{IsLegalList, after}
+use Rattle.seize_book.specs.Entry.{Entry, entry_coded}
+use Rattle.seize_book.specs.Tokens.{Name, name_coded, start}
 use Rattle.seize_book.specs.declared.book.porter.Porter.{Porter}
 use Rattle.seize_words.specs.Joined.{words_book}
 use Rattle.seize_words.specs.declared.words.Words.{Words}
@@ -29,16 +36,27 @@ pub record View (T : Type 0) : Type 0 where
   pub id : ℕ
   pub links : ℕ
   pub state : State T ℕ
+  pub seen : List Entry
 
 abbrev pub view_coded : {T : Type 0} → Coded T → Coded (View T)
 view_coded {T} c =
-    code_by (Name × (ℕ × (ℕ × (ℕ × State T ℕ))))
-    (coded× name_coded (coded× coded_ℕ (coded× coded_ℕ (coded× coded_ℕ (state_coded c coded_ℕ)))))
-    (λ a. (a.book, (a.size, (a.id, (a.links, a.state)))))
-    (λ x. record { book = x.0; size = x.1.0; id = x.1.1.0; links = x.1.1.1.0; state = x.1.1.1.1 }) (λ _. refl)
+    code_by (Name × (ℕ × (ℕ × (ℕ × (State T ℕ × List Entry)))))
+    (coded× name_coded (coded× coded_ℕ (coded× coded_ℕ (coded× coded_ℕ (coded× (state_coded c coded_ℕ) (coded_list entry_coded))))))
+    (λ a. (a.book, (a.size, (a.id, (a.links, (a.state, a.seen))))))
+    (λ x. record { book = x.0; size = x.1.0; id = x.1.1.0; links = x.1.1.1.0; state = x.1.1.1.1.0; seen = x.1.1.1.1.1 }) (λ _. refl)
 
 abbrev pub IsSame : {T : Type 0} → View T → View T → Type 0
 IsSame a a' = (a'.book ≡ a.book) × (a'.size ≡ a.size) × (a'.id ≡ a.id) × (a'.links ≡ a.links)
+
+abbrev pub ListGrows : {T : Type 0} → View T → View T → Type 0
+ListGrows a a' = IsPrefix a.seen a'.seen
+
+pub record AsListed {T : Type 0} (code : T → Gv) (a : View T) : Type 0 where
+  pub legal : IsLegalList (start a.book) a.seen
+  pub quiet : (s : ℕ) → (machine.slot_at (after (start a.book) a.seen) s).call ≡ None
+  pub names : List (ℕ × T)
+  pub kinds : List (ℕ × ℕ)
+  pub holds : Holds code a.state names kinds a.book a.seen
 
 pub record IsAlone {T R : Type 0} (code : T → Gv) (words : Words T) (porter : Porter) (numbers : ℕ) (places : List (Option (Place T)))
     (made : ℕ) (ender : Ender T R) (hands : Hands T) : Type 0 where

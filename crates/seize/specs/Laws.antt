@@ -1,7 +1,8 @@
--- The laws of the machine, of the list that a pass has seen.
+-- The laws of the machine, of a list of events, and of that which a pass has seen.
 --     opening_of pass         the state in which the list begins: that of a new collector
 --     moments_seen pass       the events of the list, each with the states before and after it
---     LawsHold pass           each law of `machine::laws` holds of them
+--     LawsOf st ms            each law of `machine::laws` holds of these events, from this opening state
+--     LawsHold pass           so it is with those that the pass has seen
 --     HaveContents code pass  the name of each value that was ever named there says a content of the type whose code this is
 use Rattle.std.specs.Prelude.{◌≡◌, ℕ, true, List}
 use base.Stored.{Gv}
@@ -20,17 +21,20 @@ opening_of pass = start pass.name
 abbrev pub moments_seen : Pass → List Moment
 moments_seen pass = moments (opening_of pass) pass.seen
 
-pub record LawsHold (pass : Pass) : Type 0 where
-  pub at_most_once : AtMostOnce (opening_of pass) (moments_seen pass)
-  pub after : After (opening_of pass) (moments_seen pass)
-  pub quiet : Quiet (opening_of pass) (moments_seen pass)
-  pub protection : Protection (opening_of pass) (moments_seen pass)
-  pub whereabouts : Whereabouts (opening_of pass) (moments_seen pass)
-  pub gone : Gone (opening_of pass) (moments_seen pass)
-  pub holders : Holders (opening_of pass) (moments_seen pass)
-  pub no_later_holders : NoLaterHolders (opening_of pass) (moments_seen pass)
-  pub under_guard : UnderGuard (opening_of pass) (moments_seen pass)
-  pub tries : Tries (opening_of pass) (moments_seen pass)
+pub record LawsOf (st : State) (ms : List Moment) : Type 0 where
+  pub at_most_once : AtMostOnce st ms
+  pub after : After st ms
+  pub quiet : Quiet st ms
+  pub protection : Protection st ms
+  pub whereabouts : Whereabouts st ms
+  pub gone : Gone st ms
+  pub holders : Holders st ms
+  pub no_later_holders : NoLaterHolders st ms
+  pub under_guard : UnderGuard st ms
+  pub tries : Tries st ms
+
+abbrev pub LawsHold : Pass → Type 0
+LawsHold pass = LawsOf (opening_of pass) (moments_seen pass)
 
 abbrev pub HaveContents : {T : Type 0} → (T → Gv) → Pass → Type 0
 HaveContents {T} code pass = (v : ℕ) → has v (state_seen pass).named ≡ true → (x : T) × IsLentAs v (code x)

@@ -32,6 +32,7 @@ use crate::numbers::Numbers;
 use crate::reclaim::{Boxed, Reclaim};
 use crate::reservation::Reservation;
 use seize_cells::Lock;
+use seize_machine::machine;
 use seize_table::Refusal;
 use seize_words::book::Porter;
 use seize_words::words::Words;
@@ -68,6 +69,7 @@ impl<T: Drop + Codes, R: Reclaim<T>> Model for Alone<T, R> {
       id = a.id;
       links = length (words_book a.words).links;
       state = a.hands.state;
+      seen = a.porter.seen;
     } };
 
     ghost invariant = { λ a. IsAlone T.its.code a.words a.porter a.numbers a.places.items a.made (box_value a.ender) a.hands };
@@ -78,8 +80,11 @@ impl<T: Drop, R: Reclaim<T>> Alone<T, R> {
     ghost use Rattle.seize_model.specs.Waiting.Calls as calls;
     ghost use Rattle.seize_model.specs.Waiting.State.{has_guard, slot_at};
     ghost use Rattle.seize_model.specs.declared.kind.Kind.TheVariants.{Owned as owned_slot, Registered as registered};
-    ghost use Rattle.seize.specs.Alones.{IsSame};
+    ghost use Rattle.seize_book.specs.Book.{moments};
+    ghost use Rattle.seize_book.specs.Tokens.{start};
+    ghost use Rattle.seize.specs.Alones.{AsListed, IsSame, ListGrows};
     ghost use Rattle.seize.specs.Kinds.{kind_of};
+    ghost use Rattle.seize.specs.Laws.{LawsOf};
     ghost use Rattle.seize.specs.Told.{Grew, Said};
 
     /// How many links it has.
@@ -95,6 +100,19 @@ impl<T: Drop, R: Reclaim<T>> Alone<T, R> {
         ensures { result ≡ self.now.id }
     {
         self.id
+    }
+
+    /// What the collector's list of events says: it is legal, so every law of the machine holds of it; where it ends no call is under way;
+    /// and it leads to the state, as numbers stand for values there. So each call that is made here is a legal list of events.
+    ///
+    /// It makes no event, and does nothing when the program runs: its contract is the laws.
+    pub fn laws(&mut self)
+        ensures same { self.new ≡ self.old }
+        ensures listed { AsListed T.row.coded.code self.old }
+        ensures laws { LawsOf (start self.old.book) (moments (start self.old.book) self.old.seen) }
+    {
+        machine::laws();
+        self.porter.come_home();
     }
 
     // Whether the slot is owned, and how many guards it has, where its number is in use. An owned one has one at most.
@@ -138,6 +156,7 @@ impl<T: Drop, R: Reclaim<T>> Alone<T, R> {
     fn take(&mut self, owned: bool) -> Result<usize, Refusal>
         ensures done { Grew (calls.take_number self.old.state (kind_of owned) 0) result self.old.state self.new.state }
         ensures same { IsSame self.old self.new }
+        ensures grows { ListGrows self.old self.new }
     {
         room(&mut self.places, self.made + 1)?;
         let mut taking = Taking {
@@ -168,6 +187,7 @@ impl<T: Drop, R: Reclaim<T>> Alone<T, R> {
         requires { let slot = slot_at self.old.state s in (calls.is_free slot.kind ≡ false) × (has_guard slot ≡ false) }
         ensures done { self.new.state ≡ calls.set_guards self.old.state s 1 }
         ensures same { IsSame self.old self.new }
+        ensures grows { ListGrows self.old self.new }
     {
         let Place {
             owned,
@@ -199,6 +219,7 @@ impl<T: Drop, R: Reclaim<T>> Alone<T, R> {
         requires { let slot = slot_at self.old.state s in (slot.kind ≡ registered) × (has_guard slot ≡ true) × (0 < guards) }
         ensures done { self.new.state ≡ calls.set_guards self.old.state s guards }
         ensures same { IsSame self.old self.new }
+        ensures grows { ListGrows self.old self.new }
     {
         let mut place = out(&mut self.places, s);
         place.guards = guards;
@@ -211,6 +232,7 @@ impl<T: Drop, R: Reclaim<T>> Alone<T, R> {
         requires { let slot = slot_at self.old.state s in (calls.is_free slot.kind ≡ false) × (has_guard slot ≡ false) }
         ensures done { self.new.state ≡ calls.with_number_free self.old.state s }
         ensures same { IsSame self.old self.new }
+        ensures grows { ListGrows self.old self.new }
     {
         let place = out(&mut self.places, s);
         let mut reservation = Some(place.reservation.into_value());
@@ -233,6 +255,7 @@ impl<T: Drop, R: Reclaim<T>> Alone<T, R> {
     pub fn register(&mut self) -> Result<usize, Refusal>
         ensures done { Grew (calls.take_number self.old.state registered 0) result self.old.state self.new.state }
         ensures same { IsSame self.old self.new }
+        ensures grows { ListGrows self.old self.new }
     {
         self.take(false)
     }
@@ -245,6 +268,7 @@ impl<T: Drop, R: Reclaim<T>> Alone<T, R> {
     pub fn enter_owned(&mut self) -> Result<usize, Refusal>
         ensures done { Grew (calls.take_number self.old.state owned_slot 1) result self.old.state self.new.state }
         ensures same { IsSame self.old self.new }
+        ensures grows { ListGrows self.old self.new }
     {
         let number = self.take(true)?;
         self.begin(number);
@@ -259,6 +283,7 @@ impl<T: Drop, R: Reclaim<T>> Alone<T, R> {
     pub fn enter(&mut self, s: usize) -> Result<(), Refusal>
         ensures done { Said (calls.enter self.old.state s) result self.new.state }
         ensures same { IsSame self.old self.new }
+        ensures grows { ListGrows self.old self.new }
     {
         let guards = self.registered(s)?;
         if guards == u64::MAX {
@@ -281,6 +306,7 @@ impl<T: Drop, R: Reclaim<T>> Alone<T, R> {
     pub fn end(&mut self, s: usize) -> Result<bool, Refusal>
         ensures done { Said (calls.end_slot self.old.state s) result self.new.state }
         ensures same { IsSame self.old self.new }
+        ensures grows { ListGrows self.old self.new }
     {
         if self.registered(s)? > 0 {
             return Ok(false);

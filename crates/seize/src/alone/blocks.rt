@@ -62,7 +62,7 @@ impl<T: Drop, R: Reclaim<T>> Alone<T, R> {
     ghost use Rattle.std.specs.Prelude.{◌<◌, IfSome, option_map};
     ghost use Rattle.std.specs.Fn.{FnOnceReturnsAt};
     ghost use Rattle.seize_model.specs.Waiting.Calls as calls;
-    ghost use Rattle.seize.specs.Alones.{IsSame};
+    ghost use Rattle.seize.specs.Alones.{IsSame, ListGrows};
     ghost use Rattle.seize.specs.Blocks.{Belongs, IsTakenOf, taken_content};
     ghost use Rattle.seize.specs.Looks.{Looked, with_link};
 
@@ -111,6 +111,7 @@ impl<T: Drop, R: Reclaim<T>> Alone<T, R> {
         ensures state { self.new.state ≡ with_link self.old.state link (option_map content new) }
         ensures holds { calls.link_at self.new.state link ≡ option_map content new }
         ensures same { IsSame self.old self.new }
+        ensures grows { ListGrows self.old self.new }
     {
         let mut exchanging = Exchanging {
             words: &self.words,
@@ -146,6 +147,7 @@ impl<T: Drop, R: Reclaim<T>> Alone<T, R> {
         ensures state { self.new.state ≡ (calls.swap self.old.state s link (option_map content new)).1.0 }
         ensures holds { IfOk result (λ _. calls.link_at self.new.state link ≡ option_map content new) }
         ensures same { IsSame self.old self.new }
+        ensures grows { ListGrows self.old self.new }
     {
         if let Err(refusal) = self.guarded(s) {
             return Err((refusal, new));
@@ -170,7 +172,8 @@ impl<T: Drop, R: Reclaim<T>> Alone<T, R> {
         ensures done { IfOk result (λ answer. (calls.no_guard self.old.state s ≡ None)
             × Looked (FnOnceReturnsAt F.FnOnce look) (calls.link_at self.old.state link) answer) }
         ensures refused { IfErr result (λ refusal. calls.no_guard self.old.state s ≡ Some refusal) }
-        ensures same { self.new ≡ self.old }
+        ensures same { self.new ≡ record self.old { seen = self.new.seen } }
+        ensures grows { ListGrows self.old self.new }
     {
         self.guarded(s)?;
         let mut reading = Reading {
@@ -194,7 +197,8 @@ impl<T: Drop, R: Reclaim<T>> Alone<T, R> {
         ensures done { IfOk result (λ holds. (calls.no_guard self.old.state s ≡ None)
             × (holds ≡ is_some (calls.link_at self.old.state link))) }
         ensures refused { IfErr result (λ refusal. calls.no_guard self.old.state s ≡ Some refusal) }
-        ensures same { self.new ≡ self.old }
+        ensures same { self.new ≡ record self.old { seen = self.new.seen } }
+        ensures grows { ListGrows self.old self.new }
     {
         Ok(self.look(s, link, |_| ())?.is_some())
     }

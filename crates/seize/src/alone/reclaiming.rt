@@ -15,7 +15,7 @@ impl<T: Drop, R: Reclaim<T>> Alone<T, R> {
     ghost use Rattle.seize_model.specs.Waiting.Calls as calls;
     ghost use Rattle.seize_model.specs.Waiting.Further.{with_further};
     ghost use Rattle.seize_model.specs.Waiting.State.{has_guard, slot_at};
-    ghost use Rattle.seize.specs.Alones.{IsSame};
+    ghost use Rattle.seize.specs.Alones.{IsSame, ListGrows};
     ghost use Rattle.seize.specs.Blocks.{IsTakenOf, taken_content};
     ghost use Rattle.seize.specs.Told.{Answers, only_refusal, told_of};
 
@@ -26,6 +26,7 @@ impl<T: Drop, R: Reclaim<T>> Alone<T, R> {
             × (W.seen watch.new ≡ told_of W.told (W.seen watch.old) now.1)
             × (calls.is_free (slot_at now.0 s).kind ≡ false) × (has_guard (slot_at now.0 s) ≡ false) }
         ensures same { IsSame self.old self.new }
+        ensures grows { ListGrows self.old self.new }
         ensures same_reference { watch.exit.ghost_name ≡ watch.entry.ghost_name }
     {
         let Place {
@@ -70,6 +71,7 @@ impl<T: Drop, R: Reclaim<T>> Alone<T, R> {
         ensures done { Answers W.told (calls.refresh R.puts R.weight self.old.state s) (Ok tt) self.new.state
             (W.seen watch.old) (W.seen watch.new) }
         ensures same { IsSame self.old self.new }
+        ensures grows { ListGrows self.old self.new }
         ensures same_reference { watch.exit.ghost_name ≡ watch.entry.ghost_name }
     {
         let Place {
@@ -120,6 +122,7 @@ impl<T: Drop, R: Reclaim<T>> Alone<T, R> {
         ensures done { Answers W.told (calls.leave R.puts R.weight self.old.state s) result self.new.state
             (W.seen watch.old) (W.seen watch.new) }
         ensures same { IsSame self.old self.new }
+        ensures grows { ListGrows self.old self.new }
         ensures same_reference { watch.exit.ghost_name ≡ watch.entry.ghost_name }
     {
         let (owned, guards) = self.guarded(s)?;
@@ -147,6 +150,7 @@ impl<T: Drop, R: Reclaim<T>> Alone<T, R> {
         ensures done { Answers W.told (calls.refresh R.puts R.weight self.old.state s) result self.new.state
             (W.seen watch.old) (W.seen watch.new) }
         ensures same { IsSame self.old self.new }
+        ensures grows { ListGrows self.old self.new }
         ensures same_reference { watch.exit.ghost_name ≡ watch.entry.ghost_name }
     {
         let (owned, guards) = self.guarded(s)?;
@@ -169,6 +173,7 @@ impl<T: Drop, R: Reclaim<T>> Alone<T, R> {
         ensures done { Answers W.told (calls.flush R.puts R.weight self.old.state s) result self.new.state
             (W.seen watch.old) (W.seen watch.new) }
         ensures same { IsSame self.old self.new }
+        ensures grows { ListGrows self.old self.new }
         ensures same_reference { watch.exit.ghost_name ≡ watch.entry.ghost_name }
     {
         self.guarded(s)?;
@@ -221,6 +226,7 @@ impl<T: Drop, R: Reclaim<T>> Alone<T, R> {
             self.new.state (W.seen watch.old) (W.seen watch.new) }
         ensures back { IfErr result (λ refused. refused.1 ≡ value) }
         ensures same { IsSame self.old self.new }
+        ensures grows { ListGrows self.old self.new }
         ensures same_reference { watch.exit.ghost_name ≡ watch.entry.ghost_name }
     {
         if self.known(s).is_none() {

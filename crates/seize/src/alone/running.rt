@@ -75,7 +75,7 @@ impl<T: Drop> Reply<T> {
 impl<T: Drop, R: Reclaim<T>> Alone<T, R> {
     ghost use Rattle.std.specs.Prelude.{◌≡◌, [], IfErr, IfOk};
     ghost use Rattle.seize_table.specs.declared.refusal.Refusal.TheVariants.{NoMemory as no_memory};
-    ghost use Rattle.seize.specs.Alones.{IsSame};
+    ghost use Rattle.seize.specs.Alones.{IsSame, ListGrows};
     ghost use Rattle.seize.specs.Running.{AreFor, AreFrom, DoesCall, IsFor, IsFrom, Ran};
 
     // A block that was never in a link is retired. Whether the number is in use comes first, so a refusal gives the block back as it was.
@@ -91,6 +91,7 @@ impl<T: Drop, R: Reclaim<T>> Alone<T, R> {
             (W.seen watch.old) (W.seen watch.new) }
         ensures own { IsFrom R.owners self.old.book.store result }
         ensures same { IsSame self.old self.new }
+        ensures grows { ListGrows self.old self.new }
         ensures same_reference { watch.exit.ghost_name ≡ watch.entry.ghost_name }
     {
         if self.known(s).is_none() {
@@ -117,6 +118,7 @@ impl<T: Drop, R: Reclaim<T>> Alone<T, R> {
             (W.seen watch.old) (W.seen watch.new) }
         ensures own { IsFrom R.owners self.old.book.store result }
         ensures same { IsSame self.old self.new }
+        ensures grows { ListGrows self.old self.new }
         ensures same_reference { watch.exit.ghost_name ≡ watch.entry.ghost_name }
     {
         let old = match self.swap(s, link, new) {
@@ -136,6 +138,7 @@ impl<T: Drop, R: Reclaim<T>> Alone<T, R> {
         ensures done { DoesCall R.puts R.weight W.told call result self.old.state self.new.state (W.seen watch.old) (W.seen watch.new) }
         ensures own { IsFrom R.owners self.old.book.store result }
         ensures same { IsSame self.old self.new }
+        ensures grows { ListGrows self.old self.new }
         ensures same_reference { watch.exit.ghost_name ≡ watch.entry.ghost_name }
     {
         match call {
@@ -182,6 +185,7 @@ impl<T: Drop, R: Reclaim<T>> Alone<T, R> {
             × (W.seen watch.new ≡ W.seen watch.old) × (calls.new.items ≡ calls.old.items) × (replies.new.items ≡ replies.old.items)) }
         ensures own { AreFrom R.owners self.old.book.store replies.old.items → AreFrom R.owners self.old.book.store replies.new.items }
         ensures same { IsSame self.old self.new }
+        ensures grows { ListGrows self.old self.new }
         ensures same_reference { watch.exit.ghost_name ≡ watch.entry.ghost_name }
     {
         replies.reserve(calls.len())?;

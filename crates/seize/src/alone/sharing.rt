@@ -1,6 +1,6 @@
 //! From a collector that threads share to one in one caller's hands, and back.
 ghost use Rattle.std.specs.Prelude.{◌≡◌, ℕ, IfErr, IfOk, None, Some, box_value, false, get_or, length};
-ghost use Rattle.seize.specs.Collectors.{its_book, its_id, its_size};
+ghost use Rattle.seize.specs.Collectors.{its_book, its_id, its_size, seen_by};
 ghost use Rattle.seize_book.specs.Porters.{HadStay};
 ghost use Rattle.seize_words.specs.Joined.{words_book};
 ghost use Rattle.seize.specs.Enders.{IsEnderOf};
@@ -49,6 +49,7 @@ impl<T: Drop, R: Reclaim<T>> Collector<T, R> {
     ghost use Rattle.seize_model.specs.Waiting.State.{slot_at};
     ghost use Rattle.seize_model.specs.Agreement.Origins.{IsLedTo};
     ghost use Rattle.seize_alone.specs.Holding.{some_state};
+    ghost use Rattle.seize_book.specs.Porters.{GoesOnTo};
     ghost use Rattle.seize.specs.Collectors.{its_links};
     ghost use Rattle.seize.specs.Reclaims.{IsSameCollector, NoneInUse};
 
@@ -65,6 +66,7 @@ impl<T: Drop, R: Reclaim<T>> Collector<T, R> {
             × (alone.links ≡ its_links self) × (alone.state.size ≡ alone.size) × (length alone.state.links ≡ its_links self)
             × ((s : ℕ) → ((slot_at alone.state s).kind ≡ Free) × ((slot_at alone.state s).guards ≡ 0))
             × IsLedTo (some_state alone.state)) }
+        ensures goes_on { IfOk result (λ alone. GoesOnTo alone.book (seen_by self) alone.seen) }
         ensures back { IfErr result (λ c. IsSameCollector self c × ¬ (NoneInUse c)) }
     {
         let (words, mut porter, numbers, ender, id, alloc) = self.into_parts();
@@ -139,7 +141,8 @@ pub(super) fn shared<T: Drop, R: Reclaim<T>>(
     requires numbers { numbers ≡ (words_book words).family }
     requires ender { IsEnderOf words (box_value ender) }
     requires places { (s : ℕ) (place : Place T) → get_or places.items s None ≡ Some place → MayLay (words_book words) place }
-    ensures same { (its_book result ≡ words_book words) × (its_size result ≡ words.size) × (its_id result ≡ id) }
+    ensures same { (its_book result ≡ words_book words) × (its_size result ≡ words.size) × (its_id result ≡ id)
+        × (seen_by result ≡ porter.seen) }
 {
     let mut porter = porter;
     let mut places = places;
@@ -163,7 +166,7 @@ impl<T: Drop, R: Reclaim<T>> Alone<T, R> {
     /// It takes no memory, makes no event and waits for nobody.
     pub fn share(self) -> Collector<T, R>
         ensures same { (its_book result ≡ self.book) × (its_size result ≡ self.size) × (its_id result ≡ self.id)
-            × (its_links result ≡ self.links) }
+            × (its_links result ≡ self.links) × (seen_by result ≡ self.seen) }
     {
         let Alone {
             words,

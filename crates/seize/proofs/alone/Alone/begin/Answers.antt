@@ -8,7 +8,7 @@ use Rattle.seize_alone.proofs.Singles.{enters_held}
 use Rattle.seize_alone.specs.Events.{MakesAlone}
 use Rattle.seize.specs.Alones.{View}
 use Rattle.seize.specs.Placing.{ArePlaces, Lies}
-use Rattle.seize.proofs.Lone.{alone_again, head_held, held_again, knows, laid, place_is, slot_there, some_place}
+use Rattle.seize.proofs.Lone.{alone_again, head_held, held_again, knows, laid, list_grows, place_is, slot_there, some_place}
 use Rattle.seize.proofs.Places.{in_place}
 use Rattle.seize.proofs.alone.Alone.begin.Goals as goal
 
@@ -61,3 +61,6 @@ invariant_of-self g c =
 
 pub returns-clause-done : goal.returns-clause-done
 returns-clause-done g c = c.of.ensures.0 ∙ ap (λ (v : View g.row.T.Denot). set_guards v.state c.args.s 1) c.self.view_is
+
+pub returns-clause-grows : goal.returns-clause-grows
+returns-clause-grows g c = list_grows c.self.invariant c.stay-unit.ensures (ap (λ (v : View g.row.T.Denot). v.seen) c.self.view_is)

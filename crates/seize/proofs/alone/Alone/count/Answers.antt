@@ -1,5 +1,7 @@
 use Rattle.std.proofs.Common.{◌≡◌, ℕ, ◌<◌, Bool, true, false, None, Some, if◌then◌else◌, length, refl, sym, ap, subst, ◌∙◌}
 use Rattle.std.proofs.lemmas.List.{length-set}
+use base.Growing.{prefix_refl}
+use mathlib.Core.List.{IsPrefix}
 use Rattle.seize_model.specs.declared.kind.Kind.TheVariants.{Registered}
 use Rattle.seize_model.specs.Waiting.Calls.{is_free, set_guards}
 use Rattle.seize_model.specs.Waiting.State.{Slot, State, has_guard, slot_at}
@@ -52,3 +54,6 @@ invariant_of-self g c =
 
 pub returns-clause-done : goal.returns-clause-done
 returns-clause-done g c = c.of.ensures.0 ∙ ap (λ (v : View g.row.T.Denot). set_guards v.state c.args.s c.args.guards) c.self.view_is
+
+pub returns-clause-grows : goal.returns-clause-grows
+returns-clause-grows g c = subst (λ (v : View g.row.T.Denot). IsPrefix v.seen c.self.inside.porter.seen) c.self.view_is (prefix_refl c.self.inside.porter.seen)

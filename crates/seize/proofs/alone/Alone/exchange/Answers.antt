@@ -10,7 +10,7 @@ use Rattle.seize.specs.Blocks.{content}
 use Rattle.seize.specs.Looks.{with_link}
 use Rattle.seize.specs.Placing.{ArePlaces}
 use Rattle.seize.proofs.Linked.{named_value, one_link, out_has, out_value}
-use Rattle.seize.proofs.Lone.{alone_again, held_again, knows}
+use Rattle.seize.proofs.Lone.{alone_again, held_again, knows, list_grows}
 use Rattle.seize.proofs.alone.Alone.exchange.Goals as goal
 
 pub out-old-requires-clause-content : goal.out-old-requires-clause-content
@@ -66,3 +66,6 @@ returns-clause-holds g c =
     let less : link < length st.links = subst (λ (v : View g.row.T.Denot). link < length v.state.links) c.self.view_is
     (subst (λ (m : ℕ). link < m) (ap (λ (v : View g.row.T.Denot). v.links) (sym c.self.view_is) ∙ sym c.self.invariant.linked) c.requires.range) in
     ap (λ (x : State g.row.T.Denot ℕ). link_at x link) (returns-clause-state g c) ∙ get_or-set_same st.links link new None less
+
+pub returns-clause-grows : goal.returns-clause-grows
+returns-clause-grows g c = list_grows c.self.invariant c.stay-old.ensures (ap (λ (v : View g.row.T.Denot). v.seen) c.self.view_is)

@@ -9,7 +9,7 @@ use Rattle.seize.specs.Enders.{IsEnderOf}
 use Rattle.seize.specs.Placing.{Lies, unit_in}
 use Rattle.seize.specs.Told.{told_of}
 use Rattle.seize.proofs.Called.{only_there, unit_there}
-use Rattle.seize.proofs.Lone.{held_again, knows, place_is, some_guards}
+use Rattle.seize.proofs.Lone.{held_again, knows, list_grows, place_is, some_guards}
 use Rattle.seize.proofs.Outlined.{held_there, kind_used, laid_again, outlined_again}
 use Rattle.seize.proofs.Places.{in_place}
 use Rattle.seize.proofs.Reclaimed.{flushed}
@@ -67,3 +67,6 @@ returns-clause-done g c =
       ap (λ w. g.W.Watch.seen w) (c.watch-1.given.1 (sym stay.gives.1)) ∙ done.1.hears
           ∙ ap (λ (v : View g.row.T.Denot). told_of g.W.Watch.told (g.W.Watch.seen c.args.watch.now) (flush g.R.Puts.puts g.R.Puts.weight v.state s).1.1) c.self.view_is,
     )
+
+pub returns-clause-grows : goal.returns-clause-grows
+returns-clause-grows g c = list_grows c.self.invariant c.stay.ensures (ap (λ (v : View g.row.T.Denot). v.seen) c.self.view_is)

@@ -10,7 +10,7 @@ use Rattle.seize_alone.proofs.Singles.{gives_held}
 use Rattle.seize.specs.Alones.{View}
 use Rattle.seize.specs.Placing.{ArePlaces}
 use Rattle.seize.specs.declared.alone.place.Place.{Place}
-use Rattle.seize.proofs.Lone.{alone_again, head_held, held_again, knows, place_is, same_numbers, set_place, slot_there, some_place}
+use Rattle.seize.proofs.Lone.{alone_again, head_held, held_again, knows, list_grows, place_is, same_numbers, set_place, slot_there, some_place}
 use Rattle.seize.proofs.Places.{in_place}
 use Rattle.seize.proofs.alone.Alone.free.Goals as goal
 
@@ -55,3 +55,6 @@ invariant_of-self g c =
 
 pub returns-clause-done : goal.returns-clause-done
 returns-clause-done g c = c.of.ensures.0 ∙ ap (λ (v : View g.row.T.Denot). with_number_free v.state c.args.s) c.self.view_is
+
+pub returns-clause-grows : goal.returns-clause-grows
+returns-clause-grows g c = list_grows c.self.invariant c.stay.ensures (ap (λ (v : View g.row.T.Denot). v.seen) c.self.view_is)

@@ -11,7 +11,7 @@ use Rattle.seize.specs.Enders.{IsEnderOf}
 use Rattle.seize.specs.Placing.{ArePlaces, Lies}
 use Rattle.seize.specs.Told.{told_of}
 use Rattle.seize.proofs.Called.{only_there, unit_there}
-use Rattle.seize.proofs.Lone.{alone_again, held_again, knows, laid, place_is, slot_there}
+use Rattle.seize.proofs.Lone.{alone_again, held_again, knows, laid, list_grows, place_is, slot_there}
 use Rattle.seize.proofs.Outlined.{places_still}
 use Rattle.seize.proofs.Places.{in_place}
 use Rattle.seize.proofs.Reclaimed.{parted, unit_held}
@@ -74,3 +74,6 @@ returns-clause-done g c =
       sym (ap (λ (v : View g.row.T.Denot). is_free (slot_at (with_further P.puts P.weight s (one_guard_less v.state s)).0 s).kind) c.self.view_is) ∙ done.1,
       sym (ap (λ (v : View g.row.T.Denot). has_guard (slot_at (with_further P.puts P.weight s (one_guard_less v.state s)).0 s)) c.self.view_is) ∙ done.2,
     )
+
+pub returns-clause-grows : goal.returns-clause-grows
+returns-clause-grows g c = list_grows c.self.invariant c.stay.ensures (ap (λ (v : View g.row.T.Denot). v.seen) c.self.view_is)

@@ -11,7 +11,7 @@ use Rattle.seize.specs.Placing.{ArePlaces, Lies, lies_in, lying_in}
 use Rattle.seize.specs.Told.{told_of}
 use Rattle.seize.specs.declared.alone.place.Place.{Place}
 use Rattle.seize.proofs.Everything.{all_free, all_links, all_many, all_size}
-use Rattle.seize.proofs.Lone.{alone_again, held_again, knows, same_numbers}
+use Rattle.seize.proofs.Lone.{alone_again, held_again, knows, list_grows, same_numbers}
 use Rattle.seize.proofs.alone.Alone.reclaim_all.Goals as goal
 
 pub stay-requires : goal.stay-requires
@@ -55,3 +55,6 @@ returns-clause-done g c =
       ap g.W.Watch.seen (c.watch-1.given.1 (sym stay.gives.1)) ∙ gone.1
           ∙ ap (λ (v : View g.row.T.Denot). told_of g.W.Watch.told (g.W.Watch.seen c.args.watch.now) (reclaim_all P.puts P.weight v.state).1) c.self.view_is,
     )
+
+pub returns-clause-grows : goal.returns-clause-grows
+returns-clause-grows g c = list_grows c.self.invariant c.stay.ensures (ap (λ (v : View g.row.T.Denot). v.seen) c.self.view_is)

@@ -11,7 +11,7 @@ use Rattle.seize.specs.Enders.{IsEnderOf}
 use Rattle.seize.specs.Placing.{Lies}
 use Rattle.seize.specs.Told.{told_of}
 use Rattle.seize.proofs.Called.{only_there, unit_there}
-use Rattle.seize.proofs.Lone.{held_again, knows, place_is}
+use Rattle.seize.proofs.Lone.{held_again, knows, list_grows, place_is}
 use Rattle.seize.proofs.Outlined.{laid_again, outlined_again}
 use Rattle.seize.proofs.Places.{in_place}
 use Rattle.seize.proofs.Reclaimed.{may_act, refreshed, unit_held}
@@ -70,3 +70,6 @@ returns-clause-done g c =
       ap g.W.Watch.seen (c.watch-1.given.1 (sym stay.gives.1)) ∙ done.1.hears
           ∙ ap (λ (v : View g.row.T.Denot). told_of g.W.Watch.told (g.W.Watch.seen c.args.watch.now) (refresh P.puts P.weight v.state s).1.1) c.self.view_is,
     )
+
+pub returns-clause-grows : goal.returns-clause-grows
+returns-clause-grows g c = list_grows c.self.invariant c.stay-unit.ensures (ap (λ (v : View g.row.T.Denot). v.seen) c.self.view_is)

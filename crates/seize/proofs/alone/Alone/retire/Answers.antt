@@ -13,7 +13,7 @@ use Rattle.seize.specs.Enders.{IsEnderOf}
 use Rattle.seize.specs.Placing.{Lies}
 use Rattle.seize.specs.Told.{told_of}
 use Rattle.seize.proofs.Called.{only_there}
-use Rattle.seize.proofs.Lone.{held_again, knows, place_is, some_place}
+use Rattle.seize.proofs.Lone.{held_again, knows, list_grows, place_is, some_place}
 use Rattle.seize.proofs.Outlined.{laid_again, outlined_again}
 use Rattle.seize.proofs.Places.{in_place}
 use Rattle.seize.proofs.Reclaimed.{retired}
@@ -82,3 +82,6 @@ returns-clause-done g c =
       ap (λ w. g.W.Watch.seen w) (c.watch-1.given.1 (sym stay.gives.1)) ∙ done.1.hears
           ∙ ap (λ (t : State g.row.T.Denot ℕ × g.row.T.Denot). told_of g.W.Watch.told (g.W.Watch.seen c.args.watch.now) (retire g.R.Puts.puts g.R.Puts.weight t.0 s t.1 kind).1.1) given,
     )
+
+pub returns-clause-grows : goal.returns-clause-grows
+returns-clause-grows g c = list_grows c.self.invariant c.stay.ensures (ap (λ (v : View g.row.T.Denot). v.seen) c.self.view_is)

@@ -1,4 +1,5 @@
 use Rattle.std.proofs.Common.{refl, ap, subst, ◌∙◌, arith, rules}
+use base.Growing.{prefix_refl, prefix_trans}
 use Rattle.std.proofs.lemmas.List.Elements.{All-same}
 use Rattle.seize.specs.Running.{IsFrom}
 use Rattle.seize.proofs.Running.{all_pushed, made_none_yet, made_next}
@@ -13,6 +14,7 @@ loop-call-preserved g c = record {
       c.in-Some.call c.pop_front.new.self.items c.reply-reply.result
       c.loop-call.invariant.made c.in-Some.ensures.items c.reply-reply.ensures.done c.push_reserved.ensures.items;
   same = (let s = c.reply-reply.ensures.same in let i = c.loop-call.invariant.same in (s.0 ∙ i.0, s.1 ∙ i.1, s.2 ∙ i.2, s.3 ∙ i.3));
+  grows = prefix_trans c.args.self.now.seen c.loop-call.self.seen c.reply-reply.new.self.seen c.loop-call.invariant.grows c.reply-reply.ensures.grows;
   own = λ before. all_pushed (IsFrom g.R.Puts.owners c.args.self.now.book.store) c.loop-call.replies.items c.push_reserved.new.self.items c.reply-reply.result
       (c.loop-call.invariant.own before)
       (subst (λ a. IsFrom g.R.Puts.owners a c.reply-reply.result) (ap (λ n. n.store) c.loop-call.invariant.same.0) c.reply-reply.ensures.own) c.push_reserved.ensures.items;
@@ -25,6 +27,10 @@ loop-call-init g c = record {
       c.args.calls.now.items c.args.replies.now.items c.reserve.new.self.items c.args.self.now.state (g.W.Watch.seen c.args.watch.now)
       c.requires c.in_ok-reserve.ensures.items;
   same = (refl, refl, refl, refl);
+  grows = prefix_refl c.args.self.now.seen;
   own = λ before. All-same (IsFrom g.R.Puts.owners c.args.self.now.book.store) c.reserve.new.self.items c.args.replies.now.items c.in_ok-reserve.ensures.items before;
   room = search rules;
 }
+
+pub returns-clause-grows : goal.returns-clause-grows
+returns-clause-grows g c = c.loop-call.invariant.grows

@@ -1,5 +1,5 @@
 use Rattle.std.proofs.Common.{◌≤◌, ◌+◌, vec_len, vec_capacity, deque_len}
-use Rattle.seize.specs.Alones.{IsSame}
+use Rattle.seize.specs.Alones.{IsSame, ListGrows}
 use Rattle.seize.specs.Running.{AreFrom}
 use Rattle.seize.proofs.Running.{Made}
 use Rattle.seize.proofs.alone.Alone.run.Given as goal
@@ -10,6 +10,7 @@ invariant-loop-call g l = record {
       l.fn.calls.items l.calls.items l.fn.replies.items l.replies.items l.fn.self.state l.self.state
       (g.W.Watch.seen l.fn.watch) (g.W.Watch.seen l.watch);
   same : IsSame l.fn.self l.self;
+  grows : ListGrows l.fn.self l.self;
   own : AreFrom g.R.Puts.owners l.fn.self.book.store l.fn.replies.items → AreFrom g.R.Puts.owners l.fn.self.book.store l.replies.items;
   room : vec_len l.replies + deque_len l.calls ≤ vec_capacity l.replies;
 }

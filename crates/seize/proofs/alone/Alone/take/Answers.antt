@@ -1,4 +1,5 @@
 use Rattle.std.proofs.Common.{◌≡◌, ℕ, ◌+◌, None, Ok, IfOk, inr, length, sym, ap, subst, ◌∙◌, box_value}
+use mathlib.Core.List.{IsPrefix}
 use Rattle.seize_machine.specs.Machine.Event.{Take}
 use Rattle.seize_model.specs.Waiting.Calls.{take_number, with_number_in_use}
 use Rattle.seize_model.specs.Waiting.State.{State}
@@ -17,7 +18,7 @@ use Rattle.seize.specs.Shelves.{IsShelfFor}
 use Rattle.seize.specs.Told.{Grew}
 use Rattle.seize.specs.declared.alone.hands.Hands.{Hands}
 use Rattle.seize.proofs.Grown.{as_many, grown_links, grown_places, grown_size, kind_owned, kind_used, one_more, within}
-use Rattle.seize.proofs.Lone.{alone_again, held_again, knows, same_numbers}
+use Rattle.seize.proofs.Lone.{alone_again, held_again, knows, list_grows, same_numbers}
 use Rattle.seize.proofs.alone.Alone.take.Goals.{then-number-self, else-number-self}
 use Rattle.seize.proofs.alone.Alone.take.Goals as goal
 
@@ -91,3 +92,8 @@ returns-clause-done g c =
     let told = taken st n kind 0 held.0 held.1 in
     subst (λ (x : State g.row.T.Denot ℕ). Grew (take_number x kind 0) (Ok n) x c.of.result.state) (ap (λ (v : View g.row.T.Denot). v.state) c.self.view_is)
     (inr ((λ j. (sym told j).0), now ∙ (λ j. (sym told j).1.0)))
+
+pub returns-clause-grows : goal.returns-clause-grows
+returns-clause-grows g c =
+    let porter : c.if-number-self.self-inside.porter ≡ c.stay.new.self = elim c.if-number-self.branch [ then-number-self w ↦ (λ j. (w.self-inside-is j).porter) | else-number-self w ↦ (λ j. (w.self-inside-is j).porter) ] in
+    subst (λ (p : Porter). IsPrefix c.args.self.now.seen p.seen) (sym porter) (list_grows c.self.invariant c.stay.ensures (ap (λ (v : View g.row.T.Denot). v.seen) c.self.view_is))

@@ -1,9 +1,12 @@
-use Rattle.std.proofs.Common.{◌≡◌, length, box_value, sym, ap, subst, ◌∙◌}
+use Rattle.std.proofs.Common.{◌≡◌, List, length, box_value, sym, ap, subst, ◌∙◌}
+use Rattle.seize_book.specs.Entry.{Entry}
+use Rattle.seize_book.specs.Porters.{GoesOnTo}
 use Rattle.seize_book.specs.Tokens.{Name}
 use Rattle.seize_words.specs.Joined.{words_book}
 use Rattle.seize.specs.Collectors.{its_book}
 use Rattle.seize.specs.Enders.{IsEnderOf}
 use Rattle.seize.proofs.Homing.{many_slots, no_places, starts}
+use Rattle.seize.proofs.Lone.{goes_through}
 use Rattle.seize.proofs.collector.Collector.alone.Goals as goal
 
 pub first-hands-requires : goal.first-hands-requires
@@ -41,3 +44,9 @@ returns-clause-made g c =
       first.3,
       first.4,
     )
+
+pub returns-clause-goes_on : goal.returns-clause-goes_on
+returns-clause-goes_on g c =
+    let self = c.args.self in let parts = c.into_parts-words.ensures in let stay = c.rest-made.ensures.stay in
+    let name = ap (λ porter. porter.name) parts.1 ∙ self.lends.0 ∙ sym (ap words_book parts.0) in
+    subst (λ (t : Name × List Entry). GoesOnTo t.0 t.1 c.rest-made.new.porter.seen) (λ j. (name j, (parts.1 j).seen)) (goes_through stay stay.gives.0.goes_on)
