@@ -4,9 +4,11 @@ use base.Stored.{Gv}
 use Rattle.seize_book.specs.Book.{IsLegalList}
 use Rattle.seize_book.specs.Entry.{Entry}
 use Rattle.seize_book.specs.Passes.{IsSamePass}
+use Rattle.seize_book.specs.Porters.{HadStay}
 use Rattle.seize_book.specs.Tokens.{IsSole, Name, start}
 use Rattle.seize_content.specs.Steady.{keeps}
 use Rattle.seize_book.specs.declared.book.pass.Pass.{Pass}
+use Rattle.seize_book.specs.declared.book.porter.Porter.{Porter}
 use Rattle.seize_words.specs.Joined.{words_book}
 use Rattle.seize_words.specs.declared.words.Words.{Words}
 use Rattle.seize_calls.specs.Handing.{Had}
@@ -19,6 +21,18 @@ use Rattle.seize.specs.declared.alone.place.Unit.{Unit}
 use Rattle.seize.specs.Told.{HasTold}
 use Rattle.seize.specs.declared.reservation.Reservation.{Reservation}
 use Rattle.seize.proofs.Placed.{label_family, label_most, label_number, still_for}
+
+-- what a work of the porter's first pass did is said otherwise
+pub stayed_so : {gave gave' : Pass → Pass → Type 0} {porter porter' : Porter} → HadStay gave porter porter' → ((lent back : Pass) → gave lent back → gave' lent back) → HadStay gave' porter porter'
+stayed_so stay so = record {
+  lent = stay.lent;
+  back = stay.back;
+  shut = stay.shut;
+  same = stay.same;
+  grows = stay.grows;
+  gives = so stay.lent stay.back stay.gives;
+  again = stay.again;
+}
 
 -- nothing was done
 pub still_none : (pass : Pass) → IsUnmoved pass pass

@@ -1,7 +1,7 @@
 -- A collector in one caller's hands: what the porter's first pass knows of the state, and what lies in the places.
 use Rattle.std.proofs.Common.{arith, ◌≡◌, ◌⊎◌, ℕ, ◌==◌, ◌<◌, ◌≤◌, Bool, true, false, not, if◌then◌else◌, List, length, Option, Some, None, option_map, get_or, is_some, inl, inr, slice_set, refl, sym, ap, subst, ◌∙◌}
 use Rattle.std.proofs.lemmas.Bool.{cases_lt, false≢true}
-use Rattle.std.proofs.lemmas.List.{get_or-set_same, get_or-set_other, get_or_past}
+use Rattle.std.proofs.lemmas.List.{get_or-set_other, get_or-set_same, get_or_past, get_or_read}
 use base.Growing.{prefix_trans}
 use base.Stored.{Gv}
 use mathlib.Core.List.{IsPrefix}
@@ -9,7 +9,6 @@ use Rattle.seize_machine.proofs.Facts.{eq_true}
 use Rattle.seize_machine.specs.Machine.State.{are_distinct, head_at, is_active, linked_values}
 use Rattle.seize_model.specs.Waiting.Calls.{is_free}
 use Rattle.seize_model.specs.Waiting.State.{Slot, State, has_guard, no_slot, set_slot, slot_at}
-use Rattle.seize_model.proofs.Simulation.Events.{set_twice}
 use Rattle.seize_book.proofs.Facts.{equal}
 use Rattle.seize_book.specs.Book.{IsLegalList, after}
 use Rattle.seize_book.specs.Entry.{Entry}
@@ -68,12 +67,11 @@ set_place {U} n st places s slot place are there lies is t = go (s == t) refl
         let other : ¬ (t ≡ s) = λ same. false≢true (sym e ∙ equal s t (sym same)) in
         ap (λ (o : Option (Place U)). option_map lies_in o) (get_or-set_other places s t place None other) ∙ are t ∙ ap (λ (x : Slot U ℕ). lies_for n x t) (sym (get_or-set_other st.slots s t slot no_slot other))
 
--- so after a place was taken out and laid back
-pub laid : {U : Type 0} (n : Name) (st : State U ℕ) (s : ℕ) (slot : Slot U ℕ) (items out back : List (Option (Place U))) (place : Place U) → ArePlaces n st items → s < length st.slots → s < length items → out ≡ slice_set items s None
-    → back ≡ slice_set out s (Some place) → is_free slot.kind ≡ false → lies_in place ≡ lying_in n slot s → ArePlaces n (set_slot st s slot) back
-laid {U} n st s slot items out back place are there lies taken put used is =
-    subst (ArePlaces n (set_slot st s slot)) (sym (put ∙ ap (λ (places : List (Option (Place U))). slice_set places s (Some place)) taken ∙ set_twice items s None (Some place)))
-    (set_place n st items s slot (Some place) are there lies (ap (λ (t : Lies). Some t) is ∙ ap (λ (b : Bool). if b then None else Some (lying_in n slot s)) (sym used)))
+-- so after the place was changed
+pub laid : {U : Type 0} (n : Name) (st : State U ℕ) (s : ℕ) (slot : Slot U ℕ) (items : List (Option (Place U))) (place : Place U) → ArePlaces n st items → s < length st.slots → s < length items → is_free slot.kind ≡ false
+    → lies_in place ≡ lying_in n slot s → ArePlaces n (set_slot st s slot) (slice_set items s (Some place))
+laid {U} n st s slot items place are there lies used is =
+    set_place n st items s slot (Some place) are there lies (ap (λ (t : Lies). Some t) is ∙ ap (λ (b : Bool). if b then None else Some (lying_in n slot s)) (sym used))
 
 -- what lies there is a fact of the state
 module _ {U : Type 0} (n : Name) (st : State U ℕ) (places : List (Option (Place U))) (are : ArePlaces n st places) (s : ℕ) (used : is_free (slot_at st s).kind ≡ false) where
@@ -87,11 +85,22 @@ module _ {U : Type 0} (n : Name) (st : State U ℕ) (places : List (Option (Plac
       go None is = absurd (cc)
       go (Some place) is = refl
 
+  pub place_there : s < length places
+  place_there = go (cases_lt s (length places))
+    where
+      go : (s < length places) ⊎ (length places ≤ s) → s < length places
+      go (inl less) = less
+      go (inr past) = absurd (false≢true (sym (ap (λ (o : Option (Place U)). is_some o) (get_or_past places s None past)) ∙ some_place))
+
   pub place_is : (place : Place U) → get_or places s None ≡ Some place → lies_in place ≡ lying_in n (slot_at st s) s
   place_is place is = let both : Some (lies_in place) ≡ Some (lying_in n (slot_at st s) s) = sym (ap (λ (o : Option (Place U)). option_map lies_in o) is) ∙ lies_so in some_same both
     where
       some_same : {a b : Lies} → Some a ≡ Some b → a ≡ b
       some_same e = cc
+
+  -- also where that place is lent
+  pub held_is : (at : Option (Place U)) (place : Place U) → at ≡ get_or places s at → at ≡ Some place → lies_in place ≡ lying_in n (slot_at st s) s
+  held_is at place read is = place_is place (sym (get_or_read places s at place_there read None) ∙ is)
 
 -- a slot in use was made
 pub slot_there : {U : Type 0} (st : State U ℕ) (s : ℕ) → is_free (slot_at st s).kind ≡ false → s < length st.slots

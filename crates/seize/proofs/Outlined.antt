@@ -38,13 +38,13 @@ held_there n s unit held on is some active =
 pub places_still : {U : Type 0} (n : Name) (st now : State U ℕ) (places : List (Option (Place U))) → outline now ≡ outline st → ArePlaces n st places → ArePlaces n now places
 places_still {U} n st now places same are t = are t ∙ (λ j. lies_for {T = U} n (record { kind = kind_in st now (sym same) t j; guards = guards_in st now (sym same) t j; batch = []; order = [] }) t)
 
--- what was taken out of a place lies there again
-pub laid_again : {U : Type 0} (n : Name) (st now : State U ℕ) (s : ℕ) (items out back : List (Option (Place U))) (place : Place U) → outline now ≡ outline st → ArePlaces n st items → is_free (slot_at st s).kind ≡ false → s < length items
-    → out ≡ slice_set items s None → back ≡ slice_set out s (Some place) → lies_in place ≡ lying_in n (slot_at st s) s → ArePlaces n now back
-laid_again {U} n st now s items out back place same are used lies taken put is =
+-- so where a place was changed
+pub laid_again : {U : Type 0} (n : Name) (st now : State U ℕ) (s : ℕ) (items : List (Option (Place U))) (place : Place U) → outline now ≡ outline st → ArePlaces n st items → is_free (slot_at st s).kind ≡ false → s < length items
+    → lies_in place ≡ lying_in n (slot_at st s) s → ArePlaces n now (slice_set items s (Some place))
+laid_again {U} n st now s items place same are used lies is =
     let there : State U ℕ = set_slot st s (slot_at st s) in
-    places_still n there now back (same ∙ sym (ap (λ f. f.0) (set_frame st s (slot_at st s) refl)))
-    (laid n st s (slot_at st s) items out back place are (slot_there st s used) lies taken put used is)
+    places_still n there now (slice_set items s (Some place)) (same ∙ sym (ap (λ f. f.0) (set_frame st s (slot_at st s) refl)))
+    (laid n st s (slot_at st s) items place are (slot_there st s used) lies used is)
 
 -- The invariant, after such a call as a work of the porter's first pass.
 

@@ -21,9 +21,10 @@ mod sharing;
 mod taking;
 mod tells;
 
+use crate::alone::calls::held;
 pub use crate::alone::codes::Codes;
 use crate::alone::hands::Hands;
-use crate::alone::place::{Beginning, Place, Within, back, out, room};
+use crate::alone::place::{Place, back, out, room};
 pub use crate::alone::running::{Call, Reply};
 use crate::alone::sharing::shared;
 use crate::alone::taking::{Freeing, Taking};
@@ -189,28 +190,7 @@ impl<T: Drop, R: Reclaim<T>> Alone<T, R> {
         ensures same { IsSame self.old self.new }
         ensures grows { ListGrows self.old self.new }
     {
-        let Place {
-            owned,
-            guards: _,
-            reservation,
-            unit,
-            shelf,
-        } = out(&mut self.places, s);
-        drop(unit);
-        let beginning = Beginning { words: &self.words };
-        let mut beginning = Within {
-            lock: reservation,
-            work: Some(beginning),
-        };
-        let unit = self.porter.stay(&mut beginning);
-        let place = Place {
-            owned,
-            guards: 1,
-            reservation: beginning.lock,
-            unit: Some(unit),
-            shelf,
-        };
-        back(&mut self.places, s, place);
+        held(&mut self.places[s]).begin(&self.words, &mut self.porter);
         self.hands = Hands::of::<Brand, usize>(&self.hands, &self.porter, &s);
     }
 
@@ -221,9 +201,7 @@ impl<T: Drop, R: Reclaim<T>> Alone<T, R> {
         ensures same { IsSame self.old self.new }
         ensures grows { ListGrows self.old self.new }
     {
-        let mut place = out(&mut self.places, s);
-        place.guards = guards;
-        back(&mut self.places, s, place);
+        held(&mut self.places[s]).guards = guards;
         self.hands = Hands::of::<Brand, (usize, u64)>(&self.hands, &self.porter, &(s, guards));
     }
 

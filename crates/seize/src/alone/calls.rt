@@ -1,7 +1,15 @@
-//! The calls by which values may be gone, as works on a slot's place, while a collector is in one caller's hands. None of them waits, and
-//! each returns, since what the reclaimer puts weighs less than the value.
-ghost use Rattle.std.specs.Prelude.{◌≡◌, Bool, [], None, Some};
+//! The calls on what lies in the place of a slot, while a collector is in one caller's hands. The place is changed where it lies: its lock
+//! and its unit are lent to a work, and the porter's first pass is lent to that. None of them waits, and each returns, since what the
+//! reclaimer puts weighs less than the value.
+ghost use Rattle.std.specs.Borrow.{sem};
+ghost use Rattle.std.specs.Prelude.{◌≡◌, Bool, [], None, Some, false, is_some, true};
+ghost use Rattle.seize_book.specs.Homesteads.{state_seen};
+ghost use Rattle.seize_book.specs.Porters.{HadStay, MayStay};
 ghost use Rattle.seize_book.specs.Tokens.{IsSole};
+ghost use Rattle.seize_machine.specs.Machine.Event.{Enter};
+ghost use Rattle.seize_machine.specs.Machine.State.{head_at, is_active};
+ghost use Rattle.seize_machine.specs.declared.machine.event.Answer.{Answer};
+ghost use Rattle.seize_alone.specs.Events.{MakesAlone};
 ghost use Rattle.seize_cells.specs.Locks.{HadLock, MayLock};
 ghost use Rattle.seize_calls.specs.Handing.{Had};
 ghost use Rattle.seize_calls.specs.Slots.{HasActivation, IsActive, IsItsHead, IsLooseOf, IsPassFor, IsSlotOf, KeepsActivation};
@@ -11,12 +19,13 @@ ghost use Rattle.seize_words.specs.Joined.{words_book};
 ghost use Rattle.seize_words.specs.declared.activation.Activation.{Activation};
 ghost use Rattle.seize.specs.Enders.{IsEnderOf};
 ghost use Rattle.seize_alone.specs.Gone.{PutAs};
-ghost use Rattle.seize.specs.Places.{CallsSlot, IsOnly};
+ghost use Rattle.seize.specs.Lends.{lends_place};
+ghost use Rattle.seize.specs.Places.{CallsSlot, HadBegun, HadCall, IsOnly, MayBegin, MayCall};
 ghost use Rattle.seize.specs.Reservations.{IsReservation, IsUnit, its_label};
 ghost use Rattle.seize.specs.Told.{HasTold};
 ghost use Rattle.seize.specs.declared.alone.place.Unit.{Unit as SlotUnit};
 
-use crate::alone::place::Unit;
+use crate::alone::place::{Place, Unit};
 use crate::alone::tells::{Begun, Tells};
 use crate::ender::Ender;
 use crate::ends::Forwards;
@@ -26,10 +35,65 @@ use seize_calls::manner::Alone;
 use seize_calls::slot::{Loose, Slot};
 use seize_cells::{Lock, LockWork};
 use seize_words::activation::Activation;
-use seize_words::book::{Pass, Stay};
+use seize_words::book::{Pass, Porter, Stay};
 use seize_words::reservation::Head;
 use seize_words::words::Words;
 use std::marker::{Brand, PhantomData};
+
+/// What lies in this place, which is in use.
+pub(crate) fn held<T: Drop>(place: &mut Option<Place<T>>) -> &mut Place<T>
+    requires { is_some place.old ≡ true }
+    ensures* lends { sem 𝓛 (lends_place T.row place.entry result) }
+    ensures value { place.old ≡ Some result.now }
+{
+    let Some(place) = place else { unreachable!() };
+    place
+}
+
+// The slot enters. It gives the unit of its activation.
+#[derive(Drop)]
+struct Begin<'a, T> {
+    words: &'a Words<T>,
+}
+
+impl<'a, 'p, T: Drop> LockWork<Reservation<T>, Pass<'p>, Unit> for Begin<'a, T> {
+    ghost may = { λ work r pass. IsOnly work.words.now r pass
+        × (is_active (head_at (state_seen pass) (its_number r.slot)) ≡ false) };
+
+    ghost gives = { λ work r r' pass pass' unit. ((answer : Answer) × MakesAlone pass pass' (Enter (its_number r.slot)) answer)
+        × IsUnit (words_book work.words.now) (its_number r.slot) unit.unit unit.seen × (unit.number ≡ its_number r.slot) };
+
+    fn work(self, r: &mut Reservation<T>, pass: &mut Pass<'p>) -> Unit {
+        let words = self.words;
+        r.slot.seen().agree(&words.blocks.book);
+        r.slot.look(words, pass);
+        let head = r.slot.head(words, pass);
+        let number = r.slot.number();
+        let (unit, seen) = r.enter(words, head, pass);
+        Unit { number, unit, seen }
+    }
+}
+
+// The slot enters, and the unit of its activation is laid beside it.
+#[derive(Drop)]
+struct Beginning<'a, T: Drop> {
+    words: &'a Words<T>,
+    lock: &'a mut Lock<Reservation<T>>,
+    unit: &'a mut Option<Unit>,
+}
+
+impl<'a, T: Drop> Stay<()> for Beginning<'a, T> {
+    ghost may = { λ call pass. MayBegin call.words.now call.lock.now pass };
+
+    ghost gives = { λ call call' pass pass' _. (call'.lock ≡ call.lock) × (call'.unit.ghost_name ≡ call.unit.ghost_name)
+        × ((unit : SlotUnit) × (call'.unit.now ≡ Some unit) × HadBegun call.words.now call.lock.now unit pass pass') };
+
+    fn stay(&mut self, pass: &mut Pass<'static>) {
+        let words = self.words;
+        let unit = self.lock.with_mut(Begin { words }, pass);
+        *self.unit = Some(unit);
+    }
+}
 
 /// What is lent to a call beside the slot's place.
 #[derive(Drop)]
@@ -116,29 +180,24 @@ impl<'a, 'h, 'p, T: Drop, R: Reclaim<T>, W: Watch<T>> LockWork<
     }
 }
 
-/// The slot leaves with its last guard.
+// The slot leaves with its last guard, whose unit is taken.
 #[derive(Drop)]
-pub(crate) struct Leaving<'a, T: Drop, R: Reclaim<T>, W> {
-    /// The words of the collector.
-    pub(crate) words: &'a Words<T>,
-    /// Its reclaimer.
-    pub(crate) ender: &'a Ender<T, R>,
-    /// The slot's place. It lies here meanwhile.
-    pub(crate) lock: Lock<Reservation<T>>,
-    /// The unit of the slot's activation.
-    pub(crate) unit: Option<Unit>,
-    /// Who is told.
-    pub(crate) watch: &'a mut W,
+struct Leaving<'a, 'w, T: Drop, R: Reclaim<T>, W> {
+    words: &'a Words<T>,
+    ender: &'a Ender<T, R>,
+    lock: &'a mut Lock<Reservation<T>>,
+    unit: &'a mut Option<Unit>,
+    watch: &'w mut W,
 }
 
-impl<'a, T: Drop, R: Reclaim<T>, W: Watch<T>> Stay<()> for Leaving<'a, T, R, W> {
-    ghost may = { λ call pass. (unit : SlotUnit) × (call.unit ≡ Some unit) × IsEnderOf call.words.now call.ender.now
-        × MayLock its_label IsReservation call.lock (λ r. IsOnly call.words.now r pass
-        × IsUnit (words_book call.words.now) (its_number r.slot) unit.unit unit.seen) };
+impl<'a, 'w, T: Drop, R: Reclaim<T>, W: Watch<T>> Stay<()> for Leaving<'a, 'w, T, R, W> {
+    ghost may = { λ call pass. (unit : SlotUnit) × (call.unit.now ≡ Some unit) × IsEnderOf call.words.now call.ender.now
+        × MayCall call.words.now call.lock.now unit pass };
 
-    ghost gives = { λ call call' pass pass' _. (call'.lock ≡ call.lock) × (call'.watch.ghost_name ≡ call.watch.ghost_name)
-        × HadLock its_label IsReservation call.lock (λ r r'. CallsSlot T.row.coded.code R.puts W.told r pass r' pass'
-        (W.seen call.watch.now) (W.seen call'.watch.now) (λ slot ready slot' pass' had. SlotLeaves slot ready [] slot' pass' had)) };
+    ghost gives = { λ call call' pass pass' _. (call'.lock ≡ call.lock)
+        × (call'.unit.ghost_name ≡ call.unit.ghost_name) × (call'.unit.now ≡ None) × (call'.watch.ghost_name ≡ call.watch.ghost_name)
+        × HadCall T.row.coded.code R.puts W.told call.lock.now pass pass' (W.seen call.watch.now) (W.seen call'.watch.now)
+        (λ slot ready slot' pass' had. SlotLeaves slot ready [] slot' pass' had) };
 
     fn stay(&mut self, pass: &mut Pass<'static>) {
         let Some(unit) = self.unit.take() else {
@@ -212,30 +271,23 @@ impl<'a, 'h, 'p, T: Drop, R: Reclaim<T>, W: Watch<T>> LockWork<
     }
 }
 
-/// The batch of a slot with a guard is attempted.
+// The batch of a slot with a guard is attempted.
 #[derive(Drop)]
-pub(crate) struct Flushing<'a, T: Drop, R: Reclaim<T>, W> {
-    /// The words of the collector.
-    pub(crate) words: &'a Words<T>,
-    /// Its reclaimer.
-    pub(crate) ender: &'a Ender<T, R>,
-    /// The slot's place.
-    pub(crate) lock: &'a mut Lock<Reservation<T>>,
-    /// The unit of the slot's activation.
-    pub(crate) unit: &'a Unit,
-    /// Who is told.
-    pub(crate) watch: &'a mut W,
+struct Flushing<'a, 'w, T: Drop, R: Reclaim<T>, W> {
+    words: &'a Words<T>,
+    ender: &'a Ender<T, R>,
+    lock: &'a mut Lock<Reservation<T>>,
+    unit: &'a Unit,
+    watch: &'w mut W,
 }
 
-impl<'a, T: Drop, R: Reclaim<T>, W: Watch<T>> Stay<()> for Flushing<'a, T, R, W> {
+impl<'a, 'w, T: Drop, R: Reclaim<T>, W: Watch<T>> Stay<()> for Flushing<'a, 'w, T, R, W> {
     ghost may = { λ call pass. IsEnderOf call.words.now call.ender.now
-        × MayLock its_label IsReservation call.lock.now (λ r. IsOnly call.words.now r pass
-        × IsUnit (words_book call.words.now) (its_number r.slot) call.unit.now.unit call.unit.now.seen) };
+        × MayCall call.words.now call.lock.now call.unit.now pass };
 
     ghost gives = { λ call call' pass pass' _. (call'.lock ≡ call.lock) × (call'.watch.ghost_name ≡ call.watch.ghost_name)
-        × HadLock its_label IsReservation call.lock.now (λ r r'. CallsSlot T.row.coded.code R.puts W.told r pass r' pass'
-        (W.seen call.watch.now) (W.seen call'.watch.now)
-        (λ slot ready slot' pass' had. (retired : Bool) × SlotFlushes slot ready [] slot' pass' had retired)) };
+        × HadCall T.row.coded.code R.puts W.told call.lock.now pass pass' (W.seen call.watch.now) (W.seen call'.watch.now)
+        (λ slot ready slot' pass' had. (retired : Bool) × SlotFlushes slot ready [] slot' pass' had retired) };
 
     fn stay(&mut self, pass: &mut Pass<'static>) {
         let unit = self.unit;
@@ -314,34 +366,27 @@ impl<'a, 'h, 'p, T: Drop, R: Reclaim<T>, W: Watch<T>> LockWork<
     }
 }
 
-/// A value is retired in a slot with or without a guard. There is none afterwards where it was.
+// A value is retired in a slot with or without a guard. There is none afterwards where it was.
 #[derive(Drop)]
-pub(crate) struct Retiring<'a, T: Drop, R: Reclaim<T>, W> {
-    /// The words of the collector.
-    pub(crate) words: &'a Words<T>,
-    /// Its reclaimer.
-    pub(crate) ender: &'a Ender<T, R>,
-    /// The slot's place.
-    pub(crate) lock: &'a mut Lock<Reservation<T>>,
-    /// Where the value is.
-    pub(crate) loose: &'a mut Option<Loose>,
-    /// Its kind.
-    pub(crate) kind: u64,
-    /// Who is told.
-    pub(crate) watch: &'a mut W,
+struct Retiring<'a, 'l, 'w, T: Drop, R: Reclaim<T>, W> {
+    words: &'a Words<T>,
+    ender: &'a Ender<T, R>,
+    lock: &'a mut Lock<Reservation<T>>,
+    loose: &'l mut Option<Loose>,
+    kind: u64,
+    watch: &'w mut W,
 }
 
-impl<'a, T: Drop, R: Reclaim<T>, W: Watch<T>> Stay<()> for Retiring<'a, T, R, W> {
+impl<'a, 'l, 'w, T: Drop, R: Reclaim<T>, W: Watch<T>> Stay<()> for Retiring<'a, 'l, 'w, T, R, W> {
     ghost may = { λ call pass. (loose : LooseValue) × (call.loose.now ≡ Some loose) × IsLooseOf call.words.now loose
         × IsEnderOf call.words.now call.ender.now
         × MayLock its_label IsReservation call.lock.now (λ r. IsOnly call.words.now r pass) };
 
     ghost gives = { λ call call' pass pass' _. (call'.lock ≡ call.lock) × (call'.watch.ghost_name ≡ call.watch.ghost_name)
         × (call'.loose.ghost_name ≡ call.loose.ghost_name) × (call'.loose.now ≡ None)
-        × ((loose : LooseValue) → call.loose.now ≡ Some loose → HadLock its_label IsReservation call.lock.now
-        (λ r r'. CallsSlot T.row.coded.code R.puts W.told r pass r' pass'
-        (W.seen call.watch.now) (W.seen call'.watch.now) (λ slot ready slot' pass' had. (retired : Bool)
-        × SlotRetires slot ready loose call.kind [] slot' pass' had retired))) };
+        × ((loose : LooseValue) → call.loose.now ≡ Some loose
+        → HadCall T.row.coded.code R.puts W.told call.lock.now pass pass' (W.seen call.watch.now) (W.seen call'.watch.now)
+        (λ slot ready slot' pass' had. (retired : Bool) × SlotRetires slot ready loose call.kind [] slot' pass' had retired)) };
 
     fn stay(&mut self, pass: &mut Pass<'static>) {
         let Some(loose) = self.loose.take() else {
@@ -439,33 +484,28 @@ impl<'a, 'h, 'p, T: Drop, R: Reclaim<T>, W: Watch<T>> LockWork<
     }
 }
 
-/// The slot refreshes for its only guard. It gives the unit of the new activation.
+// The slot refreshes for its only guard, whose unit is exchanged for one of the new activation.
 #[derive(Drop)]
-pub(crate) struct Refreshing<'a, T: Drop, R: Reclaim<T>, W> {
-    /// The words of the collector.
-    pub(crate) words: &'a Words<T>,
-    /// Its reclaimer.
-    pub(crate) ender: &'a Ender<T, R>,
-    /// The slot's place. It lies here meanwhile.
-    pub(crate) lock: Lock<Reservation<T>>,
-    /// The unit of the slot's activation, which ends.
-    pub(crate) unit: Option<Unit>,
-    /// Who is told.
-    pub(crate) watch: &'a mut W,
+struct Refreshing<'a, 'w, T: Drop, R: Reclaim<T>, W> {
+    words: &'a Words<T>,
+    ender: &'a Ender<T, R>,
+    lock: &'a mut Lock<Reservation<T>>,
+    unit: &'a mut Option<Unit>,
+    watch: &'w mut W,
 }
 
-impl<'a, T: Drop, R: Reclaim<T>, W: Watch<T>> Stay<Unit> for Refreshing<'a, T, R, W> {
-    ghost may = { λ call pass. (unit : SlotUnit) × (call.unit ≡ Some unit) × IsEnderOf call.words.now call.ender.now
-        × MayLock its_label IsReservation call.lock (λ r. IsOnly call.words.now r pass
-        × IsUnit (words_book call.words.now) (its_number r.slot) unit.unit unit.seen) };
+impl<'a, 'w, T: Drop, R: Reclaim<T>, W: Watch<T>> Stay<()> for Refreshing<'a, 'w, T, R, W> {
+    ghost may = { λ call pass. (unit : SlotUnit) × (call.unit.now ≡ Some unit) × IsEnderOf call.words.now call.ender.now
+        × MayCall call.words.now call.lock.now unit pass };
 
-    ghost gives = { λ call call' pass pass' unit. (call'.lock ≡ call.lock) × (call'.watch.ghost_name ≡ call.watch.ghost_name)
-        × HadLock its_label IsReservation call.lock (λ r r'. CallsSlot T.row.coded.code R.puts W.told r pass r' pass'
-        (W.seen call.watch.now) (W.seen call'.watch.now)
+    ghost gives = { λ call call' pass pass' _. (call'.lock ≡ call.lock)
+        × (call'.unit.ghost_name ≡ call.unit.ghost_name) × (call'.watch.ghost_name ≡ call.watch.ghost_name)
+        × ((unit : SlotUnit) × (call'.unit.now ≡ Some unit) × HadLock its_label IsReservation call.lock.now (λ r r'.
+        CallsSlot T.row.coded.code R.puts W.told r pass r' pass' (W.seen call.watch.now) (W.seen call'.watch.now)
         (λ slot ready slot' pass' had. (a : Activation) × SlotRefreshes slot ready a [] slot' pass' had)
-        × IsUnit (words_book call.words.now) (its_number r.slot) unit.unit unit.seen × (unit.number ≡ its_number r.slot)) };
+        × IsUnit (words_book call.words.now) (its_number r.slot) unit.unit unit.seen × (unit.number ≡ its_number r.slot))) };
 
-    fn stay(&mut self, pass: &mut Pass<'static>) -> Unit {
+    fn stay(&mut self, pass: &mut Pass<'static>) {
         let Some(unit) = self.unit.take() else {
             unreachable!()
         };
@@ -474,7 +514,151 @@ impl<'a, T: Drop, R: Reclaim<T>, W: Watch<T>> Stay<Unit> for Refreshing<'a, T, R
             pass: &mut *pass,
             watch: &mut *self.watch,
         };
-        self.lock
-            .with_mut(Refresh { words, ender, unit }, &mut heard)
+        let unit = self
+            .lock
+            .with_mut(Refresh { words, ender, unit }, &mut heard);
+        *self.unit = Some(unit);
+    }
+}
+
+impl<T: Drop> Place<T> {
+    /// The slot enters with its first guard.
+    pub(crate) fn begin(&mut self, words: &Words<T>, porter: &mut Porter)
+        requires { MayStay (MayBegin words.now self.old.reservation) porter.old }
+        ensures place { self.new ≡ record self.old { guards = 1; unit = self.new.unit } }
+        ensures begins { HadStay (λ lent back. (unit : SlotUnit) × (self.new.unit ≡ Some unit)
+            × HadBegun words.now self.old.reservation unit lent back) porter.old porter.new }
+    {
+        let mut call = Beginning {
+            words,
+            lock: &mut self.reservation,
+            unit: &mut self.unit,
+        };
+        porter.stay(&mut call);
+        self.guards = 1;
+    }
+
+    /// The slot leaves with its last guard, and the watch is told of each value that is gone.
+    pub(crate) fn leave<R: Reclaim<T>, W: Watch<T>>(
+        &mut self,
+        words: &Words<T>,
+        ender: &Ender<T, R>,
+        porter: &mut Porter,
+        watch: &mut W,
+    )
+        requires ender { IsEnderOf words.now ender.now }
+        requires unit { (unit : SlotUnit) × (self.old.unit ≡ Some unit)
+            × MayStay (MayCall words.now self.old.reservation unit) porter.old }
+        ensures place { self.new ≡ record self.old { guards = 0; unit = None } }
+        ensures leaves { HadStay (λ lent back. HadCall T.row.coded.code R.puts W.told self.old.reservation lent back
+            (W.seen watch.old) (W.seen watch.new) (λ slot ready slot' pass' had. SlotLeaves slot ready [] slot' pass' had))
+            porter.old porter.new }
+        ensures same_reference { watch.exit.ghost_name ≡ watch.entry.ghost_name }
+    {
+        let mut call = Leaving {
+            words,
+            ender,
+            lock: &mut self.reservation,
+            unit: &mut self.unit,
+            watch: &mut *watch,
+        };
+        porter.stay(&mut call);
+        self.guards = 0;
+    }
+
+    /// The slot refreshes for its only guard, and the watch is told of each value that is gone.
+    pub(crate) fn refresh<R: Reclaim<T>, W: Watch<T>>(
+        &mut self,
+        words: &Words<T>,
+        ender: &Ender<T, R>,
+        porter: &mut Porter,
+        watch: &mut W,
+    )
+        requires ender { IsEnderOf words.now ender.now }
+        requires unit { (unit : SlotUnit) × (self.old.unit ≡ Some unit)
+            × MayStay (MayCall words.now self.old.reservation unit) porter.old }
+        ensures place { self.new ≡ record self.old { unit = self.new.unit } }
+        ensures refreshes { HadStay (λ lent back. (unit : SlotUnit) × (self.new.unit ≡ Some unit)
+            × HadLock its_label IsReservation self.old.reservation (λ r r'.
+            CallsSlot T.row.coded.code R.puts W.told r lent r' back (W.seen watch.old) (W.seen watch.new)
+            (λ slot ready slot' pass' had. (a : Activation) × SlotRefreshes slot ready a [] slot' pass' had)
+            × IsUnit (words_book words.now) (its_number r.slot) unit.unit unit.seen × (unit.number ≡ its_number r.slot)))
+            porter.old porter.new }
+        ensures same_reference { watch.exit.ghost_name ≡ watch.entry.ghost_name }
+    {
+        let mut call = Refreshing {
+            words,
+            ender,
+            lock: &mut self.reservation,
+            unit: &mut self.unit,
+            watch: &mut *watch,
+        };
+        porter.stay(&mut call);
+    }
+
+    /// The batch of the slot, which has a guard, is attempted, and the watch is told of each value that is gone.
+    pub(crate) fn flush<R: Reclaim<T>, W: Watch<T>>(
+        &mut self,
+        words: &Words<T>,
+        ender: &Ender<T, R>,
+        porter: &mut Porter,
+        watch: &mut W,
+    )
+        requires ender { IsEnderOf words.now ender.now }
+        requires unit { (unit : SlotUnit) × (self.old.unit ≡ Some unit)
+            × MayStay (MayCall words.now self.old.reservation unit) porter.old }
+        ensures place { self.new ≡ self.old }
+        ensures flushes { HadStay (λ lent back. HadCall T.row.coded.code R.puts W.told self.old.reservation lent back
+            (W.seen watch.old) (W.seen watch.new)
+            (λ slot ready slot' pass' had. (retired : Bool) × SlotFlushes slot ready [] slot' pass' had retired)) porter.old porter.new }
+        ensures same_reference { watch.exit.ghost_name ≡ watch.entry.ghost_name }
+    {
+        let Some(unit) = &self.unit else {
+            unreachable!()
+        };
+        let mut call = Flushing {
+            words,
+            ender,
+            lock: &mut self.reservation,
+            unit,
+            watch: &mut *watch,
+        };
+        porter.stay(&mut call);
+    }
+
+    /// A value is retired with this kind by the slot, with or without a guard, and the watch is told of each value that is gone.
+    pub(crate) fn retire<R: Reclaim<T>, W: Watch<T>>(
+        &mut self,
+        words: &Words<T>,
+        ender: &Ender<T, R>,
+        loose: Loose,
+        kind: u64,
+        porter: &mut Porter,
+        watch: &mut W,
+    )
+        requires ender { IsEnderOf words.now ender.now }
+        requires value { IsLooseOf words.now loose }
+        requires may { MayStay (λ pass. MayLock its_label IsReservation self.old.reservation (λ r. IsOnly words.now r pass)) porter.old }
+        ensures place { self.new ≡ self.old }
+        ensures retires { HadStay (λ lent back. HadCall T.row.coded.code R.puts W.told self.old.reservation lent back
+            (W.seen watch.old) (W.seen watch.new)
+            (λ slot ready slot' pass' had. (retired : Bool) × SlotRetires slot ready loose kind [] slot' pass' had retired))
+            porter.old porter.new }
+        ensures same_reference { watch.exit.ghost_name ≡ watch.entry.ghost_name }
+    {
+        let mut loose = Some(loose);
+        let mut call = Retiring {
+            words,
+            ender,
+            lock: &mut self.reservation,
+            loose: &mut loose,
+            kind,
+            watch: &mut *watch,
+        };
+        porter.stay(&mut call);
+        match loose {
+            None => {}
+            Some(_) => unreachable!(),
+        }
     }
 }

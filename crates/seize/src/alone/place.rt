@@ -1,20 +1,12 @@
 //! The place of a slot in use, while a collector is in one caller's hands. The slot lies there in a reservation for one guard; how many
 //! guards the caller has of it is counted beside that, with the unit of the activation that they share.
-ghost use Rattle.std.specs.Prelude.{◌≡◌, ◌<◌, ◌≤◌, ℕ, IfErr, IfOk, None, Some, false, get_or, is_some, length, slice_set, true};
+ghost use Rattle.std.specs.Prelude.{◌≡◌, ◌<◌, ◌≤◌, ℕ, IfErr, IfOk, None, Some, get_or, is_some, length, slice_set, true};
 ghost use base.Growing.{prefix_prop};
 ghost use base.Stored.{Coded-set, coded_list};
 ghost use mathlib.Core.List.{IsPrefix};
 ghost use Rattle.seize_book.specs.Entry.{entry_coded};
-ghost use Rattle.seize_book.specs.Homesteads.{state_seen};
-ghost use Rattle.seize_machine.specs.Machine.Event.{Enter};
-ghost use Rattle.seize_machine.specs.Machine.State.{head_at, is_active};
-ghost use Rattle.seize_machine.specs.declared.machine.event.Answer.{Answer};
-ghost use Rattle.seize_alone.specs.Events.{MakesAlone};
-ghost use Rattle.seize_calls.specs.Slots.{its_number};
-ghost use Rattle.seize_words.specs.Joined.{words_book};
 ghost use Rattle.seize_table.specs.declared.refusal.Refusal.TheVariants.{NoMemory as no_memory};
-ghost use Rattle.seize.specs.Places.{IsOnly};
-ghost use Rattle.seize.specs.Reservations.{IsHeadFor, IsUnit, IsUnitIn};
+ghost use Rattle.seize.specs.Reservations.{IsUnitIn};
 
 use crate::reservation::Reservation;
 use crate::shelf::Shelf;
@@ -23,7 +15,6 @@ use seize_content::Steady;
 use seize_table::Refusal;
 use seize_words::activation::Activation;
 use seize_words::book::{Pass, Seen, Stay};
-use seize_words::words::Words;
 
 /// The unit of an activation that a slot's guards share.
 #[derive(Drop)]
@@ -114,30 +105,5 @@ impl<M: Steady, R, W: LockWork<M, Pass<'static>, R>> Stay<R> for Within<M, W> {
             unreachable!()
         };
         self.lock.with_mut(work, pass)
-    }
-}
-
-/// The slot enters. It gives the unit of its activation.
-#[derive(Drop)]
-pub(crate) struct Beginning<'a, T> {
-    /// The words of the collector.
-    pub(crate) words: &'a Words<T>,
-}
-
-impl<'a, 'p, T: Drop> LockWork<Reservation<T>, Pass<'p>, Unit> for Beginning<'a, T> {
-    ghost may = { λ work r pass. IsOnly work.words.now r pass
-        × (is_active (head_at (state_seen pass) (its_number r.slot)) ≡ false) };
-
-    ghost gives = { λ work r r' pass pass' unit. ((answer : Answer) × MakesAlone pass pass' (Enter (its_number r.slot)) answer)
-        × IsUnit (words_book work.words.now) (its_number r.slot) unit.unit unit.seen × (unit.number ≡ its_number r.slot) };
-
-    fn work(self, r: &mut Reservation<T>, pass: &mut Pass<'p>) -> Unit {
-        let words = self.words;
-        r.slot.seen().agree(&words.blocks.book);
-        r.slot.look(words, pass);
-        let head = r.slot.head(words, pass);
-        let number = r.slot.number();
-        let (unit, seen) = r.enter(words, head, pass);
-        Unit { number, unit, seen }
     }
 }

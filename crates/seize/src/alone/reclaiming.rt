@@ -1,9 +1,8 @@
 //! Calls by which values may be gone. Each tells a watch of them, in order, and then gives them to the reclaimer. What that puts weighs
 //! less, so each call returns. None of them waits or takes memory of its own.
 
-use crate::alone::calls::{Flushing, Leaving, Refreshing, Retiring};
+use crate::alone::calls::held;
 use crate::alone::hands::Hands;
-use crate::alone::place::{Place, back, out};
 use crate::alone::{Alone, Codes};
 use crate::block::{Content, Taken};
 use crate::reclaim::{Reclaim, Watch};
@@ -29,38 +28,7 @@ impl<T: Drop, R: Reclaim<T>> Alone<T, R> {
         ensures grows { ListGrows self.old self.new }
         ensures same_reference { watch.exit.ghost_name ≡ watch.entry.ghost_name }
     {
-        let Place {
-            owned,
-            guards: _,
-            reservation,
-            unit,
-            shelf,
-        } = out(&mut self.places, s);
-        let mut call = Leaving {
-            words: &self.words,
-            ender: &self.ender,
-            lock: reservation,
-            unit,
-            watch: &mut *watch,
-        };
-        self.porter.stay(&mut call);
-        // It is taken apart, and so what the watch has seen is known.
-        let Leaving {
-            words: _words,
-            ender: _ender,
-            lock: reservation,
-            unit,
-            watch: _watch,
-        } = call;
-        drop(unit);
-        let place = Place {
-            owned,
-            guards: 0,
-            reservation,
-            unit: None,
-            shelf,
-        };
-        back(&mut self.places, s, place);
+        held(&mut self.places[s]).leave(&self.words, &self.ender, &mut self.porter, watch);
         self.hands = Hands::of::<Brand, usize>(&self.hands, &self.porter, &s);
     }
 
@@ -74,39 +42,37 @@ impl<T: Drop, R: Reclaim<T>> Alone<T, R> {
         ensures grows { ListGrows self.old self.new }
         ensures same_reference { watch.exit.ghost_name ≡ watch.entry.ghost_name }
     {
-        let Place {
-            owned,
-            guards,
-            reservation,
-            unit,
-            shelf,
-        } = out(&mut self.places, s);
-        let mut call = Refreshing {
-            words: &self.words,
-            ender: &self.ender,
-            lock: reservation,
-            unit,
-            watch: &mut *watch,
-        };
-        let unit = self.porter.stay(&mut call);
-        // It is taken apart, and so what the watch has seen is known.
-        let Refreshing {
-            words: _words,
-            ender: _ender,
-            lock: reservation,
-            unit: ended,
-            watch: _watch,
-        } = call;
-        drop(ended);
-        let place = Place {
-            owned,
-            guards,
-            reservation,
-            unit: Some(unit),
-            shelf,
-        };
-        back(&mut self.places, s, place);
+        held(&mut self.places[s]).refresh(&self.words, &self.ender, &mut self.porter, watch);
         self.hands = Hands::of::<Brand, usize>(&self.hands, &self.porter, &s);
+    }
+
+    // The value is retired by the slot, which is in use.
+    pub(crate) fn retire_in<W: Watch<T>>(
+        &mut self,
+        s: usize,
+        value: Taken<T>,
+        kind: u64,
+        watch: &mut W,
+    )
+        requires used { calls.is_free (slot_at self.old.state s).kind ≡ false }
+        requires own { IsTakenOf T.row.coded.code self.old.book value }
+        ensures done { Answers W.told (calls.retire R.puts R.weight self.old.state s (taken_content value) kind) (Ok tt) self.new.state
+            (W.seen watch.old) (W.seen watch.new) }
+        ensures same { IsSame self.old self.new }
+        ensures grows { ListGrows self.old self.new }
+        ensures same_reference { watch.exit.ghost_name ≡ watch.entry.ghost_name }
+    {
+        let (loose, content) = value.into_loose();
+        held(&mut self.places[s]).retire(
+            &self.words,
+            &self.ender,
+            loose,
+            kind,
+            &mut self.porter,
+            watch,
+        );
+        let said = (s, kind, content);
+        self.hands = Hands::of::<Brand, (usize, u64, Content<T>)>(&self.hands, &self.porter, &said);
     }
 
     /// Leaves with one guard of the slot. With its last one the slot is inactive; what waited for it alone is gone. An owned slot gives its
@@ -177,30 +143,7 @@ impl<T: Drop, R: Reclaim<T>> Alone<T, R> {
         ensures same_reference { watch.exit.ghost_name ≡ watch.entry.ghost_name }
     {
         self.guarded(s)?;
-        let Place {
-            owned,
-            guards,
-            mut reservation,
-            unit,
-            shelf,
-        } = out(&mut self.places, s);
-        let Some(unit) = unit else { unreachable!() };
-        let mut call = Flushing {
-            words: &self.words,
-            ender: &self.ender,
-            lock: &mut reservation,
-            unit: &unit,
-            watch: &mut *watch,
-        };
-        self.porter.stay(&mut call);
-        let place = Place {
-            owned,
-            guards,
-            reservation,
-            unit: Some(unit),
-            shelf,
-        };
-        back(&mut self.places, s, place);
+        held(&mut self.places[s]).flush(&self.words, &self.ender, &mut self.porter, watch);
         self.hands = Hands::of::<Brand, usize>(&self.hands, &self.porter, &s);
         Ok(())
     }
@@ -232,38 +175,7 @@ impl<T: Drop, R: Reclaim<T>> Alone<T, R> {
         if self.known(s).is_none() {
             return Err((Refusal::NotInUse, value));
         }
-        let Place {
-            owned,
-            guards,
-            mut reservation,
-            unit,
-            shelf,
-        } = out(&mut self.places, s);
-        let (loose, content) = value.into_loose();
-        let mut loose = Some(loose);
-        let mut call = Retiring {
-            words: &self.words,
-            ender: &self.ender,
-            lock: &mut reservation,
-            loose: &mut loose,
-            kind,
-            watch: &mut *watch,
-        };
-        self.porter.stay(&mut call);
-        match loose {
-            None => {}
-            Some(_) => unreachable!(),
-        }
-        let place = Place {
-            owned,
-            guards,
-            reservation,
-            unit,
-            shelf,
-        };
-        back(&mut self.places, s, place);
-        let said = (s, kind, content);
-        self.hands = Hands::of::<Brand, (usize, u64, Content<T>)>(&self.hands, &self.porter, &said);
+        self.retire_in(s, value, kind, watch);
         Ok(())
     }
 }

@@ -98,10 +98,8 @@ impl<T: Drop, R: Reclaim<T>> Alone<T, R> {
             return Reply::Refused(Refusal::NotInUse, Some(owned));
         }
         let taken = self.taken(owned);
-        match self.retire(s, taken, kind, watch) {
-            Ok(()) => Reply::Done,
-            Err((_, _taken)) => unreachable!(),
-        }
+        self.retire_in(s, taken, kind, watch);
+        Reply::Done
     }
 
     // A link is exchanged, and what it held is retired. The slot has a guard then, so that is not refused.
@@ -126,10 +124,8 @@ impl<T: Drop, R: Reclaim<T>> Alone<T, R> {
             Ok(None) => return Reply::Done,
             Err((refusal, new)) => return Reply::Refused(refusal, new),
         };
-        match self.retire(s, old, kind, watch) {
-            Ok(()) => Reply::Done,
-            Err((_, _old)) => unreachable!(),
-        }
+        self.retire_in(s, old, kind, watch);
+        Reply::Done
     }
 
     // One call of a list.

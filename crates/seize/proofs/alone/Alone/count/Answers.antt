@@ -1,4 +1,4 @@
-use Rattle.std.proofs.Common.{◌≡◌, ℕ, ◌<◌, Bool, true, false, None, Some, if◌then◌else◌, length, refl, sym, ap, subst, ◌∙◌}
+use Rattle.std.proofs.Common.{◌≡◌, ℕ, Bool, true, false, None, Some, if◌then◌else◌, length, slice_set, refl, sym, ap, subst, ◌∙◌, arith}
 use Rattle.std.proofs.lemmas.List.{length-set}
 use base.Growing.{prefix_refl}
 use mathlib.Core.List.{IsPrefix}
@@ -9,16 +9,15 @@ use Rattle.seize_words.specs.Joined.{words_book}
 use Rattle.seize_alone.proofs.Singles.{guards_held}
 use Rattle.seize.specs.Alones.{View}
 use Rattle.seize.specs.Placing.{ArePlaces, Lies}
-use Rattle.seize.proofs.Lone.{alone_still, laid, place_is, slot_there, some_guards, some_place}
+use Rattle.seize.specs.declared.alone.place.Place.{Place}
+use Rattle.seize.proofs.Lone.{alone_still, held_is, laid, place_there, slot_there, some_guards}
 use Rattle.seize.proofs.alone.Alone.count.Goals as goal
 
-pub out-place-requires : goal.out-place-requires
-out-place-requires g c =
-    let inside = c.self.inside in some_place (words_book inside.words) inside.hands.state inside.places.items c.self.invariant.placed c.args.s
-    (ap (λ (v : View g.row.T.Denot). is_free (slot_at v.state c.args.s).kind) c.self.view_is ∙ ap is_free c.requires.0)
-
-pub back-requires : goal.back-requires
-back-requires g c = subst (λ (n : ℕ). c.args.s < n) (sym (ap length c.out-place.ensures.places.0 ∙ length-set c.self.inside.places.items c.args.s None)) c.out-place.ensures.places.1
+pub index_mut-requires : goal.index_mut-requires
+index_mut-requires g c =
+    let a = c.self.invariant in let inside = c.self.inside in let s = c.args.s in let n = words_book inside.words in let st = inside.hands.state in
+    let used : is_free (slot_at st s).kind ≡ false = ap (λ (v : View g.row.T.Denot). is_free (slot_at v.state s).kind) c.self.view_is ∙ ap is_free c.requires.0 in
+    omega (arith, inside.places.ok.0, place_there n st inside.places.items a.placed s used)
 
 pub of-requires : goal.of-requires
 of-requires g c =
@@ -36,19 +35,20 @@ of-requires g c =
 
 pub invariant_of-self : goal.invariant_of-self
 invariant_of-self g c =
-    let a = c.self.invariant in let inside = c.self.inside in let s = c.args.s in let n = words_book inside.words in let st = inside.hands.state in let items = inside.places.items in
+    let a = c.self.invariant in let inside = c.self.inside in let s = c.args.s in let n = words_book inside.words in let st = inside.hands.state in
     let used : is_free (slot_at st s).kind ≡ false = ap (λ (v : View g.row.T.Denot). is_free (slot_at v.state s).kind) c.self.view_is ∙ ap is_free c.requires.0 in
     let on : has_guard (slot_at st s) ≡ true = ap (λ (v : View g.row.T.Denot). has_guard (slot_at v.state s)) c.self.view_is ∙ c.requires.1 in
-    let is = place_is n st items a.placed s used c.out-place.result c.out-place.ensures.place in
-    let there = slot_there st s used in let slot' : Slot g.row.T.Denot ℕ = record (slot_at st s) { guards = c.args.guards } in
+    let is = held_is n st inside.places.items a.placed s used c.index_mut.result.now c.held.result.now c.index_mut.ensures.value c.held.ensures.value in
+    let there = slot_there st s used in let slot' : Slot g.row.T.Denot ℕ = record (slot_at st s) { guards = c.args.guards } in let items = inside.places.items in
+    let place : Place g.row.T.Denot = record c.held.result.now { guards = c.args.guards } in
     let now : c.of.result.state ≡ set_guards st s c.args.guards = c.of.ensures.0 in
     let same : has_guard (slot_at st s) ≡ has_guard slot' = on ∙ sym (some_guards c.args.guards c.requires.2) in
     let unit = ap (λ (t : Lies). t.1.1.1.0) is ∙ ap (λ (b : Bool). if b then Some (s, n) else None) same in
-    alone_still a c.of.result c.back.new.places.items
+    alone_still a c.of.result (slice_set items s (Some place))
     (ap (λ (x : State g.row.T.Denot ℕ). length x.slots) now ∙ length-set st.slots s slot')
     (ap (λ (x : State g.row.T.Denot ℕ). x.size) now) (ap (λ (x : State g.row.T.Denot ℕ). length x.links) now)
-    (subst (λ (x : State g.row.T.Denot ℕ). ArePlaces n x c.back.new.places.items) (sym now)
-    (laid n st s slot' items c.out-place.new.places.items c.back.new.places.items _ a.placed there c.out-place.ensures.places.1 c.out-place.ensures.places.0 c.back.ensures used
+    (subst (λ (x : State g.row.T.Denot ℕ). ArePlaces n x (slice_set items s (Some place))) (sym now)
+    (laid n st s slot' items place a.placed there (place_there n st items a.placed s used) used
     (λ j. ((is j).0, (c.args.guards, ((is j).1.1.0, (unit j, (is j).1.1.1.1)))))))
     c.of.ensures.1
 

@@ -6,7 +6,7 @@ use Rattle.seize_words.specs.Joined.{words_book}
 use Rattle.seize.specs.Reservations.{IsUnit}
 use Rattle.seize.proofs.Placed.{label_same}
 use Rattle.seize.proofs.Stilled.{alone_from, still_looked, still_prepared, still_then}
-use Rattle.seize.proofs.alone.place.BeginningLockWorkReservationPassUnit.work.Goals as goal
+use Rattle.seize.proofs.alone.calls.BeginLockWorkReservationPassUnit.work.Goals as goal
 
 pub returns : goal.returns
 returns g c =

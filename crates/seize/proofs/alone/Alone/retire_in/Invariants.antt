@@ -1,7 +1,7 @@
 use Rattle.std.proofs.Common.{◌≡◌}
 use Rattle.seize_model.specs.Waiting.Calls.{retire}
 use Rattle.seize_alone.specs.Holding.{Holds}
-use Rattle.seize.proofs.alone.Alone.retire.Given as goal
+use Rattle.seize.proofs.alone.Alone.retire_in.Given as goal
 
 abbrev pub ghosts-of : goal.ghosts-of
 ghosts-of g a = record {
