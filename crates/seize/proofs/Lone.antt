@@ -128,10 +128,14 @@ module _ {T R : Type 0} {code : T → Gv} {words : Words T} {porter : Porter} {n
   pub list_grows : {seen : List Entry} → porter.seen ≡ seen → IsPrefix seen porter'.seen
   list_grows {seen} is = subst (IsPrefix seen) (sym stay.again.1) (subst (λ (x : List Entry). IsPrefix x stay.back.seen) (stay.shut.was a.lends.2 ∙ is) stay.grows)
 
+  -- it is the porter of the same words
+  pub lends_again : (porter'.name ≡ words_book words) × (porter'.size ≡ words.size) × (porter'.home ≡ true)
+  lends_again = (sym stay.again.0.0 ∙ stay.same.0 ∙ stay.shut.book.0 ∙ a.lends.0, sym stay.again.0.1 ∙ stay.same.2 ∙ stay.shut.book.1 ∙ a.lends.1, stay.again.2)
+
   pub alone_again : (hands' : Hands T) (places' : List (Option (Place T))) (made' : ℕ) → made' ≡ length hands'.state.slots → hands'.state.size ≡ hands.state.size → length hands'.state.links ≡ length hands.state.links
       → ArePlaces (words_book words) hands'.state places' → Holds code hands'.state hands'.names hands'.kinds porter'.name porter'.seen → IsAlone code words porter' numbers places' made' ender hands'
   alone_again hands' places' made' counted size links placed holds = record {
-    lends = (sym stay.again.0.0 ∙ stay.same.0 ∙ stay.shut.book.0 ∙ a.lends.0, sym stay.again.0.1 ∙ stay.same.2 ∙ stay.shut.book.1 ∙ a.lends.1, stay.again.2);
+    lends = lends_again;
     numbered = a.numbered;
     ends = a.ends;
     counted = counted;

@@ -22,6 +22,7 @@ mod taking;
 mod tells;
 
 use crate::alone::calls::held;
+use crate::alone::all::reclaim_by;
 pub use crate::alone::codes::Codes;
 use crate::alone::hands::Hands;
 use crate::alone::place::{Place, back, out, room};
@@ -43,8 +44,8 @@ use std::marker::{Brand, Model};
 /// A collector in one caller's hands. No call waits, and each returns, but for what a reclaimer, a watch, the `Drop` of a value or the
 /// closure of `look` does.
 ///
-/// Its drop is that of a collector which threads share: first what is in use ends, then what waits is reclaimed, slot by slot, and then
-/// each value in a link goes to the reclaimer. For the order of `reclaim_all`, and a watch, call that first.
+/// Its drop reclaims all, in the order of `reclaim_all`; then each value in a link goes to the reclaimer, once, and all memory goes back.
+/// That no clause says. For a watch, call `reclaim_all` first.
 pub struct Alone<T: Drop + Codes, R: Reclaim<T> = Boxed> {
     words: Words<T>,
     porter: Porter,
@@ -298,15 +299,24 @@ impl<T: Drop + Codes, R: Reclaim<T>> Drop for Alone<T, R> {
     fn drop(self) {
         let Alone {
             words,
-            porter,
-            numbers,
-            places,
+            mut porter,
+            mut numbers,
+            mut places,
             made: _,
             ender,
             id,
             alloc,
             hands: _,
         } = self;
+        reclaim_by(
+            &words,
+            &ender,
+            &mut porter,
+            &mut numbers,
+            &mut places,
+            &mut (),
+        );
+        // Nothing is left to reclaim, so this ends what the links hold.
         drop(shared(words, porter, numbers, places, ender, id, alloc));
     }
 }

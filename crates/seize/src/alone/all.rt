@@ -1,6 +1,7 @@
 //! All is reclaimed by a collector in one caller's hands: what is in use ends, what waits in batches goes, and then what reclaimers put.
 ghost use Rattle.std.specs.Prelude.{◌≡◌, ℕ, None, get_or};
 ghost use Rattle.seize_book.specs.Book.{IsLegalList};
+ghost use Rattle.seize_book.specs.Porters.{HadStay, MayStay};
 ghost use Rattle.seize_book.specs.Tokens.{IsSole, start};
 ghost use Rattle.seize_words.specs.Joined.{words_book};
 ghost use Rattle.seize_calls.specs.Slots.{IsPassFor};
@@ -15,21 +16,21 @@ use crate::numbers::Numbers;
 use crate::numbers::turning::{Turning, Turns};
 use crate::reclaim::{Reclaim, Watch};
 use seize_cells::Lock;
-use seize_words::book::{Pass, Stay};
+use seize_words::book::{Pass, Porter, Stay};
 use seize_words::words::Words;
 use std::marker::Brand;
 
 // All is reclaimed.
 #[derive(Drop)]
-struct All<'a, T: Drop, R: Reclaim<T>, W> {
+struct All<'a, 'n, 'p, 'w, T: Drop, R: Reclaim<T>, W> {
     words: &'a Words<T>,
     ender: &'a Ender<T, R>,
-    numbers: &'a mut Lock<Numbers<T>>,
-    places: &'a mut Vec<Option<Place<T>>>,
-    watch: &'a mut W,
+    numbers: &'n mut Lock<Numbers<T>>,
+    places: &'p mut Vec<Option<Place<T>>>,
+    watch: &'w mut W,
 }
 
-impl<'a, T: Drop, R: Reclaim<T>, W: Watch<T>> Stay<()> for All<'a, T, R, W> {
+impl<'a, 'n, 'p, 'w, T: Drop, R: Reclaim<T>, W: Watch<T>> Stay<()> for All<'a, 'n, 'p, 'w, T, R, W> {
     ghost may = { λ all pass. IsPassFor all.words.now pass × IsSole pass.id × IsEnderOf all.words.now all.ender.now
         × (all.numbers.now ≡ (words_book all.words.now).family) × IsLegalList (start pass.name) pass.seen
         × IsSomeHeld T.row.coded.code pass (MayGo pass all.places.now.items) };
@@ -50,6 +51,35 @@ impl<'a, T: Drop, R: Reclaim<T>, W: Watch<T>> Stay<()> for All<'a, T, R, W> {
     }
 }
 
+/// All is reclaimed by the parts of a collector in one caller's hands, and nothing lies in any place then. The links hold what they held.
+pub(super) fn reclaim_by<T: Drop, R: Reclaim<T>, W: Watch<T>>(
+    words: &Words<T>,
+    ender: &Ender<T, R>,
+    porter: &mut Porter,
+    numbers: &mut Lock<Numbers<T>>,
+    places: &mut Vec<Option<Place<T>>>,
+    watch: &mut W,
+)
+    requires porter { (porter.old.name ≡ words_book words.now) × (porter.old.size ≡ words.now.size) }
+    requires numbers { numbers.old ≡ (words_book words.now).family }
+    requires ender { IsEnderOf words.now ender.now }
+    requires held { MayStay (λ pass. IsSomeHeld T.row.coded.code pass (MayGo pass places.old.items)) porter.old }
+    ensures numbers { numbers.new ≡ numbers.old }
+    ensures places { (s : ℕ) → get_or places.new.items s None ≡ None }
+    ensures goes { HadStay (λ lent back. GoesAll T.row.coded.code R.puts R.weight W.told (MayGo lent places.old.items) lent back
+        (W.seen watch.old) (W.seen watch.new)) porter.old porter.new }
+    ensures same_reference { watch.exit.ghost_name ≡ watch.entry.ghost_name }
+{
+    let mut all = All {
+        words,
+        ender,
+        numbers: &mut *numbers,
+        places: &mut *places,
+        watch: &mut *watch,
+    };
+    porter.stay(&mut all);
+}
+
 impl<T: Drop, R: Reclaim<T>> Alone<T, R> {
     ghost use Rattle.seize_model.specs.Waiting.Calls as calls;
     ghost use Rattle.seize.specs.Alones.{IsSame, ListGrows};
@@ -67,14 +97,14 @@ impl<T: Drop, R: Reclaim<T>> Alone<T, R> {
         ensures grows { ListGrows self.old self.new }
         ensures same_reference { watch.exit.ghost_name ≡ watch.entry.ghost_name }
     {
-        let mut all = All {
-            words: &self.words,
-            ender: &self.ender,
-            numbers: &mut self.numbers,
-            places: &mut self.places,
-            watch: &mut *watch,
-        };
-        self.porter.stay(&mut all);
+        reclaim_by(
+            &self.words,
+            &self.ender,
+            &mut self.porter,
+            &mut self.numbers,
+            &mut self.places,
+            watch,
+        );
         self.hands = Hands::of::<Brand, ()>(&self.hands, &self.porter, &());
     }
 }

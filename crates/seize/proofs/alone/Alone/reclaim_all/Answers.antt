@@ -1,42 +1,45 @@
-use Rattle.std.proofs.Common.{◌≡◌, ℕ, Bool, List, Option, None, Some, if◌then◌else◌, length, option_map, get_or, refl, sym, ap, subst, ◌∙◌}
+use Rattle.std.proofs.Common.{◌≡◌, ℕ, Bool, List, Option, None, Some, if◌then◌else◌, length, option_map, get_or, refl, sym, ap, subst, ◌∙◌, arith}
 use Rattle.seize_model.specs.Waiting.Calls.{reclaim_all}
 use Rattle.seize_model.specs.Waiting.State.{State, slot_at}
-use Rattle.seize_book.specs.Book.{IsLegalList}
-use Rattle.seize_book.specs.Tokens.{Name, start}
+use Rattle.seize_book.specs.Tokens.{Name}
 use Rattle.seize_words.specs.Joined.{words_book}
 use Rattle.seize.specs.Alones.{View}
-use Rattle.seize.specs.Aparts.{GoesAll, MayGo}
 use Rattle.seize.specs.Enders.{IsEnderOf}
-use Rattle.seize.specs.Placing.{ArePlaces, Lies, lies_in, lying_in}
+use Rattle.seize.specs.Placing.{ArePlaces, lies_in, lying_in}
 use Rattle.seize.specs.Told.{told_of}
 use Rattle.seize.specs.declared.alone.place.Place.{Place}
 use Rattle.seize.proofs.Everything.{all_free, all_links, all_many, all_size}
 use Rattle.seize.proofs.Lone.{alone_again, held_again, knows, list_grows, same_numbers}
 use Rattle.seize.proofs.alone.Alone.reclaim_all.Goals as goal
 
-pub stay-requires : goal.stay-requires
-stay-requires g c pass shuts =
-    let a = c.self.invariant in let k = knows a shuts in let inside = c.self.inside in let hands = inside.hands in (
-      k.for,
-      k.sole,
-      subst (IsEnderOf inside.words) (sym c.deref.ensures) a.ends,
-      a.numbered,
-      subst (λ (n : Name). IsLegalList (start n) pass.seen) (sym shuts.book.0) shuts.goes_on.legal,
-      (hands.state, hands.names, hands.kinds, k.holds, ((k.size, k.distinct), subst (λ (n : Name). ArePlaces n hands.state inside.places.items) k.for.0 a.placed)),
+pub reclaim_by-requires : goal.reclaim_by-requires
+reclaim_by-requires g c =
+    let a = c.self.invariant in let inside = c.self.inside in let hands = inside.hands in (
+      omega arith,
+      (
+        (a.lends.0, a.lends.1),
+        (
+          a.numbered,
+          (
+            subst (IsEnderOf inside.words) (sym c.deref.ensures) a.ends,
+            λ pass shuts. let k = knows a shuts in (hands.state, hands.names, hands.kinds, k.holds, ((k.size, k.distinct), subst (λ (n : Name). ArePlaces n hands.state inside.places.items) k.for.0 a.placed)),
+          ),
+        ),
+      ),
     )
 
 pub of-requires : goal.of-requires
 of-requires g c =
-    let a = c.self.invariant in let stay = c.stay.ensures in let k = knows a stay.shut in let inside = c.self.inside in let hands = inside.hands in let P = g.R.Puts in
-    let gone = stay.gives.4 hands.state hands.names hands.kinds ((k.size, k.distinct), subst (λ (n : Name). ArePlaces n hands.state inside.places.items) k.for.0 a.placed) k.holds in
+    let a = c.self.invariant in let stay = c.reclaim_by.ensures.goes in let k = knows a stay.shut in let inside = c.self.inside in let hands = inside.hands in let P = g.R.Puts in
+    let gone = stay.gives hands.state hands.names hands.kinds ((k.size, k.distinct), subst (λ (n : Name). ArePlaces n hands.state inside.places.items) k.for.0 a.placed) k.holds in
     ((reclaim_all P.puts P.weight hands.state).0, gone.0.0, gone.0.1, (refl, held_again a stay gone.0.2))
 
 pub invariant_of-self : goal.invariant_of-self
 invariant_of-self g c =
-    let a = c.self.invariant in let stay = c.stay.ensures in let inside = c.self.inside in let n = words_book inside.words in let st = inside.hands.state in let P = g.R.Puts in
-    let left : State g.row.T.Denot ℕ = (reclaim_all P.puts P.weight st).0 in let places = c.stay.new.work.places.now.items in
+    let a = c.self.invariant in let stay = c.reclaim_by.ensures.goes in let inside = c.self.inside in let n = words_book inside.words in let st = inside.hands.state in let P = g.R.Puts in
+    let left : State g.row.T.Denot ℕ = (reclaim_all P.puts P.weight st).0 in let places = c.reclaim_by.new.places.items in
     let now : c.of.result.state ≡ left = c.of.ensures.0 in
-    let placed : ArePlaces n left places = λ s. ap (λ (o : Option (Place g.row.T.Denot)). option_map lies_in o) (stay.gives.3 s)
+    let placed : ArePlaces n left places = λ s. ap (λ (o : Option (Place g.row.T.Denot)). option_map lies_in o) (c.reclaim_by.ensures.places s)
     ∙ ap (λ (b : Bool). if b then None else Some (lying_in n (slot_at left s) s)) (sym (all_free P.puts P.weight st s)) in
     same_numbers (
     alone_again a stay c.of.result places inside.made
@@ -45,16 +48,15 @@ invariant_of-self g c =
     (ap (λ (x : State g.row.T.Denot ℕ). length x.links) now ∙ ap (λ (l : List (Option g.row.T.Denot)). length l) (all_links P.puts P.weight st))
     (subst (λ (x : State g.row.T.Denot ℕ). ArePlaces n x places) (sym now) placed)
     c.of.ensures.1
-    ) (λ j. (stay.gives.0 j).now)
+    ) c.reclaim_by.ensures.numbers
 
 pub returns-clause-done : goal.returns-clause-done
 returns-clause-done g c =
-    let a = c.self.invariant in let stay = c.stay.ensures in let k = knows a stay.shut in let inside = c.self.inside in let hands = inside.hands in let P = g.R.Puts in
-    let gone = stay.gives.4 hands.state hands.names hands.kinds ((k.size, k.distinct), subst (λ (n : Name). ArePlaces n hands.state inside.places.items) k.for.0 a.placed) k.holds in (
+    let a = c.self.invariant in let stay = c.reclaim_by.ensures.goes in let k = knows a stay.shut in let inside = c.self.inside in let hands = inside.hands in let P = g.R.Puts in
+    let gone = stay.gives hands.state hands.names hands.kinds ((k.size, k.distinct), subst (λ (n : Name). ArePlaces n hands.state inside.places.items) k.for.0 a.placed) k.holds in (
       c.of.ensures.0 ∙ ap (λ (v : View g.row.T.Denot). (reclaim_all P.puts P.weight v.state).0) c.self.view_is,
-      ap g.W.Watch.seen (c.watch-1.given.1 (sym stay.gives.1)) ∙ gone.1
-          ∙ ap (λ (v : View g.row.T.Denot). told_of g.W.Watch.told (g.W.Watch.seen c.args.watch.now) (reclaim_all P.puts P.weight v.state).1) c.self.view_is,
+      gone.1 ∙ ap (λ (v : View g.row.T.Denot). told_of g.W.Watch.told (g.W.Watch.seen c.args.watch.now) (reclaim_all P.puts P.weight v.state).1) c.self.view_is,
     )
 
 pub returns-clause-grows : goal.returns-clause-grows
-returns-clause-grows g c = list_grows c.self.invariant c.stay.ensures (ap (λ (v : View g.row.T.Denot). v.seen) c.self.view_is)
+returns-clause-grows g c = list_grows c.self.invariant c.reclaim_by.ensures.goes (ap (λ (v : View g.row.T.Denot). v.seen) c.self.view_is)
