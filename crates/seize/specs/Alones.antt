@@ -3,9 +3,9 @@
 --                       (`seize_model`), and the events of the list
 --     view_coded        the code of views, by that of values
 --     IsSame a a'       it is the same collector: by its list, its batch size, its id and how many links it has
---     ListGrows a a'        the list had what it has had, and may have more events
---     AsListed code a   the list is legal; where it ends no call is under way; and it leads to a machine that shows the state, where numbers
---                       stand for values by their names, and for kinds as the list says (`Holds`)
+--     ListGrows a a'    the list goes on: what was there is its beginning
+--     AsListed code a   the list is legal, where it ends no call is under way, and it leads to a machine that shows the state, in which
+--                       numbers stand for values by their names, and for kinds as the list says (`Holds`)
 --     IsAlone code words porter numbers places made ender hands     what is so of its parts: all are of one list. The porter is at home.
 --                       The hands hold the state, which what the porter has seen shows, with the batch size; and so many slots were made.
 --                       What lies in the places is what the state says of the slots

@@ -17,7 +17,7 @@ use std::sync::Wait;
 use std::thread::Threads;
 use std::time::CpuClock;
 use std::{io, thread};
-pub(crate) use turns::{Job, ROW, Turns};
+pub(crate) use turns::{Job, RETIRED, ROW, Turns};
 
 /// For how many processors a collector is made.
 const PROCESSORS: usize = 4;
@@ -25,7 +25,8 @@ const PROCESSORS: usize = 4;
 /// How many values go from one thread to another in a run.
 pub(crate) const SENT: usize = 16_384;
 
-fn refused(_refusal: Refusal) -> io::Error {
+/// As an error of the program.
+pub(crate) fn refused(_refusal: Refusal) -> io::Error {
     ErrorKind::OutOfMemory.into()
 }
 

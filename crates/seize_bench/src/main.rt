@@ -3,10 +3,12 @@
 //! `port WORK THREADS median least clean peak`.
 #![tactic(auto)]
 
+mod alone;
 mod blocks;
 mod clock;
 mod guards;
 mod lookups;
+mod nests;
 mod swaps;
 mod team;
 mod work;

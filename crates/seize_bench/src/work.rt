@@ -1,8 +1,8 @@
-//! The works by their names. `blocks` makes and ends blocks, `lookups` finds them, `swaps` swaps a word, and `guards` makes the calls of
-//! registrations and guards.
+//! The works by their names. `blocks` makes and ends blocks, `lookups` finds them, `swaps` swaps a word, `guards` makes the calls of
+//! registrations and guards, `nests` retires values with blocks inside, and `alone` is one caller.
 use crate::clock::{Report, Samples};
 use crate::guards::{Job, ROW, Turns};
-use crate::{blocks, guards, lookups, swaps};
+use crate::{alone, blocks, guards, lookups, nests, swaps};
 use std::alloc::Global;
 use std::io;
 use std::rt::Clock;
@@ -58,6 +58,11 @@ pub(crate) enum Work {
     Mix90,
     /// A new block retired that was in no link. 32 fill a batch; the registration enters before them and leaves after.
     Retire,
+    /// The same where each value holds one more block, which its reclaimer puts. One thread does it.
+    Further,
+    /// A caller who has the collector alone puts a new block into the one link, and retires what was there. 32 fill a batch; the slot
+    /// enters before them and leaves after.
+    UpdateAlone,
     /// One thread puts new blocks into links, and another takes them out and retires them.
     Pipe,
     /// The one link of all threads swapped for nothing, with a guard for each swap.
@@ -69,7 +74,7 @@ pub(crate) enum Work {
 }
 
 /// All of them.
-const ALL: [Work; 25] = [
+const ALL: [Work; 27] = [
     Work::Make,
     Work::MakeBare,
     Work::MakeBox,
@@ -91,6 +96,8 @@ const ALL: [Work; 25] = [
     Work::Mix50,
     Work::Mix90,
     Work::Retire,
+    Work::Further,
+    Work::UpdateAlone,
     Work::Pipe,
     Work::Exchange1,
     Work::SharedRead,
@@ -125,6 +132,8 @@ impl Work {
             Work::Mix50 => "Mix50",
             Work::Mix90 => "Mix90",
             Work::Retire => "Retire",
+            Work::Further => "Further",
+            Work::UpdateAlone => "UpdateAlone",
             Work::Pipe => "Pipe",
             Work::Exchange1 => "Exchange1",
             Work::SharedRead => "SharedRead",
@@ -145,6 +154,7 @@ impl Work {
         match (self, word) {
             (Work::Pipe | Work::PipeBox, "2") => Some(2),
             (Work::Pipe | Work::PipeBox, _) => None,
+            (Work::Further | Work::UpdateAlone, "2" | "4") => None,
             (_, "1") => Some(1),
             (_, "2") => Some(2),
             (_, "4") => Some(4),
@@ -199,6 +209,8 @@ impl Work {
             Work::LookPlain => lookups::look_plain(rt, threads, alloc, &mut samples)?,
             Work::LookWide => lookups::look_wide(rt, threads, alloc, &mut samples)?,
             Work::Swap => swaps::swap(rt, threads, &mut samples)?,
+            Work::Further => nests::measure(rt, alloc, &mut samples)?,
+            Work::UpdateAlone => alone::measure(rt, alloc, &mut samples)?,
             Work::Pipe => guards::pipe(rt, alloc, &mut samples)?,
             Work::SharedRead | Work::SharedUpdate => {
                 guards::measure_shared(rt, threads, alloc, self.turns(), &mut samples)?

@@ -45,7 +45,7 @@ pub(crate) struct Turns {
 }
 
 /// How many values a turn of `Retire` retires.
-const RETIRED: u64 = 32;
+pub(crate) const RETIRED: u64 = 32;
 
 impl Turns {
     /// So many turns, each of so many operations.
