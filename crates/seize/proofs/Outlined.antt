@@ -1,5 +1,5 @@
 -- A call that leaves kinds, guards and links as they were: what lies in the places, and the invariant.
-use Rattle.std.proofs.Common.{◌≡◌, ℕ, ◌<◌, Bool, true, false, List, [], length, Option, Some, None, if◌then◌else◌, option_map, slice_set, refl, sym, ap, ◌∙◌}
+use Rattle.std.proofs.Common.{◌≡◌, ℕ, ◌<◌, Bool, true, false, List, [], length, Option, Some, slice_set, refl, sym, ap, ◌∙◌}
 use base.Stored.{Gv}
 use Rattle.seize_model.specs.Waiting.Calls.{is_free}
 use Rattle.seize_model.specs.Waiting.State.{State, set_slot, slot_at}
@@ -13,25 +13,15 @@ use Rattle.seize_alone.proofs.Outlines.{guards_in, kind_in, outline, set_frame, 
 use Rattle.seize_alone.specs.Holding.{Holds}
 use Rattle.seize.specs.Alones.{IsAlone}
 use Rattle.seize.specs.Kinds.{kind_of}
-use Rattle.seize.specs.Placing.{ArePlaces, lies_for, lies_in, lying_in, unit_in}
+use Rattle.seize.specs.Placing.{ArePlaces, lies_for, lies_in, lying_in}
 use Rattle.seize.specs.declared.alone.hands.Hands.{Hands}
 use Rattle.seize.specs.declared.alone.place.Place.{Place}
-use Rattle.seize.specs.declared.alone.place.Unit.{Unit as Held}
 use Rattle.seize.specs.declared.ender.Ender.{Ender}
 use Rattle.seize.proofs.Lone.{alone_again, laid, slot_there}
 
 pub kind_used : (owned : Bool) → is_free (kind_of owned) ≡ false
 kind_used true = refl
 kind_used false = refl
-
--- the unit of a place is of the slot that the state says
-pub held_there : (n : Name) (s : ℕ) (unit : Option Held) (held : Held) (on : Bool) → option_map unit_in unit ≡ (if on then Some (s, n) else None) → unit ≡ Some held → on ≡ true → (held.number ≡ s) × (held.seen.name ≡ n)
-held_there n s unit held on is some active =
-    let both : Some (unit_in held) ≡ Some (s, n) = sym (ap (λ (o : Option Held). option_map unit_in o) some) ∙ is ∙ ap (λ (b : Bool). if b then Some (s, n) else None) active in
-    let same : unit_in held ≡ (s, n) = one both in (λ j. (same j).0, λ j. (same j).1)
-  where
-    one : {a b : ℕ × Name} → Some a ≡ Some b → a ≡ b
-    one e = cc
 
 -- The places.
 

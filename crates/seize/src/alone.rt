@@ -21,8 +21,8 @@ mod sharing;
 mod taking;
 mod tells;
 
-use crate::alone::calls::held;
 use crate::alone::all::reclaim_by;
+use crate::alone::calls::held;
 pub use crate::alone::codes::Codes;
 use crate::alone::hands::Hands;
 use crate::alone::place::{Place, back, out, room};

@@ -107,6 +107,19 @@ fn all_goes_in_order_and_links_stay(rt: HostRuntime) -> Result<(), Fail> {
     Ok(())
 }
 
+// The drop gives them to the reclaimer in the same order, and then what the link holds.
+#[test]
+fn all_goes_in_order_at_the_drop(rt: HostRuntime) -> Result<(), Fail> {
+    let ends = Ends::with_room(rt.alloc(), 8)?;
+    let mut heard = Heard::with_room(rt.alloc(), 0)?;
+    let mut alone = alone_nests(rt.alloc(), 2, 1, &ends)?;
+    fill_two_batches(&rt, rt.alloc(), &mut alone, &mut heard)?;
+    assert_eq!(rt; ends.many(), 0);
+    drop(alone);
+    assert!(rt; ends.are(&[1, 2, 4, 3, 6, 5, 7, 9]));
+    Ok(())
+}
+
 // A chain that waits in a batch is gone with all, in its order.
 #[test]
 fn a_long_chain_goes_as_all_is_reclaimed(rt: HostRuntime) -> Result<(), Fail> {

@@ -260,6 +260,18 @@ fn are_told(lists: &Lists, heard: &Heard, ends: &Ends) -> bool {
         && ends.is_at(n, *value))
 }
 
+// Whether each value ended with the collector: those that are gone as all is reclaimed in order, and then those of the links.
+fn end(lists: &mut Lists, ends: &Ends) -> Result<bool, Refusal> {
+    lists.reclaim_all()?;
+    let in_order = lists
+        .gone()
+        .iter()
+        .enumerate()
+        .all(|(n, value)| ends.is_at(n, *value));
+    lists.end_all()?;
+    Ok(in_order && ends.have(lists.gone()))
+}
+
 // The collector is shared, and nobody uses it. Then one caller has it again.
 fn shared_and_back<'a>(alone: AloneNests<'a>) -> Result<AloneNests<'a>, Fail>
     requires { length alone.book.links ≡ 3 }
@@ -287,12 +299,14 @@ fn run<'a>(rt: &impl Abort, alloc: Global, seed: u64, ends: &'a Ends) -> Result<
             return Err(Fail::new(format_args!("seed {seed}: call {n}, of {what}, differs")));
         }
     }
-    if !reclaim(&mut alone, &mut lists, &mut heard)? || !are_told(&lists, &heard, ends) {
+    // Every other list leaves that to the drop.
+    if seed % 2 == 0
+        && (!reclaim(&mut alone, &mut lists, &mut heard)? || !are_told(&lists, &heard, ends))
+    {
         return Err(Fail::new(format_args!("seed {seed}: what is left differs")));
     }
     drop(alone);
-    lists.end_all()?;
-    if !ends.have(lists.gone()) {
+    if !end(&mut lists, ends)? {
         return Err(Fail::new(format_args!("seed {seed}: the drop differs")));
     }
     Ok(())

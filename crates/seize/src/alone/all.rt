@@ -30,7 +30,8 @@ struct All<'a, 'n, 'p, 'w, T: Drop, R: Reclaim<T>, W> {
     watch: &'w mut W,
 }
 
-impl<'a, 'n, 'p, 'w, T: Drop, R: Reclaim<T>, W: Watch<T>> Stay<()> for All<'a, 'n, 'p, 'w, T, R, W> {
+impl<'a, 'n, 'p, 'w, T: Drop, R: Reclaim<T>, W: Watch<T>> Stay<()>
+    for All<'a, 'n, 'p, 'w, T, R, W> {
     ghost may = { λ all pass. IsPassFor all.words.now pass × IsSole pass.id × IsEnderOf all.words.now all.ender.now
         × (all.numbers.now ≡ (words_book all.words.now).family) × IsLegalList (start pass.name) pass.seen
         × IsSomeHeld T.row.coded.code pass (MayGo pass all.places.now.items) };

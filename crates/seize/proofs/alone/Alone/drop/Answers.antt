@@ -1,7 +1,6 @@
-use Rattle.std.proofs.Common.{◌≡◌, None, get_or, box_value, sym, subst, ◌∙◌, arith}
+use Rattle.std.proofs.Common.{box_value, sym, subst, ◌∙◌, arith}
 use base.Stored.{Coded}
 use Rattle.seize_book.specs.Tokens.{Name}
-use Rattle.seize_words.specs.Joined.{words_book}
 use Rattle.seize.specs.Alones.{IsAlone}
 use Rattle.seize.specs.Enders.{IsEnderOf}
 use Rattle.seize.specs.Placing.{ArePlaces}
