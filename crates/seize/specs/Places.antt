@@ -3,8 +3,8 @@
 --     IsOnly words r pass    a reservation for one guard of a slot of these words, and a pass of theirs that is alone
 --     CallsSlot code puts told r pass r' pass' seen seen' Does     the slot of this reservation did that, once the pass was ready, which
 --                            changed nothing. With what the reclaimer had it put as `puts` says, and the watch was told of that
---     MayBegin words lock pass     under this lock lies a reservation for one guard of a slot of these words, which is inactive, as the pass
---                            has seen; and the pass, which is theirs too, is alone
+--     MayEnter words lock pass     under this lock lies a reservation for one guard of a slot of these words, which is inactive, as the
+--                            pass has seen; and the pass, which is theirs too, is alone
 --     HadBegun words lock unit pass pass'     the slot of the reservation under this lock entered, and this is a unit of its activation
 --     MayCall words lock unit pass     under this lock lies a reservation for one guard of a slot of these words, with this unit of its
 --                            activation; and the pass, which is theirs too, is alone
@@ -52,8 +52,8 @@ pub record CallsSlot {T Seen : Type 0} (code : T → Gv) (puts : ℕ → T → L
   pub put : PutAs code puts had
   pub tells : HasTold code told seen seen' had
 
-abbrev pub MayBegin : {T : Type 0} → Words T → ℕ → Pass → Type 0
-MayBegin {T} words lock pass =
+abbrev pub MayEnter : {T : Type 0} → Words T → ℕ → Pass → Type 0
+MayEnter {T} words lock pass =
     MayLock {X = Reservation T} its_label IsReservation lock
     (λ r. IsOnly words r pass × (is_active (head_at (state_seen pass) (its_number r.slot)) ≡ false))
 

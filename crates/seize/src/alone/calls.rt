@@ -20,7 +20,7 @@ ghost use Rattle.seize_words.specs.declared.activation.Activation.{Activation};
 ghost use Rattle.seize.specs.Enders.{IsEnderOf};
 ghost use Rattle.seize_alone.specs.Gone.{PutAs};
 ghost use Rattle.seize.specs.Lends.{lends_place};
-ghost use Rattle.seize.specs.Places.{CallsSlot, HadBegun, HadCall, IsOnly, MayBegin, MayCall};
+ghost use Rattle.seize.specs.Places.{CallsSlot, HadBegun, HadCall, IsOnly, MayEnter, MayCall};
 ghost use Rattle.seize.specs.Reservations.{IsReservation, IsUnit, its_label};
 ghost use Rattle.seize.specs.Told.{HasTold};
 ghost use Rattle.seize.specs.declared.alone.place.Unit.{Unit as SlotUnit};
@@ -83,7 +83,7 @@ struct Beginning<'a, T: Drop> {
 }
 
 impl<'a, T: Drop> Stay<()> for Beginning<'a, T> {
-    ghost may = { λ call pass. MayBegin call.words.now call.lock.now pass };
+    ghost may = { λ call pass. MayEnter call.words.now call.lock.now pass };
 
     ghost gives = { λ call call' pass pass' _. (call'.lock ≡ call.lock) × (call'.unit.ghost_name ≡ call.unit.ghost_name)
         × ((unit : SlotUnit) × (call'.unit.now ≡ Some unit) × HadBegun call.words.now call.lock.now unit pass pass') };
@@ -524,7 +524,7 @@ impl<'a, 'w, T: Drop, R: Reclaim<T>, W: Watch<T>> Stay<()> for Refreshing<'a, 'w
 impl<T: Drop> Place<T> {
     /// The slot enters with its first guard.
     pub(crate) fn begin(&mut self, words: &Words<T>, porter: &mut Porter)
-        requires { MayStay (MayBegin words.now self.old.reservation) porter.old }
+        requires { MayStay (MayEnter words.now self.old.reservation) porter.old }
         ensures place { self.new ≡ record self.old { guards = 1; unit = self.new.unit } }
         ensures begins { HadStay (λ lent back. (unit : SlotUnit) × (self.new.unit ≡ Some unit)
             × HadBegun words.now self.old.reservation unit lent back) porter.old porter.new }
