@@ -27,6 +27,7 @@ pub mod Served
 pub mod Shelves
 pub mod States
 pub mod Sweeps
+pub mod TakenOver
 pub mod Told
 pub use Rattle.seize_machine.specs.Machine
 pub use Rattle.seize_table.specs.Free

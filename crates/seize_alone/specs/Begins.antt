@@ -1,11 +1,11 @@
 -- Where hands begin that hold a book which threads shared. `code` is the code of values.
---     IsUsedAs now s u    slot s is used so, as a kind and a number of guards say, and has no call under way: its number is in use unless the
---                         kind is `Free`, and it is active where it has guards. A free slot has none, an owned one has one at most
---     Begun code size n seen uses     a state of this size, with as many links as the book, that the hands hold by names and kinds: its slots
---                         are used so. A legal list of events leads to it
---     BeginsHeld          a book of which each slot is used so shows such a state, whichever kinds and numbers of guards these are, where its
---                         list says what is kept of all values that it retires or puts. What is in batches stays there, and retired batches
---                         wait for the slots that list them
+--     IsUsedAs now s u    slot s is used so, as a kind and a number of guards say, and has no call under way: its number is in use unless
+--                         the kind is `Free`, and it is active where it has guards. A free slot has none, an owned one has one at most
+--     Begun code size n seen uses     a state of this size, with as many links as the book, that the hands hold by names and kinds: its
+--                         slots are used so. A legal list of events leads to it
+--     BeginsHeld          a book of which each slot is used so shows such a state, whichever kinds and numbers of guards these are, where
+--                         its list says what is kept of all values that it retires or puts. What is in batches stays there, and retired
+--                         batches wait for the slots that list them
 use Rattle.std.specs.Prelude.{◌≡◌, ◌≤◌, ◌==◌, ℕ, not, true, List, length, None}
 use base.Stored.{Gv}
 use Rattle.seize_table.specs.Place.{all_numbers}

@@ -4,7 +4,8 @@
 --     BeginsAs a keys a'       it has begun with what the keys know
 --     IsLasting a pass         it has not ended in what the pass has seen
 --     Ends a a' lives next     its lifetime is over, and it is another one of the same slot, with the next
---     SplitsUnits a a' n units     so many units were split off: a' and these are the same activation as a;  SplitsUnit a a' unit     one was
+--     SplitsUnits a a' n units     so many units were split off: a' and these are the same activation as a
+--     SplitsUnit a a' unit     one was
 --     JoinsUnits a units a'    units came back
 use Rattle.std.specs.Prelude.{◌≡◌, ℕ, ◌+◌, List, [], ◌∷◌}
 use Rattle.seize_book.specs.Laws.{IsAmong, ended_lives}

@@ -1,0 +1,18 @@
+-- What one caller takes over of a collector that threads shared.
+--     IsTakenOver c st     the list of the collector c was `seen` when the caller got it: of each slot it says what the state says. A number
+--                          is in use unless its slot is free there, no call is under way, and a slot is active just where it has guards: as
+--                          many as it had that were forgotten
+use Rattle.std.specs.Prelude.{ℕ, List}
+use Rattle.seize_model.specs.Waiting.State.{State, slot_at}
+use Rattle.seize_book.specs.Book.{after}
+use Rattle.seize_book.specs.Entry.{Entry}
+use Rattle.seize_book.specs.Porters.{GoesOnTo}
+use Rattle.seize_book.specs.Tokens.{start}
+use Rattle.seize_alone.specs.Begins.{IsUsedAs}
+use Rattle.seize.specs.Collectors.{its_book, seen_by}
+use Rattle.seize.specs.declared.collector.Collector.{Collector}
+
+pub record IsTakenOver {T R : Type 0} (c : Collector T R) (st : State T ℕ) : Type 0 where
+  pub seen : List Entry
+  pub goes_on : GoesOnTo (its_book c) (seen_by c) seen
+  pub slots : (s : ℕ) → IsUsedAs (after (start (its_book c)) seen) s ((slot_at st s).kind, (slot_at st s).guards)
