@@ -1,83 +1,109 @@
--- A collector comes from threads that shared it into one caller's hands: what these hold first, and what lies in no place.
---     StartsAt code porter st names kinds     the hands hold this state first, as the porter has seen: no number is in use. A legal list of
---                             events leads to it
-use Rattle.std.proofs.Common.{Bool, false, IfSome, slice_set, ⊎_elim, ◌≡◌, ℕ, true, if◌then◌else◌, List, [], length, Option, None, Some, option_map, get_or, sym, ap, subst, ◌∙◌, arith}
-use Rattle.std.proofs.lemmas.List.{get_or_past}
+-- A collector comes from threads that shared it into one caller's hands: what these hold first, and what lies in the places.
+--     AreUsed st places     each slot is used as what lies in its place says
+--     StartsAt code porter places st names kinds     the hands hold this state first, as the porter has seen: its slots are used as what lies
+--                             in these places says
+use Rattle.std.proofs.Common.{Bool, false, not, ◌==◌, ◌≤◌, slice_set, ⊎_elim, ◌≡◌, ℕ, true, if◌then◌else◌, List, length, Option, None, Some, option_map, get_or, refl, sym, ap, subst, ◌∙◌, arith}
 use base.Stored.{Gv}
+use Rattle.seize_machine.specs.Machine.State as machine
 use Rattle.seize_model.specs.declared.kind.Kind.{Kind}
-use Rattle.seize_model.specs.declared.kind.Kind.TheVariants.{Free}
-use Rattle.seize_model.specs.Waiting.Calls.{is_free}
-use Rattle.seize_model.specs.Waiting.State.{has_guard, State, slot_at}
-use Rattle.seize_model.specs.Agreement.Origins.{IsLedTo}
+use Rattle.seize_model.specs.Waiting.Calls.{is_free, is_owned}
+use Rattle.seize_model.specs.Waiting.State.{Slot, State, has_guard, slot_at}
 use Rattle.seize_book.specs.Book.{after}
 use Rattle.seize_book.specs.Entry.{Entry}
 use Rattle.seize_book.specs.Porters.{OpensAgain}
+use Rattle.seize_book.specs.Saying.{AllSay}
 use Rattle.seize_book.specs.Tokens.{Name, start}
 use Rattle.seize_book.specs.declared.book.pass.Pass.{Pass}
 use Rattle.seize_book.specs.declared.book.porter.Porter.{Porter}
 use Rattle.seize_alone.specs.Begins.{Begun}
-use Rattle.seize_alone.specs.Holding.{Holds, some_state}
+use Rattle.seize_alone.specs.Holding.{Holds}
 use Rattle.seize_alone.proofs.Shown.{many_shown}
+use Rattle.seize.specs.Kinds.{kind_of}
 use Rattle.seize.specs.Laws.{HaveContents}
-use Rattle.seize.specs.Placing.{ArePlaces, Lies, MayLay, lies_in, lying_in, unit_in}
+use Rattle.seize.specs.Placing.{ArePlaces, IsLeftAt, Lies, MayLay, lies_for, lies_in, lying_in, unit_in, use_in}
 use Rattle.seize.specs.Resting.{ComesToRest}
 use Rattle.seize.specs.declared.alone.place.Place.{Place}
-use Rattle.seize.specs.declared.alone.place.Unit.{Unit as Held}
+use Rattle.seize.specs.declared.numbers.resting.Found.{Found}
 use Rattle.seize.proofs.InUse.{set_or}
 use Rattle.seize.proofs.Resting.{rests_held}
 
-abbrev pub AllFree : {T : Type 0} → State T ℕ → Type 0
-AllFree st = (s : ℕ) → ((slot_at st s).kind ≡ Free) × ((slot_at st s).guards ≡ 0)
+abbrev pub AreUsed : {T : Type 0} → State T ℕ → List (Option (Place T)) → Type 0
+AreUsed st places = (s : ℕ) → ((slot_at st s).kind ≡ (use_in (get_or places s None)).0) × ((slot_at st s).guards ≡ (use_in (get_or places s None)).1)
 
-abbrev pub StartsAt : {T : Type 0} → (T → Gv) → Porter → State T ℕ → List (ℕ × T) → List (ℕ × ℕ) → Type 0
-StartsAt code porter st names kinds = Holds code st names kinds porter.name porter.seen × (st.size ≡ porter.size) × (length st.links ≡ length porter.name.links) × AllFree st × IsLedTo (some_state st)
+abbrev pub StartsAt : {T : Type 0} → (T → Gv) → Porter → List (Option (Place T)) → State T ℕ → List (ℕ × T) → List (ℕ × ℕ) → Type 0
+StartsAt code porter places st names kinds =
+    Holds code st names kinds porter.name porter.seen × (st.size ≡ porter.size) × (length st.links ≡ length porter.name.links) × AreUsed st places
 
-module _ {T : Type 0} (code : T → Gv) (lent back : Pass) (porter : Porter) (made : Option ℕ) (many : ℕ) (is : made ≡ Some many) (comes : ComesToRest lent back made) (again : OpensAgain back porter) where
-  rests : ComesToRest lent back (Some many)
-  rests = subst (ComesToRest lent back) is comes
-
-  -- there is such a state
-  pub starts : HaveContents code back → (st : State T ℕ) × (names : List (ℕ × T)) × (kinds : List (ℕ × ℕ)) × StartsAt code porter st names kinds
-  starts contents =
-      let b : Begun code porter.size porter.name porter.seen = subst (λ (t : Name × List Entry). Begun code porter.size t.0 t.1) (λ j. (again.0.0 j, sym again.1 j)) (rests_held code lent back many porter.size rests contents) in
-      (b.state, b.names, b.kinds, (b.holds, b.sized, b.links, b.free, b.led))
+module _ {T : Type 0} (code : T → Gv) (lent back : Pass) (porter : Porter) (found : Found T) (comes : ComesToRest lent back found) (again : OpensAgain back porter) where
+  -- there is such a state, where all was found
+  pub starts : found.all ≡ true → HaveContents code back → AllSay back.seen → (st : State T ℕ) × (names : List (ℕ × T)) × (kinds : List (ℕ × ℕ)) × StartsAt code porter found.places.items st names kinds
+  starts all contents say =
+      let b : Begun code porter.size porter.name porter.seen (λ s. use_in (get_or found.places.items s None)) =
+      subst (λ (t : Name × List Entry). Begun code porter.size t.0 t.1 (λ s. use_in (get_or found.places.items s None))) (λ j. (again.0.0 j, sym again.1 j)) (rests_held code lent back found porter.size all comes contents say) in
+      (b.state, b.names, b.kinds, (b.holds, b.sized, b.links, b.slots))
 
   -- so many slots are in it
-  pub many_slots : (st : State T ℕ) (names : List (ℕ × T)) (kinds : List (ℕ × ℕ)) → Holds code st names kinds porter.name porter.seen → many ≡ length st.slots
+  pub many_slots : (st : State T ℕ) (names : List (ℕ × T)) (kinds : List (ℕ × ℕ)) → Holds code st names kinds porter.name porter.seen → found.made ≡ length st.slots
   many_slots st names kinds holds =
-      rests.rests.0 ∙ (λ j. length (after (start (again.0.0 j)) (sym again.1 j)).slots) ∙ many_shown holds
+      comes.made ∙ (λ j. length (after (start (again.0.0 j)) (sym again.1 j)).slots) ∙ many_shown holds
 
--- nothing lies in the place of a slot whose number is free
-pub no_places : {T : Type 0} (n : Name) (st : State T ℕ) (places : List (Option (Place T))) → places ≡ [] → AllFree st → ArePlaces n st places
-no_places {T} n st places none free s =
-    let nowhere : List (Option (Place T)) = [] in
-    ap (λ (ps : List (Option (Place T))). option_map lies_in (get_or ps s None)) none ∙ ap (λ (o : Option (Place T)). option_map lies_in o) (get_or_past nowhere s None (omega arith))
-    ∙ sym (ap (λ (kind : Kind). if is_free kind then None else Some (lying_in n (slot_at st s) s)) (free s).0)
+-- What lies in the places is what the state says.
+module _ {T : Type 0} (n : Name) (now : machine.State) (s : ℕ) (slot : Slot T ℕ) where
+  abbrev its_unit : Option (ℕ × Name)
+  its_unit = Some (s, n)
+
+  turned : (b : Bool) → (if b then None else its_unit) ≡ (if not b then its_unit else None)
+  turned true = refl
+  turned false = refl
+
+  owned_kind : (b : Bool) → b ≡ is_owned (kind_of b)
+  owned_kind true = refl
+  owned_kind false = refl
+
+  used_kind : (b : Bool) → is_free (kind_of b) ≡ false
+  used_kind true = refl
+  used_kind false = refl
+
+  pub placed_left : (o : Option (Place T)) → slot.kind ≡ (use_in o).0 → slot.guards ≡ (use_in o).1 → ((place : Place T) → o ≡ Some place → IsLeftAt n now s place) → option_map lies_in o ≡ lies_for n slot s
+  placed_left None kind guards left = sym (ap (λ (k : Kind). if is_free k then None else Some (lying_in n slot s)) kind)
+  placed_left (Some place) kind guards left =
+      let is = left place refl in
+      let unit : option_map unit_in place.unit ≡ (if has_guard slot then its_unit else None) = is.unit ∙ turned (place.guards == 0) ∙ ap (λ (k : ℕ). if not (k == 0) then its_unit else None) (sym guards) in
+      let lies : lies_in place ≡ lying_in n slot s = (λ j. ((owned_kind place.owned ∙ ap is_owned (sym kind)) j, (sym guards j, (is.reservation j, (unit j, is.shelf j))))) in
+      ap Option.Some lies ∙ sym (ap (λ (b : Bool). if b then None else Some (lying_in n slot s)) (ap is_free kind ∙ used_kind place.owned))
+
+pub all_placed : {T : Type 0} (n : Name) (now : machine.State) (st : State T ℕ) (places : List (Option (Place T))) → AreUsed st places → ((s : ℕ) (place : Place T) → get_or places s None ≡ Some place → IsLeftAt n now s place) → ArePlaces n st places
+all_placed n now st places used left s = placed_left n now s (slot_at st s) (get_or places s None) (used s).0 (used s).1 (left s)
+
+-- What was left may be laid on its shelf again.
+pub left_may : {T : Type 0} (n : Name) (now : machine.State) (s : ℕ) (place : Place T) → IsLeftAt n now s place → MayLay n place
+left_may n now s place is = record { slot = s; reservation = is.reservation; unit = is.unit; shelf = is.shelf; fits = λ owned. is.used.owned (ap (λ (b : Bool). is_owned (kind_of b)) owned) }
 
 -- What lies in a place may be laid on its shelf.
-unit_of : (n : Name) (s : ℕ) (o : Option Held) (b : Bool) → option_map unit_in o ≡ (if b then Some (s, n) else None) → IfSome o (λ held. held.seen.name ≡ n)
-unit_of n s None b e = tt
-unit_of n s (Some held) true e = ap (λ (t : ℕ × Name). t.1) (some_pair e)
-  where
-    some_pair : {a b : ℕ × Name} → Some a ≡ Some b → a ≡ b
-    some_pair e = cc
-unit_of n s (Some held) false e = absurd (cc)
-
 some_lies : {a b : Lies} → Some a ≡ Some b → a ≡ b
 some_lies e = cc
 
-pub may_lay : {T : Type 0} (n m : Name) (st : State T ℕ) (places : List (Option (Place T))) → ArePlaces n st places → m ≡ n → (s : ℕ) (place : Place T) → get_or places s None ≡ Some place → MayLay m place
-may_lay {T} n m st places are same s place is =
+pub may_lay : {T : Type 0} (n m : Name) (st : State T ℕ) (places : List (Option (Place T))) → ArePlaces n st places → ((s : ℕ) → is_owned (slot_at st s).kind ≡ true → (slot_at st s).guards ≤ 1) → m ≡ n
+    → (s : ℕ) (place : Place T) → get_or places s None ≡ Some place → MayLay m place
+may_lay {T} n m st places are one same s place is =
     subst (λ (t : Name). MayLay t place) (sym same) (go (is_free (slot_at st s).kind) (sym (ap (λ (o : Option (Place T)). option_map lies_in o) is) ∙ are s))
   where
+    its_unit : Option (ℕ × Name)
+    its_unit = Some (s, n)
+
+    turned_back : (b : Bool) → (if not b then its_unit else None) ≡ (if b then None else its_unit)
+    turned_back true = refl
+    turned_back false = refl
+
     go : (b : Bool) → Some (lies_in place) ≡ (if b then None else Some (lying_in n (slot_at st s) s)) → MayLay n place
     go true e = absurd (cc)
     go false e =
-        let lies : lies_in place ≡ lying_in n (slot_at st s) s = some_lies e in record {
+        let lies : lies_in place ≡ lying_in n (slot_at st s) s = some_lies e in let guards : place.guards ≡ (slot_at st s).guards = ap (λ (t : Lies). t.1.0) lies in record {
           slot = s;
           reservation = ap (λ (t : Lies). t.1.1.0) lies;
+          unit = ap (λ (t : Lies). t.1.1.1.0) lies ∙ turned_back ((slot_at st s).guards == 0) ∙ ap (λ (k : ℕ). if k == 0 then None else its_unit) (sym guards);
           shelf = ap (λ (t : Lies). t.1.1.1.1) lies;
-          unit = unit_of n s place.unit (has_guard (slot_at st s)) (ap (λ (t : Lies). t.1.1.1.0) lies);
+          fits = λ owned. let few = one s (sym (ap (λ (t : Lies). t.0) lies) ∙ owned) in omega (arith, few, guards);
         }
 
 -- where one place was emptied, no other one is new

@@ -17,6 +17,7 @@ pub mod Contents
 mod Given
 mod Chunks
 pub mod Protected
+mod Shelved
 pub mod Stands
 pub mod Retired
 pub mod Facts

@@ -18,6 +18,7 @@ pub(crate) mod place;
 mod reclaiming;
 mod running;
 mod sharing;
+pub(crate) mod shelving;
 mod taking;
 mod tells;
 

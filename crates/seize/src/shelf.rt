@@ -85,6 +85,29 @@ impl<'p, T: Drop> LockWork<Laid<T>, Pass<'p>, ()> for Forgetting {
     }
 }
 
+// This is laid there, and nothing else lies there then.
+#[derive(Drop)]
+struct Putting<T> {
+    reservation: Option<Reservation<T>>,
+    forgotten: Option<Forgotten>,
+}
+
+impl<T: Drop> LockWork<Laid<T>, (), ()> for Putting<T> {
+    ghost may = { λ work laid _. IfSome work.reservation (IsLaidFor laid.book.name.family)
+        × IfSome work.forgotten (IsForgottenOf laid.book.name.family) };
+
+    ghost gives = { λ _ _ _ _ _ _. Unit {0} };
+
+    fn work(self, laid: &mut Laid<T>, _with: &mut ()) {
+        let Putting {
+            reservation,
+            forgotten,
+        } = self;
+        laid.reservation = reservation;
+        laid.forgotten = forgotten;
+    }
+}
+
 // What lies there is taken out.
 #[derive(Drop)]
 struct Taking {}
@@ -153,8 +176,23 @@ impl<T: Drop> Shelf<T> {
         drop(self.laid.try_with(Forgetting { forgotten }, pass));
     }
 
+    /// Lays this there, where nothing lies. It takes no memory and waits for nobody: see `lay`.
+    pub(crate) fn put(&self, reservation: Option<Reservation<T>>, forgotten: Option<Forgotten>)
+        requires { IfSome reservation (IsLaidFor self.now) × IfSome forgotten (IsForgottenOf self.now) }
+    {
+        drop(
+            self.laid.try_with(
+                Putting {
+                    reservation,
+                    forgotten,
+                },
+                &mut (),
+            ),
+        );
+    }
+
     /// Takes out what lies there.
-    fn take(&self) -> (Option<Reservation<T>>, Option<Forgotten>)
+    pub(crate) fn take(&self) -> (Option<Reservation<T>>, Option<Forgotten>)
         ensures { IfSome result.0 (IsLaidFor self.now) × IfSome result.1 (IsForgottenOf self.now) }
     {
         match self.laid.try_with(Taking {}, &mut ()) {

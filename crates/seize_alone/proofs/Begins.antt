@@ -1,36 +1,37 @@
--- A book without guards and calls shows a state of waiting sets: its retired batches are all given up, and what waits in its slots has the
--- names of what is lent with it, and the kinds that the list says.
+-- A book without calls shows a state of waiting sets: what waits in its slots and retired batches has the names of what is lent with it, and
+-- the kinds that the list says, and a retired batch waits for the slots whose heads list it.
 --     AllHave ps vs     each of these numbers is among these
-use Rattle.std.proofs.Common.{◌≡◌, ℕ, zero, suc, ◌<◌, ◌≤◌, pos, ◌==◌, ◌||◌, Bool, true, false, if◌then◌else◌, List, [], ◌∷◌, ◌++◌, length, map, get_or, Option, Some, None, option_map, is_some, refl, sym, ◌∙◌, ap, subst, ◌⊎◌, inl, inr, arith}
-use Rattle.std.specs.List.{Contains, count_by, flat_map}
+use Rattle.std.proofs.Common.{◌≡◌, ℕ, zero, suc, ◌+◌, ◌<◌, ◌≤◌, pos, ◌==◌, ◌||◌, not, Bool, true, false, if◌then◌else◌, List, [], ◌∷◌, ◌++◌, length, map, get_or, Option, Some, None, option_map, is_some, refl, sym, ◌∙◌, ap, subst, ◌⊎◌, inl, inr, arith}
+use Rattle.std.specs.List.{Contains, count_by, range_with_len, sum_by}
 use Rattle.std.proofs.lemmas.Bool.{cases_lt}
-use Rattle.std.proofs.lemmas.List.{get_or_past, length-map}
-use Rattle.std.proofs.lemmas.List.Elements.{Contains-append_left, Contains-append_right}
-use native.Mathlib.Decide.{ℕ_discrete}
+use Rattle.std.proofs.lemmas.List.{get_or_default, get_or_past, length-map, same_lists}
+use Rattle.std.proofs.lemmas.List.Elements.{Contains-append_right}
+use Rattle.std.proofs.lemmas.List.FromFn.{get_or-map-range_with_len, length-map-range_with_len}
+use Rattle.std.proofs.lemmas.List.Sums.{sum_by-cons}
 use base.Stored.{Gv}
 use Rattle.seize_table.specs.Place.{all_numbers}
 use Rattle.seize_machine.specs.Machine.State as machine
 use Rattle.seize_machine.specs.Machine.State.{Active, Head, Inactive, are_distinct, batch_at, has, head_at, is_active, linked_values, no_batch, waiting_at}
-use Rattle.seize_machine.specs.Machine.History.{IsReached, answers_of}
-use Rattle.seize_machine.specs.Machine.Laws.{IsHeld, detached_by, given_up, before_retirement, walk_of}
-use Rattle.seize_machine.proofs.Facts.{empty_zero, heads_length, law_holders, linked_named, links_length, named_placed, step_of}
-use Rattle.seize_model.specs.declared.kind.Kind.TheVariants.{Free}
+use Rattle.seize_machine.specs.Machine.History.{IsReached}
+use Rattle.seize_machine.proofs.Facts.{IsSettled, batched_settled, count_listed, distinct_once, has_none, has_some, heads_length, linked_named, links_length, listed_once, occ, step_of, waiting_settled}
+use Rattle.seize_model.specs.declared.kind.Kind.{Kind}
+use Rattle.seize_model.specs.declared.kind.Kind.TheVariants.{Free, Owned, Registered}
+use Rattle.seize_model.specs.Waiting.Calls.{is_free}
 use Rattle.seize_model.specs.Waiting.State as waiting
 use Rattle.seize_model.specs.Agreement.Shows.{ShowsReclaimers, ShowsSlot, ShowsState, ShowsValues, StandFor, head_of, held_value}
-use Rattle.seize_book.specs.Book.{IsLegalList, after, moments}
-use Rattle.seize_book.specs.Entry.{Entry, Made, Used, events_of}
-use Rattle.seize_book.specs.Kept.{AllTold}
+use Rattle.seize_book.specs.Book.{IsLegalList, after}
+use Rattle.seize_book.specs.Entry.{Deed, Entry, Made, Use, Used}
+use Rattle.seize_book.specs.Kept.{IsTold, Says}
+use Rattle.seize_book.specs.Saying.{AllSay, retires_by}
 use Rattle.seize_book.specs.Tokens.{Name, start}
-use Rattle.seize_book.proofs.Facts.{as_legal, equal, reached_after}
+use Rattle.seize_book.proofs.Facts.{equal, reached_after, told_if}
 use Rattle.seize_book.proofs.Lives.{legal_first}
 use Rattle.seize_words.specs.Chunks.{IsLentAs}
-use Rattle.seize_alone.specs.Begins.{BeginsHeld, Begun}
+use Rattle.seize_alone.specs.Begins.{BeginsHeld, Begun, IsUsedAs}
 use Rattle.seize_alone.specs.Holding.{AreLent, AreOfKinds, HoldsAll, found, some_slot, some_state, some_value}
 use Rattle.seize_alone.proofs.Below.{none_below}
 use Rattle.seize_alone.proofs.Found.{Has, Knows, has_first, has_left, has_right, told_append}
 use Rattle.seize_alone.proofs.Mapped.{get_map, retired_same, slot_same}
-
--- Retired batches: nobody holds one, so each is given up.
 
 pub nothing_in : (xs : List ℕ) (v : ℕ) → xs ≡ [] → Contains xs v → ⊥
 nothing_in [] v none c = let within : c.0 < 0 = c.1 in omega arith
@@ -40,41 +41,42 @@ pub all_out : (xs : List ℕ) → ((v : ℕ) → Contains xs v → ⊥) → xs �
 all_out [] none = refl
 all_out (x ∷ xs) none = absurd (none x (zero, omega arith, refl))
 
-nothing_waits : (head : Head) → is_active head ≡ false → waiting_at head ≡ []
-nothing_waits Inactive off = refl
-nothing_waits (Active waiting) off = absurd (cc)
+-- What a head says of a slot.
 
-abbrev pub NoCalls : machine.State → Type 0
-NoCalls now = (s : ℕ) → (machine.slot_at now s).call ≡ None
+off_empty : (head : Head) → is_active head ≡ false → waiting_at head ≡ []
+off_empty Inactive off = refl
+off_empty (Active waiting) off = absurd (cc)
 
-abbrev NoneActive : machine.State → Type 0
-NoneActive now = (s : ℕ) → is_active (head_at now s) ≡ false
+head_is : (head : Head) (on : Bool) → is_active head ≡ on → head ≡ (if on then Active (waiting_at head) else Inactive)
+head_is Inactive true is = absurd (cc)
+head_is Inactive false is = refl
+head_is (Active waiting) true is = refl
+head_is (Active waiting) false is = absurd (cc)
 
-nobody_holds : (now : machine.State) → NoCalls now → NoneActive now → (b : ℕ) → IsHeld now b → ⊥
-nobody_holds now idle off b (inl held) = nothing_in _ b (nothing_waits (head_at now held.0) (off held.0)) held.1
-nobody_holds now idle off b (inr (inl held)) = nothing_in _ b (ap walk_of (idle held.0)) held.1
-nobody_holds now idle off b (inr (inr held)) = let is : None ≡ Some b = sym (ap detached_by (idle held.0)) ∙ held.1 in cc
+-- How many slots a batch waits for, where it waits for each at most once.
 
-all_given_up : (n : Name) (seen : List Entry) → IsLegalList (start n) seen → are_distinct (linked_values n.links) ≡ true → NoCalls (after (start n) seen) → NoneActive (after (start n) seen) → (b : ℕ) → (batch_at (after (start n) seen) b).values ≡ []
-all_given_up n seen legal distinct idle off b =
-    let holders = law_holders n.slots n.links (events_of seen) (answers_of (moments (start n) seen)) (after (start n) seen) distinct (as_legal (start n) seen legal) in
-    all_out _ (λ v c. nobody_holds (after (start n) seen) idle off b (holders b v c))
+has_once : (b : ℕ) (order : List ℕ) → are_distinct order ≡ true → occ b order ≡ (if has b order then 1 else 0)
+has_once b order once = go (has b order) refl
+  where
+    go : (h : Bool) → has b order ≡ h → occ b order ≡ (if h then 1 else 0)
+    go true is = let some = has_some b order is in let few = distinct_once b order once in omega (arith, some, few)
+    go false is = has_none b order is
 
--- What waits in a slot was named.
+module _ {T R : Type 0} (b : ℕ) where
+  listed_in : (slot : waiting.Slot T R) → are_distinct slot.order ≡ true → (waiting.has_guard slot ≡ false → slot.order ≡ []) → occ b (waiting_at (head_of slot)) ≡ (if waiting.waits_for b slot then 1 else 0)
+  listed_in slot once off = go (waiting.has_guard slot) refl
+    where
+      go : (g : Bool) → waiting.has_guard slot ≡ g → occ b (waiting_at (if g then Active slot.order else Inactive)) ≡ (if waiting.waits_for b slot then 1 else 0)
+      go true is = has_once b slot.order once
+      go false is = ap (λ (order : List ℕ). if has b order then 1 else 0) (sym (off is))
 
-in_one : {X : Type 0} (f : X → List ℕ) (xs : List X) (i : ℕ) (d : X) (v : ℕ) → f d ≡ [] → Contains (f (get_or xs i d)) v → Contains (flat_map f xs) v
-in_one f [] i d v none c = absurd (nothing_in (f d) v none c)
-in_one f (x ∷ xs) zero d v none c = Contains-append_left (f x) (flat_map f xs) v c
-in_one f (x ∷ xs) (suc i) d v none c = Contains-append_right (f x) (flat_map f xs) v (in_one f xs i d v none c)
-
-waiting_named : (now : machine.State) → IsReached now → (s v : ℕ) → Contains (machine.slot_at now s).batch v → has v now.named ≡ true
-waiting_named now reached s v c =
-    let waits = flat_map (λ (slot : machine.Slot). slot.batch) now.slots in let retired = flat_map (λ (batch : machine.Batch). batch.values) now.batches in
-    let given = flat_map (λ (slot : machine.Slot). given_up slot.call) now.slots in
-    ((named_placed now reached).1 v).0
-    (Contains-append_right (before_retirement now) (waits ++ retired ++ given ++ now.gone) v
-    (Contains-append_left (waits ++ retired ++ given) now.gone v (Contains-append_left (waits ++ retired) given v (Contains-append_left waits retired v
-    (in_one (λ (slot : machine.Slot). slot.batch) now.slots s machine.no_slot v refl c)))))
+  all_listed : (slots : List (waiting.Slot T R)) → ((s : ℕ) → are_distinct (get_or slots s waiting.no_slot).order ≡ true) → ((s : ℕ) → waiting.has_guard (get_or slots s waiting.no_slot) ≡ false → (get_or slots s waiting.no_slot).order ≡ [])
+      → sum_by (λ (head : Head). occ b (waiting_at head)) (map head_of slots) ≡ count_by (waiting.waits_for b) slots
+  all_listed [] once off = refl
+  all_listed (slot ∷ slots) once off =
+      sum_by-cons (λ (head : Head). occ b (waiting_at head)) (head_of slot) (map head_of slots)
+      ∙ (λ i. listed_in slot (once zero) (off zero) i + all_listed slots (λ s. once (suc s)) (λ s. off (suc s)) i)
+      ∙ sym (sum_by-cons (λ (x : waiting.Slot T R). if waiting.waits_for b x then 1 else 0) slot slots)
 
 -- Names: of all that was named, what is lent with it.
 
@@ -120,42 +122,47 @@ module _ {T : Type 0} (code : T → Gv) where
       by_case true is rest = refl
       by_case false is rest = rest is
 
--- Kinds: of what waits in the slots, what the list says.
+-- Kinds: all that the list says.
 
 abbrev kinds_of : List ℕ → List ℕ → List (ℕ × ℕ)
 kinds_of (v ∷ vs) (k ∷ ks) = (v, k) ∷ kinds_of vs ks
 kinds_of _ _ = []
 
-kinds_told : (seen : List Entry) (vs ks : List ℕ) → AllTold seen vs ks → AreOfKinds seen (kinds_of vs ks)
-kinds_told seen [] ks told = tt
-kinds_told seen (v ∷ vs) [] told = tt
-kinds_told seen (v ∷ vs) (k ∷ ks) told = (told.0, kinds_told seen vs ks told.1)
+abbrev all_said : List Entry → List (ℕ × ℕ)
+all_said [] = []
+all_said (Made d ∷ log) = kinds_of (retires_by d.event) d.kepts ++ all_said log
+all_said (Used u ∷ log) = all_said log
 
-kinds_have : (seen : List Entry) (vs ks : List ℕ) → AllTold seen vs ks → AllHave (kinds_of vs ks) vs
-kinds_have seen [] ks told = tt
-kinds_have seen (v ∷ vs) [] told = absurd told
-kinds_have seen (v ∷ vs) (k ∷ ks) told =
-    (has_first (v, k) (kinds_of vs ks), have_more (kinds_of vs ks) ((v, k) ∷ kinds_of vs ks) (has_right ((v, k) ∷ []) (kinds_of vs ks)) vs (kinds_have seen vs ks told.1))
+each_told : (log : List Entry) (vs ks : List ℕ) → ((v k : ℕ) → Says vs ks v k → IsTold log v k) → AreOfKinds log (kinds_of vs ks)
+each_told log [] ks told = tt
+each_told log (v ∷ vs) [] told = tt
+each_told log (v ∷ vs) (k ∷ ks) told = (told v k (inl (refl, refl)), each_told log vs ks (λ w l says. told w l (inr says)))
 
-module _ (seen : List Entry) (batch : ℕ → List ℕ) (told : (s : ℕ) → (ks : List ℕ) × AllTold seen (batch s) ks) where
-  abbrev kinds_up_to : ℕ → List (ℕ × ℕ)
-  kinds_up_to zero = []
-  kinds_up_to (suc s) = kinds_up_to s ++ kinds_of (batch s) (told s).0
+more_told : (e : Deed) (log : List Entry) (ps : List (ℕ × ℕ)) → AreOfKinds log ps → AreOfKinds (Made e ∷ log) ps
+more_told e log [] told = tt
+more_told e log (p ∷ ps) told = (inr told.0, more_told e log ps told.1)
 
-  up_to_told : (n : ℕ) → AreOfKinds seen (kinds_up_to n)
-  up_to_told zero = tt
-  up_to_told (suc s) = told_append seen (kinds_up_to s) (kinds_of (batch s) (told s).0) (up_to_told s) (kinds_told seen (batch s) (told s).0 (told s).1)
+used_told : (u : Use) (log : List Entry) (ps : List (ℕ × ℕ)) → AreOfKinds log ps → AreOfKinds (Used u ∷ log) ps
+used_told u log [] told = tt
+used_told u log (p ∷ ps) told = (told.0, used_told u log ps told.1)
 
-  up_to_have : (n s : ℕ) → s < n → AllHave (kinds_up_to n) (batch s)
-  up_to_have zero s below = absurd (omega (arith, below))
-  up_to_have (suc n) s below = go (ℕ_discrete s n) (up_to_have n s)
-    where
-      go : Dec (s ≡ n) → (s < n → AllHave (kinds_up_to n) (batch s)) → AllHave (kinds_up_to n ++ kinds_of (batch n) (told n).0) (batch s)
-      go (yes is) rest =
-          subst (λ (m : ℕ). AllHave (kinds_up_to n ++ kinds_of (batch n) (told n).0) (batch m)) (sym is)
-          (have_more _ (kinds_up_to n ++ kinds_of (batch n) (told n).0) (has_right (kinds_up_to n) (kinds_of (batch n) (told n).0)) (batch n) (kinds_have seen (batch n) (told n).0 (told n).1))
-      go (no differs) rest =
-          have_more _ (kinds_up_to n ++ kinds_of (batch n) (told n).0) (has_left (kinds_up_to n) (kinds_of (batch n) (told n).0)) (batch s) (rest (omega (arith, below, differs)))
+said_told : (log : List Entry) → AreOfKinds log (all_said log)
+said_told [] = tt
+said_told (Made e ∷ log) =
+    told_append (Made e ∷ log) (kinds_of (retires_by e.event) e.kepts) (all_said log) (each_told (Made e ∷ log) (retires_by e.event) e.kepts (λ v k says. inl says)) (more_told e log (all_said log) (said_told log))
+said_told (Used u ∷ log) = used_told u log (all_said log) (said_told log)
+
+says_has : (vs ks : List ℕ) (v k : ℕ) → Says vs ks v k → Has (kinds_of vs ks) v
+says_has [] ks v k says = absurd says
+says_has (x ∷ vs) [] v k says = absurd says
+says_has (x ∷ vs) (l ∷ ks) v k (inl is) = subst (Has (kinds_of (x ∷ vs) (l ∷ ks))) is.0 (has_first (x, l) (kinds_of vs ks))
+says_has (x ∷ vs) (l ∷ ks) v k (inr says) = has_right ((x, l) ∷ []) (kinds_of vs ks) v (says_has vs ks v k says)
+
+told_has : (log : List Entry) (v k : ℕ) → IsTold log v k → Has (all_said log) v
+told_has [] v k told = absurd told
+told_has (Made e ∷ log) v k (inl says) = has_left (kinds_of (retires_by e.event) e.kepts) (all_said log) v (says_has (retires_by e.event) e.kepts v k says)
+told_has (Made e ∷ log) v k (inr told) = has_right (kinds_of (retires_by e.event) e.kepts) (all_said log) v (told_has log v k told)
+told_has (Used u ∷ log) v k told = told_has log v k told
 
 -- Values by their names and kinds.
 
@@ -187,35 +194,44 @@ module _ {T R : Type 0} where
 
     -- the state
 
-    abbrev slot_by : machine.Slot → waiting.Slot T R
-    slot_by slot = record { kind = Free; guards = 0; batch = values_by slot.batch; order = [] }
+    abbrev slot_by : Kind × ℕ → machine.Slot → Head → waiting.Slot T R
+    slot_by u slot head = record { kind = u.0; guards = u.1; batch = values_by slot.batch; order = waiting_at head }
 
     abbrev link_by : Option ℕ → Option T
     link_by None = None
     link_by (Some v) = found names v
 
-    abbrev state_by : ℕ → machine.State → waiting.State T R
-    state_by size now = record { size = size; slots = map slot_by now.slots; retired = map (λ (batch : machine.Batch). []) now.batches; links = map link_by now.links }
+    abbrev retired_by : machine.Batch → List (T × R)
+    retired_by batch = values_by batch.values
 
-    slot_is : (size : ℕ) (now : machine.State) (s : ℕ) → waiting.slot_at (state_by size now) s ≡ slot_by (machine.slot_at now s)
-    slot_is size now s = get_map slot_by now.slots s machine.no_slot waiting.no_slot refl
+    module _ (uses : ℕ → Kind × ℕ) (size : ℕ) (now : machine.State) where
+      abbrev slot_of : ℕ → waiting.Slot T R
+      slot_of s = slot_by (uses s) (machine.slot_at now s) (head_at now s)
 
-    some_slot_is : (size : ℕ) (now : machine.State) (s : ℕ) → waiting.slot_at (some_state (state_by size now)) s ≡ some_slot (slot_by (machine.slot_at now s))
-    some_slot_is size now s = slot_same (state_by size now) s ∙ ap some_slot (slot_is size now s)
+      abbrev state_by : waiting.State T R
+      state_by = record { size = size; slots = map slot_of (range_with_len 0 (length now.slots)); retired = map retired_by now.batches; links = map link_by now.links }
 
-    none_retired : (size : ℕ) (now : machine.State) (b : ℕ) → waiting.retired_at (some_state (state_by size now)) b ≡ []
-    none_retired size now b = retired_same (state_by size now) b ∙ ap (λ (vs : List (T × R)). map some_value vs) (get_map (λ (batch : machine.Batch). []) now.batches b no_batch [] refl)
+      many_by : length state_by.slots ≡ length now.slots
+      many_by = length-map-range_with_len slot_of 0 (length now.slots)
 
-    none_waits : (b : ℕ) (slots : List machine.Slot) → count_by (waiting.waits_for b) (map some_slot (map slot_by slots)) ≡ 0
-    none_waits b [] = refl
-    none_waits b (slot ∷ slots) = none_waits b slots
+      retired_is : (b : ℕ) → waiting.retired_at state_by b ≡ retired_by (batch_at now b)
+      retired_is b = get_map retired_by now.batches b no_batch [] refl
 
-    all_off : (heads : List Head) (slots : List machine.Slot) → length heads ≡ length slots → ((s : ℕ) → is_active (get_or heads s Inactive) ≡ false) → heads ≡ map head_of (map some_slot (map slot_by slots))
-    all_off [] [] many off = refl
-    all_off [] (slot ∷ slots) many off = absurd (omega (arith, many))
-    all_off (head ∷ heads) [] many off = absurd (omega (arith, many))
-    all_off (Inactive ∷ heads) (slot ∷ slots) many off = ap (λ (l : List Head). Inactive ∷ l) (all_off heads slots (omega (arith, many)) (λ s. off (suc s)))
-    all_off (Active waiting ∷ heads) (slot ∷ slots) many off = absurd (let e : true ≡ false = off zero in cc)
+      slot_is : ((s : ℕ) → IsUsedAs now s (uses s)) → length now.heads ≡ length now.slots → (s : ℕ) → waiting.slot_at state_by s ≡ slot_of s
+      slot_is used many s = go (cases_lt s (length now.slots))
+        where
+          no_use : (u : Kind × ℕ) → false ≡ not (is_free u.0) → (is_free u.0 ≡ true → u.1 ≡ 0) → u ≡ (Free, 0)
+          no_use (Free, guards) is free = ap (λ (k : ℕ). (Free, k)) (free refl)
+          no_use (Registered, guards) is free = absurd (cc)
+          no_use (Owned, guards) is free = absurd (cc)
+
+          go : (s < length now.slots) ⊎ (length now.slots ≤ s) → waiting.slot_at state_by s ≡ slot_of s
+          go (inl below) = get_or-map-range_with_len slot_of 0 (length now.slots) s s waiting.no_slot below (omega arith)
+          go (inr past) =
+              let none : machine.slot_at now s ≡ machine.no_slot = get_or_past now.slots s machine.no_slot past in
+              let off : head_at now s ≡ Inactive = get_or_past now.heads s Inactive (omega (arith, past, many)) in
+              let none_used : uses s ≡ (Free, 0) = no_use (uses s) (sym (ap (λ (slot : machine.Slot). slot.used) none) ∙ (used s).used) (used s).free in
+              get_or_past state_by.slots s waiting.no_slot (omega (arith, past, many_by)) ∙ (λ i. slot_by (sym none_used i) (sym none i) (sym off i))
 
     one_held : (o : Option T) → is_some o ≡ true → Some o ≡ option_map Some o
     one_held None is = absurd (cc)
@@ -234,74 +250,110 @@ links_stay st (Made d ∷ log) legal =
     let first = legal_first st d log legal in
     ap (λ (done : _). length (after done.0 log).links) first.2 ∙ links_stay (first.0).0 log first.3 ∙ links_length d.size st d.event first.0 (step_of _ _ _ _ first.1)
 
-module _ {T : Type 0} (code : T → Gv) (n : Name) (seen : List Entry) (size : ℕ) (legal : IsLegalList (start n) seen) (distinct : are_distinct (linked_values n.links) ≡ true)
-    (few : length (after (start n) seen).slots ≤ all_numbers) (unused : (s : ℕ) → (machine.slot_at (after (start n) seen) s).used ≡ false) (idle : NoCalls (after (start n) seen)) (off : NoneActive (after (start n) seen))
-    (told : (s : ℕ) → (ks : List ℕ) × AllTold seen (machine.slot_at (after (start n) seen) s).batch ks) (lent : (v : ℕ) → has v (after (start n) seen).named ≡ true → (x : T) × IsLentAs v (code x)) where
+module _ {T : Type 0} (code : T → Gv) (n : Name) (seen : List Entry) (size : ℕ) (uses : ℕ → Kind × ℕ) (legal : IsLegalList (start n) seen) (distinct : are_distinct (linked_values n.links) ≡ true) (say : AllSay seen)
+    (few : length (after (start n) seen).slots ≤ all_numbers) (used : (s : ℕ) → IsUsedAs (after (start n) seen) s (uses s)) (lent : (v : ℕ) → has v (after (start n) seen).named ≡ true → (x : T) × IsLentAs v (code x)) where
   abbrev now : machine.State
   now = after (start n) seen
 
   abbrev batch : ℕ → List ℕ
   batch s = (machine.slot_at now s).batch
 
+  abbrev values : ℕ → List ℕ
+  values b = (batch_at now b).values
+
   abbrev names : List (ℕ × T)
   names = names_of code now.named lent
 
   abbrev kinds : List (ℕ × ℕ)
-  kinds = kinds_up_to seen batch told (length now.slots)
+  kinds = all_said seen
 
   abbrev begun : waiting.State T ℕ
-  begun = state_by names kinds size now
+  begun = state_by names kinds uses size now
 
   reached : IsReached now
   reached = reached_after n seen distinct legal
 
-  named : (s : ℕ) → AllHave names (batch s)
-  named s = have_if names (batch s) (λ v c. names_have code now.named lent v (waiting_named now reached s v c))
+  -- what waits was named, and is of some kind
 
-  of_kinds : (s : ℕ) → AllHave kinds (batch s)
-  of_kinds s = go (cases_lt s (length now.slots))
-    where
-      go : (s < length now.slots) ⊎ (length now.slots ≤ s) → AllHave kinds (batch s)
-      go (inl below) = up_to_have seen batch told (length now.slots) s below
-      go (inr past) = subst (λ (slot : machine.Slot). AllHave kinds slot.batch) (sym (get_or_past now.slots s machine.no_slot past)) tt
+  abbrev AreSettled : List ℕ → Type 0
+  AreSettled vs = (v : ℕ) → Contains vs v → IsSettled v now
+
+  all_named : (vs : List ℕ) → AreSettled vs → AllHave names vs
+  all_named vs settled = have_if names vs (λ v c. names_have code now.named lent v (settled v c).0)
+
+  of_kinds : (vs : List ℕ) → AreSettled vs → AllHave kinds vs
+  of_kinds vs settled = have_if kinds vs (λ v c. let is = settled v c in let told = told_if n seen v legal say is.0 is.1 is.2 in told_has seen v told.0 told.1)
+
+  in_slot : (s : ℕ) → AreSettled (batch s)
+  in_slot s v c = waiting_settled now reached s v c
+
+  in_batch : (b : ℕ) → AreSettled (values b)
+  in_batch b v c = batched_settled now reached b v c
+
+  -- the slots
+
+  slot_now : (s : ℕ) → waiting.slot_at begun s ≡ slot_of names kinds uses size now s
+  slot_now = slot_is names kinds uses size now used (heads_length now reached)
+
+  some_now : (s : ℕ) → waiting.slot_at (some_state begun) s ≡ some_slot (slot_of names kinds uses size now s)
+  some_now s = slot_same begun s ∙ ap some_slot (slot_now s)
 
   as_many : length (some_state begun).slots ≡ length now.slots
-  as_many = length-map begun.slots some_slot ∙ length-map now.slots (slot_by names kinds)
+  as_many = length-map begun.slots some_slot ∙ many_by names kinds uses size now
 
   slot_shown : (s : ℕ) → ShowsSlot (Option T) (Option ℕ) (found names) (waiting.slot_at (some_state begun) s) (machine.slot_at now s)
   slot_shown s =
-      subst (λ (slot : waiting.Slot (Option T) (Option ℕ)). ShowsSlot (Option T) (Option ℕ) (found names) slot (machine.slot_at now s)) (sym (some_slot_is names kinds size now s)) (record {
-        used = unused s;
-        idle = idle s;
-        batch = all_shown names kinds (batch s) (named s) (of_kinds s);
-        free = λ is. refl;
-        owned = λ is. omega arith;
-        inactive = λ is. refl;
-        once = refl;
+      subst (λ (slot : waiting.Slot (Option T) (Option ℕ)). ShowsSlot (Option T) (Option ℕ) (found names) slot (machine.slot_at now s)) (sym (some_now s)) (record {
+        used = (used s).used;
+        idle = (used s).idle;
+        batch = all_shown names kinds (batch s) (all_named (batch s) (in_slot s)) (of_kinds (batch s) (in_slot s));
+        free = (used s).free;
+        owned = (used s).owned;
+        inactive = λ off. off_empty (head_at now s) ((used s).active ∙ off);
+        once = listed_once now reached s;
       })
 
-  given : (b : ℕ) → (batch_at now b).values ≡ []
-  given b = all_given_up n seen legal distinct idle off b
+  head_now : (s : ℕ) → head_at now s ≡ head_of (waiting.slot_at (some_state begun) s)
+  head_now s = head_is (head_at now s) _ (used s).active ∙ ap (λ (slot : waiting.Slot (Option T) (Option ℕ)). head_of slot) (sym (some_now s))
+
+  heads_now : now.heads ≡ map head_of (some_state begun).slots
+  heads_now =
+      let many : length now.heads ≡ length (map head_of (some_state begun).slots) = heads_length now reached ∙ sym as_many ∙ sym (length-map (some_state begun).slots head_of) in
+      same_lists now.heads (map head_of (some_state begun).slots) many (λ s d below.
+      get_or_default now.heads s d Inactive below ∙ head_now s ∙ sym (get_map head_of (some_state begun).slots s waiting.no_slot Inactive refl)
+      ∙ get_or_default (map head_of (some_state begun).slots) s Inactive d (omega (arith, below, many)))
+
+  -- the batches
+
+  retired_now : (b : ℕ) → waiting.retired_at (some_state begun) b ≡ map some_value (values_by names kinds (values b))
+  retired_now b = retired_same begun b ∙ ap (λ (vs : List (T × ℕ)). map some_value vs) (retired_is names kinds uses size now b)
+
+  count_now : (b : ℕ) → (batch_at now b).count ≡ pos (count_by (waiting.waits_for b) (some_state begun).slots)
+  count_now b =
+      count_listed now reached (λ s. (used s).idle) b ∙ ap (λ (heads : List Head). pos (sum_by (λ (head : Head). occ b (waiting_at head)) heads)) heads_now
+      ∙ ap (λ (k : ℕ). pos k) (all_listed b (some_state begun).slots (λ s. (slot_shown s).once) (λ s. (slot_shown s).inactive))
 
   shown : ShowsState (Option T) (Option ℕ) (found names) (some_state begun) now
   shown = record {
     numbers = subst (λ (k : ℕ). k ≤ all_numbers) (sym as_many) few;
     slots = sym as_many;
     slot = slot_shown;
-    heads = all_off names kinds now.heads now.slots (heads_length now reached) off;
-    retired = sym (length-map begun.retired (λ (vs : List (T × ℕ)). map some_value vs) ∙ length-map now.batches (λ (batch : machine.Batch). []));
-    values = λ b. ap (map (found names)) (given b) ∙ ap (λ (vs : List (Option T × Option ℕ)). map (λ v. v.0) vs) (sym (none_retired names kinds size now b));
-    counts = λ b. empty_zero now reached b (given b) ∙ ap (λ (k : ℕ). pos k) (sym (none_waits names kinds b now.slots));
+    heads = heads_now;
+    retired = sym (length-map begun.retired (λ (vs : List (T × ℕ)). map some_value vs) ∙ length-map now.batches (retired_by names kinds));
+    values = λ b.
+        all_shown names kinds (values b) (all_named (values b) (in_batch b)) (of_kinds (values b) (in_batch b))
+        ∙ ap (λ (vs : List (Option T × Option ℕ)). map (λ v. v.0) vs) (sym (retired_now b));
+    counts = count_now;
     links = all_held names kinds now.links (λ l v is. names_have code now.named lent v (linked_named now reached l v is).0);
   }
 
   by_kinds : ShowsReclaimers (Option T) (Option ℕ) (found names) (found kinds) (some_state begun) now
   by_kinds = record {
-    batches = λ s. all_stand names kinds (batch s) (named s) (of_kinds s) ∙ ap (λ (slot : waiting.Slot (Option T) (Option ℕ)). slot.batch) (sym (some_slot_is names kinds size now s));
-    retired = λ b. ap (map {B = Option T × Option ℕ} (λ v. (found names v, found kinds v))) (given b) ∙ sym (none_retired names kinds size now b);
+    batches = λ s. all_stand names kinds (batch s) (all_named (batch s) (in_slot s)) (of_kinds (batch s) (in_slot s)) ∙ ap (λ (slot : waiting.Slot (Option T) (Option ℕ)). slot.batch) (sym (some_now s));
+    retired = λ b. all_stand names kinds (values b) (all_named (values b) (in_batch b)) (of_kinds (values b) (in_batch b)) ∙ sym (retired_now b);
   }
 
-  begun_held : Begun code size n seen
+  begun_held : Begun code size n seen uses
   begun_held = record {
     state = begun;
     names = names;
@@ -309,15 +361,12 @@ module _ {T : Type 0} (code : T → Gv) (n : Name) (seen : List Entry) (size : �
     holds = record {
       gone = 0;
       all = subst (λ (st : waiting.State T ℕ). HoldsAll code st names kinds n seen) (sym (none_below begun))
-          (record { shows = shown; reclaimers = by_kinds; lent = names_lent code now.named lent; told = up_to_told seen batch told (length now.slots) });
+          (record { shows = shown; reclaimers = by_kinds; lent = names_lent code now.named lent; told = said_told seen });
     };
-    led = (found names, found kinds, now, reached, shown, by_kinds);
     sized = refl;
     links = length-map now.links (link_by names kinds) ∙ links_stay (start n) seen legal;
-    free = λ s.
-        let is = slot_is names kinds size now s in
-        (ap (λ (slot : waiting.Slot T ℕ). slot.kind) is, ap (λ (slot : waiting.Slot T ℕ). slot.guards) is);
+    slots = λ s. let is = slot_now s in (ap (λ (slot : waiting.Slot T ℕ). slot.kind) is, ap (λ (slot : waiting.Slot T ℕ). slot.guards) is);
   }
 
 pub begins_held : {T : Type 0} (code : T → Gv) → BeginsHeld code
-begins_held code n seen size legal distinct few unused idle off told lent = begun_held code n seen size legal distinct few unused idle off told lent
+begins_held code n seen size uses legal distinct say few used lent = begun_held code n seen size uses legal distinct say few used lent

@@ -20,7 +20,7 @@ pub fn calls_alone<T>()
 {}
 
 /// Single events made alone: after each the hands hold the model's state, and what is found in a link is what the model's link holds. A
-/// book just opened shows a collector just made, and one without guards and calls, which threads shared, a collector without guards.
+/// book just opened shows a collector just made, and one without calls, which threads shared, a collector with what they left in use.
 pub fn events_alone<T>()
     ensures opened { OpensHeld T.row.coded.code }
     ensures begins { BeginsHeld T.row.coded.code }

@@ -85,7 +85,7 @@ sound_first n = record { one = λ v w home a b c d. absurd (let x : has v [] ≡
 
 holds_first : (n : ℕ) → Holds (rules (opening 0 (empty n))) (grown [] (firsts n) []) []
 holds_first n = record {
-  legal = (refl, sound_first n, chained_opening 0 (empty n) (field_value []));
+  legal = (refl, sound_first n, chained_opening 0 (empty n) (field_value []), tt);
   kept = λ r k own h. ⊎_elim (λ (e : own ≡ []). subst (λ (x : List Entry). HolderKnows (opening 0 (empty n)) (kind_of r) k x []) (sym e) (kept_now (opening 0 (empty n)) r k []))
       (λ t. absurd (let h' : slice_get {X = List Entry} [] k ≡ Some own = subst (λ (z : List (List Entry)). slice_get z k ≡ Some own) (row_nil r) t in let m : Option.None ≡ Some own = h' in cc)) (has_grown [] (firsts n) [] r k own h);
   sized = λ r. subst (λ (j : ℕ). IsKeyCount (opening 0 (empty n)) (kind_of r) j []) (sym (grown_sizes [] (firsts n) [] r)) (go r);

@@ -44,6 +44,9 @@ pub use Rattle.seize_book.proofs.Leading.{has_noted, last_closes, none_closed, o
 -- what the list says is kept of values
 pub use Rattle.seize_book.proofs.Kept.{alike_told, all_of_told, all_told_append, all_told_grow, all_told_later, all_told_renewed, both_told}
 pub use Rattle.seize_book.proofs.Kept.{first_told, joined_told, pushed_told, put_told, retired_told, told_apart, told_later}
+-- an entry that retires and puts nothing says all that it has to;  and a value that was retired or put is told what is kept of it
+pub use Rattle.seize_book.proofs.Saying.{says_none}
+pub use Rattle.seize_book.proofs.Telling.{told_if}
 -- there is but one such word of a value
 pub use Rattle.seize_book.proofs.Once.{told_once}
 -- what is known of a value that a slot's call is about to hand, and when it was handed

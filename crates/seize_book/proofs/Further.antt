@@ -1,7 +1,8 @@
 -- The keys of a slot and of further values are enough to hand a value to its reclaimer, which puts these.
-use Rattle.std.proofs.Common.{◌≡◌, ℕ, zero, suc, ◌<◌, ◌≤◌, Bool, true, false, not, ◌||◌, ◌==◌, if◌then◌else◌, List, [], ◌∷◌, ◌++◌, map, Option, Some, None, is_some, refl, sym, ◌∙◌, ap, subst, ◌⊎◌, inl, inr, ⊎_elim, arith}
+use Rattle.std.proofs.Common.{◌≡◌, ℕ, zero, suc, ◌<◌, ◌≤◌, Bool, true, false, not, ◌||◌, ◌==◌, if◌then◌else◌, List, length, [], ◌∷◌, ◌++◌, map, Option, Some, None, is_some, refl, sym, ◌∙◌, ap, subst, ◌⊎◌, inl, inr, ⊎_elim, arith}
 use Rattle.std.specs.Prelude.{slice_set}
 use Rattle.std.specs.List.{Contains, list_all, list_any}
+use Rattle.std.proofs.lemmas.List.{length-map}
 use Rattle.std.proofs.lemmas.Bool.{and_from, or_from, or_left, or_right}
 use Rattle.seize_machine.specs.Machine.State.{State, are_distinct, has, linked_values, slot_at}
 use Rattle.seize_machine.specs.Machine.Event.{Hand}
@@ -12,7 +13,7 @@ use Rattle.seize_machine.proofs.Facts.{Step, and_true, eq_true, gone_grows, is_t
 use Rattle.seize_book.specs.Ledger.{AllThere, Beside, HeldKey, HoldersKnow}
 use Rattle.seize_book.specs.Adding.{deed_with_words}
 use Rattle.seize_book.specs.Entry.{Deed, Entry, Made}
-use Rattle.seize_book.specs.Kept.{kepts_of}
+use Rattle.seize_book.specs.Kept.{kept_in, kepts_of}
 use Rattle.seize_book.specs.Book.{HolderKnows, IsLegalList, TheBlock, after, blocks, kind_of, rules, slots}
 use Rattle.seize_book.specs.Fair.{Before, Covers, Fair, IsLabel, MayAdd, pass_key}
 use Rattle.seize_book.specs.Homes.{HasOne, IsVacant, home_of}
@@ -37,7 +38,7 @@ has_in [] v c = absurd (let l : c.0 < 0 = c.1 in omega (arith, l))
 has_in (x ∷ xs) v (zero, below, is) = or_left _ (has v xs) (equal x v is)
 has_in (x ∷ xs) v (suc k, below, is) = or_right (x == v) _ (has_in xs v (k, omega (arith, below), is))
 
-either : (xs ys : List ℕ) (v : ℕ) → has v (xs ++ ys) ≡ true → (has v xs ≡ true) ⊎ (has v ys ≡ true)
+pub either : (xs ys : List ℕ) (v : ℕ) → has v (xs ++ ys) ≡ true → (has v xs ≡ true) ⊎ (has v ys ≡ true)
 either [] ys v h = inr h
 either (x ∷ xs) ys v h = go (x == v) (either xs ys v) h
   where
@@ -198,7 +199,7 @@ one_each size st s v puts step apart vacant one u w home a b c e = go (either st
     go (inr x) (inl y) f g = absurd (never u w (sym home) x y g)
     go (inr x) (inr y) f g = one_of puts u w apart home x y
 
-module _ (n : Name) (p size : ℕ) (kepts : List ℕ) (seen : List Entry) (a b : List (HeldKey Entry)) (one : is_one slots a ≡ true) (are : are_of_blocks b ≡ true) (apart : LieApart (labels_of b)) (new : AllNew n b)
+module _ (n : Name) (p size : ℕ) (kepts : List ℕ) (seen : List Entry) (a b : List (HeldKey Entry)) (one : is_one slots a ≡ true) (are : are_of_blocks b ≡ true) (apart : LieApart (labels_of b)) (new : AllNew n b) (enough : length (labels_of b) ≤ length kepts)
     (handing : is_some (of_call handing_at (slot_at (after (start n) (own_of a)) (key_of a)).call) ≡ true) where
   abbrev puts : List ℕ
   puts = labels_of b
@@ -238,6 +239,7 @@ module _ (n : Name) (p size : ℕ) (kepts : List ℕ) (seen : List Entry) (a b :
       one = one_each size here (key_of a) goes.0 puts step apart all_vacant;
       leads = tt;
       labels = λ u named. ⊎_elim (λ was. inl was) (λ put. inr (inr (inr (is_label b u are put)), lent_of n b u new put)) (either here.named puts u named);
+      says = enough;
       places = λ makes. absurd (cc);
     }
 
@@ -290,13 +292,16 @@ module _ (key : SlotKey) (further : ValueKeys) (pass : Pass) (apart : LieApart (
   new_in : AllNew pass.name further.keys.held
   new_in = subst (λ (n : Name). AllNew n further.keys.held) books new
 
+  enough : length (values_of further) ≤ length (kepts_of further)
+  enough = omega (arith, length-map further.keys.held (λ (h : HeldKey Entry). h.label), length-map further.keys.held (λ (h : HeldKey Entry). kept_in h.note))
+
   pub may_hand_with : IsWith key further.keys pass deed
-  may_hand_with = ((λ log before. refl), may_hand pass.name pass.id pass.size (kepts_of further) pass.seen key.keys.held further.keys.held key.one further.each apart new_in handing_in)
+  may_hand_with = ((λ log before. refl), may_hand pass.name pass.id pass.size (kepts_of further) pass.seen key.keys.held further.keys.held key.one further.each apart new_in enough handing_in)
 
   pub known_then : (pass' : Pass) (values : List ℕ) → values ≡ values_of further → pass'.name ≡ pass.name → are_distinct (linked_values pass.name.links) ≡ true → Knew key further.keys pass pass' deed
       → ((v : ℕ) → Contains values v → IsSpent v (after (start pass'.name) pass'.seen)) × ((v : ℕ) → Contains values v → IsLastIn v (after (start pass'.name) pass'.seen))
   known_then pass' values same name links knew =
-      let known = put_so pass.name pass.id pass.size (kepts_of further) pass.seen key.keys.held further.keys.held key.one further.each apart new_in handing_in knew.0 pass'.seen knew.2 links knew.1 in (
+      let known = put_so pass.name pass.id pass.size (kepts_of further) pass.seen key.keys.held further.keys.held key.one further.each apart new_in enough handing_in knew.0 pass'.seen knew.2 links knew.1 in (
         (λ v c. subst (λ (n : Name). IsSpent v (after (start n) pass'.seen)) (sym name) (known.0 v (subst (λ (vs : List ℕ). Contains vs v) same c))),
         (λ v c. subst (λ (n : Name). IsLastIn v (after (start n) pass'.seen)) (sym name) (known.1 v (subst (λ (vs : List ℕ). Contains vs v) same c))),
       )

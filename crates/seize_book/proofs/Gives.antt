@@ -22,6 +22,7 @@ use Rattle.seize_book.specs.Tokens.{Name, start}
 use Rattle.seize_book.proofs.Chains.{unled}
 use Rattle.seize_book.proofs.Lists.{equal}
 use Rattle.seize_book.proofs.Private.{only, only_is, differ, no_place}
+use Rattle.seize_book.proofs.Saying.{says_none}
 use Rattle.seize_book.proofs.Sound.{no_labels, none_named}
 
 -- the event changes which numbers are in use and the record of slot s, and nothing else
@@ -66,6 +67,7 @@ may_turn n p seen a b e one one' zero_is pe turns ends starts goes =
           one = none_named e.size (after (start n) log) e.event does.0 (step_of _ _ _ _ does.1) (λ j. (turns.1 (after (start n) log) j).1);
           leads = unled (after (start n) log) (plans (start n) log) (field_value log) e.event (λ j. (turns.0 j).1);
           labels = no_labels (pass_key p mine ∷ (only slots a ++ only numbers b)) e.size (after (start n) log) e.event does.0 (step_of _ _ _ _ does.1) (λ j. (turns.1 (after (start n) log) j).1);
+          says = says_none (after (start n) log) e (λ j. (turns.1 (after (start n) log) j).1);
           places = no_place (after (start n) log) (pass_key p mine ∷ (only slots a ++ only numbers b)) (Made e) does.2;
         }
 

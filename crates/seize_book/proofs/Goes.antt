@@ -22,6 +22,7 @@ use Rattle.seize_book.proofs.Lists.{legal_push, after_push, after_used, reached_
 use Rattle.seize_book.proofs.Sound.{sound_push}
 pub use Rattle.seize_book.proofs.Written.{chained_push}
 use Rattle.seize_book.proofs.Written.{told_same, written_by_event, written_by_use}
+use Rattle.seize_book.proofs.Saying.{all_say}
 
 -- an event adds a slot just where it makes one
 added_by : (st : State) (event : Event) → slots_added st event ≡ (if makes_slot st event then 1 else 0)
@@ -211,7 +212,7 @@ pub goes : (n : Name) → are_distinct (linked_values n.links) ≡ true → (hel
     → Goes (rules (start n)) held seen ev (births_of (start n) ev) Told
 goes n distinct held seen ev Told can log known told_ =
     let st : State = start n in let e = ev log in let f = can log known told_ in let legal = known.0.0 in let sound = known.0.1 in (
-      (legal_push st log e f.done legal f.legal, sound_push st log e f.done legal f.legal f.one sound, chained_push n log e f.done distinct legal sound known.0.2 f.legal f.leads),
+      (legal_push st log e f.done legal f.legal, sound_push st log e f.done legal f.legal f.one sound, chained_push n log e f.done distinct legal sound known.0.2 f.legal f.leads, all_say log e known.0.3 f.says),
       (λ r k own beside there kept. (prefix_push own log e kept.0, same_push n distinct log own e f.done (kind_of r) k legal sound.one f.leads f.legal (f.covers r k beside there) kept.1)),
       (λ many was there. makes st log e many (sizes n distinct held log e many legal f sound.one was there)),
     )

@@ -26,6 +26,7 @@ pub mod Books
 pub mod Sharing
 pub mod Tuples
 pub mod Private
+pub mod Saying
 pub mod Moves
 pub mod Hands
 pub mod Renames
@@ -47,6 +48,7 @@ pub mod Kept
 pub mod Apart
 pub mod Further
 pub mod Once
+pub mod Telling
 pub mod Meets
 pub mod Porters
 pub mod Learning

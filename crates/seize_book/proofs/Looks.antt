@@ -112,7 +112,7 @@ module _ {M : Type 1} {𝓤 : Ura M} (𝓛 : Logic 𝓤) (n : Name) (p : ℕ) wh
         move ! (1 ∷ 0 ∷ []) $ fjoin ! $ move ! (2 ∷ 0 ∷ []) $ fjoin ! $ done !))
 
     before : (own log : List Entry) → mine st p own ≡ mine st p seen → Known (rules st) (pass_key p own ∷ held) seen log → Now log → Before n p seen held log
-    before own log past known now_ = record { legal = known.0.0; sound = known.0.1; chained = known.0.2; grows = known.1; none_made = sym known.2.0.1 ∙ past; kept = known.2.1; alone = now_.0; lent = now_.1 }
+    before own log past known now_ = record { legal = known.0.0; sound = known.0.1; chained = known.0.2; say = known.0.3; grows = known.1; none_made = sym known.2.0.1 ∙ past; kept = known.2.1; alone = now_.0; lent = now_.1 }
 
     -- where the invariant is open already; the keys stay as they are
     abbrev pub Peeked : List Entry → Pr

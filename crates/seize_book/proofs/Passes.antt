@@ -120,7 +120,7 @@ module _ {M : Type 1} {𝓤 : Ura M} (𝓛 : Logic 𝓤) (n : Name) where
       now log = log ++ ev log ∷ []
 
       before : (log : List Entry) → Known (rules st) all seen log → Now log → Before n p seen held log
-      before log known now_ = record { legal = known.0.0; sound = known.0.1; chained = known.0.2; grows = known.1; none_made = sym known.2.0.1 ∙ past.1; kept = known.2.1; alone = now_.0; lent = now_.1 }
+      before log known now_ = record { legal = known.0.0; sound = known.0.1; chained = known.0.2; say = known.0.3; grows = known.1; none_made = sym known.2.0.1 ∙ past.1; kept = known.2.1; alone = now_.0; lent = now_.1 }
 
       -- where the numbers lead of the values that the keys are labelled with
       abbrev its_ways : Fml

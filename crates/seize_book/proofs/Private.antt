@@ -18,6 +18,7 @@ use Rattle.seize_book.specs.Others.{MakesNone}
 use Rattle.seize_book.specs.Private.{IsOwn, IsOpen, is_one, key_of, label_of, note_of, own_of}
 use Rattle.seize_book.specs.Tokens.{Name, start}
 use Rattle.seize_book.proofs.Chains.{unled}
+use Rattle.seize_book.proofs.Saying.{says_none}
 use Rattle.seize_book.proofs.Sound.{no_labels, none_named}
 
 -- the one key there is
@@ -116,6 +117,7 @@ may_add n p seen held e one pe private open_ = subst (λ (hs : List (HeldKey Ent
           one = none_named e.size (after (start n) log) e.event d.0 (step_of _ _ _ _ d.1) (λ j. (private.3 (after (start n) log) j).1);
           leads = unled (after (start n) log) (plans (start n) log) (field_value log) e.event (λ j. (private.2 j).0);
           labels = no_labels (pass_key p mine ∷ only slots held) e.size (after (start n) log) e.event d.0 (step_of _ _ _ _ d.1) (λ j. (private.3 (after (start n) log) j).1);
+          says = says_none (after (start n) log) e (λ j. (private.3 (after (start n) log) j).1);
           places = no_place (after (start n) log) (pass_key p mine ∷ only slots held) (Made e) (makes_none (after (start n) log) e.event private.1);
         }
 

@@ -1,5 +1,5 @@
 -- The keys of a slot and of a value are enough to begin to retire the value.
-use Rattle.std.proofs.Common.{Option, Some, Bool, ◌||◌, not, if◌then◌else◌, filter, ◌≡◌, ℕ, zero, suc, ◌<◌, ◌≤◌, true, false, ◌==◌, List, [], ◌∷◌, ◌++◌, refl, sym, ◌∙◌, ap, subst, ◌⊎◌, inl, inr, ⊎_elim, arith}
+use Rattle.std.proofs.Common.{Option, Some, Bool, ◌||◌, not, if◌then◌else◌, filter, ◌≡◌, ℕ, zero, suc, ◌<◌, ◌≤◌, true, false, ◌==◌, List, length, [], ◌∷◌, ◌++◌, refl, sym, ◌∙◌, ap, subst, ◌⊎◌, inl, inr, ⊎_elim, arith}
 use Rattle.seize_machine.specs.Machine.State.{State, Append, slot_at, is_idle, has}
 use Rattle.seize_machine.specs.Machine.Event.{Event, Begin}
 use Rattle.seize_machine.specs.Machine.Next.{begun, retiring, with_named}
@@ -56,9 +56,9 @@ later : (v k n : ℕ) → v < n → n ≤ k → (v == k) ≡ false
 later v k n l le = grind arith
 
 pub may_retire : (n : Name) (p size : ℕ) (kepts : List ℕ) (seen : List Entry) (a b : List (HeldKey Entry)) → is_one slots a ≡ true → is_one blocks b ≡ true → key_of b ≡ home_of (label_of b) → is_idle (slot_at (after (start n) (own_of a)) (key_of a)) ≡ true → MayBegin (label_of b) (after (start n) (own_of b))
-    → MayAdd n p seen (a ++ b) (record { pass = p; size = size; event = Begin (key_of a) (Retire (label_of b)); life = 0; kepts = kepts })
+    → 1 ≤ length kepts → MayAdd n p seen (a ++ b) (record { pass = p; size = size; event = Begin (key_of a) (Retire (label_of b)); life = 0; kepts = kepts })
 unfolding retires
-may_retire n p size kepts seen a b one one' home idle may =
+may_retire n p size kepts seen a b one one' home idle may some =
     subst (λ (hs : List (HeldKey Entry)). MayAdd n p seen (hs ++ b) (retires p size (key_of a) (label_of b) kepts)) (sym (only_is slots a one))
     (subst (λ (hs : List (HeldKey Entry)). MayAdd n p seen (only slots a ++ hs) (retires p size (key_of a) (label_of b) kepts)) (sym (only_is blocks b one'))
     ((omega arith, (omega arith, tt)), (λ lives. refl), (λ s. refl), fair))
@@ -79,6 +79,7 @@ may_retire n p size kepts seen a b one one' home idle may =
           labels = λ u named. ⊎_elim
               (λ is. ⊎_elim (λ h. inr (inr (inr (inl (refl, sym is))), subst CarriesOne (sym is) h.2)) (λ h. inl (subst (λ (w : ℕ). has w st.named ≡ true) (sym is) (sym value.0 ∙ h.0))) may)
               (λ was. inl was) (added v st.named u named);
+          says = some;
           places = λ makes. absurd (cc);
           one = ⊎_elim (λ h. new_named size st (Begin s (Retire v)) d v step (added v st.named)
               (subst (IsVacant st) home (vacant_later (start n) (own_of b) log (key_of b) before.legal before.kept.1.0 (subst (IsVacant (after (start n) (own_of b))) (sym home) h.1))))

@@ -17,6 +17,7 @@ use Rattle.seize_book.specs.Blocks.{plans}
 use Rattle.seize_book.specs.Chains.{HasChains, field_value, insertion_fields, uses}
 use Rattle.seize_book.specs.Deposits.{deposit}
 use Rattle.seize_book.specs.Homes.{IsSound, changes_count, changes_home, count_in, home_of}
+use Rattle.seize_book.specs.Saying.{AllSay}
 
 -- the slot's own entries: all events that may change its record, and its uses of fields
 abbrev pub acts : ℕ → Entry → Bool
@@ -144,7 +145,8 @@ IsKeyCount st Nothing n log = Unit {0}
 
 abbrev pub rules : State → Rules Entry
 rules st = record {
-  Legal = λ log. IsLegalList st log × IsSound (after st log) × HasChains (after st log) (plans st log) (field_value log);
+  Legal = λ log.
+      IsLegalList st log × IsSound (after st log) × HasChains (after st log) (plans st log) (field_value log) × AllSay log;
   Knows = λ r. HolderKnows st (kind_of r);
   Sized = λ r. IsKeyCount st (kind_of r);
 }

@@ -21,6 +21,7 @@ use Rattle.seize_book.specs.Chains.{HasChains, IsLed, field_value}
 use Rattle.seize_book.specs.Homes.{HasOne, IsSound}
 use Rattle.seize_book.specs.Laws.{ended_by, starts}
 use Rattle.seize_book.specs.Loans.{AllCarryOne, CarriesOne}
+use Rattle.seize_book.specs.Saying.{AllSay, SaysAll}
 use Rattle.seize_book.specs.Tokens.{Name, start, IsSole, AddsEntry}
 
 abbrev pub pass_key : ℕ → List Entry → HeldKey Entry
@@ -30,6 +31,7 @@ pub record Before (n : Name) (p : ℕ) (seen : List Entry) (held : List (HeldKey
   pub legal : IsLegalList (start n) log
   pub sound : IsSound (after (start n) log)
   pub chained : HasChains (after (start n) log) (plans (start n) log) (field_value log)
+  pub say : AllSay log
   pub grows : IsPrefix seen log
   pub none_made : mine (start n) p log ≡ mine (start n) p seen
   pub kept : HoldersKnow (rules (start n)) held log
@@ -72,6 +74,7 @@ pub record Fair (n : Name) (held : List (HeldKey Entry)) (log : List Entry) (e :
   -- all earlier values of a home were reclaimed where it names one
   pub one : HasOne (after (start n) log) → HasOne done.0
   pub leads : IsLed (after (start n) log) (plans (start n) log) (field_value log) e
+  pub says : SaysAll e
   pub labels : NamesLabels (after (start n) log) held done.0
   pub places : MakesPlaced (after (start n) log) held e
 

@@ -2,17 +2,15 @@
 -- for good, with the event that begins the value's retirement, or that puts it as a further value.
 --     kept_in g              the word that a note of this code keeps
 --     kepts_in held, kepts_of keys     those of the values whose keys these are, in order
---     retires_by event       the values of which it may say something
 --     IsTold log v k         an event of the list said that k is kept of value v
 --     AllTold log vs ks      it said so of each of these values, in order: the first word of the first value, and so on
 --     AreToldIn log held     of each of the values whose keys these are the list says the word that is noted of it
 --     AreTold keys pass      so it is in what the pass has seen
 use Rattle.std.specs.Prelude.{◌≡◌, ℕ, List, [], ◌∷◌, map, ◌⊎◌}
 use base.Stored.{Gv, gnum, gcons}
-use Rattle.seize_machine.specs.Machine.Event.{Event, Begin, Hand}
-use Rattle.seize_machine.specs.declared.machine.event.Job.TheVariants.{Retire}
 use Rattle.seize_book.specs.Entry.{Entry, Made, Used}
 use Rattle.seize_book.specs.Ledger.{HeldKey}
+pub use Rattle.seize_book.specs.Saying.{retires_by}
 use Rattle.seize_book.specs.declared.book.pass.Pass.{Pass}
 use Rattle.seize_book.specs.declared.book.value_keys.ValueKeys.{ValueKeys}
 
@@ -25,11 +23,6 @@ kepts_in held = map (λ h. kept_in h.note) held
 
 abbrev pub kepts_of : ValueKeys → List ℕ
 kepts_of keys = kepts_in keys.keys.held
-
-abbrev pub retires_by : Event → List ℕ
-retires_by (Begin s (Retire v)) = v ∷ []
-retires_by (Hand s puts) = puts
-retires_by _ = []
 
 -- the first of these words is of the first value, and so on
 abbrev pub Says : List ℕ → List ℕ → ℕ → ℕ → Type 0

@@ -1,5 +1,6 @@
 pub mod Ledger
 pub mod Entry
+pub mod Saying
 pub mod Homes
 pub mod Homesteads
 pub mod After

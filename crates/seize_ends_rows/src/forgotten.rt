@@ -15,16 +15,16 @@ use std::test::*;
 use std::thread::Threads;
 use std::{mem, thread};
 
-type Telling<'a> = Collector<Digit<'a>>;
+pub(crate) type Telling<'a> = Collector<Digit<'a>>;
 
 // A collector with no link, and batches of this many values.
-fn telling<'a>(alloc: Global, size: usize) -> Result<Telling<'a>, Refusal> {
+pub(crate) fn telling<'a>(alloc: Global, size: usize) -> Result<Telling<'a>, Refusal> {
     let made: Telling<'a> = Collector::new(alloc, &mut IdSource::new(), 1, 0)?;
     Ok(made.batch_size(size))
 }
 
 // Retires a value for each digit.
-fn retire<'c, 'a>(
+pub(crate) fn retire<'c, 'a>(
     rt: &impl Wait,
     collector: &'c Telling<'a>,
     registration: &Registration<'c, Digit<'a>>,
@@ -44,14 +44,14 @@ fn retire<'c, 'a>(
 }
 
 // Registers, and ends. It gives the number, and whether it went back.
-fn register<T: Drop>(rt: &impl Wait, collector: &Collector<T>) -> Result<(usize, bool), Refusal> {
+pub(crate) fn register<T: Drop>(rt: &impl Wait, collector: &Collector<T>) -> Result<(usize, bool), Refusal> {
     let mut pass = collector.pass();
     let registration = collector.register(rt, &mut pass)?;
     Ok((registration.thread_id(), registration.end(rt, &mut pass)))
 }
 
 // A guard is forgotten.
-fn forget_guard<T: Drop>(registration: &Registration<'_, T>, pass: &mut Pass) -> Result<(), Refusal>
+pub(crate) fn forget_guard<T: Drop>(registration: &Registration<'_, T>, pass: &mut Pass) -> Result<(), Refusal>
     requires { IsPassOf (registered_in registration.now) pass.old }
     ensures { IsPassOf (registered_in registration.now) pass.new }
 {
@@ -60,7 +60,7 @@ fn forget_guard<T: Drop>(registration: &Registration<'_, T>, pass: &mut Pass) ->
 }
 
 // An owned guard is forgotten. Then a registration retires three values and ends.
-fn forget_owned<'a>(
+pub(crate) fn forget_owned<'a>(
     rt: &impl Wait,
     collector: &Telling<'a>,
     told: &'a AtomicU64,

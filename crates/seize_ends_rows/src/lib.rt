@@ -12,3 +12,5 @@ mod handed;
 mod kinds;
 #[cfg(test)]
 mod reclaiming;
+#[cfg(test)]
+mod taken_over;

@@ -6,10 +6,10 @@ pub use Rattle.seize_machine.proofs.Steps.Forced.{Forced}
 -- on tests, and on how often a value stands in a list
 pub use Rattle.seize_machine.proofs.Steps.Relation.{if_some, and_true, not_true, is_true, eq_true, lt_true, some_is}
 pub use Rattle.seize_machine.proofs.Counting.Sums.{one, occ, has_none, has_some, distinct_once}
-use Rattle.std.proofs.Common.{◌≡◌, ◌≢◌, ℕ, ◌+◌, ◌<◌, ◌≤◌, pos, neg_ℤ, ◌+ℤ◌, ◌≤ℤ◌, Bool, true, false, List, [], ◌∷◌, ◌++◌, length, take, drop, Option, Some, ◌⊎◌, arith, subst}
+use Rattle.std.proofs.Common.{◌≡◌, ◌≢◌, ℕ, ◌+◌, ◌<◌, ◌≤◌, pos, neg_ℤ, ◌+ℤ◌, ◌≤ℤ◌, Bool, true, false, List, [], ◌∷◌, ◌++◌, length, take, drop, Option, None, Some, ◌⊎◌, arith, subst}
 use Rattle.std.specs.Prelude.{◌↔◌}
-use Rattle.std.specs.List.{Contains, slice_get}
-use Rattle.seize_machine.specs.Machine.State.{State, Mark, Look, Try, Add, Out, slot_at, head_at, link_at, batch_at, is_active, has, linked_values, are_distinct, opening, Place, Append, Rest}
+use Rattle.std.specs.List.{Contains, slice_get, sum_by}
+use Rattle.seize_machine.specs.Machine.State.{State, Head, Mark, Look, Try, Add, Out, slot_at, head_at, link_at, batch_at, is_active, waiting_at, has, linked_values, are_distinct, opening, Place, Append, Rest}
 use Rattle.seize_machine.specs.Machine.Event.{Event, Put, SwapOut, event_slot}
 use Rattle.seize_machine.specs.Machine.Next.{next, set_slot, can_link, is_zero}
 use Rattle.seize_machine.specs.Machine.History.{Timed, is_legal, Legal, IsReached, handed_value, is_link_event, history}
@@ -30,6 +30,8 @@ use Rattle.seize_machine.proofs.Invariants.Kept as kept
 use Rattle.seize_machine.proofs.Invariants.Live as live
 use Rattle.seize_machine.proofs.Invariants.Tried as tried
 use Rattle.seize_machine.proofs.Invariants.Noted as noted
+use Rattle.seize_machine.proofs.Invariants.Listed as lists_once
+pub use Rattle.seize_machine.proofs.Invariants.Listed.{IsSettled}
 use Rattle.seize_machine.proofs.Laws.AtMostOnce as at_most_once
 use Rattle.seize_machine.proofs.Laws.After as after
 use Rattle.seize_machine.proofs.Laws.Protection as protection
@@ -278,6 +280,14 @@ pub arrives_unheld : (size : ℕ) (st : State) (event : Event) (d : State × Ans
     → (s : ℕ) → (Lists d.0 s b → ⊥) × (Walks d.0 s b → ⊥) × (detached_by (slot_at d.0 s).call ≢ Some b)
 arrives_unheld = states.arrives_unheld
 
+-- a head lists a batch at most once
+pub listed_once : (st : State) → IsReached st → (m : ℕ) → are_distinct (waiting_at (head_at st m)) ≡ true
+listed_once = lists_once.listed_once
+
+-- where no call is under way, the count of a batch is how often heads list it
+pub count_listed : (st : State) → IsReached st → ((s : ℕ) → (slot_at st s).call ≡ None) → (b : ℕ) → (batch_at st b).count ≡ pos (sum_by (λ (head : Head). occ b (waiting_at head)) st.heads)
+count_listed = lists_once.count_listed
+
 -- the count of a batch with no values is 0
 pub empty_zero : (st : State) → IsReached st → (b : ℕ) → (batch_at st b).values ≡ [] → (batch_at st b).count ≡ pos 0
 empty_zero = live.empty_zero
@@ -287,6 +297,13 @@ empty_zero = live.empty_zero
 -- the places of a value have just the named ones, each once
 pub named_placed : (st : State) → IsReached st → (are_distinct (places st) ≡ true) × ((v : ℕ) → Contains (places st) v ↔ (has v st.named ≡ true))
 named_placed = whereabouts.named_placed
+
+-- a value that waits in a slot's batch, or is in a retired one, was named, and is neither out of a link nor in one
+pub waiting_settled : (st : State) → IsReached st → (s v : ℕ) → Contains (slot_at st s).batch v → IsSettled v st
+waiting_settled = lists_once.waiting_settled
+
+pub batched_settled : (st : State) → IsReached st → (b v : ℕ) → Contains (batch_at st b).values v → IsSettled v st
+batched_settled = lists_once.batched_settled
 
 -- a batch that is held has values
 pub held_full : (st : State) → IsReached st → (b : ℕ) → IsHeld st b → 1 ≤ length (batch_at st b).values

@@ -9,4 +9,5 @@ pub mod Reached
 pub mod States
 pub mod Live
 pub mod Tried
+pub mod Listed
 pub mod Noted

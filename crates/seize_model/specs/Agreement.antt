@@ -5,6 +5,5 @@ pub mod Play
 pub mod Statement
 pub mod Links
 pub mod Reopening
-pub mod Origins
 pub mod Driver
 pub mod Runs

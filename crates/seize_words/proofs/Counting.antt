@@ -26,7 +26,7 @@ use Rattle.seize_book.specs.Private.{Tag, is_one, key_of, tag_of, own_of, AreKey
 use Rattle.seize_words.specs.Stepping.{EndsAmong, FoundAs, IsStep, MayStep, in_step}
 use Rattle.seize_book.specs.Tokens.{Name, start}
 use Rattle.seize_words.specs.Words.{Site}
-use Rattle.seize_book.proofs.Facts.{unled, all_told_later, all_told_renewed, batch_near, count_added, count_alone, count_near, count_subtracted, in_range, word_added, word_subtracted, word_zero, deposit_added, deposit_subtracted, added_held, front_grows, front_there, held_front, held_values, walked_held, after_push, reached_after, plan_stays, differ, only_is, makes_none, no_place, no_labels, none_named, sound_push, blocks_within, keys_later, none_of}
+use Rattle.seize_book.proofs.Facts.{unled, all_told_later, all_told_renewed, batch_near, count_added, count_alone, count_near, count_subtracted, in_range, word_added, word_subtracted, word_zero, deposit_added, deposit_subtracted, added_held, front_grows, front_there, held_front, held_values, walked_held, after_push, reached_after, plan_stays, differ, only_is, makes_none, no_place, no_labels, none_named, says_none, sound_push, blocks_within, keys_later, none_of}
 use Rattle.seize_book.specs.Kept.{AreToldIn}
 
 abbrev pub at_count : Name → ℕ → Site
@@ -132,7 +132,7 @@ module _ (n : Name) (k : ℕ) where
         → AreToldIn (log ++ Made e ∷ []) (with_list (if trades then more else vs) (log ++ Made e ∷ []))
         → IsStep (at_count n k) p held_all [] w (Made e) trades (since, vs) own log
     made trades does ends shows stands theirs = record {
-      fair = record { done = d; legal = does; covers = covers; names = names; one = none_named e.size (after st log) e.event d (step_of _ _ _ _ does) (λ j. c.home (after st log) j); leads = unled (after st log) (plans st log) (field_value log) e.event (λ j. c.head j); labels = no_labels (pass_key p own ∷ in_step (at_count n k) held_all (since, vs)) e.size (after st log) e.event d (step_of _ _ _ _ does) (λ j. c.home (after st log) j); places = no_place (after st log) (pass_key p own ∷ in_step (at_count n k) held_all (since, vs)) (Made e) (makes_none (after st log) e.event c.used) };
+      fair = record { done = d; legal = does; covers = covers; names = names; one = none_named e.size (after st log) e.event d (step_of _ _ _ _ does) (λ j. c.home (after st log) j); leads = unled (after st log) (plans st log) (field_value log) e.event (λ j. c.head j); labels = no_labels (pass_key p own ∷ in_step (at_count n k) held_all (since, vs)) e.size (after st log) e.event d (step_of _ _ _ _ does) (λ j. c.home (after st log) j); says = says_none (after st log) e (λ j. c.home (after st log) j); places = no_place (after st log) (pass_key p own ∷ in_step (at_count n k) held_all (since, vs)) (Made e) (makes_none (after st log) e.event c.used) };
       its = pe;
       bears = c.births (after st log);
       ends = ends;

@@ -30,7 +30,7 @@ use Rattle.seize_words.specs.Stepping.{EndsAmong, FoundAs, IsStep, MayStep, in_s
 use Rattle.seize_book.specs.Tokens.{Name, start}
 use Rattle.seize_words.specs.Words.{Site}
 use Rattle.seize_book.proofs.Lives.{legal_first, life_kept}
-use Rattle.seize_book.proofs.Facts.{equal, unequal, after_push, legal_push, reached_after, AllLess, block_stays, blocks_stay, head_stays, legal_prefix, plan_stays, plans_long, saw_there, tried_there, differ, only_is, makes_none, no_place, no_labels, none_named}
+use Rattle.seize_book.proofs.Facts.{equal, unequal, after_push, legal_push, reached_after, AllLess, block_stays, blocks_stay, head_stays, legal_prefix, plan_stays, plans_long, saw_there, tried_there, differ, only_is, makes_none, no_place, no_labels, none_named, says_none}
 
 abbrev pub at_head : Name → ℕ → Site
 at_head n m = record { name = n; kind = heads; number = m }
@@ -109,7 +109,7 @@ module _ (n : Name) (m : ℕ) where
 
     made : Does st log (Made e) d → Leads (after st log) (plans st log) (field_value log) e.event → EndsAmong lives log (Made e) → w ≡ head_word st (log ++ Made e ∷ []) m → IsStep (at_head n m) p (key s x slots_own) lives w (Made e) false (since, []) own log
     made does leads ends shows = record {
-      fair = record { done = d; legal = does; covers = covers; names = λ many was there. (subst (λ (z : ℕ). z < many 0) (sym pe) there.0, (λ k le. (t.others (after st log) k).0), (λ k le. (t.others (after st log) k).1), λ f le. refl); leads = leads; one = none_named e.size (after st log) e.event d (step_of _ _ _ _ does) (λ k. (t.others (after st log) k).1); labels = no_labels (pass_key p own ∷ in_step (at_head n m) (key s x slots_own) (since, [])) e.size (after st log) e.event d (step_of _ _ _ _ does) (λ k. (t.others (after st log) k).1); places = no_place (after st log) (pass_key p own ∷ in_step (at_head n m) (key s x slots_own) (since, [])) (Made e) (makes_none (after st log) e.event t.used) };
+      fair = record { done = d; legal = does; covers = covers; names = λ many was there. (subst (λ (z : ℕ). z < many 0) (sym pe) there.0, (λ k le. (t.others (after st log) k).0), (λ k le. (t.others (after st log) k).1), λ f le. refl); leads = leads; one = none_named e.size (after st log) e.event d (step_of _ _ _ _ does) (λ k. (t.others (after st log) k).1); labels = no_labels (pass_key p own ∷ in_step (at_head n m) (key s x slots_own) (since, [])) e.size (after st log) e.event d (step_of _ _ _ _ does) (λ k. (t.others (after st log) k).1); says = says_none (after st log) e (λ k. (t.others (after st log) k).1); places = no_place (after st log) (pass_key p own ∷ in_step (at_head n m) (key s x slots_own) (since, [])) (Made e) (makes_none (after st log) e.event t.used) };
       its = pe;
       bears = t.births (after st log);
       ends = ends;

@@ -128,7 +128,7 @@ module _ (n : Name) (l : ℕ) where
         let push : link_at (after st (log ++ reads ∷ [])) l ≡ link_at now l = ap (λ (z : State). link_at z l) (after_push st log reads d found.before.legal does) in
         let is : link_at (after st t.0) l ≡ link_at (after st (log ++ reads ∷ [])) l = same v p seen held alive t log found ∙ sym push in
         record {
-          fair = record { done = d; legal = does; covers = covers; names = λ many was there. (there.0, (λ k le. refl), (λ k le. refl), λ f le. refl); one = λ one. one; leads = tt; labels = λ u named. inl named; places = λ makes. absurd (cc) };
+          fair = record { done = d; legal = does; covers = covers; names = λ many was there. (there.0, (λ k le. refl), (λ k le. refl), λ f le. refl); one = λ one. one; leads = tt; labels = λ u named. inl named; says = omega arith; places = λ makes. absurd (cc) };
           its = refl;
           bears = refl;
           ends = λ a i. absurd i;
@@ -208,7 +208,7 @@ module _ (n : Name) (l : ℕ) where
           let does : Does st log exchanges d = next_of size now (ExchangeLink s l exchange) d step in
           let is : link_at (after st (log ++ exchanges ∷ [])) l ≡ o = ap (λ (z : State). link_at z l) (after_push st log exchanges d found.before.legal does) ∙ get_or-set_same now.links l o None within in
           record {
-            fair = record { done = d; legal = does; covers = covers_exchange; names = names_exchange; one = one_stored o new step; leads = tt; labels = labels_stored o new; places = λ makes. absurd (cc) };
+            fair = record { done = d; legal = does; covers = covers_exchange; names = names_exchange; one = one_stored o new step; leads = tt; labels = labels_stored o new; says = omega arith; places = λ makes. absurd (cc) };
             its = refl;
             bears = refl;
             ends = λ a i. absurd i;
@@ -228,7 +228,7 @@ module _ (n : Name) (l : ℕ) where
           let does : Does st log exchanges d = miss_does stored in
           let is : link_at (after st t.0) l ≡ link_at (after st (log ++ exchanges ∷ [])) l = same v p seen held alive t log found ∙ sym (ap (λ (z : State). link_at z l) (after_push st log exchanges d found.before.legal does)) in
           record {
-            fair = record { done = d; legal = does; covers = covers_exchange; names = names_exchange; one = λ one. one; leads = tt; labels = λ u named. inl named; places = λ makes. absurd (cc) };
+            fair = record { done = d; legal = does; covers = covers_exchange; names = names_exchange; one = λ one. one; leads = tt; labels = λ u named. inl named; says = omega arith; places = λ makes. absurd (cc) };
             its = refl;
             bears = refl;
             ends = λ a i. absurd i;

@@ -170,6 +170,7 @@ module _ (n : Name) (a b : List (HeldKey Entry)) where
               one = λ one. one;
               leads = tt;
               labels = λ v named. inl named;
+              says = omega arith;
               places = λ makes. inr (inr (inr (inl (refl, may.its ∙ is.many, may.placed))));
             };
             its = refl;

@@ -42,13 +42,12 @@ module _ {M : Type 1} {𝓤 : Ura M} (𝓛 : Logic 𝓤) (life : ℕ) where
   units_in : (n : ℕ) (s : Share) → AreUnits s n → A.lft ν s ⊢ ⟦ has_units life n ⟧
   units_in n s are = qed 𝓛 (‵ (flft ν s) ∷ []) ∵ fpack ! (AreUnits s n) (λ _. flft ν s) are $ fpack ! Share (share_of life n) s $ done !
 
-  pub cuts : (n : ℕ) → 0 < n → ⟦ has_units life (n + 1) ⟧ ⊢ ⟦ has_units life n ⟧ ∗ ⟦ has_units life 1 ⟧
-  cuts n more =
-      let u = counts_some 64 1 (omega arith) (omega arith) in
-      qed 𝓛 (‵ (has_units life (n + 1)) ∷ []) ∵ fpick ! (λ s. fpick ! (λ c. let fits = c.2 in let r = counts_some 64 n more (omega (arith, fits)) in
-      let sum : s ∈ Share.op r.0 u.0 = Counts-op 64 r.0 u.0 s n 1 (n + 1) r.1 u.1 c.0 (omega arith) in
+  pub cuts : (n k : ℕ) → 0 < n → 0 < k → ⟦ has_units life (n + k) ⟧ ⊢ ⟦ has_units life n ⟧ ∗ ⟦ has_units life k ⟧
+  cuts n k more least =
+      qed 𝓛 (‵ (has_units life (n + k)) ∷ []) ∵ fpick ! (λ s. fpick ! (λ c. let fits = c.2 in let r = counts_some 64 n more (omega (arith, fits)) in let u = counts_some 64 k least (omega (arith, fits)) in
+      let sum : s ∈ Share.op r.0 u.0 = Counts-op 64 r.0 u.0 s n k (n + k) r.1 u.1 c.0 (omega arith) in
       use1 𝓛 (‵ (flft ν r.0) ⊛ ‵ (flft ν u.0)) (𝓛.lfts.lft_cut ν s r.0 u.0 sum) $ split ! $ use1 𝓛 (‵ (has_units life n)) (units_in n r.0 (r.1, more, omega (arith, fits))) $
-      move ! (1 ∷ []) $ use1 𝓛 (‵ (has_units life 1)) (units_in 1 u.0 (u.1, omega arith, omega arith)) $ move ! (1 ∷ 0 ∷ []) $ done !))
+      move ! (1 ∷ []) $ use1 𝓛 (‵ (has_units life k)) (units_in k u.0 (u.1, least, omega (arith, fits))) $ move ! (1 ∷ 0 ∷ []) $ done !))
 
   pub glues : (n k : ℕ) → n + k ≤ all_units → ⟦ has_units life n ⟧ ∗ ⟦ has_units life k ⟧ ⊢ ⟦ has_units life (n + k) ⟧
   glues n k fits = qed 𝓛 (‵ (has_units life n) ∷ ‵ (has_units life k) ∷ []) ∵ fpick ! (λ s. fpick ! (λ c. move ! (1 ∷ []) $ fpick ! (λ u. fpick ! (λ d.

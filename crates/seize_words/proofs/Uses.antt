@@ -77,6 +77,7 @@ module _ (n : Name) (f : ℕ) where
         one = λ one. one;
         leads = led;
         labels = λ v named. inl named;
+        says = tt;
         places = λ makes. absurd (cc);
       };
       its = refl;

@@ -4,7 +4,8 @@
 --     BeginsAs a keys a'       it has begun with what the keys know
 --     IsLasting a pass         it has not ended in what the pass has seen
 --     Ends a a' lives next     its lifetime is over, and it is another one of the same slot, with the next
---     SplitsUnit a a' unit     one unit was split off: a' and the unit are the same activation as a
+--     SplitsUnits a a' n units     so many units were split off: a' and these are the same activation as a
+--     SplitsUnit a a' unit     one was
 --     JoinsUnits a units a'    units came back
 use Rattle.std.specs.Prelude.{◌≡◌, ℕ, ◌+◌, List, [], ◌∷◌}
 use Rattle.seize_book.specs.Laws.{IsAmong, ended_lives}
@@ -35,8 +36,11 @@ Ends a a' lives next =
 abbrev pub with_units : Activation → ℕ → Activation
 with_units a n = record a { units = n }
 
+abbrev pub SplitsUnits : Activation → Activation → ℕ → Activation → Type 0
+SplitsUnits a a' n units = (units ≡ with_units a n) × (a' ≡ with_units a a'.units) × (a'.units + n ≡ a.units)
+
 abbrev pub SplitsUnit : Activation → Activation → Activation → Type 0
-SplitsUnit a a' unit = (unit ≡ with_units a 1) × (a' ≡ with_units a a'.units) × (a'.units + 1 ≡ a.units)
+SplitsUnit a a' unit = SplitsUnits a a' 1 unit
 
 abbrev pub JoinsUnits : Activation → Activation → Activation → Type 0
 JoinsUnits a units a' = a' ≡ with_units a (a.units + units.units)

@@ -52,7 +52,7 @@ impl Model for Ended {
 
 impl Activation {
     ghost use Rattle.std.specs.Prelude.{◌+◌, ◌<◌, ◌≤◌};
-    ghost use Rattle.seize_words.specs.Activations.{BeginsAs, Ends, IsActivationFor, IsLasting, HasAllUnits, JoinsUnits, SplitsUnit};
+    ghost use Rattle.seize_words.specs.Activations.{BeginsAs, Ends, IsActivationFor, IsLasting, HasAllUnits, JoinsUnits, SplitsUnit, SplitsUnits};
     ghost use Rattle.seize_words.specs.Reservations.{IsOfSlot};
     ghost use Rattle.seize_words.specs.Units.{all_units};
 
@@ -76,6 +76,14 @@ impl Activation {
     pub fn split(&mut self) -> Activation
         requires { 1 < self.old.units }
         ensures { SplitsUnit self.old self.new result }
+    {
+        self.split_many(1)
+    }
+
+    /// Splits off so many units, which are one `Activation`.
+    pub fn split_many(&mut self, count: u64) -> Activation
+        requires { (0 < count) × (count < self.old.units) }
+        ensures { SplitsUnits self.old self.new count result }
     {
         Activation {
             marker: PhantomData,

@@ -44,8 +44,9 @@ unsafe impl<T> Send for Hands<T> {}
 unsafe impl<T> Sync for Hands<T> {}
 
 impl<T> Hands<T> {
-    /// The first ones of a collector, where its porter is at home. It does nothing when the program runs.
-    pub(crate) fn first<H: Holding<T>>(_porter: &Porter) -> Hands<T>
+    /// The first ones of a collector, where its porter is at home. What `_said` holds is for the proof that picks. It does nothing when the
+    /// program runs.
+    pub(crate) fn first<H: Holding<T>, S>(_porter: &Porter, _said: &S) -> Hands<T>
         requires { (st : State T ℕ) × (names : List (ℕ × T)) × (kinds : List (ℕ × ℕ)) × H.are st names kinds }
         ensures { H.are result.state result.names result.kinds }
     {

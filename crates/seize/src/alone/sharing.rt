@@ -1,6 +1,7 @@
 //! From a collector that threads share to one in one caller's hands, and back.
-ghost use Rattle.std.specs.Prelude.{◌≡◌, ℕ, IfErr, IfOk, None, Some, box_value, false, get_or, length};
+ghost use Rattle.std.specs.Prelude.{◌≡◌, ℕ, IfErr, IfOk, None, Some, box_value, get_or, length};
 ghost use Rattle.seize.specs.Collectors.{its_book, its_id, its_size, seen_by};
+ghost use Rattle.seize_book.specs.Saying.{AllSay};
 ghost use Rattle.seize_book.specs.Porters.{HadStay};
 ghost use Rattle.seize_words.specs.Joined.{words_book};
 ghost use Rattle.seize.specs.Enders.{IsEnderOf};
@@ -11,11 +12,12 @@ ghost use Rattle.seize.specs.declared.alone.place.Place.{Place};
 
 use crate::alone::Alone;
 use crate::alone::hands::Hands;
-use crate::alone::place::{Place, Unit, Within};
+use crate::alone::place::{Place, Within};
+use crate::alone::shelving::lay_all;
 use crate::collector::Collector;
 use crate::ender::Ender;
 use crate::numbers::Numbers;
-use crate::numbers::resting::Resting;
+use crate::numbers::resting::{Found, Resting};
 use crate::reclaim::Reclaim;
 use seize_cells::Lock;
 use seize_words::book::Porter;
@@ -23,107 +25,74 @@ use seize_words::words::Words;
 use std::alloc::Global;
 use std::marker::Brand;
 
-// How many slots were made, where no number is in use. The porter is at home afterwards.
+// What is found of the slots. The porter is at home afterwards.
 fn rest<T: Drop, R: Reclaim<T>>(
     words: &Words<T>,
     ender: &Ender<T, R>,
+    alloc: Global,
     porter: &mut Porter,
     numbers: Lock<Numbers<T>>,
-) -> (Option<usize>, Lock<Numbers<T>>)
+) -> (Found<T>, Lock<Numbers<T>>)
     requires porter { (porter.old.name ≡ words_book words.now) × (porter.old.size ≡ words.now.size) }
     requires numbers { numbers ≡ (words_book words.now).family }
     requires ender { IsEnderOf words.now ender.now }
     ensures numbers { result.1 ≡ numbers }
-    ensures stay { HadStay (λ lent back. ComesToRest lent back result.0 × HaveContents T.row.coded.code back) porter.old porter.new }
+    ensures stay { HadStay (λ lent back. ComesToRest lent back result.0 × HaveContents T.row.coded.code back × AllSay back.seen)
+        porter.old porter.new }
 {
     let mut resting = Within {
         lock: numbers,
-        work: Some(Resting { words, ender }),
+        work: Some(Resting {
+            words,
+            ender,
+            alloc,
+        }),
     };
-    let made = porter.stay(&mut resting);
-    (made, resting.lock)
+    let found = porter.stay(&mut resting);
+    (found, resting.lock)
 }
 
 impl<T: Drop, R: Reclaim<T>> Collector<T, R> {
-    ghost use Rattle.seize_model.specs.declared.kind.Kind.TheVariants.{Free};
-    ghost use Rattle.seize_model.specs.Waiting.State.{slot_at};
-    ghost use Rattle.seize_model.specs.Agreement.Origins.{IsLedTo};
-    ghost use Rattle.seize_alone.specs.Holding.{some_state};
     ghost use Rattle.seize_book.specs.Porters.{GoesOnTo};
     ghost use Rattle.seize.specs.Collectors.{its_links};
     ghost use Rattle.seize.specs.Reclaims.{IsSameCollector, NoneInUse};
 
-    /// Gives the collector to one caller, where no number is in use. It goes by value, so passes, guards and registrations are over. What
-    /// its links hold, and what is in the batches of its slots, stays there; that no clause says. It takes no memory and waits for nobody.
-    /// Its list of events goes on: each number is taken and goes back, without an atomic step.
+    /// Gives the collector to one caller. It goes by value, so passes, guards and registrations are over. Where these were forgotten, by
+    /// their calls of `forget`, their slots stay as they were: a number stays in use, by an owned slot where an owned guard had it, and a
+    /// slot that was left active has as many guards as were forgotten. So what waits for such a slot waits on, until it leaves.
+    ///
+    /// The state is what the list of events says where it ends (`laws` of the `Alone`), as to slots in use, active slots, batches and links;
+    /// how many guards a slot has, and which slot is owned, no clause says. It asks for memory, for places, only where a number is in use,
+    /// and waits for nobody. The list goes on: each number that is not in use is taken and goes back, without an atomic step.
     ///
     /// # Errors
     ///
-    /// The collector comes back where a number is in use: that of a registration or of an owned guard that was forgotten. `reclaim_all`
-    /// ends it, unless that answers false: then a holder is lost for good.
+    /// The collector comes back where a number is in use, and its holder or a guard of its slot is lost: `mem::forget` took it. So it does
+    /// where a number is in use, and memory is refused. What had been forgotten stays so.
     pub fn alone(self) -> Result<Alone<T, R>, Collector<T, R>>
         ensures made { IfOk result (λ alone. (alone.book ≡ its_book self) × (alone.size ≡ its_size self) × (alone.id ≡ its_id self)
             × (alone.links ≡ its_links self) × (alone.state.size ≡ alone.size) × (length alone.state.links ≡ its_links self)
-            × ((s : ℕ) → ((slot_at alone.state s).kind ≡ Free) × ((slot_at alone.state s).guards ≡ 0))
-            × IsLedTo (some_state alone.state)) }
-        ensures goes_on { IfOk result (λ alone. GoesOnTo alone.book (seen_by self) alone.seen) }
+            × GoesOnTo alone.book (seen_by self) alone.seen) }
         ensures back { IfErr result (λ c. IsSameCollector self c × ¬ (NoneInUse c)) }
     {
         let (words, mut porter, numbers, ender, id, alloc) = self.into_parts();
-        let (made, numbers) = rest(&words, &ender, &mut porter, numbers);
-        let Some(made) = made else {
-            porter.leave_home();
-            return Err(Collector {
-                words,
-                porter,
-                numbers,
-                ender,
-                id,
-                alloc,
-            });
-        };
-        let hands = Hands::first::<Brand>(&porter);
+        let (found, numbers) = rest(&words, &ender, alloc, &mut porter, numbers);
+        let Found { made, places, all } = found;
+        if !all {
+            return Err(shared(words, porter, numbers, places, ender, id, alloc));
+        }
+        let hands = Hands::first::<Brand, Vec<Option<Place<T>>>>(&porter, &places);
         Ok(Alone {
             words,
             porter,
             numbers,
-            places: Vec::new(alloc),
+            places,
             made,
             ender,
             id,
             alloc,
             hands,
         })
-    }
-}
-
-// What lies in this place is laid on its shelf, as if the holder of the slot had been forgotten.
-fn lay<T: Drop>(place: Place<T>, porter: &Porter)
-    requires porter { porter.now.home ≡ false }
-    requires place { MayLay porter.now.name place }
-{
-    let Place {
-        owned: _,
-        guards: _,
-        reservation,
-        unit,
-        shelf,
-    } = place;
-    if let Some(Unit { number, unit, seen }) = unit {
-        shelf.forget(number, unit, seen, &mut porter.pass());
-    }
-    shelf.lay(reservation.into_value());
-}
-
-// So is what lies in each of these places.
-fn lay_all<T: Drop>(places: &mut Vec<Option<Place<T>>>, porter: &Porter)
-    requires porter { porter.now.home ≡ false }
-    requires places { (s : ℕ) (place : Place T) → get_or places.old.items s None ≡ Some place → MayLay porter.now.name place }
-{
-    for n in 0..places.len() {
-        if let Some(place) = places[n].take() {
-            lay(place, porter);
-        }
     }
 }
 
@@ -147,7 +116,7 @@ pub(super) fn shared<T: Drop, R: Reclaim<T>>(
     let mut porter = porter;
     let mut places = places;
     porter.leave_home();
-    lay_all(&mut places, &porter);
+    lay_all(&words, &mut places, &porter);
     Collector {
         words,
         porter,

@@ -37,6 +37,7 @@ impl<'p> Pass<'p> {
     ghost use Rattle.seize_book.specs.Homesteads.{AreAt, HasNumber, state_seen};
     ghost use Rattle.seize_book.specs.Lending.{IsPermitForAll};
     ghost use Rattle.seize_book.specs.Passes.{LooksOn, Meets};
+    ghost use Rattle.seize_book.specs.Saying.{AllSay};
     ghost use Rattle.seize_book.specs.Tables.{AreSlotsOf};
 
     /// Two passes of one book tell each other what they have seen: afterwards both have seen the longer of their two beginnings. No event
@@ -93,9 +94,10 @@ impl<'p> Pass<'p> {
         }
     }
 
-    /// Looks at the list, and adds nothing. It gives the permit for what is lent with each value that was ever named.
+    /// Looks at the list, and adds nothing. It gives the permit for what is lent with each value that was ever named. And each entry of the
+    /// list says of the values that it retires or puts what is kept of them.
     pub fn permit_for_named(&mut self) -> Permit
-        ensures { LooksOn self.old self.new × IsPermitForAll self.new result }
+        ensures { LooksOn self.old self.new × IsPermitForAll self.new result × AllSay self.new.seen }
     {
         Permit {
             marker: PhantomData,

@@ -20,7 +20,7 @@ use Rattle.seize_machine.proofs.Invariants.States.{reached_holds, tries_tidy}
 use Rattle.seize_machine.proofs.Laws.LaterHolders.{walk_is}
 
 -- a part of a sum, also one past the end, where there is nothing
-part-le-sum : {X : Type 0} (f : X → ℕ) (xs : List X) (i : ℕ) (d : X) → f d ≡ 0 → f (get_or xs i d) ≤ sum_by f xs
+pub part-le-sum : {X : Type 0} (f : X → ℕ) (xs : List X) (i : ℕ) (d : X) → f d ≡ 0 → f (get_or xs i d) ≤ sum_by f xs
 part-le-sum f xs i d none = go (is_true (nat_lt i (length xs)))
   where
     go : (nat_lt i (length xs) ≡ true) ⊎ (nat_lt i (length xs) ≡ false) → f (get_or xs i d) ≤ sum_by f xs

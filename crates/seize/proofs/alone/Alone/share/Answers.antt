@@ -1,9 +1,10 @@
 use Rattle.std.proofs.Common.{refl, arith}
 use Rattle.seize_words.specs.Joined.{words_book}
+use Rattle.seize_alone.proofs.Shown.{owned_shown}
 use Rattle.seize.proofs.Homing.{may_lay}
 use Rattle.seize.proofs.alone.Alone.share.Goals as goal
 
 pub shared-requires : goal.shared-requires
 shared-requires g c =
     let a = c.self.invariant in let inside = c.self.inside in let n = words_book inside.words in
-    (omega arith, (omega arith, ((a.lends.0, a.lends.1), (a.numbered, (a.ends, λ s place is. may_lay n n inside.hands.state inside.places.items a.placed refl s place is)))))
+    (omega arith, (omega arith, ((a.lends.0, a.lends.1), (a.numbered, (a.ends, λ s place is. may_lay n n inside.hands.state inside.places.items a.placed (owned_shown a.holds) refl s place is)))))

@@ -1,8 +1,6 @@
-use Rattle.std.proofs.Common.{sym, subst, ◌∙◌}
-use Rattle.seize_book.specs.Tokens.{Name}
-use Rattle.seize.specs.Placing.{MayLay}
+use Rattle.std.proofs.Common.{arith, ◌∙◌}
 use Rattle.seize.proofs.alone.sharing.shared.Goals as goal
 
-pub lay_all-requires-clause-places : goal.lay_all-requires-clause-places
-lay_all-requires-clause-places g c s place is =
-    subst (λ (n : Name). MayLay n place) (sym (c.leave_home.ensures.0.0 ∙ c.requires.porter.0)) (c.requires.places s place is)
+pub lay_all-requires : goal.lay_all-requires
+lay_all-requires g c =
+    let left = c.leave_home.ensures in (omega arith, ((left.2, left.0.0 ∙ c.requires.porter.0, left.0.1 ∙ c.requires.porter.1), c.requires.places))

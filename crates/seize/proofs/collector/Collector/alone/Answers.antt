@@ -1,52 +1,73 @@
-use Rattle.std.proofs.Common.{◌≡◌, List, length, box_value, sym, ap, subst, ◌∙◌}
+use Rattle.std.proofs.Common.{◌≡◌, List, length, box_value, sym, ap, subst, ◌∙◌, arith}
 use Rattle.seize_book.specs.Entry.{Entry}
+use Rattle.seize_book.specs.Homesteads.{state_seen}
 use Rattle.seize_book.specs.Porters.{GoesOnTo}
 use Rattle.seize_book.specs.Tokens.{Name}
 use Rattle.seize_words.specs.Joined.{words_book}
 use Rattle.seize.specs.Collectors.{its_book}
 use Rattle.seize.specs.Enders.{IsEnderOf}
-use Rattle.seize.proofs.Homing.{many_slots, no_places, starts}
+use Rattle.seize.specs.Placing.{IsLeftAt, MayLay}
+use Rattle.seize.proofs.Homing.{all_placed, left_may, many_slots, starts}
 use Rattle.seize.proofs.Lone.{goes_through}
 use Rattle.seize.proofs.collector.Collector.alone.Goals as goal
 
 pub first-hands-requires : goal.first-hands-requires
 first-hands-requires g c =
-    let stay = c.rest-made.ensures.stay in
-    starts g.row.T.coded.code stay.lent stay.back c.rest-made.new.porter c.rest-made.result.0 c.in-Some.made c.in-Some.is stay.gives.0 stay.again stay.gives.1
+    let stay = c.rest-found.ensures.stay in let gives = stay.gives in
+    starts g.row.T.coded.code stay.lent stay.back c.rest-found.new.porter c.rest-found.result.0 gives.0 stay.again c.if-not-all.false gives.1 gives.2
 
-pub invariant_of-result-2 : goal.invariant_of-result-2
-invariant_of-result-2 g c =
-    let self = c.args.self in let parts = c.into_parts-words.ensures in let stay = c.rest-made.ensures.stay in let first = c.first-hands.ensures in let hands = c.first-hands.result in let words = c.into_parts-words.result.0 in
-    let name : c.rest-made.new.porter.name ≡ words_book words = sym stay.again.0.0 ∙ stay.same.0 ∙ stay.shut.book.0 ∙ ap (λ porter. porter.name) parts.1 ∙ self.lends.0 ∙ sym (ap words_book parts.0) in
-    let size : c.rest-made.new.porter.size ≡ words.size = sym stay.again.0.1 ∙ stay.same.2 ∙ stay.shut.book.1 ∙ ap (λ porter. porter.size) parts.1 ∙ self.lends.1 ∙ sym (ap (λ w. w.size) parts.0) in
-    record {
+pub shared-requires : goal.shared-requires
+shared-requires g c =
+    let self = c.args.self in let parts = c.into_parts-words.ensures in let stay = c.rest-found.ensures.stay in let words = c.into_parts-words.result.0 in let porter = c.rest-found.new.porter in
+    let own : stay.lent.name ≡ its_book self = stay.shut.book.0 ∙ ap (λ porter. porter.name) parts.1 ∙ self.lends.0 in let back : stay.back.name ≡ words_book words = stay.same.0 ∙ own ∙ sym (ap words_book parts.0) in
+    let name : porter.name ≡ words_book words = sym stay.again.0.0 ∙ back in
+    let size : porter.size ≡ words.size = sym stay.again.0.1 ∙ stay.same.2 ∙ stay.shut.book.1 ∙ ap (λ porter. porter.size) parts.1 ∙ self.lends.1 ∙ sym (ap (λ w. w.size) parts.0) in (
+      omega arith,
+      (
+        omega arith,
+        (
+          (name, size),
+          (
+            c.rest-found.ensures.numbers ∙ parts.2 ∙ self.numbered ∙ sym (ap (λ w. (words_book w).family) parts.0),
+            (
+              subst (λ w. IsEnderOf w (box_value c.into_parts-words.result.3)) (sym parts.0) (subst (λ e. IsEnderOf self.words (box_value e)) (sym parts.3) self.ends),
+              λ s place is. subst (λ (n : Name). MayLay n place) back (left_may stay.back.name (state_seen stay.back) s place (stay.gives.0.left s place is)),
+            ),
+          ),
+        ),
+      ),
+    )
+
+pub invariant_of-result : goal.invariant_of-result
+invariant_of-result g c =
+    let self = c.args.self in let parts = c.into_parts-words.ensures in let stay = c.rest-found.ensures.stay in let words = c.into_parts-words.result.0 in let porter = c.rest-found.new.porter in
+    let own : stay.lent.name ≡ its_book self = stay.shut.book.0 ∙ ap (λ porter. porter.name) parts.1 ∙ self.lends.0 in let back : stay.back.name ≡ words_book words = stay.same.0 ∙ own ∙ sym (ap words_book parts.0) in
+    let name : porter.name ≡ words_book words = sym stay.again.0.0 ∙ back in
+    let size : porter.size ≡ words.size = sym stay.again.0.1 ∙ stay.same.2 ∙ stay.shut.book.1 ∙ ap (λ porter. porter.size) parts.1 ∙ self.lends.1 ∙ sym (ap (λ w. w.size) parts.0) in
+    let first = c.first-hands.ensures in let hands = c.first-hands.result in let found = c.rest-found.result.0 in record {
       lends = (name, size, stay.again.2);
-      numbered = c.rest-made.ensures.numbers ∙ parts.2 ∙ self.numbered ∙ sym (ap (λ w. (words_book w).family) parts.0);
+      numbered = c.rest-found.ensures.numbers ∙ parts.2 ∙ self.numbered ∙ sym (ap (λ w. (words_book w).family) parts.0);
       ends = subst (λ w. IsEnderOf w (box_value c.into_parts-words.result.3)) (sym parts.0) (subst (λ e. IsEnderOf self.words (box_value e)) (sym parts.3) self.ends);
-      counted = many_slots g.row.T.coded.code stay.lent stay.back c.rest-made.new.porter c.rest-made.result.0 c.in-Some.made c.in-Some.is stay.gives.0 stay.again hands.state hands.names hands.kinds first.0;
+      counted = many_slots g.row.T.coded.code stay.lent stay.back porter found stay.gives.0 stay.again hands.state hands.names hands.kinds first.0;
       sized = first.1 ∙ size;
       linked = first.2 ∙ ap (λ (n : Name). length n.links) name;
-      placed = no_places (words_book words) hands.state c.new.result.items c.new.ensures.items first.3;
+      placed = all_placed (words_book words) (state_seen stay.back) hands.state found.places.items first.3 (λ s place is. subst (λ (n : Name). IsLeftAt n (state_seen stay.back) s place) back (stay.gives.0.left s place is));
       holds = first.0;
     }
 
 pub returns-clause-made : goal.returns-clause-made
 returns-clause-made g c =
-    let self = c.args.self in let parts = c.into_parts-words.ensures in let stay = c.rest-made.ensures.stay in let first = c.first-hands.ensures in let hands = c.first-hands.result in let words = c.into_parts-words.result.0 in
-    let name : c.rest-made.new.porter.name ≡ its_book self = sym stay.again.0.0 ∙ stay.same.0 ∙ stay.shut.book.0 ∙ ap (λ porter. porter.name) parts.1 ∙ self.lends.0 in
-    let size : c.rest-made.new.porter.size ≡ words.size = sym stay.again.0.1 ∙ stay.same.2 ∙ stay.shut.book.1 ∙ ap (λ porter. porter.size) parts.1 ∙ self.lends.1 ∙ sym (ap (λ w. w.size) parts.0) in (
+    let self = c.args.self in let parts = c.into_parts-words.ensures in let stay = c.rest-found.ensures.stay in let words = c.into_parts-words.result.0 in let porter = c.rest-found.new.porter in
+    let own : stay.lent.name ≡ its_book self = stay.shut.book.0 ∙ ap (λ porter. porter.name) parts.1 ∙ self.lends.0 in let back : stay.back.name ≡ words_book words = stay.same.0 ∙ own ∙ sym (ap words_book parts.0) in
+    let name : porter.name ≡ words_book words = sym stay.again.0.0 ∙ back in
+    let size : porter.size ≡ words.size = sym stay.again.0.1 ∙ stay.same.2 ∙ stay.shut.book.1 ∙ ap (λ porter. porter.size) parts.1 ∙ self.lends.1 ∙ sym (ap (λ w. w.size) parts.0) in
+    let first = c.first-hands.ensures in let hands = c.first-hands.result in let comes = stay.gives.0 in
+    let own_words = ap (λ porter. porter.name) parts.1 ∙ self.lends.0 ∙ sym (ap words_book parts.0) in (
       ap words_book parts.0,
       ap (λ w. w.size) parts.0,
       parts.4,
       ap (λ w. length (words_book w).links) parts.0,
       first.1 ∙ size,
-      first.2 ∙ ap (λ (n : Name). length n.links) name,
-      first.3,
-      first.4,
+      first.2 ∙ ap (λ (n : Name). length n.links) (name ∙ ap words_book parts.0),
+      subst (λ (t : Name × List Entry). GoesOnTo t.0 t.1 porter.seen) (λ j. (own_words j, (parts.1 j).seen)) (goes_through stay comes.goes_on),
     )
-
-pub returns-clause-goes_on : goal.returns-clause-goes_on
-returns-clause-goes_on g c =
-    let self = c.args.self in let parts = c.into_parts-words.ensures in let stay = c.rest-made.ensures.stay in
-    let name = ap (λ porter. porter.name) parts.1 ∙ self.lends.0 ∙ sym (ap words_book parts.0) in
-    subst (λ (t : Name × List Entry). GoesOnTo t.0 t.1 c.rest-made.new.porter.seen) (λ j. (name j, (parts.1 j).seen)) (goes_through stay stay.gives.0.goes_on)

@@ -46,4 +46,4 @@ permit_for_named_spec 𝓤 𝓛 𝓜 𝓡 wired =
     -- [the tokens; the result; the pass, in two]
     nothing ! $ feq_i ! (List Val) (vptr pb po ∷ []) (vptr pb po ∷ []) refl $ move ! (0 ∷ 4 ∷ 5 ∷ []) $ fjoin3 ! $ fjoin ! $
     returns ! (look_at ! 0 refl) $ free_all ! refl $ keep ! (1 ∷ 0 ∷ 2 ∷ []) $
-    by ! (ends 𝓛 ended hs c y token r (b', tt) (tt, tt) (fact_i 𝓤 _ (emp 𝓤) (looked b.name b.id b.seen log so.0 so.1, (refl, refl)))))))))
+    by ! (ends 𝓛 ended hs c y token r (b', tt) (tt, tt) (fact_i 𝓤 _ (emp 𝓤) (looked b.name b.id b.seen log so.0 so.1, (refl, refl), so.0.say))))))))

@@ -1,4 +1,4 @@
-use Rattle.std.proofs.Common.{◌≡◌, refl, subst, true}
+use Rattle.std.proofs.Common.{◌≡◌, refl, subst, true, arith}
 use Rattle.seize_machine.specs.Machine.State.{slot_at, is_idle}
 use Rattle.seize_book.specs.Book.{after}
 use Rattle.seize_book.specs.Others.{MayBegin}
@@ -12,7 +12,7 @@ add_with-requires-clause-may c =
     let a = c.args.self.now.keys.held in let b = c.args.value.now.keys.held in let pass = c.args.pass.now in
     let idle = subst (λ (n : Name). is_idle (slot_at (after (start n) (own_of a)) (key_of a)) ≡ true) c.requires.book.0 c.requires.idle in
     let may = subst (λ (n : Name). MayBegin (label_of b) (after (start n) (own_of b))) c.requires.book.1 c.requires.value in
-    ((λ log before. refl), may_retire pass.name pass.id pass.size _ pass.seen a b c.args.self.now.one c.args.value.now.one c.args.value.now.home idle may)
+    ((λ log before. refl), may_retire pass.name pass.id pass.size _ pass.seen a b c.args.self.now.one c.args.value.now.one c.args.value.now.home idle may (omega arith))
 
 pub returns-clause-spent : goal.returns-clause-spent
 returns-clause-spent c =
