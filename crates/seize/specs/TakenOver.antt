@@ -1,7 +1,7 @@
 -- What one caller takes over of a collector that threads shared.
---     IsTakenOver c st     the list of the collector c was `seen` when the caller got it: of each slot it says what the state says. A number
---                          is in use unless its slot is free there, no call is under way, and a slot is active just where it has guards: as
---                          many as it had that were forgotten
+--     IsTakenOver c st     the list of the collector c was `seen` when the caller got it, and says of each slot what the state says: its
+--                          number is in use unless the slot is free there, it has no call under way, and it is active just where it has
+--                          guards
 use Rattle.std.specs.Prelude.{ℕ, List}
 use Rattle.seize_model.specs.Waiting.State.{State, slot_at}
 use Rattle.seize_book.specs.Book.{after}
