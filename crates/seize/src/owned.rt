@@ -319,8 +319,8 @@ impl<'c, T: Drop, R: Reclaim<T>> OwnedGuard<'c, T, R> {
         collector.numbers.with(rt, Ending { words, slot }, pass);
     }
 
-    /// Spends the guard without leaving. Its slot stays active, and its number in use, until `Collector::reclaim_all`, or the collector's
-    /// drop, finds it. What is retired meanwhile may wait so long.
+    /// Spends the guard without leaving. Its slot stays active, and its number in use, until `Collector::reclaim_all`,
+    /// `Collector::alone` or the collector's drop finds it. What is retired meanwhile may wait so long.
     ///
     /// It takes no memory and waits for nobody.
     pub fn forget(self) {

@@ -181,7 +181,7 @@ impl<'c, T: Drop, R: Reclaim<T>> Registration<'c, T, R> {
     /// Gives the slot's number back: the event `Give`, and the answer true. The slot's batch stays for the next one who has the number.
     ///
     /// Where a guard was forgotten the slot is active still. Then the answer is false, and no event is made: number and batch wait for
-    /// `Collector::reclaim_all`, or for the collector's drop.
+    /// `Collector::reclaim_all`, for `Collector::alone`, or for the collector's drop.
     ///
     /// It takes no memory, and waits for other threads that register or end.
     pub fn end<W: Wait>(self, rt: &W, pass: &mut Pass) -> bool
@@ -208,8 +208,8 @@ impl<'c, T: Drop, R: Reclaim<T>> Registration<'c, T, R> {
         true
     }
 
-    /// Spends the registration. The slot stays as it is, and its number in use, until `Collector::reclaim_all`, or the collector's drop,
-    /// finds it.
+    /// Spends the registration. The slot stays as it is, and its number in use, until `Collector::reclaim_all`,
+    /// `Collector::alone` or the collector's drop finds it.
     ///
     /// It takes no memory and waits for nobody.
     pub fn forget(self) {

@@ -44,14 +44,20 @@ pub(crate) fn retire<'c, 'a>(
 }
 
 // Registers, and ends. It gives the number, and whether it went back.
-pub(crate) fn register<T: Drop>(rt: &impl Wait, collector: &Collector<T>) -> Result<(usize, bool), Refusal> {
+pub(crate) fn register<T: Drop>(
+    rt: &impl Wait,
+    collector: &Collector<T>,
+) -> Result<(usize, bool), Refusal> {
     let mut pass = collector.pass();
     let registration = collector.register(rt, &mut pass)?;
     Ok((registration.thread_id(), registration.end(rt, &mut pass)))
 }
 
 // A guard is forgotten.
-pub(crate) fn forget_guard<T: Drop>(registration: &Registration<'_, T>, pass: &mut Pass) -> Result<(), Refusal>
+pub(crate) fn forget_guard<T: Drop>(
+    registration: &Registration<'_, T>,
+    pass: &mut Pass,
+) -> Result<(), Refusal>
     requires { IsPassOf (registered_in registration.now) pass.old }
     ensures { IsPassOf (registered_in registration.now) pass.new }
 {

@@ -65,7 +65,9 @@ fn leave_thrice(
 }
 
 #[test]
-fn a_slot_whose_guards_were_forgotten_leaves_with_the_last_one(rt: HostRuntime) -> Result<(), Fail> {
+fn a_slot_whose_guards_were_forgotten_leaves_with_the_last_one(
+    rt: HostRuntime,
+) -> Result<(), Fail> {
     let told = AtomicU64::new(0);
     let collector = telling(rt.alloc(), 1)?;
     assert!(rt; forget_elsewhere(&rt, &collector, &told));

@@ -130,8 +130,8 @@ pub(super) fn shared<T: Drop, R: Reclaim<T>>(
 impl<T: Drop, R: Reclaim<T>> Alone<T, R> {
     ghost use Rattle.seize.specs.Collectors.{its_links};
 
-    /// Gives the collector to threads. What is in use stays so, as if its holder had been forgotten, until `Collector::reclaim_all` or the
-    /// drop; what is retired later may wait for it, and `Collector::alone` is refused. So leave and end slots first, or call `reclaim_all`.
+    /// Gives the collector to threads. What is in use stays so, as if its holder had been forgotten: `Collector::alone` takes it over again,
+    /// and `Collector::reclaim_all` or the drop ends it. What threads retire may wait for it, so leave slots first, or call `reclaim_all`.
     /// It takes no memory, makes no event and waits for nobody.
     pub fn share(self) -> Collector<T, R>
         ensures same { (its_book result ≡ self.book) × (its_size result ≡ self.size) × (its_id result ≡ self.id)
