@@ -6,6 +6,7 @@ pub mod Stepping
 pub mod Heads
 pub mod Headers
 pub mod Atomic
+pub mod LinkSites
 pub mod Reservations
 pub mod Totals
 pub mod Links

@@ -5,6 +5,8 @@ ghost use Rattle.seize_book.specs.Blocks.{link_word};
 ghost use Rattle.seize_words.specs.Links.{IsLink, is_at_most_one};
 
 mod row;
+mod still;
+mod word;
 
 use crate::activation::Activation;
 use crate::glimpse::Glimpse;

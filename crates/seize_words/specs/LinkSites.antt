@@ -1,0 +1,105 @@
+-- What the word of a link is. Threads share it, as the words of other things, or it stands still, in one caller's hands: then it is plain
+-- memory beside its keys.
+--     LinkSite                which link's word it is; and where it stands still what it holds, and its keys
+--     site_in w               which word it is;  shared_at site    that word, which threads share
+--     is_still w, still_word w, IsShared w     it stands still;  as such, if it does;  threads share it
+--     link_word_owns w vs     what a link's word owns, by its bits;  link_word_shares    what a `&` to it is
+--     MayGlimpse held         the key of a value comes after the word's own, and something is lent with the value
+--     StandsAs w w'           a word that threads shared stands still, with its keys;  StirsAs w    one that stands so may be shared
+--     MayLookStill, LooksStill     its keys look at the list: see MayLook and LooksWithKeys
+use Rattle.std.specs.Prelude.{◌≡◌, ℕ, Bool, true, List, drop, Option, Some, None, option_map, is_some}
+use Rattle.std.specs.Coded.{Coded, code_by, coded_list, coded_option, coded_ℕ, coded×}
+use mathlib.Core.Path.{refl}
+use base.Fml.{Lft, Fml, ffalse}
+use mir.Val.{Val}
+use denote.RawPtr.{Ptr, block_ptr, null_ptr}
+use Rattle.seize_book.specs.Adding.{LooksWithKeys, MayLook}
+use Rattle.seize_book.specs.Book.{blocks}
+use Rattle.seize_book.specs.Entry.{Entry}
+use Rattle.seize_book.specs.Ledger.{HeldKey}
+use Rattle.seize_book.specs.Loans.{CarriesOne}
+use Rattle.seize_book.specs.Private.{is_one, label_of}
+use Rattle.seize_book.specs.Tokens.{Name, held_coded, name_coded}
+use Rattle.seize_book.specs.declared.book.keys.Keys.{Keys}
+use Rattle.seize_book.specs.declared.book.pass.Pass.{Pass}
+use Rattle.seize_words.specs.Atomic.{IsWordOf, site_of}
+use Rattle.seize_words.specs.Words.{Site, word_shares}
+use Rattle.seize_words.specs.contracts.link.still.StillWord as still
+use Rattle.seize_words.specs.contracts.word.Word as word
+use Rattle.seize_words.specs.declared.link.still.StillWord.{StillWord}
+
+pub record LinkSite : Type 0 where
+  pub name : Name
+  pub kind : ℕ
+  pub number : ℕ
+  pub still : Option (ℕ × List (HeldKey Entry))
+
+abbrev pub link_site_coded : Coded LinkSite
+link_site_coded =
+    code_by (Name × (ℕ × (ℕ × Option (ℕ × List (HeldKey Entry)))))
+    (coded× name_coded (coded× coded_ℕ (coded× coded_ℕ (coded_option (coded× coded_ℕ (coded_list held_coded))))))
+    (λ w. (w.name, (w.kind, (w.number, w.still))))
+    (λ t. record { name = t.0; kind = t.1.0; number = t.1.1.0; still = t.1.1.1 }) (λ _. refl)
+
+abbrev pub site_in : LinkSite → Site
+site_in w = record { name = w.name; kind = w.kind; number = w.number }
+
+abbrev pub shared_at : Site → LinkSite
+shared_at site = record { name = site.name; kind = site.kind; number = site.number; still = None }
+
+abbrev pub is_still : LinkSite → Bool
+is_still w = is_some w.still
+
+abbrev pub IsShared : LinkSite → Type 0
+IsShared w = w.still ≡ None
+
+abbrev pub standing : Name → ℕ × List (HeldKey Entry) → StillWord
+standing n t = record { bits = t.0; name = n; held = t.1 }
+
+abbrev pub still_word : LinkSite → Option StillWord
+still_word w = option_map (standing w.name) w.still
+
+abbrev pub owns_by : Site → Option (ℕ × List (HeldKey Entry)) → List Val → Fml
+owns_by site None vs = word.the_row.own_val site vs
+owns_by site (Some t) vs = still.the_row.own_val (standing site.name t) vs
+
+abbrev pub link_word_owns : LinkSite → List Val → Fml
+link_word_owns w vs = owns_by (site_in w) w.still vs
+
+-- as a `&` to a word that stands still holds
+abbrev pub still_shares : StillWord → Ptr → Lft → Fml
+still_shares w (block_ptr b o) κ = still.the_row.shr_at w b o κ
+still_shares w null_ptr κ = ffalse
+
+abbrev pub shares_by : Site → Option (ℕ × List (HeldKey Entry)) → Ptr → Lft → Fml
+shares_by site None p κ = word_shares site p κ
+shares_by site (Some t) p κ = still_shares (standing site.name t) p κ
+
+abbrev pub link_word_shares : LinkSite → Ptr → Lft → Fml
+link_word_shares w p κ = shares_by (site_in w) w.still p κ
+
+abbrev pub MayGlimpse : List (HeldKey Entry) → Type 0
+MayGlimpse held = (is_one blocks (drop 1 held) ≡ true) × CarriesOne (label_of (drop 1 held))
+
+-- its keys, as such
+abbrev pub keys_of : Name → List (HeldKey Entry) → Keys
+keys_of n held = record { marker = record {}; name = n; held = held }
+
+-- it stands still, holds this, and these are its keys
+abbrev pub StandsWith : LinkSite → ℕ × List (HeldKey Entry) → Type 0
+StandsWith w t = (w.still ≡ Some t) × IsWordOf (keys_of w.name t.1) t.0 × (site_of (keys_of w.name t.1) ≡ site_in w)
+
+abbrev pub StandsAs : LinkSite → LinkSite → Type 0
+StandsAs w w' = (t : ℕ × List (HeldKey Entry)) × StandsWith w' t × (site_in w' ≡ site_in w)
+
+abbrev pub StirsAs : LinkSite → Type 0
+StirsAs w = (t : ℕ × List (HeldKey Entry)) × StandsWith w t
+
+abbrev pub MayLookStill : LinkSite → Pass → Type 0
+MayLookStill w pass = (t : ℕ × List (HeldKey Entry)) × (w.still ≡ Some t) × MayLook (keys_of w.name t.1) pass
+
+abbrev pub LooksStill : LinkSite → Pass → LinkSite → Pass → Type 0
+LooksStill w pass w' pass' =
+    (t : ℕ × List (HeldKey Entry)) × (w.still ≡ Some t)
+    × (held : List (HeldKey Entry)) × (w' ≡ record w { still = Some (t.0, held) })
+    × LooksWithKeys (keys_of w.name t.1) pass (keys_of w.name held) pass'
