@@ -13,10 +13,12 @@ pub mod Links
 pub mod Activations
 pub mod LinkWords
 pub mod LinkRows
+pub mod Stands
 pub mod Reserved
 pub mod Chunk
 pub mod Chunks
 pub mod Noted
 pub mod Walks
 pub mod Named
+pub mod Rows
 pub mod Joined

@@ -7,7 +7,7 @@
 --     MayGlimpse held         the key of a value comes after the word's own, and something is lent with the value
 --     StandsAs w w'           a word that threads shared stands still, with its keys;  StirsAs w    one that stands so may be shared
 --     MayLookStill, LooksStill     its keys look at the list: see MayLook and LooksWithKeys
-use Rattle.std.specs.Prelude.{◌≡◌, ℕ, Bool, true, List, drop, Option, Some, None, option_map, is_some}
+use Rattle.std.specs.Prelude.{◌≡◌, ℕ, Bool, false, true, List, drop, Option, Some, None, option_map, is_some}
 use Rattle.std.specs.Coded.{Coded, code_by, coded_list, coded_option, coded_ℕ, coded×}
 use mathlib.Core.Path.{refl}
 use base.Fml.{Lft, Fml, ffalse}
@@ -51,7 +51,7 @@ abbrev pub is_still : LinkSite → Bool
 is_still w = is_some w.still
 
 abbrev pub IsShared : LinkSite → Type 0
-IsShared w = w.still ≡ None
+IsShared w = is_still w ≡ false
 
 abbrev pub standing : Name → ℕ × List (HeldKey Entry) → StillWord
 standing n t = record { bits = t.0; name = n; held = t.1 }

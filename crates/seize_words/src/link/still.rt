@@ -8,16 +8,16 @@ ghost use Rattle.seize_book.specs.Peeks.{keys_show};
 ghost use Rattle.seize_book.specs.Tokens.{Name, held_coded, keys_own, name_coded};
 
 use crate::glimpse::Glimpse;
+use seize_store::RowToken;
 use std::marker::{Model, PhantomData};
 
 /// The word of a link that stands still.
 pub(crate) struct StillWord {
-    /// The word.
-    pub(crate) bits: u64,
-    /// The book.
-    pub(crate) ghost name: { Name } by { name_coded },
-    /// The keys beside it, in order.
-    pub(crate) ghost held: { List (HeldKey Entry) } by { coded_list held_coded },
+    bits: u64,
+    // The book.
+    ghost name: { Name } by { name_coded },
+    // The keys beside it, in order.
+    ghost held: { List (HeldKey Entry) } by { coded_list held_coded },
 }
 
 impl Model for StillWord {
@@ -27,9 +27,28 @@ impl Model for StillWord {
 }
 
 impl StillWord {
-    ghost use Rattle.std.specs.Prelude.{◌≡◌, Some, drop};
-    ghost use Rattle.seize_book.specs.Private.{label_of};
+    ghost use Rattle.std.specs.Prelude.{◌≡◌, Some, drop, true};
+    ghost use Rattle.seize_book.specs.Book.{blocks};
+    ghost use Rattle.seize_book.specs.Lending.{IsRowAt};
+    ghost use Rattle.seize_book.specs.Private.{is_one, label_of};
     ghost use Rattle.seize_words.specs.LinkSites.{MayGlimpse};
+
+    /// The word.
+    pub(crate) fn word(&self) -> u64
+        ensures { result ≡ self.now.bits }
+    {
+        self.bits
+    }
+
+    /// What shows the row in which the value in the link lies.
+    pub(crate) fn row(&self) -> RowToken
+        requires { is_one blocks (drop 1 self.now.held) ≡ true }
+        ensures { IsRowAt self.now.name (label_of (drop 1 self.now.held)) result }
+    {
+        RowToken {
+            marker: PhantomData,
+        }
+    }
 
     /// What is lent with the value in the link, for as long as the word is borrowed.
     pub(crate) fn glimpse(&self) -> Glimpse<'_>

@@ -19,17 +19,13 @@ use Rattle.seize_book.specs.Tokens.{Name, leads}
 use Rattle.seize_book.proofs.Fields.{ends}
 use Rattle.seize_book.proofs.Peeks.{shows}
 use Rattle.seize_words.specs.LinkSites.{MayGlimpse}
+use Rattle.seize_words.proofs.Stands.{shown}
 use Rattle.seize_words.specs.contracts.glimpse.Glimpse as Glimpse
 use Rattle.seize_words.specs.contracts.link.still.StillWord as StillWord
 use Rattle.seize_words.specs.contracts.link.still.StillWord.glimpse.{ended, clauses}
 use Rattle.seize_words.specs.contracts.link.still.StillWord.glimpse.Key.{name as #self}
 use Rattle.seize_words.proofs.link.still.StillWord.glimpse.Statement.{statement}
 use Rattle.seize_words.proofs.link.still.StillWord.glimpse.Code as code
-
--- what the keys after the first show
-shown : {M : Type 1} {𝓤 : Ura M} (𝓛 : Logic 𝓤) (n : Name) (κ : Lft) (held : List (HeldKey Entry)) → ent 𝓤 (sem 𝓛 (keys_show n held κ)) (sem 𝓛 (keys_show n (rest 1 held) κ))
-shown 𝓛 n κ [] = qed 𝓛 (‵ (keys_show n [] κ) ∷ []) ∵ done !
-shown 𝓛 n κ (h ∷ held) = qed 𝓛 (‵ (keys_show n (h ∷ held) κ) ∷ []) ∵ fsplit ! $ drop ! $ done !
 
 pub glimpse_spec : {M : Type 1} → statement M
 glimpse_spec 𝓤 𝓛 𝓜 𝓡 wired =

@@ -9,6 +9,7 @@ use Rattle.seize_words.specs.Words.{ShowsWord, AreOtherKeys, site_keys, word_kno
 use Rattle.seize_words.specs.contracts.link.still.StillWord as Still
 use Rattle.seize_words.specs.contracts.link.word.LinkWord as LinkWord
 use Rattle.seize_words.specs.contracts.word.Word.TheInside as Inside
+use Rattle.seize_words.proofs.LinkSites.{not_still}
 use Rattle.seize_book.proofs.Fields.{ends}
 use Rattle.seize_words.specs.contracts.link.word.LinkWord.rest.{ended, clauses}
 use Rattle.seize_words.specs.contracts.link.word.LinkWord.rest.Key.{name as #self}
@@ -28,7 +29,7 @@ rest_spec 𝓤 𝓛 𝓜 𝓡 wired =
     -- [the word, in three entries; nothing; its token; nothing]
     keep ! (1 ∷ 2 ∷ 4 ∷ []) $
     enter ! 𝓣.C 𝓣.Λ fn (vptr b o ∷ []) Post $ alloc_all ! (λ l. pass_all ! refl ((tt, tt), tt) $
-    opens ! tt LinkWord.the_row b o (λ vs. move ! (1 ∷ []) $ fsplit ! $ move ! (1 ∷ []) $ rewrite ! 0 (λ (t : Option (ℕ × List (HeldKey Entry))). ‵ (owns_by (site_in w) t vs)) asked refl $
+    opens ! tt LinkWord.the_row b o (λ vs. move ! (1 ∷ []) $ fsplit ! $ move ! (1 ∷ []) $ rewrite ! 0 (λ (t : Option (ℕ × List (HeldKey Entry))). ‵ (owns_by (site_in w) t vs)) (not_still w asked) refl $
     -- [what a word owns; the type; its cell, in four entries]
     fsplit ! $ drop ! $ fpick ! (λ n. fsplit ! $ move ! (1 ∷ []) $ fpick ! (λ t. fsplit ! $ fpick ! (λ so. drop ! $
     -- [the keys; the fields; the type; its cell, in four entries]

@@ -1,6 +1,6 @@
 -- A `&` to a link's word that stands still is one to such a word.
 use Rattle.seize_book.proofs.Kit.{◌≡◌, ℕ, List, [], ◌∷◌, refl, proved, named, Val, vptr, SProp, emp, Lft, ftrue, fsep, flft, ‵, raw, ◌⊛◌, at_ret, ◌$◌, ◌∵◌, !, qed, by, move, keep, split, fsplit, fjoin, rewrite, feq_i, stop, addr, of_opd, first, blocks, exec, returns, enter, alloc_all, pass_all, free_all, look_at, get, through, sets, env, fact, fact_i, heard, tables, yes, owns, types_at, plain, RefOf, shr_vals, shr_Tells, nothing, Stays, stay_dropped, walk_of, Goes-dropped}
-use Rattle.std.proofs.Common.{true, Option, Some, None, is_some, option_map, ap}
+use Rattle.std.proofs.Common.{true, Option, option_map, ap}
 use base.Fml.{fhide}
 use types.ByLocal.{sets_last}
 use denote.RawPtr.{block_ptr}
@@ -9,15 +9,12 @@ use Rattle.seize_book.specs.Entry.{Entry}
 use Rattle.seize_book.specs.Ledger.{HeldKey}
 use Rattle.seize_words.specs.LinkSites.{LinkSite, is_still, shares_by, site_in, standing}
 use Rattle.seize_words.specs.contracts.link.word.LinkWord as LinkWord
+use Rattle.seize_words.proofs.LinkSites.{stands_still}
 use Rattle.seize_book.proofs.Fields.{ends}
 use Rattle.seize_words.specs.contracts.link.word.LinkWord.still.{ended, clauses}
 use Rattle.seize_words.specs.contracts.link.word.LinkWord.still.Key.{name as #self}
 use Rattle.seize_words.proofs.link.word.LinkWord.still.Statement.{statement}
 use Rattle.seize_words.proofs.link.word.LinkWord.still.Code as code
-
-there : {A : Type 0} (o : Option A) → is_some o ≡ true → (t : A) × (o ≡ Some t)
-there None is = absurd (cc)
-there (Some t) is = (t, refl)
 
 pub still_spec : {M : Type 1} → statement M
 still_spec 𝓤 𝓛 𝓜 𝓡 wired =
@@ -26,7 +23,7 @@ still_spec 𝓤 𝓛 𝓜 𝓡 wired =
     proved 𝓛 ended hs c 𝓜 𝓡 (Goes-dropped 𝓛 1 self yes (λ κs x f. refl), tt) #self fn (code.unfolded 𝓤 H 𝓜 𝓡 wired) (λ κs. (shr_vals, tt)) (λ κs. (shr_Tells (named 0) κs.0 LinkWord.the_row, tt)) (λ κs qs bounds a gh are.
     let b : ℕ = a.0.ref_ptr.0 in let o : ℕ = a.0.ref_ptr.1 in let κ : Lft = κs.0 in let w : LinkSite = a.0.now in
     let y : (walk_of 𝓛 ended hs c).Ghost = ((κs, qs, bounds, a, (vptr b o ∷ [], tt)), gh) in let Post : Val → SProp 𝓤 = (walk_of 𝓛 ended hs c).post y in let Asked : Type 0 = is_still w ≡ true in
-    qed 𝓛 ((‵ (fsep (flft κ qs.0) ftrue) ⊛ ‵ (owns (types_at ended.signature.params κs) a y.0.4)) ∷ raw (fact 𝓤 Asked) ∷ []) ∵ move ! (1 ∷ []) $ heard ! Asked (λ asked. split ! $ move ! (1 ∷ []) $ fsplit ! $ fsplit ! $ let t = there w.still asked in
+    qed 𝓛 ((‵ (fsep (flft κ qs.0) ftrue) ⊛ ‵ (owns (types_at ended.signature.params κs) a y.0.4)) ∷ raw (fact 𝓤 Asked) ∷ []) ∵ move ! (1 ∷ []) $ heard ! Asked (λ asked. split ! $ move ! (1 ∷ []) $ fsplit ! $ fsplit ! $ let t = stands_still w asked in
     -- [the reference; the word; nothing; the tokens]
     keep ! (1 ∷ 3 ∷ []) $ rewrite ! 0 (λ (t : Option (ℕ × List (HeldKey Entry))). ‵ (fhide (shares_by (site_in w) t (block_ptr b o) κ))) t.1 refl $
     enter ! 𝓣.C 𝓣.Λ fn (vptr b o ∷ []) Post $ alloc_all ! (λ l. pass_all ! refl ((tt, tt), tt) $
