@@ -1,22 +1,22 @@
 -- What the keys beside a link that stands still show and say of the value in it.
-use Rattle.std.proofs.Common.{◌≡◌, ℕ, ◌-◌, true, false, List, [], ◌∷◌, Option, Some, None, IfSome, is_some, refl, sym, ap, subst, ◌∙◌, arith, drop as rest}
+use Rattle.std.proofs.Common.{◌≡◌, ℕ, true, List, [], ◌∷◌, Option, Some, None, IfSome, is_some, refl, sym, ap, subst, ◌∙◌, drop as rest}
 use seplogic.Ra.Ura.{Ura}
 use base.Fml.{Lft}
 use base.Logic.{ent}
 use types.Kit.{‵, ◌$◌, ◌∵◌, !, qed, drop, fsplit, done}
 use types.Logic.{Logic, sem}
-use Rattle.seize_machine.specs.Machine.State.{are_distinct, has, link_at, linked_values}
+use Rattle.seize_machine.specs.Machine.State.{are_distinct, link_at, linked_values}
 use Rattle.seize_machine.proofs.Facts.{linked_named}
 use Rattle.seize_book.specs.Adding.{LooksWithKeys}
 use Rattle.seize_book.specs.Blocks.{link_word}
-use Rattle.seize_book.specs.Book.{after, blocks, links}
+use Rattle.seize_book.specs.Book.{after, links}
 use Rattle.seize_book.specs.Entry.{Entry}
 use Rattle.seize_book.specs.Fair.{Before}
 use Rattle.seize_book.specs.Homesteads.{state_seen}
 use Rattle.seize_book.specs.Ledger.{HeldKey, with_list}
 use Rattle.seize_book.specs.Loans.{CarriesOne}
 use Rattle.seize_book.specs.Peeks.{keys_show}
-use Rattle.seize_book.specs.Private.{is_one, label_of, own_of}
+use Rattle.seize_book.specs.Private.{own_of}
 use Rattle.seize_book.specs.Tokens.{IsSole, Name, start}
 use Rattle.seize_book.specs.declared.book.pass.Pass.{Pass}
 use Rattle.seize_book.proofs.Facts.{reached_after}
@@ -35,7 +35,6 @@ use Rattle.seize_words.proofs.Links.{key_later}
 pub shown : {M : Type 1} {𝓤 : Ura M} (𝓛 : Logic 𝓤) (n : Name) (κ : Lft) (held : List (HeldKey Entry)) → ent 𝓤 (sem 𝓛 (keys_show n held κ)) (sem 𝓛 (keys_show n (rest 1 held) κ))
 shown 𝓛 n κ [] = qed 𝓛 (‵ (keys_show n [] κ) ∷ []) ∵ done !
 shown 𝓛 n κ (h ∷ held) = qed 𝓛 (‵ (keys_show n (h ∷ held) κ) ∷ []) ∵ fsplit ! $ drop ! $ done !
-
 
 -- Once its keys have looked at the list, they know what the list says.
 module _ (n : Name) (l : ℕ) (own : List Entry) (vs : List (HeldKey Entry)) (bits id : ℕ) (seen log : List Entry) (distinct : are_distinct (linked_values n.links) ≡ true) (before : Before n id seen (site_keys (at_link n l) own vs) log) where

@@ -106,7 +106,9 @@ impl Link {
         ensures sees { Sees self.now activation.now pass.old pass.new result.0 result.1 }
     {
         let mut keys = Keys::empty(pass);
-        self.word.shared().see_in::<Brand>(&mut keys, activation, pass)
+        self.word
+            .shared()
+            .see_in::<Brand>(&mut keys, activation, pass)
     }
 
     /// Puts a value that was never named into the link, or none: the event `ExchangeLink` of the activation's slot. All values that lay in

@@ -1,4 +1,4 @@
-use Rattle.std.proofs.Common.{ℕ, Option, IfSome, is_some, refl, sym, ap, subst, ◌∙◌, arith}
+use Rattle.std.proofs.Common.{IfSome, is_some, refl, sym, ap, subst, ◌∙◌, arith}
 use Rattle.seize_words.specs.Chunks.{blocks_book}
 use Rattle.seize_words.specs.LinkWords.{link_book}
 use Rattle.seize_words.specs.Stands.{LeadsTo}

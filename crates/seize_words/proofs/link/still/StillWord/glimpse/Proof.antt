@@ -1,8 +1,8 @@
 -- `glimpse` shows what is lent with the value whose key stands beside the word, for as long as that is borrowed.
-use Rattle.seize_book.proofs.Kit.{ℕ, List, [], ◌∷◌, refl, proved, Val, vptr, SProp, ent, emp, Lft, ftrue, fsep, flft, Logic, Ura, sem, ‵, raw, ◌⊛◌, ◌$◌, ◌∵◌, !, qed, by, move, keep, drop, split, fsplit, fjoin, use0, use1, done, no_more, and_then, returns, enter, alloc_all, pass_all, free_all, look_at, get, sets, agg, fact, fact_i, heard, tables, yes, RattleType, owns, types_at, plain, RefOf, shr_vals, shr_Tells, unhide, nothing, Stays, stay_dropped, walk_of, Goes-dropped, named}
+use Rattle.seize_book.proofs.Kit.{ℕ, [], ◌∷◌, refl, proved, Val, vptr, SProp, emp, Lft, ftrue, fsep, flft, ‵, raw, ◌⊛◌, ◌$◌, ◌∵◌, !, qed, by, move, keep, drop, split, fsplit, fjoin, use0, use1, no_more, and_then, returns, enter, alloc_all, pass_all, free_all, look_at, get, sets, agg, fact, fact_i, heard, tables, yes, RattleType, owns, types_at, plain, RefOf, shr_vals, shr_Tells, unhide, nothing, Stays, stay_dropped, walk_of, Goes-dropped, named}
 use Rattle.std.proofs.Common.{Some, drop as rest}
 use base.Fml.{fhide}
-use denote.Builtin.{unit, u64}
+use denote.Builtin.{unit}
 use denote.Memory.{hidden_shr}
 use denote.Ref.{ShrRef}
 use denote.Signature.{named_lft}
@@ -10,12 +10,10 @@ use denote.Struct.Lending.{lent_out}
 use denote.Struct.Owning.{shape, to}
 use denote.Struct.Struct.{Struct}
 use Rattle.seize_content.proofs.Fields.{token, Marked, marked_made}
-use Rattle.seize_book.specs.Entry.{Entry}
-use Rattle.seize_book.specs.Ledger.{HeldKey}
 use Rattle.seize_book.specs.Loans.{loan_of}
 use Rattle.seize_book.specs.Peeks.{keys_show, sight_if}
 use Rattle.seize_book.specs.Private.{label_of}
-use Rattle.seize_book.specs.Tokens.{Name, leads}
+use Rattle.seize_book.specs.Tokens.{leads}
 use Rattle.seize_book.proofs.Fields.{ends}
 use Rattle.seize_book.proofs.Peeks.{shows}
 use Rattle.seize_words.specs.LinkSites.{MayGlimpse}

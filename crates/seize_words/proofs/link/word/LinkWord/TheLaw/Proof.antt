@@ -1,7 +1,6 @@
 -- A `&` to a link's word is made of a borrow of it: as that of a word, or of one that stands still. Assumes `Logic`.
 use Rattle.std.proofs.Common.{ℕ, List, Option, Some, None}
 use seplogic.Ra.Ura.{Ura}
-use base.Fml.{Lft}
 use types.Logic.{Logic}
 use denote.Memory.{part_of, shared_of}
 use denote.RattleType.{RattleType}

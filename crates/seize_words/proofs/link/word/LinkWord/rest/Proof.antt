@@ -1,14 +1,11 @@
 -- `rest` leaves the memory as it is: what stood beside the word, as its keys show, is what the keys own.
-use Rattle.seize_book.proofs.Kit.{◌≡◌, ℕ, List, [], ◌∷◌, refl, sym, proved, named, Val, vptr, vunit, SProp, emp, Fml, ftrue, fsep, fex, flft, ‵, ◌⊛◌, given, ◌$◌, ◌∵◌, !, qed, by, move, keep, drop, split, fsplit, fsplit3, fjoin, fjoin3, fpick, fpack, learn, rewrite, feq_i, unit_lit, of_opd, returns, enter, alloc_all, pass_all, free_all, look_at, sets, fact_i, tables, RattleType, owns, types_at, plain, mut_vals, mut_Tells, nothing, opens, closes, Stays, stay_ref, walk_of, Goes-ref}
-use Rattle.std.proofs.Common.{Option, Some, None, ap}
+use Rattle.seize_book.proofs.Kit.{ℕ, List, [], ◌∷◌, refl, proved, named, Val, vptr, vunit, SProp, emp, ftrue, fsep, flft, ‵, ◌⊛◌, given, ◌$◌, ◌∵◌, !, qed, by, move, keep, drop, split, fsplit, fsplit3, fjoin, fjoin3, fpick, learn, rewrite, feq_i, unit_lit, of_opd, returns, enter, alloc_all, pass_all, free_all, look_at, sets, fact_i, tables, owns, types_at, plain, mut_vals, mut_Tells, nothing, opens, closes, Stays, stay_ref, walk_of, Goes-ref}
+use Rattle.std.proofs.Common.{Option, Some}
 use Rattle.seize_book.specs.Entry.{Entry}
 use Rattle.seize_book.specs.Ledger.{HeldKey}
-use Rattle.seize_book.specs.Tokens.{keys_own}
-use Rattle.seize_words.specs.LinkSites.{LinkSite, owns_by, site_in, standing}
-use Rattle.seize_words.specs.Words.{ShowsWord, AreOtherKeys, site_keys, word_knows}
-use Rattle.seize_words.specs.contracts.link.still.StillWord as Still
+use Rattle.seize_words.specs.LinkSites.{LinkSite, owns_by, site_in}
+use Rattle.seize_words.specs.Words.{site_keys}
 use Rattle.seize_words.specs.contracts.link.word.LinkWord as LinkWord
-use Rattle.seize_words.specs.contracts.word.Word.TheInside as Inside
 use Rattle.seize_words.proofs.LinkSites.{not_still}
 use Rattle.seize_book.proofs.Fields.{ends}
 use Rattle.seize_words.specs.contracts.link.word.LinkWord.rest.{ended, clauses}

@@ -1,15 +1,13 @@
 -- `stir` leaves the memory as it is: what the keys own stands beside the word.
-use Rattle.seize_book.proofs.Kit.{◌≡◌, ℕ, List, [], ◌∷◌, refl, sym, proved, named, Val, vptr, vunit, SProp, emp, Fml, ftrue, fsep, fex, flft, ‵, ◌⊛◌, given, ◌$◌, ◌∵◌, !, qed, by, move, keep, drop, split, fsplit, fsplit3, fjoin, fjoin3, fpick, fpack, learn, rewrite, feq_i, unit_lit, of_opd, returns, enter, alloc_all, pass_all, free_all, look_at, sets, fact_i, tables, RattleType, owns, types_at, plain, mut_vals, mut_Tells, nothing, opens, closes, Stays, stay_ref, walk_of, Goes-ref}
-use Rattle.std.proofs.Common.{Option, Some, None, drop as rest, subst}
+use Rattle.seize_book.proofs.Kit.{ℕ, List, [], ◌∷◌, refl, proved, named, Val, vptr, vunit, SProp, emp, ftrue, fsep, flft, ‵, ◌⊛◌, given, ◌$◌, ◌∵◌, !, qed, by, move, keep, drop, split, fsplit, fsplit3, fjoin, fjoin3, fpick, fpack, learn, rewrite, feq_i, unit_lit, of_opd, returns, enter, alloc_all, pass_all, free_all, look_at, sets, fact_i, tables, owns, types_at, plain, mut_vals, mut_Tells, nothing, opens, closes, Stays, stay_ref, walk_of, Goes-ref}
+use Rattle.std.proofs.Common.{Option, drop as rest, subst}
 use denote.Laws.{Typed}
 use Rattle.seize_book.specs.Entry.{Entry}
 use Rattle.seize_book.specs.Ledger.{HeldKey}
 use Rattle.seize_book.specs.Tokens.{keys_own}
 use Rattle.seize_book.specs.Private.{own_of}
-use Rattle.seize_words.specs.Atomic.{site_of}
-use Rattle.seize_words.specs.LinkSites.{LinkSite, keys_of, owns_by, shared_at, site_in}
+use Rattle.seize_words.specs.LinkSites.{LinkSite, owns_by, shared_at, site_in}
 use Rattle.seize_words.specs.Words.{Site, ShowsWord, AreOtherKeys, site_keys, word_knows, word_owns}
-use Rattle.seize_words.specs.contracts.link.still.StillWord as Still
 use Rattle.seize_words.specs.contracts.link.word.LinkWord as LinkWord
 use Rattle.seize_words.specs.contracts.word.Word.TheInside as Inside
 use Rattle.seize_book.proofs.Fields.{ends}
