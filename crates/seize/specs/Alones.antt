@@ -5,7 +5,7 @@
 --     IsSame a a'       it is the same collector: by its list, its batch size, its id and how many links it has
 --     IsAlone code words porter numbers places made ender hands     what is so of its parts: all are of one list. The porter is at home.
 --                       The hands hold the state, which what the porter has seen shows, with the batch size; and so many slots were made.
---                       What lies in the places is what the state says of the slots
+--                       The links stand still, and hold what the state says, and what lies in the places is what it says of the slots
 use Rattle.std.specs.Prelude.{◌≡◌, ℕ, List, Option, length, true}
 use mathlib.Core.Path.{refl}
 use base.Stored.{Coded, Gv, coded×, coded_ℕ}
@@ -19,6 +19,7 @@ use Rattle.seize_alone.specs.Holding.{Holds}
 use Rattle.seize.specs.Enders.{IsEnderOf}
 use Rattle.seize.specs.Placing.{ArePlaces}
 use Rattle.seize.specs.States.{state_coded}
+use Rattle.seize.specs.Stillness.{AreStill}
 use Rattle.seize.specs.declared.alone.hands.Hands.{Hands}
 use Rattle.seize.specs.declared.alone.place.Place.{Place}
 use Rattle.seize.specs.declared.ender.Ender.{Ender}
@@ -48,5 +49,6 @@ pub record IsAlone {T R : Type 0} (code : T → Gv) (words : Words T) (porter : 
   pub counted : made ≡ length hands.state.slots
   pub sized : hands.state.size ≡ words.size
   pub linked : length hands.state.links ≡ length (words_book words).links
+  pub stand : AreStill code words.links hands.state.links
   pub placed : ArePlaces (words_book words) hands.state places
   pub holds : Holds code hands.state hands.names hands.kinds porter.name porter.seen

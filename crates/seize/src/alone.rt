@@ -38,8 +38,7 @@ use seize_words::words::Words;
 use std::alloc::Global;
 use std::marker::{Brand, Model};
 
-/// A collector in one caller's hands. No call waits, and each returns, but for what a reclaimer, a watch, the `Drop` of a value or the
-/// closure of `look` does.
+/// A collector in one caller's hands. No call waits, and each returns, but for what a reclaimer, a watch or the `Drop` of a value does.
 ///
 /// Its drop is that of a collector which threads share: first what is in use ends, then what waits is reclaimed, slot by slot, and then
 /// each value in a link goes to the reclaimer. For the order of `reclaim_all`, and a watch, call that first.

@@ -6,13 +6,11 @@
 --                             that where the value lies, in the store of book n
 use Rattle.std.specs.Prelude.{◌≡◌, ℕ, List, drop, Option, IfSome}
 use Rattle.seize_book.specs.Blocks.{link_word}
-use Rattle.seize_book.specs.Entry.{Entry}
-use Rattle.seize_book.specs.Ledger.{HeldKey}
 use Rattle.seize_book.specs.Lending.{IsRowAt}
 use Rattle.seize_book.specs.Loans.{CarriesOne}
 use Rattle.seize_book.specs.Tokens.{Name}
 use Rattle.seize_store.specs.declared.row_token.RowToken.{RowToken}
-use Rattle.seize_words.specs.LinkSites.{IsShared, StandsWith}
+use Rattle.seize_words.specs.LinkSites.{IsShared, KeyRow, StandsWith, keys_in}
 use Rattle.seize_words.specs.LinkWords.{link_book, link_number}
 use Rattle.seize_words.specs.Links.{value_in}
 use Rattle.seize_words.specs.declared.glimpse.Glimpse.{Glimpse}
@@ -25,9 +23,9 @@ abbrev pub IsSameLink : Link → Link → Type 0
 IsSameLink link link' = (link_book link' ≡ link_book link) × (link_number link' ≡ link_number link)
 
 pub record Stands (link : Link) (held : Option ℕ) : Type 0 where
-  pub keys : ℕ × List (HeldKey Entry)
+  pub keys : ℕ × List KeyRow
   pub stands : StandsWith link.word keys
-  pub holds : value_in (drop 1 keys.1) ≡ held
+  pub holds : value_in (drop 1 (keys_in keys.1)) ≡ held
   pub lent : IfSome held CarriesOne
 
 abbrev pub LeadsTo : Name → Option ℕ → ℕ → RowToken → Glimpse → Type 0

@@ -7,10 +7,12 @@ ghost use Rattle.seize.specs.Enders.{IsEnderOf};
 ghost use Rattle.seize.specs.Laws.{HaveContents};
 ghost use Rattle.seize.specs.Placing.{MayLay};
 ghost use Rattle.seize.specs.Resting.{ComesToRest};
+ghost use Rattle.seize.specs.Stillness.{AllStill};
 ghost use Rattle.seize.specs.declared.alone.place.Place.{Place};
 
 use crate::alone::Alone;
 use crate::alone::hands::Hands;
+use crate::alone::links::still;
 use crate::alone::place::{Place, Unit, Within};
 use crate::collector::Collector;
 use crate::ender::Ender;
@@ -81,6 +83,8 @@ impl<T: Drop, R: Reclaim<T>> Collector<T, R> {
             });
         };
         let hands = Hands::first::<Brand>(&porter);
+        let mut words = words;
+        still(&mut words.links, &mut porter);
         Ok(Alone {
             words,
             porter,
@@ -125,7 +129,8 @@ fn lay_all<T: Drop>(places: &mut Vec<Option<Place<T>>>, porter: &Porter)
     }
 }
 
-/// The collector of these parts, for threads to share. What lies in the places stays in use, as if its holder had been forgotten.
+/// The collector of these parts, for threads to share, as are its links. What lies in the places stays in use, as if its holder had been
+/// forgotten.
 pub(super) fn shared<T: Drop, R: Reclaim<T>>(
     words: Words<T>,
     porter: Porter,
@@ -138,11 +143,12 @@ pub(super) fn shared<T: Drop, R: Reclaim<T>>(
     requires porter { (porter.name ≡ words_book words) × (porter.size ≡ words.size) }
     requires numbers { numbers ≡ (words_book words).family }
     requires ender { IsEnderOf words (box_value ender) }
+    requires still { AllStill words.links }
     requires places { (s : ℕ) (place : Place T) → get_or places.items s None ≡ Some place → MayLay (words_book words) place }
     ensures same { (its_book result ≡ words_book words) × (its_size result ≡ words.size) × (its_id result ≡ id) }
 {
-    let mut porter = porter;
-    let mut places = places;
+    let (mut words, mut porter, mut places) = (words, porter, places);
+    words.links.stir();
     porter.leave_home();
     lay_all(&mut places, &porter);
     Collector {

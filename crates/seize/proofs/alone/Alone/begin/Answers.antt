@@ -53,7 +53,7 @@ invariant_of-self g c =
     let now : c.of.result.state ≡ set_guards st s 1 = c.of.ensures.0 in
     alone_again a stay c.of.result c.back.new.places.items inside.made
     (a.counted ∙ sym (ap (λ (x : State g.row.T.Denot ℕ). length x.slots) now ∙ length-set st.slots s slot'))
-    (ap (λ (x : State g.row.T.Denot ℕ). x.size) now) (ap (λ (x : State g.row.T.Denot ℕ). length x.links) now)
+    (ap (λ (x : State g.row.T.Denot ℕ). x.size) now) (ap (λ (x : State g.row.T.Denot ℕ). x.links) now)
     (subst (λ (x : State g.row.T.Denot ℕ). ArePlaces n x c.back.new.places.items) (sym now)
     (laid n st s slot' items c.out-owned.new.places.items c.back.new.places.items _ a.placed there c.out-owned.ensures.places.1 c.out-owned.ensures.places.0 c.back.ensures used
     (λ j. ((is j).0, (1, ((stay.gives.0 ∙ ap (λ (t : Lies). t.1.1.0) is) j, (Some ((had.gives.2 ∙ at.1) j, had.gives.1.0.book j), (is j).1.1.1.1)))))))

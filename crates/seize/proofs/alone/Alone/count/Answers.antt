@@ -44,7 +44,7 @@ invariant_of-self g c =
     let unit = ap (λ (t : Lies). t.1.1.1.0) is ∙ ap (λ (b : Bool). if b then Some (s, n) else None) same in
     alone_still a c.of.result c.back.new.places.items
     (ap (λ (x : State g.row.T.Denot ℕ). length x.slots) now ∙ length-set st.slots s slot')
-    (ap (λ (x : State g.row.T.Denot ℕ). x.size) now) (ap (λ (x : State g.row.T.Denot ℕ). length x.links) now)
+    (ap (λ (x : State g.row.T.Denot ℕ). x.size) now) (ap (λ (x : State g.row.T.Denot ℕ). x.links) now)
     (subst (λ (x : State g.row.T.Denot ℕ). ArePlaces n x c.back.new.places.items) (sym now)
     (laid n st s slot' items c.out-place.new.places.items c.back.new.places.items _ a.placed there c.out-place.ensures.places.1 c.out-place.ensures.places.0 c.back.ensures used
     (λ j. ((is j).0, (c.args.guards, ((is j).1.1.0, (unit j, (is j).1.1.1.1)))))))

@@ -53,7 +53,7 @@ invariant_of-self g c =
     alone_again a stay c.of.result c.back.new.places.items inside.made
     (a.counted ∙ sym (ap (λ (x : State g.row.T.Denot ℕ). length x.slots) now ∙ slots_in then (set_guards st s 0) same ∙ length-set st.slots s slot'))
     (ap (λ (x : State g.row.T.Denot ℕ). x.size) now ∙ parts_size P.puts P.weight st s)
-    (ap (λ (x : State g.row.T.Denot ℕ). length x.links) now ∙ ap (λ (l : List (Option g.row.T.Denot)). length l) (part_links P.puts P.weight st s))
+    (ap (λ (x : State g.row.T.Denot ℕ). x.links) now ∙ part_links P.puts P.weight st s)
     (subst (λ (x : State g.row.T.Denot ℕ). ArePlaces n x c.back.new.places.items) (sym now)
     (places_still n (set_guards st s 0) then c.back.new.places.items same
     (laid n st s slot' items c.out-owned.new.places.items c.back.new.places.items _ a.placed there c.out-owned.ensures.places.1 c.out-owned.ensures.places.0 c.back.ensures used

@@ -6,4 +6,4 @@ use Rattle.seize.proofs.alone.Alone.share.Goals as goal
 pub shared-requires : goal.shared-requires
 shared-requires g c =
     let a = c.self.invariant in let inside = c.self.inside in let n = words_book inside.words in
-    (omega arith, (omega arith, ((a.lends.0, a.lends.1), (a.numbered, (a.ends, λ s place is. may_lay n n inside.hands.state inside.places.items a.placed refl s place is)))))
+    (omega arith, (omega arith, ((a.lends.0, a.lends.1), (a.numbered, (a.ends, ((λ l less. let stands = a.stand l less in (stands.0, stands.1)), λ s place is. may_lay n n inside.hands.state inside.places.items a.placed refl s place is))))))

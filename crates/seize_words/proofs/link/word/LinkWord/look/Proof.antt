@@ -7,10 +7,11 @@ use Rattle.seize_book.specs.Fair.{Before}
 use Rattle.seize_book.specs.Ledger.{HeldKey, with_list}
 use Rattle.seize_book.specs.Tokens.{Name, keys_own, pass_owns}
 use Rattle.seize_book.specs.contracts.book.pass.Pass as Pass
-use Rattle.seize_words.specs.LinkSites.{LinkSite, owns_by, site_in}
+use Rattle.seize_words.specs.LinkSites.{KeyRow, keys_in, rows_of, LinkSite, owns_by, site_in}
 use Rattle.seize_words.specs.contracts.link.word.LinkWord as LinkWord
 use Rattle.seize_book.proofs.Looks.{looks_now}
 use Rattle.seize_book.proofs.Passes.{IsDistinct}
+use Rattle.seize_words.proofs.LinkSites.{keys_back}
 use Rattle.seize_book.proofs.Fields.{ends}
 use Rattle.seize_words.specs.contracts.link.word.LinkWord.look.{ended, clauses}
 use Rattle.seize_words.specs.contracts.link.word.LinkWord.look.Key.{name as #self}
@@ -31,17 +32,17 @@ look_spec 𝓤 𝓛 𝓜 𝓡 wired =
     keep ! (1 ∷ 2 ∷ 5 ∷ 6 ∷ 7 ∷ 9 ∷ []) $
     enter ! 𝓣.C 𝓣.Λ fn (vptr pb po ∷ vptr rb ro ∷ []) Post $ alloc_all ! (λ l. pass_all ! refl ((tt, tt), ((tt, tt), tt)) $
     -- [the pass, in two; the keys, in two; the pass's token; the keys's token]
-    move ! (2 ∷ 3 ∷ 5 ∷ []) $ opens ! tt LinkWord.the_row pb po (λ vs0. move ! (1 ∷ []) $ fsplit ! $ move ! (1 ∷ []) $ rewrite ! 0 (λ (z : Option (ℕ × List (HeldKey Entry))). ‵ (owns_by (site_in p) z vs0)) asked.1 refl $
-    let t : ℕ × List (HeldKey Entry) = asked.0 in let may = asked.2 in
-    fsplit ! $ move ! (1 ∷ []) $ rewrite ! 0 (λ (z : Name). ‵ (keys_own z t.1)) may.0 refl $
+    move ! (2 ∷ 3 ∷ 5 ∷ []) $ opens ! tt LinkWord.the_row pb po (λ vs0. move ! (1 ∷ []) $ fsplit ! $ move ! (1 ∷ []) $ rewrite ! 0 (λ (z : Option (ℕ × List KeyRow)). ‵ (owns_by (site_in p) z vs0)) asked.1 refl $
+    let t : ℕ × List KeyRow = asked.0 in let held : List (HeldKey Entry) = keys_in t.1 in let may = asked.2 in
+    fsplit ! $ move ! (1 ∷ []) $ rewrite ! 0 (λ (z : Name). ‵ (keys_own z held)) may.0 refl $
     -- [the rights; the fields; the type; its cell, in four entries; the pass, in two; its token]
     move ! (7 ∷ 8 ∷ 9 ∷ []) $ opens_pass ! tt ℓ r rb ro (λ vs1.
     -- [what the pass owns; the pass; its cell, in four entries; the rights; the keys; its cell]
-    move ! (0 ∷ 6 ∷ []) $ use2 𝓛 (later (some (λ (log : List Entry). given (Before r.name r.id r.seen t.1 log × IsDistinct 𝓛 r.name) (‵ (pass_owns r.name r.id log) ⊛ ‵ (keys_own r.name (with_list t.1 log))))))
-    (looks_now 𝓛 r.name r.id r.seen t.1 may.1) $ await ! tt $ pick ! (λ log. learn ! (λ so. split ! $
+    move ! (0 ∷ 6 ∷ []) $ use2 𝓛 (later (some (λ (log : List Entry). given (Before r.name r.id r.seen held log × IsDistinct 𝓛 r.name) (‵ (pass_owns r.name r.id log) ⊛ ‵ (keys_own r.name (with_list held log))))))
+    (looks_now 𝓛 r.name r.id r.seen held may.1) $ await ! tt $ pick ! (λ log. learn ! (λ so. split ! $
     -- [what the pass owns; the rights; the pass; its cell, in four entries; the keys; its cell]
-    let r' : (Pass.the_row ℓ).Denot = record r { seen = log } in let p' : LinkSite = record p { still = Some (t.0, with_list t.1 log) } in
-    move ! (1 ∷ []) $ rewrite ! 0 (λ (z : Name). ‵ (keys_own z (with_list t.1 log))) (sym may.0) refl $ move ! (2 ∷ 1 ∷ []) $ join ! $ move ! (2 ∷ 0 ∷ 3 ∷ 4 ∷ 5 ∷ []) $ closes_pass ! tt ℓ r' refl vs1 rb ro $
+    let r' : (Pass.the_row ℓ).Denot = record r { seen = log } in let rows : List KeyRow = rows_of (with_list held log) in let p' : LinkSite = record p { still = Some (t.0, rows) } in
+    move ! (1 ∷ []) $ rewrite ! 0 (λ (z : Name). ‵ (keys_own z (with_list held log))) (sym may.0) refl $ rewrite ! 0 (λ (hs : List (HeldKey Entry)). ‵ (keys_own p.name hs)) (sym (keys_back (with_list held log))) refl $ move ! (2 ∷ 1 ∷ []) $ join ! $ move ! (2 ∷ 0 ∷ 3 ∷ 4 ∷ 5 ∷ []) $ closes_pass ! tt ℓ r' refl vs1 rb ro $
     -- [the pass, in two; its token; the rights; the fields; the type; its cell]
     move ! (4 ∷ 3 ∷ []) $ fjoin ! $ move ! (4 ∷ 0 ∷ []) $ fjoin ! $ move ! (4 ∷ 0 ∷ 5 ∷ 6 ∷ 7 ∷ []) $ closes ! tt LinkWord.the_row p' vs0 pb po $
     -- [the keys, in two; its token; the pass, in two; its token]
@@ -50,4 +51,4 @@ look_spec 𝓤 𝓛 𝓜 𝓡 wired =
     -- [the tokens; the result; the keys, in two; the pass, in two]
     nothing ! $ feq_i ! (List Val) (vptr rb ro ∷ []) (vptr rb ro ∷ []) refl $ move ! (0 ∷ 6 ∷ 7 ∷ []) $ fjoin3 ! $ fjoin ! $ feq_i ! (List Val) (vptr pb po ∷ []) (vptr pb po ∷ []) refl $ move ! (0 ∷ 4 ∷ 5 ∷ []) $ fjoin3 ! $ fjoin ! $
     returns ! (look_at ! 0 refl) $ free_all ! refl $ keep ! (1 ∷ 0 ∷ 2 ∷ []) $
-    by ! (ends 𝓛 ended hs c y vunit tt (p', (r', tt)) (tt, (tt, tt)) (fact_i 𝓤 _ (emp 𝓤) (t, asked.1, with_list t.1 log, refl, ((refl, refl, refl), (refl, refl), so.0, so.1)))))))))))
+    by ! (ends 𝓛 ended hs c y vunit tt (p', (r', tt)) (tt, (tt, tt)) (fact_i 𝓤 _ (emp 𝓤) (t, asked.1, rows, refl, ((refl, refl, refl), (refl, keys_back (with_list held log)), so.0, so.1)))))))))))

@@ -1,12 +1,14 @@
 -- `rest` leaves the memory as it is: what stood beside the word, as its keys show, is what the keys own.
 use Rattle.seize_book.proofs.Kit.{ℕ, List, [], ◌∷◌, refl, proved, named, Val, vptr, vunit, SProp, emp, ftrue, fsep, flft, ‵, ◌⊛◌, given, ◌$◌, ◌∵◌, !, qed, by, move, keep, drop, split, fsplit, fsplit3, fjoin, fjoin3, fpick, learn, rewrite, feq_i, unit_lit, of_opd, returns, enter, alloc_all, pass_all, free_all, look_at, sets, fact_i, tables, owns, types_at, plain, mut_vals, mut_Tells, nothing, opens, closes, Stays, stay_ref, walk_of, Goes-ref}
-use Rattle.std.proofs.Common.{Option, Some}
+use Rattle.std.proofs.Common.{Option, Some, subst, sym}
+use Rattle.seize_book.specs.Tokens.{keys_own}
+use Rattle.seize_words.specs.Atomic.{IsWordOf}
 use Rattle.seize_book.specs.Entry.{Entry}
 use Rattle.seize_book.specs.Ledger.{HeldKey}
-use Rattle.seize_words.specs.LinkSites.{LinkSite, owns_by, site_in}
+use Rattle.seize_words.specs.LinkSites.{KeyRow, LinkSite, owns_by, rows_of, site_in}
 use Rattle.seize_words.specs.Words.{site_keys}
 use Rattle.seize_words.specs.contracts.link.word.LinkWord as LinkWord
-use Rattle.seize_words.proofs.LinkSites.{not_still}
+use Rattle.seize_words.proofs.LinkSites.{keys_back, not_still}
 use Rattle.seize_book.proofs.Fields.{ends}
 use Rattle.seize_words.specs.contracts.link.word.LinkWord.rest.{ended, clauses}
 use Rattle.seize_words.specs.contracts.link.word.LinkWord.rest.Key.{name as #self}
@@ -26,11 +28,12 @@ rest_spec 𝓤 𝓛 𝓜 𝓡 wired =
     -- [the word, in three entries; nothing; its token; nothing]
     keep ! (1 ∷ 2 ∷ 4 ∷ []) $
     enter ! 𝓣.C 𝓣.Λ fn (vptr b o ∷ []) Post $ alloc_all ! (λ l. pass_all ! refl ((tt, tt), tt) $
-    opens ! tt LinkWord.the_row b o (λ vs. move ! (1 ∷ []) $ fsplit ! $ move ! (1 ∷ []) $ rewrite ! 0 (λ (t : Option (ℕ × List (HeldKey Entry))). ‵ (owns_by (site_in w) t vs)) (not_still w asked) refl $
+    opens ! tt LinkWord.the_row b o (λ vs. move ! (1 ∷ []) $ fsplit ! $ move ! (1 ∷ []) $ rewrite ! 0 (λ (t : Option (ℕ × List KeyRow)). ‵ (owns_by (site_in w) t vs)) (not_still w asked) refl $
     -- [what a word owns; the type; its cell, in four entries]
     fsplit ! $ drop ! $ fpick ! (λ n. fsplit ! $ move ! (1 ∷ []) $ fpick ! (λ t. fsplit ! $ fpick ! (λ so. drop ! $
     -- [the keys; the fields; the type; its cell, in four entries]
-    let held : List (HeldKey Entry) = site_keys (site_in w) t.0 t.1 in let w' : LinkSite = record w { still = Some (n, held) } in
+    let held : List (HeldKey Entry) = site_keys (site_in w) t.0 t.1 in let rows : List KeyRow = rows_of held in let w' : LinkSite = record w { still = Some (n, rows) } in
+    rewrite ! 0 (λ (hs : List (HeldKey Entry)). ‵ (keys_own w.name hs)) (sym (keys_back held)) refl $
     move ! (1 ∷ 0 ∷ []) $ fjoin ! $ move ! (1 ∷ 0 ∷ []) $ fjoin ! $ move ! (1 ∷ 0 ∷ 2 ∷ 3 ∷ 4 ∷ []) $
     closes ! tt LinkWord.the_row w' vs b o $
     -- [the word, in two; its token]
@@ -39,4 +42,4 @@ rest_spec 𝓤 𝓛 𝓜 𝓡 wired =
     -- [the tokens; the result; the word, in two]
     nothing ! $ feq_i ! (List Val) (vptr b o ∷ []) (vptr b o ∷ []) refl $ move ! (0 ∷ 4 ∷ 5 ∷ []) $ fjoin3 ! $ fjoin ! $
     returns ! (look_at ! 0 refl) $ free_all ! refl $ keep ! (1 ∷ 0 ∷ 2 ∷ []) $
-    by ! (ends 𝓛 ended hs c y vunit tt (w', tt) (tt, tt) (fact_i 𝓤 _ (emp 𝓤) ((n, held), (refl, (refl, so.0, so.1), refl), refl))))))))))
+    by ! (ends 𝓛 ended hs c y vunit tt (w', tt) (tt, tt) (fact_i 𝓤 _ (emp 𝓤) ((n, rows), (refl, subst (λ (hs : List (HeldKey Entry)). IsWordOf (record { marker = record {}; name = w.name; held = hs }) n) (sym (keys_back held)) (refl, so.0, so.1), refl), refl))))))))))

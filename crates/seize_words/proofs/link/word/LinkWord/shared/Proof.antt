@@ -5,9 +5,7 @@ use base.Fml.{fhide}
 use types.ByLocal.{sets_last}
 use denote.RawPtr.{block_ptr}
 use Rattle.std.proofs.VecSteps.Shapes.{after}
-use Rattle.seize_book.specs.Entry.{Entry}
-use Rattle.seize_book.specs.Ledger.{HeldKey}
-use Rattle.seize_words.specs.LinkSites.{LinkSite, IsShared, shares_by, site_in}
+use Rattle.seize_words.specs.LinkSites.{KeyRow, LinkSite, IsShared, shares_by, site_in}
 use Rattle.seize_words.specs.contracts.link.word.LinkWord as LinkWord
 use Rattle.seize_words.proofs.LinkSites.{not_still}
 use Rattle.seize_book.proofs.Fields.{ends}
@@ -25,7 +23,7 @@ shared_spec 𝓤 𝓛 𝓜 𝓡 wired =
     let y : (walk_of 𝓛 ended hs c).Ghost = ((κs, qs, bounds, a, (vptr b o ∷ [], tt)), gh) in let Post : Val → SProp 𝓤 = (walk_of 𝓛 ended hs c).post y in let Asked : Type 0 = IsShared w in
     qed 𝓛 ((‵ (fsep (flft κ qs.0) ftrue) ⊛ ‵ (owns (types_at ended.signature.params κs) a y.0.4)) ∷ raw (fact 𝓤 Asked) ∷ []) ∵ move ! (1 ∷ []) $ heard ! Asked (λ asked. split ! $ move ! (1 ∷ []) $ fsplit ! $ fsplit ! $
     -- [the reference; the word; nothing; the tokens]
-    keep ! (1 ∷ 3 ∷ []) $ rewrite ! 0 (λ (t : Option (ℕ × List (HeldKey Entry))). ‵ (fhide (shares_by (site_in w) t (block_ptr b o) κ))) (not_still w asked) refl $
+    keep ! (1 ∷ 3 ∷ []) $ rewrite ! 0 (λ (t : Option (ℕ × List KeyRow)). ‵ (fhide (shares_by (site_in w) t (block_ptr b o) κ))) (not_still w asked) refl $
     enter ! 𝓣.C 𝓣.Λ fn (vptr b o ∷ []) Post $ alloc_all ! (λ l. pass_all ! refl ((tt, tt), tt) $
     first ! $ blocks ! $ sets ! (addr ! (through ! refl (stop !))) refl (tt, tt) $ sets ! (of_opd ! (get ! refl)) refl (tt, tt) $ sets_last ! (addr ! (through ! refl (stop !))) refl (tt, tt) $
     exec ! 𝓣.C 𝓣.Λ (env code.Mir.locals l) (after 1 (code.function).body) (at_ret _ Post) $ sets ! (of_opd ! (get ! refl)) refl (tt, tt) $
