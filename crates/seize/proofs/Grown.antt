@@ -57,8 +57,8 @@ module _ {T : Type 0} (st : State T ℕ) (k : ℕ) (kind : Kind) where
   pub grown_size : grown.size ≡ st.size
   grown_size = (size_if (k == length st.slots)).0
 
-  pub grown_links : length grown.links ≡ length st.links
-  grown_links = ap length (size_if (k == length st.slots)).1
+  pub grown_links : grown.links ≡ st.links
+  grown_links = (size_if (k == length st.slots)).1
 
   -- How many slots there are.
 

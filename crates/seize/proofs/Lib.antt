@@ -32,6 +32,7 @@ mod Recovered
 mod OneLife
 mod Stilled
 mod Lone
+mod Still
 mod Grown
 mod Watched
 mod Linked

@@ -65,14 +65,14 @@ came_out words link a key pass key' pass' v t None its some none = (none_held (h
 
 -- What the hands hold, by values: `value` is what the model says that the link held.
 module _ {T : Type 0} (c : Coded T) (held : Option ℕ) (value : Option T) (is : IsHeldAs c.code held value) where
-  one_value : (v : ℕ) (x : T) → held ≡ Some v → HasContent c.code v x → value ≡ Some x
+  pub one_value : (v : ℕ) (x : T) → held ≡ Some v → HasContent c.code v x → value ≡ Some x
   one_value v x same has = go value (subst (λ (o : Option ℕ). IsHeldAs c.code o value) same is)
     where
       go : (o : Option T) → IsHeldAs c.code (Some v) o → o ≡ Some x
       go (Some y) lent = ap Some (content_once c v y x lent has)
       go None lent = absurd lent
 
-  no_value : held ≡ None → value ≡ None
+  pub no_value : held ≡ None → value ≡ None
   no_value same = go value (subst (λ (o : Option ℕ). IsHeldAs c.code o value) same is)
     where
       go : (o : Option T) → IsHeldAs c.code None o → o ≡ None

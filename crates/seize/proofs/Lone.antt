@@ -22,6 +22,7 @@ use Rattle.seize_calls.specs.Slots.{IsPassFor}
 use Rattle.seize_alone.specs.Holding.{Holds}
 use Rattle.seize_alone.proofs.Shown.{active_shown}
 use Rattle.seize.specs.Alones.{AsListed, IsAlone, View}
+use Rattle.seize.specs.Stillness.{AreStill}
 use Rattle.seize.specs.Placing.{ArePlaces, Lies, lies_for, lies_in, lying_in}
 use Rattle.seize.specs.declared.alone.hands.Hands.{Hands}
 use Rattle.seize.specs.declared.alone.place.Place.{Place}
@@ -132,7 +133,7 @@ module _ {T R : Type 0} {code : T → Gv} {words : Words T} {porter : Porter} {n
   pub lends_again : (porter'.name ≡ words_book words) × (porter'.size ≡ words.size) × (porter'.home ≡ true)
   lends_again = (sym stay.again.0.0 ∙ stay.same.0 ∙ stay.shut.book.0 ∙ a.lends.0, sym stay.again.0.1 ∙ stay.same.2 ∙ stay.shut.book.1 ∙ a.lends.1, stay.again.2)
 
-  pub alone_again : (hands' : Hands T) (places' : List (Option (Place T))) (made' : ℕ) → made' ≡ length hands'.state.slots → hands'.state.size ≡ hands.state.size → length hands'.state.links ≡ length hands.state.links
+  pub alone_again : (hands' : Hands T) (places' : List (Option (Place T))) (made' : ℕ) → made' ≡ length hands'.state.slots → hands'.state.size ≡ hands.state.size → hands'.state.links ≡ hands.state.links
       → ArePlaces (words_book words) hands'.state places' → Holds code hands'.state hands'.names hands'.kinds porter'.name porter'.seen → IsAlone code words porter' numbers places' made' ender hands'
   alone_again hands' places' made' counted size links placed holds = record {
     lends = lends_again;
@@ -140,7 +141,8 @@ module _ {T R : Type 0} {code : T → Gv} {words : Words T} {porter : Porter} {n
     ends = a.ends;
     counted = counted;
     sized = size ∙ a.sized;
-    linked = links ∙ a.linked;
+    linked = ap length links ∙ a.linked;
+    stand = subst (AreStill code words.links) (sym links) a.stand;
     placed = placed;
     holds = holds;
   }
@@ -158,15 +160,16 @@ some_guards n some = grind arith
 
 -- the invariant, where the porter stayed at home
 pub alone_still : {T R : Type 0} {code : T → Gv} {words : Words T} {porter : Porter} {numbers : ℕ} {places : List (Option (Place T))} {made : ℕ} {ender : Ender T R} {hands : Hands T} → IsAlone code words porter numbers places made ender hands
-    → (hands' : Hands T) (places' : List (Option (Place T))) → length hands'.state.slots ≡ length hands.state.slots → hands'.state.size ≡ hands.state.size → length hands'.state.links ≡ length hands.state.links
+    → (hands' : Hands T) (places' : List (Option (Place T))) → length hands'.state.slots ≡ length hands.state.slots → hands'.state.size ≡ hands.state.size → hands'.state.links ≡ hands.state.links
     → ArePlaces (words_book words) hands'.state places' → Holds code hands'.state hands'.names hands'.kinds porter.name porter.seen → IsAlone code words porter numbers places' made ender hands'
-alone_still a hands' places' slots size links placed holds = record {
+alone_still {code = code} {words = words} a hands' places' slots size links placed holds = record {
   lends = a.lends;
   numbered = a.numbered;
   ends = a.ends;
   counted = a.counted ∙ sym slots;
   sized = size ∙ a.sized;
-  linked = links ∙ a.linked;
+  linked = ap length links ∙ a.linked;
+  stand = subst (AreStill code words.links) (sym links) a.stand;
   placed = placed;
   holds = holds;
 }
@@ -186,6 +189,7 @@ module _ {T R : Type 0} {code : T → Gv} {words : Words T} {porter porter' : Po
     counted = a.counted;
     sized = a.sized;
     linked = a.linked;
+    stand = a.stand;
     placed = a.placed;
     holds = subst (λ (t : Name × List Entry). Holds code hands.state hands.names hands.kinds t.0 t.1) (λ j. (sym home.book.0 j, sym seen_still j)) a.holds;
   }

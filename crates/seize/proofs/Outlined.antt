@@ -44,5 +44,5 @@ module _ {T R : Type 0} {code : T → Gv} {words : Words T} {porter : Porter} {n
       → ArePlaces (words_book words) now places' → Holds code hands'.state hands'.names hands'.kinds porter'.name porter'.seen → IsAlone code words porter' numbers places' made ender hands'
   outlined_again now hands' places' is same links size placed holds =
       alone_again a stay hands' places' made (a.counted ∙ sym (slots_in now hands.state same) ∙ ap (λ (x : State T ℕ). length x.slots) (sym is))
-      (ap (λ (x : State T ℕ). x.size) is ∙ size) (ap (λ (x : State T ℕ). length x.links) is ∙ ap (λ (l : List (Option T)). length l) links)
+      (ap (λ (x : State T ℕ). x.size) is ∙ size) (ap (λ (x : State T ℕ). x.links) is ∙ links)
       (λ s. placed s ∙ ap (λ (x : State T ℕ). lies_for (words_book words) (slot_at x s) s) (sym is)) holds

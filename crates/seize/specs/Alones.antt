@@ -8,7 +8,7 @@
 --                       numbers stand for values by their names, and for kinds as the list says (`Holds`)
 --     IsAlone code words porter numbers places made ender hands     what is so of its parts: all are of one list. The porter is at home.
 --                       The hands hold the state, which what the porter has seen shows, with the batch size; and so many slots were made.
---                       What lies in the places is what the state says of the slots
+--                       The links stand still, and hold what the state says, and what lies in the places is what it says of the slots
 use Rattle.std.specs.Prelude.{◌≡◌, ℕ, List, Option, None, length, true}
 use mathlib.Core.List.{IsPrefix}
 use mathlib.Core.Path.{refl}
@@ -26,6 +26,7 @@ use Rattle.seize_alone.specs.Holding.{Holds}
 use Rattle.seize.specs.Enders.{IsEnderOf}
 use Rattle.seize.specs.Placing.{ArePlaces}
 use Rattle.seize.specs.States.{state_coded}
+use Rattle.seize.specs.Stillness.{AreStill}
 use Rattle.seize.specs.declared.alone.hands.Hands.{Hands}
 use Rattle.seize.specs.declared.alone.place.Place.{Place}
 use Rattle.seize.specs.declared.ender.Ender.{Ender}
@@ -66,5 +67,6 @@ pub record IsAlone {T R : Type 0} (code : T → Gv) (words : Words T) (porter : 
   pub counted : made ≡ length hands.state.slots
   pub sized : hands.state.size ≡ words.size
   pub linked : length hands.state.links ≡ length (words_book words).links
+  pub stand : AreStill code words.links hands.state.links
   pub placed : ArePlaces (words_book words) hands.state places
   pub holds : Holds code hands.state hands.names hands.kinds porter.name porter.seen

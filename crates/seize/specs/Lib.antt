@@ -26,6 +26,7 @@ pub mod Running
 pub mod Served
 pub mod Shelves
 pub mod States
+pub mod Stillness
 pub mod Sweeps
 pub mod Told
 pub use Rattle.seize_machine.specs.Machine

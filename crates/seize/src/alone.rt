@@ -42,8 +42,7 @@ use seize_words::words::Words;
 use std::alloc::Global;
 use std::marker::{Brand, Model};
 
-/// A collector in one caller's hands. No call waits, and each returns, but for what a reclaimer, a watch, the `Drop` of a value or the
-/// closure of `look` does.
+/// A collector in one caller's hands. No call waits, and each returns, but for what a reclaimer, a watch or the `Drop` of a value does.
 ///
 /// Its drop reclaims all, in the order of `reclaim_all`; then each value in a link goes to the reclaimer, once, and all memory goes back.
 /// That no clause says. For a watch, call `reclaim_all` first.
@@ -299,7 +298,7 @@ impl<T: Drop, R: Reclaim<T>> Alone<T, R> {
 impl<T: Drop + Codes, R: Reclaim<T>> Drop for Alone<T, R> {
     fn drop(self) {
         let Alone {
-            words,
+            mut words,
             mut porter,
             mut numbers,
             mut places,
@@ -317,6 +316,7 @@ impl<T: Drop + Codes, R: Reclaim<T>> Drop for Alone<T, R> {
             &mut places,
             &mut (),
         );
+        words.links.stir();
         // Nothing is left to reclaim, so this ends what the links hold.
         drop(shared(words, porter, numbers, places, ender, id, alloc));
     }

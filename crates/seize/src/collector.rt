@@ -1,6 +1,7 @@
 //! The collector: who makes one, what it is asked, and how a thread gets a slot and a pass of it.
 ghost use Rattle.std.specs.Prelude.{◌≡◌, box_value, false};
 ghost use Rattle.seize_words.specs.Joined.{words_book};
+ghost use Rattle.seize_words.specs.Rows.{AreShared};
 ghost use Rattle.seize.specs.Enders.{IsEnderOf};
 
 mod ids;
@@ -49,6 +50,7 @@ pub struct Collector<T: Drop, R: Reclaim<T> = Boxed> {
     pub(crate) id: u64,
     pub(crate) alloc: Global,
     ghost lends: { (porter.name ≡ words_book words) × (porter.size ≡ words.size) × (porter.home ≡ false) },
+    ghost shared: { AreShared words.links },
     ghost numbered: { numbers ≡ (words_book words).family },
     ghost ends: { IsEnderOf words (box_value ender) },
 }

@@ -4,6 +4,7 @@ ghost use Rattle.std.specs.Prelude.{◌<◌, ◌≤◌, length};
 ghost use Rattle.seize_book.specs.Passes.{IsSamePass};
 ghost use Rattle.seize_book.specs.Tokens.{IsSole};
 ghost use Rattle.seize_words.specs.Joined.{words_book};
+ghost use Rattle.seize_words.specs.Rows.{AreShared, IsSharedAt};
 ghost use Rattle.seize.specs.Enders.{IsEnderOf};
 ghost use Rattle.seize_calls.specs.Slots.{InActivation, IsInactive, IsPassFor, IsSlotOf, KeepsActivation};
 ghost use Rattle.seize.specs.Numbers.{AreNumbers, IsLockFor};
@@ -36,6 +37,7 @@ pub(crate) fn end_all<T: Drop, R: Reclaim<T>>(
     requires numbers { AreNumbers numbers × IsLockFor words.now numbers }
     requires pass { IsPassFor words.now pass × IsSole pass.id }
     requires ender { IsEnderOf words.now ender.now }
+    requires shared { AreShared words.now.links }
     requires size { words.now.size ≤ 1 }
 {
     let (mut numbers, mut pass) = (numbers, pass);
@@ -52,6 +54,7 @@ fn end_links<T: Drop, R: Reclaim<T>>(
     slot: Slot<T>,
     pass: &mut Pass,
 )
+    requires shared { AreShared words.now.links }
     requires slot { IsSlotOf words.now slot × IsInactive slot }
     requires pass { IsPassFor words.now pass.old × IsSole pass.old.id }
     requires ender { IsEnderOf words.now ender.now }
@@ -86,7 +89,7 @@ fn empty<T: Drop, R: Reclaim<T>>(
     requires slot { IsSlotOf words.now slot.old × InActivation slot.old activation.now }
     requires pass { IsPassFor words.now pass.old × IsSole pass.old.id }
     requires ender { IsEnderOf words.now ender.now }
-    requires link { link < length (words_book words.now).links }
+    requires link { (link < length (words_book words.now).links) × IsSharedAt words.now.links link }
     ensures slot { IsSlotOf words.now slot.new × KeepsActivation slot.old slot.new }
     ensures same { IsSamePass pass.old pass.new }
 {

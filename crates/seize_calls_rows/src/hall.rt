@@ -2,6 +2,7 @@
 ghost use Rattle.std.specs.Prelude.{◌≡◌, IfOk};
 ghost use Rattle.seize_book.specs.Lending.{ArePermitsOf};
 ghost use Rattle.seize_words.specs.Joined.{words_book};
+ghost use Rattle.seize_words.specs.Rows.{AreShared};
 ghost use Rattle.seize_calls.specs.Slots.{its_number};
 ghost use Rattle.seize_calls_rows.specs.Visitors.{CanMake, HasLinks, HasOneMore, IsIn, IsVisitorOf, LendsFor, made_by};
 
@@ -30,6 +31,7 @@ pub struct Hall {
     pub porter: Porter,
     pub permits: Permits<AnyCode>,
     ghost links: { HasLinks words },
+    ghost shared: { AreShared words.links },
     ghost lends: { LendsFor words porter },
     ghost listed: { ArePermitsOf (words_book words) permits },
 }

@@ -3,6 +3,7 @@
 ghost use Rattle.std.specs.Prelude.{◌≡◌, ◌<◌, IfOk, IfSome, length};
 ghost use Rattle.seize_book.specs.Lending.{ArePermitsOf};
 ghost use Rattle.seize_words.specs.Joined.{words_book};
+ghost use Rattle.seize_words.specs.Rows.{AreShared};
 ghost use Rattle.seize_calls.specs.Slots.{IsLooseOf};
 ghost use Rattle.seize_calls_rows.specs.Visitors.{IsIn, IsSameSlot, IsVisitorOf, MayStepWith};
 
@@ -79,7 +80,7 @@ impl Visitor {
         pass: &mut Pass,
     ) -> Result<Option<Loose>, Refusal>
         requires inside { IsIn words.now self.old × MayStepWith words.now self.old.activation pass.old }
-        requires link { link < length (words_book words.now).links }
+        requires link { (link < length (words_book words.now).links) × AreShared words.now.links }
         requires permits { ArePermitsOf (words_book words.now) permits.now }
         ensures inside { IsIn words.now self.new × IsSameSlot self.old self.new }
         ensures out { IfOk result (λ out. IfSome out (λ loose. IsLooseOf words.now loose)) }

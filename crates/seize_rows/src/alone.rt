@@ -122,13 +122,13 @@ fn leave_two<'a>(
     let one = alone
         .owned(Digit { digit: 1, told })
         .map_err(|(refusal, _)| refusal)?;
-    assert!(rt; !alone.holds(slot, 0)?);
+    assert!(rt; alone.protect(slot, 0)?.is_none());
     match alone.swap(slot, 0, Some(one)) {
         Ok(None) => {}
         Ok(Some(_taken)) => rt.abort(),
         Err((refusal, _)) => return Err(refusal),
     }
-    assert_eq!(rt; alone.look(slot, 0, |found| found.digit)?, Some(1));
+    assert_eq!(rt; alone.protect(slot, 0)?.map(|found| found.digit), Some(1));
     defer(rt, alone, slot, 2, told, &mut heard)?;
     assert_eq!(rt; heard.digits, 0);
     Ok(())

@@ -2,7 +2,7 @@
 ghost use Rattle.std.specs.Prelude.{◌≡◌, ◌<◌};
 ghost use Rattle.seize.specs.Alones.{IsSame};
 
-use crate::nests::{AloneNests, Ends, Heard, alone_nests, leaf, retire_new};
+use crate::nests::{AloneNests, Ends, Heard, alone_nests, leaf, number_in, retire_new};
 use crate::oracle::Value;
 use seize::Refusal;
 use std::alloc::Global;
@@ -10,11 +10,10 @@ use std::process::Abort;
 use std::test::*;
 
 // The number that slot 0 finds in the link.
-fn found(alone: &mut AloneNests<'_>, link: usize) -> Result<Option<u64>, Refusal>
-    requires { link < alone.old.links }
-    ensures { alone.new ≡ alone.old }
+fn found(alone: &AloneNests<'_>, link: usize) -> Result<Option<u64>, Refusal>
+    requires { link < alone.now.links }
 {
-    alone.look(0, link, |found| found.number)
+    number_in(alone, 0, link)
 }
 
 // Slot 0 swaps a new value into the link, and retires what came out. It says whether there was any.
@@ -41,6 +40,20 @@ fn exchange(
     }
 }
 
+// What two links hold is read at once, and so is what one holds. Whether two are of one block is told.
+fn read_at_once(rt: &impl Abort, alone: &AloneNests<'_>) -> Result<(), Refusal>
+    requires { alone.now.links ≡ 2 }
+{
+    let (first, again) = (alone.protect(0, 0)?, alone.protect(0, 0)?);
+    let (Some(first), Some(again), Some(second)) = (first, again, alone.protect(0, 1)?) else {
+        rt.abort()
+    };
+    assert_eq!(rt; (first.number, again.number, second.number), (8, 8, 9));
+    assert!(rt; first.same(&again) && !first.same(&second));
+    assert_eq!(rt; number_in(alone, 1, 0), Err(Refusal::NotInUse));
+    Ok(())
+}
+
 // Slot 0 puts 7 and 9 into two links, and then 8 in the place of 7.
 fn swap_three(
     rt: &impl Abort,
@@ -59,6 +72,7 @@ fn swap_three(
     assert_eq!(rt; found(alone, 0)?, Some(7));
     assert!(rt; exchange(rt, alloc, alone, 0, 8, heard)?);
     assert_eq!(rt; (found(alone, 0)?, found(alone, 1)?), (Some(8), Some(9)));
+    read_at_once(rt, alone)?;
     assert_eq!(rt; heard.numbers.len(), 0);
     alone.refresh(0, heard)
 }

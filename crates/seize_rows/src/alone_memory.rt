@@ -7,7 +7,7 @@ ghost use Rattle.seize_uses.specs.Nests.{owners_of};
 
 use crate::alone_further::leaves;
 use crate::memory::give_sign;
-use crate::nests::{AloneNests, Block, Ends, Heard, alone_nests, leaf, retire};
+use crate::nests::{AloneNests, Block, Ends, Heard, alone_nests, leaf, number_in, retire};
 use seize::Refusal;
 use std::alloc::Global;
 use std::process::Abort;
@@ -80,7 +80,7 @@ fn make_calls(
     alone.refresh(s, heard)?;
     let refreshed = heard.numbers.len();
     put(rt, alone, s, second, heard)?;
-    assert_eq!(rt; alone.look(s, 0, |found| found.number)?, Some(MANY + 1));
+    assert_eq!(rt; number_in(alone, s, 0)?, Some(MANY + 1));
     alone.leave(s, heard)?;
     assert!(rt; alone.end(s)?);
     let left = heard.numbers.len();

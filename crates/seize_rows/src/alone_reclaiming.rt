@@ -3,7 +3,7 @@ ghost use Rattle.std.specs.Prelude.{◌≡◌};
 ghost use Rattle.seize.specs.Alones.{IsSame};
 
 use crate::alone_further::{MANY, count_up, retire_a_chain};
-use crate::nests::{AloneNests, Ends, Heard, alone_nests, leaf, retire, retire_new, round};
+use crate::nests::{AloneNests, Ends, Heard, alone_nests, leaf, number_in, retire, retire_new, round};
 use crate::worked::{Telling, defer_alone, telling};
 use seize::{Alone, Refusal};
 use seize_threads_rows::values::Digit;
@@ -81,7 +81,7 @@ fn found(alone: &mut AloneNests<'_>, heard: &mut Heard) -> Result<Option<u64>, R
     ensures { IsSame alone.old alone.new }
 {
     let s = alone.enter_owned()?;
-    let found = alone.look(s, 0, |found| found.number)?;
+    let found = number_in(alone, s, 0)?;
     alone.leave(s, heard)?;
     Ok(found)
 }

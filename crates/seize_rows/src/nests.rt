@@ -241,6 +241,17 @@ pub(crate) fn retire(
     }
 }
 
+/// The number of what the link holds, where the slot has a guard.
+pub(crate) fn number_in(
+    alone: &AloneNests<'_>,
+    s: usize,
+    link: usize,
+) -> Result<Option<u64>, Refusal>
+    requires { link < alone.now.links }
+{
+    Ok(alone.protect(s, link)?.map(|found| found.number))
+}
+
 /// The slot retires a new value of this number.
 pub(crate) fn retire_new(
     rt: &impl Abort,

@@ -5,7 +5,7 @@ ghost use Rattle.seize.specs.Alones.{IsSame};
 ghost use Rattle.seize.specs.Blocks.{Belongs, IsTakenOf};
 ghost use Rattle.seize_uses.specs.Nests.{owners_of};
 
-use crate::nests::{AloneNests, Block, Ends, Heard, alone_nests, leaf, round};
+use crate::nests::{AloneNests, Block, Ends, Heard, alone_nests, leaf, number_in, round};
 use crate::oracle::{Lists, Value};
 use seize::{Alone, Reclaim, Refusal, Taken, Watch};
 use std::alloc::Global;
@@ -193,8 +193,8 @@ fn call(
         10 => Ok(("flush", same(&alone.flush(s, heard), &lists.flush(s))?)),
         _ => {
             let link = chance.below(LINKS as u64) as usize;
-            let found = alone.look(s, link, |found| found.number);
-            Ok(("look", same(&found, &lists.look(s, link))?))
+            let found = number_in(alone, s, link);
+            Ok(("protect", same(&found, &lists.look(s, link))?))
         }
     }
 }
@@ -241,7 +241,7 @@ fn reclaim(
     let (s, wanted) = (alone.enter_owned()?, lists.enter_owned()?);
     let mut well = s == wanted;
     for link in 0..LINKS {
-        let found = alone.look(s, link, |found| found.number);
+        let found = number_in(alone, s, link);
         well = well && same(&found, &lists.look(s, link))?;
     }
     alone.leave(s, heard)?;

@@ -23,7 +23,7 @@ pub fn read_and_retire(alloc: Global, number: u64) -> Result<Option<u64>, Refusa
     alone.enter(slot)?;
     let block = alone.owned(number).map_err(|(refusal, _)| refusal)?;
     replace(&mut alone, slot, Some(block))?;
-    let read = alone.look(slot, 0, |found| *found)?;
+    let read = alone.protect(slot, 0)?.map(|found| *found);
     replace(&mut alone, slot, None)?;
     alone.leave(slot, &mut ())?;
     Ok(read)
@@ -44,7 +44,7 @@ pub fn put_and_read(
 {
     let block = alone.owned(number).map_err(|(refusal, _)| refusal)?;
     replace(alone, slot, Some(block))?;
-    alone.look(slot, 0, |found| *found)
+    Ok(alone.protect(slot, 0)?.map(|found| *found))
 }
 
 /// Puts a block or nothing into link 0, and retires the block that the link held.

@@ -33,7 +33,7 @@ use Rattle.seize_book.proofs.Facts.{equal, reached_after, has_last}
 pub is_at : (word : Site) (n : Name) → word.name ≡ n → word.kind ≡ links → word ≡ at_link n word.number
 is_at word n e k = ap (λ (t : Name × ℕ). record { name = t.0; kind = t.1; number = word.number }) (λ j. (e j, k j))
 
-value_of : (o : Option ℕ) (vs : List (HeldKey Entry)) (log : List Entry) → IsKeyOf o vs → value_in (with_list vs log) ≡ o
+pub value_of : (o : Option ℕ) (vs : List (HeldKey Entry)) (log : List Entry) → IsKeyOf o vs → value_in (with_list vs log) ≡ o
 value_of None vs log is = ap (λ (hs : List (HeldKey Entry)). value_in (with_list hs log)) is
 value_of (Some v) [] log is = absurd (let x : false ≡ true = is.0 in cc)
 value_of (Some v) (x ∷ y ∷ vs) log is = absurd (let x : false ≡ true = is.0 in cc)

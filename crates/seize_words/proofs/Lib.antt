@@ -13,6 +13,8 @@ pub mod Walked
 pub mod Makes
 pub mod Taken
 pub mod Links
+pub mod LinkSites
+pub mod Stands
 pub mod LinkRows
 pub mod Noted
 pub mod Joined

@@ -1,6 +1,6 @@
 -- The words in which the contracts of links speak.
 --     IsNone key pass, IsKeyIn value key     it is none, of the pass's book;  it is the value's block's, in its name
---     link_number link            which link it is
+--     link_number link            which link it is;  link_book link     its book
 --     value_held key, IsSomeKey key    the value whose key it is, if it is one;  and it is one
 --     IsLinkFor link activation pass   all are of one book, the activation has begun, as the pass has seen, and the link is one of the
 --                                      book's
@@ -47,16 +47,19 @@ IsKeyIn value key = key.keys ≡ value.keys
 abbrev pub link_number : Link → ℕ
 link_number link = link.word.number
 
+abbrev pub link_book : Link → Name
+link_book link = link.word.name
+
 abbrev pub value_held : MaybeKey → Option ℕ
 value_held key = value_in key.keys.held
 
 pub record IsLinkFor (link : Link) (activation : Activation) (pass : Pass) : Type 0 where
-  pub book : (link.word.name ≡ pass.name) × (activation.name ≡ pass.name)
+  pub book : (link_book link ≡ pass.name) × (activation.name ≡ pass.name)
   pub within : IsWithin pass.name activation.slot activation.life activation.since pass.seen (link_number link)
 
 abbrev pub IsNewFor : Link → MaybeKey → ℕ → Type 0
 IsNewFor link key new =
-    (key.keys.name ≡ link.word.name) × IsNewIn link.word.name (value_held key) key.keys.held × (new ≡ link_word (value_held key))
+    (key.keys.name ≡ link_book link) × IsNewIn (link_book link) (value_held key) key.keys.held × (new ≡ link_word (value_held key))
 
 abbrev pub IsSomeKey : MaybeKey → Type 0
 IsSomeKey key = is_some (value_held key) ≡ true
@@ -137,5 +140,5 @@ HasNextLink left = (l many : ℕ) × (left.keys.held ≡ first_links l (suc many
 
 abbrev pub IsNext : LinkKeys → Link → LinkKeys → Type 0
 IsNext left link left' =
-    (link.word.name ≡ left.keys.name) × (link_number link ≡ key_of left.keys.held)
+    (link_book link ≡ left.keys.name) × (link_number link ≡ key_of left.keys.held)
     × (left'.keys.name ≡ left.keys.name) × (left'.keys.held ≡ drop 1 left.keys.held)

@@ -18,6 +18,7 @@ use Rattle.seize_book.specs.Ledger.{HeldKey}
 use Rattle.seize_book.specs.Private.{own_of}
 use Rattle.seize_book.specs.Loans.{CarriesOne}
 use Rattle.seize_book.specs.Tokens.{Name, start}
+use Rattle.seize_words.specs.LinkSites.{LinkSite}
 use Rattle.seize_words.specs.Words.{Site, IsKeyOf}
 
 abbrev pub at_link : Name → ℕ → Site
@@ -36,7 +37,7 @@ IsNewIn n (Some v) vs =
     IsKeyOf (Some v) vs × (has v (after (start n) (own_of vs)).named ≡ false) × IsVacant (after (start n) (own_of vs)) (home_of v)
     × CarriesOne v
 
-abbrev pub IsLink : Site → Type 0
+abbrev pub IsLink : LinkSite → Type 0
 IsLink word = word.kind ≡ links
 
 -- the value that a key is labelled with, if there is one

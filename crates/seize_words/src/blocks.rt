@@ -8,7 +8,7 @@ use crate::glimpse::Glimpse;
 use crate::note::Note;
 use seize_book::book::{Pass, Permit, Seen, SlotKey, ValueKey, ValueKeys};
 use seize_content::TokenCell;
-use seize_store::{Bare, Hollow, Owned, Spots, Store};
+use seize_store::{Bare, Hollow, Owned, RowToken, Spots, Store};
 use seize_table::Refusal;
 use std::alloc::{AllocError, Global};
 
@@ -31,7 +31,8 @@ impl<T: Drop> Blocks<T> {
     ghost use Rattle.seize_book.specs.Blocks.{block_number};
     ghost use Rattle.seize_book.specs.Notes.{HasNoted, IsUnchanged, cell_in};
     ghost use Rattle.seize_words.specs.Noted.{IsNoted, note_code};
-    ghost use Rattle.seize_book.specs.Lending.{IsInBlockOf, IsLentKey, IsPermitFor};
+    ghost use Rattle.seize_book.specs.Lending.{IsInBlockOf, IsLentKey, IsPermitFor, IsRowAt};
+    ghost use Rattle.seize_book.specs.Loans.{CarriesOne};
     ghost use Rattle.seize_book.specs.Homesteads.{HasNumber, state_seen};
     ghost use Rattle.seize_words.specs.Headers.{IsFrontBlock};
     ghost use Rattle.seize_book.specs.Passes.{LooksOn};
@@ -150,6 +151,14 @@ impl<T: Drop> Blocks<T> {
     {
         let known = pass.seek(number);
         self.store.see(number as usize, &known, glimpse.sight())
+    }
+
+    /// The same where the row of the number is shown, by a link that stands still. No event is made, and the list is not looked at.
+    pub(crate) fn see_in<'g>(&'g self, number: u64, row: &RowToken, glimpse: Glimpse<'g>) -> &'g T
+        requires row { (v : ℕ) × (glimpse.value ≡ Some v) × IsRowAt (blocks_book self.now) v row.now × CarriesOne v × (block_number v ≡ number) }
+        ensures code { IsFoundAs glimpse.entry.value (T.row.coded.code result.now) }
+    {
+        self.store.see(number as usize, row, glimpse.sight())
     }
 
     /// What is lent with the value that this key is for, for as long as the store and the key are borrowed: a value of the code that the

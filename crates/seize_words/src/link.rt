@@ -1,24 +1,28 @@
 //! Links: what holders of activations read and exchange. A link's word names the block of the value that the link holds, and the value's
-//! key stands beside it: whoever takes the value out gets the key. It uses words, activations and the book's keys.
+//! key stands beside it: whoever takes the value out gets the key. Threads share links, or they stand still, in one caller's hands. It uses
+//! words, activations and the book's keys.
 ghost use Rattle.std.specs.Prelude.{◌≡◌, ℕ, None, Option, true};
 ghost use Rattle.seize_book.specs.Blocks.{link_word};
 ghost use Rattle.seize_words.specs.Links.{IsLink, is_at_most_one};
 
 mod row;
+mod still;
+mod word;
 
 use crate::activation::Activation;
 use crate::glimpse::Glimpse;
-use crate::word::Word;
+use crate::link::word::LinkWord;
 pub use row::Links;
 use seize_book::book::{Keys, LinkKeys, Pass, ValueKey};
+use seize_store::RowToken;
 use std::marker::Brand;
 
-/// One link, which threads share.
+/// One link, which threads share, or which stands still.
 ///
 /// Its word is 0 where it holds nothing, and else 1 and the number of the block that its value lies in.
 #[derive(Drop)]
 pub struct Link {
-    word: Word,
+    word: LinkWord,
     ghost link: { IsLink word },
 }
 
@@ -72,16 +76,22 @@ impl Expects for Brand {
 }
 
 impl Link {
-    ghost use Rattle.seize_words.specs.LinkWords.{CompareExchanges, HasNextLink, IsLinkFor, IsNext, IsNewFor, Sees, Swaps};
+    ghost use Rattle.std.specs.Prelude.{IfSome, is_some};
+    ghost use Rattle.seize_book.specs.Homesteads.{state_seen};
+    ghost use Rattle.seize_book.specs.Tokens.{IsSole};
+    ghost use Rattle.seize_machine.specs.Machine.State.{link_at};
+    ghost use Rattle.seize_words.specs.LinkWords.{CompareExchanges, HasNextLink, IsLinkFor, IsNext, IsNewFor, Sees, Swaps, link_book, link_number};
+    ghost use Rattle.seize_words.specs.Stands.{IsSameLink, IsSharedLink, LeadsTo, Stands};
 
     /// The first of the links that were not made yet. It is empty.
     pub fn next(left: &mut LinkKeys) -> Link
         requires { HasNextLink left.old }
-        ensures { IsNext left.old result left.new }
+        ensures next { IsNext left.old result left.new }
+        ensures shared { IsSharedLink result }
     {
         let mut rest = left.keys.none();
         left.keys.part(&mut rest);
-        let word = Word::new(0, &mut left.keys);
+        let word = LinkWord::new(0, &mut left.keys);
         left.keys.join(&mut rest);
         Link { word }
     }
@@ -91,11 +101,14 @@ impl Link {
     ///
     /// It takes no memory and waits for nobody: one atomic load.
     pub fn see<'g>(&self, activation: &'g Activation, pass: &mut Pass) -> (u64, Glimpse<'g>)
+        requires shared { IsSharedLink self.now }
         requires within { IsLinkFor self.now activation.now pass.old }
         ensures sees { Sees self.now activation.now pass.old pass.new result.0 result.1 }
     {
         let mut keys = Keys::empty(pass);
-        self.word.see_in::<Brand>(&mut keys, activation, pass)
+        self.word
+            .shared()
+            .see_in::<Brand>(&mut keys, activation, pass)
     }
 
     /// Puts a value that was never named into the link, or none: the event `ExchangeLink` of the activation's slot. All values that lay in
@@ -110,11 +123,13 @@ impl Link {
         activation: &Activation,
         pass: &mut Pass,
     ) -> u64
+        requires shared { IsSharedLink self.now }
         requires within { IsLinkFor self.now activation.now pass.old }
         requires new { IsNewFor self.now value.old new }
         ensures swaps { Swaps self.now activation.now value.old pass.old value.new pass.new result }
     {
         self.word
+            .shared()
             .swap_in::<Brand>(new, &mut value.keys, activation, pass)
     }
 
@@ -133,12 +148,47 @@ impl Link {
         activation: &'g Activation,
         pass: &mut Pass,
     ) -> (u64, Glimpse<'g>)
+        requires shared { IsSharedLink self.now }
         requires within { IsLinkFor self.now activation.now pass.old }
         requires new { IsNewFor self.now value.old new }
         requires seen { seen ≡ link_word E.current }
         ensures exchanges { CompareExchanges self.now activation.now value.old pass.old E.current value.new pass.new result.0 result.1 }
     {
-        let word = &self.word;
+        let word = self.word.shared();
         word.exchange_in::<Brand>(seen, new, &mut value.keys, activation, pass)
+    }
+
+    /// It stands still from then on, and holds what the pass has seen, which is alone. It does nothing when the program runs.
+    pub(crate) fn rest(&mut self, pass: &mut Pass)
+        requires shared { IsSharedLink self.old }
+        requires alone { (link_book self.old ≡ pass.old.name) × IsSole pass.old.id }
+        ensures pass { pass.new ≡ pass.old }
+        ensures stands { Stands self.new (link_at (state_seen pass.old) (link_number self.old)) × IsSameLink self.old self.new }
+    {
+        self.word.rest();
+        self.word.look(pass);
+    }
+
+    /// Threads may share it again. It does nothing when the program runs.
+    pub(crate) fn stir(&mut self)
+        requires stands { (held : Option ℕ) × Stands self.old held }
+        ensures shared { IsSharedLink self.new × IsSameLink self.old self.new }
+    {
+        self.word.stir();
+    }
+
+    /// Where it stands still, its word, and a glimpse of what it holds, if it holds something, for as long as it is borrowed; and what shows
+    /// the row in which that lies. It makes no event.
+    pub(crate) fn peek(&self) -> Option<(u64, RowToken, Glimpse<'_>)>
+        requires stands { (held : Option ℕ) × Stands self.now held }
+        ensures held { (held : Option ℕ) → Stands self.now held → is_some result ≡ is_some held
+            × IfSome result (λ found. LeadsTo (link_book self.now) held found.0 found.1 found.2) }
+    {
+        let still = self.word.still();
+        let word = still.word();
+        if word == 0 {
+            return None;
+        }
+        Some((word, still.row(), still.glimpse()))
     }
 }

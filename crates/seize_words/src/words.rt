@@ -38,7 +38,7 @@ pub struct Words<T> {
 }
 
 impl<T: Drop> Words<T> {
-    ghost use Rattle.std.specs.Prelude.{◌<◌, ◌⊎◌, ◌↔◌, Err, IfErr, IfOk, IfSome, is_some};
+    ghost use Rattle.std.specs.Prelude.{◌<◌, ◌⊎◌, ◌↔◌, ℕ, Err, IfErr, IfOk, IfSome, Option, is_some, length};
     ghost use Rattle.seize_store.specs.Named.{store_name};
     ghost use Rattle.seize_table.specs.Named.{name_of};
     ghost use Rattle.seize_table.specs.declared.refusal.Refusal.TheVariants.{NoMemory, NoNumbers};
@@ -51,6 +51,7 @@ impl<T: Drop> Words<T> {
     ghost use Rattle.seize_words.specs.LinkWords.{CompareExchanges, Finds, Sees, Swaps, held_before};
     ghost use Rattle.seize_words.specs.Reserved.{HasNextSlot, IsSameNext, MakesNextSlot};
     ghost use Rattle.seize_book.specs.Others.{AreNumbersOf};
+    ghost use Rattle.seize_words.specs.Rows.{AreShared, IsSharedAt, StandsAt};
 
     /// The words of a new book, with so many links, which are empty, and no slot; the list of the codes that may be lent with its values;
     /// the porter of its passes, which is at home; and the keys with which its slots are made. A slot attempts its batch when that has
@@ -67,6 +68,7 @@ impl<T: Drop> Words<T> {
         size: usize,
     ) -> Result<(Words<T>, Permits<C>, Porter, NumbersKey, NextSlot), Refusal>
         ensures made { IfOk result (λ opened. OpensWords opened.0 opened.2 opened.3 opened.4 links size) }
+        ensures shared { IfOk result (λ opened. AreShared opened.0.links) }
         ensures permits { IfOk result (λ opened. ArePermitsOf (words_book opened.0) opened.1) }
         ensures refused { IfErr result (λ e. (e ≡ NoNumbers) ⊎ (e ≡ NoMemory)) }
         ensures no_numbers { (result ≡ Err NoNumbers) ↔ (MAX_INDEX < capacity) }
@@ -118,7 +120,8 @@ impl<T: Drop> Words<T> {
     ) -> Result<(Words<T>, NumbersKey, NextSlot), Refusal>
         requires lie { blocks.book.name.table ≡ name_of table }
         requires keys { HasKeys blocks.book keys links blocks.book.name.store blocks.book.name.table }
-        ensures made { IfOk result (λ made. (made.0.blocks.book ≡ blocks.book) × (made.1 ≡ keys.numbers) × HasNextSlot made.1 made.2) }
+        ensures made { IfOk result (λ made. (made.0.blocks.book ≡ blocks.book) × (made.1 ≡ keys.numbers) × HasNextSlot made.1 made.2
+            × AreShared made.0.links) }
         ensures size { IfOk result (λ made. made.0.size ≡ size) }
         ensures refused { IfErr result (λ e. e ≡ NoMemory) }
     {
@@ -181,6 +184,7 @@ impl<T: Drop> Words<T> {
         activation: &'g Activation,
         pass: &mut Pass,
     ) -> (u64, Glimpse<'g>)
+        requires shared { IsSharedAt self.now.links link }
         requires book { words_book self.now ≡ pass.old.name }
         requires within { IsInAt activation.now pass.old link }
         ensures sees { OnLink (words_book self.now) link (λ link. Sees link activation.now pass.old pass.new result.0 result.1) }
@@ -199,6 +203,7 @@ impl<T: Drop> Words<T> {
         activation: &'g Activation,
         pass: &mut Pass,
     ) -> (u64, Option<Found<'g, T>>)
+        requires shared { IsSharedAt self.now.links link }
         requires book { words_book self.now ≡ pass.old.name }
         requires within { IsInAt activation.now pass.old link }
         ensures finds { OnLink (words_book self.now) link (λ link. (finds : Finds link activation.now pass.old pass.new result.0)
@@ -214,6 +219,22 @@ impl<T: Drop> Words<T> {
         (word, Some(Found { value, glimpse }))
     }
 
+    /// What a link holds that stands still: its word, and what is lent with the value there, if there is one, for as long as the words are
+    /// borrowed. With it comes what the list calls the value. It makes no event, and needs no activation.
+    ///
+    /// It takes no memory: two loads to find the link and its word, and the look-up of a block, as `Blocks::see`.
+    pub fn peek_link(&self, link: usize) -> Option<(u64, Found<'_, T>)>
+        requires range { link < length (words_book self.now).links }
+        requires stands { (held : Option ℕ) × StandsAt self.now.links link held }
+        ensures held { (held : Option ℕ) → StandsAt self.now.links link held → (is_some result ≡ is_some held)
+            × IfSome result (λ found. (found.0 ≡ link_word held) × (found.1.glimpse.value ≡ held)
+            × IsFoundAs held (T.row.coded.code found.1.value.now)) }
+    {
+        let (word, row, mut glimpse) = self.links.get(link).peek()?;
+        let value = self.blocks.see_in(word - 1, &row, glimpse.again());
+        Some((word, Found { value, glimpse }))
+    }
+
     /// Exchanges what a link holds for a value that was never named, or for none, in any case: the event `ExchangeLink`. See `Link::swap`.
     ///
     /// It takes no memory and waits for nobody: one load to find the link, and one atomic swap.
@@ -225,6 +246,7 @@ impl<T: Drop> Words<T> {
         activation: &Activation,
         pass: &mut Pass,
     ) -> u64
+        requires shared { IsSharedAt self.now.links link }
         requires book { words_book self.now ≡ pass.old.name }
         requires within { IsInAt activation.now pass.old link }
         requires new { IsNewTo (words_book self.now) value.old new }
@@ -246,6 +268,7 @@ impl<T: Drop> Words<T> {
         activation: &'g Activation,
         pass: &mut Pass,
     ) -> (u64, Glimpse<'g>)
+        requires shared { IsSharedAt self.now.links link }
         requires book { words_book self.now ≡ pass.old.name }
         requires within { IsInAt activation.now pass.old link }
         requires new { IsNewTo (words_book self.now) value.old new }

@@ -6,10 +6,10 @@ ghost use Rattle.seize.specs.Blocks.{content, store_name};
 ghost use Rattle.seize.specs.Placing.{held_in};
 
 use crate::alone::hands::Hands;
-use crate::alone::links::{Exchanging, Reading};
+use crate::alone::links::{Exchanging, still_at};
 use crate::alone::place::{Place, Unit};
 use crate::alone::{Alone, Codes};
-use crate::block::{Owned, Taken};
+use crate::block::{Owned, Shared, Taken};
 use crate::reclaim::Reclaim;
 use seize_table::Refusal;
 use seize_words::book::{Pass, Stay};
@@ -60,11 +60,10 @@ impl<'a, T: Drop> Stay<Result<Owned<T>, (Refusal, T)>> for Making<'a, T> {
 
 impl<T: Drop, R: Reclaim<T>> Alone<T, R> {
     ghost use Rattle.std.specs.Prelude.{◌<◌, IfSome, option_map};
-    ghost use Rattle.std.specs.Fn.{FnOnceReturnsAt};
     ghost use Rattle.seize_model.specs.Waiting.Calls as calls;
     ghost use Rattle.seize.specs.Alones.{IsSame, ListGrows};
-    ghost use Rattle.seize.specs.Blocks.{Belongs, IsTakenOf, taken_content};
-    ghost use Rattle.seize.specs.Looks.{Looked, with_link};
+    ghost use Rattle.seize.specs.Blocks.{Belongs, IsTakenOf, shared_book, shared_value, taken_content};
+    ghost use Rattle.seize.specs.Looks.{with_link};
 
     /// A block of this value. It asks for memory only where the store has no free place.
     ///
@@ -113,6 +112,7 @@ impl<T: Drop, R: Reclaim<T>> Alone<T, R> {
         ensures same { IsSame self.old self.new }
         ensures grows { ListGrows self.old self.new }
     {
+        self.words.links.stir_at(link);
         let mut exchanging = Exchanging {
             words: &self.words,
             ender: &self.ender,
@@ -121,7 +121,9 @@ impl<T: Drop, R: Reclaim<T>> Alone<T, R> {
             new,
         };
         let old = self.porter.stay(&mut exchanging);
+        drop(exchanging);
         let old = Taken::out(old);
+        still_at(&mut self.words.links, link, &mut self.porter);
         self.hands = Hands::of::<Brand, usize>(&self.hands, &self.porter, &link);
         old
     }
@@ -155,51 +157,24 @@ impl<T: Drop, R: Reclaim<T>> Alone<T, R> {
         Ok(self.exchange(s, link, new))
     }
 
-    /// Looks at what a link holds: where it holds a block, `look` is called once, with its value, and its answer is given. The link is
-    /// below `links()`. Within the closure this is borrowed, so copy out what you need. But for what `look` does, it takes no memory.
+    /// What a link holds, which reads as its value for as long as this is borrowed. Any number of them stand at once. The link is below
+    /// `links()`. It makes no event, changes nothing, takes no memory and waits for nobody: where the link holds a block, four loads find it.
     ///
     /// # Errors
     ///
     /// In this order: `NotInUse`, `NotActive` where the slot has no guard.
-    pub fn look<A, F: FnOnce(&T) -> A>(
-        &mut self,
-        s: usize,
-        link: usize,
-        look: F,
-    ) -> Result<Option<A>, Refusal>
-        requires range { link < self.old.links }
-        requires look { (found : _) → calls.link_at self.old.state link ≡ Some found.now → F.pre look found }
-        ensures done { IfOk result (λ answer. (calls.no_guard self.old.state s ≡ None)
-            × Looked (FnOnceReturnsAt F.FnOnce look) (calls.link_at self.old.state link) answer) }
-        ensures refused { IfErr result (λ refusal. calls.no_guard self.old.state s ≡ Some refusal) }
-        ensures same { self.new ≡ record self.old { seen = self.new.seen } }
-        ensures grows { ListGrows self.old self.new }
+    pub fn protect(&self, s: usize, link: usize) -> Result<Option<Shared<'_, T>>, Refusal>
+        requires range { link < self.now.links }
+        ensures done { IfOk result (λ shared. (calls.no_guard self.now.state s ≡ None)
+            × (option_map shared_value shared ≡ calls.link_at self.now.state link)) }
+        ensures own { IfOk result (λ shared. IfSome shared (λ shared. shared_book shared ≡ self.now.book)) }
+        ensures refused { IfErr result (λ refusal. calls.no_guard self.now.state s ≡ Some refusal) }
     {
         self.guarded(s)?;
-        let mut reading = Reading {
-            words: &self.words,
-            unit: unit_at(&self.places, s),
-            link,
-        };
-        let Some(shared) = self.porter.stay(&mut reading) else {
+        let Some((word, found)) = self.words.peek_link(link) else {
             return Ok(None);
         };
-        Ok(Some(look(&shared)))
-    }
-
-    /// Whether a link holds a block. The link is below `links()`. It takes no memory.
-    ///
-    /// # Errors
-    ///
-    /// As `look`.
-    pub fn holds(&mut self, s: usize, link: usize) -> Result<bool, Refusal>
-        requires range { link < self.old.links }
-        ensures done { IfOk result (λ holds. (calls.no_guard self.old.state s ≡ None)
-            × (holds ≡ is_some (calls.link_at self.old.state link))) }
-        ensures refused { IfErr result (λ refusal. calls.no_guard self.old.state s ≡ Some refusal) }
-        ensures same { self.new ≡ record self.old { seen = self.new.seen } }
-        ensures grows { ListGrows self.old self.new }
-    {
-        Ok(self.look(s, link, |_| ())?.is_some())
+        let book = &self.words.blocks.book;
+        Ok(Some(Shared::of(found.value, word, found.glimpse, book)))
     }
 }

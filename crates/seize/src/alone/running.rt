@@ -150,8 +150,8 @@ impl<T: Drop, R: Reclaim<T>> Alone<T, R> {
             Call::Refresh(s) => Reply::plain(self.refresh(s, watch)),
             Call::Flush(s) => Reply::plain(self.flush(s, watch)),
             Call::Retire(s, owned, kind) => self.retires(s, owned, kind, watch),
-            Call::Protect(s, link) => match self.holds(s, link) {
-                Ok(found) => Reply::Found(found),
+            Call::Protect(s, link) => match self.protect(s, link) {
+                Ok(found) => Reply::Found(found.is_some()),
                 Err(refusal) => Reply::Refused(refusal, None),
             },
             Call::Swap(s, link, new, kind) => self.swaps(s, link, new, kind, watch),

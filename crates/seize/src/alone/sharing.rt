@@ -4,6 +4,7 @@ ghost use Rattle.seize.specs.Collectors.{its_book, its_id, its_size, seen_by};
 ghost use Rattle.seize_book.specs.Saying.{AllSay};
 ghost use Rattle.seize_book.specs.Porters.{HadStay};
 ghost use Rattle.seize_words.specs.Joined.{words_book};
+ghost use Rattle.seize_words.specs.Rows.{AreShared};
 ghost use Rattle.seize.specs.Enders.{IsEnderOf};
 ghost use Rattle.seize.specs.Laws.{HaveContents};
 ghost use Rattle.seize.specs.Placing.{MayLay};
@@ -12,6 +13,7 @@ ghost use Rattle.seize.specs.declared.alone.place.Place.{Place};
 
 use crate::alone::Alone;
 use crate::alone::hands::Hands;
+use crate::alone::links::still;
 use crate::alone::place::{Place, Within};
 use crate::alone::shelving::lay_all;
 use crate::collector::Collector;
@@ -75,13 +77,14 @@ impl<T: Drop, R: Reclaim<T>> Collector<T, R> {
             × GoesOnTo alone.book (seen_by self) alone.seen) }
         ensures back { IfErr result (λ c. IsSameCollector self c × ¬ (NoneInUse c)) }
     {
-        let (words, mut porter, numbers, ender, id, alloc) = self.into_parts();
+        let (mut words, mut porter, numbers, ender, id, alloc) = self.into_parts();
         let (found, numbers) = rest(&words, &ender, alloc, &mut porter, numbers);
         let Found { made, places, all } = found;
         if !all {
             return Err(shared(words, porter, numbers, places, ender, id, alloc));
         }
         let hands = Hands::first::<Brand, Vec<Option<Place<T>>>>(&porter, &places);
+        still(&mut words.links, &mut porter);
         Ok(Alone {
             words,
             porter,
@@ -109,6 +112,7 @@ pub(super) fn shared<T: Drop, R: Reclaim<T>>(
     requires porter { (porter.name ≡ words_book words) × (porter.size ≡ words.size) }
     requires numbers { numbers ≡ (words_book words).family }
     requires ender { IsEnderOf words (box_value ender) }
+    requires shared { AreShared words.links }
     requires places { (s : ℕ) (place : Place T) → get_or places.items s None ≡ Some place → MayLay (words_book words) place }
     ensures same { (its_book result ≡ words_book words) × (its_size result ≡ words.size) × (its_id result ≡ id)
         × (seen_by result ≡ porter.seen) }
@@ -138,7 +142,7 @@ impl<T: Drop, R: Reclaim<T>> Alone<T, R> {
             × (its_links result ≡ self.links) × (seen_by result ≡ self.seen) }
     {
         let Alone {
-            words,
+            mut words,
             porter,
             numbers,
             places,
@@ -148,6 +152,7 @@ impl<T: Drop, R: Reclaim<T>> Alone<T, R> {
             alloc,
             hands: _,
         } = self;
+        words.links.stir();
         shared(words, porter, numbers, places, ender, id, alloc)
     }
 }

@@ -6,6 +6,7 @@ ghost use Rattle.seize_book.specs.Passes.{LooksOn};
 ghost use Rattle.seize_words.specs.Chunks.{IsFoundAt, blocks_book};
 ghost use Rattle.seize_words.specs.Joined.{IsInAt, IsNewTo, OnLink, words_book};
 ghost use Rattle.seize_words.specs.LinkWords.{CompareExchanges, value_held};
+ghost use Rattle.seize_words.specs.Rows.{IsSharedAt};
 ghost use Rattle.seize.specs.Blocks.{IsNamed, Shows};
 ghost use Rattle.seize.specs.Collectors.{IsBlockOf, its_book};
 ghost use Rattle.seize_book.specs.Homesteads.{HasNumber, state_seen};
@@ -42,6 +43,7 @@ pub(crate) fn exchange<'g, T: Drop, E: Expects>(
     activation: &'g Activation,
     pass: &mut Pass,
 ) -> (u64, Glimpse<'g>)
+    requires shared { IsSharedAt words.now.links link }
     requires book { words_book words.now ≡ pass.old.name }
     requires within { IsInAt activation.now pass.old link }
     requires new { IsNewTo (words_book words.now) key.old new }

@@ -49,7 +49,7 @@ invariant_of-self g c =
     let now : c.of.result.state ≡ set_guards st s 1 = c.of.ensures.0 in
     alone_again a stay c.of.result (slice_set items s (Some place)) inside.made
     (a.counted ∙ sym (ap (λ (x : State g.row.T.Denot ℕ). length x.slots) now ∙ length-set st.slots s slot'))
-    (ap (λ (x : State g.row.T.Denot ℕ). x.size) now) (ap (λ (x : State g.row.T.Denot ℕ). length x.links) now)
+    (ap (λ (x : State g.row.T.Denot ℕ). x.size) now) (ap (λ (x : State g.row.T.Denot ℕ). x.links) now)
     (subst (λ (x : State g.row.T.Denot ℕ). ArePlaces n x (slice_set items s (Some place))) (sym now)
     (laid n st s slot' items place a.placed there (place_there n st items a.placed s used) used
     (ap lies_in c.begin.ensures.place ∙ (λ j. ((is j).0, (1, ((is j).1.1.0, ((ap (λ o. option_map unit_in o) stay.gives.1 ∙ (λ i. Some ((had.gives.2 ∙ at.1) i, had.gives.1.0.book i))) j, (is j).1.1.1.1))))))))

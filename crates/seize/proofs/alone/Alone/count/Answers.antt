@@ -46,7 +46,7 @@ invariant_of-self g c =
     let unit = ap (λ (t : Lies). t.1.1.1.0) is ∙ ap (λ (b : Bool). if b then Some (s, n) else None) same in
     alone_still a c.of.result (slice_set items s (Some place))
     (ap (λ (x : State g.row.T.Denot ℕ). length x.slots) now ∙ length-set st.slots s slot')
-    (ap (λ (x : State g.row.T.Denot ℕ). x.size) now) (ap (λ (x : State g.row.T.Denot ℕ). length x.links) now)
+    (ap (λ (x : State g.row.T.Denot ℕ). x.size) now) (ap (λ (x : State g.row.T.Denot ℕ). x.links) now)
     (subst (λ (x : State g.row.T.Denot ℕ). ArePlaces n x (slice_set items s (Some place))) (sym now)
     (laid n st s slot' items place a.placed there (place_there n st items a.placed s used) used
     (λ j. ((is j).0, (c.args.guards, ((is j).1.1.0, (unit j, (is j).1.1.1.1)))))))

@@ -24,7 +24,10 @@ reclaim_by-requires g c =
       ),
     )
 
+pub stir-requires : goal.stir-requires
+stir-requires g c l less = let stands = c.self.invariant.stand l less in (stands.0, stands.1)
+
 pub shared-requires : goal.shared-requires
 shared-requires g c =
     let a = c.self.invariant in let lends = lends_again a c.reclaim_by.ensures.goes in let did = c.reclaim_by.ensures in
-    (omega arith, (omega arith, ((lends.0, lends.1), (did.numbers ∙ a.numbered, (a.ends, λ s place is. absurd (let none = sym (did.places s) ∙ is in cc))))))
+    (omega arith, (omega arith, ((lends.0, lends.1), (did.numbers ∙ a.numbered, (a.ends, (c.stir.ensures.shared, λ s place is. absurd (let none = sym (did.places s) ∙ is in cc)))))))

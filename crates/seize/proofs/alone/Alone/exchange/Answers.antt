@@ -1,4 +1,4 @@
-use Rattle.std.proofs.Common.{◌≡◌, ℕ, ◌<◌, Option, None, length, option_map, refl, sym, ap, subst, ◌∙◌}
+use Rattle.std.proofs.Common.{◌≡◌, ℕ, ◌<◌, List, Option, None, length, option_map, refl, sym, ap, subst, ◌∙◌}
 use Rattle.std.proofs.lemmas.List.{get_or-set_same, length-set}
 use Rattle.seize_model.specs.Waiting.Calls.{link_at}
 use Rattle.seize_model.specs.Waiting.State.{State}
@@ -9,9 +9,21 @@ use Rattle.seize.specs.Alones.{View}
 use Rattle.seize.specs.Blocks.{content}
 use Rattle.seize.specs.Looks.{with_link}
 use Rattle.seize.specs.Placing.{ArePlaces}
+use Rattle.seize.specs.Stillness.{AreStill, state_at}
+use Rattle.seize_alone.proofs.Singles.{link_held}
+use Rattle.seize_book.specs.Entry.{Entry}
+use Rattle.seize_book.specs.Tokens.{Name}
+use Rattle.seize_machine.specs.Machine.State.{link_at as held_at}
 use Rattle.seize.proofs.Linked.{named_value, one_link, out_has, out_value}
-use Rattle.seize.proofs.Lone.{alone_again, held_again, knows, list_grows}
+use Rattle.seize.proofs.Lone.{held_again, knows, list_grows}
+use Rattle.seize.proofs.Still.{alone_swapped, holds_so, stand_swapped}
 use Rattle.seize.proofs.alone.Alone.exchange.Goals as goal
+
+pub stir_at-requires : goal.stir_at-requires
+stir_at-requires g c =
+    let link = c.args.link in let words = c.self.inside.words in let less = subst (λ (m : ℕ). link < m) (ap (λ (v : View g.row.T.Denot). v.links) (sym c.self.view_is)) c.requires.range in
+    let there = subst (λ (n : Name). link < length n.links) (sym words.linked) less in let s = c.self.invariant.stand link there in
+    record { stands = (there, (s.0, s.1)) }
 
 pub out-old-requires-clause-content : goal.out-old-requires-clause-content
 out-old-requires-clause-content g c =
@@ -26,18 +38,23 @@ of-requires g c =
     let new : Option g.row.T.Denot = option_map content c.args.new in
     let swapped = swaps_held g.row.T.coded hands.state hands.names hands.kinds c.unit_at.result.now.number c.args.link gives.0 gives.1 new stay.lent stay.back gives.2 k.holds
     (named_value g.row.T.coded.code c.args.new gives.0 gives.3) in
-    (with_link hands.state c.args.link new, swapped.0.0, hands.kinds, ((new, refl), held_again a stay swapped.0.1))
+    (with_link hands.state c.args.link new, swapped.0.0, hands.kinds, ((new, refl), holds_so c.stay-old.new.self c.still_at.new.porter c.still_at.ensures.porter (held_again a stay swapped.0.1)))
 
 pub invariant_of-self : goal.invariant_of-self
 invariant_of-self g c =
     let a = c.self.invariant in let inside = c.self.inside in let st = inside.hands.state in let new : Option g.row.T.Denot = c.of.ensures.0.0 in
     let now : c.of.result.state ≡ with_link st c.args.link new = c.of.ensures.0.1 in
-    alone_again a c.stay-old.ensures c.of.result inside.places.items inside.made
-    (a.counted ∙ sym (ap (λ (x : State g.row.T.Denot ℕ). length x.slots) now))
+    let code = g.row.T.coded.code in let link = c.args.link in let same = c.still_at.ensures.porter in let porter = c.stay-old.new.self in let holds = c.of.ensures.1 in let after = with_link st link new in
+    let seen = subst (λ (t : Name × List Entry). Holds code after c.of.result.names c.of.result.kinds t.0 t.1) (λ j. (same.0 j, same.2 j)) (subst (λ (x : State g.row.T.Denot ℕ). Holds code x c.of.result.names c.of.result.kinds c.still_at.new.porter.name c.still_at.new.porter.seen) now holds) in
+    let held = link_held g.row.T.coded after c.of.result.names c.of.result.kinds porter.name porter.seen link seen in
+    let stand = stand_swapped code inside.words.links c.stir_at.new.self c.still_at.new.links st link new (held_at (state_at porter) link) c.stir_at.ensures.same c.still_at.ensures.same c.still_at.ensures.stands held a.stand in
+    alone_swapped a c.stay-old.ensures same _ refl refl c.of.result
+    (ap (λ (x : State g.row.T.Denot ℕ). length x.slots) now)
     (ap (λ (x : State g.row.T.Denot ℕ). x.size) now)
-    (ap (λ (x : State g.row.T.Denot ℕ). length x.links) now ∙ length-set st.links c.args.link new)
+    (ap (λ (x : State g.row.T.Denot ℕ). length x.links) now ∙ length-set st.links link new)
+    (subst (λ (x : State g.row.T.Denot ℕ). AreStill code c.still_at.new.links x.links) (sym now) stand)
     (subst (λ (x : State g.row.T.Denot ℕ). ArePlaces (words_book inside.words) x inside.places.items) (sym now) a.placed)
-    c.of.ensures.1
+    holds
 
 pub returns-clause-held : goal.returns-clause-held
 returns-clause-held g c =
@@ -54,10 +71,10 @@ returns-clause-state g c =
     let now : c.of.result.state ≡ with_link hands.state link picked = c.of.ensures.0.1 in
     let swapped = swaps_held g.row.T.coded hands.state hands.names hands.kinds c.unit_at.result.now.number link gives.0 gives.1 new stay.lent stay.back gives.2 k.holds
     (named_value g.row.T.coded.code c.args.new gives.0 gives.3) in
-    let porter = c.stay-old.new.self in
+    let porter = c.still_at.new.porter in
     let same : picked ≡ new = one_link g.row.T.coded hands.state link (subst (λ (m : ℕ). link < m) (ap (λ (v : View g.row.T.Denot). v.links) (sym c.self.view_is) ∙ sym a.linked) c.requires.range) picked new
     (subst (λ (x : State g.row.T.Denot ℕ). Holds g.row.T.coded.code x c.of.result.names c.of.result.kinds porter.name porter.seen) now c.of.ensures.1)
-    (held_again a stay swapped.0.1) in
+    (holds_so c.stay-old.new.self c.still_at.new.porter c.still_at.ensures.porter (held_again a stay swapped.0.1)) in
     now ∙ ap (λ (x : Option g.row.T.Denot). with_link hands.state link x) same ∙ ap (λ (v : View g.row.T.Denot). with_link v.state link new) c.self.view_is
 
 pub returns-clause-holds : goal.returns-clause-holds

@@ -47,7 +47,7 @@ invariant_of-self g c =
     same_numbers (
     alone_again a stay c.of.result c.out-place.new.places.items inside.made
     (a.counted ∙ sym (ap (λ (x : State g.row.T.Denot ℕ). length x.slots) now ∙ length-set st.slots s slot'))
-    (ap (λ (x : State g.row.T.Denot ℕ). x.size) now) (ap (λ (x : State g.row.T.Denot ℕ). length x.links) now)
+    (ap (λ (x : State g.row.T.Denot ℕ). x.size) now) (ap (λ (x : State g.row.T.Denot ℕ). x.links) now)
     (subst (λ (t : State g.row.T.Denot ℕ × List (Option (Place g.row.T.Denot))). ArePlaces n t.0 t.1) (λ j. (sym now j, sym c.out-place.ensures.places.0 j))
     (set_place n st items s slot' None a.placed (slot_there st s used) c.out-place.ensures.places.1 refl))
     c.of.ensures.1

@@ -60,7 +60,7 @@ invariant_of-self g c =
     alone_again a stay c.of.result (slice_set items s (Some place)) inside.made
     (a.counted ∙ sym (ap (λ (x : State g.row.T.Denot ℕ). length x.slots) now ∙ slots_in then (set_guards st s 0) same ∙ length-set st.slots s slot'))
     (ap (λ (x : State g.row.T.Denot ℕ). x.size) now ∙ parts_size P.puts P.weight st s)
-    (ap (λ (x : State g.row.T.Denot ℕ). length x.links) now ∙ ap (λ (l : List (Option g.row.T.Denot)). length l) (part_links P.puts P.weight st s))
+    (ap (λ (x : State g.row.T.Denot ℕ). x.links) now ∙ part_links P.puts P.weight st s)
     (subst (λ (x : State g.row.T.Denot ℕ). ArePlaces n x (slice_set items s (Some place))) (sym now)
     (places_still n (set_guards st s 0) then (slice_set items s (Some place)) same
     (laid n st s slot' items place a.placed there (place_there n st items a.placed s used) used

@@ -45,7 +45,7 @@ invariant_of-self g c =
     alone_again a stay c.of.result places inside.made
     (a.counted ∙ sym (ap (λ (x : State g.row.T.Denot ℕ). length x.slots) now ∙ all_many P.puts P.weight st))
     (ap (λ (x : State g.row.T.Denot ℕ). x.size) now ∙ all_size P.puts P.weight st)
-    (ap (λ (x : State g.row.T.Denot ℕ). length x.links) now ∙ ap (λ (l : List (Option g.row.T.Denot)). length l) (all_links P.puts P.weight st))
+    (ap (λ (x : State g.row.T.Denot ℕ). x.links) now ∙ all_links P.puts P.weight st)
     (subst (λ (x : State g.row.T.Denot ℕ). ArePlaces n x places) (sym now) placed)
     c.of.ensures.1
     ) c.reclaim_by.ensures.numbers

@@ -4,7 +4,10 @@ use Rattle.seize_alone.proofs.Shown.{owned_shown}
 use Rattle.seize.proofs.Homing.{may_lay}
 use Rattle.seize.proofs.alone.Alone.share.Goals as goal
 
+pub stir-requires : goal.stir-requires
+stir-requires g c l less = let stands = c.self.invariant.stand l less in (stands.0, stands.1)
+
 pub shared-requires : goal.shared-requires
 shared-requires g c =
     let a = c.self.invariant in let inside = c.self.inside in let n = words_book inside.words in
-    (omega arith, (omega arith, ((a.lends.0, a.lends.1), (a.numbered, (a.ends, λ s place is. may_lay n n inside.hands.state inside.places.items a.placed (owned_shown a.holds) refl s place is)))))
+    (omega arith, (omega arith, ((a.lends.0, a.lends.1), (a.numbered, (a.ends, (c.stir.ensures.shared, λ s place is. may_lay n n inside.hands.state inside.places.items a.placed (owned_shown a.holds) refl s place is))))))

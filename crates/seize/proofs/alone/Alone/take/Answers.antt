@@ -69,7 +69,7 @@ invariant_of-self-2 g c =
     λ many counted.
     same_numbers
     (alone_again a stay result items many (counted ∙ sym (ap (λ (x : State g.row.T.Denot ℕ). length x.slots) now))
-    (ap (λ (x : State g.row.T.Denot ℕ). x.size) now ∙ grown_size st n kind) (ap (λ (x : State g.row.T.Denot ℕ). length x.links) now ∙ grown_links st n kind) placed holds)
+    (ap (λ (x : State g.row.T.Denot ℕ). x.size) now ∙ grown_size st n kind) (ap (λ (x : State g.row.T.Denot ℕ). x.links) now ∙ grown_links st n kind) placed holds)
     (λ j. (stay.gives.0 j).now) in
     elim c.if-number-self.branch [
       | then-number-self w ↦

@@ -4,11 +4,13 @@ use Rattle.seize_book.specs.Homesteads.{state_seen}
 use Rattle.seize_book.specs.Porters.{GoesOnTo}
 use Rattle.seize_book.specs.Tokens.{Name}
 use Rattle.seize_words.specs.Joined.{words_book}
-use Rattle.seize.specs.Collectors.{its_book}
+use Rattle.seize_words.specs.Rows.{AreShared}
+use Rattle.seize.specs.Collectors.{its_book, seen_by}
 use Rattle.seize.specs.Enders.{IsEnderOf}
 use Rattle.seize.specs.Placing.{IsLeftAt, MayLay}
 use Rattle.seize.proofs.Homing.{all_placed, left_may, many_slots, starts}
 use Rattle.seize.proofs.Lone.{goes_through}
+use Rattle.seize.proofs.Still.{holds_so, stand_first}
 use Rattle.seize.proofs.collector.Collector.alone.Goals as goal
 
 pub first-hands-requires : goal.first-hands-requires
@@ -31,7 +33,10 @@ shared-requires g c =
             c.rest-found.ensures.numbers ∙ parts.2 ∙ self.numbered ∙ sym (ap (λ w. (words_book w).family) parts.0),
             (
               subst (λ w. IsEnderOf w (box_value c.into_parts-words.result.3)) (sym parts.0) (subst (λ e. IsEnderOf self.words (box_value e)) (sym parts.3) self.ends),
-              λ s place is. subst (λ (n : Name). MayLay n place) back (left_may stay.back.name (state_seen stay.back) s place (stay.gives.0.left s place is)),
+              (
+                subst (λ w. AreShared w.links) (sym parts.0) self.shared,
+                λ s place is. subst (λ (n : Name). MayLay n place) back (left_may stay.back.name (state_seen stay.back) s place (stay.gives.0.left s place is)),
+              ),
             ),
           ),
         ),
@@ -44,15 +49,16 @@ invariant_of-result g c =
     let own : stay.lent.name ≡ its_book self = stay.shut.book.0 ∙ ap (λ porter. porter.name) parts.1 ∙ self.lends.0 in let back : stay.back.name ≡ words_book words = stay.same.0 ∙ own ∙ sym (ap words_book parts.0) in
     let name : porter.name ≡ words_book words = sym stay.again.0.0 ∙ back in
     let size : porter.size ≡ words.size = sym stay.again.0.1 ∙ stay.same.2 ∙ stay.shut.book.1 ∙ ap (λ porter. porter.size) parts.1 ∙ self.lends.1 ∙ sym (ap (λ w. w.size) parts.0) in
-    let first = c.first-hands.ensures in let hands = c.first-hands.result in let found = c.rest-found.result.0 in record {
-      lends = (name, size, stay.again.2);
+    let first = c.first-hands.ensures in let hands = c.first-hands.result in let found = c.rest-found.result.0 in let same = c.still.ensures.porter in record {
+      lends = (same.0 ∙ name, same.1 ∙ size, same.3);
       numbered = c.rest-found.ensures.numbers ∙ parts.2 ∙ self.numbered ∙ sym (ap (λ w. (words_book w).family) parts.0);
       ends = subst (λ w. IsEnderOf w (box_value c.into_parts-words.result.3)) (sym parts.0) (subst (λ e. IsEnderOf self.words (box_value e)) (sym parts.3) self.ends);
       counted = many_slots g.row.T.coded.code stay.lent stay.back porter found stay.gives.0 stay.again hands.state hands.names hands.kinds first.0;
       sized = first.1 ∙ size;
       linked = first.2 ∙ ap (λ (n : Name). length n.links) name;
       placed = all_placed (words_book words) (state_seen stay.back) hands.state found.places.items first.3 (λ s place is. subst (λ (n : Name). IsLeftAt n (state_seen stay.back) s place) back (stay.gives.0.left s place is));
-      holds = first.0;
+      stand = stand_first g.row.T.coded c.still.new.links porter hands.state hands.names hands.kinds c.still.ensures.stand first.0;
+      holds = holds_so porter c.still.new.porter same first.0;
     }
 
 pub returns-clause-made : goal.returns-clause-made
@@ -69,5 +75,5 @@ returns-clause-made g c =
       ap (λ w. length (words_book w).links) parts.0,
       first.1 ∙ size,
       first.2 ∙ ap (λ (n : Name). length n.links) (name ∙ ap words_book parts.0),
-      subst (λ (t : Name × List Entry). GoesOnTo t.0 t.1 porter.seen) (λ j. (own_words j, (parts.1 j).seen)) (goes_through stay comes.goes_on),
+      subst (GoesOnTo (words_book words) (seen_by self)) (sym c.still.ensures.porter.2) (subst (λ (t : Name × List Entry). GoesOnTo t.0 t.1 porter.seen) (λ j. (own_words j, (parts.1 j).seen)) (goes_through stay comes.goes_on)),
     )

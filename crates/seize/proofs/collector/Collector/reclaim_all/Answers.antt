@@ -9,6 +9,7 @@ use Rattle.seize_calls.specs.Alone.{AllBy}
 use Rattle.seize_machine.specs.Machine.Laws.{is_quiet}
 use Rattle.seize.specs.Sweeps.{IsCleared, StandsInUse}
 use Rattle.seize_words.specs.Joined.{with_size, words_book}
+use Rattle.seize_words.specs.Rows.{AreShared}
 use Rattle.seize_words.specs.declared.words.Words.{Words}
 use Rattle.seize.specs.Collectors.{its_book}
 use Rattle.seize.specs.Enders.{IsEnderOf}
@@ -23,6 +24,7 @@ invariant_of-self g c =
     let stay = c.stay-all.ensures in let leave = c.leave_home.ensures in let self = c.args.self.now in let to = c.set_size.ensures.porter in let back = c.set_size-2.ensures.porter in
     let words = sized_back self.words c.set_size.new.self c.set_size-2.new.self c.set_size.ensures.words c.set_size-2.ensures.words in record {
       lends = (back.0 ∙ leave.0.0 ∙ sym stay.again.0.0 ∙ stay.same.0 ∙ stay.shut.book.0 ∙ to.0 ∙ self.lends.0 ∙ sym (ap words_book words), back.1 ∙ sym (ap (λ w. w.size) words), back.3 ∙ leave.2);
+      shared = subst (λ w. AreShared w.links) (sym words) self.shared;
       numbered = ap (λ r. r.now) stay.gives.0 ∙ self.numbered ∙ sym (ap (λ w. (words_book w).family) words);
       ends = subst (λ w. IsEnderOf w (box_value self.ender)) (sym words) self.ends;
     }

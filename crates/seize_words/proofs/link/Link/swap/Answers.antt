@@ -1,8 +1,9 @@
-use Rattle.std.proofs.Common.{ℕ, [], ◌∷◌, Option, true, refl, sym, ◌∙◌, subst}
+use Rattle.std.proofs.Common.{ap, ℕ, [], ◌∷◌, Option, true, refl, sym, ◌∙◌, subst}
 use Rattle.seize_machine.specs.Machine.Event.{ExchangeLink}
 use Rattle.seize_machine.specs.declared.machine.event.Exchange.TheVariants.{Swap}
 use Rattle.seize_book.specs.Entry.{Made}
 use Rattle.seize_words.specs.Atomic.{TakesStep as Took, entries}
+use Rattle.seize_words.specs.LinkSites.{site_in}
 use Rattle.seize_words.specs.LinkWords.{link_number, value_held}
 use Rattle.seize_words.specs.Links.{IsNewIn}
 use Rattle.seize_words.specs.Stepping.{MayStep}
@@ -17,18 +18,18 @@ swap_in-requires c =
     let link = c.args.self.now in let a = c.args.activation.now in let pass = c.args.pass.now in let in_ = c.requires.within in let l = link_number link in let value = c.args.value.now in let held = value.keys.held in
     let fresh = subst (λ (n : Name). IsNewIn n (value_held value) held) in_.book.0 c.requires.new.1 in
     let may = may_swap_link pass.name a.slot a.life l a.since pass.seen in_.within pass.id pass.size c.args.new held value.value fresh c.requires.new.2 in (
-      in_.book.0,
+      ap (λ (t : Site). t.name) c.shared.ensures ∙ in_.book.0,
       c.requires.new.0 ∙ in_.book.0,
-      subst (λ (t : Site). MayStep t pass.id pass.seen held (a.life ∷ []) [] (λ v. c.args.new) (λ v log. Made (record { pass = pass.id; size = pass.size; event = ExchangeLink a.slot l (Swap (value_held value)); life = 0; kepts = [] })) (λ v. true))
-          (sym (is_at link.word pass.name in_.book.0 link.link)) may,
+      subst (λ (t : Site). MayStep t pass.id pass.seen held (a.life ∷ []) [] (λ v. c.args.new) (λ v log. Made (record { pass = pass.id; size = pass.size; event = ExchangeLink a.slot t.number (Swap (value_held value)); life = 0; kepts = [] })) (λ v. true))
+          (sym (c.shared.ensures ∙ is_at (site_in link.word) pass.name in_.book.0 link.link)) may,
     )
 
 pub returns : goal.returns
 returns c =
     let link = c.args.self.now in let a = c.args.activation.now in let pass = c.args.pass.now in let in_ = c.requires.within in let l = link_number link in let value = c.args.value.now in
     let ev = λ (o : Option ℕ). ExchangeLink a.slot l (Swap (value_held value)) in
-    let told = subst (λ (t : Site). Took t value.keys pass c.swap_in.new.keys c.swap_in.new.pass (a.life ∷ []) (λ v. c.args.new) c.swap_in.result (entries pass 0 (λ v log. ExchangeLink a.slot l (Swap (value_held value)))) (λ v. true))
-    (is_at link.word pass.name in_.book.0 link.link) c.swap_in.ensures in
+    let told = subst (λ (t : Site). Took t value.keys pass c.swap_in.new.keys c.swap_in.new.pass (a.life ∷ []) (λ v. c.args.new) c.swap_in.result (entries pass 0 (λ v log. ExchangeLink a.slot t.number (Swap (value_held value)))) (λ v. true))
+    (c.shared.ensures ∙ is_at (site_in link.word) pass.name in_.book.0 link.link) c.swap_in.ensures in
     record {
       swaps = (
         taken link a pass c.swap_in.new.pass in_ value.keys c.swap_in.new.keys (λ v. c.args.new) c.swap_in.result ev (λ v. true) told,
@@ -43,6 +44,6 @@ pub invariant_of-value : goal.invariant_of-value
 invariant_of-value c =
     let link = c.args.self.now in let a = c.args.activation.now in let pass = c.args.pass.now in let in_ = c.requires.within in let l = link_number link in let value = c.args.value.now in
     let ev = λ (o : Option ℕ). ExchangeLink a.slot l (Swap (value_held value)) in
-    let told = subst (λ (t : Site). Took t value.keys pass c.swap_in.new.keys c.swap_in.new.pass (a.life ∷ []) (λ v. c.args.new) c.swap_in.result (entries pass 0 (λ v log. ExchangeLink a.slot l (Swap (value_held value)))) (λ v. true))
-    (is_at link.word pass.name in_.book.0 link.link) c.swap_in.ensures in
+    let told = subst (λ (t : Site). Took t value.keys pass c.swap_in.new.keys c.swap_in.new.pass (a.life ∷ []) (λ v. c.args.new) c.swap_in.result (entries pass 0 (λ v log. ExchangeLink a.slot t.number (Swap (value_held value)))) (λ v. true))
+    (c.shared.ensures ∙ is_at (site_in link.word) pass.name in_.book.0 link.link) c.swap_in.ensures in
     record { value = still_one link a pass c.swap_in.new.pass in_ value.keys c.swap_in.new.keys (λ v. c.args.new) c.swap_in.result ev (λ v. true) told value.value }

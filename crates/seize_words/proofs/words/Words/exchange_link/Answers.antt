@@ -2,4 +2,4 @@ use Rattle.std.proofs.Common.{◌∙◌}
 use Rattle.seize_words.proofs.words.Words.exchange_link.Goals as goal
 
 pub returns : goal.returns
-returns g c = record { exchanges = (c.get.result.now, (c.get.ensures.0 ∙ c.args.self.now.linked, c.get.ensures.1), c.compare_exchange.ensures.exchanges) }
+returns g c = record { exchanges = (c.get.result.now, (c.get.ensures.at.0 ∙ c.args.self.now.linked, c.get.ensures.at.1), c.compare_exchange.ensures.exchanges) }

@@ -1,0 +1,28 @@
+-- Links that stand still, in one caller's hands.
+--     state_at porter          the machine after all that the porter has seen
+--     IsSamePorter p p'        it is the same porter, at home, and has seen what it had seen
+--     AllStill links           each link stands still
+--     AreStill code links ls   and holds what this list says, by its value: with what it holds the code of that is lent
+use Rattle.std.specs.Prelude.{◌≡◌, ℕ, ◌<◌, true, List, Option, None, slice_index_or}
+use base.Stored.{Gv}
+use Rattle.seize_machine.specs.Machine.State.{State}
+use Rattle.seize_book.specs.Book.{after}
+use Rattle.seize_book.specs.Tokens.{start}
+use Rattle.seize_book.specs.declared.book.porter.Porter.{Porter}
+use Rattle.seize_words.specs.Named.{link_count}
+use Rattle.seize_words.specs.Rows.{StandsAt}
+use Rattle.seize_words.specs.declared.link.row.Links.{Links}
+use Rattle.seize_alone.specs.Events.{IsHeldAs}
+
+abbrev pub state_at : Porter → State
+state_at porter = after (start porter.name) porter.seen
+
+abbrev pub IsSamePorter : Porter → Porter → Type 0
+IsSamePorter p p' = (p'.name ≡ p.name) × (p'.size ≡ p.size) × (p'.seen ≡ p.seen) × (p'.home ≡ true)
+
+abbrev pub AllStill : Links → Type 0
+AllStill links = (l : ℕ) → l < link_count links → (held : Option ℕ) × StandsAt links l held
+
+abbrev pub AreStill : {T : Type 0} → (T → Gv) → Links → List (Option T) → Type 0
+AreStill code links ls =
+    (l : ℕ) → l < link_count links → (held : Option ℕ) × StandsAt links l held × IsHeldAs code held (slice_index_or ls l None)
