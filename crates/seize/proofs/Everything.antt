@@ -2,7 +2,7 @@
 --     gone_in_turn, some_waits_then     the values that are gone in turn;  what waits then is what these put
 --     all_goes                   both together are the model's
 --     all_size, all_links, all_many, all_free     the size and the links stay, and as many slots; and each is free
-use Rattle.std.proofs.Common.{◌≡◌, ℕ, zero, suc, true, List, [], ◌∷◌, ◌++◌, length, map, Option, None, get_or, refl, sym, ap, subst, ◌∙◌}
+use Rattle.std.proofs.Common.{◌≡◌, ℕ, zero, suc, true, List, [], ◌∷◌, length, map, Option, get_or, refl, sym, ap, subst, ◌∙◌}
 use Rattle.std.specs.List.{range_with_len}
 use Rattle.std.proofs.lemmas.List.{length-map}
 use base.Stored.{Coded}

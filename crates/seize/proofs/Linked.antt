@@ -1,8 +1,8 @@
--- What reads and exchanges of links make where the pass is alone, with a unit of the slot's activation.
+-- What exchanges of links make where the pass is alone, with a unit of the slot's activation.
 use Rattle.std.proofs.Common.{◌≡◌, ℕ, ◌<◌, List, length, Option, None, Some, IfNone, IfSome, option_map, ap, refl, subst, sym, ◌∙◌}
 use Rattle.std.proofs.lemmas.List.{get_or-set_same}
 use base.Stored.{Coded, Gv}
-use Rattle.seize_machine.specs.Machine.Event.{ExchangeLink, ReadLink}
+use Rattle.seize_machine.specs.Machine.Event.{ExchangeLink}
 use Rattle.seize_machine.specs.declared.machine.event.Answer.TheVariants.{Link as Held}
 use Rattle.seize_machine.specs.declared.machine.event.Exchange.TheVariants.{Swap}
 use Rattle.seize_machine.specs.Machine.State.{link_at as held_at}
@@ -10,7 +10,7 @@ use Rattle.seize_model.specs.Waiting.Calls.{link_at}
 use Rattle.seize_model.specs.Waiting.State.{State}
 use Rattle.seize_alone.specs.Events.{IsHeldAs, MakesAlone}
 use Rattle.seize_alone.specs.Holding.{Holds}
-use Rattle.seize_alone.proofs.Ready.{read_alone, swapped_alone}
+use Rattle.seize_alone.proofs.Ready.{swapped_alone}
 use Rattle.seize_alone.proofs.Singles.{held_once, link_held}
 use Rattle.seize_book.specs.Book.{after}
 use Rattle.seize_book.specs.Entry.{Entry}
@@ -19,34 +19,27 @@ use Rattle.seize_book.specs.Tokens.{IsSole, Name, start}
 use Rattle.seize_book.specs.declared.book.pass.Pass.{Pass}
 use Rattle.seize_book.specs.declared.book.seen.Seen.{Seen}
 use Rattle.seize_words.specs.Joined.{words_book}
-use Rattle.seize_words.specs.LinkWords.{Finds, Swaps, held_before, link_number, value_held}
+use Rattle.seize_words.specs.LinkWords.{Swaps, held_before, link_number, value_held}
 use Rattle.seize_words.specs.declared.activation.Activation.{Activation}
 use Rattle.seize_words.specs.declared.link.Link.{Link}
 use Rattle.seize_words.specs.declared.link.MaybeKey.{MaybeKey}
 use Rattle.seize_words.specs.declared.words.Words.{Words}
 use Rattle.seize_calls.specs.Slots.{IsLooseIn, IsLooseOf, IsReadable, its_value}
 use Rattle.seize_calls.specs.declared.slot.Loose.{Loose}
-use Rattle.seize.specs.Blocks.{HasContent, IsNamed, LooseComesOut, ShowsIn, TakesOut, content, shared_value, taken_content}
+use Rattle.seize.specs.Blocks.{HasContent, IsNamed, LooseComesOut, TakesOut, content, taken_content}
 use Rattle.seize.specs.Looks.{with_link}
 use Rattle.seize.specs.Places.{IsUnmoved}
 use Rattle.seize.specs.Reservations.{IsUnitIn}
 use Rattle.seize.specs.declared.block.owned.Owned.{Owned}
-use Rattle.seize.specs.declared.block.shared.Shared.{Shared}
 use Rattle.seize.specs.declared.block.taken.Taken.{Taken}
 use Rattle.seize.proofs.Facts.{content_once}
 use Rattle.seize.proofs.Found.{none_held}
 use Rattle.seize.proofs.Readable.{swapped_readable}
-use Rattle.seize.proofs.Stilled.{alone_from, alone_then, still_learned}
+use Rattle.seize.proofs.Stilled.{alone_from, still_learned}
 
 module _ (n : Name) (s : ℕ) (unit : Activation) (seen : Seen) (its : IsUnitIn n s unit seen) (number : ℕ) (link : Link) (at : link_number link ≡ number) (pass learned : Pass) (sole : IsSole pass.id) (learns : Learns pass seen learned) where
   sole_learned : IsSole learned.id
   sole_learned = subst IsSole (sym learns.0.1) sole
-
-  -- a read, once the pass has learned that the activation began, and a look at the list
-  pub alone_finds : (pass' : Pass) (v : ℕ) (t : Finds link unit learned pass' v) → MakesAlone pass pass' (ReadLink s number) (Held (held_before t.reads))
-  alone_finds pass' v t =
-      subst (λ (k : ℕ × ℕ). MakesAlone pass pass' (ReadLink k.0 k.1) (Held (held_before t.reads))) (λ j. (its.slot j, at j))
-      (alone_from sole (still_learned seen learns) (alone_then (read_alone sole_learned t.reads) (record { same = t.looks.same; alone = t.looks.alone })))
 
   -- an exchange
   pub alone_swaps : (key : MaybeKey) (ready : Pass) (key' : MaybeKey) (pass' : Pass) (v : ℕ) → ready ≡ learned → (t : Swaps link unit key ready key' pass' v)
@@ -78,11 +71,6 @@ module _ {T : Type 0} (c : Coded T) (held : Option ℕ) (value : Option T) (is :
       go : (o : Option T) → IsHeldAs c.code None o → o ≡ None
       go (Some y) lent = absurd lent
       go None lent = refl
-
-  -- what a read found
-  pub read_value : (n : Name) (result : Option (Shared T)) → ShowsIn n c.code held result → option_map shared_value result ≡ value
-  read_value n (Some shared) shows = sym (one_value shows.1.0 (shared_value shared) shows.1.1 shows.1.2)
-  read_value n None shows = sym (no_value shows)
 
   -- what an exchange took out has a content
   pub out_has : (loose : Option Loose) → LooseComesOut held loose → IfSome loose (λ l. (x : T) × HasContent c.code (its_value l) x)

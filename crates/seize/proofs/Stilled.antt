@@ -36,7 +36,3 @@ same_pass sole still = λ j. record { marker = record {}; name = still.same.0 j;
 
 pub alone_from : {p q r : Pass} {event : Event} {answer : Answer} → IsSole p.id → IsUnmoved p q → MakesAlone q r event answer → MakesAlone p r event answer
 alone_from {p} {q} {r} {event} {answer} sole still makes = subst (λ (t : Pass). MakesAlone t r event answer) (same_pass sole still) makes
-
-pub alone_then : {p q r : Pass} {event : Event} {answer : Answer} → MakesAlone p q event answer → IsUnmoved q r → MakesAlone p r event answer
-alone_then {p} {q} {r} {event} {answer} makes still =
-    subst (λ (t : Pass). MakesAlone p t event answer) (sym (same_pass (subst IsSole (sym makes.same.1) makes.sole) still)) makes

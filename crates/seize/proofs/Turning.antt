@@ -7,9 +7,9 @@ use base.Stored.{Coded}
 use Rattle.seize_machine.specs.Machine.State.{are_distinct, linked_values}
 use Rattle.seize_model.specs.declared.kind.Kind.{Kind}
 use Rattle.seize_model.specs.declared.kind.Kind.TheVariants.{Registered}
-use Rattle.seize_model.specs.Waiting.Attempt.{StateAndGone, attempt, gives_up, with_batch_retired}
+use Rattle.seize_model.specs.Waiting.Attempt.{StateAndGone, attempt}
 use Rattle.seize_model.specs.Waiting.Calls.{is_free, least_unused, one_guard_less, set_guards, with_number_free, with_number_in_use}
-use Rattle.seize_model.specs.Waiting.State.{Slot as WaitingSlot, State, has_guard, is_kept, no_slot, slot_at}
+use Rattle.seize_model.specs.Waiting.State.{Slot as WaitingSlot, State, has_guard, no_slot, slot_at}
 use Rattle.seize_model.proofs.Cases.{either}
 use Rattle.seize_book.specs.Book.{IsLegalList}
 use Rattle.seize_book.specs.Passes.{IsSamePass}

@@ -1,8 +1,8 @@
 -- Links that stand still, in one caller's hands.
 --     state_at porter          the machine after all that the porter has seen
 --     IsSamePorter p p'        it is the same porter, at home, and has seen what it had seen
---     AllStill links           each link stands still
---     AreStill code links ls   and holds what this list says, by its value: with what it holds the code of that is lent
+--     AreStill code links ls   each link stands still, and holds what this list says, by its value: with what it holds the code of that is
+--                              lent
 use Rattle.std.specs.Prelude.{◌≡◌, ℕ, ◌<◌, true, List, Option, None, slice_index_or}
 use base.Stored.{Gv}
 use Rattle.seize_machine.specs.Machine.State.{State}
@@ -19,9 +19,6 @@ state_at porter = after (start porter.name) porter.seen
 
 abbrev pub IsSamePorter : Porter → Porter → Type 0
 IsSamePorter p p' = (p'.name ≡ p.name) × (p'.size ≡ p.size) × (p'.seen ≡ p.seen) × (p'.home ≡ true)
-
-abbrev pub AllStill : Links → Type 0
-AllStill links = (l : ℕ) → l < link_count links → (held : Option ℕ) × StandsAt links l held
 
 abbrev pub AreStill : {T : Type 0} → (T → Gv) → Links → List (Option T) → Type 0
 AreStill code links ls =

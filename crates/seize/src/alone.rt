@@ -44,8 +44,9 @@ use std::marker::{Brand, Model};
 
 /// A collector in one caller's hands. No call waits, and each returns, but for what a reclaimer, a watch or the `Drop` of a value does.
 ///
-/// Its drop reclaims all, in the order of `reclaim_all`; then each value in a link goes to the reclaimer, once, and all memory goes back.
-/// That no clause says. For a watch, call `reclaim_all` first.
+/// Its drop reclaims all, in the order of `reclaim_all`; then each value in a link goes to the reclaimer, once, as of kind 0. Memory goes
+/// back, but for rows of the store of which a block is still in hand, or was lost. That no clause says. For a watch, call `reclaim_all`
+/// first.
 pub struct Alone<T: Drop + Codes, R: Reclaim<T> = Boxed> {
     words: Words<T>,
     porter: Porter,
@@ -107,7 +108,8 @@ impl<T: Drop, R: Reclaim<T>> Alone<T, R> {
     /// What the collector's list of events says: it is legal, so every law of the machine holds of it; where it ends no call is under way;
     /// and it leads to the state, as numbers stand for values there. So each call that is made here is a legal list of events.
     ///
-    /// It makes no event, and does nothing when the program runs: its contract is the laws.
+    /// It makes no event, and does nothing when the program runs: its contract is the laws. Who has the `Alone` by `&mut` alone knows that
+    /// this is the whole list.
     pub fn laws(&mut self)
         ensures same { self.new ≡ self.old }
         ensures listed { AsListed T.row.coded.code self.old }

@@ -1,7 +1,7 @@
 -- What callers of the laws know: which events are made alone, the pass that is ready for a call, and what the model's calls answer where
 -- these laws speak of their states.
 --     entry_alone, made_alone      an event that a slot's holder added;  the number of a slot that was just made is taken
---     read_alone, swapped_alone    a link was read, or exchanged
+--     swapped_alone                a link was exchanged
 --     ready_holds, ready_sole      the pass that was made ready for a call has seen what it had seen, where it is alone
 --     nothing_further, nothing_flushed     what a call does where the reclaimer puts nothing
 --     least_is                     which number is taken
@@ -16,7 +16,7 @@ use Rattle.seize_table.specs.Place.{all_numbers}
 use Rattle.seize_table.specs.declared.refusal.Refusal.{Refusal}
 use Rattle.seize_table.specs.declared.refusal.Refusal.TheVariants.{NoNumbers, NotInUse, TooManyGuards, WrongKind}
 use Rattle.seize_machine.specs.Machine.State as machine
-use Rattle.seize_machine.specs.Machine.Event.{Event, ExchangeLink, ReadLink, Take}
+use Rattle.seize_machine.specs.Machine.Event.{Event, ExchangeLink, Take}
 use Rattle.seize_machine.specs.Machine.Next.{can_link, is_none_or_fresh}
 use Rattle.seize_machine.specs.declared.machine.event.Answer.{Answer}
 use Rattle.seize_machine.specs.declared.machine.event.Answer.TheVariants.{Link}
@@ -62,13 +62,6 @@ made_alone {numbers} {numbers'} {key} {key'} {pass} {pass'} sole makes = record 
 module _ {link : SharedLink} {a : Activation} {pass pass' : Pass} {event : Event} {v : ℕ} (sole : IsSole pass.id) (t : ActsOnLink link a pass pass' (λ _. event) v) where
   on_link : (answer : Answer) → t.noted.answer ≡ answer → MakesAlone pass pass' event answer
   on_link answer is = record { sole = sole; same = t.same; deed = private pass event; is = refl; noted = t.noted; answers = is }
-
-pub read_alone : {link : SharedLink} {a : Activation} {pass pass' : Pass} {s l v : ℕ} → IsSole pass.id → (t : ActsOnLink link a pass pass' (λ _. ReadLink s l) v) → MakesAlone pass pass' (ReadLink s l) (Link (machine.link_at (after (start pass.name) t.before) l))
-read_alone {link} {a} {pass} {pass'} {s} {l} {v} sole t =
-    let before = after (start pass.name) t.noted.before in
-    let done = if_some (can_link before s l) (before, Link (machine.link_at before l)) (t.noted.later, t.noted.answer) t.noted.does in
-    let ends = both_same (before, Link (machine.link_at before l)) (t.noted.later, t.noted.answer) (ap Some done.1) in
-    on_link sole t (Link (machine.link_at (after (start pass.name) t.before) l)) (sym ends.1 ∙ ap (λ (log : List Entry). Link (machine.link_at (after (start pass.name) log) l)) t.is_before)
 
 pub swapped_alone : {link : SharedLink} {a : Activation} {pass pass' : Pass} {s l v : ℕ} {number : Option ℕ} → IsSole pass.id → (t : ActsOnLink link a pass pass' (λ _. ExchangeLink s l (Swap number)) v)
     → MakesAlone pass pass' (ExchangeLink s l (Swap number)) (Link (machine.link_at (after (start pass.name) t.before) l))

@@ -1,5 +1,5 @@
 -- Single events that are made alone lead the hands from the state that they hold to the state that the model says.
-use Rattle.std.proofs.Common.{◌≡◌, ℕ, zero, suc, ◌==◌, ◌&&◌, true, false, not, List, [], ◌∷◌, ◌++◌, map, set, Option, Some, None, option_map, replicate, refl, sym, ap, subst, ◌∙◌, append-nil, arith}
+use Rattle.std.proofs.Common.{◌≡◌, ℕ, ◌==◌, ◌&&◌, true, false, not, List, [], ◌∷◌, ◌++◌, set, Option, Some, None, option_map, refl, sym, ap, subst, ◌∙◌, append-nil, arith}
 use Rattle.std.specs.Prelude.{Ok}
 use mathlib.Core.List.{IsPrefix}
 use base.Stored.{Coded}
@@ -18,7 +18,6 @@ use Rattle.seize_model.proofs.Simulation.Coupling.{NearAt}
 use Rattle.seize_model.proofs.Simulation.Guards.{enter_step, near_entered, near_guards}
 use Rattle.seize_model.proofs.Simulation.Links.{end_near, end_step, same_link, swapped_near}
 use Rattle.seize_model.proofs.Simulation.Numbers.{take_ends}
-use Rattle.seize_model.proofs.Simulation.Openings.{new_shown}
 use Rattle.seize_model.proofs.Simulation.Plays.{both_same}
 use Rattle.seize_model.proofs.Simulation.Views.{near_with, shows_with, with_reclaimers}
 use Rattle.seize_book.specs.Book.{after}
@@ -26,7 +25,7 @@ use Rattle.seize_book.specs.Entry.{Entry, Made}
 use Rattle.seize_book.specs.Slots.{slot_number}
 use Rattle.seize_book.specs.Tokens.{Name, start}
 use Rattle.seize_book.specs.declared.book.pass.Pass.{Pass}
-use Rattle.seize_alone.specs.Events.{EntersHeld, GivesHeld, GuardsHeld, IsHeldAs, MakesAlone, OpensHeld, OwnedLeavesHeld, ReadsHeld, SwapsHeld, TakesHeld}
+use Rattle.seize_alone.specs.Events.{EntersHeld, GivesHeld, GuardsHeld, IsHeldAs, MakesAlone, OwnedLeavesHeld, SwapsHeld, TakesHeld}
 use Rattle.seize_alone.specs.Holding.{AreLent, AreOfKinds, Holds, found, some_state, with_gone_below}
 use Rattle.seize_alone.proofs.Below.{active_below, free_below, guards_below, least_below, off_below, slot_below, use_below, used_below}
 use Rattle.seize_alone.proofs.Found.{all_later, found_lent, has_first, has_right, lent_append, lent_found, one_lent, reclaimers_on, same_some, shows_on}
@@ -73,31 +72,10 @@ module _ {T : Type 0} (c : Coded T) where
       held_of holds.gone now names kinds pass'.name pass'.seen holds.all.lent (all_later pass.seen pass'.seen (made_grows m) kinds holds.all.told)
       (subst (λ (x : waiting.State (Option T) (Option ℕ)). NearAt (with_reclaimers (found names) (found kinds)) [] x (state_then m)) is near)
 
-  -- A book just opened.
-
-  all_empty : (links : ℕ) → map (λ (o : Option T). option_map Some o) (replicate links None) ≡ replicate links None
-  all_empty zero = refl
-  all_empty (suc links) = ap (λ (l : List (Option (Option T))). None ∷ l) (all_empty links)
-
-  pub opens_held : OpensHeld c.code
-  opens_held n size links slots empty =
-      let started : start n ≡ machine.opening 0 (replicate links None) = λ i. machine.opening (slots i) (empty i) in
-      let model : some_state (waiting.new {T = T} {R = ℕ} size links) ≡ waiting.new size links = ap (λ (l : List (Option (Option T))). record (waiting.new {T = Option T} {R = Option ℕ} size links) { links = l }) (all_empty links) in
-      record {
-        gone = 0;
-        all = record {
-          shows = subst (λ (k : machine.State). ShowsState (Option T) (Option ℕ) (found []) (some_state (waiting.new {T = T} {R = ℕ} size links)) k) (sym started)
-              (subst (λ (x : waiting.State (Option T) (Option ℕ)). ShowsState (Option T) (Option ℕ) (found []) x (machine.opening 0 (replicate links None))) (sym model) (new_shown (found []) size links));
-          reclaimers = subst (λ (k : machine.State). ShowsReclaimers (Option T) (Option ℕ) (found []) (found []) (some_state (waiting.new {T = T} {R = ℕ} size links)) k) (sym started) (record { batches = λ s. refl; retired = λ b. refl });
-          lent = tt;
-          told = tt;
-        };
-      }
+  -- Enter, give, take.
 
   some_inactive : (st : waiting.State T ℕ) (s : ℕ) → waiting.has_guard (waiting.slot_at st s) ≡ false → waiting.has_guard (waiting.slot_at (some_state st) s) ≡ false
   some_inactive st s off = ap (λ (slot : waiting.Slot (Option T) (Option ℕ)). waiting.has_guard slot) (slot_same st s) ∙ off
-
-  -- Enter, give, take.
 
   pub enters_held : EntersHeld c.code
   enters_held st names kinds s answer pass pass' m holds used off =
@@ -161,15 +139,6 @@ module _ {T : Type 0} (c : Coded T) where
       in_link : Answer → Option ℕ
       in_link (Link x) = x
       in_link _ = None
-
-  pub reads_held : ReadsHeld c.code
-  reads_held st names kinds s l o pass pass' m holds =
-      let near = near_of st names kinds pass.name pass.seen holds in
-      let done = if_some (can_link (state_before m) s l) (state_before m, Link (machine.link_at (state_before m) l)) (state_then m, Link o) (made_next m) in
-      let ends = both_same (state_before m, Link (machine.link_at (state_before m) l)) (state_then m, Link o) (ap Some done.1) in (
-        held_made m st st _ names kinds holds refl (subst (λ (k : machine.State). NearHands names kinds (with_gone_below holds.gone st) k) ends.0 near),
-        subst (λ (x : Option ℕ). IsHeldAs c.code x (link_at st l)) (same_answer (machine.link_at (state_before m) l) o ends.1) (link_held st names kinds pass.name pass.seen l holds),
-      )
 
   -- what the link holds then has its name
   abbrev new_names : Option ℕ → Option T → List (ℕ × T)

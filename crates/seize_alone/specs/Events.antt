@@ -1,32 +1,30 @@
 -- Single events of a slot, made where its pass is alone, and what the hands hold then. `code` is the code of values.
 --     MakesAlone pass pass' event answer     the pass is alone, and this event was made with it and nothing since; the answer was this
 --     IsHeldAs code o value     what a link holds by number and what it holds by value are one: with the number the code is lent
---     OpensHeld           a book just opened, with no slot and empty links: a collector just made
 --     EntersHeld          an entry of a slot in use without a guard: the first guard
 --     GivesHeld           the number of a slot without a guard goes back
 --     TakesHeld           a number is taken for a slot of this kind: it is the least one that is not in use
 --     GuardsHeld          no event: an active registered slot has some other number of guards
---     ReadsHeld           a link is read: what is found is what it holds
 --     SwapsHeld           a link is exchanged: so is what it held, and it holds the new value
 --     OwnedLeavesHeld     a leave of an owned slot, and then its number goes back
-use Rattle.std.specs.Prelude.{◌≡◌, ◌==◌, ◌≤◌, ℕ, true, false, List, [], Option, Some, None, Ok, replicate, slice_set}
+use Rattle.std.specs.Prelude.{◌≡◌, ◌==◌, ◌≤◌, ℕ, true, false, List, [], Option, Some, None, Ok, slice_set}
 use Rattle.std.specs.Coded.{Coded}
 use base.Stored.{Gv}
 use Rattle.seize_table.specs.Place.{all_numbers}
-use Rattle.seize_machine.specs.Machine.Event.{Enter, Event, ExchangeLink, Give, ReadLink, SwapOut, Take}
+use Rattle.seize_machine.specs.Machine.Event.{Enter, Event, ExchangeLink, Give, SwapOut, Take}
 use Rattle.seize_machine.specs.declared.machine.event.Answer.{Answer}
 use Rattle.seize_machine.specs.declared.machine.event.Answer.TheVariants.{Link}
 use Rattle.seize_machine.specs.declared.machine.event.Exchange.TheVariants.{Swap}
 use Rattle.seize_machine.specs.declared.machine.event.Job.TheVariants.{Leave as LeaveJob}
 use Rattle.seize_model.specs.declared.kind.Kind.{Kind}
 use Rattle.seize_model.specs.declared.kind.Kind.TheVariants.{Owned, Registered}
-use Rattle.seize_model.specs.Waiting.State.{State, has_guard, new, slot_at}
+use Rattle.seize_model.specs.Waiting.State.{State, has_guard, slot_at}
 use Rattle.seize_model.specs.Waiting.Calls.{is_free, least_unused, leave, link_at, set_guards, with_number_free, with_number_in_use}
 use Rattle.seize_book.specs.Adding.{private}
 use Rattle.seize_book.specs.Entry.{Deed, Made}
 use Rattle.seize_book.specs.Passes.{IsSamePass}
 use Rattle.seize_book.specs.Slots.{slot_number}
-use Rattle.seize_book.specs.Tokens.{AddsEntry, IsSole, Name}
+use Rattle.seize_book.specs.Tokens.{AddsEntry, IsSole}
 use Rattle.seize_book.specs.declared.book.pass.Pass.{Pass}
 use Rattle.seize_book.specs.declared.book.slot_key.SlotKey.{SlotKey}
 use Rattle.seize_book.specs.declared.book.value_keys.ValueKeys.{ValueKeys}
@@ -48,10 +46,6 @@ abbrev pub IsHeldAs : {T : Type 0} → (T → Gv) → Option ℕ → Option T �
 IsHeldAs code None None = Unit {0}
 IsHeldAs code (Some v) (Some x) = IsLentAs v (code x)
 IsHeldAs code _ _ = ⊥
-
-abbrev pub OpensHeld : {T : Type 0} → (T → Gv) → Type 0
-OpensHeld {T} code =
-    (n : Name) (size links : ℕ) → n.slots ≡ 0 → n.links ≡ replicate links None → Holds {T = T} code (new size links) [] [] n []
 
 abbrev pub EntersHeld : {T : Type 0} → (T → Gv) → Type 0
 EntersHeld {T} code =
@@ -77,12 +71,6 @@ GuardsHeld {T} code =
     (st : State T ℕ) (names : List (ℕ × T)) (kinds : List (ℕ × ℕ)) (s guards : ℕ) (pass : Pass)
     → Holds code st names kinds pass.name pass.seen → (slot_at st s).kind ≡ Registered → has_guard (slot_at st s) ≡ true → 1 ≤ guards
     → Holds code (set_guards st s guards) names kinds pass.name pass.seen
-
-abbrev pub ReadsHeld : {T : Type 0} → (T → Gv) → Type 0
-ReadsHeld {T} code =
-    (st : State T ℕ) (names : List (ℕ × T)) (kinds : List (ℕ × ℕ)) (s l : ℕ) (o : Option ℕ) (pass pass' : Pass)
-    → MakesAlone pass pass' (ReadLink s l) (Link o) → Holds code st names kinds pass.name pass.seen
-    → Holds code st names kinds pass'.name pass'.seen × IsHeldAs code o (link_at st l)
 
 abbrev pub SwapsHeld : {T : Type 0} → (T → Gv) → Type 0
 SwapsHeld {T} code =

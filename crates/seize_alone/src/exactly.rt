@@ -4,7 +4,7 @@ ghost use Rattle.seize_model.specs.Waiting.Further.{Lighter};
 ghost use Rattle.seize_alone.specs.Begins.{BeginsHeld};
 ghost use Rattle.seize_alone.specs.Calls.{FlushesHeld, LeavesHeld, OutlineStays, PartsHeld, RefreshesHeld, RetiresHeld, SizeStays};
 ghost use Rattle.seize_alone.specs.Reclaiming.{AllGoneHeld, OrderlyHeld, ReclaimsInTurn, SameBelow};
-ghost use Rattle.seize_alone.specs.Events.{EntersHeld, GivesHeld, GuardsHeld, OpensHeld, OwnedLeavesHeld, ReadsHeld, SwapsHeld, TakesHeld};
+ghost use Rattle.seize_alone.specs.Events.{EntersHeld, GivesHeld, GuardsHeld, OwnedLeavesHeld, SwapsHeld, TakesHeld};
 
 /// Calls by which values may be gone, where the pass is alone and its hands hold the state. The answer is the model's, they hold the state
 /// that the model says then, and what the reclaimer had are the model's values gone, in order.
@@ -19,16 +19,14 @@ pub fn calls_alone<T>()
     ensures outline { (puts : ℕ → T → List T) (weight : T → ℕ) → OutlineStays puts weight }
 {}
 
-/// Single events made alone: after each the hands hold the model's state, and what is found in a link is what the model's link holds. A
-/// book just opened shows a collector just made, and one without calls, which threads shared, a collector with what they left in use.
+/// Single events made alone: after each the hands hold the model's state, and what comes out of a link is what the model's link held. A
+/// book without calls, which threads shared, shows a collector with what they left in use.
 pub fn events_alone<T>()
-    ensures opened { OpensHeld T.row.coded.code }
     ensures begins { BeginsHeld T.row.coded.code }
     ensures enter { EntersHeld T.row.coded.code }
     ensures give { GivesHeld T.row.coded.code }
     ensures take { TakesHeld T.row.coded.code }
     ensures guards { GuardsHeld T.row.coded.code }
-    ensures read { ReadsHeld T.row.coded.code }
     ensures swap { SwapsHeld T.row.coded.code }
 {}
 

@@ -27,7 +27,10 @@ fn update(alone: &mut Alone<u64>, slot: usize, value: u64) -> Result<(), Refusal
     ensures { alone.new.links ≡ alone.old.links }
 {
     let new = alone.owned(value).map_err(|(refusal, _)| refusal)?;
-    let Some(old) = alone.swap(slot, 0, Some(new)).map_err(|(refusal, _)| refusal)? else {
+    let Some(old) = alone
+        .swap(slot, 0, Some(new))
+        .map_err(|(refusal, _)| refusal)?
+    else {
         return Ok(());
     };
     match alone.retire(slot, old, 0, &mut ()) {

@@ -103,7 +103,7 @@ fn one_caller_is_told_of_each_value_that_is_gone(rt: HostRuntime) -> Result<(), 
     let told = AtomicU64::new(0);
     match telling(rt.alloc(), 3)?.alone() {
         Ok(mut alone) => fill_a_batch(&rt, &mut alone, &told)?,
-        Err(_) => return Err(Fail::new("a number is in use")),
+        Err(_) => return Err(Fail::new("the collector came back")),
     }
     Ok(())
 }
@@ -144,7 +144,7 @@ fn what_one_caller_left_ends_as_the_shared_collector_drops(rt: HostRuntime) -> R
             assert_eq!(&rt; told.load(Ordering::SeqCst), 0);
             drop(collector);
         }
-        Err(_) => return Err(Fail::new("a number is in use")),
+        Err(_) => return Err(Fail::new("the collector came back")),
     }
     assert_eq!(&rt; told.load(Ordering::SeqCst), 21);
     Ok(())
@@ -160,7 +160,7 @@ fn what_one_caller_left_ends_as_it_drops(rt: HostRuntime) -> Result<(), Fail> {
             assert_eq!(&rt; told.load(Ordering::SeqCst), 0);
             drop(alone);
         }
-        Err(_) => return Err(Fail::new("a number is in use")),
+        Err(_) => return Err(Fail::new("the collector came back")),
     }
     assert_eq!(&rt; told.load(Ordering::SeqCst), 21);
     Ok(())
@@ -217,7 +217,7 @@ fn one_caller_runs_a_list_of_calls(rt: HostRuntime) -> Result<(), Fail> {
     let told = AtomicU64::new(0);
     match telling(rt.alloc(), 3)?.alone() {
         Ok(mut alone) => run_a_list(&rt, &mut alone, &told, rt.alloc())?,
-        Err(_) => return Err(Fail::new("a number is in use")),
+        Err(_) => return Err(Fail::new("the collector came back")),
     }
     assert_eq!(&rt; told.load(Ordering::SeqCst), 1);
     Ok(())

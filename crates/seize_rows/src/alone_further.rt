@@ -208,7 +208,7 @@ fn blocks_inside_blocks_end_with_them(rt: HostRuntime) -> Result<(), Fail> {
     let made: Collector<Tree<'_>> = Collector::new(rt.alloc(), &mut IdSource::new(), 1, 0)?;
     match made.batch_size(1).alone() {
         Ok(mut alone) => retire_three(&rt, &mut alone, &ends)?,
-        Err(_) => return Err(Fail::new("a number is in use")),
+        Err(_) => return Err(Fail::new("the collector came back")),
     }
     assert_eq!(rt; ended(&ends), 3);
     Ok(())

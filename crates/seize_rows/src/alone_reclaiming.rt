@@ -3,7 +3,9 @@ ghost use Rattle.std.specs.Prelude.{◌≡◌};
 ghost use Rattle.seize.specs.Alones.{IsSame};
 
 use crate::alone_further::{MANY, count_up, retire_a_chain};
-use crate::nests::{AloneNests, Ends, Heard, alone_nests, leaf, number_in, retire, retire_new, round};
+use crate::nests::{
+    AloneNests, Ends, Heard, alone_nests, leaf, number_in, retire, retire_new, round,
+};
 use crate::worked::{Telling, defer_alone, telling};
 use seize::{Alone, Refusal};
 use seize_threads_rows::values::Digit;
@@ -185,7 +187,7 @@ fn reclaim_twice<'a>(
 fn a_collector_serves_when_all_was_reclaimed(rt: HostRuntime) -> Result<(), Fail> {
     let told = AtomicU64::new(0);
     let Ok(mut alone) = telling(rt.alloc(), 9)?.alone() else {
-        return Err(Fail::new("a number is in use"));
+        return Err(Fail::new("the collector came back"));
     };
     reclaim_twice(&rt, &mut alone, &told)?;
     let mut collector = alone.share();
@@ -194,7 +196,7 @@ fn a_collector_serves_when_all_was_reclaimed(rt: HostRuntime) -> Result<(), Fail
     assert!(rt; collector.reclaim_all());
     assert_eq!(rt; told.load(Ordering::SeqCst), 123);
     let Ok(mut alone) = collector.alone() else {
-        return Err(Fail::new("a number is in use"));
+        return Err(Fail::new("the collector came back"));
     };
     retire_digit(&rt, &mut alone, 4, &told)?;
     alone.reclaim_all(&mut ());

@@ -219,7 +219,7 @@ pub(crate) fn alone_nests<'a>(
 {
     match nests(alloc, size, links, ends)?.alone() {
         Ok(alone) => Ok(alone),
-        Err(_) => Err(Fail::new("a number is in use")),
+        Err(_) => Err(Fail::new("the collector came back")),
     }
 }
 

@@ -279,7 +279,7 @@ fn shared_and_back<'a>(alone: AloneNests<'a>) -> Result<AloneNests<'a>, Fail>
 {
     match alone.share().alone() {
         Ok(alone) => Ok(alone),
-        Err(_) => Err(Fail::new("a number is in use")),
+        Err(_) => Err(Fail::new("the collector came back")),
     }
 }
 

@@ -33,7 +33,7 @@ fn with_one_link(alloc: Global) -> Result<Alone<u64>, Fail>
     let collector: Collector<u64> = Collector::new(alloc, &mut IdSource::new(), 1, 1)?;
     match collector.batch_size(1).alone() {
         Ok(alone) => Ok(alone),
-        Err(_) => Err(Fail::new("a number is in use")),
+        Err(_) => Err(Fail::new("the collector came back")),
     }
 }
 
@@ -51,7 +51,7 @@ fn a_watch_is_told_once_the_guard_leaves(rt: HostRuntime) -> Result<(), Fail> {
     let mut alone = with_one_link(rt.alloc())?;
     let slot = alone.enter_owned()?;
     // By this answer the slot has a guard.
-    assert!(rt; !alone.holds(slot, 0)?);
+    assert!(rt; alone.protect(slot, 0)?.is_none());
     let block = alone.owned(7).expect(&rt, "memory");
     let number = alone.taken(block);
     retire_under_guard(&mut alone, slot, number, &mut newest);

@@ -2,8 +2,8 @@
 --     IsSharedLink link       threads share it
 --     IsSameLink link link'   it is the same link of the same book
 --     Stands link held        it stands still and holds this value, with which something is lent, or none
---     LeadsTo n held word row glimpse     the word is that of the value, with which something is lent, and this is seen of it; and the row is
---                             that where the value lies, in the store of book n
+--     LeadsTo n held word row glimpse     the word is that of the value, with which something is lent, and this is seen of it; and this is
+--                             the row where the value lies, in the store of book n
 use Rattle.std.specs.Prelude.{◌≡◌, ℕ, List, drop, Option, IfSome}
 use Rattle.seize_book.specs.Blocks.{link_word}
 use Rattle.seize_book.specs.Lending.{IsRowAt}

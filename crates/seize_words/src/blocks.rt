@@ -155,7 +155,8 @@ impl<T: Drop> Blocks<T> {
 
     /// The same where the row of the number is shown, by a link that stands still. No event is made, and the list is not looked at.
     pub(crate) fn see_in<'g>(&'g self, number: u64, row: &RowToken, glimpse: Glimpse<'g>) -> &'g T
-        requires row { (v : ℕ) × (glimpse.value ≡ Some v) × IsRowAt (blocks_book self.now) v row.now × CarriesOne v × (block_number v ≡ number) }
+        requires row { (v : ℕ) × (glimpse.value ≡ Some v) × IsRowAt (blocks_book self.now) v row.now × CarriesOne v
+            × (block_number v ≡ number) }
         ensures code { IsFoundAs glimpse.entry.value (T.row.coded.code result.now) }
     {
         self.store.see(number as usize, row, glimpse.sight())

@@ -177,8 +177,8 @@ impl Link {
         self.word.stir();
     }
 
-    /// Where it stands still, its word, and a glimpse of what it holds, if it holds something, for as long as it is borrowed; and what shows
-    /// the row in which that lies. It makes no event.
+    /// Where it stands still, its word, what shows the row in which its value lies, and a glimpse of what it holds, if it holds something,
+    /// for as long as it is borrowed. It makes no event.
     pub(crate) fn peek(&self) -> Option<(u64, RowToken, Glimpse<'_>)>
         requires stands { (held : Option ℕ) × Stands self.now held }
         ensures held { (held : Option ℕ) → Stands self.now held → is_some result ≡ is_some held

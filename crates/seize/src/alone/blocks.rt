@@ -158,7 +158,9 @@ impl<T: Drop, R: Reclaim<T>> Alone<T, R> {
     }
 
     /// What a link holds, which reads as its value for as long as this is borrowed. Any number of them stand at once. The link is below
-    /// `links()`. It makes no event, changes nothing, takes no memory and waits for nobody: where the link holds a block, four loads find it.
+    /// `links()`.
+    ///
+    /// It makes no event and takes no memory: one load of the link, and where that holds a block three more to find it.
     ///
     /// # Errors
     ///

@@ -1,6 +1,6 @@
-//! Links of a collector in one caller's hands. They stand still, so they are read by `&`. An exchange is a work that the porter's first pass
-//! is lent to: for as long as the step lasts the link is one that threads may share. It takes no lock: the unit of the slot's activation is
-//! all that it needs of the slot.
+//! Links of a collector in one caller's hands. They stand still, so they are read by `&`. An exchange is a work that the porter's first
+//! pass is lent to: for as long as the step lasts the link is one that threads may share. It takes no lock: the unit of the slot's
+//! activation is all that it needs of the slot.
 ghost use Rattle.std.specs.Prelude.{◌≡◌, ◌<◌, ℕ, Option, IfSome, length, true};
 ghost use Rattle.seize_book.specs.Homesteads.{state_seen};
 ghost use Rattle.seize_machine.specs.Machine.State.{link_at};
@@ -43,7 +43,8 @@ pub(crate) struct Exchanging<'a, T: Drop, R: Reclaim<T>> {
 
 impl<'a, T: Drop, R: Reclaim<T>> Stay<Option<Loose>> for Exchanging<'a, T, R> {
     ghost may = { λ work pass. IsPassFor work.words.now pass × IsSole pass.id × (work.unit.now.seen.name ≡ words_book work.words.now)
-        × (work.link < length (words_book work.words.now).links) × IsSharedAt work.words.now.links work.link × IsEnderOf work.words.now work.ender.now
+        × (work.link < length (words_book work.words.now).links) × IsSharedAt work.words.now.links work.link
+        × IsEnderOf work.words.now work.ender.now
         × IfSome work.new (λ owned. Belongs R.owners (words_book work.words.now).store owned) };
 
     ghost gives = { λ work _ pass pass' result. (number : Option ℕ) × (held : Option ℕ)

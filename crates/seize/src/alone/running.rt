@@ -25,7 +25,7 @@ pub enum Call<T: Drop> {
     Flush(usize),
     /// [`Alone::retire`](crate::Alone::retire) of a block that was never in a link, with its kind
     Retire(usize, Owned<T>, u64),
-    /// [`Alone::holds`](crate::Alone::holds) of the link
+    /// [`Alone::protect`](crate::Alone::protect): whether the link holds a block
     Protect(usize, usize),
     /// [`Alone::swap`](crate::Alone::swap) of the link; what the link held is retired by the slot, with this kind
     Swap(usize, usize, Option<Owned<T>>, u64),

@@ -63,9 +63,9 @@ impl<T: Drop, R: Reclaim<T>> Collector<T, R> {
     /// their calls of `forget`, their slots stay as they were: a number stays in use, by an owned slot where an owned guard had it, and a
     /// slot that was left active has as many guards as were forgotten. So what waits for such a slot waits on, until it leaves.
     ///
-    /// The state is what the list of events says where it ends (`laws` of the `Alone`), as to slots in use, active slots, batches and links;
-    /// how many guards a slot has, and which slot is owned, no clause says. It asks for memory, for places, only where a number is in use,
-    /// and waits for nobody. The list goes on: each number that is not in use is taken and goes back, without an atomic step.
+    /// The state is what the list of events says where it ends (`laws` of the `Alone`), as to slots in use, active slots, batches and
+    /// links; how many guards a slot has, and which slot is owned, no clause says. It asks for memory, for places, only where a number is
+    /// in use, and waits for nobody. The list goes on: each number that is not in use is taken and goes back, without an atomic step.
     ///
     /// # Errors
     ///
@@ -134,8 +134,10 @@ pub(super) fn shared<T: Drop, R: Reclaim<T>>(
 impl<T: Drop, R: Reclaim<T>> Alone<T, R> {
     ghost use Rattle.seize.specs.Collectors.{its_links};
 
-    /// Gives the collector to threads. What is in use stays so, as if its holder had been forgotten: `Collector::alone` takes it over again,
-    /// and `Collector::reclaim_all` or the drop ends it. What threads retire may wait for it, so leave slots first, or call `reclaim_all`.
+    /// Gives the collector to threads. What is in use stays so, as if its holder had been forgotten: `Collector::alone` takes it over
+    /// again, and `Collector::reclaim_all` or the drop ends it. What threads retire may wait for it, so leave slots first, or call
+    /// `reclaim_all`. Retire each `Taken` before: no call of a shared collector takes one, and its value never ends.
+    ///
     /// It takes no memory, makes no event and waits for nobody.
     pub fn share(self) -> Collector<T, R>
         ensures same { (its_book result ≡ self.book) × (its_size result ≡ self.size) × (its_id result ≡ self.id)

@@ -37,7 +37,8 @@ impl Origin {
     }
 }
 
-/// What a guard found in a link. It reads as its value, for as long as the guard is borrowed: until then the value is not reclaimed.
+/// What was found in a link. It reads as its value, for as long as the guard that found it is borrowed, or the `Alone`: until then the
+/// value is not reclaimed.
 #[derive(Drop)]
 pub struct Shared<'g, T> {
     value: &'g T,

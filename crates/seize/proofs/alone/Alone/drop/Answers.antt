@@ -25,7 +25,7 @@ reclaim_by-requires g c =
     )
 
 pub stir-requires : goal.stir-requires
-stir-requires g c l less = let stands = c.self.invariant.stand l less in (stands.0, stands.1)
+stir-requires g c = record { stand = λ l less. let stands = c.self.invariant.stand l less in (stands.0, stands.1) }
 
 pub shared-requires : goal.shared-requires
 shared-requires g c =

@@ -1,5 +1,6 @@
 use Rattle.std.proofs.Common.{◌≡◌, ℕ, ◌<◌, List, Option, None, length, option_map, refl, sym, ap, subst, ◌∙◌}
 use Rattle.std.proofs.lemmas.List.{get_or-set_same, length-set}
+use mathlib.Core.List.{IsPrefix}
 use Rattle.seize_model.specs.Waiting.Calls.{link_at}
 use Rattle.seize_model.specs.Waiting.State.{State}
 use Rattle.seize_words.specs.Joined.{words_book}
@@ -85,4 +86,5 @@ returns-clause-holds g c =
     ap (λ (x : State g.row.T.Denot ℕ). link_at x link) (returns-clause-state g c) ∙ get_or-set_same st.links link new None less
 
 pub returns-clause-grows : goal.returns-clause-grows
-returns-clause-grows g c = list_grows c.self.invariant c.stay-old.ensures (ap (λ (v : View g.row.T.Denot). v.seen) c.self.view_is)
+returns-clause-grows g c =
+    subst (IsPrefix c.args.self.now.seen) (sym c.still_at.ensures.porter.2) (list_grows c.self.invariant c.stay-old.ensures (ap (λ (v : View g.row.T.Denot). v.seen) c.self.view_is))

@@ -1,4 +1,4 @@
-use Rattle.std.proofs.Common.{◌≡◌, ◌==◌, ◌-◌, false, not, ℕ, List, Option, Some, None, length, slice_set, refl, sym, ap, subst, ◌∙◌, arith}
+use Rattle.std.proofs.Common.{◌≡◌, ◌==◌, ◌-◌, false, not, ℕ, Some, None, length, slice_set, refl, sym, ap, subst, ◌∙◌, arith}
 use Rattle.std.proofs.lemmas.List.{length-set}
 use Rattle.seize_model.specs.Waiting.Calls.{is_free, one_guard_less, set_guards}
 use Rattle.seize_model.specs.Waiting.Further.{with_further}

@@ -1,4 +1,4 @@
-use Rattle.std.proofs.Common.{◌≡◌, ℕ, Bool, List, Option, None, Some, if◌then◌else◌, length, option_map, refl, sym, ap, subst, ◌∙◌, arith}
+use Rattle.std.proofs.Common.{◌≡◌, ℕ, Bool, Option, None, Some, if◌then◌else◌, length, option_map, refl, sym, ap, subst, ◌∙◌, arith}
 use Rattle.seize_model.specs.Waiting.Calls.{reclaim_all}
 use Rattle.seize_model.specs.Waiting.State.{State, slot_at}
 use Rattle.seize_book.specs.Tokens.{Name}

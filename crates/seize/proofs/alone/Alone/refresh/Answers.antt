@@ -1,4 +1,4 @@
-use Rattle.std.proofs.Common.{◌≡◌, lit<, [], refl, sym, ap, subst, ◌∙◌}
+use Rattle.std.proofs.Common.{lit<, [], sym, ap, ◌∙◌}
 use Rattle.std.specs.Prelude.{Err, Ok}
 use Rattle.std.proofs.lemmas.Result.{err_from_is_err_and}
 use Rattle.seize_alone.proofs.Ready.{refreshed_beside}
