@@ -1,6 +1,6 @@
 //! Values that hold blocks of their own type, for a collector in one caller's hands: a reclaimer that keeps which values ended, in order,
 //! and puts what they held; and a watch that keeps of which it was told.
-ghost use Rattle.std.specs.Prelude.{◌≡◌, All, IfOk, length};
+ghost use Rattle.std.specs.Prelude.{◌<◌, ◌≡◌, All, IfOk, length};
 ghost use Rattle.seize.specs.Alones.{IsSame};
 ghost use Rattle.seize.specs.Blocks.{Belongs};
 ghost use Rattle.seize.specs.Collectors.{its_links};

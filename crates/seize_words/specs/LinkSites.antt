@@ -1,12 +1,15 @@
 -- What the word of a link is. Threads share it, as the words of other things, or it stands still, in one caller's hands: then it is plain
 -- memory beside its keys.
---     laid g rest, read_back xs     a code in numbers, before these;  and the code again
+--     laid g rest, read_back xs     a code in numbers, before these;  and the code again (read_from, first_code: with a stack of codes)
 --     KeyRow, row_of h, key_of_row r     a key with what is noted beside it in numbers, so that a word is plain data;  and the key again
---     rows_of held, keys_in rows    the same of each key
+--     rows_of held, keys_in rows, keys_of n rows    the same of each key;  and as keys of book n
 --     LinkSite                which link's word it is; and where it stands still what it holds, and its keys
+--     key_row_coded, link_site_coded     their codes
 --     site_in w               which word it is;  shared_at site    that word, which threads share
 --     is_still w, still_word w, IsShared w     it stands still;  as such, if it does;  threads share it
---     link_word_owns w vs     what a link's word owns, by its bits;  link_word_shares    what a `&` to it is
+--     standing n t            the word of book n that stands still with this;  StandsWith w t     this one does
+--     link_word_owns w vs     what a link's word owns, by its bits;  link_word_shares    what a `&` to it is. By cases: owns_by, shares_by,
+--                             still_shares
 --     MayGlimpse held         the key of a value comes after the word's own, and something is lent with the value
 --     StandsAs w w'           a word that threads shared stands still, with its keys;  StirsAs w    one that stands so may be shared
 --     MayLookStill, LooksStill     its keys look at the list: see MayLook and LooksWithKeys
