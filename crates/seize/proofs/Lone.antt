@@ -22,7 +22,7 @@ use Rattle.seize_calls.specs.Slots.{IsPassFor}
 use Rattle.seize_alone.specs.Holding.{Holds}
 use Rattle.seize_alone.proofs.Shown.{active_shown}
 use Rattle.seize.specs.Alones.{AsListed, IsAlone, View}
-use Rattle.seize.specs.Stillness.{AreStill}
+use Rattle.seize.specs.Stillness.{LinksHold}
 use Rattle.seize.specs.Placing.{ArePlaces, Lies, lies_for, lies_in, lying_in}
 use Rattle.seize.specs.declared.alone.hands.Hands.{Hands}
 use Rattle.seize.specs.declared.alone.place.Place.{Place}
@@ -142,7 +142,7 @@ module _ {T R : Type 0} {code : T → Gv} {words : Words T} {porter : Porter} {n
     counted = counted;
     sized = size ∙ a.sized;
     linked = ap length links ∙ a.linked;
-    stand = subst (AreStill code words.links) (sym links) a.stand;
+    stand = subst (LinksHold code words.links) (sym links) a.stand;
     placed = placed;
     holds = holds;
   }
@@ -169,7 +169,7 @@ alone_still {code = code} {words = words} a hands' places' slots size links plac
   counted = a.counted ∙ sym slots;
   sized = size ∙ a.sized;
   linked = ap length links ∙ a.linked;
-  stand = subst (AreStill code words.links) (sym links) a.stand;
+  stand = subst (LinksHold code words.links) (sym links) a.stand;
   placed = placed;
   holds = holds;
 }

@@ -26,22 +26,22 @@ use Rattle.seize.specs.Alones.{IsAlone}
 use Rattle.seize.specs.Enders.{IsEnderIn}
 use Rattle.seize.specs.Looks.{with_link}
 use Rattle.seize.specs.Placing.{ArePlaces}
-use Rattle.seize.specs.Stillness.{AreStill, IsSamePorter, state_at}
+use Rattle.seize.specs.Stillness.{LinksHold, StaysHome, state_at}
 use Rattle.seize.specs.declared.alone.hands.Hands.{Hands}
 use Rattle.seize.specs.declared.alone.place.Place.{Place}
 use Rattle.seize.specs.declared.ender.Ender.{Ender}
 
 -- a list that shows a state shows it of a porter that has seen the same
-pub holds_so : {T : Type 0} {code : T → Gv} {st : State T ℕ} {names : List (ℕ × T)} {kinds : List (ℕ × ℕ)} (porter porter' : Porter) → IsSamePorter porter porter' → Holds code st names kinds porter.name porter.seen → Holds code st names kinds porter'.name porter'.seen
+pub holds_so : {T : Type 0} {code : T → Gv} {st : State T ℕ} {names : List (ℕ × T)} {kinds : List (ℕ × ℕ)} (porter porter' : Porter) → StaysHome porter porter' → Holds code st names kinds porter.name porter.seen → Holds code st names kinds porter'.name porter'.seen
 holds_so {code = code} {st} {names} {kinds} porter porter' same holds = subst (λ (t : Name × List Entry). Holds code st names kinds t.0 t.1) (λ j. (sym same.0 j, sym same.2 j)) holds
 
 -- all of them, once they were put to rest
-pub stand_first : {T : Type 0} (c : Coded T) (links : Links) (porter : Porter) (st : State T ℕ) (names : List (ℕ × T)) (kinds : List (ℕ × ℕ)) → AllStand links (state_at porter) → Holds c.code st names kinds porter.name porter.seen → AreStill c.code links st.links
+pub stand_first : {T : Type 0} (c : Coded T) (links : Links) (porter : Porter) (st : State T ℕ) (names : List (ℕ × T)) (kinds : List (ℕ × ℕ)) → AllStand links (state_at porter) → Holds c.code st names kinds porter.name porter.seen → LinksHold c.code links st.links
 stand_first c links porter st names kinds stand holds l less = (held_at (state_at porter) l, stand l, link_held c st names kinds porter.name porter.seen l holds)
 
 -- one was exchanged
 module _ {T : Type 0} (code : T → Gv) (links mid links' : Links) (st : State T ℕ) (link : ℕ) (new : Option T) (held : Option ℕ) (stirred : IsSameBut link links mid) (rested : IsSameBut link mid links') (stands : StandsAt links' link held)
-    (is : IsHeldAs code held (link_at (with_link st link new) link)) (are : AreStill code links st.links) where
+    (is : IsHeldAs code held (link_at (with_link st link new) link)) (are : LinksHold code links st.links) where
   abbrev now : State T ℕ
   now = with_link st link new
 
@@ -52,13 +52,13 @@ module _ {T : Type 0} (code : T → Gv) (links mid links' : Links) (st : State T
       let was = are l (subst (λ (b : Seen). l < length b.name.links) (rested.0 ∙ stirred.0) less) in
       (was.0, rested.1 l was.0 other (stirred.1 l was.0 other was.1), subst (λ (x : Option T). IsHeldAs code was.0 x) (sym (get_or-set_other st.links link l new None other)) was.2)
 
-  pub stand_swapped : AreStill code links' now.links
+  pub stand_swapped : LinksHold code links' now.links
   stand_swapped l less = at (l == link) l refl less
 
 -- The invariant after an exchange.
 pub alone_swapped : {T R : Type 0} {code : T → Gv} {words : Words T} {porter : Porter} {numbers : ℕ} {places : List (Option (Place T))} {made : ℕ} {ender : Ender T R} {hands : Hands T} → IsAlone code words porter numbers places made ender hands
-    → {gave : Pass → Pass → Type 0} {porter' porter'' : Porter} → HadStay gave porter porter' → IsSamePorter porter' porter'' → (words' : Words T) → words'.blocks ≡ words.blocks → words'.size ≡ words.size → (hands' : Hands T)
-    → length hands'.state.slots ≡ length hands.state.slots → hands'.state.size ≡ hands.state.size → length hands'.state.links ≡ length hands.state.links → AreStill code words'.links hands'.state.links → ArePlaces (words_book words) hands'.state places
+    → {gave : Pass → Pass → Type 0} {porter' porter'' : Porter} → HadStay gave porter porter' → StaysHome porter' porter'' → (words' : Words T) → words'.blocks ≡ words.blocks → words'.size ≡ words.size → (hands' : Hands T)
+    → length hands'.state.slots ≡ length hands.state.slots → hands'.state.size ≡ hands.state.size → length hands'.state.links ≡ length hands.state.links → LinksHold code words'.links hands'.state.links → ArePlaces (words_book words) hands'.state places
     → Holds code hands'.state hands'.names hands'.kinds porter''.name porter''.seen → IsAlone code words' porter'' numbers places made ender hands'
 alone_swapped {T} {R} {words = words} {places = places} {ender = ender} a stay same words' blocks size hands' slots sized links stand placed holds =
     let book : words_book words' ≡ words_book words = ap (λ (b : Blocks T). b.book.name) blocks in

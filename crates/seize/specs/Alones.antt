@@ -26,7 +26,7 @@ use Rattle.seize_alone.specs.Holding.{Holds}
 use Rattle.seize.specs.Enders.{IsEnderOf}
 use Rattle.seize.specs.Placing.{ArePlaces}
 use Rattle.seize.specs.States.{state_coded}
-use Rattle.seize.specs.Stillness.{AreStill}
+use Rattle.seize.specs.Stillness.{LinksHold}
 use Rattle.seize.specs.declared.alone.hands.Hands.{Hands}
 use Rattle.seize.specs.declared.alone.place.Place.{Place}
 use Rattle.seize.specs.declared.ender.Ender.{Ender}
@@ -67,6 +67,6 @@ pub record IsAlone {T R : Type 0} (code : T → Gv) (words : Words T) (porter : 
   pub counted : made ≡ length hands.state.slots
   pub sized : hands.state.size ≡ words.size
   pub linked : length hands.state.links ≡ length (words_book words).links
-  pub stand : AreStill code words.links hands.state.links
+  pub stand : LinksHold code words.links hands.state.links
   pub placed : ArePlaces (words_book words) hands.state places
   pub holds : Holds code hands.state hands.names hands.kinds porter.name porter.seen

@@ -1,7 +1,7 @@
 -- What lies where a forgotten holder of a slot left it.
 --     IsLaidFor f r            it is a reservation of a slot of the list of this family
 --     IsForgottenOf f units    these are units of an activation of a slot of that list, which had begun as was seen
---     IsWhole n r forgotten    this is all that was left of slot n: with its reservation the units of as many guards as it has
+--     IsAllLeft n r forgotten    this is all that was left of slot n: with its reservation the units of as many guards as it has
 --     IsShelfFor words shelf   it is a shelf for slots of these words
 --     AreOfFamily f shelves    these are shelves of this family
 use Rattle.std.specs.Prelude.{◌≡◌, ℕ, List, Option, None, Some, get_or}
@@ -19,9 +19,9 @@ IsLaidFor f r = IsReservation r × ((its_book r.slot).family ≡ f)
 abbrev pub IsForgottenOf : ℕ → Forgotten → Type 0
 IsForgottenOf f units = (units.seen.name.family ≡ f) × IsUnit units.seen.name units.number (with_units units.units 1) units.seen
 
-abbrev pub IsWhole : {T : Type 0} → ℕ → Reservation T → Option Forgotten → Type 0
-IsWhole n r None = (its_number r.slot ≡ n) × (r.guards ≡ 0)
-IsWhole n r (Some units) = (its_number r.slot ≡ n) × (units.number ≡ n) × (units.count ≡ r.guards)
+abbrev pub IsAllLeft : {T : Type 0} → ℕ → Reservation T → Option Forgotten → Type 0
+IsAllLeft n r None = (its_number r.slot ≡ n) × (r.guards ≡ 0)
+IsAllLeft n r (Some units) = (its_number r.slot ≡ n) × (units.number ≡ n) × (units.count ≡ r.guards)
 
 abbrev pub IsShelfFor : {T : Type 0} → Words T → ℕ → Type 0
 IsShelfFor words shelf = shelf ≡ (words_book words).family

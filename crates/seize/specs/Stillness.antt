@@ -1,7 +1,7 @@
 -- Links that stand still, in one caller's hands.
 --     state_at porter          the machine after all that the porter has seen
---     IsSamePorter p p'        it is the same porter, at home, and has seen what it had seen
---     AreStill code links ls   each link stands still, and holds what this list says, by its value: with what it holds the code of that is
+--     StaysHome p p'        it is the same porter, at home, and has seen what it had seen
+--     LinksHold code links ls   each link stands still, and holds what this list says, by its value: with what it holds the code of that is
 --                              lent
 use Rattle.std.specs.Prelude.{◌≡◌, ℕ, ◌<◌, true, List, Option, None, slice_index_or}
 use base.Stored.{Gv}
@@ -17,9 +17,9 @@ use Rattle.seize_alone.specs.Events.{IsHeldAs}
 abbrev pub state_at : Porter → State
 state_at porter = after (start porter.name) porter.seen
 
-abbrev pub IsSamePorter : Porter → Porter → Type 0
-IsSamePorter p p' = (p'.name ≡ p.name) × (p'.size ≡ p.size) × (p'.seen ≡ p.seen) × (p'.home ≡ true)
+abbrev pub StaysHome : Porter → Porter → Type 0
+StaysHome p p' = (p'.name ≡ p.name) × (p'.size ≡ p.size) × (p'.seen ≡ p.seen) × (p'.home ≡ true)
 
-abbrev pub AreStill : {T : Type 0} → (T → Gv) → Links → List (Option T) → Type 0
-AreStill code links ls =
+abbrev pub LinksHold : {T : Type 0} → (T → Gv) → Links → List (Option T) → Type 0
+LinksHold code links ls =
     (l : ℕ) → l < link_count links → (held : Option ℕ) × StandsAt links l held × IsHeldAs code held (slice_index_or ls l None)

@@ -3,7 +3,7 @@ use Rattle.std.proofs.Common.{◌≡◌, ℕ, true, false, List, [], ◌∷◌, 
 use base.Stored.{Gv, gnil, gnum, gcons}
 use Rattle.seize_book.specs.Entry.{Entry}
 use Rattle.seize_book.specs.Ledger.{HeldKey}
-use Rattle.seize_words.specs.LinkSites.{KeyRow, LinkSite, IsShared, first_code, is_still, key_of_row, keys_in, laid, read_from, row_of, rows_of}
+use Rattle.seize_words.specs.LinkSites.{KeyRow, LinkSite, IsShared, first_code, is_still, key_of_row, keys_of_rows, laid, read_from, row_of, rows_of}
 
 pub not_still : (w : LinkSite) → IsShared w → w.still ≡ None
 not_still w is = go w.still is
@@ -28,6 +28,6 @@ read_laid (gcons a b) rest done = read_laid a (laid b (2 ∷ rest)) done ∙ rea
 key_back : (h : HeldKey Entry) → key_of_row (row_of h) ≡ h
 key_back h = ap (λ (gs : List Gv). record { kind = h.kind; key = h.key; own = h.own; label = h.label; note = first_code gs }) (read_laid h.note [] [])
 
-pub keys_back : (held : List (HeldKey Entry)) → keys_in (rows_of held) ≡ held
+pub keys_back : (held : List (HeldKey Entry)) → keys_of_rows (rows_of held) ≡ held
 keys_back [] = refl
 keys_back (h ∷ held) = λ j. key_back h j ∷ keys_back held j

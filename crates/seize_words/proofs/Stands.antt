@@ -22,11 +22,11 @@ use Rattle.seize_book.specs.declared.book.keys.Keys.{Keys}
 use Rattle.seize_book.specs.declared.book.pass.Pass.{Pass}
 use Rattle.seize_book.proofs.Facts.{reached_after}
 use Rattle.seize_words.specs.Atomic.{IsWordOf, site_of}
-use Rattle.seize_words.specs.LinkSites.{KeyRow, keys_in, LinkSite, LooksStill, StandsAs, StandsWith, keys_of, site_in}
+use Rattle.seize_words.specs.LinkSites.{KeyRow, keys_of_rows, LinkSite, LooksStill, StandsAs, StandsWith, keys_of, site_in}
 use Rattle.seize_words.specs.Links.{at_link, value_in}
 use Rattle.seize_book.specs.Lending.{IsRowAt}
 use Rattle.seize_store.specs.declared.row_token.RowToken.{RowToken}
-use Rattle.seize_words.specs.Stands.{LeadsTo}
+use Rattle.seize_words.specs.Stands.{LeadsToBlock}
 use Rattle.seize_words.specs.declared.glimpse.Glimpse.{Glimpse}
 use Rattle.seize_words.specs.Words.{AreOtherKeys, IsKeyOf, ShowsWord, Site, site_keys}
 use Rattle.seize_words.proofs.Exchanged.{is_at, value_of}
@@ -68,7 +68,7 @@ pub record Rested (w w' : LinkSite) (pass pass' : Pass) : Type 0 where
   pub same : (pass' ≡ pass) × (site_in w' ≡ site_in w)
   pub keys : ℕ × List KeyRow
   pub stands : StandsWith w' keys
-  pub holds : value_in (rest 1 (keys_in keys.1)) ≡ link_at (state_seen pass) w.number
+  pub holds : value_in (rest 1 (keys_of_rows keys.1)) ≡ link_at (state_seen pass) w.number
   pub lent : IfSome (link_at (state_seen pass) w.number) CarriesOne
 
 abbrev link_site : Site → ℕ × List KeyRow → LinkSite
@@ -78,7 +78,7 @@ link_site site t = record { name = site.name; kind = site.kind; number = site.nu
 pub rested : (w mid w' : LinkSite) (pass pass' : Pass) → w.kind ≡ links → w.name ≡ pass.name → IsSole pass.id → StandsAs w mid → LooksStill mid pass w' pass' → Rested w w' pass pass'
 rested w mid w' pass pass' kind book sole stood looks =
     let n : Name = pass.name in let l : ℕ = w.number in let log : List Entry = pass'.seen in let t = stood.0 in let is = stood.1 in let word = is.1 in
-    let had : List (HeldKey Entry) = keys_in t.1 in let own : List Entry = own_of had in let vs : List (HeldKey Entry) = rest 1 had in
+    let had : List (HeldKey Entry) = keys_of_rows t.1 in let own : List Entry = own_of had in let vs : List (HeldKey Entry) = rest 1 had in
     let e : t ≡ looks.0 = one (sym is.0 ∙ looks.1) in
     let told = subst (λ (x : ℕ × List KeyRow). LooksWithKeys (keys_of mid.name x.1) pass (keys_of mid.name looks.2) pass') (sym e) looks.4 in
     let its : site_in w ≡ at_link n l = is_at (site_in w) n book kind in let at : site_of (keys_of mid.name t.1) ≡ at_link n l = is.2 ∙ stood.2 ∙ its in
@@ -86,7 +86,7 @@ rested w mid w' pass pass' kind book sole stood looks =
     let shows = subst (λ (s : Site). ShowsWord s t.0 own) at word.1 in let key = subst (λ (s : Site). AreOtherKeys s own vs) at word.2 in
     let before = subst (λ (hs : List (HeldKey Entry)). Before n pass.id pass.seen hs log) keys_are told.2 in
     let now : List (HeldKey Entry) = site_keys (at_link n l) log (with_list vs log) in
-    let stays : keys_in looks.2 ≡ now = told.1.1 ∙ ap (λ (hs : List (HeldKey Entry)). with_list hs log) keys_are in
+    let stays : keys_of_rows looks.2 ≡ now = told.1.1 ∙ ap (λ (hs : List (HeldKey Entry)). with_list hs log) keys_are in
     let keys : ℕ × List KeyRow = (t.0, looks.2) in
     let is_now : w' ≡ link_site (at_link n l) keys = looks.3 ∙ ap (λ (q : Site × ℕ). link_site q.0 (q.1, looks.2)) (λ j. ((stood.2 ∙ its) j, (sym e j).0)) in
     let seen : log ≡ pass.seen = before.alone sole in let held = ap (λ (x : List Entry). link_at (after (start n) x) l) seen in
@@ -103,7 +103,7 @@ rested w mid w' pass pass' kind book sole stood looks =
     one e = cc
 
 -- What a glimpse of it leads to.
-pub leads : (n m : Name) (held : Option ℕ) (word : ℕ) (row : RowToken) (glimpse : Glimpse) → n ≡ m → is_some held ≡ true → LeadsTo n held word row glimpse
+pub leads : (n m : Name) (held : Option ℕ) (word : ℕ) (row : RowToken) (glimpse : Glimpse) → n ≡ m → is_some held ≡ true → LeadsToBlock n held word row glimpse
     → (v : ℕ) × (held ≡ Some v) × (glimpse.value ≡ Some v) × IsRowAt m v row × CarriesOne v × (word ≡ link_word (Some v))
 leads n m (Some v) word row glimpse same some to = (v, refl, to.1, subst (λ (k : Name). IsRowAt k v row) same to.2.0, to.2.1, to.0)
 leads n m None word row glimpse same some to = absurd (cc)

@@ -1,8 +1,8 @@
 -- What the word of a link is. Threads share it, as the words of other things, or it stands still, in one caller's hands: then it is plain
 -- memory beside its keys.
---     laid g rest, read_back xs     a code in numbers, before these;  and the code again (read_from, first_code: with a stack of codes)
+--     laid g rest, code_back xs     a code in numbers, before these;  and the code again (read_from, first_code: with a stack of codes)
 --     KeyRow, row_of h, key_of_row r     a key with what is noted beside it in numbers, so that a word is plain data;  and the key again
---     rows_of held, keys_in rows, keys_of n rows    the same of each key;  and as keys of book n
+--     rows_of held, keys_of_rows rows, keys_of n rows    the same of each key;  and as keys of book n
 --     LinkSite                which link's word it is; and where it stands still what it holds, and its keys
 --     key_row_coded, link_site_coded     their codes
 --     site_in w               which word it is;  shared_at site    that word, which threads share
@@ -54,8 +54,8 @@ abbrev pub first_code : List Gv → Gv
 first_code [] = gnil
 first_code (g ∷ gs) = g
 
-abbrev pub read_back : List ℕ → Gv
-read_back xs = first_code (read_from xs [])
+abbrev pub code_back : List ℕ → Gv
+code_back xs = first_code (read_from xs [])
 
 pub record KeyRow : Type 0 where
   pub kind : ℕ
@@ -68,13 +68,13 @@ abbrev pub row_of : HeldKey Entry → KeyRow
 row_of h = record { kind = h.kind; key = h.key; own = h.own; label = h.label; note = laid h.note [] }
 
 abbrev pub key_of_row : KeyRow → HeldKey Entry
-key_of_row r = record { kind = r.kind; key = r.key; own = r.own; label = r.label; note = read_back r.note }
+key_of_row r = record { kind = r.kind; key = r.key; own = r.own; label = r.label; note = code_back r.note }
 
 abbrev pub rows_of : List (HeldKey Entry) → List KeyRow
 rows_of held = map row_of held
 
-abbrev pub keys_in : List KeyRow → List (HeldKey Entry)
-keys_in rows = map key_of_row rows
+abbrev pub keys_of_rows : List KeyRow → List (HeldKey Entry)
+keys_of_rows rows = map key_of_row rows
 
 abbrev pub key_row_coded : Coded KeyRow
 key_row_coded =
@@ -109,7 +109,7 @@ abbrev pub IsShared : LinkSite → Type 0
 IsShared w = is_still w ≡ false
 
 abbrev pub standing : Name → ℕ × List KeyRow → StillWord
-standing n t = record { bits = t.0; name = n; held = keys_in t.1 }
+standing n t = record { bits = t.0; name = n; held = keys_of_rows t.1 }
 
 abbrev pub still_word : LinkSite → Option StillWord
 still_word w = option_map (standing w.name) w.still
@@ -138,7 +138,7 @@ MayGlimpse held = (is_one blocks (drop 1 held) ≡ true) × CarriesOne (label_of
 
 -- its keys, as such
 abbrev pub keys_of : Name → List KeyRow → Keys
-keys_of n rows = record { marker = record {}; name = n; held = keys_in rows }
+keys_of n rows = record { marker = record {}; name = n; held = keys_of_rows rows }
 
 -- it stands still, holds this, and these are its keys
 abbrev pub StandsWith : LinkSite → ℕ × List KeyRow → Type 0

@@ -81,7 +81,7 @@ impl Link {
     ghost use Rattle.seize_book.specs.Tokens.{IsSole};
     ghost use Rattle.seize_machine.specs.Machine.State.{link_at};
     ghost use Rattle.seize_words.specs.LinkWords.{CompareExchanges, HasNextLink, IsLinkFor, IsNext, IsNewFor, Sees, Swaps, link_book, link_number};
-    ghost use Rattle.seize_words.specs.Stands.{IsSameLink, IsSharedLink, LeadsTo, Stands};
+    ghost use Rattle.seize_words.specs.Stands.{IsSameLink, IsSharedLink, LeadsToBlock, Stands};
 
     /// The first of the links that were not made yet. It is empty.
     pub fn next(left: &mut LinkKeys) -> Link
@@ -182,7 +182,7 @@ impl Link {
     pub(crate) fn peek(&self) -> Option<(u64, RowToken, Glimpse<'_>)>
         requires stands { (held : Option ℕ) × Stands self.now held }
         ensures held { (held : Option ℕ) → Stands self.now held → is_some result ≡ is_some held
-            × IfSome result (λ found. LeadsTo (link_book self.now) held found.0 found.1 found.2) }
+            × IfSome result (λ found. LeadsToBlock (link_book self.now) held found.0 found.1 found.2) }
     {
         let still = self.word.still();
         let word = still.word();

@@ -15,7 +15,7 @@ ghost use Rattle.seize_words.specs.Named.{link_count, links_name};
 ghost use Rattle.seize_words.specs.Rows.{AllStand, AreShared, IsSameBut, IsSharedAt, StandsAt};
 ghost use Rattle.seize.specs.Blocks.{Belongs, IsNamed, LooseComesOut};
 ghost use Rattle.seize.specs.Enders.{IsEnderOf};
-ghost use Rattle.seize.specs.Stillness.{IsSamePorter, state_at};
+ghost use Rattle.seize.specs.Stillness.{StaysHome, state_at};
 
 use crate::alone::place::Unit;
 use crate::block::{Owned, name};
@@ -101,7 +101,7 @@ impl<'a> Stay<()> for StillingAt<'a> {
 pub(crate) fn still(links: &mut Links, porter: &mut Porter)
     requires shared { AreShared links.old }
     requires porter { (porter.old.name ≡ links_name links.old) × (porter.old.home ≡ true) }
-    ensures porter { IsSamePorter porter.old porter.new }
+    ensures porter { StaysHome porter.old porter.new }
     ensures stand { AllStand links.new (state_at porter.old) }
     ensures same { links.new.book ≡ links.old.book }
 {
@@ -113,7 +113,7 @@ pub(crate) fn still(links: &mut Links, porter: &mut Porter)
 pub(crate) fn still_at(links: &mut Links, link: usize, porter: &mut Porter)
     requires shared { (link < link_count links.old) × IsSharedAt links.old link }
     requires porter { (porter.old.name ≡ links_name links.old) × (porter.old.home ≡ true) }
-    ensures porter { IsSamePorter porter.old porter.new }
+    ensures porter { StaysHome porter.old porter.new }
     ensures stands { StandsAt links.new link (link_at (state_at porter.old) link) }
     ensures same { IsSameBut link links.old links.new }
 {

@@ -7,7 +7,7 @@ ghost use Rattle.seize_calls.specs.Slots.{IsPassFor, its_number};
 ghost use Rattle.seize_words.specs.Joined.{words_book};
 ghost use Rattle.seize.specs.Placing.{IsLeftAt, MayLay};
 ghost use Rattle.seize.specs.Reservations.{IsReservation, IsReservationOf, IsUnit};
-ghost use Rattle.seize.specs.Shelves.{IsForgottenOf, IsLaidFor, IsShelfFor, IsWhole};
+ghost use Rattle.seize.specs.Shelves.{IsForgottenOf, IsLaidFor, IsShelfFor, IsAllLeft};
 ghost use Rattle.seize.specs.declared.alone.place.Place.{Place};
 
 use crate::alone::place::{Place, Unit};
@@ -19,7 +19,7 @@ use seize_words::words::Words;
 
 // Whether this is all that was left of slot `n`: with its reservation the unit of each guard.
 fn is_whole<T: Drop>(n: usize, r: &Reservation<T>, forgotten: &Option<Forgotten>) -> bool
-    ensures { result ≡ true → IsWhole n r.now forgotten.now }
+    ensures { result ≡ true → IsAllLeft n r.now forgotten.now }
 {
     if r.slot.number() != n {
         return false;

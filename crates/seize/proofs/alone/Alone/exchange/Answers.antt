@@ -10,7 +10,7 @@ use Rattle.seize.specs.Alones.{View}
 use Rattle.seize.specs.Blocks.{content}
 use Rattle.seize.specs.Looks.{with_link}
 use Rattle.seize.specs.Placing.{ArePlaces}
-use Rattle.seize.specs.Stillness.{AreStill, state_at}
+use Rattle.seize.specs.Stillness.{LinksHold, state_at}
 use Rattle.seize_alone.proofs.Singles.{link_held}
 use Rattle.seize_book.specs.Entry.{Entry}
 use Rattle.seize_book.specs.Tokens.{Name}
@@ -53,7 +53,7 @@ invariant_of-self g c =
     (ap (λ (x : State g.row.T.Denot ℕ). length x.slots) now)
     (ap (λ (x : State g.row.T.Denot ℕ). x.size) now)
     (ap (λ (x : State g.row.T.Denot ℕ). length x.links) now ∙ length-set st.links link new)
-    (subst (λ (x : State g.row.T.Denot ℕ). AreStill code c.still_at.new.links x.links) (sym now) stand)
+    (subst (λ (x : State g.row.T.Denot ℕ). LinksHold code c.still_at.new.links x.links) (sym now) stand)
     (subst (λ (x : State g.row.T.Denot ℕ). ArePlaces (words_book inside.words) x inside.places.items) (sym now) a.placed)
     holds
 

@@ -7,7 +7,7 @@ use Rattle.seize_book.specs.Fair.{Before}
 use Rattle.seize_book.specs.Ledger.{HeldKey, with_list}
 use Rattle.seize_book.specs.Tokens.{Name, keys_own, pass_owns}
 use Rattle.seize_book.specs.contracts.book.pass.Pass as Pass
-use Rattle.seize_words.specs.LinkSites.{KeyRow, keys_in, rows_of, LinkSite, owns_by, site_in}
+use Rattle.seize_words.specs.LinkSites.{KeyRow, keys_of_rows, rows_of, LinkSite, owns_by, site_in}
 use Rattle.seize_words.specs.contracts.link.word.LinkWord as LinkWord
 use Rattle.seize_book.proofs.Looks.{looks_now}
 use Rattle.seize_book.proofs.Passes.{IsDistinct}
@@ -33,7 +33,7 @@ look_spec 𝓤 𝓛 𝓜 𝓡 wired =
     enter ! 𝓣.C 𝓣.Λ fn (vptr pb po ∷ vptr rb ro ∷ []) Post $ alloc_all ! (λ l. pass_all ! refl ((tt, tt), ((tt, tt), tt)) $
     -- [the pass, in two; the keys, in two; the pass's token; the keys's token]
     move ! (2 ∷ 3 ∷ 5 ∷ []) $ opens ! tt LinkWord.the_row pb po (λ vs0. move ! (1 ∷ []) $ fsplit ! $ move ! (1 ∷ []) $ rewrite ! 0 (λ (z : Option (ℕ × List KeyRow)). ‵ (owns_by (site_in p) z vs0)) asked.1 refl $
-    let t : ℕ × List KeyRow = asked.0 in let held : List (HeldKey Entry) = keys_in t.1 in let may = asked.2 in
+    let t : ℕ × List KeyRow = asked.0 in let held : List (HeldKey Entry) = keys_of_rows t.1 in let may = asked.2 in
     fsplit ! $ move ! (1 ∷ []) $ rewrite ! 0 (λ (z : Name). ‵ (keys_own z held)) may.0 refl $
     -- [the rights; the fields; the type; its cell, in four entries; the pass, in two; its token]
     move ! (7 ∷ 8 ∷ 9 ∷ []) $ opens_pass ! tt ℓ r rb ro (λ vs1.

@@ -6,7 +6,7 @@ use Rattle.seize_book.specs.Entry.{Entry}
 use Rattle.seize_book.specs.Ledger.{HeldKey}
 use Rattle.seize_book.specs.Tokens.{keys_own}
 use Rattle.seize_book.specs.Private.{own_of}
-use Rattle.seize_words.specs.LinkSites.{KeyRow, keys_in, LinkSite, owns_by, shared_at, site_in}
+use Rattle.seize_words.specs.LinkSites.{KeyRow, keys_of_rows, LinkSite, owns_by, shared_at, site_in}
 use Rattle.seize_words.specs.Words.{Site, ShowsWord, AreOtherKeys, site_keys, word_knows, word_owns}
 use Rattle.seize_words.specs.contracts.link.word.LinkWord as LinkWord
 use Rattle.seize_words.specs.contracts.word.Word.TheInside as Inside
@@ -30,7 +30,7 @@ stir_spec 𝓤 𝓛 𝓜 𝓡 wired =
     keep ! (1 ∷ 2 ∷ 4 ∷ []) $
     enter ! 𝓣.C 𝓣.Λ fn (vptr b o ∷ []) Post $ alloc_all ! (λ l. pass_all ! refl ((tt, tt), tt) $
     opens ! tt LinkWord.the_row b o (λ vs. move ! (1 ∷ []) $ fsplit ! $ move ! (1 ∷ []) $ rewrite ! 0 (λ (t : Option (ℕ × List KeyRow)). ‵ (owns_by (site_in w) t vs)) asked.1.0 refl $
-    let t : ℕ × List KeyRow = asked.0 in let held : List (HeldKey Entry) = keys_in t.1 in let is = asked.1.1 in let same = asked.1.2 in let site : Site = site_in w in let w' : LinkSite = shared_at site in
+    let t : ℕ × List KeyRow = asked.0 in let held : List (HeldKey Entry) = keys_of_rows t.1 in let is = asked.1.1 in let same = asked.1.2 in let site : Site = site_in w in let w' : LinkSite = shared_at site in
     let since : List Entry = own_of held in let vs' : List (HeldKey Entry) = rest 1 held in
     -- [what stands still owns; the type; its cell, in four entries]
     fsplit ! $ move ! (1 ∷ []) $ rewrite ! 0 (λ (hs : List (HeldKey Entry)). ‵ (keys_own w.name hs)) is.0 refl $ rewrite ! 0 (λ (s : Site). ‵ (keys_own w.name (site_keys s since vs'))) same refl $
