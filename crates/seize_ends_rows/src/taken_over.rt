@@ -5,6 +5,7 @@ ghost use Rattle.seize.specs.Collectors.{IsPassOf};
 use crate::forgotten::{Telling, forget_guard, forget_owned, register, retire, telling};
 use seize::{Alone, Refusal, Registration};
 use seize_threads_rows::values::Digit;
+use std::alloc::Global;
 use std::process::Abort;
 use std::sync::Wait;
 use std::sync::atomic::{AtomicU64, Ordering};
@@ -91,6 +92,40 @@ fn a_slot_has_as_many_guards_when_it_was_shared_again(rt: HostRuntime) -> Result
         Ok(mut alone) => leave_thrice(&rt, &mut alone, &told)?,
         Err(_) => return Err(Fail::new("a holder is lost")),
     }
+    Ok(())
+}
+
+// A collector in one caller's hands that took over slot 0, with three guards, for which 1, 2 and 3 wait.
+fn taken_over<'a, R: Threads + Wait + Sync>(
+    rt: &R,
+    alloc: Global,
+    told: &'a AtomicU64,
+) -> Result<Alone<Digit<'a>>, Fail> {
+    let collector = telling(alloc, 1)?;
+    if !forget_elsewhere(rt, &collector, told) {
+        return Err(Fail::new("nothing was forgotten"));
+    }
+    collector.alone().map_err(|_| Fail::new("a holder is lost"))
+}
+
+#[test]
+fn what_was_taken_over_goes_as_all_is_reclaimed(rt: HostRuntime) -> Result<(), Fail> {
+    let told = AtomicU64::new(0);
+    let mut alone = taken_over(&rt, rt.alloc(), &told)?;
+    assert_eq!(rt; told.load(Ordering::SeqCst), 0);
+    alone.reclaim_all(&mut ());
+    assert_eq!(rt; told.load(Ordering::SeqCst), 321);
+    assert_eq!(rt; alone.register()?, 0);
+    Ok(())
+}
+
+#[test]
+fn what_was_taken_over_goes_at_the_drop(rt: HostRuntime) -> Result<(), Fail> {
+    let told = AtomicU64::new(0);
+    let alone = taken_over(&rt, rt.alloc(), &told)?;
+    assert_eq!(rt; told.load(Ordering::SeqCst), 0);
+    drop(alone);
+    assert_eq!(rt; told.load(Ordering::SeqCst), 321);
     Ok(())
 }
 
