@@ -105,7 +105,10 @@ fn taken_over<'a, R: Threads + Wait + Sync>(
     if !forget_elsewhere(rt, &collector, told) {
         return Err(Fail::new("nothing was forgotten"));
     }
-    collector.alone().map_err(|_| Fail::new("a holder is lost"))
+    match collector.alone() {
+        Ok(alone) => Ok(alone),
+        Err(_) => Err(Fail::new("a holder is lost")),
+    }
 }
 
 #[test]
