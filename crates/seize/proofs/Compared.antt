@@ -8,14 +8,14 @@ use Rattle.seize_book.specs.Passes.{LooksOn}
 use Rattle.seize_book.specs.declared.book.pass.Pass.{Pass}
 use Rattle.seize_book.proofs.Facts.{equal, unequal}
 use Rattle.seize_words.specs.Links.{comparand}
-use Rattle.seize.specs.Blocks.{IsNamed, content}
+use Rattle.seize_parts.specs.Blocks.{IsNamed, content}
 use Rattle.seize.specs.Collectors.{BelongsTo, IsBlockOf}
 use Rattle.seize.specs.Exchanges.{ComesBack}
-use Rattle.seize.specs.Makes.{Makes}
-use Rattle.seize.specs.declared.block.owned.Owned.{Owned}
+use Rattle.seize_parts.specs.Makes.{Makes}
+use Rattle.seize_parts.specs.declared.block.owned.Owned.{Owned}
 use Rattle.seize.specs.declared.collector.Collector.{Collector}
 use Rattle.seize.proofs.Facts.{content_once}
-use Rattle.seize.proofs.Made.{none_looked, then_none}
+use Rattle.seize_parts.proofs.Made.{none_looked, then_none}
 
 -- where the words are the same it compared what the link held
 pub won_compare : (current held : Option ℕ) → link_word held ≡ link_word current → comparand current held ≡ held

@@ -2,8 +2,8 @@
 use Rattle.std.proofs.Common.{◌≡◌, ℕ, List, [], ◌∷◌, ◌++◌, map, refl, sym, subst, All}
 use Rattle.std.proofs.Math.Path.{ap₂}
 use Rattle.std.proofs.lemmas.List.Elements.{All-nil, All-cons, All-head, All-tail, All-append}
-use Rattle.seize.specs.Blocks.{Belongs, HoldsOnly, content, owners_in, store_name}
-use Rattle.seize.specs.declared.block.owned.Owned.{Owned}
+use Rattle.seize_parts.specs.Blocks.{Belongs, HoldsOnly, content, owners_in, store_name}
+use Rattle.seize_parts.specs.declared.block.owned.Owned.{Owned}
 
 -- blocks whose contents a function changes have the contents changed by it
 pub contents_map : {T U : Type 0} (f : T → U) (on_block : Owned T → Owned U) → ((owned : Owned T) → content (on_block owned) ≡ f (content owned))

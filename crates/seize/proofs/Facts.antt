@@ -14,18 +14,19 @@ use Rattle.seize_book.specs.declared.book.pass.Pass.{Pass}
 use Rattle.seize_book.specs.declared.book.seen.Seen.{Seen}
 use Rattle.seize_words.specs.Chunks.{IsLentAs}
 use Rattle.seize_words.proofs.Facts.{same_content, told_later, told_once}
-use Rattle.seize.specs.Blocks.{HasContent, Shows, shared_value}
+use Rattle.seize_parts.specs.Blocks.{HasContent}
+use Rattle.seize.specs.Links.{Shows, shared_value}
 use Rattle.seize.specs.Collectors.{its_book, seen_by}
-use Rattle.seize.specs.Laws.{moments_seen}
-use Rattle.seize.specs.Makes.{EndsUse, IsOfKind}
+use Rattle.seize_parts.specs.Laws.{moments_seen}
+use Rattle.seize_parts.specs.Makes.{EndsUse, IsOfKind}
 use Rattle.seize.specs.Reclaims.{Learns, ReclaimsAll, moments_kept, moments_of}
 use Rattle.seize.specs.declared.collector.Collector.{Collector}
 use Rattle.seize.specs.declared.block.shared.Shared.{Shared}
 -- what was found stays found, and a won exchange of it took out that; and what one call makes and then another
 pub use Rattle.seize.proofs.Found.{found_still, read_replaced}
-pub use Rattle.seize.proofs.Made.{makes_then, then_none}
+pub use Rattle.seize_parts.proofs.Made.{makes_then, then_none}
 -- what calls made with a pass stands among the moments of which the laws speak, and in each list that goes on
-pub use Rattle.seize.proofs.Stands.{made_since, read_found, reclaimed_still, retired_still}
+pub use Rattle.seize_parts.proofs.Stands.{made_since, read_found, reclaimed_still, retired_still}
 -- and a value whose retirement returned is retired there
 pub use Rattle.seize.proofs.Retired.{call_still, retired_by}
 

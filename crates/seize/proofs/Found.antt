@@ -21,14 +21,14 @@ use Rattle.seize_calls.proofs.Slots.{longer_left}
 use base.Stored.{Gv}
 use Rattle.core.specs.declared.result.Result.{Result}
 use Rattle.core.specs.declared.result.Result.TheVariants.{Ok}
-use Rattle.seize.specs.Blocks.{Shows, shared_name}
+use Rattle.seize.specs.Links.{Shows, shared_name}
 use Rattle.seize.specs.Exchanges.{FoundIn, IsOutcome, StandsAlone, TookFound}
 use Rattle.seize.specs.declared.block.failed.Failed.{Failed}
-use Rattle.seize.specs.declared.block.owned.Owned.{Owned}
+use Rattle.seize_parts.specs.declared.block.owned.Owned.{Owned}
 use Rattle.seize.specs.declared.block.shared.Shared.{Shared}
 use Rattle.seize.specs.declared.block.unlinked.Unlinked.{Unlinked}
 use Rattle.seize.specs.declared.collector.Collector.{Collector}
-use Rattle.seize.specs.Makes.{Makes}
+use Rattle.seize_parts.specs.Makes.{Makes}
 
 -- it was found, whatever the pass has seen since
 pub found_still : (a : Activation) (o : Option ℕ) {pass pass' : Pass} {es : List (Event × Answer)} → Makes pass pass' es → FoundIn a o pass → FoundIn a o pass'

@@ -13,11 +13,11 @@ use Rattle.seize_model.specs.Waiting.State.{Slot, State, no_slot, slot_at}
 use Rattle.seize_model.proofs.Simulation.Numbers.{slot_taken, taken_if}
 use Rattle.seize_book.proofs.Facts.{equal}
 use Rattle.seize_book.specs.Tokens.{Name}
-use Rattle.seize.specs.Kinds.{kind_of}
-use Rattle.seize.specs.Placing.{ArePlaces, Lies, lies_for, lies_in}
-use Rattle.seize.specs.Reservations.{place_label}
-use Rattle.seize.specs.Told.{Grew, Said}
-use Rattle.seize.specs.declared.alone.place.Place.{Place}
+use Rattle.seize_parts.specs.Kinds.{kind_of}
+use Rattle.seize_parts.specs.Placing.{ArePlaces, Lies, lies_for, lies_in}
+use Rattle.seize_parts.specs.Reservations.{place_label}
+use Rattle.seize_parts.specs.Told.{Grew, Said}
+use Rattle.seize_parts.specs.declared.alone.place.Place.{Place}
 
 -- Kinds.
 

@@ -1,5 +1,5 @@
 -- What the calls of a guard make, as users see it, with its unit of the slot's activation.
-use Rattle.std.proofs.Common.{◌≡◌, ℕ, false, List, Option, None, Some, IfSome, is_some, refl, sym, subst, ◌∙◌}
+use Rattle.std.proofs.Common.{◌≡◌, ◌-◌, ◌^◌, ap, ℕ, false, List, Option, None, Some, IfSome, is_some, refl, sym, subst, ◌∙◌}
 use Rattle.std.proofs.lemmas.Bool.{false≢true}
 use base.Stored.{Gv}
 use Rattle.seize_machine.specs.Machine.Event.{ExchangeLink, ReadLink}
@@ -17,18 +17,33 @@ use Rattle.seize_words.specs.declared.glimpse.Found.{Found}
 use Rattle.seize_words.specs.declared.glimpse.Glimpse.{Glimpse}
 use Rattle.seize_words.specs.declared.link.Link.{Link}
 use Rattle.seize_words.specs.declared.link.MaybeKey.{MaybeKey}
-use Rattle.seize.specs.Blocks.{ShowsIn, shared_book, shared_name, shared_value}
-use Rattle.seize.specs.Makes.{MakesCall, MakesNone, MakesOne}
-use Rattle.seize.specs.Reservations.{IsUnit}
+use Rattle.seize.specs.Links.{ShowsIn, shared_book, shared_name, shared_value}
+use Rattle.seize_parts.specs.Makes.{MakesCall, MakesNone, MakesOne}
+use Rattle.seize_parts.specs.Reservations.{IsUnit}
 use Rattle.seize.specs.declared.block.shared.Shared.{Shared}
 use Rattle.seize_book.specs.Tokens.{Name}
+use denote.Bor.{Bor}
+use Rattle.seize_calls.specs.Slots.{IsPassFor}
+use Rattle.seize_parts.specs.Reservations.{IsHeadFor, place_label}
+use Rattle.seize.specs.Collectors.{IsPassOf, its_book, its_words}
+use Rattle.seize.specs.Guards.{guard_collector, guard_slot}
+use Rattle.seize.specs.declared.collector.Collector.{Collector}
+use Rattle.seize.specs.declared.guard.LocalGuard.{LocalGuard}
 use Rattle.seize.proofs.LinkSteps.{link_compares, link_finds, link_swaps}
-use Rattle.seize.proofs.Made.{none_learned, none_then}
+use Rattle.seize_parts.proofs.Made.{none_learned, none_then}
 
--- a call, when no event was made before it
-pub call_after : {IsPut : Pass → ℕ → List ℕ → Type 0} (s t : ℕ) (job : Job) (pass ready pass' : Pass) → s ≡ t → MakesNone pass ready → MakesCall IsPut s job ready pass' → MakesCall IsPut t job pass pass'
-call_after {IsPut} s t job pass ready pass' same none call =
-    subst (λ (k : ℕ). MakesCall IsPut k job pass pass') same (record { steps = call.steps; its = call.its; made = none_then none call.made })
+-- a pass of the collector is one for its words, and so is the same pass by another name
+pub pass_as : {T R : Type 0} (collector : Collector T R) (pass pass' : Pass) → pass' ≡ pass → IsPassOf collector pass → IsPassFor (its_words collector) pass'
+pass_as collector pass pass' same of = (sym (ap (λ (p : Pass). p.name) same ∙ of.0), sym (ap (λ (p : Pass). p.size) same ∙ of.1))
+
+-- The place of a local guard lies with its registration
+pub guard_place : {T R : Type 0} (guard : LocalGuard T R) → guard.registration.now.reservation ≡ place_label (its_book (guard_collector guard)) (guard_slot guard) (2 ^ 64 - 1)
+guard_place {T} {R} guard = guard.registration.now.at ∙ ap (λ (t : Bor (Collector T R) × ℕ). place_label (its_book t.0.now) t.1 (2 ^ 64 - 1)) (λ j. (sym guard.its.0 j, sym guard.its.1 j))
+
+-- as does the head;
+pub guard_head : {T R : Type 0} (guard : LocalGuard T R) → IsHeadFor (its_book (guard_collector guard)) (guard_slot guard) guard.registration.now.head.now
+guard_head {T} {R} guard =
+    subst (λ (t : Bor (Collector T R) × ℕ). IsHeadFor (its_book t.0.now) t.1 guard.registration.now.head.now) (λ j. (sym guard.its.0 j, sym guard.its.1 j)) guard.registration.now.headed
 
 module _ (n : Name) (s : ℕ) (unit : Activation) (seen : Seen) (its : IsUnit n s unit seen) (number : ℕ) (link : Link) (at : link_number link ≡ number) (pass learned : Pass) (learns : Learns pass seen learned) where
   -- a read of a link, once the pass has learned that the activation began

@@ -7,7 +7,7 @@ use Rattle.seize_book.specs.Book.{IsLegalList, moments}
 use Rattle.seize_book.specs.Entry.{Entry, events_of}
 use Rattle.seize_book.specs.Tokens.{Name, start}
 use Rattle.seize_book.proofs.Facts.{as_legal}
-use Rattle.seize.specs.Laws.{LawsOf}
+use Rattle.seize_parts.specs.Laws.{LawsOf}
 
 -- by what `machine::laws` says, clause by clause
 pub laws_of : HoldsOfAll AtMostOnce → HoldsOfAll After → HoldsOfAll Quiet → HoldsOfAll Protection → HoldsOfAll Whereabouts → HoldsOfAll Gone → HoldsOfAll Holders → HoldsOfAll NoLaterHolders → HoldsOfAll UnderGuard → HoldsOfAll Tries

@@ -17,8 +17,8 @@ use Rattle.seize_words.specs.declared.activation.Activation.{Activation}
 use Rattle.seize_words.specs.declared.glimpse.Glimpse.{Glimpse}
 use Rattle.seize_words.specs.declared.link.Link.{Link}
 use Rattle.seize_words.specs.declared.link.MaybeKey.{MaybeKey}
-use Rattle.seize.specs.Makes.{MakesOne}
-use Rattle.seize.proofs.Made.{none_looked, one_answered_there, then_none}
+use Rattle.seize_parts.specs.Makes.{MakesOne}
+use Rattle.seize_parts.proofs.Made.{none_looked, one_answered_there, then_none}
 
 -- the machine answers each event on a link with what the link held
 link_answer : (s l size : ℕ) (st : State) (event : Event) (o : State × Answer) → IsStepOn s l event → Step size st event o → o.1 ≡ Held (link_at st l)

@@ -23,10 +23,10 @@ use Rattle.seize_alone.specs.Holding.{Holds}
 use Rattle.seize_alone.proofs.Shown.{active_shown}
 use Rattle.seize.specs.Alones.{AsListed, IsAlone, View}
 use Rattle.seize.specs.Stillness.{LinksHold}
-use Rattle.seize.specs.Placing.{ArePlaces, Lies, lies_for, lies_in, lying_in}
+use Rattle.seize_parts.specs.Placing.{ArePlaces, Lies, lies_for, lies_in, lying_in}
 use Rattle.seize.specs.declared.alone.hands.Hands.{Hands}
-use Rattle.seize.specs.declared.alone.place.Place.{Place}
-use Rattle.seize.specs.declared.ender.Ender.{Ender}
+use Rattle.seize_parts.specs.declared.alone.place.Place.{Place}
+use Rattle.seize_parts.specs.declared.ender.Ender.{Ender}
 
 -- The pass.
 
@@ -47,69 +47,6 @@ knows {T} {R} {code} {words} {porter} {hands = hands} {pass = pass} a shuts = re
   distinct = ap (λ (n : Name). are_distinct (linked_values n.links)) shuts.book.0 ∙ shuts.goes_on.distinct;
   holds = subst (λ (t : Name × List Entry). Holds code hands.state hands.names hands.kinds t.0 t.1) (λ j. (sym shuts.book.0 j, sym (shuts.was a.lends.2) j)) a.holds;
 }
-
--- a slot is active where it has a guard
-pub head_held : {T : Type 0} {code : T → Gv} {st : State T ℕ} {names : List (ℕ × T)} {kinds : List (ℕ × ℕ)} {n : Name} {seen : List Entry} → Holds code st names kinds n seen → (s : ℕ) → is_active (head_at (after (start n) seen) s) ≡ has_guard (slot_at st s)
-head_held holds s = active_shown holds s
-
--- What lies in places.
-
--- in that of slot s lies this
-pub set_place : {U : Type 0} (n : Name) (st : State U ℕ) (places : List (Option (Place U))) (s : ℕ) (slot : Slot U ℕ) (place : Option (Place U)) → ArePlaces n st places → s < length st.slots → s < length places
-    → option_map lies_in place ≡ lies_for n slot s → ArePlaces n (set_slot st s slot) (slice_set places s place)
-set_place {U} n st places s slot place are there lies is t = go (s == t) refl
-  where
-    go : (b : Bool) → (s == t) ≡ b → option_map lies_in (get_or (slice_set places s place) t None) ≡ lies_for n (slot_at (set_slot st s slot) t) t
-    go true e =
-        let same : s ≡ t = eq_true s t e in
-        subst (λ (k : ℕ). option_map lies_in (get_or (slice_set places s place) k None) ≡ lies_for n (slot_at (set_slot st s slot) k) k) same
-        (ap (λ (o : Option (Place U)). option_map lies_in o) (get_or-set_same places s place None lies) ∙ is ∙ ap (λ (x : Slot U ℕ). lies_for n x s) (sym (get_or-set_same st.slots s slot no_slot there)))
-    go false e =
-        let other : ¬ (t ≡ s) = λ same. false≢true (sym e ∙ equal s t (sym same)) in
-        ap (λ (o : Option (Place U)). option_map lies_in o) (get_or-set_other places s t place None other) ∙ are t ∙ ap (λ (x : Slot U ℕ). lies_for n x t) (sym (get_or-set_other st.slots s t slot no_slot other))
-
--- so after the place was changed
-pub laid : {U : Type 0} (n : Name) (st : State U ℕ) (s : ℕ) (slot : Slot U ℕ) (items : List (Option (Place U))) (place : Place U) → ArePlaces n st items → s < length st.slots → s < length items → is_free slot.kind ≡ false
-    → lies_in place ≡ lying_in n slot s → ArePlaces n (set_slot st s slot) (slice_set items s (Some place))
-laid {U} n st s slot items place are there lies used is =
-    set_place n st items s slot (Some place) are there lies (ap (λ (t : Lies). Some t) is ∙ ap (λ (b : Bool). if b then None else Some (lying_in n slot s)) (sym used))
-
--- what lies there is a fact of the state
-module _ {U : Type 0} (n : Name) (st : State U ℕ) (places : List (Option (Place U))) (are : ArePlaces n st places) (s : ℕ) (used : is_free (slot_at st s).kind ≡ false) where
-  lies_so : option_map lies_in (get_or places s None) ≡ Some (lying_in n (slot_at st s) s)
-  lies_so = are s ∙ ap (λ (b : Bool). if b then None else Some (lying_in n (slot_at st s) s)) used
-
-  pub some_place : is_some (get_or places s None) ≡ true
-  some_place = go (get_or places s None) lies_so
-    where
-      go : (o : Option (Place U)) → option_map lies_in o ≡ Some (lying_in n (slot_at st s) s) → is_some o ≡ true
-      go None is = absurd (cc)
-      go (Some place) is = refl
-
-  pub place_there : s < length places
-  place_there = go (cases_lt s (length places))
-    where
-      go : (s < length places) ⊎ (length places ≤ s) → s < length places
-      go (inl less) = less
-      go (inr past) = absurd (false≢true (sym (ap (λ (o : Option (Place U)). is_some o) (get_or_past places s None past)) ∙ some_place))
-
-  pub place_is : (place : Place U) → get_or places s None ≡ Some place → lies_in place ≡ lying_in n (slot_at st s) s
-  place_is place is = let both : Some (lies_in place) ≡ Some (lying_in n (slot_at st s) s) = sym (ap (λ (o : Option (Place U)). option_map lies_in o) is) ∙ lies_so in some_same both
-    where
-      some_same : {a b : Lies} → Some a ≡ Some b → a ≡ b
-      some_same e = cc
-
-  -- also where that place is lent
-  pub held_is : (at : Option (Place U)) (place : Place U) → at ≡ get_or places s at → at ≡ Some place → lies_in place ≡ lying_in n (slot_at st s) s
-  held_is at place read is = place_is place (sym (get_or_read places s at place_there read None) ∙ is)
-
--- a slot in use was made
-pub slot_there : {U : Type 0} (st : State U ℕ) (s : ℕ) → is_free (slot_at st s).kind ≡ false → s < length st.slots
-slot_there st s used = go (cases_lt s (length st.slots))
-  where
-    go : (s < length st.slots) ⊎ (length st.slots ≤ s) → s < length st.slots
-    go (inl less) = less
-    go (inr past) = absurd (let free : true ≡ false = sym (ap (λ (slot : Slot _ ℕ). is_free slot.kind) (get_or_past st.slots s no_slot past)) ∙ used in cc)
 
 -- After a work of the porter's first pass.
 

@@ -12,12 +12,13 @@ use Rattle.seize_words.specs.declared.words.Words.{Words}
 use Rattle.seize_alone.proofs.Outlines.{guards_in, kind_in, outline, set_frame, slots_in}
 use Rattle.seize_alone.specs.Holding.{Holds}
 use Rattle.seize.specs.Alones.{IsAlone}
-use Rattle.seize.specs.Kinds.{kind_of}
-use Rattle.seize.specs.Placing.{ArePlaces, lies_for, lies_in, lying_in}
+use Rattle.seize_parts.specs.Kinds.{kind_of}
+use Rattle.seize_parts.specs.Placing.{ArePlaces, lies_for, lies_in, lying_in}
 use Rattle.seize.specs.declared.alone.hands.Hands.{Hands}
-use Rattle.seize.specs.declared.alone.place.Place.{Place}
-use Rattle.seize.specs.declared.ender.Ender.{Ender}
-use Rattle.seize.proofs.Lone.{alone_again, laid, slot_there}
+use Rattle.seize_parts.specs.declared.alone.place.Place.{Place}
+use Rattle.seize_parts.specs.declared.ender.Ender.{Ender}
+use Rattle.seize_parts.proofs.Lying.{laid, slot_there}
+use Rattle.seize.proofs.Lone.{alone_again}
 
 pub kind_used : (owned : Bool) → is_free (kind_of owned) ≡ false
 kind_used true = refl

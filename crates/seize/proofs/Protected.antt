@@ -15,7 +15,7 @@ use Rattle.seize_words.specs.Activations.{IsLasting}
 use Rattle.seize_words.specs.declared.activation.Activation.{Activation}
 use Rattle.seize_words.proofs.Facts.{found_stands}
 use Rattle.seize.specs.Exchanges.{Protects}
-use Rattle.seize.specs.Laws.{moments_seen}
+use Rattle.seize_parts.specs.Laws.{moments_seen}
 
 -- a value that an event handed is among those handed
 first_handed : (v : ℕ) (o : Option ℕ) (more : List ℕ) → o ≡ Some v → has v (option_to_list o ++ more) ≡ true

@@ -29,14 +29,15 @@ use Rattle.seize_alone.specs.Gone.{HadAre}
 use Rattle.seize_alone.specs.Holding.{Holds, HoldsThen}
 use Rattle.seize_alone.proofs.Shown.{owned_shown}
 use Rattle.seize_alone.proofs.Slots.{slot_flushes, slot_parts, slot_refreshes, slot_retires}
-use Rattle.seize.specs.Kinds.{kind_of}
-use Rattle.seize.specs.Places.{CallsSlot}
-use Rattle.seize.specs.Told.{Answers, AreCodes, HasTold, told_of}
-use Rattle.seize.specs.Placing.{unit_in}
+use Rattle.seize_parts.specs.Kinds.{kind_of}
+use Rattle.seize_parts.specs.Places.{CallsSlot}
+use Rattle.seize_parts.specs.Told.{Answers, AreCodes, HasTold, told_of}
+use Rattle.seize_parts.specs.Placing.{unit_in}
 use Rattle.seize.specs.declared.alone.hands.Hands.{Hands}
-use Rattle.seize.specs.declared.alone.place.Unit.{Unit as Held}
-use Rattle.seize.specs.declared.reservation.Reservation.{Reservation}
-use Rattle.seize.proofs.Called.{sole_still}
+use Rattle.seize_parts.specs.declared.alone.place.Unit.{Unit as Held}
+use Rattle.seize_parts.specs.declared.reservation.Reservation.{Reservation}
+use Rattle.seize_parts.proofs.Called.{sole_still}
+use Rattle.seize_parts.proofs.Aparts.{told_gone}
 use Rattle.seize.proofs.Lone.{Knows}
 
 -- the unit of the activation lies in the place of a slot with guards
@@ -103,16 +104,6 @@ left_last {T} puts weight st s owned none kind =
 -- it is refused without a guard
 pub refused_none : {T : Type 0} (st : State T ℕ) (s : ℕ) (refusal : Refusal) (a : Response (Unit {0}) T ℕ) → no_guard st s ≡ Some refusal → unless (no_guard st s) st a ≡ (Err refusal, (st, []))
 refused_none {T} st s refusal a is = ap (λ (r : Option Refusal). unless r st a) is
-
--- The watch was told of values with the codes of those that were had, so it was told of these.
-pub told_gone : {T Seen : Type 0} (c : Coded T) (told : Seen → T → Seen) (seen : Seen) (xs : List T) (had : Had) (gone : List (T × ℕ)) → AreCodes c.code xs had → HadAre c.code had gone → fold told seen xs ≡ told_of told seen gone
-told_gone c told seen [] [] [] are has = refl
-told_gone {T} c told seen (x ∷ xs) (one ∷ had) (v ∷ gone) are has =
-    told_gone c told (told seen x) xs had gone are.1 has.1 ∙ ap (λ (y : T). told_of told (told seen y) gone) (c.inj x v.0 (are.0 ∙ has.0.0))
-told_gone c told seen [] [] (v ∷ gone) are has = absurd has
-told_gone c told seen (x ∷ xs) (one ∷ had) [] are has = absurd has
-told_gone c told seen [] (one ∷ had) gone are has = absurd are
-told_gone c told seen (x ∷ xs) [] gone are has = absurd are
 
 -- what the hands hold after a call with this outcome, and what the watch was told
 pub record Turned {T Seen : Type 0} (c : Coded T) (told : Seen → T → Seen) (o : StateAndGone T ℕ) (pass : Pass) (seen seen' : Seen) : Type 0 where

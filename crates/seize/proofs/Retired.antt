@@ -19,10 +19,10 @@ use Rattle.seize_book.specs.Passes.{events_in}
 use Rattle.seize_book.specs.Tokens.{start}
 use Rattle.seize_book.proofs.Facts.{equal}
 use Rattle.seize_book.specs.declared.book.pass.Pass.{Pass}
-use Rattle.seize.specs.Laws.{moments_seen}
-use Rattle.seize.specs.Makes.{Defers, MakesCall, MakesNone, WasMade, made_with}
-use Rattle.seize.proofs.Made.{as_made, then_none}
-use Rattle.seize.proofs.Stands.{made_after, picked, rest_of}
+use Rattle.seize_parts.specs.Laws.{moments_seen}
+use Rattle.seize_parts.specs.Makes.{Defers, MakesCall, MakesNone, WasMade, made_with}
+use Rattle.seize_parts.proofs.Made.{as_made, then_none}
+use Rattle.seize_parts.proofs.Stands.{made_after, picked, rest_of}
 
 -- Events one by one.
 

@@ -8,7 +8,7 @@ use Rattle.seize_model.specs.Waiting.Lists.{Call, step, Answered, Replied}
 use Rattle.seize_model.specs.Waiting.State.{State}
 use Rattle.seize_model.proofs.WaitingSets.Lists.{replied_more}
 use Rattle.seize.specs.Running.{call_of, reply_of, AreFor, DoesCall}
-use Rattle.seize.specs.Told.{told_of}
+use Rattle.seize_parts.specs.Told.{told_of}
 use Rattle.seize.specs.declared.alone.running.Call.{Call as CodeCall}
 use Rattle.seize.specs.declared.alone.running.Reply.{Reply as CodeReply}
 

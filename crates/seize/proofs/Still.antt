@@ -23,13 +23,13 @@ use Rattle.seize_alone.proofs.Singles.{link_held}
 use Rattle.seize_alone.specs.Events.{IsHeldAs}
 use Rattle.seize_alone.specs.Holding.{Holds}
 use Rattle.seize.specs.Alones.{IsAlone}
-use Rattle.seize.specs.Enders.{IsEnderIn}
+use Rattle.seize_parts.specs.Enders.{IsEnderIn}
 use Rattle.seize.specs.Looks.{with_link}
-use Rattle.seize.specs.Placing.{ArePlaces}
+use Rattle.seize_parts.specs.Placing.{ArePlaces}
 use Rattle.seize.specs.Stillness.{LinksHold, StaysHome, state_at}
 use Rattle.seize.specs.declared.alone.hands.Hands.{Hands}
-use Rattle.seize.specs.declared.alone.place.Place.{Place}
-use Rattle.seize.specs.declared.ender.Ender.{Ender}
+use Rattle.seize_parts.specs.declared.alone.place.Place.{Place}
+use Rattle.seize_parts.specs.declared.ender.Ender.{Ender}
 
 -- a list that shows a state shows it of a porter that has seen the same
 pub holds_so : {T : Type 0} {code : T → Gv} {st : State T ℕ} {names : List (ℕ × T)} {kinds : List (ℕ × ℕ)} (porter porter' : Porter) → StaysHome porter porter' → Holds code st names kinds porter.name porter.seen → Holds code st names kinds porter'.name porter'.seen

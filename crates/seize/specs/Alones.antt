@@ -23,13 +23,13 @@ use Rattle.seize_book.specs.declared.book.porter.Porter.{Porter}
 use Rattle.seize_words.specs.Joined.{words_book}
 use Rattle.seize_words.specs.declared.words.Words.{Words}
 use Rattle.seize_alone.specs.Holding.{Holds}
-use Rattle.seize.specs.Enders.{IsEnderOf}
-use Rattle.seize.specs.Placing.{ArePlaces}
+use Rattle.seize_parts.specs.Enders.{IsEnderOf}
+use Rattle.seize_parts.specs.Placing.{ArePlaces}
 use Rattle.seize.specs.States.{state_coded}
 use Rattle.seize.specs.Stillness.{LinksHold}
 use Rattle.seize.specs.declared.alone.hands.Hands.{Hands}
-use Rattle.seize.specs.declared.alone.place.Place.{Place}
-use Rattle.seize.specs.declared.ender.Ender.{Ender}
+use Rattle.seize_parts.specs.declared.alone.place.Place.{Place}
+use Rattle.seize_parts.specs.declared.ender.Ender.{Ender}
 
 pub record View (T : Type 0) : Type 0 where
   pub book : Name

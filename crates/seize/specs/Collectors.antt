@@ -21,9 +21,9 @@ use Rattle.seize_words.specs.Joined.{words_book}
 use Rattle.seize_words.specs.declared.words.Words.{Words}
 use Rattle.seize_calls.specs.Slots.{IsSlotOf}
 use Rattle.seize_calls.specs.declared.slot.Slot.{Slot}
-use Rattle.seize.specs.Blocks.{Belongs, store_name}
-use Rattle.seize.specs.Makes.{made_with}
-use Rattle.seize.specs.declared.block.owned.Owned.{Owned}
+use Rattle.seize_parts.specs.Blocks.{Belongs, store_name}
+use Rattle.seize_parts.specs.Makes.{made_with}
+use Rattle.seize_parts.specs.declared.block.owned.Owned.{Owned}
 use Rattle.seize.specs.declared.collector.Collector.{Collector}
 
 abbrev pub its_words : {T R : Type 0} → Collector T R → Words T

@@ -27,11 +27,12 @@ use Rattle.seize_words.specs.Chunks.{IsLiveAt}
 use Rattle.seize_words.specs.LinkWords.{WasFound}
 use Rattle.seize_words.specs.Links.{comparand}
 use Rattle.seize_words.specs.declared.activation.Activation.{Activation}
-use Rattle.seize.specs.Blocks.{ComesOut, IsNamed, IsUnlinkedOf, Shows, content, shared_name, store_name}
-use Rattle.seize.specs.Laws.{moments_seen}
-use Rattle.seize.specs.Makes.{MakesOne}
+use Rattle.seize_parts.specs.Blocks.{IsNamed, content, store_name}
+use Rattle.seize.specs.Links.{ComesOut, IsUnlinkedOf, Shows, shared_name}
+use Rattle.seize_parts.specs.Laws.{moments_seen}
+use Rattle.seize_parts.specs.Makes.{MakesOne}
 use Rattle.seize.specs.declared.block.failed.Failed.{Failed}
-use Rattle.seize.specs.declared.block.owned.Owned.{Owned}
+use Rattle.seize_parts.specs.declared.block.owned.Owned.{Owned}
 use Rattle.seize.specs.declared.block.shared.Shared.{Shared}
 use Rattle.seize.specs.declared.block.unlinked.Unlinked.{Unlinked}
 use Rattle.seize.specs.declared.collector.Collector.{Collector}

@@ -26,7 +26,7 @@ use Rattle.seize_book.specs.Tokens.{start}
 use Rattle.seize_book.specs.declared.book.seen.Seen.{Seen}
 use Rattle.seize_calls.specs.Alone.{AllBy}
 use Rattle.seize.specs.Collectors.{its_book, its_id, its_size, seen_by}
-use Rattle.seize.specs.Sweeps.{IsCleared, StandsInUse}
+use Rattle.seize_parts.specs.Sweeps.{IsCleared, StandsInUse}
 use Rattle.seize.specs.declared.collector.Collector.{Collector}
 
 abbrev pub moments_kept : Seen → List Moment

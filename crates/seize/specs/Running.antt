@@ -14,8 +14,8 @@ use Rattle.seize_model.specs.Waiting.Lists.{Call, Register, EnterOwned, Enter, L
 use Rattle.seize_model.specs.Waiting.Lists.{Reply, Done, Number, Kept, Found, Refused, Replied, step, takes_number}
 use Rattle.seize_model.specs.Waiting.State.{State}
 use Rattle.seize_table.specs.declared.refusal.Refusal.TheVariants.{NoMemory}
-use Rattle.seize.specs.Blocks.{Belongs, content}
-use Rattle.seize.specs.Told.{told_of}
+use Rattle.seize_parts.specs.Blocks.{Belongs, content}
+use Rattle.seize_parts.specs.Told.{told_of}
 use Rattle.seize.specs.declared.alone.running.Call.{Call as CodeCall}
 use Rattle.seize.specs.declared.alone.running.Call.TheVariants.{Register as CodeRegister, EnterOwned as CodeEnterOwned}
 use Rattle.seize.specs.declared.alone.running.Call.TheVariants.{Enter as CodeEnter, Leave as CodeLeave, End as CodeEnd}

@@ -6,36 +6,28 @@ ghost use Rattle.seize_words.specs.Joined.{words_book};
 ghost use Rattle.seize.specs.Alones.{IsAlone, View, view_coded};
 
 mod all;
-pub(crate) mod apart;
-pub(crate) mod aside;
 mod blocks;
-mod calls;
 mod codes;
-pub(crate) mod draining;
 mod hands;
 mod links;
-pub(crate) mod place;
 mod reclaiming;
 mod running;
 mod sharing;
-pub(crate) mod shelving;
-mod taking;
-mod tells;
 
 use crate::alone::all::reclaim_by;
-use crate::alone::calls::held;
 pub use crate::alone::codes::Codes;
 use crate::alone::hands::Hands;
-use crate::alone::place::{Place, back, out, room};
 pub use crate::alone::running::{Call, Reply};
 use crate::alone::sharing::shared;
-use crate::alone::taking::{Freeing, Taking};
-use crate::ender::Ender;
-use crate::numbers::Numbers;
-use crate::reclaim::{Boxed, Reclaim};
-use crate::reservation::Reservation;
 use seize_cells::Lock;
 use seize_machine::machine;
+use seize_parts::alone::calls::held;
+use seize_parts::alone::place::{Place, back, out, room};
+use seize_parts::alone::taking::{Freeing, Taking};
+use seize_parts::ender::Ender;
+use seize_parts::numbers::Numbers;
+use seize_parts::reclaim::{Boxed, Reclaim};
+use seize_parts::reservation::Reservation;
 use seize_table::Refusal;
 use seize_words::book::Porter;
 use seize_words::words::Words;
@@ -86,9 +78,9 @@ impl<T: Drop, R: Reclaim<T>> Alone<T, R> {
     ghost use Rattle.seize_book.specs.Book.{moments};
     ghost use Rattle.seize_book.specs.Tokens.{start};
     ghost use Rattle.seize.specs.Alones.{AsListed, IsSame, ListGrows};
-    ghost use Rattle.seize.specs.Kinds.{kind_of};
-    ghost use Rattle.seize.specs.Laws.{LawsOf};
-    ghost use Rattle.seize.specs.Told.{Grew, Said};
+    ghost use Rattle.seize_parts.specs.Kinds.{kind_of};
+    ghost use Rattle.seize_parts.specs.Laws.{LawsOf};
+    ghost use Rattle.seize_parts.specs.Told.{Grew, Said};
 
     /// How many links it has.
     pub fn links(&self) -> usize

@@ -2,21 +2,21 @@
 ghost use Rattle.std.specs.Prelude.{◌≡◌, box_value, false};
 ghost use Rattle.seize_words.specs.Joined.{words_book};
 ghost use Rattle.seize_words.specs.Rows.{AreShared};
-ghost use Rattle.seize.specs.Enders.{IsEnderOf};
+ghost use Rattle.seize_parts.specs.Enders.{IsEnderOf};
 
 mod ids;
 
 use crate::block::Owned;
-use crate::ender::Ender;
-use crate::ending::end_all;
-use crate::numbers::sweeping::Sweeping;
-use crate::numbers::{Numbers, Registering};
 use crate::owned::OwnedGuard;
-use crate::reclaim::{Boxed, Reclaim};
 use crate::registration::Registration;
 pub use ids::IdSource;
 use seize_cells::Lock;
 use seize_machine::machine;
+use seize_parts::ender::Ender;
+use seize_parts::ending::end_all;
+use seize_parts::numbers::sweeping::Sweeping;
+use seize_parts::numbers::{Numbers, Registering};
+use seize_parts::reclaim::{Boxed, Reclaim};
 use seize_table::Refusal;
 use seize_words::book::{Pass, Porter, Seen, Stay};
 use seize_words::words::Words;
@@ -87,10 +87,10 @@ impl<T: Drop, R: Reclaim<T>> Collector<T, R> {
     ghost use Rattle.seize_machine.specs.Machine.Event.{Take};
     ghost use Rattle.seize_machine.specs.declared.machine.event.Answer.TheVariants.{Done};
     ghost use Rattle.seize_table.specs.declared.refusal.Refusal.TheVariants.{NoMemory as no_memory};
-    ghost use Rattle.seize.specs.Blocks.{content};
+    ghost use Rattle.seize_parts.specs.Blocks.{content};
     ghost use Rattle.seize.specs.Collectors.{BeginsEmpty, IsBlockOf, IsNewPassOf, IsPassOf, IsRefusalFor, its_book, its_id, its_links, its_size, its_words, seen_by};
     ghost use Rattle.seize.specs.Registrations.{registered_in, registered_slot};
-    ghost use Rattle.seize.specs.Makes.{MakesNone, MakesOne};
+    ghost use Rattle.seize_parts.specs.Makes.{MakesNone, MakesOne};
 
     /// The same, with a reclaimer of the caller's own: each value that was retired goes to it once no slot can read it any more, and so
     /// does what the links hold when the collector is dropped, as of kind 0.
@@ -277,8 +277,8 @@ impl<T: Drop, R: Reclaim<T>> Collector<T, R> {
     ghost use Rattle.seize_machine.specs.declared.machine.event.Answer.TheVariants.{Done};
     ghost use Rattle.seize_table.specs.declared.refusal.Refusal.TheVariants.{NoMemory as no_memory};
     ghost use Rattle.seize.specs.Collectors.{IsPassOf};
-    ghost use Rattle.seize.specs.Laws.{HaveContents, LawsHold};
-    ghost use Rattle.seize.specs.Makes.{Makes, MakesNone};
+    ghost use Rattle.seize_parts.specs.Laws.{HaveContents, LawsHold};
+    ghost use Rattle.seize_parts.specs.Makes.{Makes, MakesNone};
     ghost use Rattle.seize.specs.OwnedGuards.{owned_collector, owned_slot};
 
     /// A guard that threads share, with a slot of its own: that of the least number that is not in use, which enters. The events `Take` and
@@ -337,7 +337,7 @@ impl<'a, T: Drop, R: Reclaim<T>> Stay<bool> for Sweep<'a, T, R> {
     ghost use Rattle.std.specs.Prelude.{◌≤◌};
     ghost use Rattle.seize_book.specs.Tokens.{IsSole};
     ghost use Rattle.seize_calls.specs.Slots.{IsPassFor};
-    ghost use Rattle.seize.specs.Sweeps.{Sweeps};
+    ghost use Rattle.seize_parts.specs.Sweeps.{Sweeps};
 
     ghost may = { λ sweep pass. IsPassFor sweep.words.now pass × IsSole pass.id × IsEnderOf sweep.words.now sweep.ender.now
         × (sweep.words.now.size ≤ 1) };

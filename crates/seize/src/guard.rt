@@ -9,10 +9,10 @@ mod owned;
 use crate::block::{Failed, Owned, Shared, Unlinked};
 use crate::collector::Collector;
 use crate::reader::Reader;
-use crate::reclaim::{Boxed, Reclaim};
 use crate::registration::Registration;
-use crate::works::{Deferring, Flushing, Leaving, Refreshing, Sparing};
 pub use any::Guard;
+use seize_parts::reclaim::{Boxed, Reclaim};
+use seize_parts::works::{Deferring, Flushing, Leaving, Refreshing, Sparing};
 use seize_table::Refusal;
 use seize_words::book::Pass;
 use std::sync::Wait;
@@ -33,13 +33,14 @@ impl<'r, 'c, T: Drop, R: Reclaim<T>> LocalGuard<'r, 'c, T, R> {
     ghost use Rattle.seize_machine.specs.declared.machine.event.Answer.TheVariants.{Link};
     ghost use Rattle.seize_machine.specs.declared.machine.event.Exchange.TheVariants.{Swap};
     ghost use Rattle.seize_machine.specs.declared.machine.event.Job.TheVariants.{Flush, Leave, Refresh, Retire};
-    ghost use Rattle.seize.specs.Blocks.{ComesOut, IsNamed, IsSharedOf, IsUnlinkedOf, Shows, content, unlinked_name};
+    ghost use Rattle.seize_parts.specs.Blocks.{IsNamed, content};
+    ghost use Rattle.seize.specs.Links.{ComesOut, IsSharedOf, IsUnlinkedOf, Shows, unlinked_name};
     ghost use Rattle.seize.specs.Collectors.{BelongsTo, IsBlockOf, IsPassOf, its_links};
     ghost use Rattle.seize_table.specs.declared.refusal.Refusal.TheVariants.{NoMemory as no_memory};
     ghost use Rattle.seize.specs.Exchanges.{FoundIn, MakesExchange, Protects, current_name};
     ghost use Rattle.seize.specs.Guards.{IsGuardOf, guard_activation, guard_collector, guard_slot};
-    ghost use Rattle.seize.specs.Puts.{PutBy};
-    ghost use Rattle.seize.specs.Makes.{Defers, IsOfKind, MakesCall, MakesNone, MakesOne, StaysActive};
+    ghost use Rattle.seize_parts.specs.Puts.{PutBy};
+    ghost use Rattle.seize_parts.specs.Makes.{Defers, IsOfKind, MakesCall, MakesNone, MakesOne, StaysActive};
 
     // One of this registration, which reads so.
     pub(crate) fn of(

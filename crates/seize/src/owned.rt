@@ -2,19 +2,19 @@
 //! the slot's activation, each with a pass of its own; what changes the slot is done under the guard's lock.
 ghost use Rattle.std.specs.Prelude.{◌≡◌};
 ghost use Rattle.seize.specs.Collectors.{its_book, its_words};
-ghost use Rattle.seize.specs.Shelves.{IsShelfFor};
-ghost use Rattle.seize.specs.Reservations.{IsHeadFor, place_label};
+ghost use Rattle.seize_parts.specs.Shelves.{IsShelfFor};
+ghost use Rattle.seize_parts.specs.Reservations.{IsHeadFor, place_label};
 
 use crate::block::{Failed, Owned, Shared, Unlinked};
 use crate::collector::Collector;
-use crate::numbers::Ending;
 use crate::reader::Reader;
-use crate::reclaim::{Boxed, Reclaim};
-use crate::reservation::Reservation;
-use crate::shelf::Shelf;
-use crate::works::{Deferring, Flushing, Leaving, Refreshing, Sparing};
 use seize_calls::slot::Slot;
 use seize_cells::{Lock, LockWork};
+use seize_parts::numbers::Ending;
+use seize_parts::reclaim::{Boxed, Reclaim};
+use seize_parts::reservation::Reservation;
+use seize_parts::shelf::Shelf;
+use seize_parts::works::{Deferring, Flushing, Leaving, Refreshing, Sparing};
 use seize_table::Refusal;
 use seize_words::book::Pass;
 use seize_words::reservation::Head;
@@ -47,11 +47,12 @@ impl<'c, T: Drop, R: Reclaim<T>> OwnedGuard<'c, T, R> {
     ghost use Rattle.seize_machine.specs.declared.machine.event.Job.TheVariants.{Flush, Refresh, Retire};
     ghost use Rattle.seize_table.specs.declared.refusal.Refusal.TheVariants.{NoMemory as no_memory};
     ghost use Rattle.seize_calls.specs.Slots.{IsInactive, its_number};
-    ghost use Rattle.seize.specs.Blocks.{ComesOut, IsNamed, IsSharedOf, IsUnlinkedOf, Shows, content, unlinked_name};
+    ghost use Rattle.seize_parts.specs.Blocks.{IsNamed, content};
+    ghost use Rattle.seize.specs.Links.{ComesOut, IsSharedOf, IsUnlinkedOf, Shows, unlinked_name};
     ghost use Rattle.seize.specs.Collectors.{BelongsTo, IsBlockOf, IsPassOf, IsSlotFor, its_links};
     ghost use Rattle.seize.specs.Exchanges.{FoundIn, MakesExchange, Protects, current_name};
-    ghost use Rattle.seize.specs.Puts.{PutBy};
-    ghost use Rattle.seize.specs.Makes.{Defers, IsOfKind, LeavesAndGives, MakesCall, MakesNone, MakesOne};
+    ghost use Rattle.seize_parts.specs.Puts.{PutBy};
+    ghost use Rattle.seize_parts.specs.Makes.{Defers, IsOfKind, LeavesAndGives, MakesCall, MakesNone, MakesOne};
     ghost use Rattle.seize.specs.OwnedGuards.{owned_activation, owned_collector, owned_slot};
 
     // One with this slot, which enters, and its shelf.

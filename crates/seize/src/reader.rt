@@ -6,12 +6,13 @@ ghost use base.Stored.{Coded-set, coded_list};
 ghost use mathlib.Core.List.{IsPrefix};
 ghost use Rattle.seize_book.specs.Entry.{entry_coded};
 ghost use Rattle.seize.specs.Collectors.{BelongsTo, its_book};
-ghost use Rattle.seize.specs.Reservations.{IsUnitIn};
+ghost use Rattle.seize_parts.specs.Reservations.{IsUnitIn};
 
-use crate::block::{Failed, Owned, Shared, Unlinked, name};
+use crate::block::{Failed, Owned, Shared, Unlinked};
 use crate::collector::Collector;
 use crate::guard::exchanging::{came_back, current_word, exchange, look_back, shown};
-use crate::reclaim::Reclaim;
+use seize_parts::block::name;
+use seize_parts::reclaim::Reclaim;
 use seize_words::activation::Activation;
 use seize_words::book::{Pass, Seen};
 use std::marker::Brand;
@@ -36,10 +37,11 @@ impl<'c, T: Drop, R: Reclaim<T>> Reader<'c, T, R> {
     ghost use Rattle.seize_machine.specs.Machine.Event.{ExchangeLink, ReadLink};
     ghost use Rattle.seize_machine.specs.declared.machine.event.Answer.TheVariants.{Link};
     ghost use Rattle.seize_machine.specs.declared.machine.event.Exchange.TheVariants.{Swap};
-    ghost use Rattle.seize.specs.Blocks.{ComesOut, IsNamed, IsSharedOf, IsUnlinkedOf, Shows};
+    ghost use Rattle.seize_parts.specs.Blocks.{IsNamed};
+    ghost use Rattle.seize.specs.Links.{ComesOut, IsSharedOf, IsUnlinkedOf, Shows};
     ghost use Rattle.seize.specs.Collectors.{IsPassOf, its_links};
     ghost use Rattle.seize.specs.Exchanges.{FoundIn, MakesExchange, Protects, current_name};
-    ghost use Rattle.seize.specs.Makes.{MakesNone, MakesOne};
+    ghost use Rattle.seize_parts.specs.Makes.{MakesNone, MakesOne};
 
     /// Reads a link.
     pub(crate) fn protect(&self, link: usize, pass: &mut Pass) -> Option<Shared<'_, T>>

@@ -1,20 +1,20 @@
 //! A thread's slot, for as long as the thread keeps it.
 ghost use Rattle.std.specs.Prelude.{◌≡◌, ◌-◌, ◌^◌};
 ghost use Rattle.seize.specs.Collectors.{its_book, its_words};
-ghost use Rattle.seize.specs.Shelves.{IsShelfFor};
-ghost use Rattle.seize.specs.Reservations.{IsHeadFor, place_label};
+ghost use Rattle.seize_parts.specs.Shelves.{IsShelfFor};
+ghost use Rattle.seize_parts.specs.Reservations.{IsHeadFor, place_label};
 
 use crate::block::{Owned, Unlinked};
 use crate::collector::Collector;
 use crate::guard::LocalGuard;
-use crate::numbers::Ending;
 use crate::reader::Reader;
-use crate::reclaim::{Boxed, Reclaim};
-use crate::reservation::Reservation;
-use crate::shelf::Shelf;
-use crate::works::{Adding, Entering, Retiring};
 use seize_calls::slot::Slot;
 use seize_cells::LocalLock;
+use seize_parts::numbers::Ending;
+use seize_parts::reclaim::{Boxed, Reclaim};
+use seize_parts::reservation::Reservation;
+use seize_parts::shelf::Shelf;
+use seize_parts::works::{Adding, Entering, Retiring};
 use seize_table::Refusal;
 use seize_words::book::Pass;
 use seize_words::reservation::Head;
@@ -41,11 +41,12 @@ impl<'c, T: Drop, R: Reclaim<T>> Registration<'c, T, R> {
     ghost use Rattle.seize_machine.specs.declared.machine.event.Job.TheVariants.{Retire};
     ghost use Rattle.seize_table.specs.declared.refusal.Refusal.TheVariants.{NoMemory as no_memory, TooManyGuards as too_many_guards};
     ghost use Rattle.seize_calls.specs.Slots.{IsInactive, its_number};
-    ghost use Rattle.seize.specs.Blocks.{IsUnlinkedOf, content, unlinked_name};
+    ghost use Rattle.seize_parts.specs.Blocks.{content};
+    ghost use Rattle.seize.specs.Links.{IsUnlinkedOf, unlinked_name};
     ghost use Rattle.seize.specs.Collectors.{IsBlockOf, IsPassOf, IsSlotFor};
     ghost use Rattle.seize.specs.Guards.{IsGuardOf};
-    ghost use Rattle.seize.specs.Puts.{PutBy};
-    ghost use Rattle.seize.specs.Makes.{EndsUse, Enters, IsOfKind, MakesCall};
+    ghost use Rattle.seize_parts.specs.Puts.{PutBy};
+    ghost use Rattle.seize_parts.specs.Makes.{EndsUse, Enters, IsOfKind, MakesCall};
     ghost use Rattle.seize.specs.Registrations.{registered_in, registered_slot};
 
     // One with this slot, and its shelf.

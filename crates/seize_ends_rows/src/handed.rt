@@ -1,6 +1,6 @@
 //! Blocks that came out of a link, and are retired by another thread.
 ghost use Rattle.std.specs.Prelude.{◌≡◌, ◌<◌, IfOk, IfSome};
-ghost use Rattle.seize.specs.Blocks.{IsUnlinkedOf};
+ghost use Rattle.seize.specs.Links.{IsUnlinkedOf};
 ghost use Rattle.seize.specs.Collectors.{IsBlockOf, IsPassOf, its_links};
 ghost use Rattle.seize.specs.OwnedGuards.{owned_collector};
 ghost use Rattle.seize.specs.Registrations.{registered_in};

@@ -2,7 +2,8 @@
 //! watch and the reclaimer are told of, in order, and what is left in the end.
 ghost use Rattle.std.specs.Prelude.{◌≡◌, ◌<◌, IfOk, length};
 ghost use Rattle.seize.specs.Alones.{IsSame};
-ghost use Rattle.seize.specs.Blocks.{Belongs, IsTakenOf};
+ghost use Rattle.seize.specs.Blocks.{Belongs};
+ghost use Rattle.seize.specs.Links.{IsTakenOf};
 ghost use Rattle.seize_uses.specs.Nests.{owners_of};
 
 use crate::nests::{AloneNests, Block, Ends, Heard, alone_nests, leaf, number_in, round};

@@ -1,7 +1,8 @@
 //! A block in the place of the one that was read: how a structure without locks changes a link.
 ghost use base.Stored.{gnum};
 ghost use Rattle.std.specs.Prelude.{◌≡◌, ◌<◌, ℕ, Option, Some, [], ◌∷◌, IfOk, IfSome};
-ghost use Rattle.seize.specs.Blocks.{IsNamed, IsUnlinkedOf};
+ghost use Rattle.seize.specs.Blocks.{IsNamed};
+ghost use Rattle.seize.specs.Links.{IsUnlinkedOf};
 ghost use Rattle.seize.specs.Collectors.{BelongsTo, IsBlockOf, IsPassOf, its_links};
 ghost use Rattle.seize.specs.Guards.{guard_collector};
 ghost use Rattle.seize.specs.Machine.Event.{ExchangeLink, ReadLink};

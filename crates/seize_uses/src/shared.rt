@@ -1,7 +1,8 @@
 //! A number that threads share: each reads and replaces it, by a registration of its own.
 ghost use base.Stored.{gnum};
 ghost use Rattle.std.specs.Prelude.{◌≡◌, ◌<◌, ◌≤◌, ℕ, length, IfSome};
-ghost use Rattle.seize.specs.Blocks.{HasContent, IsUnlinkedOf, unlinked_name};
+ghost use Rattle.seize.specs.Blocks.{HasContent};
+ghost use Rattle.seize.specs.Links.{IsUnlinkedOf, unlinked_name};
 ghost use Rattle.seize.specs.Collectors.{IsPassOf, its_links};
 ghost use Rattle.seize.specs.Guards.{guard_collector, guard_slot};
 ghost use Rattle.seize.specs.Laws.{moments_seen, opening_of};

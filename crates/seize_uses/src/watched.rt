@@ -4,7 +4,7 @@ ghost use Rattle.std.specs.Coded.{coded_option};
 ghost use Rattle.std.specs.Prelude.{◌≡◌, true, None};
 ghost use Rattle.seize_model.specs.Waiting.Calls.{unused};
 ghost use Rattle.seize_model.specs.Waiting.State.{has_guard, slot_at};
-ghost use Rattle.seize.specs.Blocks.{IsTakenOf};
+ghost use Rattle.seize.specs.Links.{IsTakenOf};
 
 use seize::waiting::batches;
 use seize::{Alone, Taken, Watch};

@@ -5,17 +5,17 @@ ghost use Rattle.seize_book.specs.Porters.{HadStay, MayStay};
 ghost use Rattle.seize_book.specs.Tokens.{IsSole, start};
 ghost use Rattle.seize_words.specs.Joined.{words_book};
 ghost use Rattle.seize_calls.specs.Slots.{IsPassFor};
-ghost use Rattle.seize.specs.Aparts.{GoesAll, IsSomeHeld, MayGo};
-ghost use Rattle.seize.specs.Enders.{IsEnderOf};
+ghost use Rattle.seize_parts.specs.Aparts.{GoesAll, IsSomeHeld, MayGo};
+ghost use Rattle.seize_parts.specs.Enders.{IsEnderOf};
 
 use crate::alone::Alone;
 use crate::alone::hands::Hands;
-use crate::alone::place::Place;
-use crate::ender::Ender;
-use crate::numbers::Numbers;
-use crate::numbers::turning::{Turning, Turns};
-use crate::reclaim::{Reclaim, Watch};
 use seize_cells::Lock;
+use seize_parts::alone::place::Place;
+use seize_parts::ender::Ender;
+use seize_parts::numbers::Numbers;
+use seize_parts::numbers::turning::{Turning, Turns};
+use seize_parts::reclaim::{Reclaim, Watch};
 use seize_words::book::{Pass, Porter, Stay};
 use seize_words::words::Words;
 use std::marker::Brand;
@@ -84,7 +84,7 @@ pub(super) fn reclaim_by<T: Drop, R: Reclaim<T>, W: Watch<T>>(
 impl<T: Drop, R: Reclaim<T>> Alone<T, R> {
     ghost use Rattle.seize_model.specs.Waiting.Calls as calls;
     ghost use Rattle.seize.specs.Alones.{IsSame, ListGrows};
-    ghost use Rattle.seize.specs.Told.{Did};
+    ghost use Rattle.seize_parts.specs.Told.{Did};
 
     /// Every slot leaves and gives its number back, in order of numbers; then each slot's batch is gone, in order. Then what the reclaimer
     /// put meanwhile is gone, oldest first; what it puts with these joins the end, until none is left. So every number is free then, every

@@ -2,15 +2,15 @@
 ghost use Rattle.std.specs.Prelude.{◌≡◌, IfErr, IfOk, None, Some, get_or, is_some, true};
 ghost use Rattle.seize_words.specs.Joined.{words_book};
 ghost use Rattle.seize_table.specs.declared.refusal.Refusal.TheVariants.{NoMemory as no_memory};
-ghost use Rattle.seize.specs.Blocks.{content, store_name};
-ghost use Rattle.seize.specs.Placing.{held_in};
+ghost use Rattle.seize_parts.specs.Blocks.{content, store_name};
+ghost use Rattle.seize_parts.specs.Placing.{held_in};
 
 use crate::alone::hands::Hands;
 use crate::alone::links::{Exchanging, still_at};
-use crate::alone::place::{Place, Unit};
 use crate::alone::{Alone, Codes};
 use crate::block::{Owned, Shared, Taken};
-use crate::reclaim::Reclaim;
+use seize_parts::alone::place::{Place, Unit};
+use seize_parts::reclaim::Reclaim;
 use seize_table::Refusal;
 use seize_words::book::{Pass, Stay};
 use seize_words::words::Words;
@@ -62,7 +62,8 @@ impl<T: Drop, R: Reclaim<T>> Alone<T, R> {
     ghost use Rattle.std.specs.Prelude.{◌<◌, IfSome, option_map};
     ghost use Rattle.seize_model.specs.Waiting.Calls as calls;
     ghost use Rattle.seize.specs.Alones.{IsSame, ListGrows};
-    ghost use Rattle.seize.specs.Blocks.{Belongs, IsTakenOf, shared_book, shared_value, taken_content};
+    ghost use Rattle.seize_parts.specs.Blocks.{Belongs};
+    ghost use Rattle.seize.specs.Links.{IsTakenOf, shared_book, shared_value, taken_content};
     ghost use Rattle.seize.specs.Looks.{with_link};
 
     /// A block of this value. It asks for memory only where the store has no free place.

@@ -1,11 +1,11 @@
 //! Calls by which values may be gone. Each tells a watch of them, in order, and then gives them to the reclaimer. What that puts weighs
 //! less, so each call returns. None of them waits or takes memory of its own.
 
-use crate::alone::calls::held;
 use crate::alone::hands::Hands;
 use crate::alone::{Alone, Codes};
 use crate::block::{Content, Taken};
-use crate::reclaim::{Reclaim, Watch};
+use seize_parts::alone::calls::held;
+use seize_parts::reclaim::{Reclaim, Watch};
 use seize_table::Refusal;
 use std::marker::Brand;
 
@@ -15,8 +15,8 @@ impl<T: Drop, R: Reclaim<T>> Alone<T, R> {
     ghost use Rattle.seize_model.specs.Waiting.Further.{with_further};
     ghost use Rattle.seize_model.specs.Waiting.State.{has_guard, slot_at};
     ghost use Rattle.seize.specs.Alones.{IsSame, ListGrows};
-    ghost use Rattle.seize.specs.Blocks.{IsTakenOf, taken_content};
-    ghost use Rattle.seize.specs.Told.{Answers, only_refusal, told_of};
+    ghost use Rattle.seize.specs.Links.{IsTakenOf, taken_content};
+    ghost use Rattle.seize_parts.specs.Told.{Answers, only_refusal, told_of};
 
     // The slot leaves with its last guard, and keeps its number.
     fn part<W: Watch<T>>(&mut self, s: usize, watch: &mut W)

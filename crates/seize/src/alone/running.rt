@@ -2,7 +2,7 @@
 
 use crate::alone::Alone;
 use crate::block::Owned;
-use crate::reclaim::{Reclaim, Watch};
+use seize_parts::reclaim::{Reclaim, Watch};
 use seize_table::Refusal;
 use std::collections::VecDeque;
 

@@ -51,7 +51,7 @@ pub struct Shared<'g, T> {
 
 impl<'g, T> Shared<'g, T> {
     ghost use Rattle.std.specs.Prelude.{◌↔◌, true};
-    ghost use Rattle.seize.specs.Blocks.{shared_block, shared_book, shared_name, shared_value};
+    ghost use Rattle.seize.specs.Links.{shared_block, shared_book, shared_name, shared_value};
 
     // The value that was found where a link showed this word. Its label says the list of the collector that has the link.
     pub(crate) fn of(value: &'g T, word: u64, glimpse: Glimpse<'g>, book: &Seen) -> Shared<'g, T>
@@ -79,7 +79,7 @@ impl<T> Deref for Shared<'_, T> {
     type Target = T;
 
     ghost use Rattle.std.specs.Prelude.{◌≡◌};
-    ghost use Rattle.seize.specs.Blocks.{shared_value};
+    ghost use Rattle.seize.specs.Links.{shared_value};
 
     ghost deref_gives = { λ shared value. value ≡ shared_value shared };
 

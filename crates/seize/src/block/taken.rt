@@ -7,9 +7,9 @@ ghost use Rattle.seize_words.specs.Chunks.{IsLentAs};
 ghost use Rattle.seize.specs.Loose.{may_retire-prop};
 
 use crate::block::Owned;
-use crate::ender::Ender;
-use crate::reclaim::Reclaim;
 use seize_calls::slot::Loose;
+use seize_parts::ender::Ender;
+use seize_parts::reclaim::Reclaim;
 use seize_words::words::Words;
 use std::marker::{Model, PhantomData};
 
@@ -63,8 +63,9 @@ impl<T: Drop> Taken<T> {
     ghost use Rattle.std.specs.Prelude.{IfSome};
     ghost use Rattle.seize_words.specs.Joined.{words_book};
     ghost use Rattle.seize_calls.specs.Slots.{loose_book};
-    ghost use Rattle.seize.specs.Blocks.{Belongs, HasContent, IsTakenOf, TakesOut, content, taken_book, taken_content, taken_name};
-    ghost use Rattle.seize.specs.Enders.{IsEnderOf};
+    ghost use Rattle.seize_parts.specs.Blocks.{Belongs, HasContent, content};
+    ghost use Rattle.seize.specs.Links.{IsTakenOf, TakesOut, taken_book, taken_content, taken_name};
+    ghost use Rattle.seize_parts.specs.Enders.{IsEnderOf};
 
     /// What came out of a link.
     pub(crate) fn of(loose: Loose) -> Taken<T>

@@ -5,8 +5,8 @@ ghost use Rattle.seize.specs.Loose.{loose_of-prop};
 
 use crate::block::Owned;
 use crate::collector::Collector;
-use crate::reclaim::Reclaim;
 use seize_calls::slot::Loose;
+use seize_parts::reclaim::Reclaim;
 use seize_words::book::Pass;
 use seize_words::link::MaybeKey;
 use seize_words::words::Words;
@@ -29,7 +29,8 @@ impl<'c, T: Drop> Unlinked<'c, T> {
     ghost use Rattle.seize_words.specs.LinkWords.{IsLoose, value_held};
     ghost use Rattle.seize_calls.specs.Slots.{IsLooseIn, its_value};
     ghost use Rattle.seize_calls.specs.declared.slot.Loose.{Loose};
-    ghost use Rattle.seize.specs.Blocks.{ComesOut, HasContent, IsUnlinkedOf, content, unlinked_name};
+    ghost use Rattle.seize_parts.specs.Blocks.{HasContent, content};
+    ghost use Rattle.seize.specs.Links.{ComesOut, IsUnlinkedOf, unlinked_name};
     ghost use Rattle.seize.specs.Collectors.{BelongsTo};
 
     /// A block that was never in a link. No event is made.
@@ -73,7 +74,8 @@ impl<'c, T: Drop> Unlinked<'c, T> {
 impl<T: Drop> Deref for Unlinked<'_, T> {
     type Target = T;
 
-    ghost use Rattle.seize.specs.Blocks.{HasContent, unlinked_name};
+    ghost use Rattle.seize_parts.specs.Blocks.{HasContent};
+    ghost use Rattle.seize.specs.Links.{unlinked_name};
 
     ghost deref_gives = { λ unlinked value. HasContent T.row.coded.code (unlinked_name unlinked) value };
 

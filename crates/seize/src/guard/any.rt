@@ -5,16 +5,17 @@ ghost use Rattle.seize_machine.specs.declared.machine.event.Answer.TheVariants.{
 ghost use Rattle.seize_machine.specs.declared.machine.event.Exchange.TheVariants.{Swap};
 ghost use Rattle.seize_machine.specs.declared.machine.event.Job.TheVariants.{Flush, Refresh, Retire};
 ghost use Rattle.seize_table.specs.declared.refusal.Refusal.TheVariants.{NoMemory as no_memory};
-ghost use Rattle.seize.specs.Blocks.{ComesOut, IsNamed, IsSharedOf, IsUnlinkedOf, Shows, content, unlinked_name};
+ghost use Rattle.seize_parts.specs.Blocks.{IsNamed, content};
+ghost use Rattle.seize.specs.Links.{ComesOut, IsSharedOf, IsUnlinkedOf, Shows, unlinked_name};
 ghost use Rattle.seize.specs.Collectors.{BelongsTo, IsBlockOf, IsNewPassOf, IsPassOf, its_id, its_links};
 ghost use Rattle.seize.specs.Exchanges.{FoundIn, MakesExchange, Protects, current_name};
-ghost use Rattle.seize.specs.Puts.{PutBy};
-ghost use Rattle.seize.specs.Makes.{Defers, IsOfKind, MakesCall, MakesNone, MakesOne, StaysActive};
+ghost use Rattle.seize_parts.specs.Puts.{PutBy};
+ghost use Rattle.seize_parts.specs.Makes.{Defers, IsOfKind, MakesCall, MakesNone, MakesOne, StaysActive};
 ghost use Rattle.seize_words.specs.declared.activation.Activation.{Activation};
 ghost use Rattle.seize.specs.declared.collector.Collector.{Collector};
 
 use crate::block::{Failed, Owned, Shared, Unlinked};
-use crate::reclaim::Reclaim;
+use seize_parts::reclaim::Reclaim;
 use seize_table::Refusal;
 use seize_words::book::Pass;
 use std::sync::Wait;

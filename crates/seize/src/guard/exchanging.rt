@@ -7,14 +7,15 @@ ghost use Rattle.seize_words.specs.Chunks.{IsFoundAt, blocks_book};
 ghost use Rattle.seize_words.specs.Joined.{IsInAt, IsNewTo, OnLink, words_book};
 ghost use Rattle.seize_words.specs.LinkWords.{CompareExchanges, value_held};
 ghost use Rattle.seize_words.specs.Rows.{IsSharedAt};
-ghost use Rattle.seize.specs.Blocks.{IsNamed, Shows};
+ghost use Rattle.seize_parts.specs.Blocks.{IsNamed};
+ghost use Rattle.seize.specs.Links.{Shows};
 ghost use Rattle.seize.specs.Collectors.{IsBlockOf, its_book};
 ghost use Rattle.seize_book.specs.Homesteads.{HasNumber, state_seen};
 ghost use Rattle.seize.specs.Exchanges.{StandsAlone, current_name};
 
 use crate::block::{Owned, Shared};
 use crate::collector::Collector;
-use crate::reclaim::Reclaim;
+use seize_parts::reclaim::Reclaim;
 use seize_words::activation::Activation;
 use seize_words::blocks::Blocks;
 use seize_words::book::Pass;

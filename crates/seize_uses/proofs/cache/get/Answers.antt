@@ -1,5 +1,6 @@
 use Rattle.std.proofs.Common.{ℕ, Option, ap, inl, refl, subst, sym}
-use Rattle.seize.specs.Blocks.{HasContent, Shows}
+use Rattle.seize.specs.Blocks.{HasContent}
+use Rattle.seize.specs.Links.{Shows}
 use Rattle.seize.specs.Guards.{guard_collector, guard_slot}
 use Rattle.seize.specs.Machine.Event.{ReadLink}
 use Rattle.seize.proofs.Facts.{read_found}

@@ -1,4 +1,4 @@
-use Rattle.seize.specs.Blocks.{unlinked_name}
+use Rattle.seize.specs.Links.{unlinked_name}
 use Rattle.seize.specs.Guards.{guard_slot}
 use Rattle.seize.proofs.Facts.{retired_by}
 use Rattle.seize_uses.proofs.reclaimers.remove.Goals as goal

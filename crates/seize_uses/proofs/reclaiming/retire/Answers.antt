@@ -1,7 +1,8 @@
 use Rattle.std.proofs.Common.{◌≡◌, sym, subst, ◌∙◌}
 use base.Stored.{gnum}
 use mathlib.Core.List.{IsPrefix}
-use Rattle.seize.specs.Blocks.{HasContent, unlinked_name}
+use Rattle.seize.specs.Blocks.{HasContent}
+use Rattle.seize.specs.Links.{unlinked_name}
 use Rattle.seize.specs.Registrations.{registered_slot}
 use Rattle.seize.proofs.Facts.{kept_retired, retired_by, use_ended}
 use Rattle.seize_uses.proofs.reclaiming.retire.Goals as goal

@@ -1,5 +1,5 @@
 use Rattle.std.proofs.Common.{IfSome}
-use Rattle.seize.specs.Blocks.{IsSharedOf}
+use Rattle.seize.specs.Links.{IsSharedOf}
 use Rattle.seize.specs.Collectors.{IsBlockOf, IsPassOf}
 use Rattle.seize.specs.Guards.{guard_collector}
 use Rattle.seize_uses.proofs.replacing.add_under.Given as goal

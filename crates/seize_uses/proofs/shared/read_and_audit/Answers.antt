@@ -1,6 +1,7 @@
 use Rattle.std.proofs.Common.{ℕ, Option, ap, inl, subst, sym}
 use base.Stored.{gnum}
-use Rattle.seize.specs.Blocks.{HasContent, Shows}
+use Rattle.seize.specs.Blocks.{HasContent}
+use Rattle.seize.specs.Links.{Shows}
 use Rattle.seize.specs.Exchanges.{FoundIn}
 use Rattle.seize.specs.Guards.{guard_activation, guard_collector, guard_slot}
 use Rattle.seize.specs.Machine.Event.{ReadLink}

@@ -1,5 +1,5 @@
 use Rattle.std.proofs.Common.{ℕ, ◌<◌, subst, sym}
-use Rattle.seize.specs.Blocks.{unlinked_name}
+use Rattle.seize.specs.Links.{unlinked_name}
 use Rattle.seize.specs.Guards.{guard_slot}
 use Rattle.seize.specs.Laws.{moments_seen}
 use Rattle.seize.specs.Machine.History.{HasParted, IsActiveAt}

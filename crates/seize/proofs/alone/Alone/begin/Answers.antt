@@ -7,9 +7,10 @@ use Rattle.seize_words.specs.Joined.{words_book}
 use Rattle.seize_alone.proofs.Singles.{enters_held}
 use Rattle.seize_alone.specs.Events.{MakesAlone}
 use Rattle.seize.specs.Alones.{View}
-use Rattle.seize.specs.Placing.{ArePlaces, lies_in, unit_in}
-use Rattle.seize.proofs.Lone.{alone_again, head_held, held_again, held_is, knows, laid, list_grows, place_there, slot_there}
-use Rattle.seize.proofs.Places.{in_place}
+use Rattle.seize_parts.specs.Placing.{ArePlaces, lies_in, unit_in}
+use Rattle.seize_parts.proofs.Lying.{head_held, held_is, laid, place_there, slot_there}
+use Rattle.seize.proofs.Lone.{alone_again, held_again, knows, list_grows}
+use Rattle.seize_parts.proofs.Places.{in_place}
 use Rattle.seize.proofs.alone.Alone.begin.Goals as goal
 
 pub index_mut-requires : goal.index_mut-requires

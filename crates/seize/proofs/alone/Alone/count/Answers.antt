@@ -8,9 +8,10 @@ use Rattle.seize_model.specs.Waiting.State.{Slot, State, has_guard, slot_at}
 use Rattle.seize_words.specs.Joined.{words_book}
 use Rattle.seize_alone.proofs.Singles.{guards_held}
 use Rattle.seize.specs.Alones.{View}
-use Rattle.seize.specs.Placing.{ArePlaces, Lies}
-use Rattle.seize.specs.declared.alone.place.Place.{Place}
-use Rattle.seize.proofs.Lone.{alone_still, held_is, laid, place_there, slot_there, some_guards}
+use Rattle.seize_parts.specs.Placing.{ArePlaces, Lies}
+use Rattle.seize_parts.specs.declared.alone.place.Place.{Place}
+use Rattle.seize_parts.proofs.Lying.{held_is, laid, place_there, slot_there}
+use Rattle.seize.proofs.Lone.{alone_still, some_guards}
 use Rattle.seize.proofs.alone.Alone.count.Goals as goal
 
 pub index_mut-requires : goal.index_mut-requires

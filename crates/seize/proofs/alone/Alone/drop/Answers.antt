@@ -2,8 +2,8 @@ use Rattle.std.proofs.Common.{box_value, sym, subst, ◌∙◌, arith}
 use base.Stored.{Coded}
 use Rattle.seize_book.specs.Tokens.{Name}
 use Rattle.seize.specs.Alones.{IsAlone}
-use Rattle.seize.specs.Enders.{IsEnderOf}
-use Rattle.seize.specs.Placing.{ArePlaces}
+use Rattle.seize_parts.specs.Enders.{IsEnderOf}
+use Rattle.seize_parts.specs.Placing.{ArePlaces}
 use Rattle.seize.proofs.Lone.{knows, lends_again}
 use Rattle.seize.proofs.alone.Alone.drop.Goals as goal
 

@@ -7,9 +7,9 @@ use Rattle.seize_words.specs.Joined.{words_book}
 use Rattle.seize_alone.specs.Holding.{Holds}
 use Rattle.seize_alone.proofs.Singles.{swaps_held}
 use Rattle.seize.specs.Alones.{View}
-use Rattle.seize.specs.Blocks.{content}
+use Rattle.seize_parts.specs.Blocks.{content}
 use Rattle.seize.specs.Looks.{with_link}
-use Rattle.seize.specs.Placing.{ArePlaces}
+use Rattle.seize_parts.specs.Placing.{ArePlaces}
 use Rattle.seize.specs.Stillness.{LinksHold, state_at}
 use Rattle.seize_alone.proofs.Singles.{link_held}
 use Rattle.seize_book.specs.Entry.{Entry}

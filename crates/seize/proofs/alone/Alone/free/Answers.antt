@@ -8,10 +8,11 @@ use Rattle.seize_words.specs.Joined.{words_book}
 use Rattle.seize_alone.specs.Events.{MakesAlone}
 use Rattle.seize_alone.proofs.Singles.{gives_held}
 use Rattle.seize.specs.Alones.{View}
-use Rattle.seize.specs.Placing.{ArePlaces}
-use Rattle.seize.specs.declared.alone.place.Place.{Place}
-use Rattle.seize.proofs.Lone.{alone_again, head_held, held_again, knows, list_grows, place_is, same_numbers, set_place, slot_there, some_place}
-use Rattle.seize.proofs.Places.{in_place}
+use Rattle.seize_parts.specs.Placing.{ArePlaces}
+use Rattle.seize_parts.specs.declared.alone.place.Place.{Place}
+use Rattle.seize_parts.proofs.Lying.{head_held, place_is, set_place, slot_there, some_place}
+use Rattle.seize.proofs.Lone.{alone_again, held_again, knows, list_grows, same_numbers}
+use Rattle.seize_parts.proofs.Places.{in_place}
 use Rattle.seize.proofs.alone.Alone.free.Goals as goal
 
 pub out-place-requires : goal.out-place-requires

@@ -4,7 +4,7 @@ use Rattle.seize_book.specs.Tokens.{Name, start}
 use Rattle.seize_words.specs.Joined.{words_book}
 use Rattle.seize_alone.specs.Holding.{Holds}
 use Rattle.seize.specs.Alones.{AsListed, View}
-use Rattle.seize.specs.Laws.{LawsOf}
+use Rattle.seize_parts.specs.Laws.{LawsOf}
 use Rattle.seize.proofs.Lawful.{laws_of}
 use Rattle.seize.proofs.Lone.{alone_home, as_listed, goes_home, seen_still}
 use Rattle.seize.proofs.alone.Alone.laws.Goals as goal

@@ -1,6 +1,6 @@
 use Rattle.std.proofs.Common.{◌≡◌, IfOk, refl, subst}
 use Rattle.seize.specs.Alones.{View}
-use Rattle.seize.specs.Blocks.{content, store_name}
+use Rattle.seize_parts.specs.Blocks.{content, store_name}
 use Rattle.seize.proofs.alone.Alone.owned.Goals as goal
 
 pub returns-clause-made : goal.returns-clause-made

@@ -7,13 +7,14 @@ use Rattle.seize_words.specs.Joined.{words_book}
 use Rattle.seize_alone.proofs.Outlines.{outline, part_links, part_outline, slots_in}
 use Rattle.seize_alone.proofs.Sizes.{parts_size}
 use Rattle.seize.specs.Alones.{View}
-use Rattle.seize.specs.Enders.{IsEnderOf}
-use Rattle.seize.specs.Placing.{ArePlaces, Lies, lies_in}
-use Rattle.seize.specs.Told.{told_of}
-use Rattle.seize.proofs.Called.{only_there, unit_there}
-use Rattle.seize.proofs.Lone.{alone_again, held_again, held_is, knows, laid, list_grows, place_there, slot_there}
+use Rattle.seize_parts.specs.Enders.{IsEnderOf}
+use Rattle.seize_parts.specs.Placing.{ArePlaces, Lies, lies_in}
+use Rattle.seize_parts.specs.Told.{told_of}
+use Rattle.seize_parts.proofs.Called.{only_there, unit_there}
+use Rattle.seize_parts.proofs.Lying.{held_is, laid, place_there, slot_there}
+use Rattle.seize.proofs.Lone.{alone_again, held_again, knows, list_grows}
 use Rattle.seize.proofs.Outlined.{places_still}
-use Rattle.seize.proofs.Places.{in_place}
+use Rattle.seize_parts.proofs.Places.{in_place}
 use Rattle.seize.proofs.Reclaimed.{parted, unit_held}
 use Rattle.seize.proofs.alone.Alone.part.Goals as goal
 

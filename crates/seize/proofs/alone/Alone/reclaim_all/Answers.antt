@@ -4,11 +4,11 @@ use Rattle.seize_model.specs.Waiting.State.{State, slot_at}
 use Rattle.seize_book.specs.Tokens.{Name}
 use Rattle.seize_words.specs.Joined.{words_book}
 use Rattle.seize.specs.Alones.{View}
-use Rattle.seize.specs.Enders.{IsEnderOf}
-use Rattle.seize.specs.Placing.{ArePlaces, lies_in, lying_in}
-use Rattle.seize.specs.Told.{told_of}
-use Rattle.seize.specs.declared.alone.place.Place.{Place}
-use Rattle.seize.proofs.Everything.{all_free, all_links, all_many, all_size}
+use Rattle.seize_parts.specs.Enders.{IsEnderOf}
+use Rattle.seize_parts.specs.Placing.{ArePlaces, lies_in, lying_in}
+use Rattle.seize_parts.specs.Told.{told_of}
+use Rattle.seize_parts.specs.declared.alone.place.Place.{Place}
+use Rattle.seize_parts.proofs.Everything.{all_free, all_links, all_many, all_size}
 use Rattle.seize.proofs.Lone.{alone_again, held_again, knows, list_grows, same_numbers}
 use Rattle.seize.proofs.alone.Alone.reclaim_all.Goals as goal
 

@@ -2,7 +2,7 @@ use Rattle.std.proofs.Common.{lit<, [], sym, ap, ◌∙◌}
 use Rattle.std.specs.Prelude.{Err, Ok}
 use Rattle.std.proofs.lemmas.Result.{err_from_is_err_and}
 use Rattle.seize_alone.proofs.Ready.{refreshed_beside}
-use Rattle.seize.specs.Kinds.{kind_of}
+use Rattle.seize_parts.specs.Kinds.{kind_of}
 use Rattle.seize.proofs.Reclaimed.{alone_so, answered_none, many_so, refused_none}
 use Rattle.seize.proofs.alone.Alone.refresh.Goals as goal
 

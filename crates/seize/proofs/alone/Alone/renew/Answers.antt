@@ -5,13 +5,14 @@ use Rattle.seize_words.specs.Joined.{words_book}
 use Rattle.seize_alone.proofs.Outlines.{refresh_links, refresh_outline}
 use Rattle.seize_alone.proofs.Sizes.{size_stays}
 use Rattle.seize.specs.Alones.{View}
-use Rattle.seize.specs.Enders.{IsEnderOf}
-use Rattle.seize.specs.Placing.{Lies, lies_in, unit_in}
-use Rattle.seize.specs.Told.{told_of}
-use Rattle.seize.proofs.Called.{only_there, unit_there}
-use Rattle.seize.proofs.Lone.{held_again, held_is, knows, list_grows, place_there}
+use Rattle.seize_parts.specs.Enders.{IsEnderOf}
+use Rattle.seize_parts.specs.Placing.{Lies, lies_in, unit_in}
+use Rattle.seize_parts.specs.Told.{told_of}
+use Rattle.seize_parts.proofs.Called.{only_there, unit_there}
+use Rattle.seize_parts.proofs.Lying.{held_is, place_there}
+use Rattle.seize.proofs.Lone.{held_again, knows, list_grows}
 use Rattle.seize.proofs.Outlined.{laid_again, outlined_again}
-use Rattle.seize.proofs.Places.{in_place}
+use Rattle.seize_parts.proofs.Places.{in_place}
 use Rattle.seize.proofs.Reclaimed.{may_act, refreshed, unit_held}
 use Rattle.seize.proofs.alone.Alone.renew.Goals as goal
 

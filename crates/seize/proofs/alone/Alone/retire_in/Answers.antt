@@ -7,14 +7,15 @@ use Rattle.seize_calls.specs.Slots.{its_value}
 use Rattle.seize_alone.proofs.Outlines.{retire_links, retire_outline}
 use Rattle.seize_alone.proofs.Sizes.{size_stays}
 use Rattle.seize.specs.Alones.{View}
-use Rattle.seize.specs.Blocks.{taken_content}
-use Rattle.seize.specs.Enders.{IsEnderOf}
-use Rattle.seize.specs.Placing.{Lies, lies_in}
-use Rattle.seize.specs.Told.{told_of}
-use Rattle.seize.proofs.Called.{only_there}
-use Rattle.seize.proofs.Lone.{held_again, held_is, knows, list_grows, place_there}
+use Rattle.seize.specs.Links.{taken_content}
+use Rattle.seize_parts.specs.Enders.{IsEnderOf}
+use Rattle.seize_parts.specs.Placing.{Lies, lies_in}
+use Rattle.seize_parts.specs.Told.{told_of}
+use Rattle.seize_parts.proofs.Called.{only_there}
+use Rattle.seize_parts.proofs.Lying.{held_is, place_there}
+use Rattle.seize.proofs.Lone.{held_again, knows, list_grows}
 use Rattle.seize.proofs.Outlined.{laid_again, outlined_again}
-use Rattle.seize.proofs.Places.{in_place}
+use Rattle.seize_parts.proofs.Places.{in_place}
 use Rattle.seize.proofs.Reclaimed.{retired}
 use Rattle.seize.proofs.alone.Alone.retire_in.Goals as goal
 

@@ -1,7 +1,7 @@
 use Rattle.std.proofs.Common.{refl, arith}
 use Rattle.seize_words.specs.Joined.{words_book}
 use Rattle.seize_alone.proofs.Shown.{owned_shown}
-use Rattle.seize.proofs.Homing.{may_lay}
+use Rattle.seize_parts.proofs.Homing.{may_lay}
 use Rattle.seize.proofs.alone.Alone.share.Goals as goal
 
 pub stir-requires : goal.stir-requires

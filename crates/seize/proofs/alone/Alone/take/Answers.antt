@@ -10,12 +10,12 @@ use Rattle.seize_alone.specs.Holding.{Holds}
 use Rattle.seize_alone.proofs.Ready.{taken}
 use Rattle.seize_alone.proofs.Singles.{takes_held}
 use Rattle.seize.specs.Alones.{IsAlone, View}
-use Rattle.seize.specs.Kinds.{kind_of}
-use Rattle.seize.specs.Numbers.{HasTaken}
-use Rattle.seize.specs.Placing.{ArePlaces}
-use Rattle.seize.specs.Reservations.{place_label}
-use Rattle.seize.specs.Shelves.{IsShelfFor}
-use Rattle.seize.specs.Told.{Grew}
+use Rattle.seize_parts.specs.Kinds.{kind_of}
+use Rattle.seize_parts.specs.Numbers.{HasTaken}
+use Rattle.seize_parts.specs.Placing.{ArePlaces}
+use Rattle.seize_parts.specs.Reservations.{place_label}
+use Rattle.seize_parts.specs.Shelves.{IsShelfFor}
+use Rattle.seize_parts.specs.Told.{Grew}
 use Rattle.seize.specs.declared.alone.hands.Hands.{Hands}
 use Rattle.seize.proofs.Grown.{as_many, grown_links, grown_places, grown_size, kind_owned, kind_used, one_more, within}
 use Rattle.seize.proofs.Lone.{alone_again, held_again, knows, list_grows, same_numbers}

@@ -1,7 +1,7 @@
 use Rattle.std.proofs.Common.{◌≡◌}
 use Rattle.seize_model.specs.Waiting.Calls.{with_number_in_use}
 use Rattle.seize_alone.specs.Holding.{Holds}
-use Rattle.seize.specs.Kinds.{kind_of}
+use Rattle.seize_parts.specs.Kinds.{kind_of}
 use Rattle.seize.proofs.alone.Alone.take.Given as goal
 
 abbrev pub ghosts-of : goal.ghosts-of

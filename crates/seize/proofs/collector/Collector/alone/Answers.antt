@@ -6,9 +6,9 @@ use Rattle.seize_book.specs.Tokens.{Name}
 use Rattle.seize_words.specs.Joined.{words_book}
 use Rattle.seize_words.specs.Rows.{AreShared}
 use Rattle.seize.specs.Collectors.{its_book, seen_by}
-use Rattle.seize.specs.Enders.{IsEnderOf}
-use Rattle.seize.specs.Placing.{IsLeftAt, MayLay}
-use Rattle.seize.proofs.Homing.{all_placed, left_may, many_slots, starts}
+use Rattle.seize_parts.specs.Enders.{IsEnderOf}
+use Rattle.seize_parts.specs.Placing.{IsLeftAt, MayLay}
+use Rattle.seize_parts.proofs.Homing.{all_placed, left_may, many_slots, starts}
 use Rattle.seize.proofs.Lone.{goes_through}
 use Rattle.seize.proofs.Still.{holds_so, stand_first}
 use Rattle.seize.proofs.collector.Collector.alone.Goals as goal

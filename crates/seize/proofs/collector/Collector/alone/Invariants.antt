@@ -1,4 +1,4 @@
-use Rattle.seize.proofs.Homing.{StartsAt}
+use Rattle.seize_parts.proofs.Homing.{StartsAt}
 use Rattle.seize.proofs.collector.Collector.alone.Given as goal
 
 abbrev pub ghosts-first : goal.ghosts-first

@@ -2,10 +2,10 @@ use Rattle.std.proofs.Common.{sym, subst}
 use Rattle.seize_book.specs.Book.{after, moments}
 use Rattle.seize_book.specs.Loans.{AllCarryOne}
 use Rattle.seize_book.specs.Tokens.{Name, start}
-use Rattle.seize.specs.Laws.{LawsOf}
+use Rattle.seize_parts.specs.Laws.{LawsOf}
 use Rattle.seize.proofs.Lawful.{laws_of}
-use Rattle.seize.proofs.Made.{none_looked}
-use Rattle.seize.proofs.Permitted.{have_codes}
+use Rattle.seize_parts.proofs.Made.{none_looked}
+use Rattle.seize_parts.proofs.Permitted.{have_codes}
 use Rattle.seize.proofs.collector.Collector.laws.Goals as goal
 
 pub returns-clause-none : goal.returns-clause-none

@@ -7,12 +7,12 @@ use Rattle.seize_book.specs.Porters.{GoesOnTo}
 use Rattle.seize_book.specs.Tokens.{Name, start}
 use Rattle.seize_calls.specs.Alone.{AllBy}
 use Rattle.seize_machine.specs.Machine.Laws.{is_quiet}
-use Rattle.seize.specs.Sweeps.{IsCleared, StandsInUse}
+use Rattle.seize_parts.specs.Sweeps.{IsCleared, StandsInUse}
 use Rattle.seize_words.specs.Joined.{with_size, words_book}
 use Rattle.seize_words.specs.Rows.{AreShared}
 use Rattle.seize_words.specs.declared.words.Words.{Words}
 use Rattle.seize.specs.Collectors.{its_book}
-use Rattle.seize.specs.Enders.{IsEnderOf}
+use Rattle.seize_parts.specs.Enders.{IsEnderOf}
 use Rattle.seize.proofs.collector.Collector.reclaim_all.Goals as goal
 
 -- the words get their batch size back

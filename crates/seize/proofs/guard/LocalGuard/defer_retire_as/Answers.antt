@@ -4,9 +4,10 @@ use Rattle.seize_calls.specs.Slots.{IsLooseOf, its_number}
 use Rattle.seize_words.specs.declared.words.Words.{Words}
 use Rattle.seize.specs.Collectors.{its_book}
 use Rattle.seize.specs.Guards.{guard_collector, guard_slot}
-use Rattle.seize.specs.Makes.{Defers, IsOfKind}
-use Rattle.seize.proofs.Placed.{unit_as}
-use Rattle.seize.proofs.Places.{guard_place, in_place}
+use Rattle.seize_parts.specs.Makes.{Defers, IsOfKind}
+use Rattle.seize_parts.proofs.Placed.{unit_as}
+use Rattle.seize_parts.proofs.Places.{in_place}
+use Rattle.seize.proofs.Guarded.{guard_place}
 use Rattle.seize.proofs.guard.LocalGuard.defer_retire_as.Goals as goal
 
 pub with-requires : goal.with-requires

@@ -3,9 +3,10 @@ use Rattle.seize_machine.specs.declared.machine.event.Job.TheVariants.{Flush}
 use Rattle.seize_calls.specs.Slots.{its_number}
 use Rattle.seize.specs.Collectors.{its_book}
 use Rattle.seize.specs.Guards.{guard_collector, guard_slot}
-use Rattle.seize.specs.Makes.{Defers}
-use Rattle.seize.proofs.Placed.{unit_as}
-use Rattle.seize.proofs.Places.{guard_place, in_place}
+use Rattle.seize_parts.specs.Makes.{Defers}
+use Rattle.seize_parts.proofs.Placed.{unit_as}
+use Rattle.seize_parts.proofs.Places.{in_place}
+use Rattle.seize.proofs.Guarded.{guard_place}
 use Rattle.seize.proofs.guard.LocalGuard.flush.Goals as goal
 
 pub with-requires : goal.with-requires

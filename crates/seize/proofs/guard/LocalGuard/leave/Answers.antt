@@ -3,10 +3,11 @@ use Rattle.seize_machine.specs.declared.machine.event.Job.TheVariants.{Leave}
 use Rattle.seize_calls.specs.Slots.{its_number}
 use Rattle.seize.specs.Collectors.{its_book}
 use Rattle.seize.specs.Guards.{guard_collector, guard_slot}
-use Rattle.seize.specs.Puts.{PutBy}
-use Rattle.seize.specs.Makes.{MakesCall, StaysActive}
-use Rattle.seize.proofs.Placed.{unit_as}
-use Rattle.seize.proofs.Places.{guard_head, guard_place, head_for, in_place, one_of_two}
+use Rattle.seize_parts.specs.Puts.{PutBy}
+use Rattle.seize_parts.specs.Makes.{MakesCall, StaysActive}
+use Rattle.seize_parts.proofs.Placed.{unit_as}
+use Rattle.seize_parts.proofs.Places.{head_for, in_place, one_of_two}
+use Rattle.seize.proofs.Guarded.{guard_head, guard_place}
 use Rattle.seize.proofs.guard.LocalGuard.leave.Goals as goal
 
 pub with-requires : goal.with-requires

@@ -3,9 +3,9 @@ use Rattle.seize_machine.specs.Machine.Event.{Enter}
 use Rattle.seize_machine.specs.declared.machine.event.Answer.TheVariants.{Done}
 use Rattle.seize_words.specs.Joined.{words_book}
 use Rattle.seize_calls.specs.Slots.{its_number}
-use Rattle.seize.specs.Makes.{MakesOne}
-use Rattle.seize.specs.Reservations.{IsUnit}
-use Rattle.seize.proofs.Places.{in_place}
+use Rattle.seize_parts.specs.Makes.{MakesOne}
+use Rattle.seize_parts.specs.Reservations.{IsUnit}
+use Rattle.seize_parts.proofs.Places.{in_place}
 use Rattle.seize.proofs.owned.OwnedGuard.enter.Goals as goal
 
 pub enter-unit-requires : goal.enter-unit-requires

@@ -2,9 +2,9 @@ use Rattle.std.proofs.Common.{ℕ, refl, sym, subst, ◌∙◌}
 use Rattle.seize_machine.specs.declared.machine.event.Job.TheVariants.{Flush}
 use Rattle.seize_calls.specs.Slots.{its_number}
 use Rattle.seize.specs.Collectors.{its_book}
-use Rattle.seize.specs.Makes.{Defers}
-use Rattle.seize.proofs.Placed.{unit_as}
-use Rattle.seize.proofs.Places.{in_place}
+use Rattle.seize_parts.specs.Makes.{Defers}
+use Rattle.seize_parts.proofs.Placed.{unit_as}
+use Rattle.seize_parts.proofs.Places.{in_place}
 use Rattle.seize.proofs.owned.OwnedGuard.flush.Goals as goal
 
 pub with-requires : goal.with-requires

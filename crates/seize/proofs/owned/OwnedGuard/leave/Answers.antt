@@ -5,10 +5,10 @@ use Rattle.seize_machine.specs.declared.machine.event.Job.TheVariants.{Leave}
 use Rattle.seize_book.specs.Tokens.{Name}
 use Rattle.seize_calls.specs.Slots.{its_number}
 use Rattle.seize.specs.Collectors.{its_book}
-use Rattle.seize.specs.Puts.{PutBy}
-use Rattle.seize.specs.Makes.{MakesCall, MakesOne}
-use Rattle.seize.proofs.Placed.{at_none, placed_slot, still_for, unit_as}
-use Rattle.seize.proofs.Places.{first_of_two, head_for, in_place, leaves_gives}
+use Rattle.seize_parts.specs.Puts.{PutBy}
+use Rattle.seize_parts.specs.Makes.{MakesCall, MakesOne}
+use Rattle.seize_parts.proofs.Placed.{at_none, placed_slot, still_for, unit_as}
+use Rattle.seize_parts.proofs.Places.{first_of_two, head_for, in_place, leaves_gives}
 use Rattle.seize.proofs.owned.OwnedGuard.leave.Goals as goal
 
 pub work-requires : goal.work-requires

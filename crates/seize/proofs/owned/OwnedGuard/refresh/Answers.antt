@@ -3,11 +3,12 @@ use Rattle.seize_machine.specs.declared.machine.event.Job.TheVariants.{Refresh}
 use Rattle.seize_book.specs.declared.book.pass.Pass.{Pass}
 use Rattle.seize_calls.specs.Slots.{its_number}
 use Rattle.seize.specs.Collectors.{its_book}
-use Rattle.seize.specs.Puts.{PutBy}
-use Rattle.seize.specs.Makes.{MakesCall}
-use Rattle.seize.specs.Reservations.{IsUnit}
-use Rattle.seize.proofs.Placed.{pass_as, unit_as}
-use Rattle.seize.proofs.Places.{first_of_two, head_for, in_place}
+use Rattle.seize_parts.specs.Puts.{PutBy}
+use Rattle.seize_parts.specs.Makes.{MakesCall}
+use Rattle.seize_parts.specs.Reservations.{IsUnit}
+use Rattle.seize_parts.proofs.Placed.{unit_as}
+use Rattle.seize.proofs.Guarded.{pass_as}
+use Rattle.seize_parts.proofs.Places.{first_of_two, head_for, in_place}
 use Rattle.seize.proofs.owned.OwnedGuard.refresh.Goals as goal
 
 pub with-unit-requires : goal.with-unit-requires

@@ -7,9 +7,10 @@ use Rattle.seize_book.specs.declared.book.pass.Pass.{Pass}
 use Rattle.seize_words.specs.LinkWords.{held_before, link_number, value_held}
 use Rattle.seize_words.specs.Links.{comparand}
 use Rattle.seize_words.proofs.Facts.{glimpse_found}
-use Rattle.seize.specs.Blocks.{ComesOut, IsNamed, Shows}
+use Rattle.seize_parts.specs.Blocks.{IsNamed}
+use Rattle.seize.specs.Links.{ComesOut, Shows}
 use Rattle.seize.specs.Exchanges.{FoundIn, current_name}
-use Rattle.seize.specs.Makes.{Makes}
+use Rattle.seize_parts.specs.Makes.{Makes}
 use Rattle.seize.proofs.Compared.{comes_back, lost_compare, made_looked, won_compare}
 use Rattle.seize.proofs.Found.{exchange_found, exchange_number, found_learned, found_looked, took_found}
 use Rattle.seize.proofs.Guarded.{guard_compares}

@@ -1,6 +1,6 @@
 use Rattle.std.proofs.Common.{sym, subst}
 use Rattle.seize_book.specs.Passes.{LooksOn}
-use Rattle.seize.proofs.Made.{none_looked}
+use Rattle.seize_parts.proofs.Made.{none_looked}
 use Rattle.seize.proofs.Protected.{protects}
 use Rattle.seize.proofs.reader.Reader.protected.Goals as goal
 

@@ -1,7 +1,7 @@
 use Rattle.std.proofs.Common.{ℕ, Option, ap, arith, sym, subst, ◌∙◌}
 use Rattle.seize_book.specs.Blocks.{link_word}
 use Rattle.seize_words.specs.LinkWords.{held_before, value_held}
-use Rattle.seize.specs.Blocks.{ComesOut}
+use Rattle.seize.specs.Links.{ComesOut}
 use Rattle.seize.proofs.Guarded.{guard_swaps}
 use Rattle.seize.proofs.Readable.{swapped_readable}
 use Rattle.seize.specs.Collectors.{its_book}

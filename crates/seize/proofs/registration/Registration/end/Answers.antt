@@ -3,9 +3,9 @@ use Rattle.seize_machine.specs.Machine.Event.{Give}
 use Rattle.seize_machine.specs.declared.machine.event.Answer.TheVariants.{Done}
 use Rattle.seize_book.specs.Tokens.{Name}
 use Rattle.seize.specs.Collectors.{its_book}
-use Rattle.seize.specs.Makes.{IsActiveIn, MakesOne}
-use Rattle.seize.proofs.Placed.{at_none, placed_slot}
-use Rattle.seize.proofs.Places.{in_place}
+use Rattle.seize_parts.specs.Makes.{IsActiveIn, MakesOne}
+use Rattle.seize_parts.proofs.Placed.{at_none, placed_slot}
+use Rattle.seize_parts.proofs.Places.{in_place}
 use Rattle.seize.proofs.registration.Registration.end.Goals as goal
 
 pub agree-requires : goal.agree-requires

@@ -6,9 +6,9 @@ use Rattle.seize_book.specs.declared.book.seen.Seen.{Seen}
 use Rattle.seize_words.specs.declared.activation.Activation.{Activation}
 use Rattle.seize_calls.specs.Slots.{its_number}
 use Rattle.seize.specs.Collectors.{its_book}
-use Rattle.seize.specs.Makes.{Enters}
-use Rattle.seize.specs.Reservations.{IsUnit}
-use Rattle.seize.proofs.Places.{head_for, in_place}
+use Rattle.seize_parts.specs.Makes.{Enters}
+use Rattle.seize_parts.specs.Reservations.{IsUnit}
+use Rattle.seize_parts.proofs.Places.{head_for, in_place}
 use Rattle.seize.proofs.registration.Registration.enter.Goals as goal
 
 pub try_with-requires : goal.try_with-requires

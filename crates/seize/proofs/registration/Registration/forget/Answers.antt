@@ -1,6 +1,6 @@
 use Rattle.std.proofs.Common.{◌-◌, ◌^◌, sym, ◌∙◌}
 use Rattle.seize.specs.Collectors.{its_book}
-use Rattle.seize.proofs.Places.{in_place}
+use Rattle.seize_parts.proofs.Places.{in_place}
 use Rattle.seize.proofs.registration.Registration.forget.Goals as goal
 
 pub lay-requires : goal.lay-requires

@@ -3,9 +3,9 @@ use Rattle.seize_machine.specs.declared.machine.event.Job.TheVariants.{Retire}
 use Rattle.seize_calls.specs.Slots.{IsLooseOf}
 use Rattle.seize_words.specs.declared.words.Words.{Words}
 use Rattle.seize.specs.Collectors.{its_book}
-use Rattle.seize.specs.Puts.{PutBy}
-use Rattle.seize.specs.Makes.{IsOfKind, MakesCall}
-use Rattle.seize.proofs.Places.{in_place}
+use Rattle.seize_parts.specs.Puts.{PutBy}
+use Rattle.seize_parts.specs.Makes.{IsOfKind, MakesCall}
+use Rattle.seize_parts.proofs.Places.{in_place}
 use Rattle.seize.proofs.registration.Registration.retire_as.Goals as goal
 
 pub with-requires : goal.with-requires

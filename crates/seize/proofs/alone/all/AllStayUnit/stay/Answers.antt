@@ -2,7 +2,7 @@ use Rattle.std.proofs.Common.{◌≡◌, ℕ, refl, sym, subst}
 use borrow.Rule.Reborrow.{re_v}
 use Rattle.seize_book.specs.Passes.{IsSamePass}
 use Rattle.seize_book.specs.declared.book.pass.Pass.{Pass}
-use Rattle.seize.specs.Aparts.{GoesAll, MayGo}
+use Rattle.seize_parts.specs.Aparts.{GoesAll, MayGo}
 use Rattle.seize.proofs.alone.all.AllStayUnit.stay.Goals as goal
 
 pub returns : goal.returns

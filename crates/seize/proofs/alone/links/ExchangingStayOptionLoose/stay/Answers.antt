@@ -1,7 +1,7 @@
 use Rattle.std.proofs.Common.{Option, subst}
 use Rattle.seize_words.specs.LinkWords.{held_before, value_held}
-use Rattle.seize.specs.Blocks.{IsNamed}
-use Rattle.seize.specs.declared.block.owned.Owned.{Owned}
+use Rattle.seize_parts.specs.Blocks.{IsNamed}
+use Rattle.seize_parts.specs.declared.block.owned.Owned.{Owned}
 use Rattle.seize.proofs.Linked.{alone_swaps, came_out}
 use Rattle.seize.proofs.alone.links.ExchangingStayOptionLoose.stay.Goals as goal
 

@@ -1,5 +1,0 @@
-use Rattle.seize.proofs.Behind.{none_light}
-use Rattle.seize.proofs.alone.apart.ApartForwardsLightens.lightens.Goals as goal
-
-pub returns : goal.returns
-returns g c = none_light c.args.self.now.forwards.ends.had

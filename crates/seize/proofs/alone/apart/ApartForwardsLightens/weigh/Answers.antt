@@ -1,5 +1,0 @@
-use Rattle.seize.proofs.Behind.{all_nothing}
-use Rattle.seize.proofs.alone.apart.ApartForwardsLightens.weigh.Goals as goal
-
-pub returns : goal.returns
-returns g c = all_nothing c.args._permit.codes

@@ -1,0 +1,87 @@
+-- All is reclaimed: in turn, and then what was put meanwhile. And what the model's reclaim of all leaves.
+--     gone_in_turn, some_waits_then     the values that are gone in turn;  what waits then is what these put
+--     all_goes                   both together are the model's
+--     all_size, all_links, all_many, all_free     the size and the links stay, and as many slots; and each is free
+use Rattle.std.proofs.Common.{◌≡◌, ℕ, zero, suc, true, List, [], ◌∷◌, length, map, Option, get_or, refl, sym, ap, subst, ◌∙◌}
+use Rattle.std.specs.List.{range_with_len}
+use Rattle.std.proofs.lemmas.List.{length-map}
+use base.Stored.{Coded}
+use Rattle.seize_model.specs.declared.kind.Kind.TheVariants.{Registered}
+use Rattle.seize_model.specs.Waiting.Attempt.{part}
+use Rattle.seize_model.specs.Waiting.Calls.{is_free, part_all, reclaim_all, with_number_free, without_batch}
+use Rattle.seize_model.specs.Waiting.Further.{further, gone_from}
+use Rattle.seize_model.specs.Waiting.State.{Slot, State, no_slot, set_slot, slot_at}
+use Rattle.seize_model.proofs.WaitingSets.LinkCounts.{releases_beside}
+use Rattle.seize_book.specs.Book.{IsLegalList}
+use Rattle.seize_book.specs.Entry.{Entry}
+use Rattle.seize_book.specs.Kept.{kepts_in}
+use Rattle.seize_book.specs.Ledger.{HeldKey}
+use Rattle.seize_book.specs.Private.{labels_of}
+use Rattle.seize_book.specs.Tokens.{Name, start}
+use Rattle.seize_book.specs.Values.{IsEmptyIn}
+use Rattle.seize_book.specs.declared.book.pass.Pass.{Pass}
+use Rattle.seize_calls.specs.Furthers.{further_in}
+use Rattle.seize_calls.specs.declared.further.Further.{Further}
+use Rattle.seize_alone.specs.Holding.{Holds}
+use Rattle.seize_alone.specs.Reclaiming.{in_turn}
+use Rattle.seize_alone.proofs.Forgotten.{all_gone_held}
+use Rattle.seize_alone.proofs.Reclaiming.{freed, parted_all}
+use Rattle.seize_parts.specs.Aparts.{AreWaiting, Goes, GoesAll, IsSomeHeld, MayGo}
+use Rattle.seize_parts.specs.Told.{told_of}
+use Rattle.seize_parts.specs.declared.alone.place.Place.{Place}
+use Rattle.seize_parts.proofs.Aparts.{told_both, told_had, waits_further}
+
+module _ {T Seen : Type 0} (c : Coded T) (puts : ℕ → T → List T) (weight : T → ℕ) (told : Seen → T → Seen) (places : List (Option (Place T))) (pass pass' : Pass) (seen seen' : Seen) (queue queue' : Further)
+    (goes : Goes c.code puts told (MayGo pass places) (λ st. in_turn Registered st) pass pass' seen seen' queue queue') (empty : IsEmptyIn pass.name (further_in queue)) where
+  abbrev gone_of : State T ℕ → List (T × ℕ)
+  gone_of st = (in_turn Registered st).1
+
+  waits_of : (st : State T ℕ) (names : List (ℕ × T)) (kinds : List (ℕ × ℕ)) → MayGo pass places st → Holds c.code st names kinds pass.name pass.seen → AreWaiting c.code queue' (further puts (gone_of st))
+  waits_of st names kinds may holds =
+      waits_further c puts pass.name goes.had (gone_of st) queue queue' (goes.holds st names kinds may holds).1 goes.put goes.waits (ap (λ (held : List (HeldKey Entry)). labels_of held) empty.1) (ap (λ (held : List (HeldKey Entry)). kepts_in held) empty.1)
+
+  pub some_wait : IsSomeHeld c.code pass (MayGo pass places) → (vs : List (T × ℕ)) × AreWaiting c.code queue' vs
+  some_wait held = (further puts (gone_of held.0), waits_of held.0 held.1 held.2 held.4 held.3)
+
+  pub all_goes : (later : Pass) (last : Seen) → IsLegalList (start pass.name) pass.seen → later ≡ pass' → ((vs : List (T × ℕ)) → AreWaiting c.code queue' vs → last ≡ told_of told seen' (gone_from puts weight vs))
+      → GoesAll c.code puts weight told (MayGo pass places) pass later seen last
+  all_goes later last legal same tells st names kinds may holds =
+      let then = goes.holds st names kinds may holds in let gone = gone_of st in let now = then.0 in
+      let here : Holds c.code (in_turn Registered st).0 now.0 now.1 pass.name pass'.seen = subst (λ (n : Name). Holds c.code (in_turn Registered st).0 now.0 now.1 n pass'.seen) goes.same.0 now.2 in
+      let all = all_gone_held c.code puts weight st names now.0 kinds now.1 Registered pass.name pass.seen pass'.seen legal may.0.1 holds here in
+      let after = (reclaim_all puts weight st).0 in (
+        (now.0, now.1, subst (λ (p : Pass). Holds c.code after now.0 now.1 p.name p.seen) (sym same) (subst (λ (n : Name). Holds c.code after now.0 now.1 n pass'.seen) (sym goes.same.0) all.0)),
+        tells (further puts gone) (waits_of st names kinds may holds) ∙ ap (λ (s : Seen). told_of told s (gone_from puts weight (further puts gone))) (told_had c told seen seen' goes.had gone then.1 goes.tells)
+            ∙ told_both told seen gone (gone_from puts weight (further puts gone)) ∙ ap (λ (vs : List (T × ℕ)). told_of told seen vs) all.1,
+      )
+
+-- What the model's reclaim of all leaves.
+
+module _ {T : Type 0} (puts : ℕ → T → List T) (weight : T → ℕ) where
+  parts_size : (st : State T ℕ) (ss : List ℕ) → (part_all st ss).0.size ≡ st.size
+  parts_size st [] = refl
+  parts_size st (s ∷ ss) = parts_size (with_number_free (part st s).0 s) ss ∙ releases_beside (λ (k : State T ℕ). k.size) (λ k retired. refl) (set_slot st s (record (slot_at st s) { order = [] })) (slot_at st s).order
+
+  parts_links : (st : State T ℕ) (ss : List ℕ) → (part_all st ss).0.links ≡ st.links
+  parts_links st [] = refl
+  parts_links st (s ∷ ss) = parts_links (with_number_free (part st s).0 s) ss ∙ releases_beside (λ (k : State T ℕ). k.links) (λ k retired. refl) (set_slot st s (record (slot_at st s) { order = [] })) (slot_at st s).order
+
+  pub all_size : (st : State T ℕ) → (reclaim_all puts weight st).0.size ≡ st.size
+  all_size st = parts_size st (range_with_len 0 (length st.slots))
+
+  pub all_links : (st : State T ℕ) → (reclaim_all puts weight st).0.links ≡ st.links
+  all_links st = parts_links st (range_with_len 0 (length st.slots))
+
+  slots_then : (st : State T ℕ) → (reclaim_all puts weight st).0.slots ≡ map without_batch (map freed st.slots)
+  slots_then st = ap (λ (slots : List (Slot T ℕ)). map without_batch slots) (parted_all st)
+
+  pub all_many : (st : State T ℕ) → length (reclaim_all puts weight st).0.slots ≡ length st.slots
+  all_many st = ap (λ (slots : List (Slot T ℕ)). length slots) (slots_then st) ∙ length-map (map freed st.slots) without_batch ∙ length-map st.slots freed
+
+  each_free : (slots : List (Slot T ℕ)) (s : ℕ) → is_free (get_or (map without_batch (map freed slots)) s no_slot).kind ≡ true
+  each_free [] s = refl
+  each_free (x ∷ slots) zero = refl
+  each_free (x ∷ slots) (suc s) = each_free slots s
+
+  pub all_free : (st : State T ℕ) (s : ℕ) → is_free (slot_at (reclaim_all puts weight st).0 s).kind ≡ true
+  all_free st s = ap (λ (slots : List (Slot T ℕ)). is_free (get_or slots s no_slot).kind) (slots_then st) ∙ each_free st.slots s

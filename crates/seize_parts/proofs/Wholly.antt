@@ -1,0 +1,189 @@
+-- A whole call of a slot, whose reclaimer put such blocks, as users see it: it began, made steps, and returned.
+use Rattle.std.proofs.Common.{◌≡◌, ℕ, Bool, true, false, List, [], ◌∷◌, ◌++◌, map, refl, sym, ap, subst, ◌∙◌, append_assoc}
+use Rattle.std.proofs.lemmas.Bool.{false≢true}
+use base.Growing.{prefix_trans}
+use mathlib.Core.List.{IsPrefix}
+use Rattle.seize_machine.specs.Machine.Event.{Begin, Event, Return, SwapOut}
+use Rattle.seize_machine.specs.declared.machine.event.Answer.{Answer}
+use Rattle.seize_machine.specs.declared.machine.event.Answer.TheVariants.{Done}
+use Rattle.seize_machine.specs.declared.machine.event.Job.{Job}
+use Rattle.seize_machine.specs.declared.machine.event.Job.TheVariants.{Flush, Leave, Refresh, Retire}
+use Rattle.seize_book.specs.Adding.{deed_with_words, private}
+use Rattle.seize_book.specs.Book.{IsLegalList}
+use Rattle.seize_book.specs.Entry.{Deed, Entry}
+use Rattle.seize_book.specs.Passes.{IsSamePass, events_by}
+use Rattle.seize_book.specs.Slots.{active_of, slot_number}
+use Rattle.seize_book.specs.Tokens.{Name, start}
+use Rattle.seize_book.specs.declared.book.pass.Pass.{Pass}
+use Rattle.seize_book.specs.declared.book.slot_key.SlotKey.{SlotKey}
+use Rattle.seize_book.specs.declared.book.value_keys.ValueKeys.{ValueKeys}
+use Rattle.seize_words.specs.Reservations.{beginning}
+use Rattle.seize_words.specs.declared.activation.Activation.{Activation}
+use Rattle.seize_words.specs.declared.words.Words.{Words}
+use Rattle.seize_calls.specs.Batches.{keys_in}
+use Rattle.seize_calls.specs.Calls.{BeginsSo, Flushes, Leaves, Rests, RetiresOne, Returns}
+use Rattle.seize_calls.specs.Handing.{Had}
+use Rattle.seize_calls.specs.Settling.{CallState, Drains, done_event}
+use Rattle.seize_calls.specs.Slots.{CallsWith, IsOfWords, IsPassFor, SlotFlushes, SlotLeaves, SlotRefreshes, SlotRetires, its_number, its_value}
+use Rattle.seize_calls.specs.Walking.{handed_in, steps}
+use Rattle.seize_calls.specs.declared.slot.Loose.{Loose}
+use Rattle.seize_calls.specs.declared.slot.Slot.{Slot}
+use Rattle.seize_parts.specs.Makes.{AreStepsOf, Defers, MakesCall, MakesNone, made_with}
+use Rattle.seize_parts.proofs.Made.{as_made, made_grew, none_prepared, none_then}
+use Rattle.seize_parts.proofs.Steps.{AllHad, Gives, Goes, HandSo, HandsNone, Runs, goes_drained, goes_round, goes_settled, goes_then, had_so, hands_none_append, held_back, steps_of_append, walk_said, walk_steps}
+
+-- a call, when no event was made before it
+pub call_after : {IsPut : Pass → ℕ → List ℕ → Type 0} (s t : ℕ) (job : Job) (pass ready pass' : Pass) → s ≡ t → MakesNone pass ready → MakesCall IsPut s job ready pass' → MakesCall IsPut t job pass pass'
+call_after {IsPut} s t job pass ready pass' same none call =
+    subst (λ (k : ℕ). MakesCall IsPut k job pass pass') same (record { steps = call.steps; its = call.its; made = none_then none call.made })
+
+-- A whole call, in which an active slot handed nothing.
+abbrev pub Whole : (Pass → ℕ → List ℕ → Type 0) → Bool → ℕ → Job → Pass → Pass → Type 0
+Whole IsPut active s job pass pass' = (call : MakesCall IsPut s job pass pass') × (active ≡ true → HandsNone call.steps)
+
+any_call : {IsPut : Pass → ℕ → List ℕ → Type 0} {s : ℕ} {job : Job} {p q : Pass} → MakesCall IsPut s job p q → Whole IsPut false s job p q
+any_call call = (call, λ on. absurd (false≢true on))
+
+module _ (IsPut : Pass → ℕ → List ℕ → Type 0) (pass' : Pass) (gives : Gives (IsPut pass') pass'.seen) where
+  -- a call has begun, and made these steps; an active slot handed nothing
+  record Opened (active : Bool) (s : ℕ) (job : Job) (pass now : Pass) : Type 0 where
+    pub steps : List (Event × Answer)
+    pub its : AreStepsOf (IsPut pass') s steps
+    pub under_guard : active ≡ true → HandsNone steps
+    pub made : made_with now ≡ made_with pass ++ (Begin s job, Done) ∷ steps
+
+  opened_then : {active : Bool} {s : ℕ} {job : Job} {p q r : Pass} → Opened active s job p q → Runs gives active s q r → Opened active s job p r
+  opened_then {active} {s} {job} {p} {q} {r} one two = record {
+    steps = one.steps ++ two.steps;
+    its = steps_of_append gives s one.steps two.steps one.its two.its;
+    under_guard = λ on. hands_none_append one.steps two.steps (one.under_guard on) (two.under_guard on);
+    made = two.made ∙ ap (λ (made : List (Event × Answer)). made ++ two.steps) one.made ∙ append_assoc (made_with p) ((Begin s job, Done) ∷ one.steps) two.steps;
+  }
+
+  -- and returns
+  closed : (active : Bool) (s : ℕ) (job : Job) (pass two : Pass) → Opened active s job pass two → made_with pass' ≡ made_with two ++ (Return s, Done) ∷ [] → IsSamePass pass pass' → IsPrefix pass.seen pass'.seen
+      → IsLegalList (start pass'.name) pass'.seen → Whole IsPut active s job pass pass'
+  closed active s job pass two opened ended same grows legal = (
+    record {
+      steps = opened.steps;
+      its = opened.its;
+      made = record {
+        same = same;
+        grows = grows;
+        legal = legal;
+        made = ended ∙ ap (λ (made : List (Event × Answer)). made ++ (Return s, Done) ∷ []) opened.made ∙ append_assoc (made_with pass) ((Begin s job, Done) ∷ opened.steps) ((Return s, Done) ∷ []);
+      };
+    },
+    opened.under_guard,
+  )
+
+  -- where it is not said that the slot is active, nothing is said of what was handed
+  any_slot : {active : Bool} {s : ℕ} {p q : Pass} → Runs gives active s p q → Runs gives false s p q
+  any_slot runs = record { steps = runs.steps; its = runs.its; under_guard = λ on. absurd (false≢true on); made = runs.made }
+
+  -- The calls of a slot, by its key. What the pass has seen is a legal list then.
+
+  module _ (key : SlotKey) (pass : Pass) (values : ValueKeys) (had : Had) (key' : SlotKey) (values' : ValueKeys) (had' : Had) (all : AllHad gives had') (legal : IsLegalList (start pass'.name) pass'.seen) where
+    abbrev s : ℕ
+    s = slot_number key
+
+    abbrev active : Bool
+    active = active_of key
+
+    began : (job : Job) (kepts : List ℕ) (a : CallState) → BeginsSo key pass job kepts values had a → Opened active s job pass a.pass
+    began job kepts a begins = record { steps = []; its = tt; under_guard = λ on. tt; made = made_grew pass a.pass ((deed_with_words pass (Begin s job) kepts, Done) ∷ []) begins.begins.made }
+
+    returned : (on : Bool) (job : Job) (a : CallState) → Opened on s job pass a.pass → slot_number a.key ≡ s → Returns a key' pass' values' had' → Rests key pass key' pass' values' → Whole IsPut on s job pass pass'
+    returned on job a opened its returns rests =
+        closed on s job pass a.pass opened
+        (made_grew a.pass pass' (done_event a.pass (Return (slot_number a.key))) returns.made ∙ ap (λ (k : ℕ). made_with a.pass ++ (Return k, Done) ∷ []) its)
+        rests.same rests.grows legal
+
+    drained : (a b : CallState) → Drains a b → Returns b key' pass' values' had' → Goes gives a b
+    drained a b drains returns = goes_drained gives a b drains (subst (AllHad gives) returns.had_none all) returns.keeps.grows
+
+    -- what goes on from where the call began
+    goes_on : (job : Job) (kepts : List ℕ) (a b : CallState) → BeginsSo key pass job kepts values had a → Goes gives a b → Returns b key' pass' values' had' → Rests key pass key' pass' values' → Whole IsPut active s job pass pass'
+    goes_on job kepts a b begins goes returns rests =
+        let its = begins.begins.keeps.its.1 in
+        returned active job b (opened_then (began job kepts a begins) (subst (λ (t : Bool × ℕ). Runs gives t.0 t.1 a.pass b.pass) (λ j. (begins.begins.keeps.active j, its j)) goes.runs)) (goes.its ∙ its) returns rests
+
+    pub key_retires : (v kept : ℕ) (retired : Bool) → RetiresOne key pass v kept values had key' pass' values' had' retired → Whole IsPut active s (Retire v) pass pass'
+    key_retires v kept retired r =
+        let drains = drained r.settled r.drained r.drains r.returns in let known = prefix_trans r.settled.pass.seen r.drained.pass.seen pass'.seen drains.grows r.returns.keeps.grows in
+        goes_on (Retire v) (kept ∷ []) r.begun r.drained r.begins (goes_then gives (goes_round gives r.begun v kept r.settled retired r.drains_one drains.before known) drains) r.returns r.rests
+
+    pub key_flushes : (retired : Bool) → Flushes key pass values had key' pass' values' had' retired → Whole IsPut active s Flush pass pass'
+    key_flushes retired r =
+        let drains = drained r.settled r.drained r.drains r.returns in let known = prefix_trans r.settled.pass.seen r.drained.pass.seen pass'.seen drains.grows r.returns.keeps.grows in
+        goes_on Flush [] r.begun r.drained r.begins (goes_then gives (goes_settled gives 1 r.begun r.settled retired r.settles drains.before known) drains) r.returns r.rests
+
+    pub key_leaves : (job : Job) (stays : Bool) (swap : Deed) → swap.event ≡ SwapOut s → Leaves job stays swap key pass values had key' pass' values' had' → MakesCall IsPut s job pass pass'
+    key_leaves job stays swap swaps r = (returned false job r.drained (opened_then opened (subst (λ (k : ℕ). Runs gives false k r.behind.pass r.drained.pass) behind (any_slot drains.runs))) its r.returns r.rests).0
+      where
+        drains : Goes gives r.behind r.drained
+        drains = drained r.behind r.drained r.drains r.returns
+
+        its : slot_number r.drained.key ≡ s
+        its = sym r.returns.keeps.its.1 ∙ r.rests.its.1
+
+        behind : slot_number r.behind.key ≡ s
+        behind = sym drains.its ∙ its
+
+        begin : List (Deed × Answer)
+        begin = done_event pass (Begin s job)
+
+        walk : List (Deed × Answer)
+        walk = steps pass s r.walked
+
+        handed : HandSo (IsPut pass') (handed_in r.walked) × AllHad gives had
+        handed = had_so gives r.behind.pass.seen (handed_in r.walked) r.kepts had r.behind.had r.has_had drains.before
+            (prefix_trans r.behind.pass.seen r.drained.pass.seen pass'.seen drains.grows r.returns.keeps.grows) r.told (walk_said r.behind.pass pass s ((events_by pass ++ begin) ++ (swap, Done) ∷ []) r.walked r.made)
+
+        opened : Opened false s job pass r.behind.pass
+        opened = record {
+          under_guard = λ on. absurd (false≢true on);
+          steps = (SwapOut s, Done) ∷ map as_made walk;
+          its = (refl, walk_steps gives pass s r.walked handed.0);
+          made = made_grew pass r.behind.pass (begin ++ ((swap, Done) ∷ walk)) (r.made ∙ append_assoc (events_by pass ++ begin) ((swap, Done) ∷ []) walk ∙ append_assoc (events_by pass) begin ((swap, Done) ∷ walk))
+              ∙ ap (λ (e : Event). made_with pass ++ (Begin s job, Done) ∷ (e, Done) ∷ map as_made walk) swaps;
+        }
+
+  -- The calls of a slot as one value, with the reclaimer of a collector.
+
+  module _ {T : Type 0} (words : Words T) (slot : Slot T) (pass : Pass) (slot' : Slot T) (of : IsOfWords words slot') (for : IsPassFor words pass) where
+    -- what the pass has seen is a legal list then, since it is what the slot has seen
+    seen_legal : (Does : Pass → Type 0) (calls : CallsWith slot pass slot' pass' Does) → IsSamePass calls.ready pass' → IsLegalList (start pass'.name) pass'.seen
+    seen_legal Does calls same =
+        subst (λ (t : Name × List Entry). IsLegalList (start t.0) t.1) (λ j. ((of.book ∙ for.0 ∙ sym calls.prepares.same.0 ∙ sym same.0) j, calls.seen j)) of.knows.legal
+
+    whole : (active : Bool) (job : Job) (Does : Pass → Type 0) (calls : CallsWith slot pass slot' pass' Does) → Whole IsPut active (slot_number slot.key) job calls.ready pass' → Whole IsPut active (its_number slot) job pass pass'
+    whole active job Does calls makes =
+        let call = makes.0 in
+        subst (λ (k : ℕ). Whole IsPut active k job pass pass') slot.together.numbered (record { steps = call.steps; its = call.its; made = none_then (none_prepared slot pass calls.ready calls.prepares) call.made }, makes.1)
+
+    module _ (had : Had) (had' : Had) (all : AllHad gives had') where
+      pub slot_retires : (loose : Loose) (kept : ℕ) (retired : Bool) → SlotRetires slot pass loose kept had slot' pass' had' retired → Whole IsPut (active_of slot.key) (its_number slot) (Retire (its_value loose)) pass pass'
+      slot_retires loose kept retired calls =
+          whole (active_of slot.key) (Retire (its_value loose)) _ calls
+          (key_retires slot.key calls.ready (keys_in slot.batch) had slot'.key (keys_in slot'.batch) had' all (seen_legal _ calls calls.does.rests.same) (its_value loose) kept retired calls.does)
+
+      pub slot_flushes : (retired : Bool) → SlotFlushes slot pass had slot' pass' had' retired → Whole IsPut (active_of slot.key) (its_number slot) Flush pass pass'
+      slot_flushes retired calls =
+          whole (active_of slot.key) Flush _ calls (key_flushes slot.key calls.ready (keys_in slot.batch) had slot'.key (keys_in slot'.batch) had' all (seen_legal _ calls calls.does.rests.same) retired calls.does)
+
+      pub slot_leaves : SlotLeaves slot pass had slot' pass' had' → MakesCall IsPut (its_number slot) Leave pass pass'
+      slot_leaves calls =
+          (whole false Leave _ calls
+          (any_call (key_leaves slot.key calls.ready (keys_in slot.batch) had slot'.key (keys_in slot'.batch) had' all (seen_legal _ calls calls.does.rests.same) Leave false
+          (private calls.ready (SwapOut (slot_number slot.key))) refl calls.does))).0
+
+      pub slot_refreshes : (a : Activation) → SlotRefreshes slot pass a had slot' pass' had' → MakesCall IsPut (its_number slot) Refresh pass pass'
+      slot_refreshes a calls =
+          (whole false Refresh _ calls
+          (any_call (key_leaves slot.key calls.ready (keys_in slot.batch) had slot'.key (keys_in slot'.batch) had' all (seen_legal _ calls calls.does.rests.same) Refresh true
+          (beginning calls.ready a.life (SwapOut (slot_number slot.key))) refl calls.does))).0
+
+-- A call in which nothing was handed.
+pub held_whole : {IsPut : Pass → ℕ → List ℕ → Type 0} {active : Bool} {s : ℕ} {job : Job} {p q : Pass} → Whole IsPut active s job p q → active ≡ true → Defers s job p q
+held_whole {IsPut} {active} {s} {job} {p} {q} call on = record { steps = call.0.steps; its = held_back (IsPut q) s call.0.steps call.0.its (call.1 on); made = call.0.made }
