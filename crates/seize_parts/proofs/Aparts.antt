@@ -6,7 +6,8 @@
 --     all_wait, more_drain          those that were put with all that were had;  what waits may go to the reclaimer, where these come behind
 --     waits_further                 what waits where nothing waited before is what the values gone put
 --     told_had, told_both           the watch was told of the values gone;  of some, and then of others
-use Rattle.std.proofs.Common.{◌≡◌, ◌≢◌, ℕ, ◌<◌, List, [], ◌∷◌, ◌++◌, map, sum_by, refl, sym, ap, ap₂, fold, subst, subst₂, ◌∙◌}
+use Rattle.std.proofs.Common.{◌≡◌, ◌≢◌, ℕ, ◌<◌, List, [], ◌∷◌, ◌++◌, map, sum_by, refl, sym, ap, ap₂, subst, subst₂, ◌∙◌}
+use Rattle.std.specs.List.{fold}
 use mathlib.Core.List.{map-append}
 use Rattle.std.proofs.lemmas.List.Sums.{fold-append}
 use base.Stored.{Coded, Gv}

@@ -193,7 +193,7 @@ fn a_collector_serves_when_all_was_reclaimed(rt: HostRuntime) -> Result<(), Fail
     let mut collector = alone.share();
     retire_shared(&rt, &collector, 3, &told);
     assert_eq!(rt; told.load(Ordering::SeqCst), 12);
-    assert!(rt; collector.reclaim_all());
+    assert!(rt; collector.reclaim_all(&mut ()));
     assert_eq!(rt; told.load(Ordering::SeqCst), 123);
     let Ok(mut alone) = collector.alone() else {
         return Err(Fail::new("the collector came back"));

@@ -142,7 +142,7 @@ fn a_long_chain_ends_as_all_is_reclaimed(rt: HostRuntime) -> Result<(), Fail> {
     let first = chain(rt.alloc(), &collector)?;
     retire(&rt, &collector, first)?;
     assert_eq!(rt; ended(by), 0);
-    assert!(rt; collector.reclaim_all());
+    assert!(rt; collector.reclaim_all(&mut ()));
     assert_eq!(rt; ended(by), MANY);
     Ok(())
 }
