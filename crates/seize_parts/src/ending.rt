@@ -20,10 +20,11 @@ use seize_words::book::Pass;
 use seize_words::link::MaybeKey;
 use seize_words::words::Words;
 
-/// Reclaims what waits in the batch of each slot, and then what the links hold, as of kind 0. A slot that was forgotten leaves first. Where
-/// none was made, or each was lost, it does nothing.
+/// Reclaims what waits in the batch of each slot, with what the reclaimer puts, and then what the links hold, as of kind 0. A slot that was
+/// forgotten leaves first. Where none was made, or each was lost, it does nothing.
 ///
-/// Where a guard was lost its slot is active still. Then what is retired here waits for that slot, and does not end.
+/// With a batch size above 1, what is put with the values of links may stay in a batch. Where a guard was lost its slot is active still.
+/// Then what is retired here waits for that slot, and does not end.
 ///
 /// It takes no memory and waits for nobody, but for what the reclaimer does.
 pub fn end_all<T: Drop, R: Reclaim<T>>(
