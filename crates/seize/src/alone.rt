@@ -71,7 +71,7 @@ impl<T: Drop + Codes, R: Reclaim<T>> Model for Alone<T, R> {
 }
 
 impl<T: Drop, R: Reclaim<T>> Alone<T, R> {
-    ghost use Rattle.std.specs.Prelude.{◌≡◌, ◌<◌, ◌≤◌, length, true, None, Some, IfErr, IfOk, false, if◌then◌else◌};
+    ghost use Rattle.std.specs.Prelude.{◌≡◌, ◌<◌, ◌≤◌, ◌≢◌, length, true, None, Ok, OnErr, Some, IfErr, IfOk, false, if◌then◌else◌};
     ghost use Rattle.seize_model.specs.Waiting.Calls as calls;
     ghost use Rattle.seize_model.specs.Waiting.State.{has_guard, slot_at};
     ghost use Rattle.seize_model.specs.declared.kind.Kind.TheVariants.{Owned as owned_slot, Registered as registered};
@@ -153,6 +153,7 @@ impl<T: Drop, R: Reclaim<T>> Alone<T, R> {
         ensures done { Grew (calls.take_number self.old.state (kind_of owned) 0) result self.old.state self.new.state }
         ensures same { IsSame self.old self.new }
         ensures grows { ListGrows self.old self.new }
+        ensures unchanged { OnErr result (self.new ≡ self.old) }
     {
         room(&mut self.places, self.made + 1)?;
         let mut taking = Taking {
@@ -229,6 +230,7 @@ impl<T: Drop, R: Reclaim<T>> Alone<T, R> {
         ensures done { Grew (calls.take_number self.old.state registered 0) result self.old.state self.new.state }
         ensures same { IsSame self.old self.new }
         ensures grows { ListGrows self.old self.new }
+        ensures unchanged { OnErr result (self.new ≡ self.old) }
     {
         self.take(false)
     }
@@ -242,6 +244,7 @@ impl<T: Drop, R: Reclaim<T>> Alone<T, R> {
         ensures done { Grew (calls.take_number self.old.state owned_slot 1) result self.old.state self.new.state }
         ensures same { IsSame self.old self.new }
         ensures grows { ListGrows self.old self.new }
+        ensures unchanged { OnErr result (self.new ≡ self.old) }
     {
         let number = self.take(true)?;
         self.begin(number);
@@ -257,6 +260,7 @@ impl<T: Drop, R: Reclaim<T>> Alone<T, R> {
         ensures done { Said (calls.enter self.old.state s) result self.new.state }
         ensures same { IsSame self.old self.new }
         ensures grows { ListGrows self.old self.new }
+        ensures unchanged { OnErr result (self.new ≡ self.old) }
     {
         let guards = self.registered(s)?;
         if guards == u64::MAX {
@@ -280,6 +284,7 @@ impl<T: Drop, R: Reclaim<T>> Alone<T, R> {
         ensures done { Said (calls.end_slot self.old.state s) result self.new.state }
         ensures same { IsSame self.old self.new }
         ensures grows { ListGrows self.old self.new }
+        ensures unchanged { result ≢ Ok true → self.new ≡ self.old }
     {
         if self.registered(s)? > 0 {
             return Ok(false);

@@ -144,7 +144,8 @@ impl<T: Drop, R: Reclaim<T>> Alone<T, R> {
         requires range { link < self.old.links }
         requires own { IfSome new (Belongs R.owners self.old.book.store) }
         ensures done { IfOk result (λ _. calls.no_guard self.old.state s ≡ None) }
-        ensures refused { IfErr result (λ refused. (calls.no_guard self.old.state s ≡ Some refused.0) × (refused.1 ≡ new)) }
+        ensures refused { IfErr result (λ refused. (calls.no_guard self.old.state s ≡ Some refused.0) × (refused.1 ≡ new)
+            × (self.new ≡ self.old)) }
         ensures held { IfOk result (λ old. option_map taken_content old ≡ calls.link_at self.old.state link) }
         ensures own { IfOk result (λ old. IfSome old (IsTakenOf T.row.coded.code self.old.book)) }
         ensures state { self.new.state ≡ (calls.swap self.old.state s link (option_map content new)).1.0 }

@@ -10,7 +10,7 @@ use seize_table::Refusal;
 use std::marker::Brand;
 
 impl<T: Drop, R: Reclaim<T>> Alone<T, R> {
-    ghost use Rattle.std.specs.Prelude.{◌<◌, ◌==◌, ◌||◌, ◌≡◌, IfErr, Ok, false, true};
+    ghost use Rattle.std.specs.Prelude.{◌<◌, ◌==◌, ◌||◌, ◌≡◌, IfErr, Ok, OnErr, false, true};
     ghost use Rattle.seize_model.specs.Waiting.Calls as calls;
     ghost use Rattle.seize_model.specs.Waiting.Further.{with_further};
     ghost use Rattle.seize_model.specs.Waiting.State.{has_guard, slot_at};
@@ -89,6 +89,7 @@ impl<T: Drop, R: Reclaim<T>> Alone<T, R> {
             (W.seen watch.old) (W.seen watch.new) }
         ensures same { IsSame self.old self.new }
         ensures grows { ListGrows self.old self.new }
+        ensures unchanged { OnErr result (self.new ≡ self.old) }
         ensures same_reference { watch.exit.ghost_name ≡ watch.entry.ghost_name }
     {
         let (owned, guards) = self.guarded(s)?;
@@ -117,6 +118,7 @@ impl<T: Drop, R: Reclaim<T>> Alone<T, R> {
             (W.seen watch.old) (W.seen watch.new) }
         ensures same { IsSame self.old self.new }
         ensures grows { ListGrows self.old self.new }
+        ensures unchanged { OnErr result (self.new ≡ self.old) }
         ensures same_reference { watch.exit.ghost_name ≡ watch.entry.ghost_name }
     {
         let (owned, guards) = self.guarded(s)?;
@@ -140,6 +142,7 @@ impl<T: Drop, R: Reclaim<T>> Alone<T, R> {
             (W.seen watch.old) (W.seen watch.new) }
         ensures same { IsSame self.old self.new }
         ensures grows { ListGrows self.old self.new }
+        ensures unchanged { OnErr result (self.new ≡ self.old) }
         ensures same_reference { watch.exit.ghost_name ≡ watch.entry.ghost_name }
     {
         self.guarded(s)?;
@@ -167,7 +170,7 @@ impl<T: Drop, R: Reclaim<T>> Alone<T, R> {
         requires { IsTakenOf T.row.coded.code self.old.book value }
         ensures done { Answers W.told (calls.retire R.puts R.weight self.old.state s (taken_content value) kind) (only_refusal result)
             self.new.state (W.seen watch.old) (W.seen watch.new) }
-        ensures back { IfErr result (λ refused. refused.1 ≡ value) }
+        ensures back { IfErr result (λ refused. (refused.1 ≡ value) × (self.new ≡ self.old)) }
         ensures same { IsSame self.old self.new }
         ensures grows { ListGrows self.old self.new }
         ensures same_reference { watch.exit.ghost_name ≡ watch.entry.ghost_name }

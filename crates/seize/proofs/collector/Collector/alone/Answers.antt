@@ -1,8 +1,10 @@
-use Rattle.std.proofs.Common.{◌≡◌, List, length, box_value, sym, ap, subst, ◌∙◌, arith}
+use Rattle.std.proofs.Common.{◌≡◌, ℕ, Bool, false, List, length, box_value, sym, ap, subst, ◌∙◌, arith}
+use Rattle.seize_machine.specs.Machine.State.{slot_at}
+use Rattle.seize_book.specs.Book.{after, mine}
 use Rattle.seize_book.specs.Entry.{Entry}
 use Rattle.seize_book.specs.Homesteads.{state_seen}
 use Rattle.seize_book.specs.Porters.{GoesOnTo}
-use Rattle.seize_book.specs.Tokens.{Name}
+use Rattle.seize_book.specs.Tokens.{Name, start}
 use Rattle.seize_words.specs.Joined.{words_book}
 use Rattle.seize_words.specs.Rows.{AreShared}
 use Rattle.seize.specs.Collectors.{its_book, seen_by}
@@ -77,3 +79,17 @@ returns-clause-made g c =
       first.2 ∙ ap (λ (n : Name). length n.links) (name ∙ ap words_book parts.0),
       subst (GoesOnTo (words_book words) (seen_by self)) (sym c.still.ensures.porter.2) (subst (λ (t : Name × List Entry). GoesOnTo t.0 t.1 porter.seen) (λ j. (own_words j, (parts.1 j).seen)) (goes_through stay comes.goes_on)),
     )
+
+pub returns-then-not-all-clause-back : goal.returns-then-not-all-clause-back
+returns-then-not-all-clause-back g c =
+    let self = c.args.self in let parts = c.into_parts-words.ensures in let stay = c.rest-found.ensures.stay in let words = c.into_parts-words.result.0 in let porter = c.rest-found.new.porter in let comes = stay.gives.0 in
+    let lent = stay.lent in let name = its_book self in let own : c.into_parts-words.result.1.name ≡ name = ap (λ porter. porter.name) parts.1 ∙ self.lends.0 in let seen : c.into_parts-words.result.1.seen ≡ seen_by self = ap (λ porter. porter.seen) parts.1 in
+    let lent_name : lent.name ≡ name = stay.shut.book.0 ∙ own in let same = c.shared.ensures in let back : stay.back.seen ≡ seen_by c.shared.result = sym (same.3 ∙ stay.again.1) in
+    record {
+      same = (same.0 ∙ ap words_book parts.0, same.1 ∙ ap (λ w. w.size) parts.0, same.2 ∙ parts.4);
+      at_call = lent.seen;
+      goes_on = subst (λ (t : Name × List Entry). GoesOnTo t.0 t.1 lent.seen) (λ j. (own j, seen j)) stay.shut.goes_on;
+      nothing = subst (λ (t : Name × List Entry). mine (start t.0) 0 lent.seen ≡ mine (start t.0) 0 t.1) (λ j. (own j, seen j)) stay.shut.none_made;
+      in_use = λ unused. comes.kept c.if-not-all.true (λ s. comes.numbers s ∙ ap (λ (n : Name). (slot_at (after (start n) lent.seen) s).used) lent_name ∙ unused s);
+      grows = subst (λ (t : Name × List Entry). GoesOnTo t.0 lent.seen t.1) (λ j. (lent_name j, back j)) comes.goes_on;
+    }
