@@ -61,9 +61,9 @@ impl<'a, T: Drop> Stay<Result<Owned<T>, (Refusal, T)>> for Making<'a, T> {
 impl<T: Drop, R: Reclaim<T>> Alone<T, R> {
     ghost use Rattle.std.specs.Prelude.{◌<◌, IfSome, option_map};
     ghost use Rattle.seize_model.specs.Waiting.Calls as calls;
-    ghost use Rattle.seize.specs.Alones.{IsSame, ListGrows};
+    ghost use Rattle.seize.specs.Alones.{IsSame, ListGrows, name_at};
     ghost use Rattle.seize_parts.specs.Blocks.{Belongs};
-    ghost use Rattle.seize.specs.Links.{IsTakenOf, shared_book, shared_value, taken_content};
+    ghost use Rattle.seize.specs.Links.{IsTakenOf, name_of, shared_book, shared_value, taken_content};
     ghost use Rattle.seize.specs.Looks.{with_link};
 
     /// A block of this value. It asks for memory only where the store has no free place.
@@ -172,6 +172,7 @@ impl<T: Drop, R: Reclaim<T>> Alone<T, R> {
         ensures done { IfOk result (λ shared. (calls.no_guard self.now.state s ≡ None)
             × (option_map shared_value shared ≡ calls.link_at self.now.state link)) }
         ensures own { IfOk result (λ shared. IfSome shared (λ shared. shared_book shared ≡ self.now.book)) }
+        ensures which { IfOk result (λ shared. name_of shared ≡ name_at self.now link) }
         ensures refused { IfErr result (λ refusal. calls.no_guard self.now.state s ≡ Some refusal) }
     {
         self.guarded(s)?;

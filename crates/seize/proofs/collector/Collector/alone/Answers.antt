@@ -1,24 +1,29 @@
-use Rattle.std.proofs.Common.{◌≡◌, ℕ, Bool, false, List, length, box_value, sym, ap, subst, ◌∙◌, arith}
+use Rattle.std.proofs.Common.{◌≡◌, ℕ, List, Option, length, box_value, refl, sym, ap, subst, ◌∙◌, arith}
 use Rattle.seize_machine.specs.Machine.State.{slot_at}
 use Rattle.seize_book.specs.Book.{after, mine}
 use Rattle.seize_book.specs.Entry.{Entry}
 use Rattle.seize_book.specs.Homesteads.{state_seen}
 use Rattle.seize_book.specs.Porters.{GoesOnTo}
 use Rattle.seize_book.specs.Tokens.{Name, start}
+use Rattle.seize_book.specs.declared.book.seen.Seen.{Seen}
 use Rattle.seize_words.specs.Joined.{words_book}
+use Rattle.seize_words.specs.Named.{link_count}
 use Rattle.seize_words.specs.Rows.{AreShared}
 use Rattle.seize.specs.Collectors.{its_book, seen_by}
 use Rattle.seize_parts.specs.Enders.{IsEnderOf}
 use Rattle.seize_parts.specs.Placing.{IsLeftAt, MayLay}
 use Rattle.seize_parts.proofs.Homing.{all_placed, left_may, many_slots, starts}
 use Rattle.seize.proofs.Lone.{goes_through}
-use Rattle.seize.proofs.Still.{holds_so, stand_first}
+use Rattle.seize.specs.Stillness.{state_at}
+use Rattle.seize.proofs.Still.{holds_so, names_from, names_many, stand_first}
 use Rattle.seize.proofs.collector.Collector.alone.Goals as goal
 
 pub first-hands-requires : goal.first-hands-requires
 first-hands-requires g c =
     let stay = c.rest-found.ensures.stay in let gives = stay.gives in
-    starts g.row.T.coded.code stay.lent stay.back c.rest-found.new.porter c.rest-found.result.0 gives.0 stay.again c.if-not-all.false gives.1 gives.2
+    let porter = c.rest-found.new.porter in
+    let begins = starts g.row.T.coded.code stay.lent stay.back porter c.rest-found.result.0 gives.0 stay.again c.if-not-all.false gives.1 gives.2 in
+    (begins.0, begins.1, begins.2, names_from (state_at porter) 0 (length porter.name.links), (begins.3, refl))
 
 pub shared-requires : goal.shared-requires
 shared-requires g c =
@@ -51,15 +56,17 @@ invariant_of-result g c =
     let own : stay.lent.name ≡ its_book self = stay.shut.book.0 ∙ ap (λ porter. porter.name) parts.1 ∙ self.lends.0 in let back : stay.back.name ≡ words_book words = stay.same.0 ∙ own ∙ sym (ap words_book parts.0) in
     let name : porter.name ≡ words_book words = sym stay.again.0.0 ∙ back in
     let size : porter.size ≡ words.size = sym stay.again.0.1 ∙ stay.same.2 ∙ stay.shut.book.1 ∙ ap (λ porter. porter.size) parts.1 ∙ self.lends.1 ∙ sym (ap (λ w. w.size) parts.0) in
-    let first = c.first-hands.ensures in let hands = c.first-hands.result in let found = c.rest-found.result.0 in let same = c.still.ensures.porter in record {
+    let first = c.first-hands.ensures.0 in let hands = c.first-hands.result in let found = c.rest-found.result.0 in let same = c.still.ensures.porter in
+    let many : length porter.name.links ≡ link_count c.still.new.links = ap (λ (n : Name). length n.links) (name ∙ sym words.linked) ∙ ap (λ (b : Seen). length b.name.links) (sym c.still.ensures.same) in record {
       lends = (same.0 ∙ name, same.1 ∙ size, same.3);
       numbered = c.rest-found.ensures.numbers ∙ parts.2 ∙ self.numbered ∙ sym (ap (λ w. (words_book w).family) parts.0);
       ends = subst (λ w. IsEnderOf w (box_value c.into_parts-words.result.3)) (sym parts.0) (subst (λ e. IsEnderOf self.words (box_value e)) (sym parts.3) self.ends);
       counted = many_slots g.row.T.coded.code stay.lent stay.back porter found stay.gives.0 stay.again hands.state hands.names hands.kinds first.0;
       sized = first.1 ∙ size;
       linked = first.2 ∙ ap (λ (n : Name). length n.links) name;
+      named = ap (λ (os : List (Option ℕ)). length os) c.first-hands.ensures.1 ∙ names_many (state_at porter) 0 (length porter.name.links) ∙ ap (λ (n : Name). length n.links) name;
       placed = all_placed (words_book words) (state_seen stay.back) hands.state found.places.items first.3 (λ s place is. subst (λ (n : Name). IsLeftAt n (state_seen stay.back) s place) back (stay.gives.0.left s place is));
-      stand = stand_first g.row.T.coded c.still.new.links porter hands.state hands.names hands.kinds c.still.ensures.stand first.0;
+      stand = stand_first g.row.T.coded c.still.new.links porter hands.state hands.names hands.kinds hands.held c.still.ensures.stand first.0 (c.first-hands.ensures.1 ∙ ap (names_from (state_at porter) 0) many);
       holds = holds_so porter c.still.new.porter same first.0;
     }
 
@@ -69,7 +76,7 @@ returns-clause-made g c =
     let own : stay.lent.name ≡ its_book self = stay.shut.book.0 ∙ ap (λ porter. porter.name) parts.1 ∙ self.lends.0 in let back : stay.back.name ≡ words_book words = stay.same.0 ∙ own ∙ sym (ap words_book parts.0) in
     let name : porter.name ≡ words_book words = sym stay.again.0.0 ∙ back in
     let size : porter.size ≡ words.size = sym stay.again.0.1 ∙ stay.same.2 ∙ stay.shut.book.1 ∙ ap (λ porter. porter.size) parts.1 ∙ self.lends.1 ∙ sym (ap (λ w. w.size) parts.0) in
-    let first = c.first-hands.ensures in let hands = c.first-hands.result in let comes = stay.gives.0 in
+    let first = c.first-hands.ensures.0 in let hands = c.first-hands.result in let comes = stay.gives.0 in
     let own_words = ap (λ porter. porter.name) parts.1 ∙ self.lends.0 ∙ sym (ap words_book parts.0) in (
       ap words_book parts.0,
       ap (λ w. w.size) parts.0,
