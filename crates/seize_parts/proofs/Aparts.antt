@@ -6,6 +6,7 @@
 --     waits_further                 what waits where nothing waited before is what the values gone put
 --     told_had, told_both           the watch was told of the values gone;  of some, and then of others
 use Rattle.std.proofs.Common.{◌≡◌, ◌≢◌, ℕ, ◌<◌, List, [], ◌∷◌, ◌++◌, map, sum_by, refl, sym, ap, ap₂, subst, subst₂, ◌∙◌}
+use Rattle.std.specs.List.{fold}
 use mathlib.Core.List.{map-append}
 use Rattle.std.proofs.lemmas.List.Sums.{fold-append}
 use base.Stored.{Coded, Gv}
@@ -21,7 +22,7 @@ use Rattle.seize_calls.specs.declared.further.Further.{Further}
 use Rattle.seize_alone.specs.Gone.{AreNamesOf, HadAre, PutAs}
 use Rattle.seize_parts.specs.Aparts.{AreWaiting, WaitsBehind, values_put_in, words_put_in}
 use Rattle.seize_parts.specs.Lighter.{same_value}
-use Rattle.seize_parts.specs.Told.{HasTold, told_of}
+use Rattle.seize_parts.specs.Told.{AreCodes, HasTold, told_of}
 
 -- The watch was told of values with the codes of those that were had, so it was told of these.
 pub told_gone : {T Seen : Type 0} (c : Coded T) (told : Seen → T → Seen) (seen : Seen) (xs : List T) (had : Had) (gone : List (T × ℕ)) → AreCodes c.code xs had → HadAre c.code had gone → fold told seen xs ≡ told_of told seen gone

@@ -25,7 +25,7 @@ pub struct Owned<T: Drop> {
 }
 
 impl<T: Drop> Owned<T> {
-    // The block whose values this key is of.
+    /// The block whose values this key is of.
     pub fn of(key: ValueKey, block: Bare<Header, Part, T>, book: &Seen) -> Owned<T>
         requires book { book_of key ≡ book.now.name }
         requires key { IsVacated key × LiesIn key block }
@@ -40,7 +40,7 @@ impl<T: Drop> Owned<T> {
         }
     }
 
-    // The value by value. The block's place in the store is free again, by one swap.
+    /// The value by value. The block's place in the store is free again, by one swap.
     pub fn into_value(self) -> T
         ensures { result ≡ content self }
     {
@@ -60,7 +60,7 @@ impl<T: Drop> Owned<T> {
         (key, block)
     }
 
-    // Its value is lent from then on, and may go into a link. It gives the block's number, and the key of the value.
+    /// Its value is lent from then on, and may go into a link. It gives the block's number, and the key of the value.
     pub fn lend<R: Puts<T>>(
         self,
         blocks: &Blocks<T>,

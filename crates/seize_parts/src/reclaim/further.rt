@@ -32,7 +32,7 @@ impl<'a, T: Drop, R: Puts<T>> Further<'a, T, R> {
     ghost use Rattle.seize_parts.specs.Blocks.{Belongs, content};
     ghost use Rattle.seize_parts.specs.Furthers.{HasPut, Joins, further_store};
 
-    // None was put, with a value of this kind.
+    /// None was put, with a value of this kind.
     pub fn new(
         chain: chain::Further,
         blocks: &'a Blocks<T>,
