@@ -91,7 +91,7 @@ pub returns-then-not-all-clause-back : goal.returns-then-not-all-clause-back
 returns-then-not-all-clause-back g c =
     let self = c.args.self in let parts = c.into_parts-words.ensures in let stay = c.rest-found.ensures.stay in let words = c.into_parts-words.result.0 in let porter = c.rest-found.new.porter in let comes = stay.gives.0 in
     let lent = stay.lent in let name = its_book self in let own : c.into_parts-words.result.1.name ≡ name = ap (λ porter. porter.name) parts.1 ∙ self.lends.0 in let seen : c.into_parts-words.result.1.seen ≡ seen_by self = ap (λ porter. porter.seen) parts.1 in
-    let lent_name : lent.name ≡ name = stay.shut.book.0 ∙ own in let same = c.shared.ensures in let back : stay.back.seen ≡ seen_by c.shared.result = sym (same.3 ∙ stay.again.1) in
+    let lent_name : lent.name ≡ name = stay.shut.book.0 ∙ own in let same = c.shared.ensures.same in let back : stay.back.seen ≡ seen_by c.shared.result = sym (same.3 ∙ stay.again.1) in
     record {
       same = (same.0 ∙ ap words_book parts.0, same.1 ∙ ap (λ w. w.size) parts.0, same.2 ∙ parts.4);
       at_call = lent.seen;
