@@ -143,10 +143,10 @@ impl<T: Drop, R: Reclaim<T>> Alone<T, R> {
     ) -> Result<Option<Taken<T>>, (Refusal, Option<Owned<T>>)>
         requires range { link < self.old.links }
         requires own { IfSome new (Belongs R.owners self.old.book.store) }
-        ensures done { IfOk result (λ _. calls.no_guard self.old.state s ≡ None) }
+        ensures done { IfOk result (λ old. (calls.no_guard self.old.state s ≡ None)
+            × (option_map taken_content old ≡ calls.link_at self.old.state link)) }
         ensures refused { IfErr result (λ refused. (calls.no_guard self.old.state s ≡ Some refused.0) × (refused.1 ≡ new)
             × (self.new ≡ self.old)) }
-        ensures held { IfOk result (λ old. option_map taken_content old ≡ calls.link_at self.old.state link) }
         ensures own { IfOk result (λ old. IfSome old (IsTakenOf T.row.coded.code self.old.book)) }
         ensures state { self.new.state ≡ (calls.swap self.old.state s link (option_map content new)).1.0 }
         ensures holds { IfOk result (λ _. calls.link_at self.new.state link ≡ option_map content new) }
