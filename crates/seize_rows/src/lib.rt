@@ -44,4 +44,6 @@ mod random;
 mod refused;
 mod threads;
 #[cfg(test)]
+mod watching;
+#[cfg(test)]
 mod worked;
