@@ -15,6 +15,10 @@ mod alone_memory;
 #[cfg(test)]
 mod alone_reclaiming;
 #[cfg(test)]
+mod chance;
+#[cfg(test)]
+mod grouped;
+#[cfg(test)]
 mod guards;
 #[cfg(test)]
 mod ids;
