@@ -213,6 +213,8 @@ impl<'a, 'p, T: Drop, R: Reclaim<T>> LockWork<Numbers<T>, Pass<'p>, bool> for Sw
 
     fn work(self, numbers: &mut Numbers<T>, pass: &mut Pass<'p>) -> bool {
         numbers.book.agree(&self.words.blocks.book);
-        numbers.sweep(self.words, self.ender, pass)
+        let all = numbers.sweep(self.words, self.ender, pass);
+        numbers.least = 0;
+        all
     }
 }
