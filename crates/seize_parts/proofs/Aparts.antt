@@ -115,8 +115,11 @@ module _ {T : Type 0} (code : T → Gv) where
   more_drain puts n had queue queue' put waits may =
       let more = all_wait puts had put in (
         waits.served,
-        (may.1.0 ++ more.0, subst₂ (λ (names words : List ℕ). Wait code names words (may.1.0 ++ more.0)) (sym waits.values) (sym waits.words)
-            (waits_more (values_of (further_in queue)) (values_put_in had) (kepts_of (further_in queue)) (words_put_in had) may.1.0 more.0 may.1.1 more.1)),
+        (
+          may.1.0 ++ more.0,
+          subst₂ (λ (names words : List ℕ). Wait code names words (may.1.0 ++ more.0)) (sym waits.values) (sym waits.words)
+              (waits_more (values_of (further_in queue)) (values_put_in had) (kepts_of (further_in queue)) (words_put_in had) may.1.0 more.0 may.1.1 more.1),
+        ),
       )
 
 module _ {T : Type 0} (c : Coded T) (puts : ℕ → T → List T) where

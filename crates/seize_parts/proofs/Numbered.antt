@@ -1,5 +1,5 @@
 -- Which numbers are in use, by the slots that nobody has; and that the numbers behind the lock stay as they are to be.
-use Rattle.std.proofs.Common.{◌≡◌, ◌⊎◌, inl, inr, min, ℕ, zero, suc, ◌+◌, ◌<◌, ◌≤◌, Bool, true, false, not, cond, nat_lt, List, [], ◌∷◌, ◌++◌, length, Option, Some, None, is_some, get_or, slice_set, refl, sym, ap, subst, ◌∙◌, arith}
+use Rattle.std.proofs.Common.{◌≡◌, ◌⊎◌, inl, inr, ℕ, zero, suc, ◌+◌, ◌<◌, ◌≤◌, Bool, true, false, not, cond, nat_lt, List, [], ◌∷◌, ◌++◌, length, Option, Some, None, is_some, get_or, slice_set, refl, sym, ap, subst, ◌∙◌, arith}
 use Rattle.std.specs.List.{position, position_or_len}
 use Rattle.std.specs.Option.{is_none}
 use Rattle.std.proofs.lemmas.List.{length-map, length-set, length_push, map-set}
@@ -142,8 +142,8 @@ module _ {X : Type 0} where
   none_pushed slots n none i less = ap is_some (at_push slots i) ∙ nowhere slots none i
 
   -- and a slot that is laid in some place
-  pub none_laid : (slots : List (Option X)) (least n : ℕ) (item : Option X) → NoneBelow least slots → NoneBelow (min least n) (slice_set slots n item)
-  none_laid slots least n item none i less = ap is_some (get_or-set_other slots n i item None (λ same. absurd (omega (arith, less, same)))) ∙ none i (omega (arith, less))
+  pub none_laid : (slots : List (Option X)) (least lower n : ℕ) (item : Option X) → NoneBelow least slots → lower ≤ least → lower ≤ n → NoneBelow lower (slice_set slots n item)
+  none_laid slots least lower n item none below before i less = ap is_some (get_or-set_other slots n i item None (λ same. absurd (omega (arith, less, before, same)))) ∙ none i (omega (arith, less, below))
 
 -- Lists of which nothing is false are the same where they are as long.
 full_as : (us vs : List Bool) → first_false us ≡ length us → first_false vs ≡ length vs → length us ≡ length vs → us ≡ vs

@@ -1,5 +1,5 @@
 //! The numbers of a collector's slots: which are in use, and the slots of those that are not. They lie behind a lock of the collector.
-ghost use Rattle.std.specs.Prelude.{◌≡◌, IfErr, IfOk, None, Some, is_some};
+ghost use Rattle.std.specs.Prelude.{◌≡◌, ◌≤◌, IfErr, IfOk, None, Some, is_some};
 ghost use Rattle.std.specs.List.{position};
 ghost use Rattle.seize_calls.specs.Slots.{IsPassFor, its_number};
 ghost use Rattle.seize_words.specs.Joined.{words_book};
@@ -27,7 +27,6 @@ use seize_words::book::{NumbersKey, Pass, Seen};
 use seize_words::slots::NextSlot;
 use seize_words::words::Words;
 use std::alloc::Global;
-use std::cmp::min;
 
 /// What is needed to hand out slots.
 #[derive(Drop)]
@@ -213,6 +212,13 @@ impl<'a, 'p, T: Drop> LockWork<Numbers<T>, Pass<'p>, Result<(Slot<T>, Shelf<T>),
     }
 }
 
+// The lower of two numbers.
+fn lower(a: usize, b: usize) -> usize
+    ensures { (result ≤ a) × (result ≤ b) }
+{
+    if a < b { a } else { b }
+}
+
 /// A slot goes back: the work at the end of a registration.
 #[derive(Drop)]
 pub struct Ending<'a, T> {
@@ -240,6 +246,6 @@ impl<'a, 'p, T: Drop> LockWork<Numbers<T>, Pass<'p>, ()> for Ending<'a, T> {
         slot.give(words, &mut numbers.key, pass);
         let n = slot.number();
         numbers.slots[n] = Some(slot);
-        numbers.least = min(numbers.least, n);
+        numbers.least = lower(numbers.least, n);
     }
 }

@@ -200,11 +200,7 @@ fn lay<T: Drop>(words: &Words<T>, place: Place<T>, pass: &mut Pass)
 }
 
 /// So is what lies in each of these places. It takes no memory and waits for nobody.
-pub fn lay_all<T: Drop>(
-    words: &Words<T>,
-    places: &mut Vec<Option<Place<T>>>,
-    porter: &Porter,
-)
+pub fn lay_all<T: Drop>(words: &Words<T>, places: &mut Vec<Option<Place<T>>>, porter: &Porter)
     requires porter { (porter.now.home ≡ false) × (porter.now.name ≡ words_book words.now) × (porter.now.size ≡ words.now.size) }
     requires places { (s : ℕ) (place : Place T) → get_or places.old.items s None ≡ Some place → MayLay (words_book words.now) place }
 {

@@ -21,9 +21,11 @@ returns g c =
     let ended = given_ended numbers are c.args.self.words.now c.agree.ensures slot slot' pass one.new.pass one.new.numbers one.ensures.of gives one.ensures.numbers in (
       (
         refl,
-        numbers_set numbers are _ one.new.pass slot false one.ensures.numbers n (sym gives.0.same.0 ∙ sym number) (Some slot') refl
-            (λ s is. subst (IsTakenAt numbers.book.name 0 n) (some_same slot' s is) (subst (λ k. IsTakenAt numbers.book.name 0 k slot') (sym number) ended)) refl refl refl,
-        none_laid numbers.slots.items numbers.least n (Some slot') c.requires.0.1,
+        (
+          numbers_set numbers are _ one.new.pass slot false one.ensures.numbers n (sym gives.0.same.0 ∙ sym number) (Some slot') refl
+              (λ s is. subst (IsTakenAt numbers.book.name 0 n) (some_same slot' s is) (subst (λ k. IsTakenAt numbers.book.name 0 k slot') (sym number) ended)) refl refl refl,
+          none_laid numbers.slots.items numbers.least c.lower-numbers.result n (Some slot') c.requires.0.1 c.lower-numbers.ensures.0 c.lower-numbers.ensures.1,
+        ),
       ),
       (
         slot_gives slot pass slot' one.new.pass gives,
