@@ -12,11 +12,12 @@ use crate::registration::Registration;
 pub use ids::IdSource;
 use seize_cells::Lock;
 use seize_machine::machine;
+use seize_parts::alone::calls::Heard;
 use seize_parts::ender::Ender;
 use seize_parts::ending::end_all;
 use seize_parts::numbers::sweeping::Sweeping;
 use seize_parts::numbers::{Numbers, Registering};
-use seize_parts::reclaim::{Boxed, Reclaim};
+use seize_parts::reclaim::{Boxed, Reclaim, Watch};
 use seize_table::Refusal;
 use seize_words::book::{Pass, Porter, Seen, Stay};
 use seize_words::words::Words;
@@ -326,27 +327,31 @@ impl<T: Drop, R: Reclaim<T>> Collector<T, R> {
 
 // All slots that nobody has are swept by a pass that is alone.
 #[derive(Drop)]
-struct Sweep<'a, T: Drop, R: Reclaim<T>> {
+struct Sweep<'a, 'n, 'w, T: Drop, R: Reclaim<T>, W> {
     words: &'a Words<T>,
     ender: &'a Ender<T, R>,
-    numbers: &'a mut Lock<Numbers<T>>,
-    ghost numbered: { numbers.now ≡ (words_book words.now).family },
+    numbers: &'n mut Lock<Numbers<T>>,
+    watch: &'w mut W,
 }
 
-impl<'a, T: Drop, R: Reclaim<T>> Stay<bool> for Sweep<'a, T, R> {
-    ghost use Rattle.std.specs.Prelude.{◌≤◌};
+impl<'a, 'n, 'w, T: Drop, R: Reclaim<T>, W: Watch<T>> Stay<bool> for Sweep<'a, 'n, 'w, T, R, W> {
     ghost use Rattle.seize_book.specs.Tokens.{IsSole};
     ghost use Rattle.seize_calls.specs.Slots.{IsPassFor};
     ghost use Rattle.seize_parts.specs.Sweeps.{Sweeps};
 
     ghost may = { λ sweep pass. IsPassFor sweep.words.now pass × IsSole pass.id × IsEnderOf sweep.words.now sweep.ender.now
-        × (sweep.words.now.size ≤ 1) };
+        × (sweep.numbers.now ≡ (words_book sweep.words.now).family) };
 
-    ghost gives = { λ sweep sweep' pass pass' result. (sweep'.numbers ≡ sweep.numbers) × Sweeps pass pass' result };
+    ghost gives = { λ sweep sweep' pass pass' result. (sweep'.numbers ≡ sweep.numbers)
+        × (sweep'.watch.ghost_name ≡ sweep.watch.ghost_name) × Sweeps pass pass' result };
 
     fn stay(&mut self, pass: &mut Pass<'static>) -> bool {
         let (words, ender) = (self.words, self.ender);
-        self.numbers.with_mut(Sweeping { words, ender }, pass)
+        let mut heard = Heard {
+            pass: &mut *pass,
+            watch: &mut *self.watch,
+        };
+        self.numbers.with_mut(Sweeping { words, ender }, &mut heard)
     }
 }
 
@@ -380,28 +385,28 @@ impl<T: Drop, R: Reclaim<T>> Collector<T, R> {
     /// collector may be shared again.
     ///
     /// Slots that were forgotten leave first: those of registrations and guards that `forget` spent, and of registrations that ended with
-    /// the answer false. Then each slot attempts its batch, and the numbers go back. What reclaimers put meanwhile is reclaimed too, since
-    /// the batch size is 1 for as long.
+    /// the answer false. Then each slot attempts its batch, and the numbers go back. The slots go in order of their numbers. Then what the
+    /// reclaimer put meanwhile goes to it, oldest first; what it puts with these joins the end, until none is left. The watch is told of
+    /// each value, in order, just before it goes to the reclaimer.
     ///
     /// The answer is false, then and later, as tests show, where a registration or a guard is lost: a type that holds it was given to
     /// `mem::forget`. What is in that slot's batch stays. If the slot has a guard, what waits for it or is attempted later stays as well.
     ///
-    /// The slots go in order of their numbers. It takes no memory and waits for nobody, but for what the reclaimer does. Each slot takes
-    /// the lock of its shelf and makes two atomic swaps and an attempt of its batch, which looks at the heads of all slots. Each value that
-    /// a reclaimer puts is one attempt more. One that was forgotten with a guard makes one swap more.
-    pub fn reclaim_all(&mut self) -> bool
-        ensures { ReclaimsAll self.old self.new result }
+    /// It takes no memory and waits for nobody, but for what watch and reclaimer do. Each slot takes the lock of its shelf and makes two
+    /// atomic swaps and an attempt of its batch, which looks at the heads of all slots. One that was forgotten with a guard makes one swap
+    /// more.
+    pub fn reclaim_all<W: Watch<T>>(&mut self, watch: &mut W) -> bool
+        ensures reclaims { ReclaimsAll self.old self.new result }
+        ensures same_reference { watch.exit.ghost_name ≡ watch.entry.ghost_name }
     {
-        let size = self.words.size;
-        self.words.set_size(&mut self.porter, 1);
         let mut sweep = Sweep {
             words: &self.words,
             ender: &self.ender,
             numbers: &mut self.numbers,
+            watch: &mut *watch,
         };
         let all = self.porter.stay(&mut sweep);
         self.porter.leave_home();
-        self.words.set_size(&mut self.porter, size);
         all
     }
 }

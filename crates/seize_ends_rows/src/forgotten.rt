@@ -85,10 +85,40 @@ fn what_waits_for_a_forgotten_owned_guard_ends(rt: HostRuntime) -> Result<(), Fa
     for ends in [321, 321321] {
         assert!(rt; forget_owned(&rt, &collector, &told)?);
         assert_eq!(rt; register(&rt, &collector)?, (1, true));
-        assert!(rt; collector.reclaim_all());
+        assert!(rt; collector.reclaim_all(&mut ()));
         assert_eq!(rt; told.load(Ordering::SeqCst), ends);
         assert_eq!(rt; register(&rt, &collector)?, (0, true));
     }
+    Ok(())
+}
+
+// A registration retires 5, and is forgotten. It gives its number.
+fn forget_one<'a>(
+    rt: &impl Wait,
+    collector: &Telling<'a>,
+    told: &'a AtomicU64,
+) -> Result<usize, Refusal> {
+    let mut pass = collector.pass();
+    let registration = collector.register(rt, &mut pass)?;
+    retire(rt, collector, &registration, 5..6, told, &mut pass);
+    let number = registration.thread_id();
+    registration.forget();
+    Ok(number)
+}
+
+// The batch is too short to be attempted. Its value ends when all is reclaimed, and only then the number goes back.
+#[test]
+fn what_a_forgotten_registration_retired_ends(rt: HostRuntime) -> Result<(), Fail> {
+    let told = AtomicU64::new(0);
+    let mut collector = telling(rt.alloc(), 4)?;
+    assert_eq!(rt; forget_one(&rt, &collector, &told)?, 0);
+    assert_eq!(rt; register(&rt, &collector)?, (1, true));
+    assert_eq!(rt; told.load(Ordering::SeqCst), 0);
+    assert!(rt; collector.reclaim_all(&mut ()));
+    assert_eq!(rt; told.load(Ordering::SeqCst), 5);
+    assert_eq!(rt; register(&rt, &collector)?, (0, true));
+    drop(collector);
+    assert_eq!(rt; told.load(Ordering::SeqCst), 5);
     Ok(())
 }
 
@@ -117,7 +147,7 @@ fn what_forgotten_registrations_retired_ends(rt: HostRuntime) -> Result<(), Fail
     forget_both(&rt, &collector, &told)?;
     assert_eq!(rt; register(&rt, &collector)?, (2, true));
     assert_eq!(rt; told.load(Ordering::SeqCst), 0);
-    assert!(rt; collector.reclaim_all());
+    assert!(rt; collector.reclaim_all(&mut ()));
     assert_eq!(rt; told.load(Ordering::SeqCst), 1243);
     assert_eq!(rt; register(&rt, &collector)?, (0, true));
     Ok(())
@@ -171,7 +201,7 @@ fn forgotten_slots_leave_in_order(rt: HostRuntime) -> Result<(), Fail> {
     let mut collector = telling(rt.alloc(), 1)?;
     assert_eq!(rt; forget_in_turn(&rt, &collector, &told)?, [0, 1]);
     assert_eq!(rt; told.load(Ordering::SeqCst), 777);
-    assert!(rt; collector.reclaim_all());
+    assert!(rt; collector.reclaim_all(&mut ()));
     assert_eq!(rt; told.load(Ordering::SeqCst), 777123);
     Ok(())
 }
@@ -262,7 +292,7 @@ fn what_threads_forget_ends_when_all_is_reclaimed(rt: HostRuntime) -> Result<(),
         (Way::Ends, 51),
     ] {
         assert!(rt; retire_by_many(&rt, rt.alloc(), &collector, way, &ends)?);
-        assert!(rt; collector.reclaim_all());
+        assert!(rt; collector.reclaim_all(&mut ()));
         assert_eq!(rt; ended(&ends), many);
     }
     assert_eq!(rt; register(&rt, &collector)?, (0, true));
@@ -294,7 +324,7 @@ fn what_lost_registrations_retired_does_not_end(rt: HostRuntime) -> Result<(), F
     for many in [16, 32] {
         assert!(rt; retire_by_many(&rt, rt.alloc(), &collector, Way::Loses, &ends)?);
         assert!(rt; retire_by_many(&rt, rt.alloc(), &collector, Way::Forgets, &ends)?);
-        assert!(rt; !collector.reclaim_all());
+        assert!(rt; !collector.reclaim_all(&mut ()));
         assert_eq!(rt; ended(&ends), many);
     }
     drop(collector);
@@ -309,7 +339,7 @@ fn what_waits_for_lost_guards_does_not_end(rt: HostRuntime) -> Result<(), Fail> 
     let mut collector = collector(rt.alloc())?;
     assert!(rt; retire_by_many(&rt, rt.alloc(), &collector, Way::LosesAGuard, &ends)?);
     put_in_all(&rt, &collector, &ends)?;
-    assert!(rt; !collector.reclaim_all());
+    assert!(rt; !collector.reclaim_all(&mut ()));
     drop(collector);
     assert_eq!(rt; ended(&ends), 0);
     Ok(())

@@ -116,7 +116,7 @@ fn what_waits_goes_to_the_reclaimer_once(rt: HostRuntime) -> Result<(), Fail> {
     let mut collector = collector(rt.alloc(), 32, &all)?;
     retire_four(&rt, &collector)?;
     assert_eq!(rt; sums_of(&all), (0, 0, 0));
-    assert!(rt; collector.reclaim_all());
+    assert!(rt; collector.reclaim_all(&mut ()));
     assert_eq!(rt; sums_of(&all), (1, 10, 4));
     retire_four(&rt, &collector)?;
     drop(collector);

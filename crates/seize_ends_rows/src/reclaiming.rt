@@ -22,10 +22,10 @@ fn what_was_retired_ends_and_links_stay(rt: HostRuntime) -> Result<(), Fail> {
     let mut collector = collector(rt.alloc())?;
     put_in_all(&rt, &collector, &ends)?;
     assert_eq!(rt; ended(&ends), 0);
-    assert!(rt; collector.reclaim_all());
+    assert!(rt; collector.reclaim_all(&mut ()));
     assert_eq!(rt; ended(&ends), 3);
     // with nothing left it ends nothing
-    assert!(rt; collector.reclaim_all());
+    assert!(rt; collector.reclaim_all(&mut ()));
     assert_eq!(rt; ended(&ends), 3);
     drop(collector);
     assert_eq!(rt; ended(&ends), 6);
@@ -39,7 +39,7 @@ fn batches_of_two_slots_end_at_once(rt: HostRuntime) -> Result<(), Fail> {
     for times in 1..4u64 {
         retire_by_two(&rt, &collector, &ends)?;
         assert_eq!(rt; ended(&ends), 5 * (times - 1));
-        assert!(rt; collector.reclaim_all());
+        assert!(rt; collector.reclaim_all(&mut ()));
         assert_eq!(rt; ended(&ends), 5 * times);
     }
     Ok(())
@@ -50,7 +50,7 @@ fn what_two_threads_retired_ends(rt: HostRuntime) -> Result<(), Fail> {
     let ends = AtomicU64::new(0);
     let mut collector = collector(rt.alloc())?;
     put_by_two(&rt, &collector, &ends)?;
-    assert!(rt; collector.reclaim_all());
+    assert!(rt; collector.reclaim_all(&mut ()));
     assert_eq!(rt; ended(&ends), 12 * TIMES - 3);
     drop(collector);
     assert_eq!(rt; ended(&ends), 12 * TIMES);
@@ -133,7 +133,7 @@ fn reclaim<'a>(
 ) -> Result<(Option<u64>, bool, (u64, u64), Option<u64>), Refusal> {
     let mut collector = numbers(alloc)?;
     let before = put_many(rt, &collector, 10, marks)?;
-    let all = collector.reclaim_all();
+    let all = collector.reclaim_all(&mut ());
     let ends = ended_marks(marks);
     let after = put_many(rt, &collector, 0, marks)?;
     Ok((before, all, ends, after))
@@ -180,7 +180,7 @@ fn forgotten_passes_keep_nobody_out(rt: HostRuntime) -> Result<(), Fail> {
     forget_pass(&rt, &collector, &ends)?;
     forget_elsewhere(&rt, &collector, &ends)?;
     assert_eq!(rt; ended(&ends), 0);
-    assert!(rt; collector.reclaim_all());
+    assert!(rt; collector.reclaim_all(&mut ()));
     assert_eq!(rt; ended(&ends), 4);
     Ok(())
 }

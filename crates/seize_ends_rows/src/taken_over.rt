@@ -190,7 +190,7 @@ fn a_lost_registration_keeps_one_caller_out(rt: HostRuntime) -> Result<(), Fail>
         return Err(Fail::new("a lost registration was taken over"));
     };
     assert_eq!(rt; told.load(Ordering::SeqCst), 0);
-    assert!(rt; !collector.reclaim_all());
+    assert!(rt; !collector.reclaim_all(&mut ()));
     assert_eq!(rt; told.load(Ordering::SeqCst), 321);
     assert_eq!(rt; register(&rt, &collector)?, (0, true));
     Ok(())

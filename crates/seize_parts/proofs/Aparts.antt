@@ -3,6 +3,7 @@
 --     waits_more, put_waits         more behind those that wait;  those that were put with one value
 --     some_waits, none_waits        where there are names there is a first value;  where there are none, none waits
 --     goes_first                    the queue after its first value went;  told_first, less_left     what is told then, and what is left
+--     all_wait, more_drain          those that were put with all that were had;  what waits may go to the reclaimer, where these come behind
 --     waits_further                 what waits where nothing waited before is what the values gone put
 --     told_had, told_both           the watch was told of the values gone;  of some, and then of others
 use Rattle.std.proofs.Common.{◌≡◌, ◌≢◌, ℕ, ◌<◌, List, [], ◌∷◌, ◌++◌, map, sum_by, refl, sym, ap, ap₂, subst, subst₂, ◌∙◌}
@@ -20,7 +21,7 @@ use Rattle.seize_calls.specs.Furthers.{further_in}
 use Rattle.seize_calls.specs.Handing.{Had}
 use Rattle.seize_calls.specs.declared.further.Further.{Further}
 use Rattle.seize_alone.specs.Gone.{AreNamesOf, HadAre, PutAs}
-use Rattle.seize_parts.specs.Aparts.{AreWaiting, WaitsBehind, values_put_in, words_put_in}
+use Rattle.seize_parts.specs.Aparts.{AreWaiting, MayDrain, WaitsBehind, values_put_in, words_put_in}
 use Rattle.seize_parts.specs.Lighter.{same_value}
 use Rattle.seize_parts.specs.Told.{AreCodes, HasTold, told_of}
 
@@ -101,6 +102,22 @@ module _ {T : Type 0} (code : T → Gv) where
     subst (AreNamesOf code names) (sym (with_kind kind (puts kind x))) are,
     is ∙ same_length kind names (puts kind x) are,
   )
+
+  -- those that were put with all that were had
+  all_wait : (puts : ℕ → T → List T) (had : Had) → PutAs code puts had → (vs : List (T × ℕ)) × Wait code (values_put_in had) (words_put_in had) vs
+  all_wait puts [] put = ([], (tt, refl))
+  all_wait puts (one ∷ had) put =
+      let first = put_waits puts one.0 put.0.0 one.2 one.3 put.0.2 put.0.3 in let rest = all_wait puts had put.1 in
+      (put_by puts (put.0.0, one.0) ++ rest.0, waits_more one.2 (values_put_in had) one.3 (words_put_in had) (put_by puts (put.0.0, one.0)) rest.0 first rest.1)
+
+  -- and so with those that waited before
+  pub more_drain : (puts : ℕ → T → List T) (n : Name) (had : Had) (queue queue' : Further) → PutAs code puts had → WaitsBehind n had queue queue' → MayDrain code n queue → MayDrain code n queue'
+  more_drain puts n had queue queue' put waits may =
+      let more = all_wait puts had put in (
+        waits.served,
+        (may.1.0 ++ more.0, subst₂ (λ (names words : List ℕ). Wait code names words (may.1.0 ++ more.0)) (sym waits.values) (sym waits.words)
+            (waits_more (values_of (further_in queue)) (values_put_in had) (kepts_of (further_in queue)) (words_put_in had) may.1.0 more.0 may.1.1 more.1)),
+      )
 
 module _ {T : Type 0} (c : Coded T) (puts : ℕ → T → List T) where
   -- the first, whose content came out of its block, and then those behind it and those that were put with it

@@ -1,6 +1,6 @@
--- Where a pass is alone, of batch size 1, and no other slot is active, a slot that attempted its batch has none; and it has none when it
--- has left, whatever reclaimers put.
-use Rattle.std.proofs.Common.{◌≡◌, ℕ, suc, ◌<◌, ◌≤◌, ◌⊎◌, Bool, true, false, List, [], ◌∷◌, ◌++◌, length, map, max, None, Some, is_some, refl, sym, ap, subst, ◌∙◌, arith}
+-- Where a pass is alone and no other slot is active, a slot that attempted its batch has none; and it has none when it has left, where
+-- nothing is put.
+use Rattle.std.proofs.Common.{◌≡◌, ℕ, suc, ◌<◌, ◌≤◌, ◌⊎◌, Bool, true, false, List, [], ◌∷◌, ◌++◌, length, None, Some, is_some, refl, sym, ap, subst, ◌∙◌, arith}
 use native.Mathlib.Decide.{ℕ_discrete}
 use mathlib.Core.Logic.{inl, inr}
 use Rattle.seize_machine.proofs.Facts.{Step, head_frame, step_of}
@@ -19,24 +19,25 @@ use Rattle.seize_book.specs.Homesteads.{state_seen}
 use Rattle.seize_book.specs.Passes.{events_in}
 use Rattle.seize_book.specs.Slots.{slot_number, slot_of}
 use Rattle.seize_book.specs.Tokens.{IsSole}
-use Rattle.seize_book.specs.Private.{labels_of}
 use Rattle.seize_book.specs.Values.{values_of}
 use Rattle.seize_book.specs.declared.book.pass.Pass.{Pass}
 use Rattle.seize_calls.proofs.Alone.{made_there}
 use Rattle.seize_calls.proofs.Current.{looked_active, looked_slot, shown}
 use Rattle.seize_calls.specs.Batches.{keys_in}
 use Rattle.seize_calls.specs.Calls.{Flushes, Leaves}
-use Rattle.seize_calls.specs.Handing.{Had, values_put}
+use Rattle.seize_calls.specs.Aparts.{without_puts}
+use Rattle.seize_calls.specs.Handing.{AreTheirs, Had, Handings, values_put}
 use Rattle.seize_calls.specs.Marks.{actives, readings}
-use Rattle.seize_calls.specs.Settling.{CallState, Drains, DrainsOne, Settles, Stays}
+use Rattle.seize_calls.specs.Settling.{CallState, Drains, Settles, Stays}
 use Rattle.seize_calls.specs.Slots.{IsActive, IsInactive, IsOfWords, IsPassFor, Prepares, SlotEnters, SlotFlushes, SlotLeaves, SlotLooks, its_book, its_number}
 use Rattle.seize_calls.specs.declared.slot.Slot.{Slot}
+use Rattle.seize_calls.specs.Walking.{handed_in}
+use Rattle.seize_alone.proofs.Segments.{drained}
 use Rattle.seize_words.specs.declared.activation.Activation.{Activation}
 use Rattle.seize_words.specs.declared.words.Words.{Words}
 use Rattle.seize_parts.specs.Sweeps.{AreOff, IsLedBy, LeavesNothing}
-use Rattle.seize_parts.proofs.Made.{as_made}
 use Rattle.seize_parts.proofs.Placed.{still_for}
-use Rattle.seize_parts.proofs.Swept.{AreOf, enters, flushes, leaves, led_as, led_made, led_prepared, led_then, looks, other, prepared_same, prepared_sole, still_sole}
+use Rattle.seize_parts.proofs.Swept.{enters, flushes, leaves, led_as, led_made, led_prepared, led_then, looks, other, prepared_same, prepared_sole, still_sole}
 
 -- Reading a head answers whether it is active, and changes none.
 
@@ -90,23 +91,15 @@ no_values : (vs : List ℕ) → length vs < 1 → vs ≡ []
 no_values [] none = refl
 no_values (v ∷ vs) none = absurd (omega (arith, none))
 
-some_pushed : (vs : List ℕ) (v : ℕ) → ¬ (vs ++ v ∷ [] ≡ [])
-some_pushed [] v none = cc
-some_pushed (w ∷ vs) v none = cc
-
-reads_of : (pass : Pass) (s n : ℕ) (finds : List Bool) → AreOf s (map as_made (readings pass s n finds))
-reads_of pass s n [] = tt
-reads_of pass s n (found ∷ finds) = (((λ t differs. other s t s refl differs), λ l. refl), reads_of pass s (suc n) finds)
-
 -- A batch that stays has no value.
-stays_short : (least : ℕ) (a b : CallState) → least ≤ 1 → Stays least a b → IsSole a.pass.id → OthersOff (slot_number a.key) (state_seen a.pass) → (slot_of a.key).batch ≡ []
-stays_short least a b small stays sole off = no_values batch (few stays.too_few)
+stays_short : (a b : CallState) → Stays 1 a b → IsSole a.pass.id → OthersOff (slot_number a.key) (state_seen a.pass) → (slot_of a.key).batch ≡ []
+stays_short a b stays sole off = no_values batch (few stays.too_few)
   where
     batch : List ℕ
     batch = (slot_of a.key).batch
 
-    few : ((stays.finds ≡ []) × (length batch < least)) ⊎ (length (actives 0 stays.finds) ≡ suc (length batch)) → length batch < 1
-    few (inl short) = omega (arith, short.1, small)
+    few : ((stays.finds ≡ []) × (length batch < 1)) ⊎ (length (actives 0 stays.finds) ≡ suc (length batch)) → length batch < 1
+    few (inl short) = short.1
     few (inr many) =
         let one = (few_active a.pass (slot_number a.key) 0 stays.finds (state_seen a.pass) (stays.on.alone sole).0 (made_there a.pass b.pass _ stays.on.same stays.on.alone sole stays.made) off).0 in
         omega (arith, one, many)
@@ -118,20 +111,26 @@ drains_none a _ none Drains.over = refl
 drains_none a _ none (Drains.goes_on b c queue v kept retired drains takes round) =
     let same = drains_none a b none drains in let some : [] ≡ v ∷ values_of queue = sym none ∙ ap (λ (x : CallState). values_of x.queue) (sym same) ∙ takes.1 in absurd (cc)
 
--- A round with batch size 1 leaves no batch: it has a value, so it doesn't stay.
+-- Where nothing is put with what was had.
 
-round_bare : (a c : CallState) (v kept : ℕ) (retired : Bool) → DrainsOne a v kept c retired → c.pass.size ≤ 1 → IsSole c.pass.id → OthersOff (slot_number c.key) (state_seen c.pass) → values_of c.batch ≡ []
-round_bare a c v kept true round small sole off = ap labels_of round.settles.none.1
-round_bare a c v kept false round small sole off =
-    let full = round.full in let put = round.puts in let stays = round.settles in let k = slot_number full.key in
-    let same : c.pass.size ≡ a.pass.size = stays.on.same.2 ∙ put.on.same.2 in let sole1 : IsSole full.pass.id = subst IsSole stays.on.same.1 sole in
-    let led = led_made k full.pass c.pass _ stays.on.same stays.on.alone sole1 stays.made (reads_of full.pass k 0 stays.finds) in
-    absurd (some_pushed _ v (sym put.batch ∙ stays_short (max 1 a.pass.size) full c (omega (arith, small, same)) stays sole1
-    (λ t differs. sym (led.active t differs) ∙ off t (λ e. differs (e ∙ stays.on.its.1)))))
+abbrev NothingPut : Had → Type 0
+NothingPut [] = Unit {0}
+NothingPut (one ∷ had) = (one.2 ≡ []) × NothingPut had
 
-drains_bare : (a b : CallState) → Drains a b → b.pass.size ≤ 1 → IsSole b.pass.id → OthersOff (slot_number b.key) (state_seen b.pass) → values_of a.batch ≡ [] → values_of b.batch ≡ []
-drains_bare a _ Drains.over small sole off none = none
-drains_bare a _ (Drains.goes_on b c queue v kept retired drains takes round) small sole off none = round_bare _ c v kept retired round small sole off
+without_nothing : (had : Had) → NothingPut (without_puts had)
+without_nothing [] = tt
+without_nothing (one ∷ had) = (refl, without_nothing had)
+
+nothing_first : (a b : Had) → NothingPut (a ++ b) → NothingPut a
+nothing_first [] b none = tt
+nothing_first (one ∷ a) b none = (none.0, nothing_first a b none.1)
+
+nothing_handed : (handed : Handings) (kepts : List ℕ) (had : Had) → AreTheirs handed kepts had → NothingPut had → values_put handed ≡ []
+nothing_handed [] kepts had are none = refl
+nothing_handed (h ∷ handed) [] had are none = absurd are
+nothing_handed (h ∷ handed) (kept ∷ kepts) [] are none = absurd are
+nothing_handed (h ∷ handed) (kept ∷ kepts) (one ∷ had) are none =
+    ap (λ (vs : List ℕ). vs ++ values_put handed) (sym are.0.2 ∙ none.0) ∙ nothing_handed handed kepts had are.1 none.1
 
 -- An attempt.
 
@@ -163,34 +162,29 @@ module _ {T : Type 0} (slot : Slot T) (pass : Pass) (slot' : Slot T) (pass' : Pa
       r.batch,
       r.queued.1 ∙ ap (λ (vs : List ℕ). vs ++ values_put r.handed) f.begins.none ∙ ap values_put (r.under_guard (f.begins.begins.keeps.active ∙ on)),
     )
-    settled false r = (r.batch ∙ stays_short 1 f.begun f.settled (omega arith) r begun_sole begun_off, r.queued.1 ∙ ap (λ (vs : List ℕ). vs ++ []) f.begins.none)
+    settled false r = (r.batch ∙ stays_short f.begun f.settled r begun_sole begun_off, r.queued.1 ∙ ap (λ (vs : List ℕ). vs ++ []) f.begins.none)
 
     pub flush_bare : (slot_of slot'.key).batch ≡ []
     flush_bare =
         let is = settled retired f.settles in let same = drains_none f.settled f.drained is.1 f.drains in
         f.returns.keeps.batch ∙ ap (λ (x : CallState). (slot_of x.key).batch) same ∙ is.0
 
-  -- With batch size 1, a leave of a slot without a batch leaves none.
-  module _ (small : pass.size ≤ 1) (off : OthersOff (its_number slot) (state_seen pass')) (e : SlotLeaves slot pass had slot' pass' had') where
-    abbrev l : Leaves Leave false (private e.ready (SwapOut (slot_number slot.key))) slot.key e.ready (keys_in slot.batch) had slot'.key pass' (keys_in slot'.batch) had'
-    l = e.does
+-- Where nothing is put, a leave of a slot without a batch leaves none.
+module _ {T : Type 0} (slot : Slot T) (pass : Pass) (slot' : Slot T) (pass' : Pass) (had : Had) (e : SlotLeaves slot pass [] slot' pass' (without_puts had)) where
+  abbrev l : Leaves Leave false (private e.ready (SwapOut (slot_number slot.key))) slot.key e.ready (keys_in slot.batch) [] slot'.key pass' (keys_in slot'.batch) (without_puts had)
+  l = e.does
 
-    drained_sole : IsSole l.drained.pass.id
-    drained_sole = subst IsSole (sym l.rests.same.1 ∙ l.returns.keeps.same.1) (prepared_sole slot pass e.ready e.prepares sole)
+  none_queued : values_of l.behind.queue ≡ []
+  none_queued =
+      let all : NothingPut l.drained.had = subst NothingPut l.returns.had_none (without_nothing had) in
+      let first = nothing_first l.behind.had _ (subst NothingPut (drained l.behind l.drained l.drains).has_had.after all) in
+      l.queued.0 ∙ nothing_handed (handed_in l.walked) l.kepts l.has_had.more l.has_had.theirs (subst NothingPut l.has_had.after first)
 
-    drained_small : l.drained.pass.size ≤ 1
-    drained_small = let back = l.returns.keeps.same.2 in let rests = l.rests.same.2 in let ready = e.prepares.same.2 in omega (arith, small, back, rests, ready)
-
-    drained_off : OthersOff (slot_number l.drained.key) (state_seen l.drained.pass)
-    drained_off t differs =
-        let keeps = l.returns.keeps in let k = slot_number l.drained.key in
-        sym ((led_made k l.drained.pass pass' _ keeps.same keeps.alone drained_sole l.returns.made (((λ u apart. other k u k refl apart), λ l. refl), tt)).active t differs)
-        ∙ off t (λ e. differs (e ∙ sym slot.together.numbered ∙ sym l.rests.its.1 ∙ keeps.its.1))
-
-    pub leave_bare : (slot_of slot.key).batch ≡ [] → (slot_of slot'.key).batch ≡ []
-    leave_bare bare =
-        sym l.rests.batch.1 ∙ ap values_of l.returns.batch
-        ∙ drains_bare l.behind l.drained l.drains drained_small drained_sole drained_off (ap values_of l.batch ∙ slot.together.batch_is.1 ∙ bare)
+  pub leave_bare : (slot_of slot.key).batch ≡ [] → (slot_of slot'.key).batch ≡ []
+  leave_bare bare =
+      sym l.rests.batch.1 ∙ ap values_of l.returns.batch
+      ∙ ap (λ (x : CallState). values_of x.batch) (drains_none l.behind l.drained none_queued l.drains)
+      ∙ ap values_of l.batch ∙ slot.together.batch_is.1 ∙ bare
 
 -- A slot that looked at the list, and that has no batch as its key knows, leaves nothing behind.
 pub cleared_by : {T : Type 0} (slot slot' : Slot T) (pass pass' : Pass) → SlotLooks slot pass slot' pass' → its_book slot ≡ pass.name → IsInactive slot → (slot_of slot.key).batch ≡ [] → LeavesNothing pass' (its_number slot)
@@ -203,7 +197,7 @@ cleared_by slot slot' pass pass' looks book off none =
 
 -- A slot enters, attempts its batch, leaves, and looks at the list.
 module _ {T : Type 0} (words : Words T) (s0 s2 s3 s4 s5 : Slot T) (p0 p1 p2 p3 p4 p5 : Pass) (sole : IsSole p0.id) (for : IsPassFor words p0) (prep : Prepares s0 p0 p1) (a : Activation) (entered : SlotEnters s0 p1 a s2 p2)
-    (b3 e3 : Had) (of3 : IsOfWords words s3) (retired : Bool) (flushed : SlotFlushes s2 p2 b3 s3 p3 e3 retired) (b4 e4 : Had) (of4 : IsOfWords words s4) (left : SlotLeaves s3 p3 b4 s4 p4 e4)
+    (e3 : Had) (of3 : IsOfWords words s3) (retired : Bool) (flushed : SlotFlushes s2 p2 [] s3 p3 e3 retired) (had4 : Had) (of4 : IsOfWords words s4) (left : SlotLeaves s3 p3 [] s4 p4 (without_puts had4))
     (looked : SlotLooks s4 p4 s5 p5) where
   abbrev s : ℕ
   s = its_number s0
@@ -224,7 +218,7 @@ module _ {T : Type 0} (words : Words T) (s0 s2 s3 s4 s5 : Slot T) (p0 p1 p2 p3 p
   for2 = still_for words p1 p2 (still_for words p0 p1 for prep.same) led2.same
 
   led3 : IsLedBy s p2 p3
-  led3 = led_as s (its_number s2) p2 p3 num2 (flushes s2 p2 s3 p3 sole2 words of3 for2 b3 e3 retired flushed)
+  led3 = led_as s (its_number s2) p2 p3 num2 (flushes s2 p2 s3 p3 sole2 words of3 for2 [] e3 retired flushed)
 
   num3 : its_number s3 ≡ s
   num3 = flushed.same.0 ∙ num2
@@ -236,7 +230,7 @@ module _ {T : Type 0} (words : Words T) (s0 s2 s3 s4 s5 : Slot T) (p0 p1 p2 p3 p
   for3 = still_for words p2 p3 for2 led3.same
 
   led4 : IsLedBy s p3 p4
-  led4 = led_as s (its_number s3) p3 p4 num3 (leaves s3 p3 s4 p4 sole3 words of4 for3 b4 e4 left)
+  led4 = led_as s (its_number s3) p3 p4 num3 (leaves s3 p3 s4 p4 sole3 words of4 for3 [] (without_puts had4) left)
 
   num4 : its_number s4 ≡ s
   num4 = left.same.0 ∙ num3
@@ -250,18 +244,11 @@ module _ {T : Type 0} (words : Words T) (s0 s2 s3 s4 s5 : Slot T) (p0 p1 p2 p3 p
   pub swept_led : IsLedBy s p0 p5
   swept_led = led_then s p0 p1 p5 (led_prepared s0 p0 p1 prep sole s) (led_then s p1 p2 p5 led2 (led_then s p2 p3 p5 led3 (led_then s p3 p4 p5 led4 (looks s4 p4 s5 p5 sole4 s looked))))
 
-  pub swept_left : words.size ≤ 1 → IsActive s2 → AreOff p0 → IsInactive s4 → LeavesNothing p5 s
-  swept_left small active off inactive = subst (LeavesNothing p5) num4 (cleared_by s4 s5 p4 p5 looked (of4.book ∙ for4.0) inactive batch4)
+  pub swept_left : IsActive s2 → AreOff p0 → IsInactive s4 → LeavesNothing p5 s
+  swept_left active off inactive = subst (LeavesNothing p5) num4 (cleared_by s4 s5 p4 p5 looked (of4.book ∙ for4.0) inactive (leave_bare s3 p3 s4 p4 had4 left batch3))
     where
       off2 : OthersOff (its_number s2) (state_seen p2)
       off2 t differs = led2.leads.active t (λ e. differs (e ∙ sym num2)) ∙ ap (λ (st : State). is_active (head_at st t)) (prepared_same s0 p0 p1 prep sole) ∙ off t
 
       batch3 : (slot_of s3.key).batch ≡ []
-      batch3 = flush_bare s2 p2 s3 p3 sole2 b3 e3 off2 active retired flushed
-
-      off4 : OthersOff (its_number s3) (state_seen p4)
-      off4 t differs =
-          led4.leads.active t (λ e. differs (e ∙ sym num3)) ∙ led3.leads.active t (λ e. differs (e ∙ sym num3)) ∙ off2 t (λ e. differs (e ∙ num2 ∙ sym num3))
-
-      batch4 : (slot_of s4.key).batch ≡ []
-      batch4 = leave_bare s3 p3 s4 p4 sole3 b4 e4 (subst (λ (n : ℕ). n ≤ 1) for3.1 small) off4 left batch3
+      batch3 = flush_bare s2 p2 s3 p3 sole2 [] e3 off2 active retired flushed

@@ -1,9 +1,10 @@
--- What is put apart while a collector in one caller's hands reclaims all, and what is known of each part of that.
+-- What is put apart while all is reclaimed, and what is known of each part of that where a collector is in one caller's hands.
 --     values_put_in had, words_put_in had     the values that were put with those that were had, in order, and the words kept of these
 --     IsBehind n vs ks had queue     in the queue wait values of the list n: these, with these words, and then what was put with those
 --                            that were had
 --     WaitsBehind n had queue queue'     what was put with them waits behind what waited before;  AreWaiting code queue vs     in the queue
 --                            these values wait, each with its kind
+--     MayDrain code n queue  what waits in the queue may go to the reclaimer: values of the list n, each with a content and a kind
 --     KeepsAside aside aside'    it is the same watch
 --     DidApart code puts told sees n had aside aside'     the reclaimer had this and put as `puts` says; what it put waits, and the watch
 --                            was told
@@ -71,6 +72,9 @@ abbrev pub AreWaiting : {T : Type 0} → (T → Gv) → Further → List (T × �
 AreWaiting {T} code queue vs =
     AreNamesOf code (values_of (further_in queue)) (map (λ (v : T × ℕ). v.0) vs)
     × (kepts_of (further_in queue) ≡ map (λ (v : T × ℕ). v.1) vs)
+
+abbrev pub MayDrain : {T : Type 0} → (T → Gv) → Name → Further → Type 0
+MayDrain {T} code n queue = IsServed (further_in queue) n × ((vs : List (T × ℕ)) × AreWaiting code queue vs)
 
 abbrev pub Fits : {T : Type 0} → Pass → State T ℕ → Type 0
 Fits pass st = (st.size ≡ pass.size) × (are_distinct (linked_values pass.name.links) ≡ true)

@@ -1,22 +1,20 @@
 //! The end of a collector, which nobody shares any more: what its links hold, and what waits in the batches of its slots, ends with it.
 //! The calls are made one after the other by a pass that is alone, so none of them waits, and each returns.
-ghost use Rattle.std.specs.Prelude.{◌<◌, ◌≤◌, length};
+ghost use Rattle.std.specs.Prelude.{◌<◌, length};
 ghost use Rattle.seize_book.specs.Passes.{IsSamePass};
 ghost use Rattle.seize_book.specs.Tokens.{IsSole};
 ghost use Rattle.seize_words.specs.Joined.{words_book};
 ghost use Rattle.seize_words.specs.Rows.{AreShared, IsSharedAt};
 ghost use Rattle.seize_parts.specs.Enders.{IsEnderOf};
 ghost use Rattle.seize_calls.specs.Slots.{InActivation, IsInactive, IsPassFor, IsSlotOf, KeepsActivation};
-ghost use Rattle.seize_parts.specs.Numbers.{AreNumbers, IsLockFor};
+ghost use Rattle.seize_parts.specs.Numbers.{AreNumbers, IsLockFor, KnowsLeast};
 
 use crate::ender::Ender;
 use crate::ends::Forwards;
 use crate::numbers::Numbers;
-use crate::numbers::sweeping::Sweeping;
 use crate::reclaim::Reclaim;
 use seize_calls::manner::Alone;
 use seize_calls::slot::{Loose, Slot};
-use seize_cells::LockWork;
 use seize_words::activation::Activation;
 use seize_words::book::Pass;
 use seize_words::link::MaybeKey;
@@ -34,14 +32,13 @@ pub fn end_all<T: Drop, R: Reclaim<T>>(
     numbers: Numbers<T>,
     pass: Pass,
 )
-    requires numbers { AreNumbers numbers × IsLockFor words.now numbers }
+    requires numbers { AreNumbers numbers × KnowsLeast numbers × IsLockFor words.now numbers }
     requires pass { IsPassFor words.now pass × IsSole pass.id }
     requires ender { IsEnderOf words.now ender.now }
     requires shared { AreShared words.now.links }
-    requires size { words.now.size ≤ 1 }
 {
     let (mut numbers, mut pass) = (numbers, pass);
-    Sweeping { words, ender }.work(&mut numbers, &mut pass);
+    numbers.sweep(words, ender, &mut (), &mut pass);
     if let Some(slot) = numbers.take_free(words, &mut pass) {
         end_links(words, ender, slot, &mut pass);
     }

@@ -3,11 +3,11 @@
 ghost use Rattle.std.specs.Prelude.{◌≡◌};
 ghost use Rattle.seize_parts.specs.Reservations.{IsReservation, its_label};
 
+use crate::alone::apart::leave_into;
+use crate::alone::aside::Aside;
 use crate::ender::Ender;
-use crate::ends::Forwards;
-use crate::reclaim::Reclaim;
+use crate::reclaim::{Reclaim, Watch};
 use crate::shelf::Forgotten;
-use seize_calls::manner::Alone;
 use seize_calls::slot::Slot;
 use seize_content::Steady;
 use seize_words::activation::Activation;
@@ -41,6 +41,7 @@ impl<T: Drop> Reservation<T> {
     ghost use Rattle.seize_machine.specs.declared.machine.event.Answer.TheVariants.{Done};
     ghost use Rattle.seize_words.specs.Joined.{words_book};
     ghost use Rattle.seize_alone.specs.Events.{MakesAlone};
+    ghost use Rattle.seize_parts.specs.Aparts.{KeepsAside, MayDrain};
     ghost use Rattle.seize_parts.specs.Enders.{IsEnderOf};
     ghost use Rattle.seize_parts.specs.Places.{IsUnmoved};
     ghost use Rattle.seize_calls.specs.Slots.{InActivation, IsInactive, IsPassFor, IsSlotOf, its_number};
@@ -126,22 +127,25 @@ impl<T: Drop> Reservation<T> {
     }
 
     /// The slot of a reservation that was forgotten, for a caller who has the collector alone. Where it has guards, and each of them was
-    /// forgotten too, the slot leaves with their units; what waited for it is counted down. Else, where it has guards, there is no slot,
-    /// and no event.
-    pub(crate) fn into_slot<R: Reclaim<T>>(
+    /// forgotten too, the slot leaves with their units; what waited for it is counted down. The watch is told of each value that goes, and
+    /// what the reclaimer puts waits in the queue. Else, where it has guards, there is no slot, and no event.
+    pub(crate) fn into_slot<R: Reclaim<T>, W: Watch<T>>(
         self,
         words: &Words<T>,
         ender: &Ender<T, R>,
         forgotten: Option<Forgotten>,
+        aside: &mut Aside<'_, W>,
         pass: &mut Pass,
     ) -> Option<Slot<T>>
         requires of { IsReservation self × IsReservationOf words.now self }
         requires forgotten { IfSome forgotten (IsForgottenOf (words_book words.now).family) }
         requires pass { IsPassFor words.now pass.old × IsSole pass.old.id }
         requires ender { IsEnderOf words.now ender.now }
+        requires queue { MayDrain T.row.coded.code (words_book words.now) aside.old.queue }
         ensures led { IsLedBy (its_number self.slot) pass.old pass.new }
         ensures slot { IfSome result (λ slot. IsSlotOf words.now slot × IsInactive slot × (its_number slot ≡ its_number self.slot)) }
         ensures unless { IfNone result (pass.new ≡ pass.old) }
+        ensures aside { KeepsAside aside.old aside.new × MayDrain T.row.coded.code (words_book words.now) aside.new.queue }
     {
         let Reservation {
             mut slot,
@@ -167,14 +171,7 @@ impl<T: Drop> Reservation<T> {
         slot.current(words, &units, pass);
         rest.join(units);
         let head = slot.head(words, pass);
-        slot.leave(
-            words,
-            head,
-            &mut rest,
-            &mut Forwards::new(ender),
-            pass,
-            &Alone {},
-        );
+        leave_into(words, ender, &mut slot, head, &mut rest, aside, pass);
         Some(slot)
     }
 }

@@ -122,7 +122,7 @@ fn all_goes_in_order_at_the_drop(rt: HostRuntime) -> Result<(), Fail> {
     Ok(())
 }
 
-// A chain that waits in a batch is gone with all, in its order.
+// A chain that waits in a batch is gone with all, in its order. No memory is asked for.
 #[test]
 fn a_long_chain_goes_as_all_is_reclaimed(rt: HostRuntime) -> Result<(), Fail> {
     let ends = Ends::with_room(rt.alloc(), 0)?;
@@ -193,7 +193,7 @@ fn a_collector_serves_when_all_was_reclaimed(rt: HostRuntime) -> Result<(), Fail
     let mut collector = alone.share();
     retire_shared(&rt, &collector, 3, &told);
     assert_eq!(rt; told.load(Ordering::SeqCst), 12);
-    assert!(rt; collector.reclaim_all());
+    assert!(rt; collector.reclaim_all(&mut ()));
     assert_eq!(rt; told.load(Ordering::SeqCst), 123);
     let Ok(mut alone) = collector.alone() else {
         return Err(Fail::new("the collector came back"));

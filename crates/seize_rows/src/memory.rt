@@ -157,7 +157,7 @@ fn calls_that_ask_for_no_memory(rt: HostRuntime) -> Result<(), Fail> {
     let mut collector = collector(rt.alloc())?;
     let made = make_all(&rt, rt.alloc(), &collector, &ends)?;
     assert_eq!(rt; made, ([0, 0, 30, 30], true, true));
-    assert!(rt; collector.reclaim_all());
+    assert!(rt; collector.reclaim_all(&mut ()));
     assert_eq!(rt; ended(&ends), 31);
     drop(collector);
     assert_eq!(rt; ended(&ends), BLOCKS);

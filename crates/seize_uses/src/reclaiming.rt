@@ -34,5 +34,5 @@ pub fn reclaim(collector: &mut Collector<u64>, known: &Seen) -> bool
     ensures { result ≡ true → (v q : ℕ) → Retired (moments_kept known.now) v q → (k : ℕ) × Reclaimed (moments_of collector.new) v k }
 {
     collector.learn(known);
-    collector.reclaim_all()
+    collector.reclaim_all(&mut ())
 }

@@ -2,8 +2,9 @@
 ghost use Rattle.std.specs.Prelude.{◌≡◌, IfOk};
 ghost use Rattle.seize.specs.Collectors.{BelongsTo, its_links};
 ghost use Rattle.seize_uses.specs.Nests.{owners_of};
+ghost use base.Stored.{coded_unit};
 
-use seize::{Collector, IdSource, Owned, Refusal, Unlinked};
+use seize::{Collector, IdSource, Owned, Refusal, Unlinked, Watch};
 use seize_uses::nest::{Nest, PutInside, around};
 use std::alloc::{AllocError, Global};
 use std::sync::Wait;
@@ -142,8 +143,81 @@ fn a_long_chain_ends_as_all_is_reclaimed(rt: HostRuntime) -> Result<(), Fail> {
     let first = chain(rt.alloc(), &collector)?;
     retire(&rt, &collector, first)?;
     assert_eq!(rt; ended(by), 0);
-    assert!(rt; collector.reclaim_all());
+    assert!(rt; collector.reclaim_all(&mut ()));
     assert_eq!(rt; ended(by), MANY);
+    Ok(())
+}
+
+// Keeps the numbers of the values that it was told of, as the digits of one, in order.
+#[derive(Drop)]
+struct Digits {
+    all: u64,
+}
+
+impl Watch<Nest> for Digits {
+    ghost Seen = { Unit {0} };
+
+    ghost coded = { coded_unit };
+
+    ghost seen = { λ _. tt };
+
+    ghost told = { λ _ _. tt };
+
+    fn gone(&mut self, value: &Nest) {
+        self.all = self.all.wrapping_mul(10).wrapping_add(value.number);
+    }
+}
+
+// Slot 0's batch holds 1, which holds 2, which holds 3; slot 1's batch holds 4, which was retired before.
+fn retire_by_two(rt: &impl Wait, alloc: Global, collector: &Nests<'_>) -> Result<(), Refusal> {
+    let fourth = leaf(alloc, collector, 4)?;
+    let third = leaf(alloc, collector, 3)?;
+    let second = round(alloc, collector, 2, third)?;
+    let first = round(alloc, collector, 1, second)?;
+    let mut pass = collector.pass();
+    let registration = collector.register(rt, &mut pass)?;
+    let retired = retire(rt, collector, fourth);
+    registration.retire(rt, &mut pass, Unlinked::from_owned(first, collector));
+    registration.end(rt, &mut pass);
+    retired
+}
+
+// As how manieth 1, 4, 2 and 3 ended.
+fn in_turn(by: PutInside<'_>) -> (u64, u64, u64, u64) {
+    (order(by, 1), order(by, 4), order(by, 2), order(by, 3))
+}
+
+// What waits in batches goes first, slot by slot, and then what was put, in turn: so the watch is told.
+#[test]
+fn what_is_put_goes_after_all_batches(rt: HostRuntime) -> Result<(), Fail> {
+    let count = AtomicU64::new(0);
+    let places = places(rt.alloc(), 5)?;
+    let by = PutInside {
+        ended: &count,
+        order: places.as_slice(),
+    };
+    let mut collector = collector(rt.alloc(), 32, by)?;
+    retire_by_two(&rt, rt.alloc(), &collector)?;
+    assert_eq!(rt; ended(by), 0);
+    let mut digits = Digits { all: 0 };
+    assert!(rt; collector.reclaim_all(&mut digits));
+    assert_eq!(rt; (digits.all, in_turn(by)), (1423, (1, 2, 3, 4)));
+    Ok(())
+}
+
+// So it is at the drop.
+#[test]
+fn what_is_put_goes_after_all_batches_at_the_drop(rt: HostRuntime) -> Result<(), Fail> {
+    let count = AtomicU64::new(0);
+    let places = places(rt.alloc(), 5)?;
+    let by = PutInside {
+        ended: &count,
+        order: places.as_slice(),
+    };
+    let collector = collector(rt.alloc(), 32, by)?;
+    retire_by_two(&rt, rt.alloc(), &collector)?;
+    drop(collector);
+    assert_eq!(rt; (ended(by), in_turn(by)), (4, (1, 2, 3, 4)));
     Ok(())
 }
 

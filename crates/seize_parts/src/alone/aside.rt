@@ -1,4 +1,4 @@
-//! What stands aside while a collector in one caller's hands reclaims all: who is told, and where what reclaimers put waits.
+//! What stands aside while all is reclaimed: who is told, and where what reclaimers put waits.
 
 use seize_calls::further::Further;
 

@@ -1,83 +1,136 @@
 //! What is done with the slots that nobody has, where nobody shares the collector. Each takes its number again, enters, attempts its batch
-//! at any length, and leaves; then the numbers go back. The pass is alone, so no call waits, and each returns. The batch size is at most 1,
-//! so each value that a reclaimer puts is attempted at once, and where no other slot is active none stays in a batch.
-ghost use Rattle.std.specs.Prelude.{◌≡◌, ◌<◌, ◌≤◌, ◌+◌, None, get_or, is_some, length, true};
+//! at any length, and leaves; then the numbers go back. What the reclaimer puts waits in a queue meanwhile, and goes in the end. The pass is
+//! alone, so no call waits, and each returns.
+ghost use Rattle.std.specs.Prelude.{◌≡◌, ◌<◌, ◌+◌, None, get_or, is_some, length, true};
 ghost use Rattle.std.specs.List.{list_all};
 ghost use Rattle.seize_book.specs.Tokens.{IsSole};
 ghost use Rattle.seize_words.specs.Joined.{words_book};
 ghost use Rattle.seize_machine.specs.Machine.Event.{Give};
 ghost use Rattle.seize_machine.specs.declared.machine.event.Answer.{Answer};
 ghost use Rattle.seize_alone.specs.Events.{MakesAlone};
-ghost use Rattle.seize_parts.specs.Aparts.{GivesBack};
+ghost use Rattle.seize_parts.specs.Aparts.{GivesBack, KeepsAside, MayDrain};
 ghost use Rattle.seize_parts.specs.Enders.{IsEnderOf};
 ghost use Rattle.seize_calls.specs.Slots.{IsInactive, IsPassFor, IsSlotOf, its_number};
-ghost use Rattle.seize_parts.specs.Numbers.{AreNumbers, AreTakenTo, IsLockFor, flags_of};
+ghost use Rattle.seize_parts.specs.Numbers.{AreNumbers, AreTakenTo, flags_of, IsLockFor, KnowsLeast};
 ghost use Rattle.seize_parts.specs.Resting.{AreIdle, IsIdle, KeepsIdleBut};
 ghost use Rattle.seize_parts.specs.Sweeps.{AreOff, AreOffBelow, LiesHere, IsLedBy, IsOff, KeepsCleared, KeepsClearedBut, KeepsElse, KeepsOff, KeepsOn, KeepsPlaces, AreClearedBelow, LeavesNothing, Sweeps};
 
+use crate::alone::apart::{flush_into, leave_into};
+use crate::alone::aside::Aside;
+use crate::alone::calls::Heard;
+use crate::alone::draining::drain;
 use crate::ender::Ender;
-use crate::ends::Forwards;
 use crate::numbers::Numbers;
-use crate::reclaim::Reclaim;
-use seize_calls::manner::Alone;
+use crate::reclaim::{Reclaim, Watch};
+use seize_calls::further::Further;
 use seize_calls::slot::Slot;
 use seize_cells::LockWork;
 use seize_words::book::Pass;
 use seize_words::words::Words;
 
 // The slot enters, attempts its batch and leaves.
-fn sweep<T: Drop, R: Reclaim<T>>(
+fn sweep<T: Drop, R: Reclaim<T>, W: Watch<T>>(
     words: &Words<T>,
     ender: &Ender<T, R>,
     slot: &mut Slot<T>,
+    aside: &mut Aside<'_, W>,
     pass: &mut Pass,
 )
     requires slot { IsSlotOf words.now slot.old × IsInactive slot.old }
     requires pass { IsPassFor words.now pass.old × IsSole pass.old.id }
     requires ender { IsEnderOf words.now ender.now }
-    requires size { words.now.size ≤ 1 }
+    requires queue { MayDrain T.row.coded.code (words_book words.now) aside.old.queue }
     ensures slot { IsSlotOf words.now slot.new × IsInactive slot.new × (its_number slot.new ≡ its_number slot.old) }
     ensures led { IsLedBy (its_number slot.old) pass.old pass.new }
     ensures left { AreOff pass.old → LeavesNothing pass.new (its_number slot.old) }
+    ensures aside { KeepsAside aside.old aside.new × MayDrain T.row.coded.code (words_book words.now) aside.new.queue }
 {
     let mut activation = slot.activation();
     let head = slot.head(words, pass);
     slot.enter(words, head, &mut activation, pass);
-    slot.flush(words, &mut Forwards::new(ender), pass, &Alone {});
-    slot.leave(
-        words,
-        head,
-        &mut activation,
-        &mut Forwards::new(ender),
-        pass,
-        &Alone {},
-    );
+    flush_into(words, ender, slot, aside, pass);
+    leave_into(words, ender, slot, head, &mut activation, aside, pass);
     slot.look(words, pass);
 }
 
 impl<T: Drop> Numbers<T> {
+    ghost use Rattle.std.specs.Prelude.{[]};
+    ghost use Rattle.seize_book.specs.Values.{values_of};
+    ghost use Rattle.seize_calls.specs.Furthers.{further_in};
+
     /// Each slot that nobody has takes its number again, and what was forgotten is found; then each enters, attempts its batch and leaves;
-    /// then the numbers go back. It says whether all slots are there, so that no number is in use.
+    /// then the numbers go back. What the reclaimer puts meanwhile goes to it then, oldest first; what it puts with these joins the end. It
+    /// says whether all slots are there, so that no number is in use.
     ///
-    /// It takes no memory and waits for nobody, but for what the reclaimer does.
-    pub fn sweep<R: Reclaim<T>>(
+    /// The watch is told of each value that goes, in order. It takes no memory and waits for nobody, but for what watch and reclaimer do.
+    pub(crate) fn sweep<R: Reclaim<T>, W: Watch<T>>(
         &mut self,
         words: &Words<T>,
         ender: &Ender<T, R>,
+        watch: &mut W,
+        pass: &mut Pass,
+    ) -> bool
+        requires numbers { AreNumbers self.old × IsLockFor words.now self.old }
+        requires pass { IsPassFor words.now pass.old × IsSole pass.old.id }
+        requires ender { IsEnderOf words.now ender.now }
+        ensures numbers { AreNumbers self.new × KnowsLeast self.new × IsLockFor words.now self.new }
+        ensures sweeps { Sweeps pass.old pass.new result }
+        ensures same_reference { watch.exit.ghost_name ≡ watch.entry.ghost_name }
+    {
+        self.book.agree(&words.blocks.book);
+        let queue = Further::new(pass);
+        let mut aside = Aside {
+            queue,
+            watch: &mut *watch,
+        };
+        let all = self.sweep_aside(words, ender, &mut aside, pass);
+        self.least = 0;
+        all
+    }
+
+    // So it is done, and nothing waits in the queue then.
+    fn sweep_aside<R: Reclaim<T>, W: Watch<T>>(
+        &mut self,
+        words: &Words<T>,
+        ender: &Ender<T, R>,
+        aside: &mut Aside<'_, W>,
         pass: &mut Pass,
     ) -> bool
         requires numbers { AreNumbers self.old × (self.old.book.name ≡ words_book words.now) }
         requires pass { IsPassFor words.now pass.old × IsSole pass.old.id }
         requires ender { IsEnderOf words.now ender.now }
-        requires size { words.now.size ≤ 1 }
+        requires queue { MayDrain T.row.coded.code (words_book words.now) aside.old.queue }
+        ensures same { KeepsAside aside.old aside.new }
         ensures numbers { AreNumbers self.new × (self.new.book ≡ self.old.book) }
         ensures sweeps { Sweeps pass.old pass.new result }
+        ensures drained { values_of (further_in aside.new.queue) ≡ [] }
+    {
+        let all = self.sweep_in_turn(words, ender, aside, pass);
+        drain(words, ender, &mut aside.queue, aside.watch, pass);
+        all
+    }
+
+    // And so, but for what the reclaimer puts meanwhile.
+    fn sweep_in_turn<R: Reclaim<T>, W: Watch<T>>(
+        &mut self,
+        words: &Words<T>,
+        ender: &Ender<T, R>,
+        aside: &mut Aside<'_, W>,
+        pass: &mut Pass,
+    ) -> bool
+        requires numbers { AreNumbers self.old × (self.old.book.name ≡ words_book words.now) }
+        requires pass { IsPassFor words.now pass.old × IsSole pass.old.id }
+        requires ender { IsEnderOf words.now ender.now }
+        requires queue { MayDrain T.row.coded.code (words_book words.now) aside.old.queue }
+        ensures numbers { AreNumbers self.new × (self.new.book ≡ self.old.book) }
+        ensures sweeps { Sweeps pass.old pass.new result }
+        ensures aside { KeepsAside aside.old aside.new × MayDrain T.row.coded.code (words_book words.now) aside.new.queue }
     {
         self.key.look(pass);
         self.take_all(words, pass);
-        self.recover_all(words, ender, pass);
+        self.recover_all(words, ender, aside, pass);
         self.key.look(pass);
-        self.sweep_all(words, ender, pass);
+        self.sweep_all(words, ender, aside, pass);
         self.give_all(words, pass);
         self.key.look(pass);
         self.all_here()
@@ -121,42 +174,51 @@ impl<T: Drop> Numbers<T> {
     }
 
     // Each slot that lies here enters, attempts its batch and leaves.
-    fn sweep_all<R: Reclaim<T>>(&mut self, words: &Words<T>, ender: &Ender<T, R>, pass: &mut Pass)
+    fn sweep_all<R: Reclaim<T>, W: Watch<T>>(
+        &mut self,
+        words: &Words<T>,
+        ender: &Ender<T, R>,
+        aside: &mut Aside<'_, W>,
+        pass: &mut Pass,
+    )
         requires taken { AreTakenTo (length self.old.slots.items) self.old × (self.old.book.name ≡ words_book words.now) }
         requires pass { IsPassFor words.now pass.old × IsSole pass.old.id }
         requires ender { IsEnderOf words.now ender.now }
-        requires size { words.now.size ≤ 1 }
+        requires queue { MayDrain T.row.coded.code (words_book words.now) aside.old.queue }
         ensures taken { AreTakenTo (length self.new.slots.items) self.new × KeepsPlaces self.old self.new }
         ensures left { KeepsOn pass.old pass.new
             × (AreOff pass.old → AreClearedBelow (length self.new.slots.items) (flags_of self.new.slots.items) pass.new) }
         ensures others { KeepsElse (flags_of self.new.slots.items) pass.old pass.new }
+        ensures aside { KeepsAside aside.old aside.new × MayDrain T.row.coded.code (words_book words.now) aside.new.queue }
     {
         for n in 0..self.slots.len() {
-            self.sweep_at(words, ender, n, pass);
+            self.sweep_at(words, ender, n, aside, pass);
         }
     }
 
     // So does the slot in this place, if there is one.
-    fn sweep_at<R: Reclaim<T>>(
+    fn sweep_at<R: Reclaim<T>, W: Watch<T>>(
         &mut self,
         words: &Words<T>,
         ender: &Ender<T, R>,
         n: usize,
+        aside: &mut Aside<'_, W>,
         pass: &mut Pass,
     )
         requires taken { AreTakenTo (length self.old.slots.items) self.old × (self.old.book.name ≡ words_book words.now)
             × (n < length self.old.slots.items) }
         requires pass { IsPassFor words.now pass.old × IsSole pass.old.id }
         requires ender { IsEnderOf words.now ender.now }
-        requires size { words.now.size ≤ 1 }
+        requires queue { MayDrain T.row.coded.code (words_book words.now) aside.old.queue }
         ensures taken { AreTakenTo (length self.new.slots.items) self.new × KeepsPlaces self.old self.new }
         ensures kept { KeepsOn pass.old pass.new × KeepsClearedBut n pass.old pass.new }
         ensures left { AreOff pass.old → AreOff pass.new × (LiesHere (flags_of self.new.slots.items) n → LeavesNothing pass.new n) }
         ensures others { KeepsElse (flags_of self.new.slots.items) pass.old pass.new }
+        ensures aside { KeepsAside aside.old aside.new × MayDrain T.row.coded.code (words_book words.now) aside.new.queue }
     {
         if let Some(slot) = self.slots[n].take() {
             let mut slot = slot;
-            sweep(words, ender, &mut slot, pass);
+            sweep(words, ender, &mut slot, aside, pass);
             self.slots[n] = Some(slot);
         }
     }
@@ -205,14 +267,18 @@ pub struct Sweeping<'a, T: Drop, R: Reclaim<T>> {
     pub ender: &'a Ender<T, R>,
 }
 
-impl<'a, 'p, T: Drop, R: Reclaim<T>> LockWork<Numbers<T>, Pass<'p>, bool> for Sweeping<'a, T, R> {
-    ghost may = { λ work numbers pass. IsLockFor work.words.now numbers × IsPassFor work.words.now pass × IsSole pass.id
-        × IsEnderOf work.words.now work.ender.now × (work.words.now.size ≤ 1) };
+impl<'a, 'h, 'p, T: Drop, R: Reclaim<T>, W: Watch<T>> LockWork<
+    Numbers<T>,
+    Heard<'h, Pass<'p>, W>,
+    bool,
+> for Sweeping<'a, T, R> {
+    ghost may = { λ work numbers heard. IsLockFor work.words.now numbers × IsPassFor work.words.now heard.pass.now
+        × IsSole heard.pass.now.id × IsEnderOf work.words.now work.ender.now };
 
-    ghost gives = { λ work numbers numbers' pass pass' result. Sweeps pass pass' result };
+    ghost gives = { λ work numbers numbers' heard heard' result. (heard'.pass.ghost_name ≡ heard.pass.ghost_name)
+        × (heard'.watch.ghost_name ≡ heard.watch.ghost_name) × Sweeps heard.pass.now heard'.pass.now result };
 
-    fn work(self, numbers: &mut Numbers<T>, pass: &mut Pass<'p>) -> bool {
-        numbers.book.agree(&self.words.blocks.book);
-        numbers.sweep(self.words, self.ender, pass)
+    fn work(self, numbers: &mut Numbers<T>, heard: &mut Heard<'h, Pass<'p>, W>) -> bool {
+        numbers.sweep(self.words, self.ender, heard.watch, heard.pass)
     }
 }

@@ -2,8 +2,8 @@
 ghost use Rattle.std.specs.Prelude.{◌≡◌};
 ghost use base.Stored.{Coded, coded_unit};
 
-/// Is told of each value that is gone in a call of [`Alone`](crate::Alone) that it is passed to, just before that goes to the collector's
-/// reclaimer. `Collector::reclaim_all` and the drop tell nobody.
+/// Is told of each value that is gone in a call of [`Alone`](crate::Alone), or in `Collector::reclaim_all`, that it is passed to, just
+/// before that goes to the collector's reclaimer. The drop tells nobody.
 ///
 /// A watch has a state, and a definition of how one value changes it. `coded` is the code of its states, which proofs alone use:
 /// `coded_unit` where there is but one.

@@ -1,4 +1,4 @@
-use Rattle.std.proofs.Common.{ap, ◌∙◌, arith}
+use Rattle.std.proofs.Common.{refl, ap, ◌∙◌, arith}
 use Rattle.seize_parts.specs.Numbers.{flags_of}
 use Rattle.seize_parts.proofs.Placed.{still_for}
 use Rattle.seize_parts.proofs.Recovered.{else_fewer, finds_none, finds_then}
@@ -8,11 +8,11 @@ use Rattle.seize_parts.proofs.numbers.Numbers.recover_all.Goals as goal
 pub loop-n-init : goal.loop-n-init
 loop-n-init g c =
     let self = c.args.self.now in let pass = c.args.pass.now in
-    (c.requires.taken.0, finds_none self, c.requires.pass.0, c.requires.pass.1, keeps_none pass, (λ s off. off), (λ off. off), else_none _ pass)
+    (c.requires.taken.0, finds_none self, c.requires.pass.0, c.requires.pass.1, keeps_none pass, (λ s off. off), (λ off. off), else_none _ pass, refl, c.requires.queue)
 
 pub recover_at-requires : goal.recover_at-requires
 recover_at-requires g c =
-    let i = c.loop-n.invariant in (omega arith, ((i.0, ap (λ seen. seen.name) i.1.0 ∙ c.requires.taken.1), ((i.2, i.3), c.requires.ender)))
+    let i = c.loop-n.invariant in (omega arith, ((i.0, ap (λ seen. seen.name) i.1.0 ∙ c.requires.taken.1), ((i.2, i.3), (c.requires.ender, i.9))))
 
 pub loop-n-preserved : goal.loop-n-preserved
 loop-n-preserved g c =
@@ -26,4 +26,6 @@ loop-n-preserved g c =
       (λ s off. one.off.1 s (i.5 s off)),
       (λ off. one.off.2 (i.6 off)),
       else_then flags' first was now (else_fewer flags flags' first was one.taken.1.2 i.7) one.others,
+      one.aside.0 ∙ i.8,
+      one.aside.1,
     )

@@ -27,4 +27,6 @@ loop-n-preserved g c =
       keeps_then c.args.pass.now was now i.5 one.kept.0,
       λ off. let so = i.6 off in let left = one.left so.0 in (left.0, more_swept c.loop-n.n (flags_of self.slots.items) (flags_of self'.slots.items) was now one.taken.1.1 one.kept.1 so.1 left.1),
       else_more (flags_of self.slots.items) (flags_of self'.slots.items) c.args.pass.now was now one.taken.1.1 i.7 one.others,
+      one.aside.0 ∙ i.8,
+      one.aside.1,
     )

@@ -13,7 +13,7 @@ sweep-requires g c =
     let self = c.args.self.now in let n = c.args.n in let items = self.slots.items in let numbers = c.requires.taken in let slot = c.in-Some.slot in
     let is = get_or_default items n None c.index_mut.result.now numbers.2 ∙ sym c.index_mut.ensures.value ∙ sym c.take.ensures.value ∙ c.in-Some.is in
     let at = numbers.0.slots n slot is in
-    (omega arith, (((subst (λ name. IsOfList name slot) numbers.1 at.its, at.used numbers.2), at.inactive), (c.requires.pass, (c.requires.ender, c.requires.size))))
+    (omega arith, (((subst (λ name. IsOfList name slot) numbers.1 at.its, at.used numbers.2), at.inactive), (c.requires.pass, (c.requires.ender, c.requires.queue))))
 
 pub returns-in-Some-clause-taken : goal.returns-in-Some-clause-taken
 returns-in-Some-clause-taken g c =

@@ -16,7 +16,7 @@ use Rattle.seize_parts.proofs.Placed.{still_for}
 use Rattle.seize_parts.proofs.Recovered.{else_fewer, used_before}
 use Rattle.seize_parts.proofs.Swept.{keeps_then, still_sole, else_then}
 use Rattle.seize_parts.proofs.InUse.{AreAllHere, all_here, all_unused, flags_length, here_all, taken_still, unused_all}
-use Rattle.seize_parts.proofs.numbers.Numbers.sweep.Goals as goal
+use Rattle.seize_parts.proofs.numbers.Numbers.sweep_in_turn.Goals as goal
 
 pub take_all-requires : goal.take_all-requires
 take_all-requires g c =
@@ -34,7 +34,7 @@ recover_all-requires g c =
       omega arith,
       (
         (take.taken.0, ap (λ seen. seen.name) take.taken.1.0 ∙ c.requires.numbers.1),
-        ((still_for c.args.words.now p0 p1 (still_for c.args.words.now p p0 c.requires.pass.0 same0) take.off.0.0, still_sole p0 p1 take.off.0.0 (still_sole p p0 same0 c.requires.pass.1)), c.requires.ender),
+        ((still_for c.args.words.now p0 p1 (still_for c.args.words.now p p0 c.requires.pass.0 same0) take.off.0.0, still_sole p0 p1 take.off.0.0 (still_sole p p0 same0 c.requires.pass.1)), (c.requires.ender, c.requires.queue)),
       ),
     )
 
@@ -47,7 +47,7 @@ sweep_all-requires g c =
       omega arith,
       (
         (taken_still (length found.slots.items) found _ find.taken.0 look.looks.1.0 look.used.1 refl refl refl, ap (λ seen. seen.name) (find.taken.1.0 ∙ take.taken.1.0) ∙ c.requires.numbers.1),
-        ((still_for words p1 p2 for1 look.looks.0.same, still_sole p1 p2 look.looks.0.same sole1), (c.requires.ender, c.requires.size)),
+        ((still_for words p1 p2 for1 look.looks.0.same, still_sole p1 p2 look.looks.0.same sole1), (c.requires.ender, find.aside.1)),
       ),
     )
 
