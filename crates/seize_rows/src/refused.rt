@@ -124,8 +124,8 @@ fn is_refused(alloc: Global) -> bool {
     first.is_err() && second.is_err()
 }
 
-// Gives the sign, and takes the collector over. Where memory is refused, the collector comes back. After a second sign 7 is retired too,
-// and the collector is taken over. It gives the digits that wait, as they end.
+// Gives the sign, and takes the collector over. Where memory is refused, the collector comes back. After a second sign 7 is retired
+// too, and the collector is taken over. It gives the digits that wait, as they end.
 fn take_over<'a>(
     rt: &(impl Wait + Abort),
     alloc: Global,

@@ -108,8 +108,8 @@ pub fn take_out(alone: &mut Alone<u64>, slot: usize) -> Result<Option<u64>, Refu
     }
 }
 
-/// In the list of all events no value was reclaimed twice; each that was reclaimed was retired before, and each slot that was active at that
-/// moment has left or refreshed since.
+/// In the list of all events no value was reclaimed twice; each that was reclaimed was retired before, and each slot that was active
+/// at that moment has left or refreshed since.
 pub fn audit(alone: &mut Alone<u64>)
     ensures same { alone.new ≡ alone.old }
     ensures once { AtMostOnce (opening_in alone.old) (moments_in alone.old) }

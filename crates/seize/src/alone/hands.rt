@@ -9,7 +9,8 @@ ghost use Rattle.seize.specs.States.{state_coded};
 use seize_words::book::Porter;
 use std::marker::{Brand, Model, PhantomData};
 
-/// What holds of a state, of names, of kinds and of what links hold. A caller passes `Brand`, and its proof picks it, by what `Hands::of` is given.
+/// What holds of a state, of names, of kinds and of what links hold. A caller passes `Brand`, and its proof picks it, by what `Hands::of`
+/// is given.
 pub(crate) trait Holding<T> {
     ghost are: { State T ℕ → List (ℕ × T) → List (ℕ × ℕ) → List (Option ℕ) → Type 0 };
 }

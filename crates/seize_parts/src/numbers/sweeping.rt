@@ -1,6 +1,6 @@
 //! What is done with the slots that nobody has, where nobody shares the collector. Each takes its number again, enters, attempts its batch
-//! at any length, and leaves; then the numbers go back. What the reclaimer puts waits in a queue meanwhile, and goes in the end. The pass is
-//! alone, so no call waits, and each returns.
+//! at any length, and leaves; then the numbers go back. What the reclaimer puts waits in a queue meanwhile, and goes in the end. The pass
+//! is alone, so no call waits, and each returns.
 ghost use Rattle.std.specs.Prelude.{◌≡◌, ◌<◌, ◌+◌, None, get_or, is_some, length, true};
 ghost use Rattle.std.specs.List.{list_all};
 ghost use Rattle.seize_book.specs.Tokens.{IsSole};
