@@ -71,15 +71,16 @@ module _ {T R : Type 0} {code : T → Gv} {words : Words T} {porter : Porter} {n
   lends_again = (sym stay.again.0.0 ∙ stay.same.0 ∙ stay.shut.book.0 ∙ a.lends.0, sym stay.again.0.1 ∙ stay.same.2 ∙ stay.shut.book.1 ∙ a.lends.1, stay.again.2)
 
   pub alone_again : (hands' : Hands T) (places' : List (Option (Place T))) (made' : ℕ) → made' ≡ length hands'.state.slots → hands'.state.size ≡ hands.state.size → hands'.state.links ≡ hands.state.links
-      → ArePlaces (words_book words) hands'.state places' → Holds code hands'.state hands'.names hands'.kinds porter'.name porter'.seen → IsAlone code words porter' numbers places' made' ender hands'
-  alone_again hands' places' made' counted size links placed holds = record {
+      → ArePlaces (words_book words) hands'.state places' → Holds code hands'.state hands'.names hands'.kinds porter'.name porter'.seen → hands'.held ≡ hands.held → IsAlone code words porter' numbers places' made' ender hands'
+  alone_again hands' places' made' counted size links placed holds held = record {
     lends = lends_again;
     numbered = a.numbered;
     ends = a.ends;
     counted = counted;
     sized = size ∙ a.sized;
     linked = ap length links ∙ a.linked;
-    stand = subst (LinksHold code words.links) (sym links) a.stand;
+    named = ap length held ∙ a.named;
+    stand = subst (λ (t : List (Option ℕ) × List (Option T)). LinksHold code words.links t.0 t.1) (λ j. (sym held j, sym links j)) a.stand;
     placed = placed;
     holds = holds;
   }
@@ -98,15 +99,16 @@ some_guards n some = grind arith
 -- the invariant, where the porter stayed at home
 pub alone_still : {T R : Type 0} {code : T → Gv} {words : Words T} {porter : Porter} {numbers : ℕ} {places : List (Option (Place T))} {made : ℕ} {ender : Ender T R} {hands : Hands T} → IsAlone code words porter numbers places made ender hands
     → (hands' : Hands T) (places' : List (Option (Place T))) → length hands'.state.slots ≡ length hands.state.slots → hands'.state.size ≡ hands.state.size → hands'.state.links ≡ hands.state.links
-    → ArePlaces (words_book words) hands'.state places' → Holds code hands'.state hands'.names hands'.kinds porter.name porter.seen → IsAlone code words porter numbers places' made ender hands'
-alone_still {code = code} {words = words} a hands' places' slots size links placed holds = record {
+    → ArePlaces (words_book words) hands'.state places' → Holds code hands'.state hands'.names hands'.kinds porter.name porter.seen → hands'.held ≡ hands.held → IsAlone code words porter numbers places' made ender hands'
+alone_still {T} {code = code} {words = words} a hands' places' slots size links placed holds held = record {
   lends = a.lends;
   numbered = a.numbered;
   ends = a.ends;
   counted = a.counted ∙ sym slots;
   sized = size ∙ a.sized;
   linked = ap length links ∙ a.linked;
-  stand = subst (LinksHold code words.links) (sym links) a.stand;
+  named = ap length held ∙ a.named;
+  stand = subst (λ (t : List (Option ℕ) × List (Option T)). LinksHold code words.links t.0 t.1) (λ j. (sym held j, sym links j)) a.stand;
   placed = placed;
   holds = holds;
 }
@@ -126,6 +128,7 @@ module _ {T R : Type 0} {code : T → Gv} {words : Words T} {porter porter' : Po
     counted = a.counted;
     sized = a.sized;
     linked = a.linked;
+    named = a.named;
     stand = a.stand;
     placed = a.placed;
     holds = subst (λ (t : Name × List Entry). Holds code hands.state hands.names hands.kinds t.0 t.1) (λ j. (sym home.book.0 j, sym seen_still j)) a.holds;

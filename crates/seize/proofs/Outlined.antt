@@ -42,8 +42,8 @@ laid_again {U} n st now s items place same are used lies is =
 module _ {T R : Type 0} {code : T → Gv} {words : Words T} {porter : Porter} {numbers : ℕ} {places : List (Option (Place T))} {made : ℕ} {ender : Ender T R} {hands : Hands T} (a : IsAlone code words porter numbers places made ender hands)
     {gave : Pass → Pass → Type 0} {porter' : Porter} (stay : HadStay gave porter porter') where
   pub outlined_again : (now : State T ℕ) (hands' : Hands T) (places' : List (Option (Place T))) → hands'.state ≡ now → outline now ≡ outline hands.state → now.links ≡ hands.state.links → now.size ≡ hands.state.size
-      → ArePlaces (words_book words) now places' → Holds code hands'.state hands'.names hands'.kinds porter'.name porter'.seen → IsAlone code words porter' numbers places' made ender hands'
-  outlined_again now hands' places' is same links size placed holds =
+      → ArePlaces (words_book words) now places' → Holds code hands'.state hands'.names hands'.kinds porter'.name porter'.seen → hands'.held ≡ hands.held → IsAlone code words porter' numbers places' made ender hands'
+  outlined_again now hands' places' is same links size placed holds held =
       alone_again a stay hands' places' made (a.counted ∙ sym (slots_in now hands.state same) ∙ ap (λ (x : State T ℕ). length x.slots) (sym is))
       (ap (λ (x : State T ℕ). x.size) is ∙ size) (ap (λ (x : State T ℕ). x.links) is ∙ links)
-      (λ s. placed s ∙ ap (λ (x : State T ℕ). lies_for (words_book words) (slot_at x s) s) (sym is)) holds
+      (λ s. placed s ∙ ap (λ (x : State T ℕ). lies_for (words_book words) (slot_at x s) s) (sym is)) holds held

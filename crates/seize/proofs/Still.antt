@@ -1,9 +1,10 @@
 -- Links that stand still: what they hold is what the state says, at the beginning and after an exchange.
-use Rattle.std.proofs.Common.{◌≡◌, ℕ, ◌==◌, ◌<◌, Bool, true, false, List, length, Option, None, refl, sym, ap, subst, ◌∙◌}
+use Rattle.std.proofs.Common.{◌≡◌, ℕ, zero, suc, ◌+◌, ◌==◌, ◌<◌, Bool, true, false, List, [], ◌∷◌, length, get_or, slice_set, Option, None, refl, sym, ap, subst, ◌∙◌, arith}
 use Rattle.std.proofs.lemmas.Bool.{false≢true}
-use Rattle.std.proofs.lemmas.List.{get_or-set_other}
+use Rattle.std.proofs.lemmas.List.{get_or-set_other, get_or-set_same}
 use base.Stored.{Coded, Gv}
 use Rattle.seize_machine.proofs.Facts.{eq_true}
+use Rattle.seize_machine.specs.Machine.State as machine
 use Rattle.seize_machine.specs.Machine.State.{link_at as held_at}
 use Rattle.seize_model.specs.Waiting.Calls.{link_at}
 use Rattle.seize_model.specs.Waiting.State.{State}
@@ -15,6 +16,7 @@ use Rattle.seize_book.specs.declared.book.pass.Pass.{Pass}
 use Rattle.seize_book.specs.declared.book.porter.Porter.{Porter}
 use Rattle.seize_book.specs.declared.book.seen.Seen.{Seen}
 use Rattle.seize_words.specs.Joined.{words_book}
+use Rattle.seize_words.specs.Named.{link_count}
 use Rattle.seize_words.specs.Rows.{AllStand, IsSameBut, StandsAt}
 use Rattle.seize_words.specs.declared.blocks.Blocks.{Blocks}
 use Rattle.seize_words.specs.declared.link.row.Links.{Links}
@@ -35,32 +37,56 @@ use Rattle.seize_parts.specs.declared.ender.Ender.{Ender}
 pub holds_so : {T : Type 0} {code : T → Gv} {st : State T ℕ} {names : List (ℕ × T)} {kinds : List (ℕ × ℕ)} (porter porter' : Porter) → StaysHome porter porter' → Holds code st names kinds porter.name porter.seen → Holds code st names kinds porter'.name porter'.seen
 holds_so {code = code} {st} {names} {kinds} porter porter' same holds = subst (λ (t : Name × List Entry). Holds code st names kinds t.0 t.1) (λ j. (sym same.0 j, sym same.2 j)) holds
 
+-- what links hold by name, from link l on
+abbrev pub names_from : machine.State → ℕ → ℕ → List (Option ℕ)
+names_from ms l zero = []
+names_from ms l (suc n) = held_at ms l ∷ names_from ms (l + 1) n
+
+pub names_many : (ms : machine.State) (l n : ℕ) → length (names_from ms l n) ≡ n
+names_many ms l zero = refl
+names_many ms l (suc n) = ap suc (names_many ms (l + 1) n)
+
+names_there : (ms : machine.State) (l n i : ℕ) → i < n → get_or (names_from ms l n) i None ≡ held_at ms (l + i)
+names_there ms l zero i less = absurd (omega (arith, less))
+names_there ms l (suc n) zero less = let same : l ≡ l + 0 = omega arith in ap (λ (k : ℕ). held_at ms k) same
+names_there ms l (suc n) (suc i) less = let same : (l + 1) + i ≡ l + suc i = omega arith in names_there ms (l + 1) n i (omega (arith, less)) ∙ ap (λ (k : ℕ). held_at ms k) same
+
 -- all of them, once they were put to rest
-pub stand_first : {T : Type 0} (c : Coded T) (links : Links) (porter : Porter) (st : State T ℕ) (names : List (ℕ × T)) (kinds : List (ℕ × ℕ)) → AllStand links (state_at porter) → Holds c.code st names kinds porter.name porter.seen → LinksHold c.code links st.links
-stand_first c links porter st names kinds stand holds l less = (held_at (state_at porter) l, stand l, link_held c st names kinds porter.name porter.seen l holds)
+pub stand_first : {T : Type 0} (c : Coded T) (links : Links) (porter : Porter) (st : State T ℕ) (names : List (ℕ × T)) (kinds : List (ℕ × ℕ)) (held : List (Option ℕ)) → AllStand links (state_at porter) → Holds c.code st names kinds porter.name porter.seen
+    → held ≡ names_from (state_at porter) 0 (link_count links) → LinksHold c.code links held st.links
+stand_first c links porter st names kinds held stand holds are l less =
+    let is : held_at (state_at porter) l ≡ get_or held l None = sym (ap (λ (os : List (Option ℕ)). get_or os l None) are ∙ names_there (state_at porter) 0 (link_count links) l less ∙ zero_on l) in
+    subst (λ (o : Option ℕ). StandsAt links l o × IsHeldAs c.code o (link_at st l)) is (stand l, link_held c st names kinds porter.name porter.seen l holds)
+  where
+    zero_on : (k : ℕ) → held_at (state_at porter) (0 + k) ≡ held_at (state_at porter) k
+    zero_on k = let same : 0 + k ≡ k = omega arith in ap (λ (i : ℕ). held_at (state_at porter) i) same
 
 -- one was exchanged
-module _ {T : Type 0} (code : T → Gv) (links mid links' : Links) (st : State T ℕ) (link : ℕ) (new : Option T) (held : Option ℕ) (stirred : IsSameBut link links mid) (rested : IsSameBut link mid links') (stands : StandsAt links' link held)
-    (is : IsHeldAs code held (link_at (with_link st link new) link)) (are : LinksHold code links st.links) where
+module _ {T : Type 0} (code : T → Gv) (links mid links' : Links) (st : State T ℕ) (names : List (Option ℕ)) (link : ℕ) (new : Option T) (held : Option ℕ) (stirred : IsSameBut link links mid) (rested : IsSameBut link mid links') (stands : StandsAt links' link held)
+    (is : IsHeldAs code held (link_at (with_link st link new) link)) (below : link < length names) (are : LinksHold code links names st.links) where
   abbrev now : State T ℕ
   now = with_link st link new
 
-  at : (b : Bool) (l : ℕ) → (l == link) ≡ b → l < length links'.book.name.links → (o : Option ℕ) × StandsAt links' l o × IsHeldAs code o (link_at now l)
-  at true l e less = subst (λ (k : ℕ). (o : Option ℕ) × StandsAt links' k o × IsHeldAs code o (link_at now k)) (sym (eq_true l link e)) (held, stands, is)
+  abbrev Held : ℕ → Option ℕ → Type 0
+  Held l o = StandsAt links' l o × IsHeldAs code o (link_at now l)
+
+  at : (b : Bool) (l : ℕ) → (l == link) ≡ b → l < link_count links' → Held l (get_or (slice_set names link held) l None)
+  at true l e less = subst (λ (k : ℕ). Held k (get_or (slice_set names link held) k None)) (sym (eq_true l link e)) (subst (Held link) (sym (get_or-set_same names link held None below)) (stands, is))
   at false l e less =
       let other : ¬ (l ≡ link) = λ same. false≢true (sym e ∙ equal l link same) in
-      let was = are l (subst (λ (b : Seen). l < length b.name.links) (rested.0 ∙ stirred.0) less) in
-      (was.0, rested.1 l was.0 other (stirred.1 l was.0 other was.1), subst (λ (x : Option T). IsHeldAs code was.0 x) (sym (get_or-set_other st.links link l new None other)) was.2)
+      let was = are l (subst (λ (b : Seen). l < length b.name.links) (rested.0 ∙ stirred.0) less) in let o = get_or names l None in
+      subst (Held l) (sym (get_or-set_other names link l held None other))
+      (rested.1 l o other (stirred.1 l o other was.0), subst (λ (x : Option T). IsHeldAs code o x) (sym (get_or-set_other st.links link l new None other)) was.1)
 
-  pub stand_swapped : LinksHold code links' now.links
+  pub stand_swapped : LinksHold code links' (slice_set names link held) now.links
   stand_swapped l less = at (l == link) l refl less
 
 -- The invariant after an exchange.
 pub alone_swapped : {T R : Type 0} {code : T → Gv} {words : Words T} {porter : Porter} {numbers : ℕ} {places : List (Option (Place T))} {made : ℕ} {ender : Ender T R} {hands : Hands T} → IsAlone code words porter numbers places made ender hands
     → {gave : Pass → Pass → Type 0} {porter' porter'' : Porter} → HadStay gave porter porter' → StaysHome porter' porter'' → (words' : Words T) → words'.blocks ≡ words.blocks → words'.size ≡ words.size → (hands' : Hands T)
-    → length hands'.state.slots ≡ length hands.state.slots → hands'.state.size ≡ hands.state.size → length hands'.state.links ≡ length hands.state.links → LinksHold code words'.links hands'.state.links → ArePlaces (words_book words) hands'.state places
+    → length hands'.state.slots ≡ length hands.state.slots → hands'.state.size ≡ hands.state.size → length hands'.state.links ≡ length hands.state.links → length hands'.held ≡ length hands.held → LinksHold code words'.links hands'.held hands'.state.links → ArePlaces (words_book words) hands'.state places
     → Holds code hands'.state hands'.names hands'.kinds porter''.name porter''.seen → IsAlone code words' porter'' numbers places made ender hands'
-alone_swapped {T} {R} {words = words} {places = places} {ender = ender} a stay same words' blocks size hands' slots sized links stand placed holds =
+alone_swapped {T} {R} {words = words} {places = places} {ender = ender} a stay same words' blocks size hands' slots sized links named stand placed holds =
     let book : words_book words' ≡ words_book words = ap (λ (b : Blocks T). b.book.name) blocks in
     record {
       lends = (same.0 ∙ sym stay.again.0.0 ∙ stay.same.0 ∙ stay.shut.book.0 ∙ a.lends.0 ∙ sym book, same.1 ∙ sym stay.again.0.1 ∙ stay.same.2 ∙ stay.shut.book.1 ∙ a.lends.1 ∙ sym size, same.3);
@@ -69,6 +95,7 @@ alone_swapped {T} {R} {words = words} {places = places} {ender = ender} a stay s
       counted = a.counted ∙ sym slots;
       sized = sized ∙ a.sized ∙ sym size;
       linked = links ∙ a.linked ∙ ap (λ (n : Name). length n.links) (sym book);
+      named = named ∙ a.named ∙ ap (λ (n : Name). length n.links) (sym book);
       stand = stand;
       placed = subst (λ (n : Name). ArePlaces n hands'.state places) (sym book) placed;
       holds = holds;

@@ -1,5 +1,6 @@
 -- What contracts see of what links hold, and of what came out of them. `code` is the code of the collector's element type.
 --     shared_name shared        what the list calls the value that was found;  shared_value shared     the value
+--     name_of found             what the list calls what was found, if there is anything
 --     shared_book shared        the list of its collector;  IsSharedOf c shared     it is of this collector
 --     shared_block shared       which block it is: the list of its collector, and the word that a link shows for it
 --     ShowsIn n code held shared     what was found is what the link held, a block of the collector of list n with that value; or there is
@@ -25,6 +26,10 @@ use Rattle.seize_parts.specs.Blocks.{HasContent}
 
 abbrev pub shared_name : {T : Type 0} → Shared T → Option ℕ
 shared_name shared = shared.glimpse.value
+
+abbrev pub name_of : {T : Type 0} → Option (Shared T) → Option ℕ
+name_of (Some shared) = shared_name shared
+name_of None = None
 
 abbrev pub shared_value : {T : Type 0} → Shared T → T
 shared_value shared = shared.value.now

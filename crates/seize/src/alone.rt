@@ -64,6 +64,7 @@ impl<T: Drop + Codes, R: Reclaim<T>> Model for Alone<T, R> {
       id = a.id;
       links = length (words_book a.words).links;
       state = a.hands.state;
+      held = a.hands.held;
       seen = a.porter.seen;
     } };
 
@@ -71,13 +72,11 @@ impl<T: Drop + Codes, R: Reclaim<T>> Model for Alone<T, R> {
 }
 
 impl<T: Drop, R: Reclaim<T>> Alone<T, R> {
-    ghost use Rattle.std.specs.Prelude.{◌≡◌, ◌<◌, ◌≤◌, length, true, None, Some, IfErr, IfOk, false, if◌then◌else◌};
+    ghost use Rattle.std.specs.Prelude.{◌≡◌, ◌<◌, ◌≤◌, ◌≢◌, length, true, None, Ok, OnErr, Some, IfErr, IfOk, false, if◌then◌else◌};
     ghost use Rattle.seize_model.specs.Waiting.Calls as calls;
     ghost use Rattle.seize_model.specs.Waiting.State.{has_guard, slot_at};
     ghost use Rattle.seize_model.specs.declared.kind.Kind.TheVariants.{Owned as owned_slot, Registered as registered};
-    ghost use Rattle.seize_book.specs.Book.{moments};
-    ghost use Rattle.seize_book.specs.Tokens.{start};
-    ghost use Rattle.seize.specs.Alones.{AsListed, IsSame, ListGrows};
+    ghost use Rattle.seize.specs.Alones.{AsListed, IsLinkedSame, ListGrows, moments_in, opening_in};
     ghost use Rattle.seize_parts.specs.Kinds.{kind_of};
     ghost use Rattle.seize_parts.specs.Laws.{LawsOf};
     ghost use Rattle.seize_parts.specs.Told.{Grew, Said};
@@ -105,7 +104,7 @@ impl<T: Drop, R: Reclaim<T>> Alone<T, R> {
     pub fn laws(&mut self)
         ensures same { self.new ≡ self.old }
         ensures listed { AsListed T.row.coded.code self.old }
-        ensures laws { LawsOf (start self.old.book) (moments (start self.old.book) self.old.seen) }
+        ensures laws { LawsOf (opening_in self.old) (moments_in self.old) }
     {
         machine::laws();
         self.porter.come_home();
@@ -151,8 +150,9 @@ impl<T: Drop, R: Reclaim<T>> Alone<T, R> {
     // The least number that is not in use is taken, for a slot of this kind without a guard.
     fn take(&mut self, owned: bool) -> Result<usize, Refusal>
         ensures done { Grew (calls.take_number self.old.state (kind_of owned) 0) result self.old.state self.new.state }
-        ensures same { IsSame self.old self.new }
+        ensures same { IsLinkedSame self.old self.new }
         ensures grows { ListGrows self.old self.new }
+        ensures unchanged { OnErr result (self.new ≡ self.old) }
     {
         room(&mut self.places, self.made + 1)?;
         let mut taking = Taking {
@@ -182,7 +182,7 @@ impl<T: Drop, R: Reclaim<T>> Alone<T, R> {
     fn begin(&mut self, s: usize)
         requires { let slot = slot_at self.old.state s in (calls.is_free slot.kind ≡ false) × (has_guard slot ≡ false) }
         ensures done { self.new.state ≡ calls.set_guards self.old.state s 1 }
-        ensures same { IsSame self.old self.new }
+        ensures same { IsLinkedSame self.old self.new }
         ensures grows { ListGrows self.old self.new }
     {
         held(&mut self.places[s]).begin(&self.words, &mut self.porter);
@@ -193,7 +193,7 @@ impl<T: Drop, R: Reclaim<T>> Alone<T, R> {
     fn count(&mut self, s: usize, guards: u64)
         requires { let slot = slot_at self.old.state s in (slot.kind ≡ registered) × (has_guard slot ≡ true) × (0 < guards) }
         ensures done { self.new.state ≡ calls.set_guards self.old.state s guards }
-        ensures same { IsSame self.old self.new }
+        ensures same { IsLinkedSame self.old self.new }
         ensures grows { ListGrows self.old self.new }
     {
         held(&mut self.places[s]).guards = guards;
@@ -204,7 +204,7 @@ impl<T: Drop, R: Reclaim<T>> Alone<T, R> {
     fn free(&mut self, s: usize)
         requires { let slot = slot_at self.old.state s in (calls.is_free slot.kind ≡ false) × (has_guard slot ≡ false) }
         ensures done { self.new.state ≡ calls.with_number_free self.old.state s }
-        ensures same { IsSame self.old self.new }
+        ensures same { IsLinkedSame self.old self.new }
         ensures grows { ListGrows self.old self.new }
     {
         let place = out(&mut self.places, s);
@@ -227,8 +227,9 @@ impl<T: Drop, R: Reclaim<T>> Alone<T, R> {
     /// before all 2^64 - 32 numbers are in use. That no clause says.
     pub fn register(&mut self) -> Result<usize, Refusal>
         ensures done { Grew (calls.take_number self.old.state registered 0) result self.old.state self.new.state }
-        ensures same { IsSame self.old self.new }
+        ensures same { IsLinkedSame self.old self.new }
         ensures grows { ListGrows self.old self.new }
+        ensures unchanged { OnErr result (self.new ≡ self.old) }
     {
         self.take(false)
     }
@@ -240,8 +241,9 @@ impl<T: Drop, R: Reclaim<T>> Alone<T, R> {
     /// As `register`.
     pub fn enter_owned(&mut self) -> Result<usize, Refusal>
         ensures done { Grew (calls.take_number self.old.state owned_slot 1) result self.old.state self.new.state }
-        ensures same { IsSame self.old self.new }
+        ensures same { IsLinkedSame self.old self.new }
         ensures grows { ListGrows self.old self.new }
+        ensures unchanged { OnErr result (self.new ≡ self.old) }
     {
         let number = self.take(true)?;
         self.begin(number);
@@ -255,8 +257,9 @@ impl<T: Drop, R: Reclaim<T>> Alone<T, R> {
     /// In this order: `NotInUse`, `WrongKind` of an owned slot, and `TooManyGuards` where it has 2^64 - 1.
     pub fn enter(&mut self, s: usize) -> Result<(), Refusal>
         ensures done { Said (calls.enter self.old.state s) result self.new.state }
-        ensures same { IsSame self.old self.new }
+        ensures same { IsLinkedSame self.old self.new }
         ensures grows { ListGrows self.old self.new }
+        ensures unchanged { OnErr result (self.new ≡ self.old) }
     {
         let guards = self.registered(s)?;
         if guards == u64::MAX {
@@ -278,8 +281,9 @@ impl<T: Drop, R: Reclaim<T>> Alone<T, R> {
     /// In this order: `NotInUse`, `WrongKind` of an owned slot.
     pub fn end(&mut self, s: usize) -> Result<bool, Refusal>
         ensures done { Said (calls.end_slot self.old.state s) result self.new.state }
-        ensures same { IsSame self.old self.new }
+        ensures same { IsLinkedSame self.old self.new }
         ensures grows { ListGrows self.old self.new }
+        ensures unchanged { result ≢ Ok true → self.new ≡ self.old }
     {
         if self.registered(s)? > 0 {
             return Ok(false);

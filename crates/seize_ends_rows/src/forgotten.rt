@@ -92,6 +92,36 @@ fn what_waits_for_a_forgotten_owned_guard_ends(rt: HostRuntime) -> Result<(), Fa
     Ok(())
 }
 
+// A registration retires 5, and is forgotten. It gives its number.
+fn forget_one<'a>(
+    rt: &impl Wait,
+    collector: &Telling<'a>,
+    told: &'a AtomicU64,
+) -> Result<usize, Refusal> {
+    let mut pass = collector.pass();
+    let registration = collector.register(rt, &mut pass)?;
+    retire(rt, collector, &registration, 5..6, told, &mut pass);
+    let number = registration.thread_id();
+    registration.forget();
+    Ok(number)
+}
+
+// The batch is too short to be attempted. Its value ends when all is reclaimed, and only then the number goes back.
+#[test]
+fn what_a_forgotten_registration_retired_ends(rt: HostRuntime) -> Result<(), Fail> {
+    let told = AtomicU64::new(0);
+    let mut collector = telling(rt.alloc(), 4)?;
+    assert_eq!(rt; forget_one(&rt, &collector, &told)?, 0);
+    assert_eq!(rt; register(&rt, &collector)?, (1, true));
+    assert_eq!(rt; told.load(Ordering::SeqCst), 0);
+    assert!(rt; collector.reclaim_all(&mut ()));
+    assert_eq!(rt; told.load(Ordering::SeqCst), 5);
+    assert_eq!(rt; register(&rt, &collector)?, (0, true));
+    drop(collector);
+    assert_eq!(rt; told.load(Ordering::SeqCst), 5);
+    Ok(())
+}
+
 // One registration retires a value under a guard, and another one retires three. All are forgotten.
 fn forget_both<'a>(
     rt: &impl Wait,

@@ -1,9 +1,13 @@
 -- Which numbers are in use, by the slots that nobody has; and that the numbers behind the lock stay as they are to be.
-use Rattle.std.proofs.Common.{◌≡◌, ℕ, zero, suc, ◌+◌, ◌<◌, ◌≤◌, Bool, true, false, not, cond, nat_lt, List, [], ◌∷◌, ◌++◌, length, Option, Some, None, is_some, get_or, slice_set, refl, sym, ap, subst, ◌∙◌, arith}
+use Rattle.std.proofs.Common.{◌≡◌, ◌⊎◌, inl, inr, ℕ, zero, suc, ◌+◌, ◌<◌, ◌≤◌, Bool, true, false, not, cond, nat_lt, List, [], ◌∷◌, ◌++◌, length, Option, Some, None, is_some, get_or, slice_set, refl, sym, ap, subst, ◌∙◌, arith}
 use Rattle.std.specs.List.{position, position_or_len}
 use Rattle.std.specs.Option.{is_none}
 use Rattle.std.proofs.lemmas.List.{length-map, length-set, length_push, map-set}
 use Rattle.std.proofs.lemmas.List.Quantifiers.{position-Some}
+use Rattle.std.proofs.lemmas.Bool.{cases_lt}
+use Rattle.std.proofs.lemmas.List.{get_or-set_other, get_or-set_same, get_or_past}
+use Rattle.std.proofs.lemmas.List.Sums.{fails_before_first, position_or_len_is}
+use native.Mathlib.Decide.{ℕ_discrete}
 use Rattle.std.proofs.lemmas.List.Sums.{prefix_len-le-length}
 use Rattle.seize_table.specs.Place.{all_numbers}
 use Rattle.seize_book.specs.Book.{after}
@@ -24,7 +28,7 @@ use Rattle.seize_words.specs.declared.words.Words.{Words}
 use Rattle.seize_calls.specs.Slots.{IsFreeSlotOf, IsOfList, SetsUse, SlotGives, its_key, its_number}
 use Rattle.seize_calls.specs.declared.slot.Slot.{Slot}
 use Rattle.seize_calls.proofs.Slots.{may_take_slot}
-use Rattle.seize_parts.specs.Numbers.{AreNumbers, AreTaken, IsNextSlotOf, IsTakenAt, flags_of}
+use Rattle.seize_parts.specs.Numbers.{AreNumbers, AreTaken, IsNextSlotOf, IsTakenAt, NoneBelow, flags_of}
 use Rattle.seize_parts.specs.declared.numbers.Numbers.{Numbers}
 
 -- Places of a list where something may be.
@@ -47,6 +51,31 @@ module _ {X : Type 0} where
 
   pub first_some : (slots : List (Option X)) (n : ℕ) → position is_some slots ≡ Some n → is_some (get_or slots n None) ≡ true
   first_some slots n found = (position-Some is_some slots n None found).1
+
+  -- none lies before the first, and where none is found, none lies anywhere
+  pub none_before : (slots : List (Option X)) (n : ℕ) → position is_some slots ≡ Some n → NoneBelow n slots
+  none_before slots n found = (position-Some is_some slots n None found).2
+
+  -- the first one that is met in a search from where none lies before
+  pub first_met : (slots : List (Option X)) (n : ℕ) → NoneBelow n slots → n < length slots → is_some (get_or slots n None) ≡ true → position is_some slots ≡ Some n
+  first_met slots n none below some =
+      let is = position_or_len_is is_some slots n None (omega (arith, below)) none (λ _. some) in
+      subst (λ (k : ℕ). cond (nat_lt k (length slots)) (Some k) None ≡ Some n) (sym is) (ap (λ (b : Bool). cond b (Some n) None) (lt_true n (length slots) below))
+    where
+      lt_true : (x y : ℕ) → x < y → nat_lt x y ≡ true
+      lt_true x y less = grind arith
+
+  -- and where none is met
+  pub none_met : (slots : List (Option X)) → NoneBelow (length slots) slots → position is_some slots ≡ None
+  none_met slots none =
+      let is = position_or_len_is is_some slots (length slots) None (omega arith) none (λ less. absurd (omega (arith, less))) in
+      subst (λ (k : ℕ). cond (nat_lt k (length slots)) (Some k) None ≡ None) (sym is) (ap (λ (b : Bool). cond b (Some (length slots)) None) (not_less (length slots)))
+    where
+      not_less : (x : ℕ) → nat_lt x x ≡ false
+      not_less x = grind arith
+
+  pub none_up_to : (slots : List (Option X)) (n : ℕ) → NoneBelow n slots → length slots ≤ n → NoneBelow (length slots) slots
+  none_up_to slots n none past i less = none i (omega (arith, less, past))
 
   -- where none is found, the first is after all
   pub none_free : (slots : List (Option X)) → position is_some slots ≡ None → first_false (flags_of slots) ≡ length slots
@@ -82,6 +111,39 @@ module _ {X : Type 0} where
   at_push [] (suc i) = refl
   at_push (x ∷ slots) zero = refl
   at_push (x ∷ slots) (suc i) = at_push slots i
+
+  -- so none lies up to the first, once nothing lies in its place
+  pub none_taken : (slots : List (Option X)) (n : ℕ) (item : Option X) → position is_some slots ≡ Some n → item ≡ None → NoneBelow (n + 1) (slice_set slots n item)
+  none_taken slots n item found gone i less = go (ℕ_discrete n i)
+    where
+      before : (n ≡ i → ⊥) → (i < n) ⊎ (n ≤ i) → i < n
+      before differs (inl lower) = lower
+      before differs (inr higher) = absurd (differs (omega (arith, less, higher)))
+
+      go : Dec (n ≡ i) → is_some (get_or (slice_set slots n item) i None) ≡ false
+      go (yes same) = subst (λ (k : ℕ). is_some (get_or (slice_set slots n item) k None) ≡ false) same (ap is_some (get_or-set_same slots n item None (first_below slots n found) ∙ gone))
+      go (no differs) = ap is_some (get_or-set_other slots n i item None (λ e. differs (sym e))) ∙ none_before slots n found i (before differs (cases_lt i n))
+
+  -- where none is found, none lies anywhere, also with nothing behind the last
+  pub nowhere : (slots : List (Option X)) → position is_some slots ≡ None → (i : ℕ) → is_some (get_or slots i None) ≡ false
+  nowhere slots none i = go (cases_lt i (length slots))
+    where
+      all : position_or_len is_some slots ≡ length slots
+      all = sym (free_as slots) ∙ none_free slots none
+
+      go : (i < length slots) ⊎ (length slots ≤ i) → is_some (get_or slots i None) ≡ false
+      go (inl less) = fails_before_first is_some slots i None (omega (arith, less, all))
+      go (inr past) = ap is_some (get_or_past slots i None past)
+
+  pub still_none : (slots slots' : List (Option X)) (n : ℕ) → NoneBelow n slots → slots' ≡ slots → NoneBelow n slots'
+  still_none slots slots' n none same = subst (NoneBelow n) (sym same) none
+
+  pub none_pushed : (slots : List (Option X)) (n : ℕ) → position is_some slots ≡ None → NoneBelow n (slots ++ None ∷ [])
+  none_pushed slots n none i less = ap is_some (at_push slots i) ∙ nowhere slots none i
+
+  -- and a slot that is laid in some place
+  pub none_laid : (slots : List (Option X)) (least lower n : ℕ) (item : Option X) → NoneBelow least slots → lower ≤ least → lower ≤ n → NoneBelow lower (slice_set slots n item)
+  none_laid slots least lower n item none below before i less = ap is_some (get_or-set_other slots n i item None (λ same. absurd (omega (arith, less, before, same)))) ∙ none i (omega (arith, less, below))
 
 -- Lists of which nothing is false are the same where they are as long.
 full_as : (us vs : List Bool) → first_false us ≡ length us → first_false vs ≡ length vs → length us ≡ length vs → us ≡ vs

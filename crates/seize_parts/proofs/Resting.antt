@@ -1,5 +1,5 @@
 -- What a pass that is alone knows of the slots that nobody has, when their numbers went back, and the state that one caller then has.
-use Rattle.std.proofs.Common.{◌≡◌, ◌⊎◌, ◌<◌, ◌≤◌, ℕ, zero, suc, Bool, true, false, List, [], ◌∷◌, length, get_or, slice_set, Option, None, Some, is_some, inl, inr, ⊎_elim, refl, sym, ap, subst, ◌∙◌, arith}
+use Rattle.std.proofs.Common.{◌≡◌, ◌⊎◌, ◌<◌, ◌≤◌, ℕ, zero, suc, Bool, true, false, List, [], ◌∷◌, length, get_or, map, slice_set, Option, None, Some, is_some, inl, inr, ⊎_elim, refl, sym, ap, subst, ◌∙◌, arith}
 use Rattle.std.specs.List.{list_all}
 use Rattle.std.specs.Option.{is_none}
 use Rattle.std.proofs.lemmas.List.{length-map}
@@ -152,6 +152,15 @@ left_none {T} pass items none s place is = absurd (nothing (sym (none s) ∙ is)
     nothing : None ≡ Some place → ⊥
     nothing e = cc
 
+-- Where the same numbers are in use, each slot is used as it was.
+flag_at : (slots : List Record) (s : ℕ) → (get_or slots s no_slot).used ≡ get_or (map (λ slot. slot.used) slots) s false
+flag_at [] s = refl
+flag_at (x ∷ slots) zero = refl
+flag_at (x ∷ slots) (suc s) = flag_at slots s
+
+pub used_as : (st st' : State) → used st' ≡ used st → (s : ℕ) → (slot_at st' s).used ≡ (slot_at st s).used
+used_as st st' same s = flag_at st'.slots s ∙ ap (λ (us : List Bool). get_or us s false) same ∙ sym (flag_at st.slots s)
+
 -- Another look changes nothing of that.
 pub come_on : {T : Type 0} (p q r : Pass) (found : Found T) → ComesToRest p q found → LooksOn q r → IsSole q.id → ComesToRest p r found
 come_on p q r found comes looks sole =
@@ -160,6 +169,7 @@ come_on p q r found comes looks sole =
       goes_on = subst (λ (log : List Entry). GoesOnTo p.name p.seen log) (sym (looks.alone sole)) comes.goes_on;
       made = comes.made ∙ ap (λ (st : State). length st.slots) (sym same);
       left = λ s place is. subst (λ (t : Name × State). IsLeftAt t.0 t.1 s place) (λ j. (sym looks.same.0 j, sym same j)) (comes.left s place is);
+      numbers = λ s. ap (λ (st : State). (slot_at st s).used) same ∙ comes.numbers s;
       used = λ all s. subst (λ (st : State). IsUsedAs st s (use_in (get_or found.places.items s None))) (sym same) (comes.used all s);
       kept = λ none unused. comes.kept none (subst (λ (st : State). (s : ℕ) → (slot_at st s).used ≡ false) same unused);
     }

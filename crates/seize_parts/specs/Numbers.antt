@@ -1,6 +1,7 @@
 -- What lies behind the lock of a collector's numbers.
 --     flags_of slots           which numbers are in use: those in whose place there is no slot
 --     flags_to n slots         the same, where the slots of the first n that lie here have taken their numbers
+--     NoneBelow n slots        no slot lies in a place before n;  KnowsLeast numbers     in none before the one where the search begins
 --     IsTakenAt name n i slot  it is number i of the list, inactive, and in use just where i is below n
 --     AreTaken name n slots    so is each of these, in its place
 --     IsNextSlotOf numbers next    the slot that comes next is of the list of the numbers' key, and comes after all that were made
@@ -11,7 +12,7 @@
 --                              the only entry of the list since (MakesAlone). The slot is in use, and inactive
 --     TakesNone pass pass' refusal     no number was taken, for want of memory, and the pass made nothing (IsUnmoved)
 --     IsLockFor words numbers  they are of the list of these words;  MayEnd words slot     the slot is in use, and inactive
-use Rattle.std.specs.Prelude.{◌≡◌, ◌<◌, ◌≤◌, ℕ, suc, zero, Bool, true, map, List, [], ◌∷◌, Option, Some, None, get_or}
+use Rattle.std.specs.Prelude.{◌≡◌, ◌<◌, ◌≤◌, ℕ, suc, zero, Bool, false, true, map, List, [], ◌∷◌, Option, Some, None, get_or, is_some}
 use Rattle.std.specs.Option.{is_none}
 use Rattle.seize_machine.specs.Machine.Event.{Take}
 use Rattle.seize_machine.specs.declared.machine.event.Answer.{Answer}
@@ -43,6 +44,9 @@ flags_to zero slots = flags_of slots
 flags_to (suc n) [] = []
 flags_to (suc n) (o ∷ slots) = true ∷ flags_to n slots
 
+abbrev pub NoneBelow : {X : Type 0} → ℕ → List (Option X) → Type 0
+NoneBelow n slots = (i : ℕ) → i < n → is_some (get_or slots i None) ≡ false
+
 pub record IsTakenAt {T : Type 0} (name : Name) (n i : ℕ) (slot : Slot T) : Type 0 where
   pub its : IsOfList name slot
   pub number : its_number slot ≡ i
@@ -66,6 +70,9 @@ pub record AreTakenTo {T : Type 0} (n : ℕ) (numbers : Numbers T) : Type 0 wher
 
 abbrev pub AreNumbers : {T : Type 0} → Numbers T → Type 0
 AreNumbers numbers = AreTakenTo 0 numbers
+
+abbrev pub KnowsLeast : {T : Type 0} → Numbers T → Type 0
+KnowsLeast numbers = NoneBelow numbers.least numbers.slots.items
 
 pub record HasTaken {T : Type 0} (words : Words T) (pass pass' : Pass) (slot : Slot T) : Type 0 where
   pub its : IsSlotOf words slot

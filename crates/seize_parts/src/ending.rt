@@ -7,7 +7,7 @@ ghost use Rattle.seize_words.specs.Joined.{words_book};
 ghost use Rattle.seize_words.specs.Rows.{AreShared, IsSharedAt};
 ghost use Rattle.seize_parts.specs.Enders.{IsEnderOf};
 ghost use Rattle.seize_calls.specs.Slots.{InActivation, IsInactive, IsPassFor, IsSlotOf, KeepsActivation};
-ghost use Rattle.seize_parts.specs.Numbers.{AreNumbers, IsLockFor};
+ghost use Rattle.seize_parts.specs.Numbers.{AreNumbers, IsLockFor, KnowsLeast};
 
 use crate::ender::Ender;
 use crate::ends::Forwards;
@@ -33,7 +33,7 @@ pub fn end_all<T: Drop, R: Reclaim<T>>(
     numbers: Numbers<T>,
     pass: Pass,
 )
-    requires numbers { AreNumbers numbers × IsLockFor words.now numbers }
+    requires numbers { AreNumbers numbers × KnowsLeast numbers × IsLockFor words.now numbers }
     requires pass { IsPassFor words.now pass × IsSole pass.id }
     requires ender { IsEnderOf words.now ender.now }
     requires shared { AreShared words.now.links }

@@ -1,5 +1,5 @@
 //! The numbers of a collector's slots: which are in use, and the slots of those that are not. They lie behind a lock of the collector.
-ghost use Rattle.std.specs.Prelude.{◌≡◌, IfErr, IfOk, None, Some, is_some};
+ghost use Rattle.std.specs.Prelude.{◌≡◌, ◌≤◌, IfErr, IfOk, None, Some, is_some};
 ghost use Rattle.std.specs.List.{position};
 ghost use Rattle.seize_calls.specs.Slots.{IsPassFor, its_number};
 ghost use Rattle.seize_words.specs.Joined.{words_book};
@@ -37,6 +37,8 @@ pub struct Numbers<T: Drop> {
     next: Option<NextSlot>,
     /// The slots made so far, by their numbers: each whose number is not in use, and none in the place of one that is in use.
     slots: Vec<Option<Slot<T>>>,
+    /// Where the search for the first slot begins: none lies in a place before.
+    least: usize,
     /// The shelves of all slots made so far, and perhaps that of the next one.
     shelves: Shelves<T>,
     /// The list of events.
@@ -45,26 +47,27 @@ pub struct Numbers<T: Drop> {
 }
 
 impl<T: Drop> Steady for Numbers<T> {
-    ghost use Rattle.seize_parts.specs.Numbers.{AreNumbers};
+    ghost use Rattle.seize_parts.specs.Numbers.{AreNumbers, KnowsLeast};
 
     ghost label = { λ numbers. numbers.book.name.family };
 
-    ghost sound = { λ numbers. AreNumbers numbers };
+    ghost sound = { λ numbers. AreNumbers numbers × KnowsLeast numbers };
 }
 
 impl<T: Drop> Numbers<T> {
-    ghost use Rattle.seize_parts.specs.Numbers.{AreNumbers, HasTaken, TakesNone};
+    ghost use Rattle.seize_parts.specs.Numbers.{AreNumbers, HasTaken, KnowsLeast, TakesNone};
 
     /// Those of a new list of events, which has no slot yet.
     pub fn new(alloc: Global, key: NumbersKey, next: NextSlot, book: &Seen) -> Numbers<T>
         requires key { (numbers_book key ≡ book.now.name) × (made_of key ≡ 0) }
         requires next { HasNextSlot key next }
-        ensures { AreNumbers result × (result.book.name ≡ book.now.name) }
+        ensures { AreNumbers result × KnowsLeast result × (result.book.name ≡ book.now.name) }
     {
         Numbers {
             key,
             next: Some(next),
             slots: Vec::new(alloc),
+            least: 0,
             shelves: Shelves::new(alloc, book),
             book: book.again(),
         }
@@ -72,9 +75,15 @@ impl<T: Drop> Numbers<T> {
 
     // The place of the first slot here: the least number that was made and is not in use.
     fn first(&self) -> Option<usize>
+        requires { KnowsLeast self.now }
         ensures { result ≡ position is_some self.now.slots.items }
     {
-        self.slots.iter().position(|slot| slot.is_some())
+        for n in self.least..self.slots.len() {
+            if self.slots[n].is_some() {
+                return Some(n);
+            }
+        }
+        None
     }
 
     // The slot of the least number that is not in use, one that was made before or a new one, and its shelf.
@@ -85,8 +94,9 @@ impl<T: Drop> Numbers<T> {
         pass: &mut Pass,
     ) -> Result<(Slot<T>, Shelf<T>), Refusal>
         requires numbers { AreNumbers self.old × (self.old.book.name ≡ words_book words.now) }
+        requires least { KnowsLeast self.old }
         requires pass { IsPassFor words.now pass.old }
-        ensures numbers { AreNumbers self.new × (self.new.book ≡ self.old.book) }
+        ensures numbers { AreNumbers self.new × (self.new.book ≡ self.old.book) × KnowsLeast self.new }
         ensures made { IfOk result (λ made. HasTaken words.now pass.old pass.new made.0 × IsShelfFor words.now made.1) }
         ensures refused { IfErr result (λ refusal. TakesNone pass.old pass.new refusal) }
     {
@@ -107,13 +117,14 @@ impl<T: Drop> Numbers<T> {
         requires numbers { AreNumbers self.old × (self.old.book.name ≡ words_book words.now) }
         requires pass { IsPassFor words.now pass.old }
         requires first { position is_some self.old.slots.items ≡ Some n }
-        ensures numbers { AreNumbers self.new × (self.new.book ≡ self.old.book) }
+        ensures numbers { AreNumbers self.new × (self.new.book ≡ self.old.book) × KnowsLeast self.new }
         ensures made { HasTaken words.now pass.old pass.new result }
     {
         let Some(mut slot) = self.slots[n].take() else {
             unreachable!()
         };
         slot.take_again(words, &mut self.key, pass);
+        self.least = n + 1;
         slot
     }
 
@@ -123,7 +134,8 @@ impl<T: Drop> Numbers<T> {
         requires numbers { AreNumbers self.old × (self.old.book.name ≡ words_book words.now) }
         requires pass { IsPassFor words.now pass.old }
         requires taken { position is_some self.old.slots.items ≡ None }
-        ensures numbers { AreNumbers self.new × (self.new.book ≡ self.old.book) }
+        requires least { KnowsLeast self.old }
+        ensures numbers { AreNumbers self.new × (self.new.book ≡ self.old.book) × KnowsLeast self.new }
         ensures made { IfOk result (λ slot. HasTaken words.now pass.old pass.new slot) }
         ensures refused { IfErr result (λ refusal. TakesNone pass.old pass.new refusal) }
     {
@@ -138,6 +150,7 @@ impl<T: Drop> Numbers<T> {
             Ok((slot, next)) => {
                 self.next = Some(next);
                 self.slots.push_reserved(None);
+                self.least = self.slots.len();
                 Ok(slot)
             }
             Err((refusal, next)) => {
@@ -150,7 +163,7 @@ impl<T: Drop> Numbers<T> {
 
 impl<T: Drop> Numbers<T> {
     ghost use Rattle.std.specs.Prelude.{IfSome};
-    ghost use Rattle.seize_parts.specs.Numbers.{AreNumbers, IsLockFor};
+    ghost use Rattle.seize_parts.specs.Numbers.{AreNumbers, IsLockFor, KnowsLeast};
     ghost use Rattle.seize_book.specs.Passes.{IsSamePass};
     ghost use Rattle.seize_calls.specs.Slots.{IsInactive, IsSlotOf};
 
@@ -158,7 +171,7 @@ impl<T: Drop> Numbers<T> {
     ///
     /// It takes no memory and waits for nobody.
     pub(crate) fn take_free(&mut self, words: &Words<T>, pass: &mut Pass) -> Option<Slot<T>>
-        requires numbers { AreNumbers self.old × IsLockFor words.now self.old }
+        requires numbers { AreNumbers self.old × IsLockFor words.now self.old × KnowsLeast self.old }
         requires pass { IsPassFor words.now pass.old }
         ensures numbers { AreNumbers self.new × IsLockFor words.now self.new }
         ensures same { IsSamePass pass.old pass.new }
@@ -199,6 +212,13 @@ impl<'a, 'p, T: Drop> LockWork<Numbers<T>, Pass<'p>, Result<(Slot<T>, Shelf<T>),
     }
 }
 
+// The lower of two numbers.
+fn lower(a: usize, b: usize) -> usize
+    ensures { (result ≤ a) × (result ≤ b) }
+{
+    if a < b { a } else { b }
+}
+
 /// A slot goes back: the work at the end of a registration.
 #[derive(Drop)]
 pub struct Ending<'a, T> {
@@ -226,5 +246,6 @@ impl<'a, 'p, T: Drop> LockWork<Numbers<T>, Pass<'p>, ()> for Ending<'a, T> {
         slot.give(words, &mut numbers.key, pass);
         let n = slot.number();
         numbers.slots[n] = Some(slot);
+        numbers.least = lower(numbers.least, n);
     }
 }

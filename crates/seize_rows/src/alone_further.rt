@@ -1,9 +1,11 @@
-//! Further values on a collector in one caller's hands: how far one call goes, in which order values go, and that each goes once.
+//! Further values on a collector in one caller's hands: how far one call goes, in which order values go, and that each goes once. Where a
+//! chain or a wide value was made, a sign is given (`memory`): no call after it asks for memory.
 ghost use Rattle.std.specs.Prelude.{◌≡◌, All, IfOk};
 ghost use Rattle.seize.specs.Alones.{IsSame};
 ghost use Rattle.seize.specs.Blocks.{Belongs, store_name};
 ghost use Rattle.seize_uses.specs.Nests.{owners_of};
 
+use crate::memory::give_sign;
 use crate::nests::{
     AloneNests, Block, Ends, Heard, alone_nests, around, leaf, retire, retire_new, round,
 };
@@ -83,7 +85,7 @@ fn chain(alloc: Global, alone: &mut AloneNests<'_>) -> Result<Block, Refusal>
     Ok(block)
 }
 
-/// A slot without a guard retires such a chain.
+/// Makes such a chain, and gives the sign. A slot without a guard retires the chain.
 pub(crate) fn retire_a_chain(
     rt: &impl Abort,
     alloc: Global,
@@ -92,11 +94,12 @@ pub(crate) fn retire_a_chain(
 ) -> Result<(), Refusal> {
     let s = alone.register()?;
     let first = chain(alloc, alone)?;
+    give_sign(alloc)?;
     retire(rt, alone, s, first, heard);
     Ok(())
 }
 
-// Where nobody is active, all are gone in the call that retires the first.
+// Where nobody is active, all are gone in the call that retires the first, which asks for no memory.
 #[test]
 fn a_long_chain_goes_in_one_call(rt: HostRuntime) -> Result<(), Fail> {
     let ends = Ends::with_room(rt.alloc(), 0)?;
@@ -126,7 +129,7 @@ pub(crate) fn leaves(
     Ok(inside)
 }
 
-// 1 holds the values from 4 on, and a slot without a guard retires it, and then 2 and 3.
+// Makes 1, which holds the values from 4 on, and 2 and 3, and gives the sign. A slot without a guard retires them in order.
 fn retire_a_wide_value(
     rt: &impl Abort,
     alloc: Global,
@@ -136,12 +139,16 @@ fn retire_a_wide_value(
     let s = alone.register()?;
     let inside = leaves(alloc, alone, 4, MANY)?;
     let first = around(alone, 1, inside)?;
+    let second = leaf(alloc, alone, 2)?;
+    let third = leaf(alloc, alone, 3)?;
+    give_sign(alloc)?;
     retire(rt, alone, s, first, heard);
-    retire_new(rt, alloc, alone, s, 2, heard)?;
-    retire_new(rt, alloc, alone, s, 3, heard)
+    retire(rt, alone, s, second, heard);
+    retire(rt, alone, s, third, heard);
+    Ok(())
 }
 
-// At size 3 all but the last are gone in the call that retires 3, and that one ends with the collector.
+// At size 3 all but the last are gone in the call that retires 3, and that one ends with the collector. None asks for memory.
 #[test]
 fn a_wide_value_goes_in_one_call(rt: HostRuntime) -> Result<(), Fail> {
     let ends = Ends::with_room(rt.alloc(), 0)?;

@@ -9,9 +9,9 @@ use std::alloc::{AllocError, Global};
 use std::collections::VecDeque;
 use std::test::*;
 
-// A reply, with a number in the place of the block.
+/// A reply, with a number in the place of the block.
 #[derive(Clone, Copy, Debug, PartialEq, Eq)]
-enum Answer {
+pub(crate) enum Answer {
     Done,
     Slot(usize),
     Kept,
@@ -20,8 +20,8 @@ enum Answer {
     Back(Refusal, u64),
 }
 
-// What the replies say, in order.
-fn answers(alloc: Global, replies: Vec<Reply<Nest>>) -> Result<Vec<Answer>, AllocError> {
+/// What the replies say, in order.
+pub(crate) fn answers(alloc: Global, replies: Vec<Reply<Nest>>) -> Result<Vec<Answer>, AllocError> {
     let mut all = Vec::new(alloc);
     for reply in replies {
         all.push(match reply {

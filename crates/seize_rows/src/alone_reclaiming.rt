@@ -122,7 +122,7 @@ fn all_goes_in_order_at_the_drop(rt: HostRuntime) -> Result<(), Fail> {
     Ok(())
 }
 
-// A chain that waits in a batch is gone with all, in its order.
+// A chain that waits in a batch is gone with all, in its order. No memory is asked for.
 #[test]
 fn a_long_chain_goes_as_all_is_reclaimed(rt: HostRuntime) -> Result<(), Fail> {
     let ends = Ends::with_room(rt.alloc(), 0)?;

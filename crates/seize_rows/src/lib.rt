@@ -15,6 +15,10 @@ mod alone_memory;
 #[cfg(test)]
 mod alone_reclaiming;
 #[cfg(test)]
+mod chance;
+#[cfg(test)]
+mod grouped;
+#[cfg(test)]
 mod guards;
 #[cfg(test)]
 mod ids;
@@ -43,5 +47,7 @@ mod random;
 #[cfg(test)]
 mod refused;
 mod threads;
+#[cfg(test)]
+mod watching;
 #[cfg(test)]
 mod worked;

@@ -1,50 +1,26 @@
 //! Lists of calls that come by chance, on a collector in one caller's hands and on one of plain lists: what each answers, which values the
-//! watch and the reclaimer are told of, in order, and what is left in the end.
-ghost use Rattle.std.specs.Prelude.{◌≡◌, ◌<◌, IfOk, length};
+//! watch and the reclaimer are told of, in order, and what is left in the end. Calls come one by one, or several in one `run`, and now and
+//! then the collector is shared and taken over again.
+ghost use Rattle.std.specs.Prelude.{◌≡◌, IfOk, length};
 ghost use Rattle.seize.specs.Alones.{IsSame};
-ghost use Rattle.seize.specs.Blocks.{Belongs};
 ghost use Rattle.seize.specs.Links.{IsTakenOf};
-ghost use Rattle.seize_uses.specs.Nests.{owners_of};
 
-use crate::nests::{AloneNests, Block, Ends, Heard, alone_nests, leaf, number_in, round};
+use crate::chance::{Chance, LINKS, SLOTS, block};
+use crate::grouped::run_four;
+use crate::nests::{AloneNests, Ends, Heard, alone_nests, number_in};
 use crate::oracle::{Lists, Value};
 use seize::{Alone, Reclaim, Refusal, Taken, Watch};
 use std::alloc::Global;
 use std::process::Abort;
 use std::test::*;
 
-// How many lists there are, and how many calls each has.
-const LISTS: u64 = 300;
+// How many lists there are, and how many turns each has.
+const LISTS: u64 = 3_000;
 
-const CALLS: u64 = 100;
+const TURNS: u64 = 50;
 
-// How many slots and links a collector has at most.
-const SLOTS: usize = 5;
-
-const LINKS: usize = 3;
-
-// How many values a list may make: each call makes three at most.
-const VALUES: u64 = 3 * CALLS;
-
-// Numbers that seem to come by chance, and are the same in each run.
-#[derive(Drop)]
-struct Chance {
-    state: u64,
-}
-
-impl Chance {
-    // The next one, below this.
-    fn below(&mut self, bound: u64) -> u64
-        requires { 0 < bound }
-        ensures { result < bound }
-    {
-        self.state = self
-            .state
-            .wrapping_mul(6_364_136_223_846_793_005)
-            .wrapping_add(1_442_695_040_888_963_407);
-        (self.state >> 33) % bound
-    }
-}
+// How many values a list may make: a turn has four calls at most, and each call makes three at most.
+const VALUES: u64 = 12 * TURNS;
 
 // Whether the answers are the same. Where memory was refused the list ends.
 fn same<A: PartialEq>(
@@ -57,28 +33,6 @@ fn same<A: PartialEq>(
         (Err(answer), Err(wanted)) => Ok(*answer == *wanted),
         _ => Ok(false),
     }
-}
-
-// A new block, in which there may be another one, and one in that. It gives its number too.
-fn block(
-    alloc: Global,
-    alone: &mut AloneNests<'_>,
-    lists: &mut Lists,
-    chance: &mut Chance,
-) -> Result<(Block, u64), Refusal>
-    ensures made { IfOk result (λ made. Belongs owners_of alone.old.book.store made.0) }
-    ensures same { alone.new ≡ alone.old }
-{
-    let mut number = lists.value(None)?;
-    let mut block = leaf(alloc, alone, number)?;
-    for _ in 0..2u64 {
-        if chance.below(3) > 0 {
-            break;
-        }
-        number = lists.value(Some(number))?;
-        block = round(alloc, alone, number, block)?;
-    }
-    Ok((block, number))
 }
 
 // Retires what is in no link. Where that is refused, another slot retires it, which is in use.
@@ -119,7 +73,7 @@ fn retire_new(
         return Ok(true);
     };
     let (block, number) = block(alloc, alone, lists, chance)?;
-    let kind = chance.below(4);
+    let kind = chance.kind();
     let taken = alone.taken(block);
     let answer = retire(rt, alone, s, taken, kind, other, heard);
     let value = Value { number, kind };
@@ -143,14 +97,14 @@ fn swap_new(
     requires { alone.old.links ≡ 3 }
     ensures { IsSame alone.old alone.new }
 {
-    let link = chance.below(LINKS as u64) as usize;
+    let link = chance.link();
     let (new, number) = if chance.below(4) > 0 {
         let (block, number) = block(alloc, alone, lists, chance)?;
         (Some(block), Some(number))
     } else {
         (None, None)
     };
-    let kind = chance.below(4);
+    let kind = chance.kind();
     match (alone.swap(s, link, new), lists.swap(s, link, number)) {
         (Ok(Some(taken)), wanted) => {
             retire(rt, alone, s, taken, kind, s, heard)?;
@@ -193,14 +147,14 @@ fn call(
         )),
         10 => Ok(("flush", same(&alone.flush(s, heard), &lists.flush(s))?)),
         _ => {
-            let link = chance.below(LINKS as u64) as usize;
+            let link = chance.link();
             let found = number_in(alone, s, link);
             Ok(("protect", same(&found, &lists.look(s, link))?))
         }
     }
 }
 
-// Any call that comes by chance.
+// Any call that comes by chance, or four of them.
 fn any_call(
     rt: &impl Abort,
     alloc: Global,
@@ -212,8 +166,8 @@ fn any_call(
     requires { alone.old.links ≡ 3 }
     ensures { IsSame alone.old alone.new }
 {
-    let s = chance.below((lists.made() as u64).saturating_add(1)) as usize;
-    match chance.below(40) {
+    let s = chance.slot(lists);
+    match chance.below(44) {
         0 => {
             alone.reclaim_all(heard);
             lists.reclaim_all()?;
@@ -224,6 +178,7 @@ fn any_call(
             retire_new(rt, alloc, alone, lists, chance, s, heard)?,
         )),
         14..20 => Ok(("swap", swap_new(rt, alloc, alone, lists, chance, s, heard)?)),
+        20..24 => Ok(("run", run_four(alloc, alone, lists, chance, heard)?)),
         _ => call(alone, lists, chance, s, heard),
     }
 }
@@ -273,7 +228,7 @@ fn end(lists: &mut Lists, ends: &Ends) -> Result<bool, Refusal> {
     Ok(in_order && ends.have(lists.gone()))
 }
 
-// The collector is shared, and nobody uses it. Then one caller has it again.
+// The collector is shared, and nobody uses it. Then one caller takes it over, with the slots in use and their guards.
 fn shared_and_back<'a>(alone: AloneNests<'a>) -> Result<AloneNests<'a>, Fail>
     requires { length alone.book.links ≡ 3 }
     ensures { IfOk result (λ alone. (alone.links ≡ 3) × (length alone.book.links ≡ 3)) }
@@ -291,13 +246,13 @@ fn run<'a>(rt: &impl Abort, alloc: Global, seed: u64, ends: &'a Ends) -> Result<
     let mut alone = alone_nests(alloc, size, LINKS, ends)?;
     let mut lists = Lists::new(alloc, size, LINKS)?;
     let mut heard = Heard::with_room(alloc, VALUES as usize)?;
-    for n in 0..CALLS {
-        if lists.used().is_none() {
+    for n in 0..TURNS {
+        if chance.below(30) == 0 {
             alone = shared_and_back(alone)?;
         }
         let (what, well) = any_call(rt, alloc, &mut alone, &mut lists, &mut chance, &mut heard)?;
         if !well || !are_told(&lists, &heard, ends) {
-            return Err(Fail::new(format_args!("seed {seed}: call {n}, of {what}, differs")));
+            return Err(Fail::new(format_args!("seed {seed}: turn {n}, of {what}, differs")));
         }
     }
     // Every other list leaves that to the drop.

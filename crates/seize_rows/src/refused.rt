@@ -1,14 +1,18 @@
 //! Calls that are made again where memory was refused: the second time each serves as if there had been no first one. The gate refuses
-//! nothing; `rt try --test --fail-alloc N` refuses the request of this number.
+//! nothing; `rt try --test --fail-alloc N` refuses the request of this number, and `tools/memory` all from a first sign on to a second one.
 ghost use Rattle.std.specs.Prelude.{◌≡◌};
 ghost use Rattle.seize.specs.Collectors.{IsPassOf};
 ghost use Rattle.seize.specs.OwnedGuards.{owned_collector};
 ghost use Rattle.seize.specs.Registrations.{registered_in};
 
-use seize::{Collector, IdSource, Owned, OwnedGuard, Pass, Refusal, Registration};
+use crate::memory::give_sign;
+use crate::worked::{Telling, telling};
+use seize::{Alone, Collector, IdSource, Owned, OwnedGuard, Pass, Refusal, Registration, Unlinked};
+use seize_threads_rows::values::Digit;
 use std::alloc::Global;
 use std::process::Abort;
 use std::sync::Wait;
+use std::sync::atomic::{AtomicU64, Ordering};
 use std::test::*;
 
 // A collector with one link.
@@ -86,5 +90,90 @@ fn refused_calls_serve_when_made_again(rt: HostRuntime) -> Result<(), Fail> {
     assert_eq!(rt; *owned(&rt, &collector, 7), 7);
     guard.leave(&rt, &mut pass);
     assert!(rt; first.end(&rt, &mut pass));
+    Ok(())
+}
+
+// A registration has number 1, retires a value of this digit, and ends. Slot 0 is active, so the value waits for it.
+fn retire<'a>(rt: &(impl Wait + Abort), collector: &Telling<'a>, digit: u64, told: &'a AtomicU64) {
+    let mut pass = collector.pass();
+    let registration = collector.register(rt, &mut pass).expect(rt, "memory");
+    assert_eq!(rt; registration.thread_id(), 1);
+    let owned = collector
+        .owned(Digit { digit, told })
+        .ok()
+        .expect(rt, "memory");
+    registration.retire(rt, &mut pass, Unlinked::from_owned(owned, collector));
+    assert!(rt; registration.end(rt, &mut pass));
+    assert_eq!(rt; told.load(Ordering::SeqCst), 0);
+}
+
+// Slot 0 is forgotten with two guards. Then 3 is retired.
+fn forget_two<'a>(rt: &(impl Wait + Abort), collector: &Telling<'a>, told: &'a AtomicU64) {
+    let mut pass = collector.pass();
+    let registration = collector.register(rt, &mut pass).expect(rt, "memory");
+    registration.enter(&mut pass).expect(rt, "a guard").forget();
+    registration.enter(&mut pass).expect(rt, "a guard").forget();
+    registration.forget();
+    retire(rt, collector, 3, told);
+}
+
+// Whether each request for memory is refused, and not just one.
+fn is_refused(alloc: Global) -> bool {
+    let first: Result<Vec<u8>, _> = Vec::with_capacity(alloc, 1);
+    let second: Result<Vec<u8>, _> = Vec::with_capacity(alloc, 1);
+    first.is_err() && second.is_err()
+}
+
+// Gives the sign, and takes the collector over. Where memory is refused, the collector comes back. After a second sign 7 is retired
+// too, and the collector is taken over. It gives the digits that wait, as they end.
+fn take_over<'a>(
+    rt: &(impl Wait + Abort),
+    alloc: Global,
+    collector: Telling<'a>,
+    told: &'a AtomicU64,
+) -> Result<(Alone<Digit<'a>>, u64), Fail> {
+    give_sign(alloc)?;
+    let refused = is_refused(alloc);
+    let collector = match collector.alone() {
+        Ok(alone) => {
+            assert!(rt; !refused);
+            return Ok((alone, 3));
+        }
+        Err(collector) => collector,
+    };
+    give_sign(alloc)?;
+    retire(rt, &collector, 7, told);
+    match collector.alone() {
+        Ok(alone) => Ok((alone, 73)),
+        Err(_) => Err(Fail::new("the collector came back again")),
+    }
+}
+
+// Slot 0 leaves twice, and these end with the second leave. Then its number is free.
+fn leave_twice(
+    rt: &impl Abort,
+    alone: &mut Alone<Digit<'_>>,
+    digits: u64,
+    told: &AtomicU64,
+) -> Result<(), Refusal> {
+    alone.leave(0, &mut ())?;
+    assert_eq!(rt; told.load(Ordering::SeqCst), 0);
+    assert!(rt; !alone.end(0)?);
+    alone.leave(0, &mut ())?;
+    assert_eq!(rt; told.load(Ordering::SeqCst), digits);
+    assert!(rt; alone.end(0)?);
+    assert_eq!(rt; alone.register()?, 0);
+    Ok(())
+}
+
+// Where there is no room for the place of a slot that was forgotten, the collector comes back and serves. When it is taken over then, the
+// slot has its guards.
+#[test]
+fn a_collector_without_room_for_places_comes_back(rt: HostRuntime) -> Result<(), Fail> {
+    let told = AtomicU64::new(0);
+    let collector = telling(rt.alloc(), 1)?;
+    forget_two(&rt, &collector, &told);
+    let (mut alone, digits) = take_over(&rt, rt.alloc(), collector, &told)?;
+    leave_twice(&rt, &mut alone, digits, &told)?;
     Ok(())
 }

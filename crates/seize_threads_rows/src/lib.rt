@@ -22,6 +22,8 @@ mod staying;
 #[cfg(test)]
 mod sums;
 #[cfg(test)]
+mod swapping;
+#[cfg(test)]
 mod turned;
 pub mod turns;
 pub mod values;

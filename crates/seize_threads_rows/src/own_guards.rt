@@ -39,14 +39,14 @@ impl Seen {
 }
 
 // A collector with one link.
-fn collector<'a>(alloc: Global) -> Result<Collector<Marked<'a>>, Refusal>
+pub(crate) fn collector<'a>(alloc: Global) -> Result<Collector<Marked<'a>>, Refusal>
     ensures { IfOk result (λ made. 0 < its_links made) }
 {
     Collector::new(alloc, &mut IdSource::new(), 1, 1)
 }
 
 // Swaps this value into the link, and retires what came out. It says how many it retired.
-fn replace<'a>(
+pub(crate) fn replace<'a>(
     rt: &impl Wait,
     guard: &OwnedGuard<'_, Marked<'a>>,
     value: Marked<'a>,

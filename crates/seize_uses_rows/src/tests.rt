@@ -46,6 +46,35 @@ fn a_number_is_put_in_and_read_alone(rt: HostRuntime) -> Result<(), Fail> {
 }
 
 #[test]
+fn a_number_is_taken_out_alone(rt: HostRuntime) -> Result<(), Fail> {
+    let mut alone = with_one_link(rt.alloc())?;
+    let slot = alone.enter_owned()?;
+    assert_eq!(rt; one_caller::put_and_read(&mut alone, slot, 7)?, Some(7));
+    assert!(rt; one_caller::found_twice(&alone, slot)?);
+    assert_eq!(rt; one_caller::take_out(&mut alone, slot)?, Some(7));
+    assert_eq!(rt; one_caller::take_out(&mut alone, slot)?, None);
+    assert!(rt; one_caller::found_twice(&alone, slot)?);
+    one_caller::audit(&mut alone);
+    Ok(())
+}
+
+// The second id of a source: a collector has it shared, alone, and shared again.
+#[test]
+fn one_caller_has_the_id_of_the_collector(rt: HostRuntime) -> Result<(), Fail> {
+    let mut ids = IdSource::new();
+    let first: Collector<u64> = Collector::new(rt.alloc(), &mut ids, 1, 0)?;
+    let second: Collector<u64> = Collector::new(rt.alloc(), &mut ids, 1, 0)?;
+    let id = second.id();
+    assert!(rt; id != first.id());
+    let Ok(alone) = second.alone() else {
+        return Err(Fail::new("the collector came back"));
+    };
+    assert_eq!(rt; alone.id(), id);
+    assert_eq!(rt; alone.share().id(), id);
+    Ok(())
+}
+
+#[test]
 fn a_watch_is_told_once_the_guard_leaves(rt: HostRuntime) -> Result<(), Fail> {
     let mut newest = Newest(None);
     let mut alone = with_one_link(rt.alloc())?;

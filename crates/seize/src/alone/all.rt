@@ -83,7 +83,7 @@ pub(super) fn reclaim_by<T: Drop, R: Reclaim<T>, W: Watch<T>>(
 
 impl<T: Drop, R: Reclaim<T>> Alone<T, R> {
     ghost use Rattle.seize_model.specs.Waiting.Calls as calls;
-    ghost use Rattle.seize.specs.Alones.{IsSame, ListGrows};
+    ghost use Rattle.seize.specs.Alones.{IsLinkedSame, ListGrows};
     ghost use Rattle.seize_parts.specs.Told.{Did};
 
     /// Every slot leaves and gives its number back, in order of numbers; then each slot's batch is gone, in order. Then what the reclaimer
@@ -94,7 +94,7 @@ impl<T: Drop, R: Reclaim<T>> Alone<T, R> {
     /// do.
     pub fn reclaim_all<W: Watch<T>>(&mut self, watch: &mut W)
         ensures done { Did W.told (calls.reclaim_all R.puts R.weight self.old.state) self.new.state (W.seen watch.old) (W.seen watch.new) }
-        ensures same { IsSame self.old self.new }
+        ensures same { IsLinkedSame self.old self.new }
         ensures grows { ListGrows self.old self.new }
         ensures same_reference { watch.exit.ghost_name ≡ watch.entry.ghost_name }
     {

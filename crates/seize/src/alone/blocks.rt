@@ -61,9 +61,9 @@ impl<'a, T: Drop> Stay<Result<Owned<T>, (Refusal, T)>> for Making<'a, T> {
 impl<T: Drop, R: Reclaim<T>> Alone<T, R> {
     ghost use Rattle.std.specs.Prelude.{◌<◌, IfSome, option_map};
     ghost use Rattle.seize_model.specs.Waiting.Calls as calls;
-    ghost use Rattle.seize.specs.Alones.{IsSame, ListGrows};
+    ghost use Rattle.seize.specs.Alones.{IsSame, ListGrows, name_at};
     ghost use Rattle.seize_parts.specs.Blocks.{Belongs};
-    ghost use Rattle.seize.specs.Links.{IsTakenOf, shared_book, shared_value, taken_content};
+    ghost use Rattle.seize.specs.Links.{IsTakenOf, name_of, shared_book, shared_value, taken_content};
     ghost use Rattle.seize.specs.Looks.{with_link};
 
     /// A block of this value. It asks for memory only where the store has no free place.
@@ -143,9 +143,10 @@ impl<T: Drop, R: Reclaim<T>> Alone<T, R> {
     ) -> Result<Option<Taken<T>>, (Refusal, Option<Owned<T>>)>
         requires range { link < self.old.links }
         requires own { IfSome new (Belongs R.owners self.old.book.store) }
-        ensures done { IfOk result (λ _. calls.no_guard self.old.state s ≡ None) }
-        ensures refused { IfErr result (λ refused. (calls.no_guard self.old.state s ≡ Some refused.0) × (refused.1 ≡ new)) }
-        ensures held { IfOk result (λ old. option_map taken_content old ≡ calls.link_at self.old.state link) }
+        ensures done { IfOk result (λ old. (calls.no_guard self.old.state s ≡ None)
+            × (option_map taken_content old ≡ calls.link_at self.old.state link)) }
+        ensures refused { IfErr result (λ refused. (calls.no_guard self.old.state s ≡ Some refused.0) × (refused.1 ≡ new)
+            × (self.new ≡ self.old)) }
         ensures own { IfOk result (λ old. IfSome old (IsTakenOf T.row.coded.code self.old.book)) }
         ensures state { self.new.state ≡ (calls.swap self.old.state s link (option_map content new)).1.0 }
         ensures holds { IfOk result (λ _. calls.link_at self.new.state link ≡ option_map content new) }
@@ -171,6 +172,7 @@ impl<T: Drop, R: Reclaim<T>> Alone<T, R> {
         ensures done { IfOk result (λ shared. (calls.no_guard self.now.state s ≡ None)
             × (option_map shared_value shared ≡ calls.link_at self.now.state link)) }
         ensures own { IfOk result (λ shared. IfSome shared (λ shared. shared_book shared ≡ self.now.book)) }
+        ensures which { IfOk result (λ shared. name_of shared ≡ name_at self.now link) }
         ensures refused { IfErr result (λ refusal. calls.no_guard self.now.state s ≡ Some refusal) }
     {
         self.guarded(s)?;

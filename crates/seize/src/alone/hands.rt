@@ -1,5 +1,6 @@
 //! What one caller's hands hold: the state of the model, and what the list's numbers stand for. It has no bytes.
-ghost use Rattle.std.specs.Prelude.{ℕ, List};
+ghost use Rattle.std.specs.Prelude.{ℕ, List, Option};
+ghost use Rattle.std.specs.Coded.{coded_option};
 ghost use base.Fml.{ftrue};
 ghost use base.Stored.{coded_list, coded×, coded_ℕ};
 ghost use Rattle.seize_model.specs.Waiting.State.{State};
@@ -8,16 +9,17 @@ ghost use Rattle.seize.specs.States.{state_coded};
 use seize_words::book::Porter;
 use std::marker::{Brand, Model, PhantomData};
 
-/// What holds of a state, of names and of kinds. A caller passes `Brand`, and its proof picks it, by what `Hands::of` is given.
+/// What holds of a state, of names, of kinds and of what links hold. A caller passes `Brand`, and its proof picks it, by what `Hands::of`
+/// is given.
 pub(crate) trait Holding<T> {
-    ghost are: { State T ℕ → List (ℕ × T) → List (ℕ × ℕ) → Type 0 };
+    ghost are: { State T ℕ → List (ℕ × T) → List (ℕ × ℕ) → List (Option ℕ) → Type 0 };
 }
 
 impl<T> Holding<T> for Brand {
-    ghost are = { λ _ _ _. Unit {0} };
+    ghost are = { λ _ _ _ _. Unit {0} };
 }
 
-/// The state, and the names and kinds by which the list shows it.
+/// The state, the names and kinds by which the list shows it, and the names of what links hold.
 pub(crate) struct Hands<T> {
     marker: PhantomData<T>,
     /// The state of waiting sets.
@@ -26,6 +28,8 @@ pub(crate) struct Hands<T> {
     pub(crate) ghost names: { List (ℕ × T) } by { coded_list (coded× coded_ℕ T.code) },
     /// Of which kind numbers are.
     pub(crate) ghost kinds: { List (ℕ × ℕ) } by { coded_list (coded× coded_ℕ coded_ℕ) },
+    /// By which names links hold what they hold.
+    pub(crate) ghost held: { List (Option ℕ) } by { coded_list (coded_option coded_ℕ) },
 }
 
 impl<T> Model for Hands<T> {
@@ -47,8 +51,9 @@ impl<T> Hands<T> {
     /// The first ones of a collector, where its porter is at home. What `_said` holds is for the proof that picks. It does nothing when the
     /// program runs.
     pub(crate) fn first<H: Holding<T>, S>(_porter: &Porter, _said: &S) -> Hands<T>
-        requires { (st : State T ℕ) × (names : List (ℕ × T)) × (kinds : List (ℕ × ℕ)) × H.are st names kinds }
-        ensures { H.are result.state result.names result.kinds }
+        requires { (st : State T ℕ) × (names : List (ℕ × T)) × (kinds : List (ℕ × ℕ)) × (held : List (Option ℕ))
+            × H.are st names kinds held }
+        ensures { H.are result.state result.names result.kinds result.held }
     {
         Hands {
             marker: PhantomData,
@@ -57,8 +62,9 @@ impl<T> Hands<T> {
 
     /// There are some, and these are they. What `_said` holds is for the proof that picks. It does nothing when the program runs.
     pub(crate) fn of<H: Holding<T>, S>(_hands: &Hands<T>, _porter: &Porter, _said: &S) -> Hands<T>
-        requires { (st : State T ℕ) × (names : List (ℕ × T)) × (kinds : List (ℕ × ℕ)) × H.are st names kinds }
-        ensures { H.are result.state result.names result.kinds }
+        requires { (st : State T ℕ) × (names : List (ℕ × T)) × (kinds : List (ℕ × ℕ)) × (held : List (Option ℕ))
+            × H.are st names kinds held }
+        ensures { H.are result.state result.names result.kinds result.held }
     {
         Hands {
             marker: PhantomData,

@@ -10,11 +10,11 @@ use seize_table::Refusal;
 use std::marker::Brand;
 
 impl<T: Drop, R: Reclaim<T>> Alone<T, R> {
-    ghost use Rattle.std.specs.Prelude.{◌<◌, ◌==◌, ◌||◌, ◌≡◌, IfErr, Ok, false, true};
+    ghost use Rattle.std.specs.Prelude.{◌<◌, ◌==◌, ◌||◌, ◌≡◌, IfErr, Ok, OnErr, false, true};
     ghost use Rattle.seize_model.specs.Waiting.Calls as calls;
     ghost use Rattle.seize_model.specs.Waiting.Further.{with_further};
     ghost use Rattle.seize_model.specs.Waiting.State.{has_guard, slot_at};
-    ghost use Rattle.seize.specs.Alones.{IsSame, ListGrows};
+    ghost use Rattle.seize.specs.Alones.{IsLinkedSame, ListGrows};
     ghost use Rattle.seize.specs.Links.{IsTakenOf, taken_content};
     ghost use Rattle.seize_parts.specs.Told.{Answers, only_refusal, told_of};
 
@@ -24,7 +24,7 @@ impl<T: Drop, R: Reclaim<T>> Alone<T, R> {
         ensures done { let now = with_further R.puts R.weight s (calls.one_guard_less self.old.state s) in (self.new.state ≡ now.0)
             × (W.seen watch.new ≡ told_of W.told (W.seen watch.old) now.1)
             × (calls.is_free (slot_at now.0 s).kind ≡ false) × (has_guard (slot_at now.0 s) ≡ false) }
-        ensures same { IsSame self.old self.new }
+        ensures same { IsLinkedSame self.old self.new }
         ensures grows { ListGrows self.old self.new }
         ensures same_reference { watch.exit.ghost_name ≡ watch.entry.ghost_name }
     {
@@ -38,7 +38,7 @@ impl<T: Drop, R: Reclaim<T>> Alone<T, R> {
             × ((calls.is_owned slot.kind || (slot.guards == 1)) ≡ true) }
         ensures done { Answers W.told (calls.refresh R.puts R.weight self.old.state s) (Ok tt) self.new.state
             (W.seen watch.old) (W.seen watch.new) }
-        ensures same { IsSame self.old self.new }
+        ensures same { IsLinkedSame self.old self.new }
         ensures grows { ListGrows self.old self.new }
         ensures same_reference { watch.exit.ghost_name ≡ watch.entry.ghost_name }
     {
@@ -58,7 +58,7 @@ impl<T: Drop, R: Reclaim<T>> Alone<T, R> {
         requires own { IsTakenOf T.row.coded.code self.old.book value }
         ensures done { Answers W.told (calls.retire R.puts R.weight self.old.state s (taken_content value) kind) (Ok tt) self.new.state
             (W.seen watch.old) (W.seen watch.new) }
-        ensures same { IsSame self.old self.new }
+        ensures same { IsLinkedSame self.old self.new }
         ensures grows { ListGrows self.old self.new }
         ensures same_reference { watch.exit.ghost_name ≡ watch.entry.ghost_name }
     {
@@ -87,8 +87,9 @@ impl<T: Drop, R: Reclaim<T>> Alone<T, R> {
     pub fn leave<W: Watch<T>>(&mut self, s: usize, watch: &mut W) -> Result<(), Refusal>
         ensures done { Answers W.told (calls.leave R.puts R.weight self.old.state s) result self.new.state
             (W.seen watch.old) (W.seen watch.new) }
-        ensures same { IsSame self.old self.new }
+        ensures same { IsLinkedSame self.old self.new }
         ensures grows { ListGrows self.old self.new }
+        ensures unchanged { OnErr result (self.new ≡ self.old) }
         ensures same_reference { watch.exit.ghost_name ≡ watch.entry.ghost_name }
     {
         let (owned, guards) = self.guarded(s)?;
@@ -115,8 +116,9 @@ impl<T: Drop, R: Reclaim<T>> Alone<T, R> {
     pub fn refresh<W: Watch<T>>(&mut self, s: usize, watch: &mut W) -> Result<(), Refusal>
         ensures done { Answers W.told (calls.refresh R.puts R.weight self.old.state s) result self.new.state
             (W.seen watch.old) (W.seen watch.new) }
-        ensures same { IsSame self.old self.new }
+        ensures same { IsLinkedSame self.old self.new }
         ensures grows { ListGrows self.old self.new }
+        ensures unchanged { OnErr result (self.new ≡ self.old) }
         ensures same_reference { watch.exit.ghost_name ≡ watch.entry.ghost_name }
     {
         let (owned, guards) = self.guarded(s)?;
@@ -138,8 +140,9 @@ impl<T: Drop, R: Reclaim<T>> Alone<T, R> {
     pub fn flush<W: Watch<T>>(&mut self, s: usize, watch: &mut W) -> Result<(), Refusal>
         ensures done { Answers W.told (calls.flush R.puts R.weight self.old.state s) result self.new.state
             (W.seen watch.old) (W.seen watch.new) }
-        ensures same { IsSame self.old self.new }
+        ensures same { IsLinkedSame self.old self.new }
         ensures grows { ListGrows self.old self.new }
+        ensures unchanged { OnErr result (self.new ≡ self.old) }
         ensures same_reference { watch.exit.ghost_name ≡ watch.entry.ghost_name }
     {
         self.guarded(s)?;
@@ -167,8 +170,8 @@ impl<T: Drop, R: Reclaim<T>> Alone<T, R> {
         requires { IsTakenOf T.row.coded.code self.old.book value }
         ensures done { Answers W.told (calls.retire R.puts R.weight self.old.state s (taken_content value) kind) (only_refusal result)
             self.new.state (W.seen watch.old) (W.seen watch.new) }
-        ensures back { IfErr result (λ refused. refused.1 ≡ value) }
-        ensures same { IsSame self.old self.new }
+        ensures back { IfErr result (λ refused. (refused.1 ≡ value) × (self.new ≡ self.old)) }
+        ensures same { IsLinkedSame self.old self.new }
         ensures grows { ListGrows self.old self.new }
         ensures same_reference { watch.exit.ghost_name ≡ watch.entry.ghost_name }
     {

@@ -177,7 +177,7 @@ impl<T: Drop, R: Reclaim<T>> Alone<T, R> {
         requires { AreFor R.owners self.old.book.store self.old.links calls.old.items }
         ensures ran { IfOk result (λ _. (calls.new.items ≡ []) × Ran R.puts R.weight W.told calls.old.items replies.old.items
             replies.new.items self.old.state self.new.state (W.seen watch.old) (W.seen watch.new)) }
-        ensures refused { IfErr result (λ refusal. (refusal ≡ no_memory) × (self.new.state ≡ self.old.state)
+        ensures refused { IfErr result (λ refusal. (refusal ≡ no_memory) × (self.new ≡ self.old)
             × (W.seen watch.new ≡ W.seen watch.old) × (calls.new.items ≡ calls.old.items) × (replies.new.items ≡ replies.old.items)) }
         ensures own { AreFrom R.owners self.old.book.store replies.old.items → AreFrom R.owners self.old.book.store replies.new.items }
         ensures same { IsSame self.old self.new }

@@ -57,7 +57,7 @@ fn rest<T: Drop, R: Reclaim<T>>(
 impl<T: Drop, R: Reclaim<T>> Collector<T, R> {
     ghost use Rattle.seize_book.specs.Porters.{GoesOnTo};
     ghost use Rattle.seize.specs.Collectors.{its_links};
-    ghost use Rattle.seize.specs.Reclaims.{IsSameCollector, NoneInUse};
+    ghost use Rattle.seize.specs.Reclaims.{FindsInUse};
 
     /// Gives the collector to one caller. It goes by value, so passes, guards and registrations are over. Where these were forgotten, by
     /// their calls of `forget`, their slots stay as they were: a number stays in use, by an owned slot where an owned guard had it, and a
@@ -75,7 +75,7 @@ impl<T: Drop, R: Reclaim<T>> Collector<T, R> {
         ensures made { IfOk result (λ alone. (alone.book ≡ its_book self) × (alone.size ≡ its_size self) × (alone.id ≡ its_id self)
             × (alone.links ≡ its_links self) × (alone.state.size ≡ alone.size) × (length alone.state.links ≡ its_links self)
             × GoesOnTo alone.book (seen_by self) alone.seen) }
-        ensures back { IfErr result (λ c. IsSameCollector self c × ¬ (NoneInUse c)) }
+        ensures back { IfErr result (FindsInUse self) }
     {
         let (mut words, mut porter, numbers, ender, id, alloc) = self.into_parts();
         let (found, numbers) = rest(&words, &ender, alloc, &mut porter, numbers);

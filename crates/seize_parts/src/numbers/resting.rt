@@ -137,6 +137,7 @@ impl<'a, 'p, T: Drop, R: Reclaim<T>> LockWork<Numbers<T>, Pass<'p>, Found<T>>
     fn work(self, numbers: &mut Numbers<T>, pass: &mut Pass<'p>) -> Found<T> {
         numbers.book.agree(&self.words.blocks.book);
         let found = numbers.rest(self.words, self.alloc, pass);
+        numbers.least = 0;
         let permit = pass.permit_for_named();
         self.ender.permits.check(permit);
         found

@@ -11,7 +11,7 @@ ghost use Rattle.seize_alone.specs.Events.{MakesAlone};
 ghost use Rattle.seize_parts.specs.Aparts.{GivesBack, KeepsAside, MayDrain};
 ghost use Rattle.seize_parts.specs.Enders.{IsEnderOf};
 ghost use Rattle.seize_calls.specs.Slots.{IsInactive, IsPassFor, IsSlotOf, its_number};
-ghost use Rattle.seize_parts.specs.Numbers.{AreNumbers, AreTakenTo, IsLockFor, flags_of};
+ghost use Rattle.seize_parts.specs.Numbers.{AreNumbers, AreTakenTo, flags_of, IsLockFor, KnowsLeast};
 ghost use Rattle.seize_parts.specs.Resting.{AreIdle, IsIdle, KeepsIdleBut};
 ghost use Rattle.seize_parts.specs.Sweeps.{AreOff, AreOffBelow, LiesHere, IsLedBy, IsOff, KeepsCleared, KeepsClearedBut, KeepsElse, KeepsOff, KeepsOn, KeepsPlaces, AreClearedBelow, LeavesNothing, Sweeps};
 
@@ -73,7 +73,7 @@ impl<T: Drop> Numbers<T> {
         requires numbers { AreNumbers self.old × IsLockFor words.now self.old }
         requires pass { IsPassFor words.now pass.old × IsSole pass.old.id }
         requires ender { IsEnderOf words.now ender.now }
-        ensures numbers { AreNumbers self.new × IsLockFor words.now self.new }
+        ensures numbers { AreNumbers self.new × KnowsLeast self.new × IsLockFor words.now self.new }
         ensures sweeps { Sweeps pass.old pass.new result }
         ensures same_reference { watch.exit.ghost_name ≡ watch.entry.ghost_name }
     {
@@ -83,7 +83,9 @@ impl<T: Drop> Numbers<T> {
             queue,
             watch: &mut *watch,
         };
-        self.sweep_aside(words, ender, &mut aside, pass)
+        let all = self.sweep_aside(words, ender, &mut aside, pass);
+        self.least = 0;
+        all
     }
 
     // So it is done, and nothing waits in the queue then.

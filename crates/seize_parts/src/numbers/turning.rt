@@ -125,6 +125,7 @@ impl<'a, 'h, 'l, 'w, 'p, T: Drop, R: Reclaim<T>, W: Watch<T>> LockWork<
             watch: &mut *turns.watch,
         };
         numbers.reclaim_all(words, ender, turns.places, &mut aside, turns.pass);
+        numbers.least = 0;
         // It is taken apart, and so what the watch has seen is known.
         let Aside {
             queue: _queue,

@@ -38,7 +38,7 @@ of-requires g c =
     let is = held_is n st inside.places.items a.placed s used c.index_mut.result.now c.held.result.now c.index_mut.ensures.value c.held.ensures.value in
     let stay = c.begin.ensures.begins in let k = knows a stay.shut in let had = stay.gives.2 in let at = in_place n s 1 had.before (had.was.0 ∙ ap (λ t. t.1.1.0) is) in let entered = had.gives.0 in
     let makes : MakesAlone stay.lent stay.back (Enter s) entered.0 = subst (λ (t : ℕ). MakesAlone stay.lent stay.back (Enter t) entered.0) at.1 entered.1 in
-    (set_guards st s 1, inside.hands.names, inside.hands.kinds, (refl, held_again a stay (enters_held g.row.T.coded st inside.hands.names inside.hands.kinds s entered.0 stay.lent stay.back makes k.holds used off)))
+    (set_guards st s 1, inside.hands.names, inside.hands.kinds, inside.hands.held, (refl, held_again a stay (enters_held g.row.T.coded st inside.hands.names inside.hands.kinds s entered.0 stay.lent stay.back makes k.holds used off), refl))
 
 pub invariant_of-self : goal.invariant_of-self
 invariant_of-self g c =
@@ -54,7 +54,7 @@ invariant_of-self g c =
     (subst (λ (x : State g.row.T.Denot ℕ). ArePlaces n x (slice_set items s (Some place))) (sym now)
     (laid n st s slot' items place a.placed there (place_there n st items a.placed s used) used
     (ap lies_in c.begin.ensures.place ∙ (λ j. ((is j).0, (1, ((is j).1.1.0, ((ap (λ o. option_map unit_in o) stay.gives.1 ∙ (λ i. Some ((had.gives.2 ∙ at.1) i, had.gives.1.0.book i))) j, (is j).1.1.1.1))))))))
-    c.of.ensures.1
+    c.of.ensures.1 c.of.ensures.2
 
 pub returns-clause-done : goal.returns-clause-done
 returns-clause-done g c = c.of.ensures.0 ∙ ap (λ (v : View g.row.T.Denot). set_guards v.state c.args.s 1) c.self.view_is

@@ -28,9 +28,11 @@ of-requires g c =
       set_guards st s c.args.guards,
       inside.hands.names,
       inside.hands.kinds,
+      inside.hands.held,
       (
         refl,
         guards_held g.row.T.coded st inside.hands.names inside.hands.kinds s c.args.guards (record { marker = record {}; name = porter.name; size = porter.size; id = 0; seen = porter.seen }) a.holds kind on c.requires.2,
+        refl,
       ),
     )
 
@@ -51,7 +53,7 @@ invariant_of-self g c =
     (subst (λ (x : State g.row.T.Denot ℕ). ArePlaces n x (slice_set items s (Some place))) (sym now)
     (laid n st s slot' items place a.placed there (place_there n st items a.placed s used) used
     (λ j. ((is j).0, (c.args.guards, ((is j).1.1.0, (unit j, (is j).1.1.1.1)))))))
-    c.of.ensures.1
+    c.of.ensures.1 c.of.ensures.2
 
 pub returns-clause-done : goal.returns-clause-done
 returns-clause-done g c = c.of.ensures.0 ∙ ap (λ (v : View g.row.T.Denot). set_guards v.state c.args.s c.args.guards) c.self.view_is

@@ -1,4 +1,4 @@
-use Rattle.std.proofs.Common.{box_value, sym, subst, ◌∙◌, arith}
+use Rattle.std.proofs.Common.{None, box_value, get_or, sym, subst, ◌∙◌, arith}
 use base.Stored.{Coded}
 use Rattle.seize_book.specs.Tokens.{Name}
 use Rattle.seize.specs.Alones.{IsAlone}
@@ -25,7 +25,7 @@ reclaim_by-requires g c =
     )
 
 pub stir-requires : goal.stir-requires
-stir-requires g c = record { stand = λ l less. let stands = c.self.invariant.stand l less in (stands.0, stands.1) }
+stir-requires g c = record { stand = λ l less. (get_or c.self.inside.hands.held l None, (c.self.invariant.stand l less).0) }
 
 pub shared-requires : goal.shared-requires
 shared-requires g c =

@@ -1,4 +1,4 @@
-use Rattle.std.proofs.Common.{◌≡◌, ℕ, ◌<◌, List, Option, None, length, option_map, refl, sym, ap, subst, ◌∙◌}
+use Rattle.std.proofs.Common.{◌≡◌, ℕ, ◌<◌, List, Option, None, get_or, length, option_map, refl, set, sym, ap, subst, ◌∙◌}
 use Rattle.std.proofs.lemmas.List.{get_or-set_same, length-set}
 use mathlib.Core.List.{IsPrefix}
 use Rattle.seize_model.specs.Waiting.Calls.{link_at}
@@ -13,7 +13,9 @@ use Rattle.seize_parts.specs.Placing.{ArePlaces}
 use Rattle.seize.specs.Stillness.{LinksHold, state_at}
 use Rattle.seize_alone.proofs.Singles.{link_held}
 use Rattle.seize_book.specs.Entry.{Entry}
-use Rattle.seize_book.specs.Tokens.{Name}
+use Rattle.seize_book.specs.Tokens.{Name, start}
+use Rattle.seize_book.specs.Book.{after}
+use Rattle.seize_machine.specs.Machine.State as machine
 use Rattle.seize_machine.specs.Machine.State.{link_at as held_at}
 use Rattle.seize.proofs.Linked.{named_value, one_link, out_has, out_value}
 use Rattle.seize.proofs.Lone.{held_again, knows, list_grows}
@@ -24,7 +26,7 @@ pub stir_at-requires : goal.stir_at-requires
 stir_at-requires g c =
     let link = c.args.link in let words = c.self.inside.words in let less = subst (λ (m : ℕ). link < m) (ap (λ (v : View g.row.T.Denot). v.links) (sym c.self.view_is)) c.requires.range in
     let there = subst (λ (n : Name). link < length n.links) (sym words.linked) less in let s = c.self.invariant.stand link there in
-    record { stands = (there, (s.0, s.1)) }
+    record { stands = (there, (get_or c.self.inside.hands.held link None, s.0)) }
 
 pub out-old-requires-clause-content : goal.out-old-requires-clause-content
 out-old-requires-clause-content g c =
@@ -39,21 +41,25 @@ of-requires g c =
     let new : Option g.row.T.Denot = option_map content c.args.new in
     let swapped = swaps_held g.row.T.coded hands.state hands.names hands.kinds c.unit_at.result.now.number c.args.link gives.0 gives.1 new stay.lent stay.back gives.2 k.holds
     (named_value g.row.T.coded.code c.args.new gives.0 gives.3) in
-    (with_link hands.state c.args.link new, swapped.0.0, hands.kinds, ((new, refl), holds_so c.stay-old.new.self c.still_at.new.porter c.still_at.ensures.porter (held_again a stay swapped.0.1)))
+    (with_link hands.state c.args.link new, swapped.0.0, hands.kinds, set hands.held c.args.link (held_at (state_at c.still_at.new.porter) c.args.link), ((new, refl), holds_so c.stay-old.new.self c.still_at.new.porter c.still_at.ensures.porter (held_again a stay swapped.0.1), refl))
 
 pub invariant_of-self : goal.invariant_of-self
 invariant_of-self g c =
     let a = c.self.invariant in let inside = c.self.inside in let st = inside.hands.state in let new : Option g.row.T.Denot = c.of.ensures.0.0 in
     let now : c.of.result.state ≡ with_link st c.args.link new = c.of.ensures.0.1 in
-    let code = g.row.T.coded.code in let link = c.args.link in let same = c.still_at.ensures.porter in let porter = c.stay-old.new.self in let holds = c.of.ensures.1 in let after = with_link st link new in
-    let seen = subst (λ (t : Name × List Entry). Holds code after c.of.result.names c.of.result.kinds t.0 t.1) (λ j. (same.0 j, same.2 j)) (subst (λ (x : State g.row.T.Denot ℕ). Holds code x c.of.result.names c.of.result.kinds c.still_at.new.porter.name c.still_at.new.porter.seen) now holds) in
-    let held = link_held g.row.T.coded after c.of.result.names c.of.result.kinds porter.name porter.seen link seen in
-    let stand = stand_swapped code inside.words.links c.stir_at.new.self c.still_at.new.links st link new (held_at (state_at porter) link) c.stir_at.ensures.same c.still_at.ensures.same c.still_at.ensures.stands held a.stand in
+    let code = g.row.T.coded.code in let link = c.args.link in let same = c.still_at.ensures.porter in let porter = c.stay-old.new.self in let holds = c.of.ensures.1 in let exchanged = with_link st link new in
+    let seen = subst (λ (t : Name × List Entry). Holds code exchanged c.of.result.names c.of.result.kinds t.0 t.1) (λ j. (same.0 j, same.2 j)) (subst (λ (x : State g.row.T.Denot ℕ). Holds code x c.of.result.names c.of.result.kinds c.still_at.new.porter.name c.still_at.new.porter.seen) now holds) in
+    let named : c.of.result.held ≡ set inside.hands.held link (held_at (state_at c.still_at.new.porter) link) = c.of.ensures.2 in
+    let below : link < length inside.hands.held = subst (λ (m : ℕ). link < m) (ap (λ (v : View g.row.T.Denot). v.links) (sym c.self.view_is) ∙ sym a.named) c.requires.range in
+    let home : state_at c.still_at.new.porter ≡ state_at porter = λ j. after (start (same.0 j)) (same.2 j) in
+    let held = link_held g.row.T.coded exchanged c.of.result.names c.of.result.kinds porter.name porter.seen link seen in
+    let stand = stand_swapped code inside.words.links c.stir_at.new.self c.still_at.new.links st inside.hands.held link new (held_at (state_at porter) link) c.stir_at.ensures.same c.still_at.ensures.same c.still_at.ensures.stands held below a.stand in
     alone_swapped a c.stay-old.ensures same _ refl refl c.of.result
     (ap (λ (x : State g.row.T.Denot ℕ). length x.slots) now)
     (ap (λ (x : State g.row.T.Denot ℕ). x.size) now)
     (ap (λ (x : State g.row.T.Denot ℕ). length x.links) now ∙ length-set st.links link new)
-    (subst (λ (x : State g.row.T.Denot ℕ). LinksHold code c.still_at.new.links x.links) (sym now) stand)
+    (ap (λ (os : List (Option ℕ)). length os) named ∙ length-set inside.hands.held link (held_at (state_at c.still_at.new.porter) link))
+    (subst (λ (t : List (Option ℕ) × State g.row.T.Denot ℕ). LinksHold code c.still_at.new.links t.0 t.1.links) (λ j. (sym (named ∙ ap (λ (ms : machine.State). set inside.hands.held link (held_at ms link)) home) j, sym now j)) stand)
     (subst (λ (x : State g.row.T.Denot ℕ). ArePlaces (words_book inside.words) x inside.places.items) (sym now) a.placed)
     holds
 

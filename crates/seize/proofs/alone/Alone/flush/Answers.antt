@@ -47,7 +47,7 @@ of-requires g c =
     let is = held_is n st inside.places.items a.placed s used c.index_mut.result.now c.held.result.now c.index_mut.ensures.value c.held.ensures.value in
     let stay = c.flush.ensures.flushes in let k = knows a stay.shut in let had = stay.gives in let at = in_place n s 1 had.before (had.was.0 ∙ ap (λ (t : Lies). t.1.1.0) is) in
     let done = flushed g.row.T.coded P.puts P.weight P.lighter g.W.Watch.told k had.before had.after stay.back _ _ s at.1 had.gives used on in
-    ((flush P.puts P.weight st s).1.0, done.1.names, done.1.kinds, (refl, held_again a stay done.1.holds))
+    ((flush P.puts P.weight st s).1.0, done.1.names, done.1.kinds, inside.hands.held, (refl, held_again a stay done.1.holds, refl))
 
 pub invariant_of-self : goal.invariant_of-self
 invariant_of-self g c =
@@ -58,7 +58,7 @@ invariant_of-self g c =
     let now : State g.row.T.Denot ℕ = (flush P.puts P.weight st s).1.0 in let same = flush_outline P.puts P.weight st s in let items = inside.places.items in let place = c.flush.new.self in
     outlined_again a c.flush.ensures.flushes now c.of.result (slice_set items s (Some place)) c.of.ensures.0 same (flush_links P.puts P.weight st s) (size_stays P.puts P.weight st s).2
     (laid_again n st now s items place same a.placed used (place_there n st items a.placed s used) (ap lies_in c.flush.ensures.place ∙ is))
-    c.of.ensures.1
+    c.of.ensures.1 c.of.ensures.2
 
 pub returns-clause-done : goal.returns-clause-done
 returns-clause-done g c =

@@ -37,7 +37,7 @@ of-requires g c =
     let is = place_is n st inside.places.items a.placed s used c.out-place.result c.out-place.ensures.place in
     let r = c.into_value.result in let at = in_place n s 1 r (c.into_value.ensures.0 ∙ ap (λ t. t.1.1.0) is) in let gave = stay.gives.1 r refl in
     let makes : MakesAlone stay.lent stay.back (Give s) gave.0 = subst (λ (t : ℕ). MakesAlone stay.lent stay.back (Give t) gave.0) at.1 gave.1 in
-    (with_number_free st s, inside.hands.names, inside.hands.kinds, (refl, held_again a stay (gives_held g.row.T.coded st inside.hands.names inside.hands.kinds s gave.0 stay.lent stay.back makes k.holds used off)))
+    (with_number_free st s, inside.hands.names, inside.hands.kinds, inside.hands.held, (refl, held_again a stay (gives_held g.row.T.coded st inside.hands.names inside.hands.kinds s gave.0 stay.lent stay.back makes k.holds used off), refl))
 
 pub invariant_of-self : goal.invariant_of-self
 invariant_of-self g c =
@@ -51,7 +51,7 @@ invariant_of-self g c =
     (ap (λ (x : State g.row.T.Denot ℕ). x.size) now) (ap (λ (x : State g.row.T.Denot ℕ). x.links) now)
     (subst (λ (t : State g.row.T.Denot ℕ × List (Option (Place g.row.T.Denot))). ArePlaces n t.0 t.1) (λ j. (sym now j, sym c.out-place.ensures.places.0 j))
     (set_place n st items s slot' None a.placed (slot_there st s used) c.out-place.ensures.places.1 refl))
-    c.of.ensures.1
+    c.of.ensures.1 c.of.ensures.2
     ) (λ j. (stay.gives.0 j).now)
 
 pub returns-clause-done : goal.returns-clause-done

@@ -46,7 +46,7 @@ of-requires g c =
     let is = held_is n st inside.places.items a.placed s used c.index_mut.result.now c.held.result.now c.index_mut.ensures.value c.held.ensures.value in
     let stay = c.leave.ensures.leaves in let k = knows a stay.shut in let had = stay.gives in let at = in_place n s 1 had.before (had.was.0 ∙ ap (λ (t : Lies). t.1.1.0) is) in
     let done = parted g.row.T.coded P.puts P.weight P.lighter g.W.Watch.told k had.before had.after stay.back _ _ s at.1 had.gives used one in
-    ((with_further P.puts P.weight s (one_guard_less st s)).0, done.0.names, done.0.kinds, (refl, held_again a stay done.0.holds))
+    ((with_further P.puts P.weight s (one_guard_less st s)).0, done.0.names, done.0.kinds, inside.hands.held, (refl, held_again a stay done.0.holds, refl))
 
 pub invariant_of-self : goal.invariant_of-self
 invariant_of-self g c =
@@ -66,7 +66,7 @@ invariant_of-self g c =
     (places_still n (set_guards st s 0) then (slice_set items s (Some place)) same
     (laid n st s slot' items place a.placed there (place_there n st items a.placed s used) used
     (ap lies_in c.leave.ensures.place ∙ (λ j. ((is j).0, (0, ((is j).1.1.0, (None, (is j).1.1.1.1)))))))))
-    c.of.ensures.1
+    c.of.ensures.1 c.of.ensures.2
 
 pub returns-clause-done : goal.returns-clause-done
 returns-clause-done g c =

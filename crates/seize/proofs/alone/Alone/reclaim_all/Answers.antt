@@ -32,7 +32,7 @@ pub of-requires : goal.of-requires
 of-requires g c =
     let a = c.self.invariant in let stay = c.reclaim_by.ensures.goes in let k = knows a stay.shut in let inside = c.self.inside in let hands = inside.hands in let P = g.R.Puts in
     let gone = stay.gives hands.state hands.names hands.kinds ((k.size, k.distinct), subst (λ (n : Name). ArePlaces n hands.state inside.places.items) k.for.0 a.placed) k.holds in
-    ((reclaim_all P.puts P.weight hands.state).0, gone.0.0, gone.0.1, (refl, held_again a stay gone.0.2))
+    ((reclaim_all P.puts P.weight hands.state).0, gone.0.0, gone.0.1, hands.held, (refl, held_again a stay gone.0.2, refl))
 
 pub invariant_of-self : goal.invariant_of-self
 invariant_of-self g c =
@@ -47,7 +47,7 @@ invariant_of-self g c =
     (ap (λ (x : State g.row.T.Denot ℕ). x.size) now ∙ all_size P.puts P.weight st)
     (ap (λ (x : State g.row.T.Denot ℕ). x.links) now ∙ all_links P.puts P.weight st)
     (subst (λ (x : State g.row.T.Denot ℕ). ArePlaces n x places) (sym now) placed)
-    c.of.ensures.1
+    c.of.ensures.1 c.of.ensures.2
     ) c.reclaim_by.ensures.numbers
 
 pub returns-clause-done : goal.returns-clause-done

@@ -43,7 +43,7 @@ of-requires g c =
     let is = held_is n st inside.places.items a.placed s inside_so.0 c.index_mut.result.now c.held.result.now c.index_mut.ensures.value c.held.ensures.value in
     let stay = c.refresh.ensures.refreshes in let k = knows a stay.shut in let had = stay.gives.2 in let at = in_place n s 1 had.before (had.was.0 ∙ ap (λ (t : Lies). t.1.1.0) is) in
     let done = refreshed g.row.T.coded P.puts P.weight P.lighter g.W.Watch.told k had.before had.after stay.back _ _ s at.1 had.gives.0 inside_so.0 inside_so.1 alone in
-    ((refresh P.puts P.weight st s).1.0, done.1.names, done.1.kinds, (refl, held_again a stay done.1.holds))
+    ((refresh P.puts P.weight st s).1.0, done.1.names, done.1.kinds, inside.hands.held, (refl, held_again a stay done.1.holds, refl))
 
 pub invariant_of-self : goal.invariant_of-self
 invariant_of-self g c =
@@ -57,7 +57,7 @@ invariant_of-self g c =
     outlined_again a stay later c.of.result (slice_set items s (Some place)) c.of.ensures.0 same (refresh_links P.puts P.weight st s) (size_stays P.puts P.weight st s).1
     (laid_again n st later s items place same a.placed inside_so.0 (place_there n st items a.placed s inside_so.0)
     (ap lies_in c.refresh.ensures.place ∙ (λ j. ((is j).0, ((is j).1.0, ((is j).1.1.0, (held j, (is j).1.1.1.1)))))))
-    c.of.ensures.1
+    c.of.ensures.1 c.of.ensures.2
 
 pub returns-clause-done : goal.returns-clause-done
 returns-clause-done g c =

@@ -50,7 +50,7 @@ of-requires g c =
     let loose = c.into_loose-loose.result.0 in let x = c.into_loose-loose.result.1.value in let kind = c.args.kind in
     let lent : IsLentAs (its_value loose) (g.row.T.coded.code x) = subst (λ (t : ℕ × g.row.T.Denot). IsLentAs t.0 (g.row.T.coded.code t.1)) (λ j. (sym c.into_loose-loose.ensures.its.0 j, sym c.into_loose-loose.ensures.content j)) c.requires.own.1 in
     let done = retired g.row.T.coded P.puts P.weight P.lighter g.W.Watch.told k had.before had.after stay.back _ _ s loose kind x at.1 had.gives lent used in
-    ((retire P.puts P.weight st s x kind).1.0, done.1.names, done.1.kinds, (refl, held_again a stay done.1.holds))
+    ((retire P.puts P.weight st s x kind).1.0, done.1.names, done.1.kinds, inside.hands.held, (refl, held_again a stay done.1.holds, refl))
 
 pub invariant_of-self : goal.invariant_of-self
 invariant_of-self g c =
@@ -61,7 +61,7 @@ invariant_of-self g c =
     let now : State g.row.T.Denot ℕ = (retire P.puts P.weight st s x kind).1.0 in let same = retire_outline P.puts P.weight st s x kind in
     outlined_again a c.retire.ensures.retires now c.of.result (slice_set items s (Some place)) c.of.ensures.0 same (retire_links P.puts P.weight st s x kind) ((size_stays P.puts P.weight st s).3 x kind)
     (laid_again n st now s items place same a.placed used (place_there n st items a.placed s used) (ap lies_in c.retire.ensures.place ∙ is))
-    c.of.ensures.1
+    c.of.ensures.1 c.of.ensures.2
 
 pub returns-clause-done : goal.returns-clause-done
 returns-clause-done g c =

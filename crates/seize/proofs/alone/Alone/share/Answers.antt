@@ -1,11 +1,11 @@
-use Rattle.std.proofs.Common.{refl, arith}
+use Rattle.std.proofs.Common.{None, get_or, refl, arith}
 use Rattle.seize_words.specs.Joined.{words_book}
 use Rattle.seize_alone.proofs.Shown.{owned_shown}
 use Rattle.seize_parts.proofs.Homing.{may_lay}
 use Rattle.seize.proofs.alone.Alone.share.Goals as goal
 
 pub stir-requires : goal.stir-requires
-stir-requires g c = record { stand = λ l less. let stands = c.self.invariant.stand l less in (stands.0, stands.1) }
+stir-requires g c = record { stand = λ l less. (get_or c.self.inside.hands.held l None, (c.self.invariant.stand l less).0) }
 
 pub shared-requires : goal.shared-requires
 shared-requires g c =

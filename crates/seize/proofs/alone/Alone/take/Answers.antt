@@ -42,9 +42,11 @@ of-requires g c =
       with_number_in_use st n kind 0,
       inside.hands.names,
       inside.hands.kinds,
+      inside.hands.held,
       (
         ap (λ (h : Hands g.row.T.Denot). with_number_in_use h.state n kind 0) (sym hands),
         subst (λ (p : Porter). Holds g.row.T.coded.code (with_number_in_use st n kind 0) inside.hands.names inside.hands.kinds p.name p.seen) (sym porter) (held_again a stay held.2),
+        ap (λ (h : Hands g.row.T.Denot). h.held) (sym hands),
       ),
     )
 
@@ -69,7 +71,7 @@ invariant_of-self-2 g c =
     λ many counted.
     same_numbers
     (alone_again a stay result items many (counted ∙ sym (ap (λ (x : State g.row.T.Denot ℕ). length x.slots) now))
-    (ap (λ (x : State g.row.T.Denot ℕ). x.size) now ∙ grown_size st n kind) (ap (λ (x : State g.row.T.Denot ℕ). x.links) now ∙ grown_links st n kind) placed holds)
+    (ap (λ (x : State g.row.T.Denot ℕ). x.size) now ∙ grown_size st n kind) (ap (λ (x : State g.row.T.Denot ℕ). x.links) now ∙ grown_links st n kind) placed holds (c.of.ensures.2 ∙ ap (λ (h : Hands g.row.T.Denot). h.held) hands))
     (λ j. (stay.gives.0 j).now) in
     elim c.if-number-self.branch [
       | then-number-self w ↦

@@ -3,7 +3,7 @@ use Rattle.seize_book.specs.Tokens.{IsSole}
 use Rattle.seize_alone.proofs.Ready.{entry_alone}
 use Rattle.seize_parts.proofs.Made.{slot_gives}
 use Rattle.seize_parts.proofs.Stilled.{alone_from, still_prepared}
-use Rattle.seize_parts.proofs.Numbered.{given_below, given_ended, numbers_set, some_same}
+use Rattle.seize_parts.proofs.Numbered.{given_below, given_ended, none_laid, numbers_set, some_same}
 use Rattle.seize_parts.specs.Numbers.{IsTakenAt}
 use Rattle.seize_parts.proofs.numbers.EndingLockWorkNumbersPassUnit.work.Goals as goal
 
@@ -11,18 +11,21 @@ use Rattle.seize_parts.proofs.numbers.EndingLockWorkNumbersPassUnit.work.Goals a
 pub index_mut-requires : goal.index_mut-requires
 index_mut-requires g c =
     let numbers = c.args.numbers.now in let slot = c.args.self.slot in let one = c.give in let number = c.number-n.ensures in let ok = numbers.slots.ok in
-    let below = given_below numbers c.requires.0 c.args.self.words.now c.agree.ensures slot one.new.self c.args.pass.now one.new.pass one.new.numbers one.ensures.of one.ensures.gives one.ensures.numbers in
+    let below = given_below numbers c.requires.0.0 c.args.self.words.now c.agree.ensures slot one.new.self c.args.pass.now one.new.pass one.new.numbers one.ensures.of one.ensures.gives one.ensures.numbers in
     omega (arith, below, number, ok.0)
 
 pub returns : goal.returns
 returns g c =
-    let numbers = c.args.numbers.now in let are = c.requires.0 in let slot = c.args.self.slot in let pass = c.args.pass.now in let one = c.give in
+    let numbers = c.args.numbers.now in let are = c.requires.0.0 in let slot = c.args.self.slot in let pass = c.args.pass.now in let one = c.give in
     let n = c.number-n.result in let slot' = one.new.self in let gives = one.ensures.gives in let number = c.number-n.ensures in
     let ended = given_ended numbers are c.args.self.words.now c.agree.ensures slot slot' pass one.new.pass one.new.numbers one.ensures.of gives one.ensures.numbers in (
       (
         refl,
-        numbers_set numbers are _ one.new.pass slot false one.ensures.numbers n (sym gives.0.same.0 ∙ sym number) (Some slot') refl
-            (λ s is. subst (IsTakenAt numbers.book.name 0 n) (some_same slot' s is) (subst (λ k. IsTakenAt numbers.book.name 0 k slot') (sym number) ended)) refl refl refl,
+        (
+          numbers_set numbers are _ one.new.pass slot false one.ensures.numbers n (sym gives.0.same.0 ∙ sym number) (Some slot') refl
+              (λ s is. subst (IsTakenAt numbers.book.name 0 n) (some_same slot' s is) (subst (λ k. IsTakenAt numbers.book.name 0 k slot') (sym number) ended)) refl refl refl,
+          none_laid numbers.slots.items numbers.least c.lower-numbers.result n (Some slot') c.requires.0.1 c.lower-numbers.ensures.0 c.lower-numbers.ensures.1,
+        ),
       ),
       (
         slot_gives slot pass slot' one.new.pass gives,

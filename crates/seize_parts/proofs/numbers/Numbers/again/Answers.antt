@@ -11,7 +11,7 @@ use Rattle.seize_alone.proofs.Ready.{entry_alone}
 use Rattle.seize_alone.specs.Events.{MakesAlone}
 use Rattle.seize_parts.specs.Makes.{MakesOne}
 use Rattle.seize_parts.proofs.Made.{slot_takes}
-use Rattle.seize_parts.proofs.Numbered.{ended, first_below, first_some, may_take_first, not_used, numbers_set}
+use Rattle.seize_parts.proofs.Numbered.{ended, first_below, first_some, may_take_first, none_taken, not_used, numbers_set}
 use Rattle.seize_parts.proofs.Stilled.{alone_from, still_prepared}
 use Rattle.seize_parts.proofs.numbers.Numbers.again.Goals as goal
 
@@ -43,6 +43,7 @@ returns-clause-numbers g c =
       numbers_set self numbers.0 _ one.new.pass slot true one.ensures.numbers c.args.n (ended self numbers.0 c.args.n found slot is).number c.take.new.self (ap is_none none)
           (λ s some. absurd (cc)) refl refl refl,
       refl,
+      none_taken items c.args.n c.take.new.self found none,
     )
 
 pub returns-clause-made : goal.returns-clause-made

@@ -5,13 +5,14 @@ use Rattle.seize_alone.proofs.Ready.{made_alone}
 use Rattle.seize_alone.specs.Events.{MakesAlone}
 use Rattle.seize_parts.proofs.Made.{makes_slot, none_learned, none_then}
 use Rattle.seize_parts.proofs.Stilled.{alone_from, still_learned}
-use Rattle.seize_parts.proofs.Numbered.{is_full, next_is, numbers_kept, numbers_made}
+use Rattle.seize_parts.proofs.Numbered.{is_full, next_is, none_pushed, numbers_kept, numbers_made, still_none}
+use Rattle.seize_parts.specs.Numbers.{NoneBelow}
 use Rattle.seize_parts.proofs.numbers.Numbers.make.Goals as goal
 
 pub returns-then-is_err-clause-numbers : goal.returns-then-is_err-clause-numbers
 returns-then-is_err-clause-numbers g c =
     let self = c.args.self.now in let are = c.requires.numbers.0 in
-    (numbers_kept self are _ are.next are.next are.is_there (refl, refl, refl) refl c.reserve.ensures.items are.is_there refl, refl)
+    (numbers_kept self are _ are.next are.next are.is_there (refl, refl, refl) refl c.reserve.ensures.items are.is_there refl, refl, still_none self.slots.items _ self.least c.requires.least c.reserve.ensures.items)
 
 pub make-requires : goal.make-requires
 make-requires g c =
@@ -25,7 +26,7 @@ pub returns-in-Ok-clause-numbers : goal.returns-in-Ok-clause-numbers
 returns-in-Ok-clause-numbers g c =
     let self = c.args.self.now in let are = c.requires.numbers.0 in let slots = c.push_reserved.ensures.items ∙ ap (λ items. items ++ None ∷ []) c.reserve.ensures.items in
     let made = c.in-Ok.ensures.made in
-    (numbers_made self are c.requires.taken _ c.learn.new.self c.make.new.pass c.in-Ok.slot.key c.in-Some.next c.in-Ok.next made.0 slots refl refl, refl)
+    (numbers_made self are c.requires.taken _ c.learn.new.self c.make.new.pass c.in-Ok.slot.key c.in-Some.next c.in-Ok.next made.0 slots refl refl, refl, subst (NoneBelow c.len-self.result) (sym slots) (none_pushed self.slots.items c.len-self.result c.requires.taken))
 
 pub returns-in-Ok-clause-made : goal.returns-in-Ok-clause-made
 returns-in-Ok-clause-made g c =
@@ -41,4 +42,4 @@ returns-in-Ok-clause-made g c =
 pub returns-in-Err-clause-numbers : goal.returns-in-Err-clause-numbers
 returns-in-Err-clause-numbers g c =
     let self = c.args.self.now in let are = c.requires.numbers.0 in let refused = c.in-Err.ensures in
-    (numbers_kept self are _ c.in-Some.next c.in-Err.next (sym c.take.ensures.value ∙ c.in-Some.is) refused.refused.1 refused.unchanged.0 c.reserve.ensures.items refl refl, refl)
+    (numbers_kept self are _ c.in-Some.next c.in-Err.next (sym c.take.ensures.value ∙ c.in-Some.is) refused.refused.1 refused.unchanged.0 c.reserve.ensures.items refl refl, refl, still_none self.slots.items _ self.least c.requires.least c.reserve.ensures.items)

@@ -10,10 +10,10 @@ use Rattle.seize_parts.specs.Sweeps.{KeepsOn}
 use Rattle.seize_parts.specs.declared.alone.place.Place.{Place}
 use Rattle.seize_parts.specs.declared.numbers.Numbers.{Numbers}
 use Rattle.seize_parts.specs.declared.numbers.resting.Found.{Found}
-use Rattle.seize_parts.proofs.Cleared.{keeps_looked}
+use Rattle.seize_parts.proofs.Cleared.{keeps_looked, looked_state}
 use Rattle.seize_parts.proofs.InUse.{AreAllHere, all_unused, here_all, taken_still}
 use Rattle.seize_parts.proofs.Placed.{still_for}
-use Rattle.seize_parts.proofs.Resting.{all_lie, left_none, rested_many, rested_on, rested_same, rested_used}
+use Rattle.seize_parts.proofs.Resting.{all_lie, left_none, rested_many, rested_on, rested_same, rested_used, used_as}
 use Rattle.seize_parts.proofs.Swept.{keeps_then, still_sole}
 use Rattle.seize_parts.proofs.numbers.Numbers.rest.Goals as goal
 use Rattle.seize_parts.proofs.numbers.Numbers.rest.Goals.{then-all_here, else-all_here}
@@ -76,6 +76,7 @@ returns-clause-rests g c =
       goes_on = rested_on p p2 p3 keeps looks sole2;
       made = many ∙ rested_many p p2 p3 keeps looks sole2 items flags give.idle;
       left = left;
+      numbers = used_as (state_seen p) (state_seen p3) (flags ∙ give.numbers.1.1 ∙ take.taken.1.1 ∙ sym c.requires.numbers.0.flags ∙ sym look0.used.0 ∙ ap used (looked_state p p0 look0.looks.0 sole));
       used = λ is. rested_used p p2 p3 keeps looks sole2 items flags give.idle found left (lie is);
       kept = kept;
     } in

@@ -1,7 +1,7 @@
 use Rattle.std.proofs.Common.{◌≡◌, ap, refl, sym, subst, ◌∙◌, arith}
 use Rattle.seize_calls.specs.declared.slot.Slot.{Slot}
 use Rattle.seize_book.specs.declared.book.pass.Pass.{Pass}
-use Rattle.seize_parts.specs.Numbers.{AreNumbers, HasTaken}
+use Rattle.seize_parts.specs.Numbers.{AreNumbers, HasTaken, KnowsLeast}
 use Rattle.seize_parts.specs.declared.numbers.Numbers.{Numbers}
 use Rattle.seize_parts.proofs.InUse.{taken_still}
 use Rattle.seize_parts.proofs.numbers.Numbers.take.Goals.{in-None+in_ok-slot-in-None, in-Some}
@@ -15,12 +15,12 @@ again-slot-requires g c =
 pub make-requires : goal.make-requires
 make-requires g c =
     let numbers = c.requires.numbers in
-    (omega arith, ((taken_still 0 c.args.self.now _ numbers.0 refl refl refl refl refl, numbers.1), (c.requires.pass, sym c.first-first.ensures ∙ c.in-None.is)))
+    (omega arith, ((taken_still 0 c.args.self.now _ numbers.0 refl refl refl refl refl, numbers.1), (c.requires.pass, (sym c.first-first.ensures ∙ c.in-None.is, c.requires.least))))
 
 pub returns-clause-numbers : goal.returns-clause-numbers
 returns-clause-numbers g c = elim c.match-first.branch [
-  | in-Some w ↦ subst (λ (numbers : Numbers g.row.T.Denot). AreNumbers numbers × (numbers.book ≡ c.args.self.now.book)) (sym w.self-is) w.again-slot.ensures.numbers
-  | in-None+in_ok-slot-in-None w ↦ subst (λ (numbers : Numbers g.row.T.Denot). AreNumbers numbers × (numbers.book ≡ c.args.self.now.book)) (sym w.self-is) w.make.ensures.numbers
+  | in-Some w ↦ subst (λ (numbers : Numbers g.row.T.Denot). AreNumbers numbers × (numbers.book ≡ c.args.self.now.book) × KnowsLeast numbers) (sym w.self-is) w.again-slot.ensures.numbers
+  | in-None+in_ok-slot-in-None w ↦ subst (λ (numbers : Numbers g.row.T.Denot). AreNumbers numbers × (numbers.book ≡ c.args.self.now.book) × KnowsLeast numbers) (sym w.self-is) w.make.ensures.numbers
 ]
 
 pub returns-clause-made : goal.returns-clause-made

@@ -1,5 +1,6 @@
 -- `of` takes the state, the names and the kinds out of what is asked.
 use Rattle.seize_book.proofs.Kit.{ℕ, List, [], ◌∷◌, refl, proved, named, Val, vptr, SProp, emp, Fml, ftrue, fsep, flft, ‵, raw, ◌⊛◌, ◌$◌, ◌∵◌, !, qed, by, move, keep, split, fjoin, use0, no_more, and_then, returns, enter, alloc_all, pass_all, free_all, look_at, get, sets, agg, fact, fact_i, heard, tables, yes, owns, types_at, plain, RefOf, shr_vals, shr_Tells, RattleType, nothing, Stays, stay_dropped, walk_of, Goes-dropped}
+use Rattle.std.specs.Prelude.{Option}
 use mir.Syntax.{a_type, dcons, dnil}
 use mir.MapTy.{inst_fn}
 use denote.Param.{param, bounded}
@@ -22,7 +23,7 @@ of_spec 𝓤 𝓛 𝓜 𝓡 wired X Y Z LX LY LZ g dict met =
     let hb : ℕ = a.0.ref_ptr.0 in let ho : ℕ = a.0.ref_ptr.1 in let pb : ℕ = a.1.0.ref_ptr.0 in let po : ℕ = a.1.0.ref_ptr.1 in let sb : ℕ = a.1.1.0.ref_ptr.0 in let so : ℕ = a.1.1.0.ref_ptr.1 in
     let y : (walk_of 𝓛 En hs c).Ghost = ((κs, qs, bounds, a, (vptr hb ho ∷ [], (vptr pb po ∷ [], (vptr sb so ∷ [], tt)))), gh) in let Post : Val → SProp 𝓤 = (walk_of 𝓛 En hs c).post y in
     let toks : Fml = fsep (flft κs.0 qs.0) (fsep (flft κs.1.0 qs.1.0) (fsep (flft κs.1.1.0 qs.1.1.0) (fsep (flft κs.1.1.1.0 qs.1.1.1.0) (fsep (flft κs.1.1.1.1.0 qs.1.1.1.1.0) (fsep (flft κs.1.1.1.1.1.0 qs.1.1.1.1.1.0) ftrue))))) in
-    let Asked : Type 0 = (st : State X.Denot ℕ) × (names : List (ℕ × X.Denot)) × (kinds : List (ℕ × ℕ)) × g.are st names kinds in
+    let Asked : Type 0 = (st : State X.Denot ℕ) × (names : List (ℕ × X.Denot)) × (kinds : List (ℕ × ℕ)) × (held : List (Option ℕ)) × g.are st names kinds held in
     qed 𝓛 ((‵ toks ⊛ ‵ (owns (types_at En.signature.params κs) a y.0.4)) ∷ raw (fact 𝓤 _) ∷ raw (fact 𝓤 _) ∷ raw (fact 𝓤 _) ∷ raw (fact 𝓤 Asked) ∷ []) ∵ move ! (4 ∷ 0 ∷ []) $ heard ! Asked (λ asked. split ! $ keep ! (0 ∷ []) $
     enter ! 𝓣.C 𝓣.Λ fn (vptr hb ho ∷ vptr pb po ∷ vptr sb so ∷ []) Post $ alloc_all ! (λ l. pass_all ! refl ((tt, tt), ((tt, tt), ((tt, tt), tt))) $
     sets ! (agg ! (no_more !)) refl (tt, tt) $ sets ! (agg ! (and_then ! (get ! refl) (no_more !))) refl (tt, (tt, tt)) $
@@ -30,4 +31,4 @@ of_spec 𝓤 𝓛 𝓜 𝓡 wired X Y Z LX LY LZ g dict met =
     -- [the result; the tokens]
     nothing ! $ nothing ! $ fjoin ! $ nothing ! $ fjoin ! $ nothing ! $ fjoin ! $
     returns ! (look_at ! 0 refl) $ free_all ! refl $ keep ! (2 ∷ 0 ∷ 1 ∷ []) $
-    by ! (ends 𝓛 En hs c y token (record { marker = record {}; state = asked.0; names = asked.1; kinds = asked.2 }) (tt, (tt, (tt, tt))) (tt, (tt, (tt, tt))) (fact_i 𝓤 _ (emp 𝓤) asked.3)))))
+    by ! (ends 𝓛 En hs c y token (record { marker = record {}; state = asked.0; names = asked.1; kinds = asked.2; held = asked.3 }) (tt, (tt, (tt, tt))) (tt, (tt, (tt, tt))) (fact_i 𝓤 _ (emp 𝓤) asked.4)))))
