@@ -1,7 +1,6 @@
 -- Which reservation lies in the place of a registration or of a guard, and what its works tell of it.
-use Rattle.std.proofs.Common.{◌≡◌, ◌⊎◌, ◌<◌, ◌≤◌, ◌-◌, ◌^◌, ℕ, List, [], ◌∷◌, inl, inr, arith, ap, append_assoc, subst, sym, ◌∙◌}
+use Rattle.std.proofs.Common.{◌≡◌, ◌⊎◌, ◌<◌, ◌≤◌, ℕ, List, [], ◌∷◌, inl, inr, arith, ap, append_assoc, subst, sym, ◌∙◌}
 use base.Stored.{Gv}
-use denote.Bor.{Bor}
 use Rattle.seize_machine.specs.Machine.Event.{Begin, Event, Give, Return}
 use Rattle.seize_machine.specs.declared.machine.event.Answer.{Answer}
 use Rattle.seize_machine.specs.declared.machine.event.Answer.TheVariants.{Done}

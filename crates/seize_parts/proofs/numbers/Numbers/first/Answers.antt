@@ -1,6 +1,5 @@
-use Rattle.std.proofs.Common.{◌≡◌, ◌<◌, ◌≤◌, ℕ, None, arith, ap, is_some, length, subst, sym, ◌∙◌}
+use Rattle.std.proofs.Common.{◌<◌, ◌≤◌, None, arith, ap, is_some, length, sym, ◌∙◌}
 use Rattle.std.proofs.lemmas.List.{get_or_default}
-use Rattle.seize_parts.specs.Numbers.{NoneBelow}
 use Rattle.seize_parts.proofs.Numbered.{first_met, none_met, none_up_to}
 use Rattle.seize_parts.proofs.numbers.Numbers.first.Goals as goal
 
