@@ -73,8 +73,13 @@ fn retire(
 fn the_watch_is_told_just_before_the_reclaimer(rt: HostRuntime) -> Result<(), Fail> {
     let log = AtomicU64::new(0);
     let reclaimer = Logging { log: &log };
-    let collector: Collector<u64, Logging<'_>> =
-        Collector::with_reclaimer(rt.alloc(), &mut IdSource::new(), 1, 0, reclaimer)?;
+    let collector: Collector<u64, Logging<'_>> = Collector::with_reclaimer(
+        rt.alloc(),
+        &mut IdSource::new(),
+        1,
+        0,
+        reclaimer,
+    )?;
     let Ok(mut alone) = collector.batch_size(2).alone() else {
         return Err(Fail::new("the collector came back"));
     };
