@@ -246,8 +246,8 @@ impl<T: Drop, R: Reclaim<T>> Collector<T, R> {
 
     /// A slot for the calling thread: that of the least number that is not in use. The event `Take`.
     ///
-    /// It waits for other threads that register or end, and looks through the slots that were made. It asks for memory only where no slot
-    /// of a registration that ended is left.
+    /// It waits for other threads that register or end, and looks through the slots that were made, from the first one that may be free. It
+    /// asks for memory only where no slot of a registration that ended is left.
     ///
     /// # Errors
     ///

@@ -1,11 +1,12 @@
 //! What was forgotten comes back once the collector is had alone: its slots leave, what waited for them ends, and their numbers go back.
 //! So it is with the collector's drop. What is gone in another way stays.
 ghost use Rattle.std.specs.Prelude.{◌≡◌};
+ghost use base.Stored.{coded_unit};
 ghost use Rattle.seize.specs.Collectors.{IsPassOf};
 ghost use Rattle.seize.specs.Registrations.{registered_in};
 
 use crate::ending::{Counting, collector, put_in_all};
-use seize::{Collector, IdSource, LocalGuard, Pass, Refusal, Registration, Unlinked};
+use seize::{Collector, IdSource, LocalGuard, Pass, Refusal, Registration, Unlinked, Watch};
 use seize_threads_rows::values::{Counted, Digit, ended};
 use std::alloc::{AllocError, Global};
 use std::ops::Range;
@@ -16,6 +17,27 @@ use std::thread::Threads;
 use std::{mem, thread};
 
 pub(crate) type Telling<'a> = Collector<Digit<'a>>;
+
+/// Keeps the digits of the values that it was told of, in order.
+#[derive(Drop)]
+pub(crate) struct Digits {
+    /// The digits, as one number.
+    pub(crate) all: u64,
+}
+
+impl<'a> Watch<Digit<'a>> for Digits {
+    ghost Seen = { Unit {0} };
+
+    ghost coded = { coded_unit };
+
+    ghost seen = { λ _. tt };
+
+    ghost told = { λ _ _. tt };
+
+    fn gone(&mut self, value: &Digit<'a>) {
+        self.all = self.all.wrapping_mul(10).wrapping_add(value.digit);
+    }
+}
 
 // A collector with no link, and batches of this many values.
 pub(crate) fn telling<'a>(alloc: Global, size: usize) -> Result<Telling<'a>, Refusal> {
@@ -78,15 +100,27 @@ pub(crate) fn forget_owned<'a>(
     Ok(registration.end(rt, &mut pass))
 }
 
+// A thread does so, which ends then.
+fn forget_owned_elsewhere<'a, R: Threads + Wait + Sync>(
+    rt: &R,
+    collector: &Telling<'a>,
+    told: &'a AtomicU64,
+) -> Result<bool, Refusal> {
+    let (done, ()) = thread::join(rt, move || forget_owned(rt, collector, told), || {});
+    done
+}
+
 #[test]
 fn what_waits_for_a_forgotten_owned_guard_ends(rt: HostRuntime) -> Result<(), Fail> {
     let told = AtomicU64::new(0);
     let mut collector = telling(rt.alloc(), 1)?;
-    for ends in [321, 321321] {
-        assert!(rt; forget_owned(&rt, &collector, &told)?);
+    for (before, ends) in [(0, 321), (321, 321321)] {
+        assert!(rt; forget_owned_elsewhere(&rt, &collector, &told)?);
         assert_eq!(rt; register(&rt, &collector)?, (1, true));
-        assert!(rt; collector.reclaim_all(&mut ()));
-        assert_eq!(rt; told.load(Ordering::SeqCst), ends);
+        assert_eq!(rt; told.load(Ordering::SeqCst), before);
+        let mut heard = Digits { all: 0 };
+        assert!(rt; collector.reclaim_all(&mut heard));
+        assert_eq!(rt; (heard.all, told.load(Ordering::SeqCst)), (321, ends));
         assert_eq!(rt; register(&rt, &collector)?, (0, true));
     }
     Ok(())
@@ -147,8 +181,9 @@ fn what_forgotten_registrations_retired_ends(rt: HostRuntime) -> Result<(), Fail
     forget_both(&rt, &collector, &told)?;
     assert_eq!(rt; register(&rt, &collector)?, (2, true));
     assert_eq!(rt; told.load(Ordering::SeqCst), 0);
-    assert!(rt; collector.reclaim_all(&mut ()));
-    assert_eq!(rt; told.load(Ordering::SeqCst), 1243);
+    let mut heard = Digits { all: 0 };
+    assert!(rt; collector.reclaim_all(&mut heard));
+    assert_eq!(rt; (heard.all, told.load(Ordering::SeqCst)), (1243, 1243));
     assert_eq!(rt; register(&rt, &collector)?, (0, true));
     Ok(())
 }

@@ -2,7 +2,7 @@
 //! holder that is lost keeps the caller out.
 ghost use Rattle.seize.specs.Collectors.{IsPassOf};
 
-use crate::forgotten::{Telling, forget_guard, forget_owned, register, retire, telling};
+use crate::forgotten::{Digits, Telling, forget_guard, forget_owned, register, retire, telling};
 use seize::{Alone, Refusal, Registration};
 use seize_threads_rows::values::Digit;
 use std::alloc::Global;
@@ -129,6 +129,69 @@ fn what_was_taken_over_goes_at_the_drop(rt: HostRuntime) -> Result<(), Fail> {
     assert_eq!(rt; told.load(Ordering::SeqCst), 0);
     drop(alone);
     assert_eq!(rt; told.load(Ordering::SeqCst), 321);
+    Ok(())
+}
+
+// A registration retires 4, and ends.
+fn retire_one<'a>(rt: &impl Wait, collector: &Telling<'a>, told: &'a AtomicU64) -> bool {
+    let mut pass = collector.pass();
+    let Ok(registration) = collector.register(rt, &mut pass) else {
+        return false;
+    };
+    retire(rt, collector, &registration, 4..5, told, &mut pass);
+    registration.end(rt, &mut pass)
+}
+
+// A thread does so.
+fn retire_elsewhere<'a, R: Threads + Wait + Sync>(
+    rt: &R,
+    collector: &Telling<'a>,
+    told: &'a AtomicU64,
+) -> bool {
+    let (done, ()) = thread::join(rt, move || retire_one(rt, collector, told), || {});
+    done
+}
+
+// A collector that one caller had between two calls, and left with slot 0, which has two guards still. Then a thread retires 4 beside it.
+fn left<'a, R: Threads + Wait + Sync>(
+    rt: &R,
+    alloc: Global,
+    told: &'a AtomicU64,
+) -> Result<Telling<'a>, Fail> {
+    let mut alone = taken_over(rt, alloc, told)?;
+    alone.leave(0, &mut ())?;
+    let collector = alone.share();
+    if !retire_elsewhere(rt, &collector, told) {
+        return Err(Fail::new("nothing was retired"));
+    }
+    Ok(collector)
+}
+
+// All of it waits for slot 0, what was retired last goes first, and the watch is told of it.
+#[test]
+fn what_one_caller_left_goes_as_all_is_reclaimed(rt: HostRuntime) -> Result<(), Fail> {
+    let told = AtomicU64::new(0);
+    let mut collector = left(&rt, rt.alloc(), &told)?;
+    assert_eq!(rt; told.load(Ordering::SeqCst), 0);
+    let mut heard = Digits { all: 0 };
+    assert!(rt; collector.reclaim_all(&mut heard));
+    assert_eq!(rt; (heard.all, told.load(Ordering::SeqCst)), (4321, 4321));
+    assert_eq!(rt; register(&rt, &collector)?, (0, true));
+    Ok(())
+}
+
+// So it does where one caller takes that over again.
+#[test]
+fn what_one_caller_left_goes_as_another_reclaims_all(rt: HostRuntime) -> Result<(), Fail> {
+    let told = AtomicU64::new(0);
+    let Ok(mut alone) = left(&rt, rt.alloc(), &told)?.alone() else {
+        return Err(Fail::new("a holder is lost"));
+    };
+    assert_eq!(rt; told.load(Ordering::SeqCst), 0);
+    let mut heard = Digits { all: 0 };
+    alone.reclaim_all(&mut heard);
+    assert_eq!(rt; (heard.all, told.load(Ordering::SeqCst)), (4321, 4321));
+    assert_eq!(rt; alone.register()?, 0);
     Ok(())
 }
 

@@ -129,13 +129,14 @@ pub(crate) fn leaves(
     Ok(inside)
 }
 
-// Makes 1, which holds the values from 4 on, and 2 and 3, and gives the sign. A slot without a guard retires them in order.
+// Makes 1, which holds the values from 4 on, and 2 and 3, and gives the sign. A slot without a guard retires them in order. It says how
+// many were gone before the last of these calls.
 fn retire_a_wide_value(
     rt: &impl Abort,
     alloc: Global,
     alone: &mut AloneNests<'_>,
     heard: &mut Heard,
-) -> Result<(), Refusal> {
+) -> Result<usize, Refusal> {
     let s = alone.register()?;
     let inside = leaves(alloc, alone, 4, MANY)?;
     let first = around(alone, 1, inside)?;
@@ -144,21 +145,25 @@ fn retire_a_wide_value(
     give_sign(alloc)?;
     retire(rt, alone, s, first, heard);
     retire(rt, alone, s, second, heard);
+    let before = heard.numbers.len();
     retire(rt, alone, s, third, heard);
-    Ok(())
+    Ok(before)
 }
 
-// At size 3 all but the last are gone in the call that retires 3, and that one ends with the collector. None asks for memory.
+// At size 3 all but the last are gone in the call that retires 3, and that one as all is reclaimed. None asks for memory.
 #[test]
 fn a_wide_value_goes_in_one_call(rt: HostRuntime) -> Result<(), Fail> {
     let ends = Ends::with_room(rt.alloc(), 0)?;
     let mut heard = Heard::with_room(rt.alloc(), MANY as usize + 3)?;
     let mut alone = alone_nests(rt.alloc(), 3, 0, &ends)?;
-    retire_a_wide_value(&rt, rt.alloc(), &mut alone, &mut heard)?;
-    assert_eq!(rt; heard.numbers.len() as u64, MANY + 2);
+    let before = retire_a_wide_value(&rt, rt.alloc(), &mut alone, &mut heard)?;
+    assert_eq!(rt; (before, heard.numbers.len() as u64), (0, MANY + 2));
+    alone.reclaim_all(&mut heard);
+    assert_eq!(rt;
+        (ends.many(), heard.numbers.len() as u64),
+        (MANY + 3, MANY + 3)
+    );
     assert!(rt; count_up(heard.numbers.as_slice()));
-    drop(alone);
-    assert_eq!(rt; ends.many(), MANY + 3);
     Ok(())
 }
 

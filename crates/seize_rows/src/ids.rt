@@ -85,7 +85,9 @@ fn is_of(
 fn the_collector_of_a_guard_equals_its_own_alone(rt: HostRuntime) -> Result<(), Fail> {
     let mut ids = IdSource::new();
     let first: Collector<u64> = Collector::new(rt.alloc(), &mut ids, 1, 0)?;
-    let second: Collector<u64> = Collector::new(rt.alloc(), &mut ids, 1, 0)?;
+    let made: Collector<u64> = Collector::new(rt.alloc(), &mut ids, 1, 0)?;
+    let second = made.batch_size(3);
+    assert!(rt; first == first && first != second);
     assert_eq!(rt; is_of(&rt, &first, &second), (true, false));
     assert_eq!(rt; is_of(&rt, &second, &first), (true, false));
     Ok(())
