@@ -3,22 +3,6 @@
 #![tactic(auto)]
 
 #[cfg(test)]
-mod alone;
-#[cfg(test)]
-mod alone_further;
-#[cfg(test)]
-mod alone_links;
-#[cfg(test)]
-mod alone_lists;
-#[cfg(test)]
-mod alone_memory;
-#[cfg(test)]
-mod alone_reclaiming;
-#[cfg(test)]
-mod chance;
-#[cfg(test)]
-mod grouped;
-#[cfg(test)]
 mod guards;
 #[cfg(test)]
 mod ids;
@@ -29,11 +13,7 @@ mod memory;
 #[cfg(test)]
 mod nested;
 #[cfg(test)]
-mod nests;
-#[cfg(test)]
 mod numbers;
-#[cfg(test)]
-mod oracle;
 #[cfg(test)]
 mod owned;
 #[cfg(test)]
@@ -43,11 +23,9 @@ mod passed_on;
 #[cfg(test)]
 mod places;
 #[cfg(test)]
-mod random;
-#[cfg(test)]
 mod refused;
+pub mod sign;
+pub mod telling;
 mod threads;
-#[cfg(test)]
-mod watching;
 #[cfg(test)]
 mod worked;

@@ -5,15 +5,13 @@ ghost use Rattle.seize.specs.Collectors.{IsBlockOf, IsPassOf, its_links};
 ghost use Rattle.seize.specs.Guards.{guard_collector};
 ghost use Rattle.seize.specs.Registrations.{registered_in};
 
+use crate::sign::give_sign;
 use seize::{Collector, IdSource, LocalGuard, Owned, Pass, Refusal, Registration};
 use seize_threads_rows::values::{Counted, ended};
 use std::alloc::Global;
 use std::sync::Wait;
 use std::sync::atomic::AtomicU64;
 use std::test::*;
-
-// The size of the request that is the sign, in bytes. tools/memory knows it too.
-const SIGN: usize = 4_099;
 
 // How many blocks are made first, and how many links take them: each link takes four, of which three are retired.
 const BLOCKS: u64 = 40;
@@ -25,13 +23,6 @@ fn collector<'a>(alloc: Global) -> Result<Collector<Counted<'a>>, Refusal>
     ensures { IfOk result (λ made. its_links made ≡ 10) }
 {
     Collector::new(alloc, &mut IdSource::new(), 1, 10)
-}
-
-// Gives the sign.
-pub(crate) fn give_sign(alloc: Global) -> Result<(), Refusal> {
-    let sign: Vec<u8> = Vec::with_capacity(alloc, SIGN)?;
-    drop(sign);
-    Ok(())
 }
 
 // A block with a value that counts its end.

@@ -4,7 +4,8 @@ ghost use Rattle.seize.specs.Collectors.{IsPassOf, its_links};
 ghost use Rattle.seize.specs.Guards.{guard_collector};
 ghost use Rattle.seize.specs.Registrations.{registered_in};
 
-use crate::memory::{block, give_sign, put};
+use crate::memory::{block, put};
+use crate::sign::give_sign;
 use seize::{Collector, IdSource, LocalGuard, Pass, Refusal, Registration, Unlinked};
 use seize_threads_rows::values::{Counted, ended};
 use std::alloc::Global;

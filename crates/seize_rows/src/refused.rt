@@ -5,8 +5,8 @@ ghost use Rattle.seize.specs.Collectors.{IsPassOf};
 ghost use Rattle.seize.specs.OwnedGuards.{owned_collector};
 ghost use Rattle.seize.specs.Registrations.{registered_in};
 
-use crate::memory::give_sign;
-use crate::worked::{Telling, telling};
+use crate::sign::give_sign;
+use crate::telling::{Telling, telling};
 use seize::{Alone, Collector, IdSource, Owned, OwnedGuard, Pass, Refusal, Registration, Unlinked};
 use seize_threads_rows::values::Digit;
 use std::alloc::Global;

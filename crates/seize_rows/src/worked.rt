@@ -1,15 +1,14 @@
 //! Worked rows: calls of one or two slots in an order that is written down, which values end at which of them, and in which order.
-ghost use Rattle.std.specs.Prelude.{◌≡◌, ◌<◌, IfOk};
+ghost use Rattle.std.specs.Prelude.{◌≡◌, ◌<◌};
 ghost use Rattle.seize.specs.Collectors.{IsPassOf, its_links};
 ghost use Rattle.seize.specs.Guards.{guard_collector};
-ghost use Rattle.seize.specs.Registrations.{registered_in};
 
 use crate::guards::{Counting, collector, retire};
 use crate::meeting;
 use crate::owned::{Handed, leave_elsewhere};
-use seize::{Collector, IdSource, LocalGuard, Pass, Refusal, Registration, Unlinked};
+use crate::telling::{Telling, defer, defer_alone, telling};
+use seize::{Collector, IdSource, LocalGuard, Pass, Unlinked};
 use seize_threads_rows::values::{Counted, Digit, ended};
-use std::alloc::Global;
 use std::process::Abort;
 use std::sync::Wait;
 use std::sync::atomic::{AtomicU64, Ordering};
@@ -130,48 +129,6 @@ fn what_another_thread_retired_ends_with_the_lone_refresh(rt: HostRuntime) -> Re
     drop(collector);
     assert_eq!(rt; ended(&ends), 6);
     Ok(())
-}
-
-pub(crate) type Telling<'a> = Collector<Digit<'a>>;
-
-// A collector with one link, and batches of this many values.
-pub(crate) fn telling<'a>(alloc: Global, size: usize) -> Result<Telling<'a>, Refusal>
-    ensures { IfOk result (λ made. 0 < its_links made) }
-{
-    let made: Telling<'a> = Collector::new(alloc, &mut IdSource::new(), 1, 1)?;
-    Ok(made.batch_size(size))
-}
-
-// A guard retires a value that was in no link.
-fn defer<'a>(
-    rt: &impl Wait,
-    guard: &LocalGuard<'_, '_, Digit<'a>>,
-    digit: u64,
-    told: &'a AtomicU64,
-    pass: &mut Pass,
-)
-    requires { IsPassOf (guard_collector guard.now) pass.old }
-    ensures { IsPassOf (guard_collector guard.now) pass.new }
-{
-    if let Ok(owned) = guard.owned(Digit { digit, told }) {
-        guard.defer_retire(rt, pass, Unlinked::from_owned(owned, guard.collector()));
-    }
-}
-
-// A guard does so that leaves then.
-pub(crate) fn defer_alone<'a>(
-    rt: &(impl Wait + Abort),
-    registration: &Registration<'_, Digit<'a>>,
-    digit: u64,
-    told: &'a AtomicU64,
-    pass: &mut Pass,
-)
-    requires { IsPassOf (registered_in registration.now) pass.old }
-    ensures { IsPassOf (registered_in registration.now) pass.new }
-{
-    let guard = registration.enter(pass).expect(rt, "a guard");
-    defer(rt, &guard, digit, told, pass);
-    guard.leave(rt, pass);
 }
 
 // Slot 0 retires 1 and 2 while no other slot is active, and 3 while slot 1 is, whose guard leaves first, on another thread.

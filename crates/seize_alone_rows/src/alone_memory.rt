@@ -1,0 +1,105 @@
+//! Calls of a collector in one caller's hands that ask for no memory. The script `tools/memory` runs this test with each request after the
+//! sign refused.
+ghost use Rattle.std.specs.Prelude.{◌≡◌, All};
+ghost use Rattle.seize.specs.Alones.{IsSame};
+ghost use Rattle.seize.specs.Blocks.{Belongs};
+ghost use Rattle.seize_uses.specs.Nests.{owners_of};
+
+use crate::alone_further::leaves;
+use crate::nests::{AloneNests, Block, Ends, Heard, alone_nests, leaf, number_in, retire};
+use seize::Refusal;
+use seize_rows::sign::give_sign;
+use std::alloc::Global;
+use std::process::Abort;
+use std::test::*;
+
+// How many values are retired one after another.
+const MANY: u64 = 30;
+
+// The slot, which has a guard, swaps this into the link, and retires what came out.
+fn put(
+    rt: &impl Abort,
+    alone: &mut AloneNests<'_>,
+    s: usize,
+    block: Block,
+    heard: &mut Heard,
+) -> Result<(), Refusal>
+    requires link { alone.old.links ≡ 1 }
+    requires block { Belongs owners_of alone.old.book.store block }
+    ensures { IsSame alone.old alone.new }
+{
+    let old = match alone.swap(s, 0, Some(block)) {
+        Ok(Some(old)) => old,
+        Ok(None) => return Ok(()),
+        Err((refusal, _)) => return Err(refusal),
+    };
+    match alone.retire(s, old, 0, heard) {
+        Ok(()) => Ok(()),
+        Err((_, _old)) => rt.abort(),
+    }
+}
+
+// The slot retires these.
+fn retire_all(
+    rt: &impl Abort,
+    alone: &mut AloneNests<'_>,
+    s: usize,
+    blocks: Vec<Block>,
+    heard: &mut Heard,
+)
+    requires { All (Belongs owners_of alone.old.book.store) blocks.items }
+    ensures { IsSame alone.old alone.new }
+{
+    for block in blocks {
+        retire(rt, alone, s, block, heard);
+    }
+}
+
+// Makes the blocks and a slot, and gives the sign. Then the slot enters, puts a value into the link, retires the others, flushes,
+// refreshes, swaps and leaves. It ends, is registered again and enters; and all is reclaimed. How many values were gone after the
+// retirements, the flush, the refresh, the end and at last.
+fn make_calls(
+    rt: &impl Abort,
+    alloc: Global,
+    alone: &mut AloneNests<'_>,
+    heard: &mut Heard,
+) -> Result<[usize; 5], Refusal>
+    requires { alone.old.links ≡ 1 }
+{
+    let blocks = leaves(alloc, alone, 0, MANY)?;
+    let first = leaf(alloc, alone, MANY)?;
+    let second = leaf(alloc, alone, MANY + 1)?;
+    let s = alone.register()?;
+    give_sign(alloc)?;
+    alone.enter(s)?;
+    put(rt, alone, s, first, heard)?;
+    retire_all(rt, alone, s, blocks, heard);
+    let retired = heard.numbers.len();
+    alone.flush(s, heard)?;
+    let flushed = heard.numbers.len();
+    alone.refresh(s, heard)?;
+    let refreshed = heard.numbers.len();
+    put(rt, alone, s, second, heard)?;
+    assert_eq!(rt; number_in(alone, s, 0)?, Some(MANY + 1));
+    alone.leave(s, heard)?;
+    assert!(rt; alone.end(s)?);
+    let left = heard.numbers.len();
+    assert_eq!(rt; alone.register()?, s);
+    alone.enter(s)?;
+    alone.reclaim_all(heard);
+    Ok([retired, flushed, refreshed, left, heard.numbers.len()])
+}
+
+// None of these calls is refused where each request for memory after the sign is, and values go as they do with it.
+#[test]
+fn calls_of_one_caller_ask_for_no_memory(rt: HostRuntime) -> Result<(), Fail> {
+    let ends = Ends::with_room(rt.alloc(), MANY + 2)?;
+    let mut heard = Heard::with_room(rt.alloc(), MANY as usize + 2)?;
+    let mut alone = alone_nests(rt.alloc(), 32, 1, &ends)?;
+    let gone = make_calls(&rt, rt.alloc(), &mut alone, &mut heard)?;
+    assert_eq!(rt; gone, [0, 0, 30, 30, 31]);
+    assert_eq!(rt; ends.many(), MANY + 1);
+    drop(alone);
+    assert_eq!(rt; ends.many(), MANY + 2);
+    Ok(())
+}

@@ -1,7 +1,0 @@
-use Rattle.std.proofs.Common.{◌≡◌}
-use Rattle.seize.specs.Blocks.{Belongs}
-use Rattle.seize_uses.specs.Nests.{owners_of}
-use Rattle.seize_rows.proofs.chance.block.Given as goal
-
-abbrev pub invariant-loop : goal.invariant-loop
-invariant-loop l = (l.alone ≡ l.fn.alone) × Belongs owners_of l.fn.alone.book.store l.block
