@@ -1,11 +1,10 @@
 -- What the calls of a guard make, as users see it, with its unit of the slot's activation.
-use Rattle.std.proofs.Common.{◌≡◌, ◌-◌, ◌^◌, ap, ℕ, false, List, Option, None, Some, IfSome, is_some, refl, sym, subst, ◌∙◌}
+use Rattle.std.proofs.Common.{◌≡◌, ◌-◌, ◌^◌, ap, ℕ, false, Option, None, Some, IfSome, is_some, refl, sym, subst, ◌∙◌}
 use Rattle.std.proofs.lemmas.Bool.{false≢true}
 use base.Stored.{Gv}
 use Rattle.seize_machine.specs.Machine.Event.{ExchangeLink, ReadLink}
 use Rattle.seize_machine.specs.declared.machine.event.Answer.TheVariants.{Link as Held}
 use Rattle.seize_machine.specs.declared.machine.event.Exchange.TheVariants.{Compare, Swap}
-use Rattle.seize_machine.specs.declared.machine.event.Job.{Job}
 use Rattle.seize_book.specs.Books.{Learns}
 use Rattle.seize_book.specs.declared.book.pass.Pass.{Pass}
 use Rattle.seize_book.specs.declared.book.seen.Seen.{Seen}
@@ -18,7 +17,7 @@ use Rattle.seize_words.specs.declared.glimpse.Glimpse.{Glimpse}
 use Rattle.seize_words.specs.declared.link.Link.{Link}
 use Rattle.seize_words.specs.declared.link.MaybeKey.{MaybeKey}
 use Rattle.seize.specs.Links.{ShowsIn, shared_book, shared_name, shared_value}
-use Rattle.seize_parts.specs.Makes.{MakesCall, MakesNone, MakesOne}
+use Rattle.seize_parts.specs.Makes.{MakesNone, MakesOne}
 use Rattle.seize_parts.specs.Reservations.{IsUnit}
 use Rattle.seize.specs.declared.block.shared.Shared.{Shared}
 use Rattle.seize_book.specs.Tokens.{Name}

@@ -1,16 +1,11 @@
 -- A collector in one caller's hands: what the porter's first pass knows of the state, and what lies in the places.
-use Rattle.std.proofs.Common.{arith, ◌≡◌, ◌⊎◌, ℕ, ◌==◌, ◌<◌, ◌≤◌, Bool, true, false, not, if◌then◌else◌, List, length, Option, Some, None, option_map, get_or, is_some, inl, inr, slice_set, refl, sym, ap, subst, ◌∙◌}
-use Rattle.std.proofs.lemmas.Bool.{cases_lt, false≢true}
-use Rattle.std.proofs.lemmas.List.{get_or-set_other, get_or-set_same, get_or_past, get_or_read}
+use Rattle.std.proofs.Common.{arith, ◌≡◌, ◌⊎◌, ℕ, ◌==◌, ◌<◌, ◌≤◌, true, not, if◌then◌else◌, List, length, Option, sym, ap, subst, ◌∙◌}
 use base.Growing.{prefix_trans}
 use base.Stored.{Gv}
 use mathlib.Core.List.{IsPrefix}
-use Rattle.seize_machine.proofs.Facts.{eq_true}
-use Rattle.seize_machine.specs.Machine.State.{are_distinct, head_at, is_active, linked_values}
-use Rattle.seize_model.specs.Waiting.Calls.{is_free}
-use Rattle.seize_model.specs.Waiting.State.{Slot, State, has_guard, no_slot, set_slot, slot_at}
-use Rattle.seize_book.proofs.Facts.{equal}
-use Rattle.seize_book.specs.Book.{IsLegalList, after}
+use Rattle.seize_machine.specs.Machine.State.{are_distinct, linked_values}
+use Rattle.seize_model.specs.Waiting.State.{State}
+use Rattle.seize_book.specs.Book.{IsLegalList}
 use Rattle.seize_book.specs.Entry.{Entry}
 use Rattle.seize_book.specs.Porters.{ComesHome, GoesOnTo, HadStay, Shuts}
 use Rattle.seize_book.specs.Tokens.{IsSole, Name, start}
@@ -20,10 +15,9 @@ use Rattle.seize_words.specs.Joined.{words_book}
 use Rattle.seize_words.specs.declared.words.Words.{Words}
 use Rattle.seize_calls.specs.Slots.{IsPassFor}
 use Rattle.seize_alone.specs.Holding.{Holds}
-use Rattle.seize_alone.proofs.Shown.{active_shown}
 use Rattle.seize.specs.Alones.{AsListed, IsAlone, View}
 use Rattle.seize.specs.Stillness.{LinksHold}
-use Rattle.seize_parts.specs.Placing.{ArePlaces, Lies, lies_for, lies_in, lying_in}
+use Rattle.seize_parts.specs.Placing.{ArePlaces}
 use Rattle.seize.specs.declared.alone.hands.Hands.{Hands}
 use Rattle.seize_parts.specs.declared.alone.place.Place.{Place}
 use Rattle.seize_parts.specs.declared.ender.Ender.{Ender}

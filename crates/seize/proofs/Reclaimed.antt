@@ -1,7 +1,6 @@
 -- A call by which values may be gone, made where its pass is alone: the hands hold what the model says then, and the watch was told of the
 -- values gone, in order.
 use Rattle.std.proofs.Common.{◌≡◌, ℕ, ◌==◌, ◌||◌, ◌⊎◌, inl, inr, ◌<◌, ◌≤◌, Bool, true, false, if◌then◌else◌, List, [], ◌∷◌, Option, Some, None, option_map, refl, sym, ap, subst, ◌∙◌, arith}
-use Rattle.std.specs.List.{fold}
 use Rattle.std.specs.Prelude.{Err, Ok, Result}
 use base.Stored.{Coded, Gv}
 use Rattle.seize_table.specs.declared.refusal.Refusal.{Refusal}
@@ -25,13 +24,12 @@ use Rattle.seize_calls.specs.Slots.{SlotFlushes, SlotLeaves, SlotRefreshes, Slot
 use Rattle.seize_calls.specs.declared.slot.Loose.{Loose}
 use Rattle.seize_calls.specs.declared.slot.Slot.{Slot}
 use Rattle.seize_alone.specs.Calls.{CallsAlone}
-use Rattle.seize_alone.specs.Gone.{HadAre}
 use Rattle.seize_alone.specs.Holding.{Holds, HoldsThen}
 use Rattle.seize_alone.proofs.Shown.{owned_shown}
 use Rattle.seize_alone.proofs.Slots.{slot_flushes, slot_parts, slot_refreshes, slot_retires}
 use Rattle.seize_parts.specs.Kinds.{kind_of}
 use Rattle.seize_parts.specs.Places.{CallsSlot}
-use Rattle.seize_parts.specs.Told.{Answers, AreCodes, HasTold, told_of}
+use Rattle.seize_parts.specs.Told.{Answers, HasTold, told_of}
 use Rattle.seize_parts.specs.Placing.{unit_in}
 use Rattle.seize.specs.declared.alone.hands.Hands.{Hands}
 use Rattle.seize_parts.specs.declared.alone.place.Unit.{Unit as Held}

@@ -21,7 +21,7 @@ use Rattle.seize_book.proofs.Facts.{equal}
 use Rattle.seize_book.specs.declared.book.pass.Pass.{Pass}
 use Rattle.seize_parts.specs.Laws.{moments_seen}
 use Rattle.seize_parts.specs.Makes.{Defers, MakesCall, MakesNone, WasMade, made_with}
-use Rattle.seize_parts.proofs.Made.{as_made, then_none}
+use Rattle.seize_parts.proofs.Made.{as_made, then_none, undivided_then}
 use Rattle.seize_parts.proofs.Stands.{made_after, picked, rest_of}
 
 -- Events one by one.
@@ -150,4 +150,4 @@ retired_by {IsPut} s v {pass} {pass'} call =
 
 -- and a call that hands nothing stays made, while the pass sees more
 pub call_still : {s : ℕ} {job : Job} {p q r : Pass} → Defers s job p q → MakesNone q r → Defers s job p r
-call_still {s} {job} {p} {q} {r} call none = record { steps = call.steps; its = call.its; made = then_none call.made none }
+call_still {s} {job} {p} {q} {r} call none = record { steps = call.steps; its = call.its; made = then_none call.made none; undivided = undivided_then call.undivided none }

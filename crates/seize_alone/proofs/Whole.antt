@@ -36,6 +36,7 @@ use Rattle.seize_calls.specs.Settling.{CallState, Onward, done_event}
 use Rattle.seize_calls.specs.Walking.{handed_in, steps}
 use Rattle.seize_calls.proofs.Events.{same_done}
 use Rattle.seize_calls.proofs.Handed.{had_more, handed_append}
+use Rattle.seize_calls.proofs.Leaving.{left_made}
 use Rattle.seize_calls.proofs.Onwards.{round_on, settles_on}
 use Rattle.seize_alone.proofs.Work.{AllWork, IsWork, answers_made, events_made, hand_of, hands_append, hands_of, puts_of, sized_so, their_values, to_return, work_append}
 use Rattle.seize_alone.proofs.Played.{play_alone}
@@ -266,7 +267,7 @@ left_whole {job} {stays} {swap} {key} {pass} {keys} {had} {key'} {pass'} {keys'}
   work = (swap, Done) ∷ (walk ++ seg.made);
   all_work = (is_work, work_append pass.size s walk seg.made (steps_work pass s r.walked) seg.work);
   made = r.returns.made ∙ (λ i. seg.events i ++ same_done pass r.drained.pass drained_same Return s (slot_number r.drained.key) drained_its i)
-      ∙ ap (λ (log : List (Deed × Answer)). (log ++ seg.made) ++ returned) (r.made ∙ append_assoc (events_by pass ++ began) swapped walk)
+      ∙ ap (λ (log : List (Deed × Answer)). (log ++ seg.made) ++ returned) (left_made r ∙ append_assoc (events_by pass ++ began) swapped walk)
       ∙ ap (λ (log : List (Deed × Answer)). log ++ returned) (append_assoc (events_by pass ++ began) (swapped ++ walk) seg.made)
       ∙ append_assoc (events_by pass ++ began) ((swapped ++ walk) ++ seg.made) returned ∙ append_assoc (events_by pass) began (((swapped ++ walk) ++ seg.made) ++ returned);
   handed = handed_in r.walked ++ seg.handed;

@@ -1,4 +1,4 @@
--- What is added where a pass is alone.
+-- What is added where a pass is alone, and to a slot's own entries.
 use Rattle.std.proofs.Common.{◌≡◌, ℕ, ◌==◌, Bool, cond, List, [], ◌∷◌, ◌++◌, filter, map, refl, sym, ap, subst, ◌∙◌, append_assoc, append-nil}
 use Rattle.std.proofs.lemmas.List.{append_cancel_left}
 use Rattle.std.proofs.lemmas.List.Elements.{filter-append}
@@ -10,10 +10,12 @@ use Rattle.seize_machine.specs.declared.machine.event.Answer.TheVariants.{Done}
 use Rattle.seize_book.specs.Book.{after, mine, with_answers}
 use Rattle.seize_book.specs.Entry.{Deed, Entry, Made, Used, deeds, maker, timed_deed}
 use Rattle.seize_book.specs.Passes.{IsSamePass, LooksOn, events_by, events_in, mine_of}
+use Rattle.seize_book.specs.Slots.{acts_of}
 use Rattle.seize_book.specs.Tokens.{AddsEntry, IsSole, Name, start}
 use Rattle.seize_book.specs.declared.book.pass.Pass.{Pass}
+use Rattle.seize_book.specs.declared.book.slot_key.SlotKey.{SlotKey}
 use Rattle.seize_book.proofs.Facts.{deeds_append, equal}
-use Rattle.seize_calls.specs.Alone.{AddsAlone, AllBy}
+use Rattle.seize_calls.specs.Alone.{AddsAlone, AddsOwn, AllBy, AllMadeBy}
 
 abbrev pub alone_none : (pass : Pass) → AddsAlone pass pass
 alone_none pass = λ sole. ([], sym (append-nil pass.seen), tt)
@@ -36,9 +38,28 @@ alone_twice one two three same first second = λ sole.
       all_append one.id a.0 b.0 a.2 (subst (λ (p : ℕ). AllBy p b.0) same.1 b.2),
     )
 
+-- Of the slot's own entries none was added, or this one, or some and then more.
+
+abbrev pub own_none : (key : SlotKey) (pass : Pass) (key' : SlotKey) → acts_of key' ≡ acts_of key → AddsOwn key pass key'
+own_none key pass key' same = ([], same ∙ sym (append-nil (acts_of key)), tt)
+
+abbrev pub own_one : (key : SlotKey) (pass : Pass) (key' : SlotKey) (e : Entry) (answer : Answer) → maker e ≡ pass.id → acts_of key' ≡ acts_of key ++ (e, answer) ∷ [] → AddsOwn key pass key'
+own_one key pass key' e answer by added = ((e, answer) ∷ [], added, (by, tt))
+
+all_made_append : (p : ℕ) (a b : List (Entry × Answer)) → AllMadeBy p a → AllMadeBy p b → AllMadeBy p (a ++ b)
+all_made_append p [] b one two = two
+all_made_append p (e ∷ a) b one two = (one.0, all_made_append p a b one.1 two)
+
+pub own_twice : (key one two : SlotKey) (pass pass1 : Pass) → IsSamePass pass pass1 → AddsOwn key pass one → AddsOwn one pass1 two → AddsOwn key pass two
+own_twice key one two pass pass1 same a b = (
+  a.0 ++ b.0,
+  b.1 ∙ ap (λ (acts : List (Entry × Answer)). acts ++ b.0) a.1 ∙ append_assoc (acts_of key) a.0 b.0,
+  all_made_append pass.id a.0 b.0 a.2 (subst (λ (p : ℕ). AllMadeBy p b.0) same.1 b.2),
+)
+
 -- Then the list has the events that were made with the pass, in their order, and no others. This is for callers: by it they know the state.
 
-answered_append : (st : State) (a b : List Entry) → with_answers st (a ++ b) ≡ with_answers st a ++ with_answers (after st a) b
+pub answered_append : (st : State) (a b : List Entry) → with_answers st (a ++ b) ≡ with_answers st a ++ with_answers (after st a) b
 answered_append st [] b = refl
 answered_append st (Made d ∷ a) b = ap (λ (more : List (Entry × Answer)). (Made d, (done_by next st (timed_deed d)).1) ∷ more) (answered_append (done_by next st (timed_deed d)).0 a b)
 answered_append st (Used u ∷ a) b = ap (λ (more : List (Entry × Answer)). (Used u, Done) ∷ more) (answered_append st a b)
@@ -53,7 +74,7 @@ all_mine st p (Used u ∷ log) all =
     let more = filter (λ a. maker a.0 == p) (with_answers st log) in
     ap (λ (b : Bool). cond b ((Used u, Done) ∷ more) more) (equal u.pass p all.0) ∙ ap (λ (rest : List (Entry × Answer)). (Used u, Done) ∷ rest) (all_mine st p log all.1)
 
-events_append : (a b : List (Entry × Answer)) → events_in (a ++ b) ≡ events_in a ++ events_in b
+pub events_append : (a b : List (Entry × Answer)) → events_in (a ++ b) ≡ events_in a ++ events_in b
 events_append [] b = refl
 events_append ((Made d, answer) ∷ a) b = ap (λ (log : List (Deed × Answer)). (d, answer) ∷ log) (events_append a b)
 events_append ((Used u, answer) ∷ a) b = events_append a b

@@ -34,7 +34,7 @@ use Rattle.seize_book.specs.declared.book.value_keys.ValueKeys.{ValueKeys}
 use Rattle.seize_words.specs.declared.chunk.Header.{Header}
 use Rattle.seize_book.proofs.Facts.{equal, same_twice}
 use Rattle.seize_words.proofs.Facts.{alike_told, all_told_later, detached_named, events_grew, knows_still, life_kept, more_slots, own_reached, seen_grows}
-use Rattle.seize_calls.proofs.Alone.{alone_looked, alone_noted, alone_twice}
+use Rattle.seize_calls.proofs.Alone.{alone_looked, alone_noted, alone_twice, own_one, own_twice}
 use Rattle.seize_calls.specs.Attempts.{Retires}
 use Rattle.seize_book.specs.Kept.{AreTold}
 use Rattle.seize_calls.proofs.Batches.{remarked_kepts, remarked_labels}
@@ -343,6 +343,10 @@ module _ (key0 : SlotKey) (at : BeginsToMark key0) (pass0 : Pass) (key : SlotKey
                 alone_twice pass0 pass pass' same ends.alone
                 (alone_twice pass pass1 pass' notes.0 (alone_noted pass pass1 (Made (private pass (Detach (slot_number key)))) refl notes.2.0)
                 (alone_twice pass1 pass2 pass' all.keeps.same all.keeps.alone (alone_twice pass2 pass3 pass' looks.same (alone_looked pass2 pass3 looks) (alone_noted pass3 pass' (Made (private pass3 (AddCount (slot_number key2)))) refl added.2.0))));
+            own =
+                own_twice key0 key key' pass0 pass same ends.own
+                (own_twice key key1 key' pass pass1 notes.0 (own_one key pass key1 (Made (private pass (Detach (slot_number key)))) notes.2.0.answer refl notes.2.1.acts)
+                (own_twice key1 key2 key' pass1 pass3 (same_twice pass1 pass2 pass3 all.keeps.same looks.same) all.keeps.own (own_one key2 pass3 key' (Made (private pass3 (AddCount (slot_number key2)))) added.2.0.answer refl added.2.1.acts)));
             made = made_all;
             batch = ap (λ (z : Slot). z.batch) added.2.1.is ∙ kept.0 ∙ ap (λ (z : Slot). z.batch) added.2.1.was ∙ all.keeps.batch ∙ ap (λ (z : Slot). z.batch) notes.2.1.is ∙ done.1;
             used =
@@ -369,4 +373,4 @@ module _ (key0 : SlotKey) (at : BeginsToMark key0) (pass0 : Pass) (key : SlotKey
 
 -- A call that has given up says nothing of its blocks.
 pub stays_so : {key : SlotKey} (at : BeginsToMark key) (pass : Pass) (key' : SlotKey) (pass' : Pass) (marks : List SlotMark) → EndsMarks at pass key' pass' marks TooMany → EndsMarks at pass key' pass' [] TooMany
-stays_so at pass key' pass' marks e = record { finds = e.finds; within = e.within; grows = e.grows; alone = e.alone; made = e.made; batch = e.batch; used = e.used; active = e.active; life = e.life; stands = e.stands }
+stays_so at pass key' pass' marks e = record { finds = e.finds; within = e.within; grows = e.grows; alone = e.alone; own = e.own; made = e.made; batch = e.batch; used = e.used; active = e.active; life = e.life; stands = e.stands }

@@ -20,7 +20,7 @@ use Rattle.seize_words.proofs.Facts.{deeds_grew, events_grew, life_kept, seen_gr
 use Rattle.seize_calls.specs.Calls.{Begins}
 use Rattle.seize_calls.specs.Settling.{PutsValue, done_event}
 use Rattle.seize_calls.specs.Inserts.{Continues}
-use Rattle.seize_calls.proofs.Alone.{alone_noted}
+use Rattle.seize_calls.proofs.Alone.{alone_noted, own_one}
 use Rattle.seize_calls.proofs.Keeps.{keeps_from, outcome, same_private, state_before, step_noted}
 use Rattle.seize_calls.proofs.Marks.{within}
 
@@ -151,6 +151,7 @@ module _ (key key' : SlotKey) (pass pass' : Pass) (notes : AddsEvent key pass ke
       life = life_kept key key' pass pass' (private pass put) notes refl;
       grows = seen_grows pass.name pass.id pass.seen pass'.seen _ notes.2.0;
       alone = alone_noted pass pass' (Made (private pass put)) refl notes.2.0;
+      own = own_one key pass key' (Made (private pass put)) notes.2.0.answer refl notes.2.1.acts;
     };
     batch = ap (λ (z : Slot). z.batch) slot_put ∙ ap (λ (z : Slot). z.batch ++ v ∷ []) notes.2.1.was;
     made = events_grew pass pass' put notes.0 notes.2.0 ∙ ap (λ (x : State × Answer). events_by pass ++ (private pass put, x.1) ∷ []) is_put;

@@ -23,13 +23,13 @@ use Rattle.seize_book.specs.declared.book.pass.Pass.{Pass}
 use Rattle.seize_book.specs.declared.book.slot_key.SlotKey.{SlotKey}
 use Rattle.seize_book.specs.declared.book.value_key.ValueKey.{ValueKey}
 use Rattle.seize_book.specs.declared.book.value_keys.ValueKeys.{ValueKeys}
-use Rattle.seize_calls.proofs.Alone.{alone_none}
 use Rattle.seize_calls.specs.Handing.{Had, Handings, HasHad, Queues, values_handed, values_put, words_put}
 use Rattle.seize_book.specs.Kept.{kept_in, kepts_of}
 use Rattle.seize_calls.specs.Walking.{ContinuesAndKnows, HandsAll, HandsOne, IsGiven, hands}
 use Rattle.seize_calls.proofs.Batches.{kept_one, kepts, kepts_append}
 use Rattle.seize_calls.proofs.Handed.{had_more, had_none, handed_append, put_append, queues_more, queues_none}
 use Rattle.seize_words.proofs.Facts.{labels_append, one_label, others_closed, others_know, own_is}
+use Rattle.seize_calls.proofs.Keeps.{keeps_none}
 use Rattle.seize_calls.proofs.Strolls.{goes_twice, same_hands}
 
 abbrev Keys : Type 0
@@ -81,7 +81,7 @@ pub record IsHanding {key : SlotKey} {pass : Pass} {values : ValueKeys} {front :
 
 abbrev pub none_handed : (key : SlotKey) (pass : Pass) (values : ValueKeys) (front : ℕ) (given : IsGiven key pass values front) (queue : ValueKeys) (had : Had) → IsHanding given queue had key pass values queue front had
 none_handed key pass values front given queue had = record {
-  goes_on = (record { same = (refl, refl, refl); its = (refl, refl); batch = refl; used = refl; active = refl; life = refl; seen = omega arith; grows = ([], append-nil pass.seen); alone = alone_none pass }, ([], append-nil (own_list key)));
+  goes_on = (keeps_none key pass, ([], append-nil (own_list key)));
   done = [];
   split = refl;
   handed = [];

@@ -19,12 +19,11 @@ use Rattle.seize_words.proofs.Facts.{detached_named}
 use Rattle.seize_words.specs.Totals.{slots_seen}
 use Rattle.seize_book.specs.declared.book.pass.Pass.{Pass}
 use Rattle.seize_book.specs.declared.book.slot_key.SlotKey.{SlotKey}
-use Rattle.seize_calls.proofs.Alone.{alone_none}
 use Rattle.seize_calls.specs.Batches.{SlotMark, marked_slots, slot_in, slot_marks_of}
 use Rattle.seize_calls.specs.Inserts.{ArePlanned, GoesPast, IsAtNext, InsertsAtSlot, InsertsAtEach, IsAtSlot, IsInserting, Continues, InsertTries, plan_in, insert_events, all_insert_events, won_in}
 use Rattle.seize_calls.specs.Rounds.{done_in, rest_in}
 use Rattle.seize_calls.specs.declared.round.Round.{Round}
-use Rattle.seize_calls.proofs.Keeps.{keeps_twice}
+use Rattle.seize_calls.proofs.Keeps.{keeps_none, keeps_twice}
 use Rattle.seize_calls.proofs.Tries.{front_same}
 use Rattle.seize_calls.proofs.Turns.{same_turn}
 
@@ -109,7 +108,7 @@ pub record HasTurned {key : SlotKey} {pass : Pass} {marks : List SlotMark} {fron
 
 abbrev pub none_turned : (key : SlotKey) (pass : Pass) (marks : List SlotMark) (front : ℕ) (at : IsInserting key pass marks front) → HasTurned at 0 0 key pass
 none_turned key pass marks front at = record {
-  keeps = record { same = (refl, refl, refl); its = (refl, refl); batch = refl; used = refl; active = refl; life = refl; seen = omega arith; grows = ([], append-nil pass.seen); alone = alone_none pass };
+  keeps = keeps_none key pass;
   turns = [];
   each = refl;
   within = omega arith;

@@ -1,5 +1,5 @@
 -- What an event of a slot's call leaves as it was, and what it makes.
-use Rattle.std.proofs.Common.{◌≡◌, ℕ, ◌<◌, ◌≤◌, false, List, [], ◌∷◌, ◌++◌, length, get_or, set, Some, refl, sym, ap, subst, ◌∙◌, ◌⊎◌, inl, inr, arith}
+use Rattle.std.proofs.Common.{◌≡◌, ℕ, ◌<◌, ◌≤◌, false, List, [], ◌∷◌, ◌++◌, length, get_or, set, Some, refl, sym, ap, subst, ◌∙◌, ◌⊎◌, inl, inr, append-nil, arith}
 use Rattle.std.proofs.lemmas.List.{get_or-set_same, get_or-set_other, get_or_past}
 use Rattle.std.proofs.lemmas.Bool.{cases_lt}
 use base.Growing.{prefix_trans}
@@ -25,7 +25,7 @@ use Rattle.seize_book.specs.declared.book.slot_key.SlotKey.{SlotKey}
 use Rattle.seize_book.proofs.Facts.{same_twice}
 use Rattle.seize_words.proofs.Facts.{deeds_grew, life_kept, more_seen, more_slots, seen_grows}
 use Rattle.seize_calls.specs.Inserts.{Continues}
-use Rattle.seize_calls.proofs.Alone.{alone_looked, alone_noted, alone_twice}
+use Rattle.seize_calls.proofs.Alone.{alone_looked, alone_none, alone_noted, alone_twice, own_none, own_one, own_twice}
 use Rattle.seize_calls.proofs.Marks.{within}
 
 -- The machine makes an event for a call: it goes on so, and nothing else of its slot changes.
@@ -112,6 +112,7 @@ module _ (key key' : SlotKey) (pass pass' : Pass) (event : Event) (kepts : List 
         (more_slots pass.name pass.seen pass'.seen (seen_grows pass.name pass.id pass.seen pass'.seen _ notes.2.0) notes.2.0.legal);
     grows = seen_grows pass.name pass.id pass.seen pass'.seen _ notes.2.0;
     alone = alone_noted pass pass' (Made (deed_with_words pass event kepts)) refl notes.2.0;
+    own = own_one key pass key' (Made (deed_with_words pass event kepts)) notes.2.0.answer refl notes.2.1.acts;
   }
 
   -- it knows all that it knew
@@ -141,10 +142,14 @@ keeps_used key key' pass pass' f v uses = record {
       (more_slots pass.name pass.seen pass'.seen (seen_grows pass.name pass.id pass.seen pass'.seen _ uses.noted) uses.noted.legal);
   grows = seen_grows pass.name pass.id pass.seen pass'.seen _ uses.noted;
   alone = alone_noted pass pass' (using key pass f v) refl uses.noted;
+  own = own_one key pass key' (using key pass f v) uses.noted.answer refl uses.acts;
 }
 
+abbrev pub keeps_none : (key : SlotKey) (pass : Pass) → Continues key pass key pass
+keeps_none key pass = record { same = (refl, refl, refl); its = (refl, refl); batch = refl; used = refl; active = refl; life = refl; seen = omega arith; grows = ([], append-nil pass.seen); alone = alone_none pass; own = own_none key pass key refl }
+
 pub keeps_looked : (key : SlotKey) (pass pass' : Pass) → LooksOn pass pass' → Continues key pass key pass'
-keeps_looked key pass pass' looks = record { same = looks.same; its = (refl, refl); batch = refl; used = refl; active = refl; life = refl; seen = more_seen pass pass' looks; grows = looks.grows; alone = alone_looked pass pass' looks }
+keeps_looked key pass pass' looks = record { same = looks.same; its = (refl, refl); batch = refl; used = refl; active = refl; life = refl; seen = more_seen pass pass' looks; grows = looks.grows; alone = alone_looked pass pass' looks; own = own_none key pass key refl }
 
 pub keeps_twice : (key one two : SlotKey) (pass pass1 pass2 : Pass) → Continues key pass one pass1 → Continues one pass1 two pass2 → Continues key pass two pass2
 keeps_twice key one two pass pass1 pass2 first second = record {
@@ -157,6 +162,7 @@ keeps_twice key one two pass pass1 pass2 first second = record {
   seen = let a = first.seen in let b = second.seen in omega (arith, a, b);
   grows = prefix_trans pass.seen pass1.seen pass2.seen first.grows second.grows;
   alone = alone_twice pass pass1 pass2 first.same first.alone second.alone;
+  own = own_twice key one two pass pass1 first.same first.own second.own;
 }
 
 pub keeps_book : (key key' : SlotKey) (pass pass' : Pass) → Continues key pass key' pass' → IsKeyOfBook key pass → IsKeyOfBook key' pass'

@@ -1,5 +1,5 @@
 -- A slot leaves or refreshes: what swapping its head out makes, and where the call stands then.
-use Rattle.std.proofs.Common.{◌≡◌, ℕ, ◌<◌, ◌≤◌, Bool, true, false, if◌then◌else◌, List, [], ◌∷◌, ◌++◌, length, Some, refl, sym, ap, ◌∙◌, ◌⊎◌, inl, inr}
+use Rattle.std.proofs.Common.{◌≡◌, ℕ, ◌<◌, ◌≤◌, Bool, true, false, if◌then◌else◌, List, [], ◌∷◌, ◌++◌, length, Some, refl, sym, ap, subst, ◌∙◌, ◌⊎◌, inl, inr}
 use Rattle.std.proofs.lemmas.List.{get_or-set_same, get_or_past}
 use Rattle.std.proofs.lemmas.Bool.{cases_lt}
 use base.Growing.{prefix_trans}
@@ -13,15 +13,17 @@ use Rattle.seize_machine.proofs.Facts.{Step, some_is, step_of}
 use Rattle.seize_book.specs.Blocks.{block_for, list_word}
 use Rattle.seize_book.specs.Book.{after}
 use Rattle.seize_book.specs.Entry.{Deed, Entry, Made}
+use Rattle.seize_book.specs.Homesteads.{state_seen}
 use Rattle.seize_book.specs.Passes.{IsSamePass, events_by}
 use Rattle.seize_words.specs.Reservations.{WalksFrom, beginning, slot}
 use Rattle.seize_book.specs.Slots.{AddsDeed, AddsEvent, active_of, own_list, slot_number, slot_of, start_of}
+use Rattle.seize_book.specs.Tokens.{Name, start}
 use Rattle.seize_book.specs.declared.book.pass.Pass.{Pass}
 use Rattle.seize_book.specs.declared.book.slot_key.SlotKey.{SlotKey}
 use Rattle.seize_words.specs.declared.reservation.Head.{Head as Word}
 use Rattle.seize_book.proofs.Facts.{same_twice}
 use Rattle.seize_words.proofs.Facts.{all_told_later, deeds_grew, seen_grows}
-use Rattle.seize_calls.proofs.Alone.{alone_noted, alone_twice}
+use Rattle.seize_calls.proofs.Alone.{alone_noted, alone_twice, own_one, own_twice}
 use Rattle.seize_book.specs.Slots.{IsKeyOfBook}
 use mathlib.Core.List.{IsPrefix}
 use Rattle.seize_book.specs.Kept.{AreTold, kepts_in, kepts_of}
@@ -104,6 +106,11 @@ module _ (key one two : SlotKey) (pass pass1 pass2 : Pass) (job : Job) (stays : 
       ∙ ap (λ (a : Answer). (events_by pass ++ done_event pass (Begin s job)) ++ (beginning pass1 life (SwapOut (slot_number one)), a) ∷ []) so.3
       ∙ ap (λ (x : Deed). (events_by pass ++ done_event pass (Begin s job)) ++ (x, Done) ∷ []) (same_beginning pass pass1 begins.keeps.same life (SwapOut (slot_number one)) ∙ ap (λ (k : ℕ). beginning pass life (SwapOut k)) begins.keeps.its.1)
 
+  stands_two : IsKeyOfBook key pass → (slot_at (state_seen pass2) s).call ≡ Some (record { place = Rest [] walks.0; queue = [] })
+  stands_two book =
+      subst (λ (t : Name × List Entry × ℕ). (slot_at (after (start t.0) t.1) t.2).call ≡ Some (record { place = Rest [] walks.0; queue = [] }))
+      (λ j. ((its_two.0 ∙ book ∙ sym same_two.0) j, notes.1.2 j, its_two.1 j)) walks.1
+
   module _ (three : SlotKey) (pass3 : Pass) (values queue0 queue3 : ValueKeys) (had had3 : Had) (empty0 : queue0.keys.held ≡ []) (all : WalksAll at_walk pass2 queue0 had three pass3 queue3 had3) where
     abbrev pub behind : CallState
     behind = record { key = three; pass = pass3; batch = values; queue = queue3; had = had3 }
@@ -142,11 +149,18 @@ module _ (key one two : SlotKey) (pass pass1 pass2 : Pass) (job : Job) (stays : 
     module _ (b : CallState) (drains : Drains behind b) (onward : Onward three pass3 b.key b.pass) (sits : IsWellFormed b) (empty : values_of b.queue ≡ []) (key' : SlotKey) (pass' : Pass) (last : AddsEvent b.key b.pass key' pass' (Return (slot_number b.key))) where
       pub has_left : Leaves job stays swap key pass values had key' pass' b.batch b.had
       has_left = record {
+        walk = walks.0;
+        out = pass2;
+        swaps_out = record { same = same_two; grows = prefix_trans pass.seen pass1.seen pass2.seen begins.keeps.grows (seen_grows pass1.name pass1.id pass1.seen pass2.seen _ notes.2.0); made = made_two; stands = stands_two book };
         walked = all.walked;
+        each = all.each;
         kepts = all.kepts;
         behind = behind;
-        made = all.made ∙ ap (λ (log : List (Deed × Answer)). log ++ steps pass2 (slot_number two) all.walked) made_two
-            ∙ ap (λ (log : List (Deed × Answer)). ((events_by pass ++ done_event pass (Begin s job)) ++ (swap, Done) ∷ []) ++ log)
+        grows = all.goes_on.0.grows;
+        its = its_three;
+        stands = walked_over;
+        kept = batch_three;
+        made = all.made ∙ ap (λ (log : List (Deed × Answer)). events_by pass2 ++ log)
             (same_steps pass pass2 same_two (slot_number two) all.walked ∙ ap (λ (k : ℕ). steps pass k all.walked) its_two.1);
         has_had = all.has_had;
         told = all.told;
@@ -156,14 +170,26 @@ module _ (key one two : SlotKey) (pass pass1 pass2 : Pass) (job : Job) (stays : 
         drains = drains;
         returns = returned b key' pass' last empty;
         rests =
-            whole_rests key pass b key' pass' (same_twice pass pass3 b.pass same_three onward.same)
-            (prefix_trans pass.seen pass1.seen b.pass.seen begins.keeps.grows
-            (prefix_trans pass1.seen pass2.seen b.pass.seen (seen_grows pass1.name pass1.id pass1.seen pass2.seen _ notes.2.0) (prefix_trans pass2.seen pass3.seen b.pass.seen all.goes_on.0.grows onward.grows)))
+            whole_rests key pass b key' pass' (same_twice pass pass3 b.pass same_three onward.same) (prefix_trans pass.seen pass1.seen b.pass.seen begins.keeps.grows grows_begun)
             (alone_twice pass pass1 b.pass begins.keeps.same begins.keeps.alone
             (alone_twice pass1 pass2 b.pass notes.0 (alone_noted pass1 pass2 (Made (beginning pass1 life (SwapOut (slot_number one)))) refl notes.2.0)
             (alone_twice pass2 pass3 b.pass all.goes_on.0.same all.goes_on.0.alone onward.alone)))
+            (own_twice key one b.key pass pass1 begins.keeps.same begins.keeps.own
+            (own_twice one two b.key pass1 pass2 notes.0 (own_one one pass1 two (Made (beginning pass1 life (SwapOut (slot_number one)))) notes.2.0.answer refl notes.2.1.acts)
+            (own_twice two three b.key pass2 pass3 all.goes_on.0.same all.goes_on.0.own onward.own)))
             (onward.its.0 ∙ its_three.0, onward.its.1 ∙ its_three.1)
             (onward.used ∙ all.goes_on.0.used ∙ ap (λ (z : Slot). z.used) notes.2.1.is ∙ so.1 ∙ ap (λ (z : Slot). z.used) notes.2.1.was ∙ begins.keeps.used)
             sits last;
         active = (keeps_returned b.key key' b.pass pass' last).active ∙ onward.active ∙ all.goes_on.0.active ∙ notes.2.1.is_now_active ∙ so.2;
       }
+        where
+          book : IsKeyOfBook key pass
+          book = sym (onward.its.0 ∙ its_three.0) ∙ sits.its ∙ onward.same.0 ∙ same_three.0
+
+          grows_begun : IsPrefix pass1.seen b.pass.seen
+          grows_begun = prefix_trans pass1.seen pass2.seen b.pass.seen (seen_grows pass1.name pass1.id pass1.seen pass2.seen _ notes.2.0) (prefix_trans pass2.seen pass3.seen b.pass.seen all.goes_on.0.grows onward.grows)
+
+-- All that was made before the queue was drained.
+pub left_made : {job : Job} {stays : Bool} {swap : Deed} {key : SlotKey} {pass : Pass} {values : ValueKeys} {had : Had} {key' : SlotKey} {pass' : Pass} {values' : ValueKeys} {had' : Had} → (l : Leaves job stays swap key pass values had key' pass' values' had')
+    → events_by l.behind.pass ≡ ((events_by pass ++ done_event pass (Begin (slot_number key) job)) ++ (swap, Done) ∷ []) ++ steps pass (slot_number key) l.walked
+left_made {key} {pass} l = l.made ∙ ap (λ (log : List (Deed × Answer)). log ++ steps pass (slot_number key) l.walked) l.swaps_out.made

@@ -9,6 +9,7 @@ pub mod Handed
 pub mod Handings
 pub mod Inserts
 pub mod Keeps
+pub mod Laid
 pub mod Leaving
 pub mod Marks
 pub mod Named

@@ -30,8 +30,8 @@ use Rattle.seize_book.specs.declared.book.slot_key.SlotKey.{SlotKey}
 use Rattle.seize_words.specs.declared.reservation.Head.{Head as Word}
 use Rattle.seize_book.proofs.Facts.{same_twice}
 use Rattle.seize_words.proofs.Facts.{events_grew, knows_noted, knows_still, life_kept, more_seen, more_slots, note_seen, seen_grows}
-use Rattle.seize_calls.specs.Alone.{AddsAlone}
-use Rattle.seize_calls.proofs.Alone.{alone_looked, alone_none, alone_noted, alone_twice}
+use Rattle.seize_calls.specs.Alone.{AddsAlone, AddsOwn}
+use Rattle.seize_calls.proofs.Alone.{alone_looked, alone_none, alone_noted, alone_twice, own_none, own_one, own_twice}
 use Rattle.seize_calls.proofs.Batches.{counted_is}
 use Rattle.seize_calls.proofs.Named.{batch_named}
 use Rattle.seize_calls.specs.Batches.{SlotMark, marked_slots, slot_in, slot_marks_of, without_slot, without_slots}
@@ -113,6 +113,7 @@ pub record IsReading {key : SlotKey} (at : BeginsToMark key) (end : ℕ) (pass :
   pub there : end ≤ slots_seen pass'
   pub grows : IsPrefix pass.seen pass'.seen
   pub alone : AddsAlone pass pass'
+  pub own : AddsOwn key pass key'
   pub batch : (slot_of key').batch ≡ (slot_of key).batch
   pub used : (slot_of key').used ≡ (slot_of key).used
   pub active : active_of key' ≡ active_of key
@@ -140,6 +141,7 @@ none_read key at end pass round knows there book is =
       there = there;
       grows = ([], append-nil pass.seen);
       alone = alone_none pass;
+      own = own_none key pass key refl;
       batch = refl;
       used = refl;
       active = refl;
@@ -272,6 +274,9 @@ module _ (key0 : SlotKey) (at : BeginsToMark key0) (end : ℕ) (pass0 : Pass) (h
     adds_alone : AddsAlone pass0 pass'
     adds_alone = alone_twice pass0 pass pass' r.same r.alone (alone_noted pass pass' (Made (private pass (ReadHead (slot_number key) (slot head)))) refl noted.2.0)
 
+    adds_own : AddsOwn key0 pass0 key'
+    adds_own = own_twice key0 key key' pass0 pass r.same r.own (own_one key pass key' (Made (private pass (ReadHead (slot_number key) (slot head)))) noted.2.0.answer refl noted.2.1.acts)
+
     pub there : end ≤ slots_seen pass'
     there =
         let n = pass.name in
@@ -311,6 +316,7 @@ module _ (key0 : SlotKey) (at : BeginsToMark key0) (end : ℕ) (pass0 : Pass) (h
           there = there;
           grows = grown;
           alone = adds_alone;
+          own = adds_own;
           batch = same_batch;
           used = same_used;
           active = same_active;
@@ -364,6 +370,7 @@ module _ (key0 : SlotKey) (at : BeginsToMark key0) (end : ℕ) (pass0 : Pass) (h
           there = let more = more_seen pass' pass'' looks in omega (arith, there, more);
           grows = prefix_trans pass0.seen pass'.seen pass''.seen grown looks.grows;
           alone = alone_twice pass0 pass' pass'' same adds_alone (alone_looked pass' pass'' looks);
+          own = adds_own;
           batch = same_batch;
           used = same_used;
           active = same_active;
@@ -401,6 +408,7 @@ module _ (key0 : SlotKey) (at : BeginsToMark key0) (end : ℕ) (pass0 : Pass) (h
           within = omega (arith, less, there, long true);
           grows = grown;
           alone = adds_alone;
+          own = adds_own;
           made = made true (is_on some);
           batch = same_batch;
           used = same_used;
@@ -423,6 +431,7 @@ all_read {key0} at end pass0 held i k key pass round r all le = record {
   within = let there = r.there in let read = r.read in omega (arith, all, there, read);
   grows = r.grows;
   alone = r.alone;
+  own = r.own;
   made = r.made;
   batch = r.batch;
   used = r.used;
@@ -450,6 +459,7 @@ ends_before {key0} at pass0 pass1 key pass marks ends looks e =
       within = e.within;
       grows = prefix_trans pass0.seen pass1.seen pass.seen looks.grows e.grows;
       alone = alone_twice pass0 pass1 pass looks.same (alone_looked pass0 pass1 looks) e.alone;
+      own = own_twice key0 key0 key pass0 pass1 looks.same (own_none key0 pass0 key0 refl) e.own;
       made = e.made ∙ ap (λ (log : List (Deed × Answer)). log ++ readings pass1 (slot_number key0) 0 e.finds) (ap events_in looks.none_made)
           ∙ ap (λ (log : List (Deed × Answer)). events_by pass0 ++ log) (same_readings (slot_number key0) 0 e.finds);
       batch = e.batch;

@@ -19,12 +19,12 @@ use Rattle.seize_words.specs.Walks.{Knows}
 use Rattle.seize_calls.specs.Batches.{IsPushed}
 use Rattle.seize_calls.specs.Inserts.{Continues}
 use Rattle.seize_calls.specs.Settling.{CallState, Drains, DrainsOne, HasQueue, IsToMark, IsWellFormed, MayPut, Onward, PutsValue, Settles, Stays}
-use Rattle.seize_calls.proofs.Alone.{alone_none, alone_twice}
+use Rattle.seize_calls.proofs.Alone.{alone_none, alone_twice, own_none, own_twice}
 use Rattle.seize_calls.proofs.Events.{call_put, put_st, puts_so}
 use Rattle.seize_calls.proofs.Handed.{queues_none}
 
 abbrev pub onward_none : (key : SlotKey) (pass : Pass) → Onward key pass key pass
-onward_none key pass = record { same = (refl, refl, refl); its = (refl, refl); used = refl; active = refl; life = refl; grows = ([], append-nil pass.seen); alone = alone_none pass }
+onward_none key pass = record { same = (refl, refl, refl); its = (refl, refl); used = refl; active = refl; life = refl; grows = ([], append-nil pass.seen); alone = alone_none pass; own = own_none key pass key refl }
 
 pub onward_twice : (key one two : SlotKey) (pass pass1 pass2 : Pass) → Onward key pass one pass1 → Onward one pass1 two pass2 → Onward key pass two pass2
 onward_twice key one two pass pass1 pass2 first second = record {
@@ -35,10 +35,11 @@ onward_twice key one two pass pass1 pass2 first second = record {
   life = second.life ∙ first.life;
   grows = prefix_trans pass.seen pass1.seen pass2.seen first.grows second.grows;
   alone = alone_twice pass pass1 pass2 first.same first.alone second.alone;
+  own = own_twice key one two pass pass1 first.same first.own second.own;
 }
 
 pub keeps_onward : (key key' : SlotKey) (pass pass' : Pass) → Continues key pass key' pass' → Onward key pass key' pass'
-keeps_onward key key' pass pass' keeps = record { same = keeps.same; its = keeps.its; used = keeps.used; active = keeps.active; life = keeps.life; grows = keeps.grows; alone = keeps.alone }
+keeps_onward key key' pass pass' keeps = record { same = keeps.same; its = keeps.its; used = keeps.used; active = keeps.active; life = keeps.life; grows = keeps.grows; alone = keeps.alone; own = keeps.own }
 
 pub settles_on : (least : ℕ) (a b : CallState) (retired : Bool) → Settles least a b retired → Onward a.key a.pass b.key b.pass
 settles_on least a b false stays = stays.on

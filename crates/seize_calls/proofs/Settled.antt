@@ -33,7 +33,7 @@ use Rattle.seize_calls.specs.Settling.{CallState, HasBatch, IsToMark, IsWellForm
 use Rattle.seize_calls.specs.Walking.{HandsAll, IsGiven, hands}
 use Rattle.seize_calls.specs.Numbered.{starts_at}
 use Rattle.seize_calls.specs.declared.marking.MarkOutcome.TheVariants.{TooMany}
-use Rattle.seize_calls.proofs.Alone.{alone_twice}
+use Rattle.seize_calls.proofs.Alone.{alone_twice, own_twice}
 use Rattle.seize_calls.proofs.Attempts.{first_block}
 use Rattle.seize_calls.proofs.Batches.{kepts, remarked_kepts, remarked_labels, renewed_kepts, renewed_labels}
 use Rattle.seize_calls.proofs.Handed.{had_none, queues_none}
@@ -56,7 +56,7 @@ module _ (a : CallState) (m : IsToMark a.key a.queue) where
   pub has_stayed : (key1 : SlotKey) (pass1 : Pass) → IsSamePass a.pass pass1 → (key1.keys.name ≡ a.key.keys.name) × (slot_number key1 ≡ s) → EndsMarks at a.pass key1 pass1 [] TooMany → (values1 : ValueKeys) → AreRemarked a.batch values1
       → Stays 0 a (record { key = key1; pass = pass1; batch = values1; queue = a.queue; had = a.had })
   has_stayed key1 pass1 same its ends values1 remarked = record {
-    on = record { same = same; its = its; used = ends.used; active = ends.active; life = ends.life; grows = ends.grows; alone = ends.alone };
+    on = record { same = same; its = its; used = ends.used; active = ends.active; life = ends.life; grows = ends.grows; alone = ends.alone; own = ends.own };
     batch = ends.batch;
     rests = ends.stands.0 ∙ ap (λ (q : List ℕ). Some (record { place = Rest [] []; queue = q })) m.1;
     finds = ends.finds;
@@ -76,7 +76,7 @@ module _ (a : CallState) (m : IsToMark a.key a.queue) where
     pub has_waited : zero ≡ false → RetiresBatch a (record { key = key1; pass = pass1; batch = values1; queue = a.queue; had = a.had })
     has_waited off = let none = sym r.is_count ∙ off in
         record {
-          on = record { same = same; its = its; used = r.used; active = r.active; life = r.life; grows = r.grows; alone = r.alone };
+          on = record { same = same; its = its; used = r.used; active = r.active; life = r.life; grows = r.grows; alone = r.alone; own = r.own };
           batch = r.batch;
           rests =
               r.stands ∙ ap (λ (z : Bool). Some (record { place = Rest (if z then batch else []) []; queue = at.queue })) off
@@ -148,6 +148,7 @@ module _ (a : CallState) (m : IsToMark a.key a.queue) where
               life = keeps.life ∙ r.life;
               grows = prefix_trans a.pass.seen pass1.seen pass2.seen r.grows keeps.grows;
               alone = alone_twice a.pass pass1 pass2 same r.alone keeps.alone;
+              own = own_twice a.key key1 key2 a.pass pass1 same r.own keeps.own;
             };
             batch = keeps.batch ∙ r.batch;
             rests = handed.walks_on ∙ ap (λ (q : List ℕ). Some (record { place = Rest [] []; queue = q })) (ap (λ (q : List ℕ). q ++ values_put handed.handed) m.1 ∙ sym handed.queued.1);

@@ -190,6 +190,10 @@ module _ {T : Type 0} (slot : Slot T) (pass p : Pass) (book : slot.seen.name ≡
     legal = (ready_looked slot.seen p q (ready_learned slot.seen pass p book learns) looks).legal;
   }
 
+-- then it has seen what the slot's key knew
+pub knew_ready : {T : Type 0} (slot : Slot T) (pass ready : Pass) → Prepares slot pass ready → Knows slot.key (what_saw slot.seen) → IsPrefix (own_list slot.key) ready.seen
+knew_ready slot pass ready prepares knows = prefix_trans (own_list slot.key) slot.seen.seen ready.seen knows.seen prepares.grows.1
+
 -- An activation that has begun may step on each link, and has begun for each pass that has seen no less.
 pub begun_at : (a : Activation) (pass : Pass) (l : ℕ) → HasBegun a pass → l < length pass.name.links → IsInAt a pass l
 begun_at a pass l begun is = (

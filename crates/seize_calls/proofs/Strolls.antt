@@ -17,13 +17,12 @@ use Rattle.seize_book.specs.declared.book.pass.Pass.{Pass}
 use Rattle.seize_book.specs.declared.book.slot_key.SlotKey.{SlotKey}
 use Rattle.seize_book.specs.declared.book.value_keys.ValueKeys.{ValueKeys}
 use Rattle.seize_words.proofs.Facts.{all_of_told, all_told_append, all_told_grow, word_stays}
-use Rattle.seize_calls.proofs.Alone.{alone_none}
 use Rattle.seize_calls.specs.Handing.{Had, Handings, HasHad, Queues, values_handed, values_put, words_put}
 use Rattle.seize_book.specs.Kept.{AllTold, kepts_of}
 use Rattle.seize_calls.specs.Walking.{ContinuesAndKnows, EndsWalk, HandsAll, IsAtWalk, IsGiven, Stops, WalksAll, WalksTo, counting, countings, handed_in, hands, steps}
 use Rattle.seize_calls.specs.declared.walking.WalkOutcome.TheVariants.{GivesUp, Over}
 use Rattle.seize_calls.proofs.Handed.{had_more, had_none, handed_append, put_append, queues_more, queues_none}
-use Rattle.seize_calls.proofs.Keeps.{keeps_twice, same_private, same_telling}
+use Rattle.seize_calls.proofs.Keeps.{keeps_none, keeps_twice, same_private, same_telling}
 
 pub goes_twice : (key one two : SlotKey) (pass pass1 pass2 : Pass) → ContinuesAndKnows key pass one pass1 → ContinuesAndKnows one pass1 two pass2 → ContinuesAndKnows key pass two pass2
 goes_twice key one two pass pass1 pass2 first second = (keeps_twice key one two pass pass1 pass2 first.0 second.0, prefix_trans (own_list key) (own_list one) (own_list two) first.1 second.1)
@@ -105,7 +104,7 @@ pub record IsStrolling {key : SlotKey} {word : ℕ} (at : IsAtWalk key word) (pa
 
 abbrev pub none_strolled : (key : SlotKey) (word : ℕ) (at : IsAtWalk key word) (pass : Pass) (queue : ValueKeys) (had : Had) → IsStrolling at pass queue had key pass word queue had
 none_strolled key word at pass queue had = record {
-  goes_on = (record { same = (refl, refl, refl); its = (refl, refl); batch = refl; used = refl; active = refl; life = refl; seen = omega arith; grows = ([], append-nil pass.seen); alone = alone_none pass }, ([], append-nil (own_list key)));
+  goes_on = (keeps_none key pass, ([], append-nil (own_list key)));
   walked = [];
   kepts = [];
   has_had = had_none had;

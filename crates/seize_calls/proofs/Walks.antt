@@ -25,10 +25,9 @@ use Rattle.seize_book.specs.declared.book.slot_key.SlotKey.{SlotKey}
 use Rattle.seize_book.specs.declared.book.value_keys.ValueKeys.{ValueKeys}
 use Rattle.seize_book.proofs.Facts.{same_twice}
 use Rattle.seize_words.proofs.Facts.{events_grew}
-use Rattle.seize_calls.proofs.Alone.{alone_none}
 use Rattle.seize_calls.specs.Inserts.{Continues}
 use Rattle.seize_calls.specs.Walking.{AreHeld, ContinuesAndKnows, EndsWalk, IsAtWalk, Stops, counting, countings}
-use Rattle.seize_calls.proofs.Keeps.{keeps_from, keeps_looked, keeps_twice, looked_same, outcome, own_grows, same_private, state_before, step_noted}
+use Rattle.seize_calls.proofs.Keeps.{keeps_from, keeps_looked, keeps_none, keeps_twice, looked_same, outcome, own_grows, same_private, state_before, step_noted}
 use Rattle.seize_calls.proofs.Marks.{within}
 
 pub countings_push : (pass : Pass) (s : ℕ) (counts : List ℤ) (count : ℤ) → countings pass s (counts ++ count ∷ []) ≡ countings pass s counts ++ counting pass s count ∷ []
@@ -74,7 +73,7 @@ pub record IsWalking {key : SlotKey} {word : ℕ} (at : IsAtWalk key word) (pass
 
 abbrev pub none_walked : (key : SlotKey) (word : ℕ) (at : IsAtWalk key word) (pass : Pass) (values : ValueKeys) → IsEmpty values pass → IsWalking at pass key pass values word
 none_walked key word at pass values empty = record {
-  goes_on = (record { same = (refl, refl, refl); its = (refl, refl); batch = refl; used = refl; active = refl; life = refl; seen = omega arith; grows = ([], append-nil pass.seen); alone = alone_none pass }, ([], append-nil (own_list key)));
+  goes_on = (keeps_none key pass, ([], append-nil (own_list key)));
   held = [];
   above = tt;
   done = [];

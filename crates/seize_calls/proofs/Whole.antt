@@ -22,10 +22,10 @@ use Rattle.seize_words.specs.Named.{slot_book}
 use Rattle.seize_book.proofs.Facts.{same_twice}
 use Rattle.seize_words.proofs.Facts.{all_told_later}
 use Rattle.seize_words.specs.Walks.{Knows}
-use Rattle.seize_calls.specs.Alone.{AddsAlone}
+use Rattle.seize_calls.specs.Alone.{AddsAlone, AddsOwn}
 use Rattle.seize_calls.specs.Calls.{Begins, Rests, Returns}
 use Rattle.seize_calls.specs.Settling.{CallState, HasBatch, HasQueue, IsToMark, IsWellFormed, MayPut}
-use Rattle.seize_calls.proofs.Alone.{alone_twice}
+use Rattle.seize_calls.proofs.Alone.{alone_twice, own_twice}
 use Rattle.seize_calls.proofs.Events.{begins_so, begun_retire_so, call_begun, call_returned, flush_call, flush_so, keeps_returned, made_returned}
 use Rattle.seize_calls.proofs.Keeps.{state_before}
 
@@ -38,14 +38,16 @@ pub returned : (a : CallState) (key' : SlotKey) (pass' : Pass) → AddsEvent a.k
 returned a key' pass' notes none =
     record { keeps = keeps_returned a.key key' a.pass pass' notes; made = made_returned a.key key' a.pass pass' notes; batch = refl; none = none; had_none = refl }
 
-pub whole_rests : (key : SlotKey) (pass : Pass) (a : CallState) (key' : SlotKey) (pass' : Pass) → IsSamePass pass a.pass → IsPrefix pass.seen a.pass.seen → AddsAlone pass a.pass
+pub whole_rests : (key : SlotKey) (pass : Pass) (a : CallState) (key' : SlotKey) (pass' : Pass) → IsSamePass pass a.pass → IsPrefix pass.seen a.pass.seen → AddsAlone pass a.pass → AddsOwn key pass a.key
     → (slot_book a.key ≡ slot_book key) × (slot_number a.key ≡ slot_number key) → (slot_of a.key).used ≡ (slot_of key).used → IsWellFormed a → AddsEvent a.key a.pass key' pass' (Return (slot_number a.key)) → Rests key pass key' pass' a.batch
-whole_rests key pass a key' pass' same grows alone its used sits notes =
+whole_rests key pass a key' pass' same grows alone own its used sits notes =
     let keeps = keeps_returned a.key key' a.pass pass' notes in
     record {
       same = same_twice pass a.pass pass' same keeps.same;
       grows = prefix_trans pass.seen a.pass.seen pass'.seen grows keeps.grows;
       alone = alone_twice pass a.pass pass' same alone keeps.alone;
+      own = own_twice key a.key key' pass a.pass same own keeps.own;
+      sees = notes.1.2;
       its = (keeps.its.0 ∙ its.0, keeps.its.1 ∙ its.1);
       call = call_returned a.key key' a.pass pass' notes;
       used = keeps.used ∙ used;

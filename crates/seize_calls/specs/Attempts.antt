@@ -3,10 +3,10 @@
 --                        values stay, with all that is noted but the slots; or the batch was retired: see Retires
 --     Retires at pass values key' pass' values' zero      all that was made with the pass is that the slot read the heads, detached the
 --                        batch, took a turn at each slot whose head was active (`all_insert_events`), and added the insertions won; the
---                        count is 0
---                        then or isn't. Where it is 0 the batch's values are given up to the call, with their keys. Nothing else of the
---                        slot has changed but its batch, which is empty. Where the slot is active the count is not 0. What was added
---                        where the pass is alone was made with it (AddsAlone)
+--                        count is 0 then or isn't. Where it is 0 the batch's values are given up to the call, with their keys. Nothing
+--                        else of the slot has changed but its batch, which is empty. Where the slot is active the count is not 0. What
+--                        was added where the pass is alone was made with it (AddsAlone), and so was all that was added of the slot's own
+--                        (AddsOwn)
 use Rattle.std.specs.Prelude.{◌≡◌, ℤ, Bool, true, false, if◌then◌else◌, List, [], ◌∷◌, ◌++◌, length, Some}
 use mathlib.Core.List.{IsPrefix}
 use Rattle.seize_machine.specs.Machine.Event.{AddCount, Detach}
@@ -20,7 +20,7 @@ use Rattle.seize_book.specs.Slots.{active_of, life_of, slot_number, slot_of}
 use Rattle.seize_book.specs.declared.book.pass.Pass.{Pass}
 use Rattle.seize_book.specs.declared.book.slot_key.SlotKey.{SlotKey}
 use Rattle.seize_book.specs.declared.book.value_keys.ValueKeys.{ValueKeys}
-use Rattle.seize_calls.specs.Alone.{AddsAlone}
+use Rattle.seize_calls.specs.Alone.{AddsAlone, AddsOwn}
 use Rattle.seize_calls.specs.Batches.{AreRemarked}
 use Rattle.seize_calls.specs.Inserts.{InsertTries, all_insert_events}
 use Rattle.seize_calls.specs.Marks.{BeginsToMark, EndsMarks, actives, readings}
@@ -38,6 +38,7 @@ pub record Retires {key : SlotKey} (at : BeginsToMark key) (pass : Pass) (values
   pub under_guard : active_of key ≡ true → zero ≡ false
   pub grows : IsPrefix pass.seen pass'.seen
   pub alone : AddsAlone pass pass'
+  pub own : AddsOwn key pass key'
   pub made : let s = slot_number key in
       events_by pass' ≡ (((events_by pass ++ readings pass s 0 finds) ++ (private pass (Detach s), Done) ∷ [])
       ++ all_insert_events pass s (actives 0 finds) turns) ++ (private pass (AddCount s), Count count) ∷ []

@@ -6,41 +6,47 @@
 --     Returns a key' pass' values had     the call returned, with nothing in its queue
 --     Rests key pass key' pass' values'   no call of the slot is under way then, and these are the keys of its batch; whether it is in use
 --                        is as before. The pass has seen what it had seen (`grows`), and what was added where it is alone was made with it
---                        (`alone`): then the events are all there are since
+--                        (`alone`): then the events are all there are since. All that was added to the slot's own entries since its
+--                        key knew them was made with it (`own`), and the key has seen all that the pass has (`sees`): the events of the
+--                        call are all that the slot made, but for steps on links
 --     Flushes key pass values had key' pass' values' had' retired     a flush: it began, settled, drained its queue, and returned. A
 --                        batch that wasn't empty was attempted
 --     RetiresOne key pass v kept values had key' pass' values' had' retired     a retirement: it began, v was put, of which this is
 --                        kept, and then it settled with v as the last, drained its queue, and returned. A full batch was attempted, as
 --                        DrainsOne says
+--     SwapsOut job swap s pass out walk     `out` is the pass on its way: a call of slot s began with this job, the head was swapped
+--                        out by this entry, and the call is about to walk these batches, which came out
 --     Leaves job stays swap key pass values had key' pass' values' had'     a leave or a refresh: it began, the head was swapped out by
---                        this entry, batches that came out were counted down, one after the other (each once, as `WalksAll` says), what
---                        was given up was handed before the next, it drained its queue, and returned. The slot is active afterwards or
---                        not. The reclaimer had what was handed (HasHad), each value with the word that the list says is kept of it
-use Rattle.std.specs.Prelude.{◌≡◌, ℕ, ℤ, Bool, true, List, [], ◌∷◌, ◌++◌, None}
+--                        this entry, and as many batches as came out were counted down (`each`); each such event takes the next one.
+--                        What was given up was handed before the next. Then the call had its queue alone, and the slot's batch as it was
+--                        (`stands`, `kept`); it drained the queue, and returned. The slot is active afterwards or not. The reclaimer had
+--                        what was handed (HasHad), each value with the word that the list says is kept of it
+use Rattle.std.specs.Prelude.{◌≡◌, ℕ, ℤ, Bool, true, List, [], ◌∷◌, ◌++◌, None, Some, length}
 use mathlib.Core.List.{IsPrefix}
 use Rattle.seize_machine.specs.Machine.Event.{Begin, Return}
-use Rattle.seize_machine.specs.Machine.State.{head_at, is_active, is_idle}
+use Rattle.seize_machine.specs.Machine.State.{Rest, head_at, is_active, is_idle, slot_at}
 use Rattle.seize_machine.specs.declared.machine.event.Answer.TheVariants.{Done}
 use Rattle.seize_machine.specs.declared.machine.event.Job.{Job}
 use Rattle.seize_machine.specs.declared.machine.event.Job.TheVariants.{Flush, Retire}
 use Rattle.seize_book.specs.Book.{after}
 use Rattle.seize_book.specs.Adding.{deed_with_words}
 use Rattle.seize_book.specs.Entry.{Deed}
+use Rattle.seize_book.specs.Homesteads.{state_seen}
 use Rattle.seize_book.specs.Kept.{AllTold, kepts_of}
 use Rattle.seize_book.specs.Laws.{life}
 use Rattle.seize_book.specs.Tokens.{start}
 use Rattle.seize_words.specs.Named.{slot_book}
 use Rattle.seize_book.specs.Passes.{IsSamePass, events_by}
-use Rattle.seize_book.specs.Slots.{active_of, life_of, slot_number, slot_of}
+use Rattle.seize_book.specs.Slots.{active_of, life_of, own_list, slot_number, slot_of}
 use Rattle.seize_book.specs.Values.{values_of}
 use Rattle.seize_book.specs.declared.book.pass.Pass.{Pass}
 use Rattle.seize_words.specs.declared.activation.Activation.{Activation}
 use Rattle.seize_book.specs.declared.book.slot_key.SlotKey.{SlotKey}
 use Rattle.seize_book.specs.declared.book.value_keys.ValueKeys.{ValueKeys}
-use Rattle.seize_calls.specs.Alone.{AddsAlone}
+use Rattle.seize_calls.specs.Alone.{AddsAlone, AddsOwn}
 use Rattle.seize_calls.specs.Handing.{Had, Handings, HasHad, values_handed, values_put, words_put}
 use Rattle.seize_calls.specs.Inserts.{Continues}
-use Rattle.seize_calls.specs.Settling.{CallState, Drains, DrainsOne, HasBatch, Settles, done_event}
+use Rattle.seize_calls.specs.Settling.{CallState, Drains, DrainsOne, HasBatch, HasQueue, Settles, done_event}
 use Rattle.seize_calls.specs.Walking.{handed_in, steps}
 
 abbrev pub IsInside : SlotKey → Type 0
@@ -74,6 +80,8 @@ pub record Rests (key : SlotKey) (pass : Pass) (key' : SlotKey) (pass' : Pass) (
   pub same : IsSamePass pass pass'
   pub grows : IsPrefix pass.seen pass'.seen
   pub alone : AddsAlone pass pass'
+  pub own : AddsOwn key pass key'
+  pub sees : own_list key' ≡ pass'.seen
   pub its : (slot_book key' ≡ slot_book key) × (slot_number key' ≡ slot_number key)
   pub call : (slot_of key').call ≡ None
   pub used : (slot_of key').used ≡ (slot_of key).used
@@ -105,13 +113,26 @@ pub record RetiresOne (key : SlotKey) (pass : Pass) (v kept : ℕ) (values : Val
   pub active : active_of key' ≡ active_of key
   pub life : life_of key' ≡ life_of key
 
+pub record SwapsOut (job : Job) (swap : Deed) (s : ℕ) (pass out : Pass) (walk : List ℕ) : Type 0 where
+  pub same : IsSamePass pass out
+  pub grows : IsPrefix pass.seen out.seen
+  pub made : events_by out ≡ (events_by pass ++ done_event pass (Begin s job)) ++ (swap, Done) ∷ []
+  pub stands : (slot_at (state_seen out) s).call ≡ Some (record { place = Rest [] walk; queue = [] })
+
 pub record Leaves (job : Job) (stays : Bool) (swap : Deed) (key : SlotKey) (pass : Pass) (values : ValueKeys) (had : Had)
     (key' : SlotKey) (pass' : Pass) (values' : ValueKeys) (had' : Had) : Type 0 where
+  pub walk : List ℕ
+  pub out : Pass
+  pub swaps_out : SwapsOut job swap (slot_number key) pass out walk
   pub walked : List (ℤ × Handings)
+  pub each : length walked ≡ length walk
   pub kepts : List ℕ
   pub behind : CallState
-  pub made : let s = slot_number key in
-      events_by behind.pass ≡ ((events_by pass ++ done_event pass (Begin s job)) ++ (swap, Done) ∷ []) ++ steps pass s walked
+  pub grows : IsPrefix out.seen behind.pass.seen
+  pub its : (slot_book behind.key ≡ slot_book key) × (slot_number behind.key ≡ slot_number key)
+  pub stands : HasQueue behind.key behind.queue
+  pub kept : (slot_of behind.key).batch ≡ (slot_of key).batch
+  pub made : events_by behind.pass ≡ events_by out ++ steps pass (slot_number key) walked
   pub has_had : HasHad (handed_in walked) kepts had behind.had
   pub told : AllTold behind.pass.seen (values_handed (handed_in walked)) kepts
   pub queued : let handed = handed_in walked in

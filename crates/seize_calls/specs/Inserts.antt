@@ -5,8 +5,8 @@
 --     all_insert_events pass s ms turns   those of a turn at each of these slots, in order;  won_in turns     how many insertions were won
 --     plan_in key b          how batch b was detached, as the slot's key knows
 --     Continues key pass key' pass'  it is the same key and pass, and the slot's batch, whether it is in use and active, and its last
---                            activation, are as they were; the pass has seen all that it had seen, and so no fewer slots; and what was
---                            added where it is alone was made with it (AddsAlone)
+--                            activation, are as they were; the pass has seen all that it had seen, and so no fewer slots; what was
+--                            added where it is alone was made with it (AddsAlone), and so was all of the slot's own (AddsOwn)
 --     IsAtTry key head header seen block front     the slot's call is about to insert its batch at this head, where it saw this word, with
 --                            the block of this number and header; and this is the number of the batch's first block
 --     TriesOnce at pass key' pass' won   it tried once, and won or lost
@@ -44,7 +44,7 @@ use Rattle.seize_book.specs.declared.book.pass.Pass.{Pass}
 use Rattle.seize_book.specs.declared.book.slot_key.SlotKey.{SlotKey}
 use Rattle.seize_words.specs.declared.chunk.Header.{Header}
 use Rattle.seize_words.specs.declared.reservation.Head.{Head}
-use Rattle.seize_calls.specs.Alone.{AddsAlone}
+use Rattle.seize_calls.specs.Alone.{AddsAlone, AddsOwn}
 use Rattle.seize_calls.specs.Batches.{SlotMark, marked_slots, slot_in}
 use Rattle.seize_calls.specs.Marks.{reading}
 use Rattle.seize_calls.specs.Rounds.{book_at, done_in, rest_in}
@@ -93,6 +93,7 @@ pub record Continues (key : SlotKey) (pass : Pass) (key' : SlotKey) (pass' : Pas
   pub seen : slots_seen pass ≤ slots_seen pass'
   pub grows : IsPrefix pass.seen pass'.seen
   pub alone : AddsAlone pass pass'
+  pub own : AddsOwn key pass key'
 
 pub record IsAtTry (key : SlotKey) (head : Head) (header : Header) (seen block front : ℕ) : Type 0 where
   pub tries : IsTrying (start_of key) (slot_number key) (own_list key) (slot head) seen block

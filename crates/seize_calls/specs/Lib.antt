@@ -6,6 +6,7 @@ pub mod Calls
 pub mod Furthers
 pub mod Handing
 pub mod Inserts
+pub mod Laying
 pub mod Marks
 pub mod Numbered
 pub mod Rounds

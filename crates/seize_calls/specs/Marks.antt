@@ -1,5 +1,5 @@
 -- How a call marks that has put the value with which its batch is full, or that begins to flush. The pass has seen what it had seen, and
--- what was added where it is alone was made with it (AddsAlone).
+-- what was added where it is alone was made with it (AddsAlone), and so was all that was added of the slot's own (AddsOwn).
 --     BeginsToMark key       the slot's call is to read the first head
 --     readings pass s n finds     slot s read heads, with the pass: from this number on, in order, as many as there are answers, which say
 --                            whether the head was active
@@ -23,7 +23,7 @@ use Rattle.seize_book.specs.Slots.{active_of, life_of, slot_number, slot_of}
 use Rattle.seize_words.specs.Totals.{slots_seen}
 use Rattle.seize_book.specs.declared.book.pass.Pass.{Pass}
 use Rattle.seize_book.specs.declared.book.slot_key.SlotKey.{SlotKey}
-use Rattle.seize_calls.specs.Alone.{AddsAlone}
+use Rattle.seize_calls.specs.Alone.{AddsAlone, AddsOwn}
 use Rattle.seize_calls.specs.Batches.{SlotMark, marked_slots}
 use Rattle.seize_calls.specs.declared.marking.MarkOutcome.{MarkOutcome}
 use Rattle.seize_calls.specs.declared.marking.MarkOutcome.TheVariants.{Ready, TooMany}
@@ -60,6 +60,7 @@ pub record EndsMarks {key : SlotKey} (at : BeginsToMark key) (pass : Pass) (key'
   pub within : length finds ≤ slots_seen pass'
   pub grows : IsPrefix pass.seen pass'.seen
   pub alone : AddsAlone pass pass'
+  pub own : AddsOwn key pass key'
   pub made : events_by pass' ≡ events_by pass ++ readings pass (slot_number key) 0 finds
   pub batch : (slot_of key').batch ≡ (slot_of key).batch
   pub used : (slot_of key').used ≡ (slot_of key).used

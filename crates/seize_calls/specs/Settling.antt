@@ -5,7 +5,8 @@
 --     IsWellFormed a         all is of one book, the pass has seen what the slot's key knows, and the batch's keys are those of its values;
 --                            of these, and of the queue's, the list says what is kept
 --     Onward key pass key' pass'     it is the same slot and pass; whether it is in use and active, and its last activation, are as they
---                            were. The pass has seen what it had seen, and what was added where it is alone was made with it (AddsAlone)
+--                            were. The pass has seen what it had seen. What was added where it is alone was made with it (AddsAlone); so
+--                            was all that was added of the slot's own (AddsOwn)
 --     IsToMark key queue     the slot's call is to read the first head, and has these values in its queue
 --     HasQueue key queue     it has nothing else to do but with these
 --     MayPut key v queue     it is to put v, which it retires, or which is the first of its queue; then it has these
@@ -37,7 +38,7 @@ use Rattle.seize_book.specs.declared.book.pass.Pass.{Pass}
 use Rattle.seize_book.specs.declared.book.slot_key.SlotKey.{SlotKey}
 use Rattle.seize_book.specs.declared.book.value_keys.ValueKeys.{ValueKeys}
 use Rattle.seize_words.specs.Walks.{Knows}
-use Rattle.seize_calls.specs.Alone.{AddsAlone}
+use Rattle.seize_calls.specs.Alone.{AddsAlone, AddsOwn}
 use Rattle.seize_book.specs.Kept.{AllTold, AreTold, kepts_of}
 use Rattle.seize_calls.specs.Batches.{AreRemarked, IsPushed, keys_in}
 use Rattle.seize_calls.specs.Furthers.{further_in}
@@ -75,6 +76,7 @@ pub record Onward (key : SlotKey) (pass : Pass) (key' : SlotKey) (pass' : Pass) 
   pub life : life_of key' ≡ life_of key
   pub grows : IsPrefix pass.seen pass'.seen
   pub alone : AddsAlone pass pass'
+  pub own : AddsOwn key pass key'
 
 abbrev pub IsToMark : SlotKey → ValueKeys → Type 0
 IsToMark key queue = (at : BeginsToMark key) × (at.queue ≡ values_of queue)

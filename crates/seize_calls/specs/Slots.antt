@@ -8,6 +8,7 @@
 --                              batch, and what its passes have seen
 --     IsItsHead slot head      it is the slot's own head
 --     KeepsCalls slot slot'    all these are the same
+--     its_spots slot           its list of spots
 --     MakesOneSlot numbers next pass numbers' slot next' pass'     the slot was made (MakesNextSlot), and has seen what the pass has
 --     IsPassFor words pass     it is a pass of their book, with their batch size
 --     SetsUse numbers pass' numbers' slot used     the key of the numbers follows, and which are in use is as before, but for this slot's
@@ -19,7 +20,8 @@
 --     IsLooseIn key loose      it is the value whose key this is, which may be retired;  IsLooseAs value loose     so it is
 --     loose_book loose         its book;  IsReadable loose     something is lent with it, which can be read
 --     Prepares slot pass ready     the pass has seen what the slot had seen, a legal list, and nothing was made with it
---     CallsWith slot pass slot' pass' Does     once the pass was ready, this was done. It is the same slot, and has seen what the pass has
+--     CallsWith slot pass slot' pass' Does     once the pass was ready, and had seen what the slot's key knew, this was done. It is the
+--                              same slot, and has seen what the pass has
 --     SlotEnters, SlotRetires, SlotFlushes, SlotLeaves, SlotRefreshes     so a call of the slot did, with this pass and with what the
 --                              reclaimer had: see `RetiresOne`, `Flushes` and `Leaves`
 --     SlotGives, SlotTakes     its number went back by the event `Give`, or was taken again by `Take`; it keeps its batch
@@ -28,6 +30,7 @@ use Rattle.std.specs.Prelude.{◌≡◌, ℕ, Bool, true, false, List, Some, sli
 use mathlib.Core.List.{IsPrefix}
 use Rattle.seize_machine.specs.Machine.Event.{Enter, Give, SwapOut, Take}
 use Rattle.seize_machine.specs.declared.machine.event.Job.TheVariants.{Leave, Refresh}
+use Rattle.seize_store.specs.declared.spot.Spots.{Spots}
 use Rattle.seize_book.specs.Adding.{private}
 use Rattle.seize_book.specs.Book.{IsLegalList}
 use Rattle.seize_book.specs.Entry.{Entry}
@@ -35,7 +38,7 @@ use Rattle.seize_book.specs.Kept.{AreTold}
 use Rattle.seize_book.specs.Lending.{IsLentKey}
 use Rattle.seize_book.specs.Others.{FollowsNumbers, MayRetire, book_of, use_flags, value_of}
 use Rattle.seize_book.specs.Passes.{IsSamePass, MadeNone}
-use Rattle.seize_book.specs.Slots.{AddsDeed, AddsEvent, LooksWithSlotKey, active_of, life_of, slot_number, slot_of}
+use Rattle.seize_book.specs.Slots.{AddsDeed, AddsEvent, LooksWithSlotKey, active_of, life_of, own_list, slot_number, slot_of}
 use Rattle.seize_book.specs.Tokens.{IsSole, Name, start}
 use Rattle.seize_book.specs.declared.book.numbers_key.NumbersKey.{NumbersKey}
 use Rattle.seize_book.specs.declared.book.pass.Pass.{Pass}
@@ -49,6 +52,8 @@ use Rattle.seize_words.specs.Named.{head_book}
 use Rattle.seize_words.specs.Reservations.{IsOfSlot, beginning, slot as head_slot}
 use Rattle.seize_words.specs.Reserved.{MakesNextSlot}
 use Rattle.seize_words.specs.declared.activation.Activation.{Activation}
+use Rattle.seize_words.specs.declared.chunk.Header.{Header}
+use Rattle.seize_words.specs.declared.chunk.Part.{Part}
 use Rattle.seize_words.specs.declared.slots.next.NextSlot.{NextSlot}
 use Rattle.seize_words.specs.Walks.{Knows}
 use Rattle.seize_words.specs.declared.link.MaybeKey.{MaybeKey}
@@ -95,6 +100,9 @@ its_key slot = slot.key
 
 abbrev pub its_batch : {T : Type 0} → Slot T → ValueKeys
 its_batch slot = keys_in slot.batch
+
+abbrev pub its_spots : {T : Type 0} → Slot T → Spots Header Part T
+its_spots slot = slot.spots
 
 abbrev pub its_seen : {T : Type 0} → Slot T → List Entry
 its_seen slot = slot.seen.seen
@@ -161,6 +169,7 @@ pub record CallsWith {T : Type 0} (slot : Slot T) (pass : Pass) (slot' : Slot T)
   pub same : (slot'.number ≡ slot.number) × (slot'.seen.name ≡ slot.seen.name)
   pub ready : Pass
   pub prepares : Prepares slot pass ready
+  pub knew : IsPrefix (own_list slot.key) ready.seen
   pub does : Does ready
   pub seen : slot'.seen.seen ≡ pass'.seen
 

@@ -1,10 +1,11 @@
 //! Whole calls of a slot, each from its begin to its return. They make their own events with the pass, in the order of the scheme, beside
-//! whatever others add. What reclaimers put meanwhile is retired in the same call, when it has nothing else to do. The blocks of values
-//! that are handed go to the slot's list of spots.
+//! whatever others add. What reclaimers put meanwhile is retired in the same call, when it has nothing else to do. For each value that is
+//! handed, in order, the chunk of its block comes to the slot's list of spots, last (`laid`).
 ghost use Rattle.std.specs.Prelude.{◌≡◌, false, true};
 ghost use Rattle.seize_machine.specs.declared.machine.event.Job.TheVariants.{Leave, Refresh};
 ghost use Rattle.seize_machine.specs.Machine.Event.{SwapOut};
 ghost use Rattle.seize_calls.specs.Calls.{Flushes, HasBegun, IsInside, Leaves, RetiresOne};
+ghost use Rattle.seize_calls.specs.Laying.{Lays};
 ghost use Rattle.seize_calls.specs.Batches.{keys_in};
 ghost use Rattle.seize_calls.specs.Settling.{HasBatch};
 ghost use Rattle.seize_book.specs.Blocks.{block_number};
@@ -57,6 +58,7 @@ pub fn flush<T: Drop, R: Reclaim<T>, M: Drainer<T, R>>(
     ensures knows { Knows key.new pass.new }
     ensures serves { R.serves reclaimer.new (blocks_book blocks.now) }
     ensures spots { AreSpotsIn blocks.now spots.new }
+    ensures laid { Lays pass.old spots.old pass.new spots.new }
     ensures flushes { let had = R.had reclaimer.old in let had' = R.had reclaimer.new in
         Flushes key.old pass.old (keys_in batch.old) had key.new pass.new (keys_in batch.new) had' result }
 {
@@ -109,6 +111,7 @@ pub fn retire<T: Drop, R: Reclaim<T>, M: Drainer<T, R>>(
     ensures knows { Knows key.new pass.new }
     ensures serves { R.serves reclaimer.new (blocks_book blocks.now) }
     ensures spots { AreSpotsIn blocks.now spots.new }
+    ensures laid { Lays pass.old spots.old pass.new spots.new }
     ensures retires { let values = keys_in batch.old in let had = R.had reclaimer.old in let had' = R.had reclaimer.new in
         RetiresOne key.old pass.old (value_of value) kept values had key.new pass.new (keys_in batch.new) had' result }
 {
@@ -156,6 +159,7 @@ pub fn leave<T: Drop, R: Reclaim<T>, M: Drainer<T, R>>(
     ensures slot { IsOfSlot key.new activation.new }
     ensures serves { R.serves reclaimer.new (blocks_book blocks.now) }
     ensures spots { AreSpotsIn blocks.now spots.new }
+    ensures laid { Lays pass.old spots.old pass.new spots.new }
     ensures leaves { let swap = private pass.old (SwapOut (slot_number key.old)) in let had = R.had reclaimer.old in
         let had' = R.had reclaimer.new in
         Leaves Leave false swap key.old pass.old (keys_in batch.old) had key.new pass.new (keys_in batch.new) had' }
@@ -201,6 +205,7 @@ pub fn refresh<T: Drop, R: Reclaim<T>, M: Drainer<T, R>>(
     ensures begun { HasBegun activation.new pass.new }
     ensures serves { R.serves reclaimer.new (blocks_book blocks.now) }
     ensures spots { AreSpotsIn blocks.now spots.new }
+    ensures laid { Lays pass.old spots.old pass.new spots.new }
     ensures leaves { let swap = beginning pass.old activation.new.life (SwapOut (slot_number key.old)) in let had = R.had reclaimer.old in
         let had' = R.had reclaimer.new in
         Leaves Refresh true swap key.old pass.old (keys_in batch.old) had key.new pass.new (keys_in batch.new) had' }

@@ -4,6 +4,7 @@
 ghost use Rattle.std.specs.Prelude.{◌≡◌, []};
 ghost use Rattle.seize_book.specs.Values.{values_of};
 ghost use Rattle.seize_calls.specs.Furthers.{further_in};
+ghost use Rattle.seize_calls.specs.Laying.{Lays};
 ghost use Rattle.seize_calls.specs.Settling.{Drains, HasQueue, IsWellFormed, Onward, call_state};
 ghost use Rattle.seize_words.specs.Chunks.{AreSpotsIn, blocks_book};
 ghost use Rattle.seize_words.specs.Reserved.{slots_book};
@@ -69,6 +70,7 @@ pub trait Drainer<T: Drop, R: Reclaim<T>>: Manner {
         ensures well_formed { IsWellFormed (call_state key.new pass.new batch.new queue.new (R.had reclaimer.new)) }
         ensures serves { R.serves reclaimer.new (blocks_book blocks.now) }
         ensures spots { AreSpotsIn blocks.now spots.new }
+        ensures laid { Lays pass.old spots.old pass.new spots.new }
         ensures on { Onward key.old pass.old key.new pass.new }
         ensures over { HasQueue key.new (further_in queue.new) × (values_of (further_in queue.new) ≡ []) }
         ensures drains { let from = call_state key.old pass.old batch.old queue.old (R.had reclaimer.old) in
@@ -136,7 +138,8 @@ impl<T: Drop, R: Lightens<T>> Drainer<T, R> for Alone {
 }
 
 /// Retires the values of the queue, which the slot's call has left to do, until none is left. Each joins the slot's batch, which is
-/// attempted where it has `size` values or more: the batch size of the pass.
+/// attempted where it has `size` values or more: the batch size of the pass. The chunks of the blocks of what is handed go to the list, in
+/// order.
 ///
 /// It takes no memory, but for what the reclaimer does, and waits as its manner does. Where the queue is empty it compares one word.
 #[inline(always)]
@@ -162,6 +165,7 @@ pub fn drain<T: Drop, R: Reclaim<T>, M: Drainer<T, R>>(
     ensures well_formed { IsWellFormed (call_state key.new pass.new batch.new queue.new (R.had reclaimer.new)) }
     ensures serves { R.serves reclaimer.new (blocks_book blocks.now) }
     ensures spots { AreSpotsIn blocks.now spots.new }
+    ensures laid { Lays pass.old spots.old pass.new spots.new }
     ensures on { Onward key.old pass.old key.new pass.new }
     ensures over { HasQueue key.new (further_in queue.new) × (values_of (further_in queue.new) ≡ []) }
     ensures drains { let from = call_state key.old pass.old batch.old queue.old (R.had reclaimer.old) in

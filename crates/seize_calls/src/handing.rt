@@ -13,6 +13,7 @@ ghost use Rattle.seize_book.specs.Values.{AreOfBook, values_of};
 ghost use Rattle.seize_book.specs.Kept.{AreTold, kept_in, kepts_of};
 ghost use Rattle.seize_calls.specs.Furthers.{further_in};
 ghost use Rattle.seize_calls.specs.Handing.{GainsSpot, HasHad, IsServed};
+ghost use Rattle.seize_calls.specs.Laying.{Lays};
 ghost use Rattle.seize_calls.specs.Walking.{HandsAll, HandsOne, IsGiven};
 ghost use Rattle.seize_words.specs.Chunks.{AreSpotsIn, blocks_book};
 ghost use Rattle.seize_words.specs.Walks.{Knows};
@@ -104,8 +105,8 @@ pub fn hand_one<T: Drop, R: Reclaim<T>>(
 }
 
 /// Hands all these values, which were given up to the slot's call, in their order: each goes to the reclaimer, with the word that is kept
-/// of it, and what that puts joins the call's queue. The number is that of the first one's block, and what is noted of each block leads to
-/// the next one's. No keys are left.
+/// of it, what that puts joins the call's queue, and the block's chunk goes to the list, last. The number is that of the first one's
+/// block, and what is noted of each block leads to the next one's. No keys are left.
 ///
 /// It takes no memory and waits for nobody, but for what the reclaimer does: for each value, what `hand_one` does.
 pub fn hand_all<T: Drop, R: Reclaim<T>>(
@@ -132,6 +133,7 @@ pub fn hand_all<T: Drop, R: Reclaim<T>>(
     ensures told { AreTold (further_in queue.new) pass.new }
     ensures serves { R.serves reclaimer.new (blocks_book blocks.now) }
     ensures spots { AreSpotsIn blocks.now spots.new }
+    ensures laid { Lays pass.old spots.old pass.new spots.new }
 {
     let mut number = front;
     loop {

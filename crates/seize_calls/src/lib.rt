@@ -7,18 +7,18 @@
 //! call is made, beside others or by a pass that is alone. `slot` has all that belongs to a slot in one value, with its calls.
 #![tactic(auto)]
 
-pub mod attempt;
-pub mod batch;
-pub mod calls;
+mod attempt;
+mod batch;
+mod calls;
 mod chain;
 pub mod draining;
 pub mod further;
 pub mod handing;
-pub mod inserting;
+mod inserting;
 mod limit;
 pub mod manner;
-pub mod marking;
-pub mod round;
-pub mod settling;
+mod marking;
+mod round;
+mod settling;
 pub mod slot;
-pub mod walking;
+mod walking;

@@ -5,6 +5,7 @@ ghost use Rattle.seize_book.specs.Blocks.{block_number};
 ghost use Rattle.seize_book.specs.Kept.{IsTold};
 ghost use Rattle.seize_book.specs.Others.{IsValueOf, value_of};
 ghost use Rattle.seize_calls.specs.Furthers.{further_in};
+ghost use Rattle.seize_calls.specs.Laying.{Lays};
 ghost use Rattle.seize_calls.specs.Settling.{DrainsOne, IsToMark, IsWellFormed, MayPut, Settles, call_state};
 ghost use Rattle.seize_words.specs.Chunks.{AreSpotsIn, blocks_book};
 ghost use Rattle.seize_words.specs.Reserved.{slots_book};
@@ -20,8 +21,8 @@ use seize_words::book::{Pass, SlotKey, ValueKey};
 use seize_words::chunk::{Header, Part};
 use seize_words::slots::Slots;
 
-/// Attempts the slot's batch, and hands its values if they are given up. It says whether the batch was retired: if it was, it has no values
-/// any more.
+/// Attempts the slot's batch, and hands its values if they are given up; the chunks of their blocks go to the list, in order. It says
+/// whether the batch was retired: if it was, it has no values any more.
 ///
 /// It takes no memory, but for what the reclaimer does, and waits as its manner does.
 #[cold]
@@ -46,6 +47,7 @@ pub fn settle<T: Drop, R: Reclaim<T>, M: Manner>(
     ensures well_formed { IsWellFormed (call_state key.new pass.new batch.new queue.new (R.had reclaimer.new)) }
     ensures serves { R.serves reclaimer.new (blocks_book blocks.now) }
     ensures spots { AreSpotsIn blocks.now spots.new }
+    ensures laid { Lays pass.old spots.old pass.new spots.new }
     ensures settles { let from = call_state key.old pass.old batch.old queue.old (R.had reclaimer.old) in
         Settles 0 from (call_state key.new pass.new batch.new queue.new (R.had reclaimer.new)) result }
 {
@@ -71,8 +73,8 @@ pub fn settle<T: Drop, R: Reclaim<T>, M: Manner>(
 }
 
 /// Puts the value of this key, which lies in the block of this number, to the slot's batch: it comes last. What is kept of it is noted of
-/// its block. Where the batch has `size` values or more, which is the batch size of the pass, it is attempted. It says whether the batch
-/// was retired.
+/// its block. Where the batch has `size` values or more, which is the batch size of the pass, it is attempted, and values are handed as by
+/// `settle`. It says whether the batch was retired.
 ///
 /// It takes no memory and waits as `settle` does.
 #[inline]
@@ -103,6 +105,7 @@ pub fn put<T: Drop, R: Reclaim<T>, M: Manner>(
     ensures well_formed { IsWellFormed (call_state key.new pass.new batch.new queue.new (R.had reclaimer.new)) }
     ensures serves { R.serves reclaimer.new (blocks_book blocks.now) }
     ensures spots { AreSpotsIn blocks.now spots.new }
+    ensures laid { Lays pass.old spots.old pass.new spots.new }
     ensures drains_one { let from = call_state key.old pass.old batch.old queue.old (R.had reclaimer.old) in
         DrainsOne from (value_of value) kept (call_state key.new pass.new batch.new queue.new (R.had reclaimer.new)) result }
 {

@@ -78,8 +78,9 @@ impl Loose {
     }
 }
 
-/// What the holder of a slot has: the right to its calls, its batch, and chunks of blocks that are gone, for its next ones. No call of the
-/// slot is under way.
+/// What the holder of a slot has: the right to its calls, its batch, and spots, the chunks of blocks whose values are gone, for its next
+/// blocks. For each value that a call hands, in order, the chunk of its block comes to these, last (`laid`). No call of the slot is under
+/// way.
 ///
 /// Where it is dropped, its slot stays as it is for good: active if it is active, and with its batch.
 #[derive(Drop)]
@@ -102,6 +103,8 @@ impl<T: Drop> Slot<T> {
     ghost use Rattle.seize_words.specs.Totals.{};
     ghost use Rattle.seize_words.specs.Chunks.{IsBlockIn};
     ghost use Rattle.seize_calls.specs.Slots.{KeepsCalls, MakesOneSlot, Prepares, SetsUse, its_book, its_key, its_number, its_seen};
+    ghost use Rattle.seize_calls.specs.Slots.{its_spots};
+    ghost use Rattle.seize_calls.specs.Laying.{Lays};
     ghost use Rattle.seize_calls.specs.Calls.{HasBegun};
     ghost use Rattle.seize_calls.specs.Slots.{HasActivation, InActivation, IsLooseOf, IsPassFor, KeepsActivation, MayEnterWith};
     ghost use Rattle.seize_calls.specs.Slots.{IsActive, IsFreeSlotOf, IsInactive, IsItsHead, IsOfWords, IsSlotOf};
@@ -168,8 +171,8 @@ impl<T: Drop> Slot<T> {
         self.seen.again()
     }
 
-    /// A block with this value, and the key of it, which was never named. It is made of a block that is gone, where the slot has one; then
-    /// it takes no atomic step and no memory. The slot is as it was, but for that block, and the pass as it was.
+    /// A block with this value, and the key of it, which was never named. It is made in a spot of the slot, where that has one; then
+    /// it takes no atomic step and no memory. The slot is as it was, but for that spot, and the pass as it was.
     ///
     /// # Errors
     ///
@@ -292,7 +295,8 @@ impl<T: Drop> Slot<T> {
     }
 
     /// Retires the value: it comes last in the slot's batch, and `kept` is kept of it. Where the batch has as many values as the batch size
-    /// says, it is attempted. It says whether the batch was retired.
+    /// says, it is attempted. It says whether the batch was retired. The reclaimer is for what this call hands. The value itself goes to
+    /// that of whichever call hands it, with the word `kept`.
     ///
     /// It takes no memory, but for what the reclaimer does, and waits as its manner does.
     pub fn retire<R: Reclaim<T>, M: Drainer<T, R>>(
@@ -309,6 +313,7 @@ impl<T: Drop> Slot<T> {
         requires serves { R.serves reclaimer.old (words_book words.now) }
         ensures of { IsSlotOf words.now self.new × KeepsActivation self.old self.new }
         ensures serves { R.serves reclaimer.new (words_book words.now) }
+        ensures laid { Lays pass.old (its_spots self.old) pass.new (its_spots self.new) }
         ensures retires { let had = R.had reclaimer.old in
             SlotRetires self.old pass.old value kept had self.new pass.new (R.had reclaimer.new) result }
     {
@@ -347,6 +352,7 @@ impl<T: Drop> Slot<T> {
         requires serves { R.serves reclaimer.old (words_book words.now) }
         ensures of { IsSlotOf words.now self.new × KeepsActivation self.old self.new }
         ensures serves { R.serves reclaimer.new (words_book words.now) }
+        ensures laid { Lays pass.old (its_spots self.old) pass.new (its_spots self.new) }
         ensures flushes { SlotFlushes self.old pass.old (R.had reclaimer.old) self.new pass.new (R.had reclaimer.new) result }
     {
         pass.learn(&self.seen);
@@ -384,6 +390,7 @@ impl<T: Drop> Slot<T> {
         requires serves { R.serves reclaimer.old (words_book words.now) }
         ensures of { IsSlotOf words.now self.new × MayEnterWith self.new activation.new }
         ensures serves { R.serves reclaimer.new (words_book words.now) }
+        ensures laid { Lays pass.old (its_spots self.old) pass.new (its_spots self.new) }
         ensures leaves { SlotLeaves self.old pass.old (R.had reclaimer.old) self.new pass.new (R.had reclaimer.new) }
     {
         pass.learn(&self.seen);
@@ -423,6 +430,7 @@ impl<T: Drop> Slot<T> {
         ensures of { IsSlotOf words.now self.new }
         ensures inside { HasActivation self.new activation.new }
         ensures serves { R.serves reclaimer.new (words_book words.now) }
+        ensures laid { Lays pass.old (its_spots self.old) pass.new (its_spots self.new) }
         ensures refreshes { let had = R.had reclaimer.old in
             SlotRefreshes self.old pass.old activation.new had self.new pass.new (R.had reclaimer.new) }
     {

@@ -1,6 +1,7 @@
 //! The walk of a call that has swapped its own head out: it counts down each batch that waited, by the words in the headers of blocks.
 //! Others may step on all these words meanwhile, and add any events.
 ghost use Rattle.std.specs.Prelude.{◌≡◌};
+ghost use Rattle.seize_calls.specs.Laying.{Lays};
 ghost use Rattle.seize_calls.specs.Walking.{IsAtWalk, WalksAll, WalksTo};
 ghost use Rattle.seize_words.specs.Chunks.{AreSpotsIn, blocks_book};
 ghost use Rattle.seize_book.specs.Slots.{IsKeyOfBook};
@@ -55,7 +56,7 @@ pub fn walk<T: Drop>(
 }
 
 /// Counts down all the batches to which this word leads. What one of them gives up is handed before the walk goes on, and what the
-/// reclaimer puts joins the call's queue.
+/// reclaimer puts joins the call's queue. The chunks of the blocks of what is handed go to the list, in order.
 ///
 /// It takes no memory and waits for nobody, but for what the reclaimer does. Where no batch waits it compares one word.
 #[inline(always)]
@@ -82,6 +83,7 @@ pub fn walk_all<T: Drop, R: Reclaim<T>>(
     ensures told { AreTold (further_in queue.new) pass.new }
     ensures serves { R.serves reclaimer.new (blocks_book blocks.now) }
     ensures spots { AreSpotsIn blocks.now spots.new }
+    ensures laid { Lays pass.old spots.old pass.new spots.new }
 {
     if word == 1 {
         return;
@@ -115,6 +117,7 @@ fn walk_waiting<T: Drop, R: Reclaim<T>>(
     ensures told { AreTold (further_in queue.new) pass.new }
     ensures serves { R.serves reclaimer.new (blocks_book blocks.now) }
     ensures spots { AreSpotsIn blocks.now spots.new }
+    ensures laid { Lays pass.old spots.old pass.new spots.new }
 {
     let mut values = ValueKeys::new(pass);
     let mut leads = word;

@@ -16,6 +16,7 @@ pub mod Made
 pub mod Numbered
 pub mod OfKind
 pub mod OneLife
+pub mod Own
 pub mod Parting
 pub mod Permitted
 pub mod Placed

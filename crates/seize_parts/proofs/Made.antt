@@ -27,7 +27,7 @@ use Rattle.seize_words.proofs.Facts.{deeds_grew, seen_grows}
 use Rattle.seize_calls.specs.Slots.{CallsWith, MakesOneSlot, Prepares, SlotEnters, SlotGives, SlotTakes, its_number}
 use Rattle.seize_calls.specs.declared.slot.Slot.{Slot}
 use Rattle.seize_calls.proofs.Slots.{longer_left}
-use Rattle.seize_parts.specs.Makes.{Makes, MakesNone, MakesOne, made_with}
+use Rattle.seize_parts.specs.Makes.{Makes, MakesNone, MakesOne, Undivided, made_with}
 
 -- an event of the list, as users see it
 abbrev pub as_made : Deed × Answer → Event × Answer
@@ -63,7 +63,21 @@ none_then none some = makes_then none some
 pub then_none : {p q r : Pass} {es : List (Event × Answer)} → Makes p q es → MakesNone q r → Makes p r es
 then_none {p} {q} {r} {es} some none = subst (Makes p r) (append-nil es) (makes_then some none)
 
--- Nothing is made where a pass learns, looks at the list, or is prepared for a call.
+-- What a slot made between two moments is all that it made, also where the pass saw more before or after, and made nothing.
+
+pub undivided_after : {s : ℕ} {p q r : Pass} {events : List (Event × Answer)} → MakesNone p q → Undivided s q r events → Undivided s p r events
+undivided_after none own =
+    record { begun = own.begun; before = none_then none own.before; ended = own.ended; between = own.between; goes_on = own.goes_on; only = own.only; after = own.after }
+
+pub undivided_then : {s : ℕ} {p q r : Pass} {events : List (Event × Answer)} → Undivided s p q events → MakesNone q r → Undivided s p r events
+undivided_then own none =
+    record { begun = own.begun; before = own.before; ended = own.ended; between = own.between; goes_on = own.goes_on; only = own.only; after = none_then own.after none }
+
+-- Nothing is made at all,
+pub none_at : (pass : Pass) → IsLegalList (start pass.name) pass.seen → MakesNone pass pass
+none_at pass legal = record { same = (refl, refl, refl); grows = ([], append-nil pass.seen); legal = legal; made = sym (append-nil (made_with pass)) }
+
+-- or where a pass learns, looks at the list, or is prepared for a call.
 
 pub none_learned : (pass : Pass) (book : Seen) (pass' : Pass) → Learns pass book pass' → MakesNone pass pass'
 none_learned pass book pass' learns = record {

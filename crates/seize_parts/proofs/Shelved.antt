@@ -1,7 +1,6 @@
 -- What was left of a slot on its shelf, in its place.
 use Rattle.std.proofs.Common.{◌≡◌, ℕ, ◌<◌, ◌≤◌, ◌==◌, Bool, true, false, not, if◌then◌else◌, Option, None, Some, refl, sym, ap, subst, ◌∙◌, arith}
 use Rattle.seize_machine.specs.Machine.State as machine
-use Rattle.seize_machine.specs.Machine.State.{head_at, is_active}
 use Rattle.seize_model.specs.Waiting.Calls.{is_free, is_owned}
 use Rattle.seize_book.specs.Homesteads.{state_seen}
 use Rattle.seize_book.specs.Slots.{active_of}

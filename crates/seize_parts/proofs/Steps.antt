@@ -1,12 +1,12 @@
 -- The parts of a call as users see them: each is made of steps of its slot, in which the reclaimer put such blocks.
 use Rattle.std.proofs.Common.{All, ◌≡◌, ℕ, ℤ, zero, suc, ◌==◌, Bool, true, false, map, List, [], ◌∷◌, ◌++◌, inl, inr, refl, sym, ap, subst, ◌∙◌, append_assoc, append-nil}
-use Rattle.std.proofs.lemmas.List.Elements.{All-nil, All-cons, All-head, All-tail}
+use Rattle.std.proofs.lemmas.List.Elements.{All-nil, All-cons}
 use base.Growing.{prefix_trans}
 use base.Stored.{Gv}
 use mathlib.Core.List.{IsPrefix}
 use Rattle.seize_machine.specs.Machine.Event.{AddCount, Begin, Detach, Enter, Event, ExchangeLink, Give, Hand, Insert, Put, ReadHead, ReadLink, Return, SubCount, SwapOut, Take}
 use Rattle.seize_machine.specs.declared.machine.event.Answer.{Answer}
-use Rattle.seize_machine.specs.declared.machine.event.Answer.TheVariants.{Count, Done, Handed, Head, Illegal, Link}
+use Rattle.seize_machine.specs.declared.machine.event.Answer.TheVariants.{Count}
 use Rattle.seize_book.specs.Adding.{private}
 use Rattle.seize_book.specs.Entry.{Deed, Entry, maker}
 use Rattle.seize_book.specs.Kept.{AllTold, IsTold, Says}
@@ -23,7 +23,7 @@ use Rattle.seize_calls.specs.Marks.{actives, readings}
 use Rattle.seize_calls.specs.Settling.{CallState, Drains, DrainsOne, Settles, done_event}
 use Rattle.seize_calls.specs.Walking.{counting, handed_in, handing, hands, steps}
 use Rattle.seize_alone.specs.Gone.{PutAs, PutOne}
-use Rattle.seize_parts.specs.Makes.{AreStepsOf, IsOfKind, IsStepOf, made_with}
+use Rattle.seize_parts.specs.Makes.{AreStepsOf, IsStepOf, made_with}
 use Rattle.seize_alone.specs.Gone.{AreNamesOf}
 use Rattle.seize_parts.specs.Puts.{PutBy}
 use Rattle.seize_parts.proofs.Made.{as_made, made_grew}
@@ -360,48 +360,3 @@ held_one IsPut s (ExchangeLink k l exchange) answer is none = is
 pub held_back : (IsPut : ℕ → List ℕ → Type 0) (s : ℕ) (steps : List (Event × Answer)) → AreStepsOf IsPut s steps → HandsNone steps → AreStepsOf (λ _ _. ⊥) s steps
 held_back IsPut s [] are none = tt
 held_back IsPut s (step ∷ steps) are none = (held_one IsPut s step.0 step.1 are.0 none.0, held_back IsPut s steps are.1 none.1)
-
--- Steps stay so, where more is known.
-
-step_later : (P Q : ℕ → List ℕ → Type 0) → ((v : ℕ) (vs : List ℕ) → P v vs → Q v vs) → (s : ℕ) (event : Event) (answer : Answer) → IsStepOf P s (event, answer) → IsStepOf Q s (event, answer)
-step_later P Q on s (Put k) answer is = is
-step_later P Q on s (ReadHead k n) answer is = is
-step_later P Q on s (Detach k) answer is = is
-step_later P Q on s (Insert k n end) answer is = is
-step_later P Q on s (AddCount k) answer is = is
-step_later P Q on s (SwapOut k) answer is = is
-step_later P Q on s (SubCount k) answer is = is
-step_later P Q on s (Hand k vs) (Handed v) is = (is.0, on v vs is.1)
-step_later P Q on s (Hand k vs) Done is = is
-step_later P Q on s (Hand k vs) (Head h) is = is
-step_later P Q on s (Hand k vs) (Count c) is = is
-step_later P Q on s (Hand k vs) (Link l) is = is
-step_later P Q on s (Hand k vs) Illegal is = is
-step_later P Q on s (Take k) answer is = is
-step_later P Q on s (Give k) answer is = is
-step_later P Q on s (Enter k) answer is = is
-step_later P Q on s (Begin k job) answer is = is
-step_later P Q on s (Return k) answer is = is
-step_later P Q on s (ReadLink k l) answer is = is
-step_later P Q on s (ExchangeLink k l exchange) answer is = is
-
-pub steps_later : (P Q : ℕ → List ℕ → Type 0) → ((v : ℕ) (vs : List ℕ) → P v vs → Q v vs) → (s : ℕ) (steps : List (Event × Answer)) → AreStepsOf P s steps → AreStepsOf Q s steps
-steps_later P Q on s [] are = tt
-steps_later P Q on s (step ∷ steps) are = (step_later P Q on s step.0 step.1 are.0, steps_later P Q on s steps are.1)
-
-kinds_later : (q r : Pass) (kind : ℕ) (vs : List ℕ) → IsPrefix q.seen r.seen → All (λ u. IsOfKind u kind q) vs → All (λ u. IsOfKind u kind r) vs
-kinds_later q r kind [] grows all = All-nil _
-kinds_later q r kind (v ∷ vs) grows all =
-    let Is : ℕ → Type 0 = λ u. IsOfKind u kind q in
-    All-cons (λ u. IsOfKind u kind r) v vs (told_later q.seen r.seen v kind grows (All-head Is v vs all)) (kinds_later q r kind vs grows (All-tail Is v vs all))
-
--- what is known of a value that was handed stays known
-pub put_later : {T : Type 0} (code : T → Gv) (puts : ℕ → T → List T) (q r : Pass) → IsPrefix q.seen r.seen → (v : ℕ) (vs : List ℕ) → PutBy code puts q v vs → PutBy code puts r v vs
-put_later code puts q r grows v vs put = record {
-  kind = put.kind;
-  is_of_kind = told_later q.seen r.seen v put.kind grows put.is_of_kind;
-  value = put.value;
-  content = put.content;
-  put = put.put;
-  same_kind = kinds_later q r put.kind vs grows put.same_kind;
-}

@@ -28,14 +28,16 @@ use Rattle.seize_calls.specs.Slots.{CallsWith, IsOfWords, IsPassFor, SlotFlushes
 use Rattle.seize_calls.specs.Walking.{handed_in, steps}
 use Rattle.seize_calls.specs.declared.slot.Loose.{Loose}
 use Rattle.seize_calls.specs.declared.slot.Slot.{Slot}
-use Rattle.seize_parts.specs.Makes.{AreStepsOf, Defers, MakesCall, MakesNone, made_with}
-use Rattle.seize_parts.proofs.Made.{as_made, made_grew, none_prepared, none_then}
+use Rattle.seize_calls.proofs.Leaving.{left_made}
+use Rattle.seize_parts.specs.Makes.{AreStepsOf, Defers, MakesCall, MakesNone, made_with, whole_call}
+use Rattle.seize_parts.proofs.Made.{as_made, made_grew, none_prepared, none_then, undivided_after}
+use Rattle.seize_parts.proofs.Own.{MadeAll, own_undivided, undivided_call}
 use Rattle.seize_parts.proofs.Steps.{AllHad, Gives, Goes, HandSo, HandsNone, Runs, goes_drained, goes_round, goes_settled, goes_then, had_so, hands_none_append, held_back, steps_of_append, walk_said, walk_steps}
 
 -- a call, when no event was made before it
 pub call_after : {IsPut : Pass → ℕ → List ℕ → Type 0} (s t : ℕ) (job : Job) (pass ready pass' : Pass) → s ≡ t → MakesNone pass ready → MakesCall IsPut s job ready pass' → MakesCall IsPut t job pass pass'
 call_after {IsPut} s t job pass ready pass' same none call =
-    subst (λ (k : ℕ). MakesCall IsPut k job pass pass') same (record { steps = call.steps; its = call.its; made = none_then none call.made })
+    subst (λ (k : ℕ). MakesCall IsPut k job pass pass') same (record { steps = call.steps; its = call.its; made = none_then none call.made; undivided = undivided_after none call.undivided })
 
 -- A whole call, in which an active slot handed nothing.
 abbrev pub Whole : (Pass → ℕ → List ℕ → Type 0) → Bool → ℕ → Job → Pass → Pass → Type 0
@@ -62,8 +64,8 @@ module _ (IsPut : Pass → ℕ → List ℕ → Type 0) (pass' : Pass) (gives : 
 
   -- and returns
   closed : (active : Bool) (s : ℕ) (job : Job) (pass two : Pass) → Opened active s job pass two → made_with pass' ≡ made_with two ++ (Return s, Done) ∷ [] → IsSamePass pass pass' → IsPrefix pass.seen pass'.seen
-      → IsLegalList (start pass'.name) pass'.seen → Whole IsPut active s job pass pass'
-  closed active s job pass two opened ended same grows legal = (
+      → IsLegalList (start pass'.name) pass'.seen → MadeAll s pass pass' → Whole IsPut active s job pass pass'
+  closed active s job pass two opened ended same grows legal own = (
     record {
       steps = opened.steps;
       its = opened.its;
@@ -71,11 +73,15 @@ module _ (IsPut : Pass → ℕ → List ℕ → Type 0) (pass' : Pass) (gives : 
         same = same;
         grows = grows;
         legal = legal;
-        made = ended ∙ ap (λ (made : List (Event × Answer)). made ++ (Return s, Done) ∷ []) opened.made ∙ append_assoc (made_with pass) ((Begin s job, Done) ∷ opened.steps) ((Return s, Done) ∷ []);
+        made = all_made;
       };
+      undivided = undivided_call own (IsPut pass') job opened.steps opened.its all_made;
     },
     opened.under_guard,
   )
+    where
+      all_made : made_with pass' ≡ made_with pass ++ whole_call s job opened.steps
+      all_made = ended ∙ ap (λ (made : List (Event × Answer)). made ++ (Return s, Done) ∷ []) opened.made ∙ append_assoc (made_with pass) ((Begin s job, Done) ∷ opened.steps) ((Return s, Done) ∷ [])
 
   -- where it is not said that the slot is active, nothing is said of what was handed
   any_slot : {active : Bool} {s : ℕ} {p q : Pass} → Runs gives active s p q → Runs gives false s p q
@@ -83,7 +89,7 @@ module _ (IsPut : Pass → ℕ → List ℕ → Type 0) (pass' : Pass) (gives : 
 
   -- The calls of a slot, by its key. What the pass has seen is a legal list then.
 
-  module _ (key : SlotKey) (pass : Pass) (values : ValueKeys) (had : Had) (key' : SlotKey) (values' : ValueKeys) (had' : Had) (all : AllHad gives had') (legal : IsLegalList (start pass'.name) pass'.seen) where
+  module _ (key : SlotKey) (pass : Pass) (values : ValueKeys) (had : Had) (key' : SlotKey) (values' : ValueKeys) (had' : Had) (all : AllHad gives had') (legal : IsLegalList (start pass'.name) pass'.seen) (own : MadeAll (slot_number key) pass pass') where
     abbrev s : ℕ
     s = slot_number key
 
@@ -97,7 +103,7 @@ module _ (IsPut : Pass → ℕ → List ℕ → Type 0) (pass' : Pass) (gives : 
     returned on job a opened its returns rests =
         closed on s job pass a.pass opened
         (made_grew a.pass pass' (done_event a.pass (Return (slot_number a.key))) returns.made ∙ ap (λ (k : ℕ). made_with a.pass ++ (Return k, Done) ∷ []) its)
-        rests.same rests.grows legal
+        rests.same rests.grows legal own
 
     drained : (a b : CallState) → Drains a b → Returns b key' pass' values' had' → Goes gives a b
     drained a b drains returns = goes_drained gives a b drains (subst (AllHad gives) returns.had_none all) returns.keeps.grows
@@ -138,14 +144,14 @@ module _ (IsPut : Pass → ℕ → List ℕ → Type 0) (pass' : Pass) (gives : 
 
         handed : HandSo (IsPut pass') (handed_in r.walked) × AllHad gives had
         handed = had_so gives r.behind.pass.seen (handed_in r.walked) r.kepts had r.behind.had r.has_had drains.before
-            (prefix_trans r.behind.pass.seen r.drained.pass.seen pass'.seen drains.grows r.returns.keeps.grows) r.told (walk_said r.behind.pass pass s ((events_by pass ++ begin) ++ (swap, Done) ∷ []) r.walked r.made)
+            (prefix_trans r.behind.pass.seen r.drained.pass.seen pass'.seen drains.grows r.returns.keeps.grows) r.told (walk_said r.behind.pass pass s ((events_by pass ++ begin) ++ (swap, Done) ∷ []) r.walked (left_made r))
 
         opened : Opened false s job pass r.behind.pass
         opened = record {
           under_guard = λ on. absurd (false≢true on);
           steps = (SwapOut s, Done) ∷ map as_made walk;
           its = (refl, walk_steps gives pass s r.walked handed.0);
-          made = made_grew pass r.behind.pass (begin ++ ((swap, Done) ∷ walk)) (r.made ∙ append_assoc (events_by pass ++ begin) ((swap, Done) ∷ []) walk ∙ append_assoc (events_by pass) begin ((swap, Done) ∷ walk))
+          made = made_grew pass r.behind.pass (begin ++ ((swap, Done) ∷ walk)) (left_made r ∙ append_assoc (events_by pass ++ begin) ((swap, Done) ∷ []) walk ∙ append_assoc (events_by pass) begin ((swap, Done) ∷ walk))
               ∙ ap (λ (e : Event). made_with pass ++ (Begin s job, Done) ∷ (e, Done) ∷ map as_made walk) swaps;
         }
 
@@ -157,33 +163,39 @@ module _ (IsPut : Pass → ℕ → List ℕ → Type 0) (pass' : Pass) (gives : 
     seen_legal Does calls same =
         subst (λ (t : Name × List Entry). IsLegalList (start t.0) t.1) (λ j. ((of.book ∙ for.0 ∙ sym calls.prepares.same.0 ∙ sym same.0) j, calls.seen j)) of.knows.legal
 
+    -- what the slot made with the pass is all that it made
+    made_all : (Does : Pass → Type 0) (calls : CallsWith slot pass slot' pass' Does) → Rests slot.key calls.ready slot'.key pass' (keys_in slot'.batch) → MadeAll (slot_number slot.key) calls.ready pass'
+    made_all Does calls rests =
+        own_undivided slot.key slot'.key calls.ready pass' rests.same
+        calls.prepares.legal (seen_legal Does calls rests.same) calls.knew rests.grows rests.sees rests.its rests.own
+
     whole : (active : Bool) (job : Job) (Does : Pass → Type 0) (calls : CallsWith slot pass slot' pass' Does) → Whole IsPut active (slot_number slot.key) job calls.ready pass' → Whole IsPut active (its_number slot) job pass pass'
     whole active job Does calls makes =
-        let call = makes.0 in
-        subst (λ (k : ℕ). Whole IsPut active k job pass pass') slot.together.numbered (record { steps = call.steps; its = call.its; made = none_then (none_prepared slot pass calls.ready calls.prepares) call.made }, makes.1)
+        let call = makes.0 in let none = none_prepared slot pass calls.ready calls.prepares in
+        subst (λ (k : ℕ). Whole IsPut active k job pass pass') slot.together.numbered (record { steps = call.steps; its = call.its; made = none_then none call.made; undivided = undivided_after none call.undivided }, makes.1)
 
     module _ (had : Had) (had' : Had) (all : AllHad gives had') where
       pub slot_retires : (loose : Loose) (kept : ℕ) (retired : Bool) → SlotRetires slot pass loose kept had slot' pass' had' retired → Whole IsPut (active_of slot.key) (its_number slot) (Retire (its_value loose)) pass pass'
       slot_retires loose kept retired calls =
           whole (active_of slot.key) (Retire (its_value loose)) _ calls
-          (key_retires slot.key calls.ready (keys_in slot.batch) had slot'.key (keys_in slot'.batch) had' all (seen_legal _ calls calls.does.rests.same) (its_value loose) kept retired calls.does)
+          (key_retires slot.key calls.ready (keys_in slot.batch) had slot'.key (keys_in slot'.batch) had' all (seen_legal _ calls calls.does.rests.same) (made_all _ calls calls.does.rests) (its_value loose) kept retired calls.does)
 
       pub slot_flushes : (retired : Bool) → SlotFlushes slot pass had slot' pass' had' retired → Whole IsPut (active_of slot.key) (its_number slot) Flush pass pass'
       slot_flushes retired calls =
-          whole (active_of slot.key) Flush _ calls (key_flushes slot.key calls.ready (keys_in slot.batch) had slot'.key (keys_in slot'.batch) had' all (seen_legal _ calls calls.does.rests.same) retired calls.does)
+          whole (active_of slot.key) Flush _ calls (key_flushes slot.key calls.ready (keys_in slot.batch) had slot'.key (keys_in slot'.batch) had' all (seen_legal _ calls calls.does.rests.same) (made_all _ calls calls.does.rests) retired calls.does)
 
       pub slot_leaves : SlotLeaves slot pass had slot' pass' had' → MakesCall IsPut (its_number slot) Leave pass pass'
       slot_leaves calls =
           (whole false Leave _ calls
-          (any_call (key_leaves slot.key calls.ready (keys_in slot.batch) had slot'.key (keys_in slot'.batch) had' all (seen_legal _ calls calls.does.rests.same) Leave false
+          (any_call (key_leaves slot.key calls.ready (keys_in slot.batch) had slot'.key (keys_in slot'.batch) had' all (seen_legal _ calls calls.does.rests.same) (made_all _ calls calls.does.rests) Leave false
           (private calls.ready (SwapOut (slot_number slot.key))) refl calls.does))).0
 
       pub slot_refreshes : (a : Activation) → SlotRefreshes slot pass a had slot' pass' had' → MakesCall IsPut (its_number slot) Refresh pass pass'
       slot_refreshes a calls =
           (whole false Refresh _ calls
-          (any_call (key_leaves slot.key calls.ready (keys_in slot.batch) had slot'.key (keys_in slot'.batch) had' all (seen_legal _ calls calls.does.rests.same) Refresh true
+          (any_call (key_leaves slot.key calls.ready (keys_in slot.batch) had slot'.key (keys_in slot'.batch) had' all (seen_legal _ calls calls.does.rests.same) (made_all _ calls calls.does.rests) Refresh true
           (beginning calls.ready a.life (SwapOut (slot_number slot.key))) refl calls.does))).0
 
 -- A call in which nothing was handed.
 pub held_whole : {IsPut : Pass → ℕ → List ℕ → Type 0} {active : Bool} {s : ℕ} {job : Job} {p q : Pass} → Whole IsPut active s job p q → active ≡ true → Defers s job p q
-held_whole {IsPut} {active} {s} {job} {p} {q} call on = record { steps = call.0.steps; its = held_back (IsPut q) s call.0.steps call.0.its (call.1 on); made = call.0.made }
+held_whole {IsPut} {active} {s} {job} {p} {q} call on = record { steps = call.0.steps; its = held_back (IsPut q) s call.0.steps call.0.its (call.1 on); made = call.0.made; undivided = call.0.undivided }

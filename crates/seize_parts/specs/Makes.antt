@@ -9,10 +9,14 @@
 --     StaysActive s pass pass'    none was, and slot s is active, as the pass has seen then
 --     IsStepOf IsPut s step   it is a step of a call of slot s between its begin and its return. Where it hands a value v, the reclaimer
 --                             put blocks with the names vs: `IsPut v vs` says of which it may be so;  AreStepsOf IsPut s steps   so is each
---     MakesCall IsPut s job pass pass'     a whole call of slot s: from its begin with this job to its return, and between them its steps,
---                             with `IsPut` of the pass as it is then
+--     made_by s st log        the events of slot s in a list that goes on from this state, with their answers, but for steps on links
+--     Undivided s pass pass' events     these are all events that slot s made between two moments, but for steps on links. Before the first
+--                             and after the second no more was made with the pass
+--     whole_call s job steps  the events of a call of slot s with this job and these steps, from its begin to its return
+--     MakesCall IsPut s job pass pass'     such a call was made, with `IsPut` of the pass as it is then, and no other event of the slot
+--                             stands between its own (`Undivided`)
 --     Defers s job pass pass'     a whole call of slot s, and none of its steps hands a value to its reclaimer
---     LeavesAndGives IsPut s pass pass'    a whole call of slot s to leave, and then its number went back
+--     LeavesAndGives IsPut s pass pass'    a whole call of slot s to leave, by which the pass is `left`, and then its number went back
 --     EndsUse s pass pass' gave     the use of slot s ended: its number went back; or no event was made, and it is active (`StaysActive`)
 --     Enters s pass pass'     slot s entered; or no event was made, and it is active
 --     IsOfKind v kind pass    the retirement of v said that it is of this kind, in what the pass has seen
@@ -20,15 +24,16 @@ use Rattle.std.specs.Prelude.{◌≡◌, ◌⊎◌, ℕ, Bool, true, false, map,
 use mathlib.Core.List.{IsPrefix}
 use Rattle.seize_machine.specs.Machine.Event.{AddCount, Begin, Detach, Enter, Event, Give, Hand, Insert, Put, ReadHead, Return}
 use Rattle.seize_machine.specs.Machine.Event.{SubCount, SwapOut}
-use Rattle.seize_machine.specs.Machine.State.{head_at, is_active}
+use Rattle.seize_machine.specs.Machine.State.{State, head_at, is_active}
 use Rattle.seize_machine.specs.declared.machine.event.Answer.{Answer}
 use Rattle.seize_machine.specs.declared.machine.event.Answer.TheVariants.{Done, Handed}
 use Rattle.seize_machine.specs.declared.machine.event.Job.{Job}
 use Rattle.seize_machine.specs.declared.machine.event.Job.TheVariants.{Leave}
-use Rattle.seize_book.specs.Book.{IsLegalList, after}
-use Rattle.seize_book.specs.Entry.{Deed}
+use Rattle.seize_book.specs.Book.{IsLegalList, after, by_slot}
+use Rattle.seize_book.specs.Entry.{Deed, Entry}
+use Rattle.seize_book.specs.Homesteads.{state_seen}
 use Rattle.seize_book.specs.Kept.{IsTold}
-use Rattle.seize_book.specs.Passes.{IsSamePass, events_by}
+use Rattle.seize_book.specs.Passes.{IsSamePass, events_by, events_in}
 use Rattle.seize_book.specs.Tokens.{start}
 use Rattle.seize_book.specs.declared.book.pass.Pass.{Pass}
 
@@ -78,18 +83,32 @@ abbrev pub AreStepsOf : (ℕ → List ℕ → Type 0) → ℕ → List (Event ×
 AreStepsOf IsPut s [] = Unit {0}
 AreStepsOf IsPut s (step ∷ steps) = IsStepOf IsPut s step × AreStepsOf IsPut s steps
 
+abbrev pub made_by : ℕ → State → List Entry → List (Event × Answer)
+made_by s st log = map (λ (made : Deed × Answer). (made.0.event, made.1)) (events_in (by_slot st s log))
+
+pub record Undivided (s : ℕ) (pass pass' : Pass) (events : List (Event × Answer)) : Type 0 where
+  pub begun : Pass
+  pub before : MakesNone pass begun
+  pub ended : Pass
+  pub between : List Entry
+  pub goes_on : ended.seen ≡ begun.seen ++ between
+  pub only : made_by s (state_seen begun) between ≡ events
+  pub after : MakesNone ended pass'
+
+abbrev pub whole_call : ℕ → Job → List (Event × Answer) → List (Event × Answer)
+whole_call s job steps = (Begin s job, Done) ∷ steps ++ (Return s, Done) ∷ []
+
 pub record MakesCall (IsPut : Pass → ℕ → List ℕ → Type 0) (s : ℕ) (job : Job) (pass pass' : Pass) : Type 0 where
   pub steps : List (Event × Answer)
   pub its : AreStepsOf (IsPut pass') s steps
-  pub made : Makes pass pass' ((Begin s job, Done) ∷ steps ++ (Return s, Done) ∷ [])
+  pub made : Makes pass pass' (whole_call s job steps)
+  pub undivided : Undivided s pass pass' (whole_call s job steps)
 
 abbrev pub Defers : ℕ → Job → Pass → Pass → Type 0
 Defers s job pass pass' = MakesCall (λ _ _ _. ⊥) s job pass pass'
 
-pub record LeavesAndGives (IsPut : Pass → ℕ → List ℕ → Type 0) (s : ℕ) (pass pass' : Pass) : Type 0 where
-  pub steps : List (Event × Answer)
-  pub its : AreStepsOf (IsPut pass') s steps
-  pub made : Makes pass pass' ((Begin s Leave, Done) ∷ steps ++ (Return s, Done) ∷ (Give s, Done) ∷ [])
+abbrev pub LeavesAndGives : (Pass → ℕ → List ℕ → Type 0) → ℕ → Pass → Pass → Type 0
+LeavesAndGives IsPut s pass pass' = (left : Pass) × MakesCall IsPut s Leave pass left × MakesOne left pass' (Give s) Done
 
 abbrev pub EndsUse : ℕ → Pass → Pass → Bool → Type 0
 EndsUse s pass pass' true = MakesOne pass pass' (Give s) Done

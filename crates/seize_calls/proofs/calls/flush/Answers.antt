@@ -13,6 +13,7 @@ use Rattle.seize_calls.specs.Settling.{Drains, call_state}
 use Rattle.seize_calls.proofs.Sole.{may_same}
 use Rattle.seize_calls.proofs.Batches.{none_counted, some_counted}
 use Rattle.seize_calls.proofs.Events.{keeps_returned}
+use Rattle.seize_calls.proofs.Laid.{lays_same, lays_twice, lays_whole}
 use Rattle.seize_calls.proofs.Onwards.{keeps_onward, onward_twice, only_stays, settles_any, settles_on, settles_rest}
 use Rattle.seize_calls.proofs.Whole.{begun_notes, begun_sits, flush_begins, flush_marks, flush_over, is_over, returned, whole_rests}
 use Rattle.seize_calls.proofs.calls.flush.Goals as goal
@@ -57,7 +58,7 @@ returns-then-batch-eq0-clause-flushes g c =
       drained = a;
       drains = Drains.over;
       returns = returned a last.new.self last.new.pass last.ensures.noted none;
-      rests = whole_rests key pass a last.new.self last.new.pass keeps.same keeps.grows keeps.alone keeps.its keeps.used sits last.ensures.noted;
+      rests = whole_rests key pass a last.new.self last.new.pass keeps.same keeps.grows keeps.alone keeps.own keeps.its keeps.used sits last.ensures.noted;
       active = over.active ∙ keeps.active;
       life = over.life ∙ keeps.life;
     }
@@ -119,7 +120,21 @@ returns-clause-flushes g c =
       drained = d;
       drains = drain.ensures.drains;
       returns = returned d last.new.self last.new.pass last.ensures.noted drain.ensures.over.1;
-      rests = whole_rests key pass d last.new.self last.new.pass all.same all.grows all.alone all.its all.used drain.ensures.well_formed last.ensures.noted;
+      rests = whole_rests key pass d last.new.self last.new.pass all.same all.grows all.alone all.own all.its all.used drain.ensures.well_formed last.ensures.noted;
       active = over.active ∙ all.active;
       life = over.life ∙ all.life;
     }
+
+pub returns-then-batch-eq0-clause-laid : goal.returns-then-batch-eq0-clause-laid
+returns-then-batch-eq0-clause-laid g c =
+    let key = c.args.key.now in let pass = c.args.pass.now in let one = c.begin_flush.new.self in let pass1 = c.begin_flush.new.pass in let made = c.new-queue in let spots = c.args.spots.now in
+    let notes = begun_notes key one made.new.pass pass pass1 (Begin (slot_number key) Flush) [] made.ensures.1 c.begin_flush.ensures.noted in
+    lays_whole key one one c.finish.new.self pass pass1 pass1 c.finish.new.pass (private pass (Begin (slot_number key) Flush)) spots spots notes (λ answer. refl) (lays_same pass1 pass1 spots refl) c.finish.ensures.noted
+
+pub returns-clause-laid : goal.returns-clause-laid
+returns-clause-laid g c =
+    let key = c.args.key.now in let pass = c.args.pass.now in let one = c.begin_flush.new.self in let pass1 = c.begin_flush.new.pass in let made = c.new-queue in let spots = c.args.spots.now in
+    let notes = begun_notes key one made.new.pass pass pass1 (Begin (slot_number key) Flush) [] made.ensures.1 c.begin_flush.ensures.noted in
+    let settle = c.settle-retired in let drain = c.drain in
+    lays_whole key one drain.new.key c.finish-2.new.self pass pass1 drain.new.pass c.finish-2.new.pass (private pass (Begin (slot_number key) Flush)) spots drain.new.spots notes (λ answer. refl)
+    (lays_twice pass1 settle.new.pass drain.new.pass spots settle.new.spots drain.new.spots settle.ensures.laid drain.ensures.laid) c.finish-2.ensures.noted

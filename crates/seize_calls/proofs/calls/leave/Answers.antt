@@ -1,4 +1,4 @@
-use Rattle.std.proofs.Common.{[], lit<, sym, ap, ◌∙◌, false}
+use Rattle.std.proofs.Common.{[], lit<, sym, ap, ◌∙◌, false, refl}
 use Rattle.seize_machine.specs.Machine.State.{Call, Out}
 use Rattle.seize_machine.specs.Machine.Event.{Begin, Return, SwapOut}
 use Rattle.seize_machine.specs.declared.machine.event.Job.TheVariants.{Leave}
@@ -14,6 +14,7 @@ use Rattle.seize_calls.proofs.Sole.{may_same}
 use Rattle.seize_calls.proofs.Events.{begins_so, call_begun, keeps_returned, leave_so}
 use Rattle.seize_calls.proofs.Onwards.{keeps_onward, onward_twice}
 use Rattle.seize_calls.proofs.Whole.{none_queued}
+use Rattle.seize_calls.proofs.Laid.{lays_deed, lays_twice, lays_whole}
 use Rattle.seize_calls.proofs.Leaving.{at_walk, has_left, walked_over, walked_sits}
 use Rattle.seize_calls.proofs.Whole.{begun_notes, is_over}
 use Rattle.seize_calls.proofs.calls.leave.Goals as goal
@@ -128,3 +129,12 @@ returns-clause-leaves g c =
     let walk = c.walk_all in let three = walk.new.key in let pass3 = walk.new.pass in let queue3 = further_in walk.new.queue in let had3 = g.R.Reclaim.had walk.new.reclaimer in let values = c.args.batch.now.values in let all = walk.ensures.walks at in
     let drain = c.drain in let d = call_state drain.new.key drain.new.pass drain.new.batch drain.new.queue (g.R.Reclaim.had drain.new.reclaimer) in let on = drain.ensures.on in let last = c.finish in
     has_left key one two pass pass1 pass2 Leave false 0 begins c.requires.inside.1 out noted c.args.head.now swap.result (swap.ensures.walks ([], out)) c.requires.book.2 three pass3 values queue queue3 had had3 made.ensures.0.1 all d drain.ensures.drains on drain.ensures.well_formed drain.ensures.over.1 last.new.self last.new.pass last.ensures.noted
+
+pub returns-clause-laid : goal.returns-clause-laid
+returns-clause-laid g c =
+    let key = c.args.key.now in let pass = c.args.pass.now in let one = c.begin_leave.new.self in let pass1 = c.begin_leave.new.pass in let made = c.new-queue in let spots = c.args.spots.now in
+    let notes = begun_notes key one made.new.pass pass pass1 (Begin (slot_number key) Leave) [] made.ensures.1 c.begin_leave.ensures.noted in
+    let swap = c.leave-word in let pass2 = swap.new.pass in let walk = c.walk_all in let drain = c.drain in
+    lays_whole key one drain.new.key c.finish.new.self pass pass1 drain.new.pass c.finish.new.pass (private pass (Begin (slot_number key) Leave)) spots drain.new.spots notes (λ answer. refl)
+    (lays_twice pass1 pass2 drain.new.pass spots spots drain.new.spots (lays_deed one swap.new.key pass1 pass2 (beginning pass1 0 (SwapOut (slot_number one))) spots swap.ensures.noted (λ answer. refl))
+    (lays_twice pass2 walk.new.pass drain.new.pass spots walk.new.spots drain.new.spots walk.ensures.laid drain.ensures.laid)) c.finish.ensures.noted

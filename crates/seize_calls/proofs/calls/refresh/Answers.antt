@@ -1,4 +1,4 @@
-use Rattle.std.proofs.Common.{ℕ, List, [], lit<, sym, ap, ◌∙◌, subst, true}
+use Rattle.std.proofs.Common.{ℕ, List, [], lit<, sym, ap, ◌∙◌, subst, true, refl}
 use mathlib.Core.List.{IsPrefix}
 use Rattle.seize_machine.specs.Machine.State.{Call, Out}
 use Rattle.seize_machine.specs.Machine.Event.{Begin, Return, SwapOut}
@@ -16,6 +16,7 @@ use Rattle.seize_book.specs.Laws.{life}
 use Rattle.seize_calls.proofs.Sole.{may_same}
 use Rattle.seize_calls.proofs.Events.{begins_so, call_begun, keeps_returned, refresh_so}
 use Rattle.seize_calls.proofs.Whole.{none_queued}
+use Rattle.seize_calls.proofs.Laid.{lays_deed, lays_twice, lays_whole}
 use Rattle.seize_calls.proofs.Leaving.{at_walk, has_left, walked_over, walked_sits}
 use Rattle.seize_calls.proofs.Onwards.{keeps_onward, onward_twice}
 use Rattle.seize_calls.proofs.Whole.{begun_notes, is_over}
@@ -150,3 +151,12 @@ returns-clause-begun g c =
       its = its.its;
       known = subst (λ (log : List Entry). IsPrefix log last.new.pass.seen) (sym (its.since ∙ noted.1.2)) both.grows;
     }
+
+pub returns-clause-laid : goal.returns-clause-laid
+returns-clause-laid g c =
+    let key = c.args.key.now in let pass = c.args.pass.now in let one = c.begin_refresh.new.self in let pass1 = c.begin_refresh.new.pass in let made = c.new-queue in let spots = c.args.spots.now in
+    let notes = begun_notes key one made.new.pass pass pass1 (Begin (slot_number key) Refresh) [] made.ensures.1 c.begin_refresh.ensures.noted in
+    let swap = c.refresh-word in let pass2 = swap.new.pass in let walk = c.walk_all in let drain = c.drain in
+    lays_whole key one drain.new.key c.finish.new.self pass pass1 drain.new.pass c.finish.new.pass (private pass (Begin (slot_number key) Refresh)) spots drain.new.spots notes (λ answer. refl)
+    (lays_twice pass1 pass2 drain.new.pass spots spots drain.new.spots (lays_deed one swap.new.key pass1 pass2 (beginning pass1 swap.new.activation.life (SwapOut (slot_number one))) spots swap.ensures.noted (λ answer. refl))
+    (lays_twice pass2 walk.new.pass drain.new.pass spots walk.new.spots drain.new.spots walk.ensures.laid drain.ensures.laid)) c.finish.ensures.noted

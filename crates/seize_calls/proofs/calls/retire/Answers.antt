@@ -13,6 +13,7 @@ use Rattle.seize_calls.specs.Furthers.{further_in}
 use Rattle.seize_calls.specs.Settling.{DrainsOne, MayPut, call_state}
 use Rattle.seize_calls.proofs.Sole.{may_same}
 use Rattle.seize_calls.proofs.Events.{keeps_returned}
+use Rattle.seize_calls.proofs.Laid.{lays_twice, lays_whole}
 use Rattle.seize_calls.proofs.Onwards.{keeps_onward, onward_twice, round_on, settles_rest}
 use Rattle.seize_calls.proofs.Whole.{begun_notes, begun_sits, is_over, retire_begins, retire_puts, returned, same_label, whole_rests}
 use Rattle.seize_calls.proofs.calls.retire.Goals as goal
@@ -95,7 +96,15 @@ returns-clause-retires g c =
       drained = d;
       drains = drain.ensures.drains;
       returns = returned d last.new.self last.new.pass last.ensures.noted drain.ensures.over.1;
-      rests = whole_rests key pass d last.new.self last.new.pass all.same all.grows all.alone all.its all.used drain.ensures.well_formed last.ensures.noted;
+      rests = whole_rests key pass d last.new.self last.new.pass all.same all.grows all.alone all.own all.its all.used drain.ensures.well_formed last.ensures.noted;
       active = over.active ∙ all.active;
       life = over.life ∙ all.life;
     }
+
+pub returns-clause-laid : goal.returns-clause-laid
+returns-clause-laid g c =
+    let key = c.args.key.now in let pass = c.args.pass.now in let one = c.begin_retire.new.self in let pass1 = c.begin_retire.new.pass in let made = c.new-queue in let spots = c.args.spots.now in
+    let event = Begin (slot_number key) (Retire (value_of c.args.value)) in let kepts = c.args.kept ∷ [] in let notes = begun_notes key one made.new.pass pass pass1 event kepts made.ensures.1 c.begin_retire.ensures.noted in
+    let put = c.put-retired in let drain = c.drain in
+    lays_whole key one drain.new.key c.finish.new.self pass pass1 drain.new.pass c.finish.new.pass (deed_with_words pass event kepts) spots drain.new.spots notes (λ answer. refl)
+    (lays_twice pass1 put.new.pass drain.new.pass spots put.new.spots drain.new.spots put.ensures.laid drain.ensures.laid) c.finish.ensures.noted

@@ -1,7 +1,9 @@
+use Rattle.std.proofs.Common.{refl}
 use Rattle.seize_book.specs.Values.{values_of}
 use Rattle.seize_calls.specs.Furthers.{further_in}
 use Rattle.seize_calls.specs.Settling.{Drains}
 use Rattle.seize_calls.proofs.Chains.{none_all, word_is}
+use Rattle.seize_calls.proofs.Laid.{lays_same}
 use Rattle.seize_calls.proofs.Onwards.{onward_none}
 use Rattle.seize_calls.proofs.draining.drain.Goals as goal
 
@@ -14,3 +16,6 @@ returns-then-queue-eq0-clause-over g c =
 
 pub returns-then-queue-eq0-clause-drains : goal.returns-then-queue-eq0-clause-drains
 returns-then-queue-eq0-clause-drains g c = Drains.over
+
+pub returns-then-queue-eq0-clause-laid : goal.returns-then-queue-eq0-clause-laid
+returns-then-queue-eq0-clause-laid g c = lays_same c.args.pass.now c.args.pass.now c.args.spots.now refl

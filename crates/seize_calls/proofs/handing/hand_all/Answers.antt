@@ -1,6 +1,8 @@
-use Rattle.std.proofs.Common.{ℕ, ◌-◌, lit<, sym, ◌∙◌, subst}
+use Rattle.std.proofs.Common.{ℕ, ◌-◌, lit<, refl, sym, ◌∙◌, subst}
+use Rattle.seize_book.specs.Others.{value_of}
 use Rattle.seize_calls.specs.Furthers.{further_in}
 use Rattle.seize_calls.proofs.Handings.{IsHanding, all_had, handed_on, handed_over, is_last, is_soon, is_there, its_book, none_handed, some_left}
+use Rattle.seize_calls.proofs.Laid.{lays_one, lays_same, lays_twice}
 use Rattle.seize_calls.proofs.handing.hand_all.Goals as goal
 
 pub loop-front-init : goal.loop-front-init
@@ -11,6 +13,7 @@ loop-front-init g c = (
   c.requires.serves,
   c.requires.told,
   c.requires.spots,
+  lays_same c.args.pass.now c.args.pass.now c.args.spots.now refl,
 )
 
 pub next-value-requires : goal.next-value-requires
@@ -48,6 +51,14 @@ returns-then-next-eq0-clause-handed g c = λ given.
     let hand = c.hand_one-next in
     (handed_over key pass values front given (further_in c.args.queue.now) old l.key l.pass l.values (further_in l.queue) l.number had r value rest nexts hand.new.key hand.new.pass (further_in hand.new.queue) (g.R.Reclaim.had hand.new.reclaimer) hand.ensures.handed.0 hand.ensures.handed.1 (sym hand.ensures.next ∙ c.if-next-eq0.true), all_had key pass values front given (further_in c.args.queue.now) old l.key l.pass l.values (further_in l.queue) l.number had r value rest nexts hand.new.key hand.new.pass (further_in hand.new.queue) (g.R.Reclaim.had hand.new.reclaimer) hand.ensures.handed.0 hand.ensures.handed.1 (sym hand.ensures.next ∙ c.if-next-eq0.true))
 
+pub returns-then-next-eq0-clause-laid : goal.returns-then-next-eq0-clause-laid
+returns-then-next-eq0-clause-laid g c =
+    let l = c.loop-front in let given = c.requires.given in let key = c.args.key.now in let pass = c.args.pass.now in let values = c.args.values.now in let front = c.args.front in
+    let old = g.R.Reclaim.had c.args.reclaimer.now in let had = g.R.Reclaim.had l.reclaimer in let value = c.next-value.result in let rest = c.next-value.new.self in let nexts = c.next-value.ensures in let hand = c.hand_one-next in
+    lays_twice c.args.pass.now l.pass hand.new.pass c.args.spots.now l.spots hand.new.spots l.invariant.6
+    (lays_one l.key l.pass (value_of value) (further_in l.queue) hand.new.key hand.new.pass (further_in hand.new.queue) l.spots hand.new.spots l.number hand.ensures.handed.0
+    (is_there key pass values front given (further_in c.args.queue.now) old l.key l.pass l.values (further_in l.queue) l.number had (l.invariant.0 given) value rest nexts) hand.ensures.laid)
+
 pub loop-front-preserved : goal.loop-front-preserved
 loop-front-preserved g c =
     let l = c.loop-front in let key = c.args.key.now in let pass = c.args.pass.now in let values = c.args.values.now in let front = c.args.front in let blocks = c.args.blocks.now in
@@ -62,4 +73,8 @@ loop-front-preserved g c =
       hand.ensures.serves,
       hand.ensures.told,
       hand.ensures.spots,
+      let given = c.requires.given in
+          lays_twice c.args.pass.now l.pass hand.new.pass c.args.spots.now l.spots hand.new.spots l.invariant.6
+          (lays_one l.key l.pass (value_of value) (further_in l.queue) hand.new.key hand.new.pass (further_in hand.new.queue) l.spots hand.new.spots l.number hand.ensures.handed.0
+          (is_there key pass values front given (further_in c.args.queue.now) old l.key l.pass l.values (further_in l.queue) l.number had (l.invariant.0 given) value rest nexts) hand.ensures.laid),
     )

@@ -10,6 +10,7 @@ use Rattle.seize_calls.specs.Furthers.{further_in}
 use Rattle.seize_calls.specs.Settling.{call_state}
 use Rattle.seize_calls.proofs.Sole.{may_same}
 use Rattle.seize_calls.proofs.Batches.{counted_is}
+use Rattle.seize_calls.proofs.Laid.{lays_deed, lays_twice}
 use Rattle.seize_calls.proofs.Onwards.{below_full, is_put, may_put, only_stays, put_marks, put_rests, put_sits, settles_any}
 use Rattle.seize_calls.proofs.settling.put.Goals as goal
 
@@ -78,3 +79,13 @@ returns-clause-drains_one g c =
       same = (refl, refl);
       settles = settles_any _ (call_state two c.put.new.pass c.push.new.self c.args.queue.now had) _ _ c.settle.ensures.settles;
     }
+
+pub returns-then-batch-size-clause-laid : goal.returns-then-batch-size-clause-laid
+returns-then-batch-size-clause-laid g c =
+    let key = c.args.key.now in let pass = c.args.pass.now in lays_deed key c.put.new.self pass c.put.new.pass (private pass (Put (slot_number key))) c.args.spots.now c.put.ensures.noted (λ answer. refl)
+
+pub returns-clause-laid : goal.returns-clause-laid
+returns-clause-laid g c =
+    let key = c.args.key.now in let pass = c.args.pass.now in let spots = c.args.spots.now in
+    lays_twice pass c.put.new.pass c.settle.new.pass spots spots c.settle.new.spots (lays_deed key c.put.new.self pass c.put.new.pass (private pass (Put (slot_number key))) spots c.put.ensures.noted (λ answer. refl))
+    c.settle.ensures.laid

@@ -5,6 +5,7 @@ use Rattle.seize_calls.specs.Furthers.{further_in}
 use Rattle.seize_calls.specs.Batches.{keys_in}
 use Rattle.seize_calls.specs.Numbered.{ends_at, is_count_of, starts_at}
 use Rattle.seize_calls.specs.Settling.{call_state}
+use Rattle.seize_calls.proofs.Laid.{lays_marked, lays_retired, lays_twice}
 use Rattle.seize_calls.proofs.Settled.{given_now, goes_sits, has_handed, has_stayed, has_values, has_waited, stays_sits}
 use Rattle.seize_calls.proofs.settling.settle.Goals as goal
 
@@ -67,3 +68,16 @@ returns-in-GivenUp-clause-well_formed g c =
     goes_sits a (record { key = hand.new.key; pass = hand.new.pass; batch = hand.new.values; queue = further_in hand.new.queue; had = g.R.Reclaim.had hand.new.reclaimer })
     (has_handed a m c.attempt.new.key c.attempt.new.pass c.attempt.new.batch.values _ same (e.book.0 ∙ same.0 ∙ sym sits.its, e.book.2) (e.ends m.0) refl c.attempt.new.batch.first c.attempt.new.batch.front full sits.batch
     hand.new.key hand.new.pass hand.new.values (further_in hand.new.queue) (g.R.Reclaim.had hand.new.reclaimer) (hand.ensures.handed given).0 (hand.ensures.handed given).1) sits hand.ensures.knows hand.ensures.told
+
+pub returns-in-Stays-clause-laid : goal.returns-in-Stays-clause-laid
+returns-in-Stays-clause-laid g c = let at = c.requires.marking.0 in lays_marked at c.args.pass.now c.attempt.new.key c.attempt.new.pass c.args.spots.now (c.in-Stays.ensures.ends at).0
+
+pub returns-in-Waits-clause-laid : goal.returns-in-Waits-clause-laid
+returns-in-Waits-clause-laid g c =
+    let at = c.requires.marking.0 in lays_retired at c.args.pass.now (keys_in c.args.batch.now) c.attempt.new.key c.attempt.new.pass (keys_in c.attempt.new.batch) _ c.args.spots.now (c.in-Waits.ensures.ends at)
+
+pub returns-in-GivenUp-clause-laid : goal.returns-in-GivenUp-clause-laid
+returns-in-GivenUp-clause-laid g c =
+    let at = c.requires.marking.0 in let pass = c.args.pass.now in let one = c.attempt.new in let spots = c.args.spots.now in
+    lays_twice pass one.pass c.hand_all.new.pass spots spots c.hand_all.new.spots (lays_retired at pass (keys_in c.args.batch.now) one.key one.pass (keys_in one.batch) _ spots (c.in-GivenUp.ensures.ends at))
+    c.hand_all.ensures.laid

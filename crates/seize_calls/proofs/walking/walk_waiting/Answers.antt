@@ -1,4 +1,4 @@
-use Rattle.std.proofs.Common.{◌≡◌, lit<, sym, subst, ◌∙◌}
+use Rattle.std.proofs.Common.{◌≡◌, lit<, refl, sym, subst, ◌∙◌}
 use Rattle.seize_book.specs.Slots.{IsKeyOfBook}
 use Rattle.seize_book.specs.Kept.{AreTold}
 use Rattle.seize_book.specs.Values.{IsEmpty}
@@ -6,8 +6,10 @@ use Rattle.seize_words.proofs.Facts.{all_told_later}
 use Rattle.seize_words.specs.Walks.{Knows}
 use Rattle.seize_book.specs.declared.book.pass.Pass.{Pass}
 use Rattle.seize_calls.specs.Furthers.{further_in}
+use Rattle.seize_calls.specs.Laying.{Lays}
 use Rattle.seize_calls.specs.Walking.{WalksAll}
 use Rattle.seize_calls.proofs.Keeps.{keeps_book}
+use Rattle.seize_calls.proofs.Laid.{lays_same, lays_twice, lays_walked}
 use Rattle.seize_calls.proofs.Strolls.{given_now, handed_on, none_strolled, shorter, strolled}
 use Rattle.seize_calls.proofs.walking.walk_waiting.Goals as goal
 
@@ -21,6 +23,7 @@ loop-values-init g c =
       c.requires.serves,
       subst (λ (p : Pass). AreTold (further_in c.args.queue.now) p) same c.requires.told,
       c.requires.spots,
+      lays_same pass pass c.args.spots.now refl,
     )
 
 pub walk-requires : goal.walk-requires
@@ -40,6 +43,12 @@ pub returns-in-Over-clause-told : goal.returns-in-Over-clause-told
 returns-in-Over-clause-told g c =
     let l = c.loop-values in let queue = further_in l.queue in let over = c.in-Over.ensures.walks (l.invariant.0 c.requires.at).here in
     all_told_later l.pass.seen c.walk.new.pass.seen queue.keys.held over.goes_on.0.grows l.invariant.5
+
+pub returns-in-Over-clause-laid : goal.returns-in-Over-clause-laid
+returns-in-Over-clause-laid g c =
+    let l = c.loop-values in let pass = c.new-values.new.pass in let here = (l.invariant.0 c.requires.at).here in let spots = c.args.spots.now in
+    subst (λ (p : Pass). Lays p spots c.walk.new.pass l.spots) c.new-values.ensures.1
+    (lays_twice pass l.pass c.walk.new.pass spots l.spots l.spots l.invariant.7 (lays_walked here l.pass c.walk.new.key c.walk.new.pass c.walk.new.values _ l.spots (c.in-Over.ensures.walks here)))
 
 pub hand_all-requires : goal.hand_all-requires
 hand_all-requires g c =
@@ -90,4 +99,7 @@ loop-values-preserved g c =
       hand.ensures.serves,
       hand.ensures.told,
       hand.ensures.spots,
+      lays_twice c.new-values.new.pass c.walk.new.pass hand.new.pass c.args.spots.now l.spots hand.new.spots
+          (lays_twice c.new-values.new.pass l.pass c.walk.new.pass c.args.spots.now l.spots l.spots l.invariant.7 (lays_walked first.here l.pass c.walk.new.key c.walk.new.pass c.walk.new.values _ l.spots w0))
+          hand.ensures.laid,
     )

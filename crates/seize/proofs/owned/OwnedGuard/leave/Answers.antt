@@ -8,7 +8,7 @@ use Rattle.seize.specs.Collectors.{its_book}
 use Rattle.seize_parts.specs.Puts.{PutBy}
 use Rattle.seize_parts.specs.Makes.{MakesCall, MakesOne}
 use Rattle.seize_parts.proofs.Placed.{at_none, placed_slot, still_for, unit_as}
-use Rattle.seize_parts.proofs.Places.{first_of_two, head_for, in_place, leaves_gives}
+use Rattle.seize_parts.proofs.Places.{first_of_two, head_for, in_place}
 use Rattle.seize.proofs.owned.OwnedGuard.leave.Goals as goal
 
 pub work-requires : goal.work-requires
@@ -37,6 +37,8 @@ pub returns : goal.returns
 returns g c =
     let self = c.args.self in let n = its_book self.reader.collector.now in let r = c.into_value-reservation.result in let kept = c.into_value-reservation.ensures in let pass = c.args.pass.now in let left = c.work.new.pass in
     let at = in_place n self.reader.number 1 r (kept.0 ∙ self.at) in let at' = in_place n self.reader.number 1 c.work.new.r (c.work.ensures.0.0 ∙ kept.0 ∙ self.at) in
-    leaves_gives g.row.T.coded.code g.R.Puts.puts self.reader.number pass left c.with.new.with
-    (subst (λ (s : ℕ). MakesCall (PutBy g.row.T.coded.code g.R.Puts.puts) s Leave pass left) at.1 (first_of_two r.guards r.most kept.1.fits at.2 c.work.ensures.1.0))
-    (subst (λ (s : ℕ). MakesOne left c.with.new.with (Give s) Done) at'.1 c.with.ensures.gives.0)
+    (
+      left,
+      subst (λ (s : ℕ). MakesCall (PutBy g.row.T.coded.code g.R.Puts.puts) s Leave pass left) at.1 (first_of_two r.guards r.most kept.1.fits at.2 c.work.ensures.1.0),
+      subst (λ (s : ℕ). MakesOne left c.with.new.with (Give s) Done) at'.1 c.with.ensures.gives.0,
+    )

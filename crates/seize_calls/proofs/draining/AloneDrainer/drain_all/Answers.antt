@@ -7,6 +7,7 @@ use Rattle.seize_calls.specs.Furthers.{further_in}
 use Rattle.seize_calls.specs.Settling.{CallState, Drains, call_state}
 use Rattle.seize_calls.proofs.Sole.{sole_same}
 use Rattle.seize_calls.proofs.Weights.{all_of, begins, limits, puts_of, round_lighter}
+use Rattle.seize_calls.proofs.Laid.{lays_same, lays_twice}
 use Rattle.seize_calls.proofs.Onwards.{onward_none, onward_twice, round_on, settles_rest}
 use Rattle.seize_calls.proofs.draining.AloneDrainer.drain_all.Goals as goal
 
@@ -19,7 +20,7 @@ pub loop-queue-init : goal.loop-queue-init
 loop-queue-init g c =
     let key = c.args.key.now in let batch = values_of c.args.batch.now.values in let queue = further_in c.args.queue.now in
     let first = begins g.R.Lightens.weighs (batch ++ values_of queue) (all_of key queue) (g.R.Reclaim.had c.args.reclaimer.now) c.of-limit.result.number (λ i. sym c.requires.well_formed.batch.1 i ++ values_of queue) c.of-limit.ensures in
-    (Drains.over, onward_none key c.args.pass.now, c.requires.rests, c.requires.well_formed, c.requires.serves, c.requires.spots, first)
+    (Drains.over, onward_none key c.args.pass.now, c.requires.rests, c.requires.well_formed, c.requires.serves, c.requires.spots, lays_same c.args.pass.now c.args.pass.now c.args.spots.now refl, first)
 
 -- the first of the queue, with the word that the list says is kept of it
 pub put-requires : goal.put-requires
@@ -59,11 +60,12 @@ loop-queue-preserved g c =
       put.ensures.well_formed,
       put.ensures.serves,
       put.ensures.spots,
-      (round_lighter g.R.Lightens.weighs g.met.R.Lightens.once (further_in l.queue) from v c.next-value.result.2 to put.result (c.of-limit.result.number + puts_of (g.R.Reclaim.had c.args.reclaimer.now)) (out.book.1, out.first, out.its_word) round c.lightens.ensures l.invariant.6).0,
+      lays_twice c.args.pass.now l.pass put.new.pass c.args.spots.now l.spots put.new.spots l.invariant.6 put.ensures.laid,
+      (round_lighter g.R.Lightens.weighs g.met.R.Lightens.once (further_in l.queue) from v c.next-value.result.2 to put.result (c.of-limit.result.number + puts_of (g.R.Reclaim.had c.args.reclaimer.now)) (out.book.1, out.first, out.its_word) round c.lightens.ensures l.invariant.7).0,
     )
 
 pub loop-queue-smaller : goal.loop-queue-smaller
 loop-queue-smaller g c =
     let l = c.loop-queue in let put = c.put in let out = c.next-value.ensures.first in let queue = further_in c.next-value.new.self in let had = g.R.Reclaim.had l.reclaimer in
     let from : CallState = record { key = l.key; pass = l.pass; batch = l.batch.values; queue = queue; had = had } in let to = call_state put.new.key put.new.pass put.new.batch put.new.queue (g.R.Reclaim.had put.new.reclaimer) in
-    (round_lighter g.R.Lightens.weighs g.met.R.Lightens.once (further_in l.queue) from (value_of c.next-value.result.0) c.next-value.result.2 to put.result (c.of-limit.result.number + puts_of (g.R.Reclaim.had c.args.reclaimer.now)) (out.book.1, out.first, out.its_word) put.ensures.drains_one c.lightens.ensures l.invariant.6).1
+    (round_lighter g.R.Lightens.weighs g.met.R.Lightens.once (further_in l.queue) from (value_of c.next-value.result.0) c.next-value.result.2 to put.result (c.of-limit.result.number + puts_of (g.R.Reclaim.had c.args.reclaimer.now)) (out.book.1, out.first, out.its_word) put.ensures.drains_one c.lightens.ensures l.invariant.7).1

@@ -5,11 +5,12 @@ use Rattle.seize_book.specs.Values.{values_of}
 use Rattle.seize_words.proofs.Facts.{first_told}
 use Rattle.seize_calls.specs.Furthers.{further_in}
 use Rattle.seize_calls.specs.Settling.{CallState, Drains, call_state}
+use Rattle.seize_calls.proofs.Laid.{lays_same, lays_twice}
 use Rattle.seize_calls.proofs.Onwards.{onward_none, onward_twice, round_on, settles_rest}
 use Rattle.seize_calls.proofs.draining.BesideDrainer.drain_all.Goals as goal
 
 pub loop-init : goal.loop-init
-loop-init g c = (Drains.over, onward_none c.args.key.now c.args.pass.now, c.requires.rests, c.requires.well_formed, c.requires.serves, c.requires.spots)
+loop-init g c = (Drains.over, onward_none c.args.key.now c.args.pass.now, c.requires.rests, c.requires.well_formed, c.requires.serves, c.requires.spots, lays_same c.args.pass.now c.args.pass.now c.args.spots.now refl)
 
 -- the first of the queue, with the word that the list says is kept of it
 pub put-requires : goal.put-requires
@@ -49,4 +50,5 @@ loop-preserved g c =
       put.ensures.well_formed,
       put.ensures.serves,
       put.ensures.spots,
+      lays_twice c.args.pass.now l.pass put.new.pass c.args.spots.now l.spots put.new.spots l.invariant.6 put.ensures.laid,
     )

@@ -1,17 +1,16 @@
-use Rattle.std.proofs.Common.{[], append-nil, refl, sym, ◌∙◌, arith}
+use Rattle.std.proofs.Common.{sym, ◌∙◌}
 use Rattle.seize_machine.specs.Machine.Event.{ReadHead}
 use Rattle.seize_book.specs.Adding.{private}
 use Rattle.seize_words.specs.Reservations.{slot}
 use Rattle.seize_book.specs.Slots.{slot_number}
 use Rattle.seize_words.proofs.Facts.{knows_noted}
-use Rattle.seize_calls.proofs.Alone.{alone_none}
-use Rattle.seize_calls.proofs.Keeps.{keeps_book}
+use Rattle.seize_calls.proofs.Keeps.{keeps_book, keeps_none}
 use Rattle.seize_calls.proofs.Turns.{at_try, keeps_read, lost_turn, may_read, reads_again, skipped, turns_begin, won_turn}
 use Rattle.seize_calls.proofs.manner.BesideManner.insert.Goals as goal
 
 pub loop-init : goal.loop-init
 loop-init g c = λ at.
-    turns_begin c.args.key.now at c.args.pass.now (record { same = (refl, refl, refl); its = (refl, refl); batch = refl; used = refl; active = refl; life = refl; seen = omega arith; grows = ([], append-nil c.args.pass.now.seen); alone = alone_none c.args.pass.now })
+    turns_begin c.args.key.now at c.args.pass.now (keeps_none c.args.key.now c.args.pass.now)
 
 pub read-seen-requires-clause-book : goal.read-seen-requires-clause-book
 read-seen-requires-clause-book g c =

@@ -4,7 +4,7 @@ use Rattle.seize_machine.specs.Machine.State.{Slot}
 use Rattle.seize_book.specs.Slots.{AddsDeed}
 use Rattle.seize_book.specs.declared.book.pass.Pass.{Pass}
 use Rattle.seize_words.specs.Reservations.{beginning}
-use Rattle.seize_calls.proofs.Slots.{begins_in, holder, idle_in, knows_still, learned, ready_learned, stays_entered, together_still, told_still}
+use Rattle.seize_calls.proofs.Slots.{begins_in, holder, idle_in, knew_ready, knows_still, learned, ready_learned, stays_entered, together_still, told_still}
 use Rattle.seize_calls.proofs.slot.Slot.enter.Goals as goal
 
 pub enter-requires : goal.enter-requires
@@ -48,6 +48,7 @@ returns-clause-enters g c =
       same = (refl, seen.0);
       ready = p;
       prepares = learned s pass p (c.requires.of.0.0.book ∙ c.requires.of.1.0) c.learn.ensures;
+      knew = knew_ready s pass p (learned s pass p (c.requires.of.0.0.book ∙ c.requires.of.1.0) c.learn.ensures) c.requires.of.0.0.knows;
       does = subst (λ (t : Pass × ℕ). AddsDeed s.key p one.new.key t.0 (beginning p one.new.activation.life (Enter t.1))) (λ i. (sym seen.2 i, s.together.numbered i)) one.ensures.noted;
       seen = seen.1 ∙ sym (ap (λ (q : Pass). q.seen) seen.2);
     }

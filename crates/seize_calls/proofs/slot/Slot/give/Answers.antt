@@ -6,7 +6,7 @@ use Rattle.seize_book.specs.Others.{FollowsNumbers, use_flags}
 use Rattle.seize_book.specs.Slots.{AddsEvent}
 use Rattle.seize_book.specs.declared.book.pass.Pass.{Pass}
 use Rattle.seize_calls.proofs.Numbering.{gives}
-use Rattle.seize_calls.proofs.Slots.{knows_still, learned, ready_learned, together_still, told_still, idle_in}
+use Rattle.seize_calls.proofs.Slots.{idle_in, knew_ready, knows_still, learned, ready_learned, together_still, told_still}
 use Rattle.seize_calls.proofs.slot.Slot.give.Goals as goal
 
 pub give-requires-clause-book : goal.give-requires-clause-book
@@ -44,6 +44,7 @@ returns-clause-gives g c =
         same = (refl, seen.0);
         ready = p;
         prepares = learned s pass p (of.0.0.book ∙ of.1.0) c.learn.ensures;
+        knew = knew_ready s pass p (learned s pass p (of.0.0.book ∙ of.1.0) c.learn.ensures) of.0.0.knows;
         does = subst (λ (t : ℕ × Pass). AddsEvent s.key p one.new.self t.1 (Give t.0)) (λ j. (s.together.numbered j, sym seen.2 j)) one.ensures.noted;
         seen = seen.1 ∙ sym (ap (λ (q : Pass). q.seen) seen.2);
       },

@@ -3,7 +3,7 @@ use Rattle.seize_machine.specs.Machine.State.{Slot}
 use Rattle.seize_book.specs.Slots.{LooksWithSlotKey}
 use Rattle.seize_book.specs.declared.book.pass.Pass.{Pass}
 use Rattle.seize_calls.proofs.Current.{looked_active, looked_grows, looked_knows, looked_life, looked_slot, looked_together, looked_told}
-use Rattle.seize_calls.proofs.Slots.{kept_in, learned, ready_learned}
+use Rattle.seize_calls.proofs.Slots.{kept_in, knew_ready, learned, ready_learned}
 use Rattle.seize_calls.proofs.slot.Slot.look.Goals as goal
 
 pub invariant_of-self : goal.invariant_of-self
@@ -35,6 +35,7 @@ returns-clause-looks g c =
         same = (refl, seen.0);
         ready = p;
         prepares = learned s c.args.pass.now p (of.0.0.book ∙ of.1.0) c.learn.ensures;
+        knew = knew_ready s c.args.pass.now p (learned s c.args.pass.now p (of.0.0.book ∙ of.1.0) c.learn.ensures) of.0.0.knows;
         does = subst (LooksWithSlotKey s.key p c.look.new.self) (sym seen.2) c.look.ensures.looked;
         seen = seen.1 ∙ sym (ap (λ (q : Pass). q.seen) seen.2);
       },

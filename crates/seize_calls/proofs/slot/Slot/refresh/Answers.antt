@@ -8,8 +8,9 @@ use Rattle.seize_book.specs.declared.book.pass.Pass.{Pass}
 use Rattle.seize_store.specs.Named.{AreOfStore}
 use Rattle.seize_calls.specs.Batches.{keys_in}
 use Rattle.seize_calls.specs.Calls.{Leaves}
+use Rattle.seize_calls.proofs.Laid.{lays_ready}
 use Rattle.seize_calls.proofs.Sole.{may_same}
-use Rattle.seize_calls.proofs.Slots.{batch_at, holder, idle_in, knows_in, last_of, learned, ready_learned, together, told_in}
+use Rattle.seize_calls.proofs.Slots.{batch_at, holder, idle_in, knew_ready, knows_in, last_of, learned, ready_learned, together, told_in}
 use Rattle.seize_calls.proofs.slot.Slot.refresh.Goals as goal
 
 pub refresh-requires : goal.refresh-requires
@@ -55,6 +56,11 @@ returns-clause-refreshes g c =
       same = (refl, seen.0);
       ready = p;
       prepares = learned s pass p (c.requires.of.0.0.book ∙ c.requires.of.1.0) c.learn.ensures;
+      knew = knew_ready s pass p (learned s pass p (c.requires.of.0.0.book ∙ c.requires.of.1.0) c.learn.ensures) c.requires.of.0.0.knows;
       does = subst (λ (r : Pass). Leaves Refresh true (beginning p one.new.activation.life (SwapOut (slot_number s.key))) s.key p (keys_in s.batch) (had c.args.reclaimer.now) one.new.key r (keys_in one.new.batch) (had one.new.reclaimer)) (sym seen.2) one.ensures.leaves;
       seen = seen.1 ∙ sym (ap (λ (r : Pass). r.seen) seen.2);
     }
+
+pub returns-clause-laid : goal.returns-clause-laid
+returns-clause-laid g c =
+    let one = c.refresh in lays_ready c.args.pass.now c.learn.new.self one.new.pass c.learn-2.new.pass c.args.self.now.spots one.new.spots c.learn.ensures.1 one.ensures.laid c.learn-2.ensures.2

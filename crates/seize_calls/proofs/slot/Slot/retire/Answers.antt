@@ -5,8 +5,9 @@ use Rattle.seize_book.specs.declared.book.pass.Pass.{Pass}
 use Rattle.seize_store.specs.Named.{AreOfStore}
 use Rattle.seize_calls.specs.Batches.{keys_in}
 use Rattle.seize_calls.specs.Calls.{RetiresOne}
+use Rattle.seize_calls.proofs.Laid.{lays_ready}
 use Rattle.seize_calls.proofs.Sole.{may_same}
-use Rattle.seize_calls.proofs.Slots.{batch_at, grows_in, holder, idle_in, kept_in, knows_in, learned, ready_learned, together, told_in}
+use Rattle.seize_calls.proofs.Slots.{batch_at, grows_in, holder, idle_in, kept_in, knew_ready, knows_in, learned, ready_learned, together, told_in}
 use Rattle.seize_calls.proofs.slot.Slot.retire.Goals as goal
 
 pub retire-retired-requires : goal.retire-retired-requires
@@ -54,6 +55,11 @@ returns-clause-retires g c =
       same = (refl, seen.0);
       ready = c.learn.new.self;
       prepares = learned s pass c.learn.new.self (c.requires.of.0.0.book ∙ c.requires.of.1.0) c.learn.ensures;
+      knew = knew_ready s pass c.learn.new.self (learned s pass c.learn.new.self (c.requires.of.0.0.book ∙ c.requires.of.1.0) c.learn.ensures) c.requires.of.0.0.knows;
       does = subst (λ (q : Pass). RetiresOne s.key c.learn.new.self (value_of c.args.value.value) c.args.kept (keys_in s.batch) (had c.args.reclaimer.now) one.new.key q (keys_in one.new.batch) (had one.new.reclaimer) one.result) (sym seen.2) one.ensures.retires;
       seen = seen.1 ∙ sym (ap (λ (p : Pass). p.seen) seen.2);
     }
+
+pub returns-clause-laid : goal.returns-clause-laid
+returns-clause-laid g c =
+    let one = c.retire-retired in lays_ready c.args.pass.now c.learn.new.self one.new.pass c.learn-2.new.pass c.args.self.now.spots one.new.spots c.learn.ensures.1 one.ensures.laid c.learn-2.ensures.2
