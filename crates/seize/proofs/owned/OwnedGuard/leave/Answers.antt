@@ -36,8 +36,7 @@ with-requires g c =
 pub returns : goal.returns
 returns g c =
     let self = c.args.self in let n = its_book self.reader.collector.now in let r = c.into_value-reservation.result in let kept = c.into_value-reservation.ensures in let pass = c.args.pass.now in let left = c.work.new.pass in
-    let at = in_place n self.reader.number 1 r (kept.0 ∙ self.at) in let at' = in_place n self.reader.number 1 c.work.new.r (c.work.ensures.0.0 ∙ kept.0 ∙ self.at) in
-    (
+    let at = in_place n self.reader.number 1 r (kept.0 ∙ self.at) in let at' = in_place n self.reader.number 1 c.work.new.r (c.work.ensures.0.0 ∙ kept.0 ∙ self.at) in (
       left,
       subst (λ (s : ℕ). MakesCall (PutBy g.row.T.coded.code g.R.Puts.puts) s Leave pass left) at.1 (first_of_two r.guards r.most kept.1.fits at.2 c.work.ensures.1.0),
       subst (λ (s : ℕ). MakesOne left c.with.new.with (Give s) Done) at'.1 c.with.ensures.gives.0,
