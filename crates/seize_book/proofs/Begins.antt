@@ -145,9 +145,9 @@ module _ {M : Type 1} {𝓤 : Ura M} (𝓛 : Logic 𝓤) where
   fresh : emp 𝓤 ⊢ H.⇛ (ex 𝓤 (λ (δ : ℕ). ⟦ roster entry_coded δ 0 [] ⟧))
   fresh = via 𝓤 _ (entries_new (halved entry_coded) 𝓛 0 (λ _. (full_share, []))) (basic 𝓛 _)
 
-  module _ (n : ℕ) (store table : List ℕ) (permits : ℕ) where
+  module _ (n : ℕ) (store table : List ℕ) (permits pairs : ℕ) where
     abbrev pub Begun : ℕ → Name → Pr
-    Begun f m = guard 𝓤 ((m.family ≡ f) × (m.permits ≡ permits) × BeganWith m n store table) (⟦ book_owns m [] ⟧ ∗ ⟦ pass_holds m 0 [] ⟧ ∗ ⟦ keys_own m (first_keys n) ⟧)
+    Begun f m = guard 𝓤 ((m.family ≡ f) × (m.permits ≡ permits) × (m.pairs ≡ pairs) × BeganWith m n store table) (⟦ book_owns m [] ⟧ ∗ ⟦ pass_holds m 0 [] ⟧ ∗ ⟦ keys_own m (first_keys n) ⟧)
 
     pub begins : (f : ℕ) → ⟦ free_family f ⟧ ⊢ H.⇛ (ex 𝓤 (Begun f))
     begins f = qed 𝓛 (‵ (free_family f) ∷ []) ∵ updating ! $ fsplit ! $
@@ -180,6 +180,7 @@ module _ {M : Type 1} {𝓤 : Ura M} (𝓛 : Logic 𝓤) where
           store = store;
           table = table;
           permits = permits;
+          pairs = pairs;
           slots = 0;
           links = empty n;
         } in let st : State = start n₀ in let bs : List (ℕ × ℕ) = firsts n in
@@ -189,7 +190,7 @@ module _ {M : Type 1} {𝓤 : Ura M} (𝓛 : Logic 𝓤) where
         -- [the rosters; the rights; the book's copy; the pass's; nothing was reached, twice; the list]
         use0 𝓛 (‵ (all_lie n₀ 0)) (none_lie 𝓛 n₀) $ nothing ! $ fpack ! (AllCarryOne (linked_values (empty n))) (λ _. ftrue) (none_lent n) $ move ! (1 ∷ 0 ∷ []) $ fjoin ! $
         nothing ! $ rewrite ! 0 (λ (vs : List ℕ). ‵ (all_lead n₀ vs)) (sym (none_linked n)) refl $ fjoin ! $ move ! (3 ∷ 0 ∷ []) $ fjoin ! $
-        nothing ! $ move ! (0 ∷ 1 ∷ []) $ fjoin ! $ move ! (1 ∷ 6 ∷ 0 ∷ []) $ use3 𝓛 (‵ (inside n₀)) (shut entry_coded (rules st) (beside n₀) η (rows n₀) 𝓛 (grown [] bs []) [] (holds_first n)) $
+        nothing ! $ nothing ! $ fjoin ! $ move ! (0 ∷ 1 ∷ []) $ fjoin ! $ move ! (1 ∷ 6 ∷ 0 ∷ []) $ use3 𝓛 (‵ (inside n₀)) (shut entry_coded (rules st) (beside n₀) η (rows n₀) 𝓛 (grown [] bs []) [] (holds_first n)) $
         use1 𝓛 (later (some (λ (j : ℕ). given (0 ≤ j) (‵ (fnamed j (inside n₀)))))) (named_past 𝓛 0 (inside n₀)) $ await ! tt $ pick ! (λ j. learn ! (λ _. let m : Name = record n₀ { number = j } in
         -- [the invariant; the rights; the pass's copy; nothing was reached, twice; what the family says, which is nothing yet]
         let c : Gv = gcons gnil (name_coded.code m) in move ! (5 ∷ 6 ∷ []) $
@@ -202,7 +203,7 @@ module _ {M : Type 1} {𝓤 : Ura M} (𝓛 : Logic 𝓤) where
         move ! (4 ∷ 0 ∷ []) $ fjoin ! $ move ! (4 ∷ 0 ∷ []) $ fjoin ! $ move ! (1 ∷ 0 ∷ []) $ fjoin ! $ fpack ! (List Entry) (pass_at m 0 []) [] $
         rewrite ! 1 (λ (hs : List (HeldKey Entry)). ‵ (rights_own m (new_key numbers 0 ∷ new_key totals 0 ∷ new_key slots 0 ∷ new_key heads 0 ∷ hs))) (born_links 0 n) refl $
         move ! (1 ∷ []) $ use1 𝓛 (‵ (keys_own m (first_keys n))) (free_own 𝓛 m (first_keys n) (refl, (refl, (refl, (refl, no_links m 0 n))))) $
-        now ! $ show ! (Begun f) m $ check ! (refl, refl, (refl, refl, refl, refl)) $ move ! (2 ∷ 1 ∷ 0 ∷ []) $ done !)))))))))))))
+        now ! $ show ! (Begun f) m $ check ! (refl, refl, refl, (refl, refl, refl, refl)) $ move ! (2 ∷ 1 ∷ 0 ∷ []) $ done !)))))))))))))
 
   -- a family that no book has
   pub new_family : emp 𝓤 ⊢ H.⇛ (ex 𝓤 (λ (f : ℕ). ⟦ free_family f ⟧))

@@ -272,7 +272,7 @@ module _ (n : Name) (p size : ℕ) (kepts : List ℕ) (seen : List Entry) (a b :
   pub may_hand : MayAdd n p seen (a ++ b) entry
   may_hand =
       subst (λ (hs : List (HeldKey Entry)). MayAdd n p seen (hs ++ b) entry) (sym (only_is slots a one))
-      ((omega arith, blocks_within b are), (λ lives. refl), (λ s. refl), λ mine log before. fair log before mine)
+      ((omega arith, blocks_within b are), (λ lives. refl), ((λ s. refl), λ st p. refl), λ mine log before. fair log before mine)
 
   -- what the keys know then
   pub put_so : (log seen' : List Entry) → Before n p seen (a ++ b) log → are_distinct (linked_values n.links) ≡ true → seen' ≡ log ++ Made entry ∷ []

@@ -14,6 +14,7 @@ use Rattle.seize_book.specs.Blocks.{plans}
 use Rattle.seize_book.specs.Chains.{field_value}
 use Rattle.seize_book.specs.Entry.{Entry, Made, Deed}
 use Rattle.seize_book.specs.Book.{after, births, makes_slot, Does, slots, numbers, of_next_slot}
+use Rattle.seize_book.specs.Pairs.{MakesNoPair}
 use Rattle.seize_book.specs.Fair.{Before, Covers, Fair, MayAdd, EndsNone, StartsNone, pass_key}
 use Rattle.seize_book.specs.Homes.{changes_count, changes_home}
 use Rattle.seize_book.specs.Others.{IsLeast, first_false}
@@ -49,13 +50,13 @@ covers st log e p s j x y mine own own' pe turns none is (suc (suc (suc (suc (su
 covers st log e p s j x y mine own own' pe turns none is (suc (suc (suc (suc (suc (suc (suc (suc (suc r))))))))) k b there = refl
 
 may_turn : (n : Name) (p : ℕ) (seen : List Entry) (a b : List (HeldKey Entry)) (e : Deed) → is_one slots a ≡ true → is_one numbers b ≡ true → key_of b ≡ 0
-    → e.pass ≡ p → Turns (key_of a) e.event → EndsNone e.event → StartsNone e.event
+    → e.pass ≡ p → Turns (key_of a) e.event → EndsNone e.event → StartsNone e.event → MakesNoPair e.event
     → ((log : List Entry) → Before n p seen (only slots a ++ only numbers b) log → (d : State × Answer) × Does (start n) log (Made e) d × (makes_slot (after (start n) log) e.event ≡ false))
     → MayAdd n p seen (a ++ b) e
-may_turn n p seen a b e one one' zero_is pe turns ends starts goes =
+may_turn n p seen a b e one one' zero_is pe turns ends starts nopair goes =
     subst (λ (hs : List (HeldKey Entry)). MayAdd n p seen (hs ++ b) e) (sym (only_is slots a one))
     (subst (λ (hs : List (HeldKey Entry)). MayAdd n p seen (only slots a ++ hs) e) (sym (only_is numbers b one'))
-    ((omega arith, (omega arith, tt)), ends, starts, fair))
+    ((omega arith, (omega arith, tt)), ends, (starts, nopair), fair))
   where
     fair : (mine log : List Entry) → Before n p seen (only slots a ++ only numbers b) log → Fair n (pass_key p mine ∷ (only slots a ++ only numbers b)) log (Made e)
     fair mine log before = let does = goes log before in
@@ -75,7 +76,7 @@ pub may_give : (n : Name) (p size : ℕ) (seen : List Entry) (a b : List (HeldKe
     → is_idle (slot_at (after (start n) (own_of a)) (key_of a)) ≡ true → is_active (head_at (after (start n) (own_of a)) (key_of a)) ≡ false
     → MayAdd n p seen (a ++ b) (record { pass = p; size = size; event = Give (key_of a); life = 0; kepts = [] })
 may_give n p size seen a b one one' zero_is idle off =
-    may_turn n p seen a b (record { pass = p; size = size; event = Give (key_of a); life = 0; kepts = [] }) one one' zero_is refl (λ k. (refl, refl, refl), λ st k. (refl, refl)) (λ lives. refl) (λ s. refl) goes
+    may_turn n p seen a b (record { pass = p; size = size; event = Give (key_of a); life = 0; kepts = [] }) one one' zero_is refl (λ k. (refl, refl, refl), λ st k. (refl, refl)) (λ lives. refl) (λ s. refl) (λ st p. refl) goes
   where
     goes : (log : List Entry) → Before n p seen (only slots a ++ only numbers b) log → (d : State × Answer) × Does (start n) log (Made (record { pass = p; size = size; event = Give (key_of a); life = 0; kepts = [] })) d × (makes_slot (after (start n) log) (Give (key_of a)) ≡ false)
     goes log before = let st : State = after (start n) log in let s : ℕ = key_of a in let slot = before.kept.0.1 in let d : State × Answer = (set_slot st s (record (slot_at st s) { used = false }), Done) in
@@ -114,7 +115,7 @@ module _ (n : Name) (a b : List (HeldKey Entry)) where
   pub may_take : (p size : ℕ) (seen : List Entry) → is_one slots a ≡ true → is_one numbers b ≡ true → key_of b ≡ 0 → Least
       → MayAdd n p seen (a ++ b) (record { pass = p; size = size; event = Take (key_of a); life = 0; kepts = [] })
   may_take p size seen one one' zero_is least =
-      may_turn n p seen a b (record { pass = p; size = size; event = Take (key_of a); life = 0; kepts = [] }) one one' zero_is refl (λ k. (refl, refl, refl), λ st k. (refl, refl)) (λ lives. refl) (λ s. refl) goes
+      may_turn n p seen a b (record { pass = p; size = size; event = Take (key_of a); life = 0; kepts = [] }) one one' zero_is refl (λ k. (refl, refl, refl), λ st k. (refl, refl)) (λ lives. refl) (λ s. refl) (λ st p. refl) goes
     where
       goes : (log : List Entry) → Before n p seen (only slots a ++ only numbers b) log → (d : State × Answer) × Does (start n) log (Made (record { pass = p; size = size; event = Take (key_of a); life = 0; kepts = [] })) d × (makes_slot (after (start n) log) (Take (key_of a)) ≡ false)
       goes log before = ((after_take (after (start n) log) (key_of a), Done), takes size (after (start n) log) (key_of a) (still log before.kept.1.0.1 least).0 least.2, unequal (key_of a) (length (after (start n) log).slots) (still log before.kept.1.0.1 least).1)

@@ -5,7 +5,7 @@ use Rattle.seize_machine.specs.Machine.Event.{Begin, Hand}
 use Rattle.seize_machine.specs.declared.machine.event.Job.TheVariants.{Retire}
 use Rattle.seize_book.specs.Adding.{deed_with_words}
 use Rattle.seize_book.specs.Entry.{Entry, Made, Used, Deed}
-use Rattle.seize_book.specs.Kept.{AllTold, AreTold, AreToldIn, IsTold, Says, kept_in, kepts_in, kepts_of, retires_by}
+use Rattle.seize_book.specs.Kept.{AllTold, AreTold, AreToldIn, IsTold, SaysKept, kept_in, kepts_in, kepts_of, retires_by}
 use Rattle.seize_book.specs.Ledger.{HeldKey, with_list}
 use Rattle.seize_book.specs.Private.{labels_of}
 use Rattle.seize_book.specs.Slots.{AddsDeed, slot_number}
@@ -22,7 +22,7 @@ told_before (Made d ∷ a) b v k (inl says) = inl says
 told_before (Made d ∷ a) b v k (inr told) = inr (told_before a b v k told)
 told_before (Used u ∷ a) b v k told = told_before a b v k told
 
-told_last : (a : List Entry) (d : Deed) (v k : ℕ) → Says (retires_by d.event) d.kepts v k → IsTold (a ++ Made d ∷ []) v k
+told_last : (a : List Entry) (d : Deed) (v k : ℕ) → SaysKept (retires_by d.event) d.kepts v k → IsTold (a ++ Made d ∷ []) v k
 told_last [] d v k says = inl says
 told_last (Made e ∷ a) d v k says = inr (told_last a d v k says)
 told_last (Used u ∷ a) d v k says = told_last a d v k says
@@ -119,7 +119,7 @@ pub retired_told : (key key' : SlotKey) (pass pass' : Pass) (v kept : ℕ) → A
 retired_told key key' pass pass' v kept notes =
     subst (λ (l : List Entry). IsTold l v kept) (sym notes.2.0.appended) (told_last notes.2.0.before (deed_with_words pass (Begin (slot_number key) (Retire v)) (kept ∷ [])) v kept (inl (refl, refl)))
 
-each_said : (log : List Entry) (d : Deed) (held : List (HeldKey Entry)) → ((v k : ℕ) → Says (labels_of held) (kepts_in held) v k → Says (retires_by d.event) d.kepts v k) → AreToldIn (log ++ Made d ∷ []) held
+each_said : (log : List Entry) (d : Deed) (held : List (HeldKey Entry)) → ((v k : ℕ) → SaysKept (labels_of held) (kepts_in held) v k → SaysKept (retires_by d.event) d.kepts v k) → AreToldIn (log ++ Made d ∷ []) held
 each_said log d [] says = tt
 each_said log d (h ∷ held) says = (told_last log d h.label (kept_in h.note) (says h.label (kept_in h.note) (inl (refl, refl))), each_said log d held (λ v k more. says v k (inr more)))
 

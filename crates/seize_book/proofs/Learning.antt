@@ -27,9 +27,12 @@ use Rattle.seize_book.proofs.Passes.{rights}
 use Rattle.seize_book.proofs.Plans.{legal_prefix}
 use Rattle.seize_book.proofs.Porters.{changes, home_passes, pass_homes}
 
--- the longer of two lists, where that is the first, goes on from the second
-past_it : (x y z : List Entry) → Longer x y z → z ≡ x → IsPrefix y x
-past_it x y z longer is = ⊎_elim (λ p. subst (IsPrefix y) (sym p.1 ∙ is) (prefix_refl y)) (λ p. p.0) longer
+-- the longer of two lists goes on from both
+pub longer_left : (x y z : List Entry) → Longer x y z → IsPrefix x z
+longer_left x y z longer = ⊎_elim (λ p. subst (IsPrefix x) (sym p.1) p.0) (λ p. subst (IsPrefix x) (sym p.1) (prefix_refl x)) longer
+
+pub longer_right : (x y z : List Entry) → Longer x y z → IsPrefix y z
+longer_right x y z longer = ⊎_elim (λ p. subst (IsPrefix y) (sym p.1) (prefix_refl y)) (λ p. subst (IsPrefix y) (sym p.1) p.0) longer
 
 module _ {M : Type 1} {𝓤 : Ura M} (𝓛 : Logic 𝓤) (n : Name) where
   open 𝓛 use {H}
@@ -101,4 +104,4 @@ module _ {M : Type 1} {𝓤 : Ura M} (𝓛 : Logic 𝓤) (n : Name) where
   covered x y = qed 𝓛 (‵ (porter_owns n true 0 x) ∷ ‵ (book_owns n y) ∷ []) ∵ updating ! $ use1 𝓛 (‵ (pass_owns n 0 x)) (home_passes 𝓛 n x) $
       use2 𝓛 (later (some (λ (z : List Entry). given (Longer x y z × (mine st 0 z ≡ mine st 0 x) × (IsSole 0 → z ≡ x) × IsLegalList st z) (‵ (pass_owns n 0 z) ⊛ ‵ (book_owns n y))))) (hears 0 x y) $ await ! tt $ pick ! (λ z. learn ! (λ so. split ! $
       let all : z ≡ x = so.2 refl in rewrite ! 0 (λ (log : List Entry). ‵ (pass_owns n 0 log)) all refl $ use1 𝓛 (‵ (porter_owns n true 0 x)) (pass_homes 𝓛 n x) $
-      now ! $ check ! (past_it x y z so.0 all) $ done !))
+      now ! $ check ! (subst (IsPrefix y) all (longer_right x y z so.0)) $ done !))

@@ -109,8 +109,8 @@ module _ {M : Type 1} {𝓤 : Ura M} (𝓛 : Logic 𝓤) (n : Name) where
 
         dead : (t : List Entry × ℕ) → IsReader st v β t → IsDistinct 𝓛 n → (log : List Entry) → Known (rules st) (k ∷ []) t.0 log
             → ⟦ beside n log ⟧ ∗ ⟦ ftrue ⟧ ⊢ guard 𝓤 (Unit {0}) (⟦ beside n log ⟧ ∗ ⟦ fdead β ⟧)
-        dead t is distinct log known = qed 𝓛 (‵ (beside n log) ∷ ‵ ftrue ∷ []) ∵ fsplit ! $ use1 𝓛 (‵ (over (ended_lives log)) ⊛ ‵ (fdead (t.1 ∷ []))) (over_one 𝓛 (ended_lives log) t.1 (in_ended t log is distinct known)) $ split ! $
-            rewrite ! 1 (λ (ν : Lft). ‵ (fdead ν)) (sym is.0) refl $ check ! tt $ move ! (0 ∷ 2 ∷ []) $ fjoin ! $ keep ! (0 ∷ 1 ∷ []) $ done !
+        dead t is distinct log known = qed 𝓛 (‵ (beside n log) ∷ ‵ ftrue ∷ []) ∵ fsplit ! $ fsplit ! $ use1 𝓛 (‵ (over (ended_lives log)) ⊛ ‵ (fdead (t.1 ∷ []))) (over_one 𝓛 (ended_lives log) t.1 (in_ended t log is distinct known)) $ split ! $
+            rewrite ! 1 (λ (ν : Lft). ‵ (fdead ν)) (sym is.0) refl $ move ! (0 ∷ 2 ∷ []) $ fjoin ! $ check ! tt $ move ! (0 ∷ 2 ∷ []) $ fjoin ! $ keep ! (0 ∷ 1 ∷ []) $ done !
 
     readers_dead : (ds : List (Lft × ℕ)) → ⟦ knows n ⟧ ∗ ⟦ K ⟧ ∗ ⟦ readers st n.log v ds ⟧ ⊢ H.⇛ (⟦ knows n ⟧ ∗ ⟦ K ⟧ ∗ ⟦ all_dead ds ⟧)
     readers_dead [] = qed 𝓛 (‵ (knows n) ∷ ‵ K ∷ ‵ ftrue ∷ []) ∵ updating ! $ now ! $ done !

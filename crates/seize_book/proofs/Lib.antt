@@ -15,6 +15,7 @@ pub mod Tickets
 pub mod Gates
 pub mod Tables
 pub mod Permits
+pub mod Pairs
 pub mod Ways
 pub mod Passes
 pub mod Peeks

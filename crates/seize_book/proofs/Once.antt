@@ -16,7 +16,7 @@ use Rattle.seize_machine.specs.declared.machine.event.Job.TheVariants.{Retire}
 use Rattle.seize_machine.proofs.Facts.{Step, and_true, beginning, eq_true, is_true, linked_named, linked_not_loose, loose_named, not_true, opening_reached, reached_next, some_is, step_of, value_frame}
 use Rattle.seize_book.specs.Book.{IsLegalList}
 use Rattle.seize_book.specs.Entry.{Entry, Made, Used, timed_deed}
-use Rattle.seize_book.specs.Kept.{IsTold, Says, retires_by}
+use Rattle.seize_book.specs.Kept.{IsTold, SaysKept, retires_by}
 use Rattle.seize_book.specs.Others.{IsSpent}
 use Rattle.seize_book.specs.Tokens.{Name, start}
 use Rattle.seize_book.proofs.Further.{in_second, unnamed}
@@ -32,7 +32,7 @@ clash b h k = let x : true ≡ false = sym h ∙ k in cc
 
 -- Of one event.
 
-says_in : (xs ys : List ℕ) (v k : ℕ) → Says xs ys v k → has v xs ≡ true
+says_in : (xs ys : List ℕ) (v k : ℕ) → SaysKept xs ys v k → has v xs ≡ true
 says_in [] ys v k says = absurd says
 says_in (x ∷ xs) [] v k says = absurd says
 says_in (x ∷ xs) (y ∷ ys) v k (inl its) = ap (λ (b : Bool). b || has v xs) (equal x v its.0)
@@ -42,7 +42,7 @@ says_in (x ∷ xs) (y ∷ ys) v k (inr says) = ap (λ (b : Bool). (x == v) || b)
     or_true true = refl
     or_true false = refl
 
-says_once : (xs ys : List ℕ) (v k l : ℕ) → are_distinct xs ≡ true → Says xs ys v k → Says xs ys v l → k ≡ l
+says_once : (xs ys : List ℕ) (v k l : ℕ) → are_distinct xs ≡ true → SaysKept xs ys v k → SaysKept xs ys v l → k ≡ l
 says_once [] ys v k l apart says too = absurd says
 says_once (x ∷ xs) [] v k l apart says too = absurd says
 says_once (x ∷ xs) (y ∷ ys) v k l apart says too = go (says_once xs ys v k l parts.1) says too
@@ -50,10 +50,10 @@ says_once (x ∷ xs) (y ∷ ys) v k l apart says too = go (says_once xs ys v k l
     parts : (not (has x xs) ≡ true) × (are_distinct xs ≡ true)
     parts = and_true _ _ apart
 
-    never : (m : ℕ) → x ≡ v → Says xs ys v m → ⊥
+    never : (m : ℕ) → x ≡ v → SaysKept xs ys v m → ⊥
     never m is more = clash (has v xs) (says_in xs ys v m more) (ap (λ (u : ℕ). has u xs) (sym is) ∙ not_true _ parts.0)
 
-    go : (Says xs ys v k → Says xs ys v l → k ≡ l) → ((x ≡ v) × (y ≡ k)) ⊎ Says xs ys v k → ((x ≡ v) × (y ≡ l)) ⊎ Says xs ys v l → k ≡ l
+    go : (SaysKept xs ys v k → SaysKept xs ys v l → k ≡ l) → ((x ≡ v) × (y ≡ k)) ⊎ SaysKept xs ys v k → ((x ≡ v) × (y ≡ l)) ⊎ SaysKept xs ys v l → k ≡ l
     go rest (inl a) (inl b) = sym a.1 ∙ b.1
     go rest (inl a) (inr b) = absurd (never l a.0 b)
     go rest (inr a) (inl b) = absurd (never k b.0 a)
@@ -177,7 +177,7 @@ never_told st (Made e ∷ log) v k legal retired told =
     let first = legal_first st e log legal in let step = step_of e.size st e.event first.0 first.1 in
     go first.0 step (never_told (first.0).0 log v k first.3 (still_retired v e.size st e.event first.0 step retired)) told
   where
-    go : (d : State × Answer) → Step e.size st e.event d → (IsTold log v k → ⊥) → Says (retires_by e.event) e.kepts v k ⊎ IsTold log v k → ⊥
+    go : (d : State × Answer) → Step e.size st e.event d → (IsTold log v k → ⊥) → SaysKept (retires_by e.event) e.kepts v k ⊎ IsTold log v k → ⊥
     go d step never (inl says) = clash _ (changes_by st v e.event (says_in (retires_by e.event) e.kepts v k says)) (unchanged v e.size st e.event d step retired)
     go d step never (inr more) = never more
 
@@ -188,11 +188,11 @@ once_from st (Made e ∷ log) v k l reached legal told too =
     let first = legal_first st e log legal in let step = step_of e.size st e.event first.0 first.1 in
     go first.0 step first.3 (once_from (first.0).0 log v k l (reached_next st (timed_deed e) first.0 reached first.1) first.3) told too
   where
-    never : (d : State × Answer) → Step e.size st e.event d → IsLegalList d.0 log → (m n : ℕ) → Says (retires_by e.event) e.kepts v m → IsTold log v n → ⊥
+    never : (d : State × Answer) → Step e.size st e.event d → IsLegalList d.0 log → (m n : ℕ) → SaysKept (retires_by e.event) e.kepts v m → IsTold log v n → ⊥
     never d step rest m n says more = never_told d.0 log v n rest (retired_by v e.size st e.event d reached step (says_in (retires_by e.event) e.kepts v m says)) more
 
     go : (d : State × Answer) → Step e.size st e.event d → IsLegalList d.0 log → (IsTold log v k → IsTold log v l → k ≡ l)
-        → Says (retires_by e.event) e.kepts v k ⊎ IsTold log v k → Says (retires_by e.event) e.kepts v l ⊎ IsTold log v l → k ≡ l
+        → SaysKept (retires_by e.event) e.kepts v k ⊎ IsTold log v k → SaysKept (retires_by e.event) e.kepts v l ⊎ IsTold log v l → k ≡ l
     go d step rest later (inl a) (inl b) = says_once (retires_by e.event) e.kepts v k l (apart_by e.size st e.event d step) a b
     go d step rest later (inl a) (inr b) = absurd (never d step rest k l a b)
     go d step rest later (inr a) (inl b) = absurd (never d step rest l k b a)

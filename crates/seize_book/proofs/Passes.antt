@@ -14,14 +14,15 @@ use Rattle.seize_book.specs.Entry.{Entry, entry_coded, maker}
 use Rattle.seize_book.specs.Book.{after, blocks, mine, passes, rules, kinds, slots}
 use Rattle.seize_book.specs.Fair.{Before, Fair, HasPlace, IsLabel, pass_key}
 use Rattle.seize_book.specs.Laws.{ended_lives}
-use Rattle.seize_book.specs.Loans.{AllCarryOne}
+use Rattle.seize_book.specs.Pairs.{all_covered, pairs_by, pairs_in}
 use Rattle.seize_book.specs.Tokens.{Name, rows, start, keys_own, rights_own, places_known, over, beside, inside, IsSole, gate_keeps, gate_gives, pass_at, pass_holds, AddsEntry}
 use Rattle.seize_book.proofs.Append.{appends, Appended}
 use Rattle.seize_book.proofs.Goes.{chained_push, goes, kept_now, births_of, births_below, births_free, slots_after}
 use Rattle.seize_book.proofs.Gates.{agrees, follows}
 use Rattle.seize_book.proofs.Lists.{after_push, equal, legal_push, selected_in}
+use Rattle.seize_book.proofs.Pairs.{covered_push}
 use Rattle.seize_book.proofs.Sound.{sound_push}
-use Rattle.seize_book.proofs.Ways.{Among, MorePlaced, found_lent, found_more, keys_apart, keys_whole, paths, ways, ways_born, ways_renewed, ways_tell}
+use Rattle.seize_book.proofs.Ways.{Among, KnownOf, MorePlaced, found_known, found_more, keys_apart, keys_whole, paths, ways, ways_born, ways_renewed, ways_tell}
 
 module _ {M : Type 1} {𝓤 : Ura M} (𝓛 : Logic 𝓤) (n : Name) where
   abbrev Pr : Type 2
@@ -65,6 +66,10 @@ module _ {M : Type 1} {𝓤 : Ura M} (𝓛 : Logic 𝓤) (n : Name) where
   Trades p seen held ev Told X Y = (log : List Entry) → Before n p seen held log → Told log
       → ⟦ over (ended_lives log) ⟧ ∗ X ⊢ upd 𝓤 (⟦ over (ended_lives (log ++ ev log ∷ [])) ⟧ ∗ Y log)
 
+  -- and what it brings shows a permit for each pair that the event makes
+  abbrev pub Permits : ℕ → List Entry → List (HeldKey Entry) → (List Entry → Entry) → (List Entry → Type 0) → Pr → Type 1
+  Permits p seen held ev Told X = (log : List Entry) → Before n p seen held log → Told log → X ⊢ ⟦ all_covered n.pairs (pairs_by (after st log) (ev log)) ⟧ ∗ X
+
   -- what is had afterwards, where the list was `log` before
   abbrev pub keys_after : List (HeldKey Entry) → (List Entry → Entry) → List Entry → Fml
   keys_after held ev log = keys (with_list held (log ++ ev log ∷ []) ++ keys_made (births_of st ev log) (log ++ ev log ∷ []))
@@ -105,7 +110,7 @@ module _ {M : Type 1} {𝓤 : Ura M} (𝓛 : Logic 𝓤) (n : Name) where
       all = pass_key p own ∷ held
 
       abbrev Now : List Entry → Type 0
-      Now log = (IsSole p → log ≡ seen) × AllCarryOne (after st log).named
+      Now log = (IsSole p → log ≡ seen) × KnownOf 𝓛 n (after st log).named
 
       abbrev ToldAll : List Entry → Type 0
       ToldAll log = Now log × Told log
@@ -120,7 +125,7 @@ module _ {M : Type 1} {𝓤 : Ura M} (𝓛 : Logic 𝓤) (n : Name) where
       now log = log ++ ev log ∷ []
 
       before : (log : List Entry) → Known (rules st) all seen log → Now log → Before n p seen held log
-      before log known now_ = record { legal = known.0.0; sound = known.0.1; chained = known.0.2; say = known.0.3; grows = known.1; none_made = sym known.2.0.1 ∙ past.1; kept = known.2.1; alone = now_.0; lent = now_.1 }
+      before log known now_ = record { legal = known.0.0; sound = known.0.1; chained = known.0.2; say = known.0.3; grows = known.1; none_made = sym known.2.0.1 ∙ past.1; kept = known.2.1; alone = now_.0; lent = now_.1.0; homes = now_.1.1 }
 
       -- where the numbers lead of the values that the keys are labelled with
       abbrev its_ways : Fml
@@ -134,9 +139,13 @@ module _ {M : Type 1} {𝓤 : Ura M} (𝓛 : Logic 𝓤) (n : Name) where
           -- [the pass's copy; the ways; X; the book's copy; where all is found; what has ended]
           move ! (3 ∷ 0 ∷ []) $ use2 𝓛 (given (IsSole p → log ≡ seen) (‵ (keeps log) ⊛ ‵ (gives seen))) (agrees 𝓛 n.gate p log seen) $ learn ! (λ alone. split ! $
           -- [the book's copy; the pass's; the ways; X; where all is found; what has ended]
-          move ! (4 ∷ []) $ use1 𝓛 (given (AllCarryOne (after st log).named) (‵ (places_known n (after st log)))) (found_lent 𝓛 n (after st log)) $ learn ! (λ lent.
-          move ! (5 ∷ 4 ∷ []) $ use2 𝓛 (given (Told log) (‵ (over (ended_lives log)) ⊛ raw X)) (tells log (before log known (alone, lent))) $ learn ! (λ told. split ! $
-          -- [what has ended; X; where all is found; the book's copy; the pass's; the ways]
+          move ! (4 ∷ []) $ use1 𝓛 (given (KnownOf 𝓛 n (after st log).named) (‵ (places_known n (after st log)))) (found_known 𝓛 n (after st log)) $ learn ! (λ lent.
+          move ! (5 ∷ []) $ fsplit ! $
+          -- [what has ended; the pairs; where all is found; the book's copy; the pass's; the ways; X]
+          move ! (0 ∷ 6 ∷ []) $ use2 𝓛 (given (Told log) (‵ (over (ended_lives log)) ⊛ raw X)) (tells log (before log known (alone, lent))) $ learn ! (λ told. split ! $
+          -- [what has ended; X; the pairs; where all is found; the book's copy; the pass's; the ways]
+          move ! (0 ∷ 2 ∷ []) $ fjoin ! $ move ! (0 ∷ 1 ∷ []) $
+          -- [what is past; X; where all is found; the book's copy; the pass's; the ways]
           check ! ((alone, lent), told) $ move ! (3 ∷ 2 ∷ []) $ fjoin ! $ move ! (1 ∷ 0 ∷ []) $ fjoin ! $ move ! (3 ∷ 1 ∷ []) $ join ! $ move ! (2 ∷ 0 ∷ []) $ join ! $ move ! (1 ∷ []) $ done !)))
 
       -- each value that is named by then was named, or is one of these; and the head of a slot that is made lies where its key says
@@ -144,23 +153,29 @@ module _ {M : Type 1} {𝓤 : Ura M} (𝓛 : Logic 𝓤) (n : Name) where
       Names So = (log : List Entry) → Before n p seen held log → So log
           → Among 𝓛 n (after st log).named held (after st (now log)).named × MorePlaced 𝓛 n (length (after st log).slots) held (length (after st (now log)).slots)
 
-      trades_all : Names Told → Trades p seen held ev Told X Y → (log : List Entry) → Known (rules st) all seen log → ToldAll log → ⟦ beside n log ⟧ ∗ (⟦ gives seen ⟧ ∗ ⟦ its_ways ⟧ ∗ X) ⊢ upd 𝓤 (⟦ beside n (now log) ⟧ ∗ (⟦ gives (now log) ⟧ ∗ ⟦ its_ways ⟧ ∗ Y log))
-      trades_all names trades log known told = let Z : Pr = ⟦ beside n (now log) ⟧ ∗ (⟦ gives (now log) ⟧ ∗ ⟦ its_ways ⟧ ∗ Y log) in
+      trades_all : Names Told → Permits p seen held ev Told X → Trades p seen held ev Told X Y → (log : List Entry) → Known (rules st) all seen log → ToldAll log → ⟦ beside n log ⟧ ∗ (⟦ gives seen ⟧ ∗ ⟦ its_ways ⟧ ∗ X) ⊢ upd 𝓤 (⟦ beside n (now log) ⟧ ∗ (⟦ gives (now log) ⟧ ∗ ⟦ its_ways ⟧ ∗ Y log))
+      trades_all names permits trades log known told = let Z : Pr = ⟦ beside n (now log) ⟧ ∗ (⟦ gives (now log) ⟧ ∗ ⟦ its_ways ⟧ ∗ Y log) in
           qed 𝓛 (‵ (beside n log) ∷ (‵ (gives seen) ⊛ ‵ its_ways ⊛ raw X) ∷ []) ∵ fsplit ! $ move ! (1 ∷ []) $ fsplit ! $ move ! (3 ∷ []) $ split3 ! $
-          -- [the pass's copy; the ways; X; the book's copy; where all is found; what has ended]
+          -- [the pass's copy; the ways; X; the book's copy; where all is found; what is past]
+          move ! (2 ∷ []) $ use1 𝓛 (‵ (all_covered n.pairs (pairs_by (after st log) (ev log))) ⊛ raw X) (permits log (before log known told.0) told.1) $ split ! $
+          -- [the new pair; X; the pass's copy; the ways; the book's copy; where all is found; what is past]
+          move ! (6 ∷ []) $ fsplit ! $ move ! (1 ∷ 2 ∷ []) $ use2 𝓛 (‵ (all_covered n.pairs (pairs_in st (now log)))) (covered_push 𝓛 n.pairs st log (ev log)) $
+          -- [the pairs; what has ended; X; the pass's copy; the ways; the book's copy; where all is found]
+          move ! (3 ∷ 4 ∷ 2 ∷ 5 ∷ 6 ∷ 1 ∷ 0 ∷ []) $
+          -- [the pass's copy; the ways; X; the book's copy; where all is found; what has ended; the pairs]
           move ! (1 ∷ []) $ use1 𝓛 (‵ (paths 𝓛 n held) ⊛ ‵ its_ways) (ways_tell 𝓛 n held) $ split ! $
           move ! (5 ∷ 0 ∷ []) $ let new = names log (before log known told.0) told.1 in use2 𝓛 (‵ (places_known n (after st (now log)))) (found_more 𝓛 n (after st log) (after st (now log)) held new.0 new.1) $
-          -- [where all is found then; the ways; the pass's copy; X; the book's copy; what has ended]
+          -- [where all is found then; the ways; the pass's copy; X; the book's copy; what has ended; the pairs]
           move ! (4 ∷ 2 ∷ []) $ use2 𝓛 (raw (upd 𝓤 (⟦ keeps (now log) ⟧ ∗ ⟦ gives (now log) ⟧))) (follows 𝓛 n.gate p log seen (now log) (ev log ∷ [], refl) told.0.0) $ settle 𝓛 Z (‵ (keeps (now log)) ⊛ ‵ (gives (now log))) $ split ! $
-          -- [the book's copy; the pass's; where all is found then; the ways; X; what has ended]
+          -- [the book's copy; the pass's; where all is found then; the ways; X; what has ended; the pairs]
           move ! (5 ∷ 4 ∷ []) $ use2 𝓛 (raw (upd 𝓤 (⟦ over (ended_lives (now log)) ⟧ ∗ Y log))) (trades log (before log known told.0) told.1) $ settle 𝓛 Z (‵ (over (ended_lives (now log))) ⊛ raw (Y log)) $ split ! $
-          -- [what has ended then; Y; the book's copy; the pass's; where all is found then; the ways]
-          suffices ! _ (upd_i 𝓤 Z) $ move ! (2 ∷ 4 ∷ []) $ fjoin ! $ move ! (1 ∷ 0 ∷ []) $ fjoin ! $ move ! (3 ∷ 1 ∷ []) $ join ! $ move ! (2 ∷ 0 ∷ []) $ join ! $ move ! (1 ∷ []) $ done !
+          -- [what has ended then; Y; the book's copy; the pass's; where all is found then; the ways; the pairs]
+          suffices ! _ (upd_i 𝓤 Z) $ move ! (0 ∷ 6 ∷ []) $ fjoin ! $ move ! (2 ∷ 4 ∷ []) $ fjoin ! $ move ! (1 ∷ 0 ∷ []) $ fjoin ! $ move ! (3 ∷ 1 ∷ []) $ join ! $ move ! (2 ∷ 0 ∷ []) $ join ! $ move ! (1 ∷ []) $ done !
 
-    pub by_pass : IsDistinct → WithKinds kinds held → MayMake p seen held ev Told → Tells p seen held Told X → Trades p seen held ev Told X Y
+    pub by_pass : IsDistinct → WithKinds kinds held → MayMake p seen held ev Told → Permits p seen held ev Told X → Tells p seen held Told X → Trades p seen held ev Told X Y
         → ⟦ J ⟧ ∗ ⟦ pass_holds n p seen ⟧ ∗ ⟦ keys held ⟧ ∗ X ⊢ upd 𝓤 (ex 𝓤 (After p seen held ev Told Y))
     unfolding made_now
-    by_pass distinct within may tells trades = let Z : Pr = ex 𝓤 (After p seen held ev Told Y) in qed 𝓛 (‵ J ∷ ‵ (pass_holds n p seen) ∷ ‵ (keys held) ∷ raw X ∷ []) ∵
+    by_pass distinct within may permits tells trades = let Z : Pr = ex 𝓤 (After p seen held ev Told Y) in qed 𝓛 (‵ J ∷ ‵ (pass_holds n p seen) ∷ ‵ (keys held) ∷ raw X ∷ []) ∵
         move ! (2 ∷ []) $ use1 𝓛 (‵ (rights held) ⊛ ‵ (ways 𝓛 n held)) (keys_apart 𝓛 n held) $ split ! $
         -- [the rights; the ways; J; the pass; X]
         move ! (3 ∷ []) $ fpick ! (λ own. fsplit ! $ move ! (1 ∷ []) $ fsplit ! $ move ! (1 ∷ []) $ fsplit ! $ move ! (1 ∷ []) $ fpick ! (λ past. drop ! $
@@ -170,7 +185,7 @@ module _ {M : Type 1} {𝓤 : Ura M} (𝓛 : Logic 𝓤) (n : Name) where
         use3 𝓛 (raw (upd 𝓤 (ex 𝓤 (Appended entry_coded (rules st) (beside n) n.log (rows n) 𝓛 (all own past) seen ev (births_of st ev) (ToldAll own past) (Then own past)))))
         (appends entry_coded (rules st) (beside n) n.log (rows n) 𝓛 (all own past) seen ev (births_of st ev) (ToldAll own past) (⟦ gives own past seen ⟧ ∗ ⟦ its_ways own past ⟧ ∗ X) (Then own past)
         (omega arith, within) (λ log. births_below (after st log) (ev log)) (kept_now st)
-        (goes n distinct (all own past) seen ev (ToldAll own past) (λ log known told. (may own log (before own past log known told.0) told.1).0)) (tells_all own past tells) (trades_all own past (names own past may) trades)) $
+        (goes n distinct (all own past) seen ev (ToldAll own past) (λ log known told. (may own log (before own past log known told.0) told.1).0)) (tells_all own past tells) (trades_all own past (names own past may) permits trades)) $
         settle 𝓛 Z (some (λ (log : List Entry). given (Known (rules st) (all own past) seen log × ToldAll own past log)
         (‵ J ⊛ ‵ (rights (with_list (all own past) (now own past log) ++ keys_made (births_of st ev log) (now own past log))) ⊛ ‵ (had (now own past log)) ⊛ (‵ (gives own past (now own past log)) ⊛ ‵ (its_ways own past) ⊛ raw (Y log))))) $
         suffices ! _ (upd_i 𝓤 Z) $ pick ! (λ log. learn ! (λ known. let log' : List Entry = now own past log in let b = before own past log known.0 known.1.0 in let bs : List (ℕ × ℕ) = births_of st ev log in

@@ -2,24 +2,29 @@
 -- names no lifetime of a `&`. Who lends one leaves a share of μ's token there while the loan is made. When μ has ended every loan is made, so
 -- all tickets are there again, and the porter, which has the mark of row 0, takes all of it out. Assumes `Logic`.
 --     begins     a ticket is taken out for the key of a new pass, and a share left;  settles   its loan is laid there, and the share comes back
+--     shows      the book is open too: what lies there tells a pass that nothing was made with the first one
 --     gathers    μ is over: what the porter had comes out, with all loans;  had_back   and so it has all tickets
-use Rattle.std.proofs.Common.{◌≡◌, ℕ, zero, suc, ◌-◌, ◌≤◌, false, List, [], ◌∷◌, ◌++◌, length, set, refl, sym, ap, Option, Some, slice_get, arith}
+use Rattle.std.proofs.Common.{◌≡◌, ℕ, zero, suc, ◌-◌, ◌≤◌, false, List, [], ◌∷◌, ◌++◌, length, set, refl, sym, ◌∙◌, ap, Option, Some, slice_get, arith}
 use seplogic.Ra.Ura.{Ura}
 use base.Fml.{Share, Lft, Fml, ffalse, ftrue, fsep, fbor, fdead, flft, flent}
 use base.Fraction.{full_share}
+use base.Growing.{prefix_refl}
 use base.Logic.{SProp, ent, sep, ex, guard, upd, upd_i, never, never_e}
 use base.SetCodes.{coded_share}
 use base.Share.{three_quarters}
 use types.Kit.{‵, raw, ◌⊛◌, some, given, later, ◌$◌, ◌∵◌, !, qed, by, move, keep, use1, use2, use3, split, split3, fsplit, fjoin, fpick, fpack, frame, show, check, pick, learn, rewrite, suffices, settle, await, updating, now, done}
 use types.Logic.{Logic, sem}
-use Rattle.seize_book.specs.Entry.{Entry}
-use Rattle.seize_book.specs.Fair.{pass_key}
-use Rattle.seize_book.specs.Ledger.{piece, roster}
-use Rattle.seize_book.specs.Tokens.{Gate, Name, gate_gives, gate_leaves, gate_lends, porter_at, porter_owns}
+use Rattle.seize_machine.specs.Machine.State.{State}
+use Rattle.seize_book.specs.Book.{mine}
+use Rattle.seize_book.specs.Entry.{Entry, entry_coded}
+use Rattle.seize_book.specs.Fair.{Before, pass_key}
+use Rattle.seize_book.specs.Ledger.{HeldKey, piece, reached, roster}
+use Rattle.seize_book.specs.Tokens.{Gate, Name, gate_gives, gate_leaves, gate_lends, inside, pass_holds, porter_at, porter_owns, start}
 use Rattle.seize_book.proofs.Gates.{takes_one}
+use Rattle.seize_book.proofs.Looks.{Idle, before_that, gives_permits, peeks_with, permits}
 use Rattle.seize_book.proofs.Passes.{rights}
 use Rattle.seize_book.proofs.Roster.{has, mints, sets}
-use Rattle.seize_book.proofs.Porters.{out_one}
+use Rattle.seize_book.proofs.Porters.{holds, out_one, takes, whole}
 use Rattle.seize_book.specs.Shared.{the_ticket, rows_have, period, row_has, side}
 
 -- the ticket of a pass that isn't the first is the same, whichever pass it is
@@ -143,6 +148,29 @@ module _ {M : Type 1} {𝓤 : Ura M} (𝓛 : Logic 𝓤) (n : Name) (seen : List
       -- [the loans; the share; the keys; the mark; the gate; the share that is kept]
       move ! (4 ∷ []) $ rewrite ! 0 (λ (k : ℕ). ‵ (left k)) (sym (as_long rows i [])) refl $ move ! (1 ∷ 0 ∷ []) $ fjoin ! $ move ! (2 ∷ 0 ∷ []) $ fjoin ! $
       fpack ! Rows (λ xs. fsep (keys xs) (side n seen μ xs)) new $ keep ! (0 ∷ 1 ∷ 3 ∷ []) $ done !))))
+
+  abbrev st : State
+  st = start n
+
+  -- The book is open too. The key of the first pass lies here, so that a pass that looks at the list knows what was made with it.
+  abbrev pub Shown : ℕ → List Entry → Share → List Entry → Pr
+  Shown p x s log = guard 𝓤 (Before n p x [] log × (mine st 0 log ≡ mine st 0 seen)) (⟦ pass_holds n p log ⟧ ∗ ⟦ permits n log ⟧ ∗ ⟦ flft μ s ⟧)
+
+  pub shows : (p : ℕ) (x : List Entry) (s : Share) → ⟦ J ⟧ ∗ ⟦ inside n ⟧ ∗ ⟦ pass_holds n p x ⟧ ∗ ⟦ flft μ s ⟧ ⊢ ⟦ J ⟧ ∗ ⟦ inside n ⟧ ∗ ex 𝓤 (Shown p x s)
+  shows p x s = qed 𝓛 (‵ J ∷ ‵ (inside n) ∷ ‵ (pass_holds n p x) ∷ ‵ (flft μ s) ∷ []) ∵ fpick ! (λ all. fsplit ! $
+      -- [the keys; the side; the book's invariant; the pass; the share]
+      move ! (1 ∷ 4 ∷ []) $ use2 𝓛 (‵ (flft μ s) ⊛ some (λ (rows : Rows). given (all ≡ [] ∷ rows) (‵ (haves rows) ⊛ ‵ (left (length rows))))) (running all s) $ split ! $ move ! (1 ∷ []) $ pick ! (λ rows. learn ! (λ is. let m : ℕ = length rows in split ! $
+      -- [the loans; the porter; the share; the keys; the book's invariant; the pass]
+      move ! (1 ∷ []) $ fsplit ! $ move ! (1 ∷ []) $
+      use1 𝓛 (some (λ (own : List Entry). given (Idle 𝓛 n 0 own seen) (‵ (its_key 0 own) ⊛ ‵ (reached entry_coded n.log seen) ⊛ ‵ (gate_leaves n.gate false m seen)))) (takes 𝓛 n false m seen) $ pick ! (λ own. learn ! (λ past. split3 ! $
+      -- [its key; what it has seen; the gate; the book; the loans; the share; the keys; the book's invariant; the pass]
+      let held : List (HeldKey Entry) = pass_key 0 own ∷ [] in move ! (7 ∷ 8 ∷ 0 ∷ []) $
+      use3 𝓛 (some (λ (log : List Entry). given (Before n p x held log) (‵ (inside n) ⊛ ‵ (pass_holds n p log) ⊛ ‵ (its_key 0 own) ⊛ ‵ (permits n log)))) (peeks_with 𝓛 n p x held (permits n) (gives_permits 𝓛 n p) (omega arith, tt)) $ pick ! (λ log. learn ! (λ before. split ! $ move ! (1 ∷ []) $ split3 ! $
+      -- [the pass; its key; the permits; the book's invariant; what it has seen; the gate; the book; the loans; the share; the keys]
+      move ! (1 ∷ 4 ∷ 5 ∷ []) $ use3 𝓛 (‵ (holds 𝓛 n false m seen)) (whole 𝓛 n false m seen own past) $ move ! (4 ∷ 0 ∷ []) $ fjoin ! $ move ! (4 ∷ 0 ∷ []) $ fjoin ! $
+      -- [the side; the pass; the permits; the book's invariant; the share; the keys]
+      move ! (5 ∷ []) $ rewrite ! 0 (λ (xs : Rows). ‵ (keys xs)) is refl $ fjoin ! $ fpack ! Rows (λ xs. fsep (keys xs) (side n seen μ xs)) ([] ∷ rows) $ frame ! $ move ! (2 ∷ []) $ frame ! $
+      show ! (Shown p x s) log $ check ! (before_that n p x x held log (prefix_refl x) refl (λ _. refl) before, sym before.kept.0.1 ∙ past.1) $ done !)))))))
 
   -- and whoever has the mark of row 0 knows that it does
   known : (all : Rows) → slice_get all 0 ≡ Some [] → ⟦ side n seen μ all ⟧ ⊢ ex 𝓤 (Open all)

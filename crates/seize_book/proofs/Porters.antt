@@ -67,15 +67,15 @@ module _ {M : Type 1} {𝓤 : Ura M} (𝓛 : Logic 𝓤) (n : Name) where
   abbrev taken : Bool → ℕ → List Entry → types.Kit.Item 𝓤
   taken home out seen = some (λ (own : List Entry). given (Idle 𝓛 n 0 own seen) (‵ (first own) ⊛ ‵ (had seen) ⊛ ‵ (leaves home out seen)))
 
-  abbrev holds : Bool → ℕ → List Entry → Fml
+  abbrev pub holds : Bool → ℕ → List Entry → Fml
   holds home out seen = base.Fml.fex (List Entry) (porter_at n home out seen)
 
-  takes : (home : Bool) (out : ℕ) (seen : List Entry) → ⟦ holds home out seen ⟧ ⊢ ex 𝓤 (Taken home out seen)
+  pub takes : (home : Bool) (out : ℕ) (seen : List Entry) → ⟦ holds home out seen ⟧ ⊢ ex 𝓤 (Taken home out seen)
   takes home out seen = qed 𝓛 (‵ (holds home out seen) ∷ []) ∵ fpick ! (λ own. fsplit ! $ move ! (1 ∷ []) $ fsplit ! $ move ! (1 ∷ []) $ fsplit ! $ move ! (1 ∷ []) $ fpick ! (λ past. drop ! $
       -- [the gate; what it has seen; its key]
       nothing ! $ move ! (3 ∷ 0 ∷ []) $ fjoin ! $ show ! (Taken home out seen) own $ check ! past $ move ! (0 ∷ 2 ∷ 1 ∷ []) $ done !))
 
-  whole : (home : Bool) (out : ℕ) (seen own : List Entry) → Idle 𝓛 n 0 own seen → ⟦ first own ⟧ ∗ ⟦ had seen ⟧ ∗ ⟦ leaves home out seen ⟧ ⊢ ⟦ holds home out seen ⟧
+  pub whole : (home : Bool) (out : ℕ) (seen own : List Entry) → Idle 𝓛 n 0 own seen → ⟦ first own ⟧ ∗ ⟦ had seen ⟧ ∗ ⟦ leaves home out seen ⟧ ⊢ ⟦ holds home out seen ⟧
   whole home out seen own past = qed 𝓛 (‵ (first own) ∷ ‵ (had seen) ∷ ‵ (leaves home out seen) ∷ []) ∵ fsplit ! $ nothing ! $ fpack ! (Idle 𝓛 n 0 own seen) (λ _. ftrue) past $
       -- [past; its key; nothing; what it has seen; the gate]
       move ! (4 ∷ 0 ∷ []) $ fjoin ! $ move ! (3 ∷ 0 ∷ []) $ fjoin ! $ move ! (1 ∷ 0 ∷ []) $ fjoin ! $ fpack ! (List Entry) (porter_at n home out seen) own $ keep ! (0 ∷ []) $ done !

@@ -18,6 +18,7 @@ use Rattle.seize_book.specs.Others.{MakesNone}
 use Rattle.seize_book.specs.Private.{IsOwn, IsOpen, is_one, key_of, label_of, note_of, own_of}
 use Rattle.seize_book.specs.Tokens.{Name, start}
 use Rattle.seize_book.proofs.Chains.{unled}
+use Rattle.seize_book.proofs.Pairs.{no_pair}
 use Rattle.seize_book.proofs.Saying.{says_none}
 use Rattle.seize_book.proofs.Sound.{no_labels, none_named}
 
@@ -104,7 +105,7 @@ does size st event h = go (next size st event) refl h
 pub may_add : (n : Name) (p : ℕ) (seen : List Entry) (held : List (HeldKey Entry)) (e : Deed) → is_one slots held ≡ true → e.pass ≡ p → IsOwn (key_of held) e.event
     → IsOpen (slot_at (after (start n) (own_of held)) (key_of held)) (is_active (head_at (after (start n) (own_of held)) (key_of held))) (key_of held) e.size e.event
     → MayAdd n p seen held e
-may_add n p seen held e one pe private open_ = subst (λ (hs : List (HeldKey Entry)). MayAdd n p seen hs e) (sym (only_is slots held one)) ((omega arith, tt), ends_none (key_of held) e.event private, starts_none (key_of held) e.event private, fair)
+may_add n p seen held e one pe private open_ = subst (λ (hs : List (HeldKey Entry)). MayAdd n p seen hs e) (sym (only_is slots held one)) ((omega arith, tt), ends_none (key_of held) e.event private, (starts_none (key_of held) e.event private, no_pair e.event (λ l. (private.2 l).1)), fair)
   where
     fair : (own log : List Entry) → Before n p seen (only slots held) log → Fair n (pass_key p own ∷ only slots held) log (Made e)
     fair mine log before =

@@ -61,7 +61,7 @@ unfolding retires
 may_retire n p size kepts seen a b one one' home idle may some =
     subst (λ (hs : List (HeldKey Entry)). MayAdd n p seen (hs ++ b) (retires p size (key_of a) (label_of b) kepts)) (sym (only_is slots a one))
     (subst (λ (hs : List (HeldKey Entry)). MayAdd n p seen (only slots a ++ hs) (retires p size (key_of a) (label_of b) kepts)) (sym (only_is blocks b one'))
-    ((omega arith, (omega arith, tt)), (λ lives. refl), (λ s. refl), fair))
+    ((omega arith, (omega arith, tt)), (λ lives. refl), ((λ s. refl), λ st p. refl), fair))
   where
     fair : (mine log : List Entry) → Before n p seen (only slots a ++ only blocks b) log → Fair n (pass_key p mine ∷ (only slots a ++ only blocks b)) log (Made (retires p size (key_of a) (label_of b) kepts))
     fair mine log before =

@@ -17,7 +17,8 @@ use Rattle.seize_machine.specs.Machine.State.{State}
 use Rattle.seize_book.specs.Laws.{ended_lives}
 use Rattle.seize_book.specs.Loans.{cell_of, loan_if, loan_of, readers}
 use Rattle.seize_book.specs.Peeks.{keys_show, show_if, sight_if}
-use Rattle.seize_book.specs.Permits.{knows_permits, permit_if}
+use Rattle.seize_book.specs.Pairs.{Pair, all_covered, pair_number, pairs_in}
+use Rattle.seize_book.specs.Permits.{all_permitted, knows_permits, permit_if}
 use Rattle.seize_book.specs.Shared.{period, porter_has, porter_shares, row_has, rows_have, side}
 use Rattle.seize_book.specs.Tokens.{Gate, Name, all_but, all_lead, gate_gives, gate_leaves, gate_lends, gate_share, inside, is_placed, keys_own, knows, lent_pass, lies_if, note_if, notes_own, over, porter_owns, rights_own, rows, slot_labels, start, tickets, way_if}
 use Rattle.seize_book.specs.Begin.{book_owns}
@@ -65,6 +66,14 @@ pub list_keyless : (holds : Gv → Type 0) (γ : ℕ) → Keyless (knows_permits
 unfolding latest
 list_keyless holds γ = λ j ks. (tt, λ _. tt)
 
+pub permits_keyless : (γ : ℕ) (ks : List ℕ) → Keyless (all_permitted γ ks)
+permits_keyless γ [] = tt
+permits_keyless γ (k ∷ ks) = (permit_keyless γ k, permits_keyless γ ks)
+
+covered_keyless : (γ : ℕ) (ts : List Pair) → Keyless (all_covered γ ts)
+covered_keyless γ [] = tt
+covered_keyless γ (t ∷ ts) = ((λ w. ((λ _. tt), permit_keyless γ (pair_number t.link w t.next))), covered_keyless γ ts)
+
 leads_keyless : (n : Name) (vs : List ℕ) → Keyless (all_lead n vs)
 leads_keyless n [] = tt
 leads_keyless n (v ∷ vs) = (((λ way. tt), permit_keyless n.permits (loan_of v)), leads_keyless n vs)
@@ -92,7 +101,7 @@ lies_if_keyless false n s = tt
 
 inside_keyless : (n : Name) → Keyless (inside n)
 unfolding latest
-inside_keyless n = λ s. (rosters_keyless (rows n) s.0, (tt, ((over_keyless (ended_lives s.1), ((λ b. turned_keyless n.gate s.1 b), (leads_keyless n (after (start n) s.1).named, (filled_keyless n.table 0 (slot_labels n (length (after (start n) s.1).slots)), λ _. tt)))), (λ _. tt))))
+inside_keyless n = λ s. (rosters_keyless (rows n) s.0, (tt, (((over_keyless (ended_lives s.1), covered_keyless n.pairs (pairs_in (start n) s.1)), ((λ b. turned_keyless n.gate s.1 b), (leads_keyless n (after (start n) s.1).named, (filled_keyless n.table 0 (slot_labels n (length (after (start n) s.1).slots)), λ _. tt)))), (λ _. tt))))
 
 pub book_keyless : (n : Name) (seen : List Entry) → Keyless (book_owns n seen)
 unfolding at_least

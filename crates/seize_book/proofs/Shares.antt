@@ -2,10 +2,12 @@
 -- borrow. Assumes `Logic`.
 --     starts, stops      a period begins, with its invariant;  it ends, and all tickets are there
 --     goes_home, goes_off     so at whatever the porter is
---     lends_pass         a `&` lends a pass, which has seen a legal list
+--     lends_pass         a `&` lends a pass, which has seen a legal list;  looks_on     and a pass looks at the list beside one
 --     Lends-porter, porter_laws     a `&` to it is a share of its period's token
-use Rattle.std.proofs.Common.{◌≡◌, ℕ, suc, ◌≤◌, Bool, true, false, List, [], ◌∷◌, ◌++◌, refl, sym, ◌∙◌, arith}
-use mathlib.Core.List.{IsPrefix, not-mem-nil}
+use Rattle.std.proofs.Common.{◌≡◌, ℕ, suc, ◌-◌, ◌≤◌, Bool, true, false, List, [], ◌∷◌, ◌++◌, refl, sym, ◌∙◌, arith}
+use mathlib.Core.HLevel.{⊥_prop}
+use mathlib.Core.List.{IsPrefix, mem-cons, not-mem-nil}
+use mathlib.Core.Logic.Or
 use seplogic.Ra.Ura.{Ura}
 use base.Before.{before, chain}
 use base.Fml.{Lft, Share, Fml, Incl, ftrue, fsep, fseps, fwand, fupd, fdead, flft, flent, fbor, fnamed, fshr_bor}
@@ -13,6 +15,7 @@ use base.Fraction.{full_share}
 use base.Growing.{prefix_refl, prefix_trans}
 use base.Logic.{SProp, ent, sep, ex, guard, wand, emp, via, upd, upd_i, id⊢, apply∗}
 use base.SetCodes.{coded_share}
+use base.Several.{Apart as AreApart}
 use base.Share
 use base.Share.{three_quarters}
 use contract.BorrowLft.{meet_⊑_left}
@@ -26,26 +29,28 @@ use ghost.Rules.{span, thinned}
 use prog.Model.{Model}
 use types.Growing.{at_least_dup}
 use types.Keyed.{entries_new}
-use types.Kit.{‵, raw, ◌⊛◌, some, given, later, ◌$◌, ◌∵◌, !, qed, move, keep, use0, use1, use2, use3, split, split3, group, fsplit, fsplit3, fjoin, fjoin3, fpick, fpack, frame, show, check, pick, learn, assume, rewrite, suffices, settle, await, updating, now, done}
+use types.Kit.{‵, raw, ◌⊛◌, some, given, later, ◌$◌, ◌∵◌, !, qed, move, keep, drop, use0, use1, use2, use3, split, split3, group, fsplit, fsplit3, fjoin, fjoin3, fpick, fpack, frame, show, check, pick, learn, assume, rewrite, suffices, settle, await, updating, now, done}
 use types.Logic.{Logic, sem, lfts}
 use types.Na.{before_dup}
 use types.Owned.{basic, named_past}
 use types.Tokens.{bor_fracture, bor_new, bor_open, lft_end, lft_new, obor_alter, one_token}
 use types.Within.{bor-before}
-use Rattle.seize_book.specs.Book.{mine, passes}
+use Rattle.seize_book.specs.Book.{IsLegalList, mine, passes}
 use Rattle.seize_book.specs.Entry.{Entry, entry_coded}
 use Rattle.seize_book.specs.Ledger.{halved, logs, piece, reached, roster}
 use Rattle.seize_book.specs.Fair.{Before}
-use Rattle.seize_book.specs.Tokens.{Name, knows, lent_at, lent_pass, pass_owns, porter_owns, start}
+use Rattle.seize_book.specs.Passes.{Longer}
+use Rattle.seize_book.specs.Tokens.{IsSole, Name, inside, knows, lent_at, lent_pass, pass_holds, pass_owns, porter_owns, start}
 use Rattle.seize_book.specs.Porters.{GoesOnTo}
 use Rattle.seize_book.proofs.Borrowed.{closed, opened as ticket_opened, waits}
-use Rattle.seize_book.proofs.Looks.{looks_now}
+use Rattle.seize_book.proofs.Learning.{hears, longer_left, longer_right}
+use Rattle.seize_book.proofs.Looks.{before_that, looks_now, permits}
 use Rattle.seize_book.proofs.Passes.{IsDistinct}
-use Rattle.seize_book.proofs.Notes.{knows_twice, minted, new_keys, Picks}
+use Rattle.seize_book.proofs.Notes.{distinct_links, knows_twice, minted, new_keys, Picks}
 use Rattle.seize_book.proofs.Roster.{mints}
 use Rattle.seize_book.proofs.Porters.{IsHome, porter_home, porter_knows, porter_off}
-use Rattle.seize_book.specs.Shared.{the_ticket, known, porter_has, porter_shares, lending, lending_shown, period, side}
-use Rattle.seize_book.proofs.Periods.{Begun, Gathered, begins, gathers, had_back, its_key, lents, mark, same_loan, settles}
+use Rattle.seize_book.specs.Shared.{the_ticket, known, period_number, porter_has, porter_shares, lending, lending_shown, period, side}
+use Rattle.seize_book.proofs.Periods.{Begun, Gathered, Shown, begins, gathers, had_back, its_key, lents, mark, same_loan, settles, shows}
 
 abbrev Which : Type 0
 Which = ℕ × (ℕ × ℕ)
@@ -72,6 +77,16 @@ module _ {M : Type 1} {𝓤 : Ura M} (𝓛 : Logic 𝓤) where
   opened i P X Y h = qed 𝓛 (‵ (fnamed i P) ∷ raw X ∷ []) ∵ use0 𝓛 (‵ ftrue) (id⊢ 𝓤 (emp 𝓤)) $ move ! (1 ∷ 0 ∷ []) $ fjoin ! $
       suffices ! _ (𝓛.invs.invs_acc ((i, P) ∷ []) Y ((λ m. not-mem-nil m), tt)) $ frame ! $ assume ! (‵ (fsep P ftrue)) $ fsplit ! $ move ! (0 ∷ 2 ∷ []) $
       let Z : Pr = ⟦ fsep P ftrue ⟧ ∗ Y in use2 𝓛 (raw (upd 𝓤 (⟦ P ⟧ ∗ Y))) h $ settle 𝓛 Z (‵ P ⊛ raw Y) $ suffices ! _ (upd_i 𝓤 Z) $ split ! $ move ! (0 ∷ 2 ∷ []) $ fjoin ! $ done !
+
+  differ : (i j : ℕ) (P Q : Fml) → ¬ (i ≡ j) → AreApart ((i, P) ∷ (j, Q) ∷ [])
+  differ i j P Q ne = ((λ m. Or.elim ⊥_prop ((mem-cons {a = i} {b = j} {l = []}).0 m) ne (λ x. not-mem-nil x)), ((λ m. not-mem-nil m), tt))
+
+  -- two of them at once
+  both_opened : (i j : ℕ) (P Q : Fml) (X Y : Pr) → ¬ (i ≡ j) → ⟦ P ⟧ ∗ ⟦ Q ⟧ ∗ X ⊢ ⟦ P ⟧ ∗ ⟦ Q ⟧ ∗ Y → A.named i P ∗ A.named j Q ∗ X ⊢ H.⇛ Y
+  both_opened i j P Q X Y ne h = let all : Fml = fsep P (fsep Q ftrue) in qed 𝓛 (‵ (fnamed i P) ∷ ‵ (fnamed j Q) ∷ raw X ∷ []) ∵ nothing ! $ move ! (1 ∷ 2 ∷ 0 ∷ []) $ fjoin3 ! $
+      suffices ! _ (𝓛.invs.invs_acc ((i, P) ∷ (j, Q) ∷ []) Y (differ i j P Q ne)) $ frame ! $ assume ! (‵ all) $ fsplit3 ! $ suffices ! _ (upd_i 𝓤 (⟦ all ⟧ ∗ Y)) $
+      -- [the one; the other; nothing; what is brought]
+      move ! (0 ∷ 1 ∷ 3 ∷ []) $ use3 𝓛 (‵ P ⊛ ‵ Q ⊛ raw Y) h $ split3 ! $ move ! (0 ∷ 1 ∷ 3 ∷ []) $ fjoin3 ! $ done !
 
   fresh : emp 𝓤 ⊢ H.⇛ (ex 𝓤 (λ (δ : ℕ). ⟦ roster coded_share δ 0 [] ⟧))
   fresh = via 𝓤 _ (entries_new (halved coded_share) 𝓛 0 (λ _. (full_share, []))) (basic 𝓛 _)
@@ -103,12 +118,13 @@ module _ {M : Type 1} {𝓤 : Ura M} (𝓛 : Logic 𝓤) where
         -- [the keys; the mark; its lifetime; the porter; the book; what it has seen]
         move ! (3 ∷ []) $ nothing ! $ fjoin ! $ move ! (1 ∷ 0 ∷ []) $ fjoin ! $
         fpack ! (List (List Share)) (λ xs. fsep (roster coded_share δ 0 xs) (side n seen μ xs)) ([] ∷ []) $
-        use1 𝓛 (later (some (λ (j : ℕ). given (0 ≤ j) (‵ (fnamed j I))))) (named_past 𝓛 0 I) $ await ! tt $ pick ! (λ j. learn ! (λ _.
+        use1 𝓛 (later (some (λ (j : ℕ). given (suc n.number ≤ j) (‵ (fnamed j I))))) (named_past 𝓛 (suc n.number) I) $ await ! tt $ pick ! (λ j. learn ! (λ past. let k : ℕ = j - suc n.number in
+        rewrite ! 0 (λ (i : ℕ). ‵ (fnamed i I)) (let e : j ≡ period_number n k = omega (arith, past) in e) refl $
         -- [the invariant; the mark; its lifetime; the book; what it has seen]
-        move ! (3 ∷ 4 ∷ []) $ fjoin ! $ move ! (3 ∷ 0 ∷ []) $ fjoin ! $ move ! (2 ∷ 0 ∷ []) $ fjoin ! $ move ! (1 ∷ 0 ∷ []) $ fjoin ! $ fpack ! Which (lending n seen) (a, (j, δ)) $ now ! $ done !))))
+        move ! (3 ∷ 4 ∷ []) $ fjoin ! $ move ! (3 ∷ 0 ∷ []) $ fjoin ! $ move ! (2 ∷ 0 ∷ []) $ fjoin ! $ move ! (1 ∷ 0 ∷ []) $ fjoin ! $ fpack ! Which (lending n seen) (a, (k, δ)) $ now ! $ done !))))
 
     pub stops : ⟦ Owner ⟧ ⊢ H.⇛ ⟦ Off ⟧
-    stops = qed 𝓛 (‵ Owner ∷ []) ∵ updating ! $ fpick ! (λ t. let μ : Lft = t.0 ∷ [] in let i : ℕ = t.1.0 in let δ : ℕ = t.1.1 in let I : Fml = period n seen μ δ in fsplit ! $ move ! (1 ∷ []) $ fsplit3 ! $
+    stops = qed 𝓛 (‵ Owner ∷ []) ∵ updating ! $ fpick ! (λ t. let μ : Lft = t.0 ∷ [] in let i : ℕ = period_number n t.1.0 in let δ : ℕ = t.1.1 in let I : Fml = period n seen μ δ in fsplit ! $ move ! (1 ∷ []) $ fsplit3 ! $
         -- [the mark; its lifetime; what it knows; the invariant]
         move ! (1 ∷ []) $ lft_end ! tt $ use1 𝓛 (‵ (fdead μ) ⊛ ‵ (fdead μ)) (𝓛.lfts.dead_dup μ) $ split ! $ move ! (4 ∷ 2 ∷ 0 ∷ []) $ group ! 3 $
         use1 𝓛 (later (some (λ (m : ℕ). ‵ (porter_owns n false m seen) ⊛ ‵ (lents 𝓛 n seen μ δ m)))) (opened i I (⟦ mark 𝓛 n seen μ δ 0 [] ⟧ ∗ ⟦ fdead μ ⟧) (ex 𝓤 (Gathered 𝓛 n seen μ δ)) (gathers 𝓛 n seen μ δ)) $ await ! tt $ pick ! (λ m. split ! $
@@ -116,23 +132,23 @@ module _ {M : Type 1} {𝓤 : Ura M} (𝓛 : Logic 𝓤) where
         now ! $ keep ! (0 ∷ []) $ done !))
 
     -- ---- a `&` is made of a borrow
-    way_back : (κ : Lft) (a i δ : ℕ) → ⟦ fnamed i (period n seen (a ∷ []) δ) ⟧ ∗ ⟦ piece coded_share δ 0 three_quarters [] ⟧ ∗ ⟦ Known ⟧ ⊢ ⟦ fwand (fsep (fdead κ) (fseps (flft (a ∷ []) full_share ∷ []))) (fupd Owner) ⟧
+    way_back : (κ : Lft) (a j δ : ℕ) → ⟦ fnamed (period_number n j) (period n seen (a ∷ []) δ) ⟧ ∗ ⟦ piece coded_share δ 0 three_quarters [] ⟧ ∗ ⟦ Known ⟧ ⊢ ⟦ fwand (fsep (fdead κ) (fseps (flft (a ∷ []) full_share ∷ []))) (fupd Owner) ⟧
     unfolding fseps
-    way_back κ a i δ = qed 𝓛 (‵ (fnamed i (period n seen (a ∷ []) δ)) ∷ ‵ (piece coded_share δ 0 three_quarters []) ∷ ‵ Known ∷ []) ∵ assume ! (‵ (fsep (fdead κ) (fsep (flft (a ∷ []) full_share) ftrue))) $
+    way_back κ a j δ = qed 𝓛 (‵ (fnamed (period_number n j) (period n seen (a ∷ []) δ)) ∷ ‵ (piece coded_share δ 0 three_quarters []) ∷ ‵ Known ∷ []) ∵ assume ! (‵ (fsep (fdead κ) (fsep (flft (a ∷ []) full_share) ftrue))) $
         suffices ! ⟦ Owner ⟧ (upd_i 𝓤 ⟦ Owner ⟧) $ fsplit3 ! $
         -- [the end; its lifetime; nothing; the invariant; the mark; what it knows]
-        move ! (1 ∷ 5 ∷ []) $ fjoin ! $ move ! (4 ∷ 0 ∷ []) $ fjoin ! $ move ! (3 ∷ 0 ∷ []) $ fjoin ! $ fpack ! Which (lending n seen) (a, (i, δ)) $ keep ! (0 ∷ []) $ done !
+        move ! (1 ∷ 5 ∷ []) $ fjoin ! $ move ! (4 ∷ 0 ∷ []) $ fjoin ! $ move ! (3 ∷ 0 ∷ []) $ fjoin ! $ fpack ! Which (lending n seen) (a, (j, δ)) $ keep ! (0 ∷ []) $ done !
 
     shared : (κ : Lft) (q : Share) → A.bor κ Owner ∗ A.lft κ q ⊢ H.⇛ (⟦ porter_shares n false seen κ ⟧ ∗ A.lft κ q)
     unfolding fseps
-    shared κ q = qed 𝓛 (‵ (fbor κ Owner) ∷ ‵ (flft κ q) ∷ []) ∵ updating ! $ bor_open ! tt $ move ! (1 ∷ []) $ fpick ! (λ t. let μ : Lft = t.0 ∷ [] in let i : ℕ = t.1.0 in let δ : ℕ = t.1.1 in let I : Fml = period n seen μ δ in let L : Fml = flft μ full_share in
+    shared κ q = qed 𝓛 (‵ (fbor κ Owner) ∷ ‵ (flft κ q) ∷ []) ∵ updating ! $ bor_open ! tt $ move ! (1 ∷ []) $ fpick ! (λ t. let μ : Lft = t.0 ∷ [] in let i : ℕ = period_number n t.1.0 in let δ : ℕ = t.1.1 in let I : Fml = period n seen μ δ in let L : Fml = flft μ full_share in
         fsplit ! $ move ! (1 ∷ []) $ fsplit3 ! $
         -- [the mark; its lifetime; what it knows; the invariant; the open borrow]
         move ! (3 ∷ []) $ use1 𝓛 (‵ (fnamed i I) ⊛ ‵ (fnamed i I)) (𝓛.invs.named_dup i I) $ split ! $ move ! (4 ∷ []) $ fsplit ! $ use1 𝓛 (‵ (knows n) ⊛ ‵ (knows n)) (knows_twice 𝓛 n) $ split ! $
         -- [the book, twice; what it has seen; the invariant, twice; the mark; its lifetime; the open borrow]
         move ! (2 ∷ []) $ use1 𝓛 (‵ had ⊛ ‵ had) (at_least_dup (logs entry_coded) 𝓛 n.log seen) $ split ! $ move ! (2 ∷ 0 ∷ []) $ fjoin ! $
         -- [what it knows; what it has seen; the book; the invariant, twice; the mark; its lifetime; the open borrow]
-        move ! (3 ∷ 5 ∷ 0 ∷ []) $ use3 𝓛 (‵ (fwand (fsep (fdead κ) (fseps (L ∷ []))) (fupd Owner))) (way_back κ t.0 i δ) $
+        move ! (3 ∷ 5 ∷ 0 ∷ []) $ use3 𝓛 (‵ (fwand (fsep (fdead κ) (fseps (L ∷ []))) (fupd Owner))) (way_back κ t.0 t.1.0 δ) $
         -- [the way back; what it has seen; the book; the invariant; its lifetime; the open borrow]
         move ! (4 ∷ []) $ nothing ! $ move ! (1 ∷ 0 ∷ []) $ fjoin ! $ move ! (5 ∷ 0 ∷ 1 ∷ []) $ obor_alter ! tt (L ∷ []) $
         use1 𝓛 (‵ (fbor κ L) ⊛ ‵ ftrue) (id⊢ 𝓤 _) $ split ! $ bor_fracture ! tt (λ s. flft μ s) full_share $ use1 𝓛 (‵ (before κ μ)) (is_before κ μ) $
@@ -152,9 +168,9 @@ module _ {M : Type 1} {𝓤 : Ura M} (𝓛 : Logic 𝓤) where
     Lends-porter false l = Lends-off l
 
     twice : (κ : Lft) → ⟦ porter_shares n false seen κ ⟧ ⊢ ⟦ porter_shares n false seen κ ⟧ ∗ ⟦ porter_shares n false seen κ ⟧
-    twice κ = qed 𝓛 (‵ (porter_shares n false seen κ) ∷ []) ∵ fpick ! (λ t. let μ : Lft = t.0 ∷ [] in let N : Fml = fnamed t.1.0 (period n seen μ t.1.1) in fsplit ! $ move ! (1 ∷ []) $ fsplit3 ! $
+    twice κ = qed 𝓛 (‵ (porter_shares n false seen κ) ∷ []) ∵ fpick ! (λ t. let μ : Lft = t.0 ∷ [] in let i : ℕ = period_number n t.1.0 in let N : Fml = fnamed i (period n seen μ t.1.1) in fsplit ! $ move ! (1 ∷ []) $ fsplit3 ! $
         -- [the invariant; the book; what it has seen; κ]
-        use1 𝓛 (‵ N ⊛ ‵ N) (𝓛.invs.named_dup t.1.0 (period n seen μ t.1.1)) $ split ! $ move ! (2 ∷ []) $ use1 𝓛 (‵ (knows n) ⊛ ‵ (knows n)) (knows_twice 𝓛 n) $ split ! $ move ! (4 ∷ []) $
+        use1 𝓛 (‵ N ⊛ ‵ N) (𝓛.invs.named_dup i (period n seen μ t.1.1)) $ split ! $ move ! (2 ∷ []) $ use1 𝓛 (‵ (knows n) ⊛ ‵ (knows n)) (knows_twice 𝓛 n) $ split ! $ move ! (4 ∷ []) $
         use1 𝓛 (‵ had ⊛ ‵ had) (at_least_dup (logs entry_coded) 𝓛 n.log seen) $ split ! $ move ! (6 ∷ []) $ use1 𝓛 (‵ (before κ μ) ⊛ ‵ (before κ μ)) (before_dup 𝓛 κ μ) $ split ! $
         -- [κ, twice; what it has seen, twice; the book, twice; the invariant, twice]
         move ! (6 ∷ 4 ∷ 2 ∷ []) $ fjoin3 ! $ move ! (1 ∷ 0 ∷ []) $ fjoin ! $ fpack ! Which (lending_shown n seen κ) t $ frame ! $
@@ -175,7 +191,7 @@ module _ {M : Type 1} {𝓤 : Ura M} (𝓛 : Logic 𝓤) where
       pub lends_pass : ⟦ porter_shares n false seen κ ⟧ ∗ A.lft κ q ⊢ H.⇛ (ex 𝓤 Lent)
       lends_pass = let births : Picks 𝓛 n = λ sizes. (passes, sizes passes) ∷ [] in let ql : Share = Share.left q in let qr : Share = Share.right q in
           qed 𝓛 (‵ (porter_shares n false seen κ) ∷ ‵ (flft κ q) ∷ []) ∵ updating ! $ fpick ! (λ t.
-          let μ : Lft = t.0 ∷ [] in let i : ℕ = t.1.0 in let δ : ℕ = t.1.1 in let B : Fml = period n seen μ δ in let N : Fml = fnamed i B in let Tk : Fml = the_ticket n in fsplit ! $
+          let μ : Lft = t.0 ∷ [] in let i : ℕ = period_number n t.1.0 in let δ : ℕ = t.1.1 in let B : Fml = period n seen μ δ in let N : Fml = fnamed i B in let Tk : Fml = the_ticket n in fsplit ! $
           use1 𝓛 (‵ (before κ μ) ⊛ ‵ (before κ μ)) (before_dup 𝓛 κ μ) $ split ! $ move ! (2 ∷ []) $ fsplit3 ! $
           -- [the invariant; the book; what it has seen; κ, twice; its token]
           move ! (5 ∷ []) $ use1 𝓛 (‵ (flft κ ql) ⊛ ‵ (flft κ qr)) (𝓛.lfts.lft_split κ q) $ split ! $ move ! (5 ∷ 0 ∷ []) $
@@ -218,6 +234,30 @@ module _ {M : Type 1} {𝓤 : Ura M} (𝓛 : Logic 𝓤) where
           let on : GoesOnTo n seen log = record { grows = prefix_trans seen t.1 log so.1 is.0.grows; legal = is.0.legal; sound = is.0.sound; lent = is.0.lent; distinct = is.1 } in
           move ! (0 ∷ 2 ∷ []) $ use2 𝓛 (later (‵ (lent_pass n κ t.0 log) ⊛ ‵ (flft κ q))) (closed 𝓛 n t.0 log κ q) $ await ! tt $ split ! $
           now ! $ show ! Given (t.0, log) $ check ! (so.0, is.0.none_made ∙ so.2, on) $ keep ! (0 ∷ 1 ∷ []) $ done !))))
+
+      -- a pass looks at the list, which goes on from what the porter has seen, with nothing of the first pass
+      abbrev pub IsSince : ℕ → List Entry → List Entry → Type 0
+      IsSince p x log = Before n p x [] log × IsDistinct 𝓛 n × IsPrefix seen log × (mine (start n) 0 log ≡ mine (start n) 0 seen)
+
+      abbrev pub Since : ℕ → List Entry → List Entry → Pr
+      Since p x log = guard 𝓤 (IsSince p x log) (⟦ pass_owns n p log ⟧ ∗ ⟦ permits n log ⟧ ∗ A.lft κ q)
+
+      pub looks_on : (p : ℕ) (x : List Entry) → ⟦ porter_shares n false seen κ ⟧ ∗ ⟦ pass_owns n p x ⟧ ∗ A.lft κ q ⊢ H.⇛ (ex 𝓤 (Since p x))
+      looks_on p x = qed 𝓛 (‵ (porter_shares n false seen κ) ∷ ‵ (pass_owns n p x) ∷ ‵ (flft κ q) ∷ []) ∵ updating ! $ fpick ! (λ t.
+          let μ : Lft = t.0 ∷ [] in let i : ℕ = period_number n t.1.0 in let δ : ℕ = t.1.1 in let B : Fml = period n seen μ δ in let J : Fml = inside n in fsplit ! $ move ! (1 ∷ []) $ fsplit ! $
+          -- [the period; what the porter knows; κ; the pass; its token]
+          move ! (3 ∷ 1 ∷ []) $ use2 𝓛 (later (some (λ (z : List Entry). given (Longer x seen z × (mine (start n) p z ≡ mine (start n) p x) × (IsSole p → z ≡ x) × IsLegalList (start n) z) (‵ (pass_owns n p z) ⊛ ‵ Known)))) (hears 𝓛 n p x seen) $
+          await ! tt $ pick ! (λ z. learn ! (λ heard. split ! $ fsplit ! $ use1 𝓛 (given (IsDistinct 𝓛 n) (‵ (knows n))) (distinct_links 𝓛 n) $ learn ! (λ distinct. use1 𝓛 (‵ (knows n) ⊛ ‵ (knows n)) (knows_twice 𝓛 n) $ split ! $ fsplit ! $ move ! (1 ∷ []) $ drop ! $
+          -- [the book's invariant; the book; the pass; what the porter knows; the period; κ; its token]
+          move ! (5 ∷ 6 ∷ []) $ use2 𝓛 (later (some (λ (s : Share). ‵ (flft μ s) ⊛ raw (wand 𝓤 (A.lft μ s) (H.⇛ (A.lft κ q)))))) (Lends-one 𝓛 𝓜 𝓡 κ μ q) $ await ! tt $ pick ! (λ s. split ! $
+          -- [a share of the period's; the way back; the book's invariant; the book; the pass; what the porter knows; the period]
+          move ! (6 ∷ 2 ∷ 4 ∷ 0 ∷ []) $ group ! 4 $
+          use1 𝓛 (later (some (λ (log : List Entry). given (Before n p z [] log × (mine (start n) 0 log ≡ mine (start n) 0 seen)) (‵ (pass_holds n p log) ⊛ ‵ (permits n log) ⊛ ‵ (flft μ s)))))
+          (both_opened i n.number B J (⟦ pass_holds n p z ⟧ ∗ ⟦ flft μ s ⟧) (ex 𝓤 (Shown 𝓛 n seen μ δ p z s)) (λ e. omega (arith, e)) (shows 𝓛 n seen μ δ p z s)) $ await ! tt $ pick ! (λ log. learn ! (λ so. split3 ! $
+          -- [the pass; the permits; the share; the way back; the book; what the porter knows]
+          move ! (2 ∷ 3 ∷ []) $ use2 𝓛 (later (‵ (flft κ q))) (apply∗ 𝓤 (A.lft μ s) (H.⇛ (A.lft κ q))) $ await ! tt $ move ! (3 ∷ 1 ∷ []) $ fjoin ! $
+          -- [the pass; its token; the permits; what the porter knows]
+          now ! $ show ! (Since p x) log $ check ! (before_that n p x z [] log (longer_left x seen z heard.0) heard.1 heard.2 so.0, distinct, prefix_trans seen z log (longer_right x seen z heard.0) so.0.grows, so.1) $ keep ! (0 ∷ 2 ∷ 1 ∷ []) $ done !)))))))
 
   -- ---- whatever it is
   module _ (n : Name) (seen : List Entry) where

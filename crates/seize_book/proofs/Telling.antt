@@ -15,7 +15,7 @@ use Rattle.seize_machine.specs.declared.machine.event.Job.TheVariants.{Retire}
 use Rattle.seize_machine.proofs.Facts.{Step, and_true, beginning, is_true, link_frame, lt_true, step_of, swapped, value_frame}
 use Rattle.seize_book.specs.Book.{IsLegalList, after}
 use Rattle.seize_book.specs.Entry.{Entry, Made, Used}
-use Rattle.seize_book.specs.Kept.{IsTold, Says}
+use Rattle.seize_book.specs.Kept.{IsTold, SaysKept}
 use Rattle.seize_book.specs.Saying.{AllSay, retires_by}
 use Rattle.seize_book.specs.Tokens.{Name, start}
 use Rattle.seize_book.proofs.Further.{either, in_second}
@@ -27,12 +27,12 @@ IsInPlay v st = (has v st.loose ≡ true) ⊎ ((l : ℕ) × (link_at st l ≡ So
 
 -- One event.
 
-said_in : (vs ks : List ℕ) (v : ℕ) → length vs ≤ length ks → has v vs ≡ true → (k : ℕ) × Says vs ks v k
+said_in : (vs ks : List ℕ) (v : ℕ) → length vs ≤ length ks → has v vs ≡ true → (k : ℕ) × SaysKept vs ks v k
 said_in [] ks v enough is = absurd (cc)
 said_in (x ∷ vs) [] v enough is = absurd (omega (arith, enough))
 said_in (x ∷ vs) (k ∷ ks) v enough is = go (x == v) refl is (said_in vs ks v (omega (arith, enough)))
   where
-    go : (b : Bool) → (x == v) ≡ b → (b || has v vs) ≡ true → (has v vs ≡ true → (l : ℕ) × Says vs ks v l) → (l : ℕ) × Says (x ∷ vs) (k ∷ ks) v l
+    go : (b : Bool) → (x == v) ≡ b → (b || has v vs) ≡ true → (has v vs ≡ true → (l : ℕ) × SaysKept vs ks v l) → (l : ℕ) × SaysKept (x ∷ vs) (k ∷ ks) v l
     go true e is rest = (k, inl ((grind arith), refl))
     go false e is rest = let more = rest is in (more.0, inr more.1)
 

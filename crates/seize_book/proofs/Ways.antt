@@ -14,6 +14,8 @@ use Rattle.seize_machine.proofs.Facts.{eq_true, is_true}
 use denote.RawPtr.{Ptr}
 use Rattle.seize_table.specs.Filled.{filled_at}
 use Rattle.seize_table.specs.Place.{IsPlace}
+use Rattle.seize_table.specs.Pairs.{left_of, pair, right_of}
+use Rattle.seize_table.proofs.Pairs.{left_pair, right_pair}
 use Rattle.seize_store.specs.RowTokens.{IsRowIn, content_in, entry_of, known_row, label_in, tells}
 use Rattle.seize_store.proofs.Leads.{known_tells, tells_agree, tells_twice}
 use Rattle.seize_store.proofs.Tokens.{row_twice}
@@ -24,7 +26,7 @@ use Rattle.seize_content.specs.Cells.{cell_token}
 use Rattle.seize_book.specs.Bare.{of_values}
 use Rattle.seize_book.specs.Book.{blocks, slots}
 use Rattle.seize_book.specs.Entry.{Entry}
-use Rattle.seize_book.specs.Fair.{HasPlace, IsLabel}
+use Rattle.seize_book.specs.Fair.{HasPlace, HaveOneHome, IsLabel}
 use Rattle.seize_book.specs.Homes.{home_of}
 use Rattle.seize_book.specs.Ledger.{HeldKey, keys_made, with_list}
 use Rattle.seize_book.specs.Others.{with_label}
@@ -419,6 +421,65 @@ module _ {M : Type 1} {𝓤 : Ura M} (𝓛 : Logic 𝓤) (n : Name) where
   found_lent st = qed 𝓛 (‵ (places_known n st) ∷ []) ∵ fsplit ! $ move ! (1 ∷ []) $ fsplit ! $ move ! (1 ∷ []) $ fpick ! (λ lent. drop ! $ check ! lent $
       -- [where all lie; where all lead]
       nothing ! $ fpack ! (AllCarryOne st.named) (λ _. ftrue) lent $ move ! (1 ∷ 0 ∷ []) $ fjoin ! $ move ! (1 ∷ 0 ∷ []) $ fjoin ! $ done !)
+
+  abbrev SameHome : ℕ → ℕ → Type 0
+  SameHome u w = block_number u ≡ block_number w → home_of u ≡ home_of w
+
+  two_agree : (u w : ℕ) → ⟦ leads n u ⟧ ∗ ⟦ leads n w ⟧ ⊢ guard 𝓤 (SameHome u w) (⟦ leads n u ⟧ ∗ ⟦ leads n w ⟧)
+  two_agree u w = go (ℕ_discrete (block_number u) (block_number w))
+    where
+      tag_home : (t u : ℕ × ℕ) → t ≡ u → right_of t.0 ≡ right_of u.0
+      tag_home t u e = ap (λ (z : ℕ × ℕ). right_of z.0) e
+
+      home : (v : ℕ) → left_of (right_of (chunk_tag n v).0) ≡ home_of v
+      home v = ap left_of (right_pair n.family (pair (home_of v) (cell_of v))) ∙ left_pair (home_of v) (cell_of v)
+
+      go : Dec (block_number u ≡ block_number w) → ⟦ leads n u ⟧ ∗ ⟦ leads n w ⟧ ⊢ guard 𝓤 (SameHome u w) (⟦ leads n u ⟧ ∗ ⟦ leads n w ⟧)
+      go (no out) = qed 𝓛 (‵ (leads n u) ∷ ‵ (leads n w) ∷ []) ∵ check ! (λ e. absurd (out e)) $ done !
+      go (yes e) = let Same : Type 0 = chunk_tag n u ≡ chunk_tag n w in qed 𝓛 (‵ (leads n u) ∷ ‵ (leads n w) ∷ []) ∵ use1 𝓛 (‵ (leads n u) ⊛ ‵ (leads n u)) (lead_twice u) $ split ! $ fsplit ! $ move ! (1 ∷ []) $ drop ! $
+          rewrite ! 0 (λ (b : ℕ). ‵ (tells n.store b (chunk_tag n u))) e refl $ move ! (2 ∷ []) $ use1 𝓛 (‵ (leads n w) ⊛ ‵ (leads n w)) (lead_twice w) $ split ! $ fsplit ! $ move ! (1 ∷ []) $ drop ! $
+          -- [where w lies; where w leads; where u lies; where u leads]
+          move ! (2 ∷ 0 ∷ []) $ use2 𝓛 (raw (fact 𝓤 Same)) (tells_agree 𝓛 n.store (block_number w) (chunk_tag n u) (chunk_tag n w)) $
+          heard ! Same (λ same. check ! (λ _. sym (home u) ∙ (ap (λ (z : ℕ × ℕ). left_of (right_of z.0)) same ∙ home w)) $ move ! (1 ∷ 0 ∷ []) $ done !)
+
+  abbrev AgreeWith : ℕ → List ℕ → Type 0
+  AgreeWith u vs = (w : ℕ) → has w vs ≡ true → SameHome u w
+
+  agree_more : (u x : ℕ) (vs : List ℕ) → SameHome u x → AgreeWith u vs → AgreeWith u (x ∷ vs)
+  agree_more u x vs one rest w h = go (x == w) refl h
+    where
+      go : (b : Bool) → (x == w) ≡ b → (b || has w vs) ≡ true → SameHome u w
+      go true e t = subst (SameHome u) (eq_true x w e) one
+      go false e t = rest w t
+
+  one_agrees : (u : ℕ) (vs : List ℕ) → ⟦ leads n u ⟧ ∗ ⟦ all_lead n vs ⟧ ⊢ guard 𝓤 (AgreeWith u vs) (⟦ leads n u ⟧ ∗ ⟦ all_lead n vs ⟧)
+  one_agrees u [] = qed 𝓛 (‵ (leads n u) ∷ ‵ ftrue ∷ []) ∵ check ! (λ w named. absurd (cc)) $ done !
+  one_agrees u (x ∷ vs) = qed 𝓛 (‵ (leads n u) ∷ ‵ (all_lead n (x ∷ vs)) ∷ []) ∵ move ! (1 ∷ []) $ fsplit ! $ move ! (2 ∷ 0 ∷ []) $ use2 𝓛 (given (SameHome u x) (‵ (leads n u) ⊛ ‵ (leads n x))) (two_agree u x) $ learn ! (λ one. split ! $
+      -- [where u leads; where x leads; where the others lead]
+      move ! (0 ∷ 2 ∷ []) $ use2 𝓛 (given (AgreeWith u vs) (‵ (leads n u) ⊛ ‵ (all_lead n vs))) (one_agrees u vs) $ learn ! (λ rest. split ! $
+      check ! (agree_more u x vs one rest) $ move ! (2 ∷ 1 ∷ []) $ fjoin ! $ move ! (1 ∷ 0 ∷ []) $ done !))
+
+  all_agree_more : (u : ℕ) (vs : List ℕ) → AgreeWith u vs → HaveOneHome vs → HaveOneHome (u ∷ vs)
+  all_agree_more u vs one rest v w a b e = go (u == v) refl a (u == w) refl b
+    where
+      go : (x : Bool) → (u == v) ≡ x → (x || has v vs) ≡ true → (y : Bool) → (u == w) ≡ y → (y || has w vs) ≡ true → home_of v ≡ home_of w
+      go true i _ true j _ = ap home_of (sym (eq_true u v i) ∙ eq_true u w j)
+      go true i _ false j h = let is : u ≡ v = eq_true u v i in ap home_of (sym is) ∙ one w h (ap block_number is ∙ e)
+      go false i h true j _ = let is : u ≡ w = eq_true u w j in sym (one v h (ap block_number is ∙ sym e)) ∙ ap home_of is
+      go false i h false j k = rest v w h k e
+
+  all_agree : (vs : List ℕ) → ⟦ all_lead n vs ⟧ ⊢ guard 𝓤 (HaveOneHome vs) ⟦ all_lead n vs ⟧
+  all_agree [] = qed 𝓛 (‵ ftrue ∷ []) ∵ check ! (λ v w a. absurd (cc)) $ done !
+  all_agree (u ∷ vs) = qed 𝓛 (‵ (all_lead n (u ∷ vs)) ∷ []) ∵ fsplit ! $ use2 𝓛 (given (AgreeWith u vs) (‵ (leads n u) ⊛ ‵ (all_lead n vs))) (one_agrees u vs) $ learn ! (λ one. split ! $ move ! (1 ∷ []) $
+      use1 𝓛 (given (HaveOneHome vs) (‵ (all_lead n vs))) (all_agree vs) $ learn ! (λ rest. check ! (all_agree_more u vs one rest) $ move ! (1 ∷ 0 ∷ []) $ fjoin ! $ done !))
+
+  -- what is known of all values that were named
+  abbrev pub KnownOf : List ℕ → Type 0
+  KnownOf vs = AllCarryOne vs × HaveOneHome vs
+
+  pub found_known : (st : State) → ⟦ places_known n st ⟧ ⊢ guard 𝓤 (KnownOf st.named) ⟦ places_known n st ⟧
+  found_known st = qed 𝓛 (‵ (places_known n st) ∷ []) ∵ use1 𝓛 (given (AllCarryOne st.named) (‵ (places_known n st))) (found_lent st) $ learn ! (λ lent. fsplit ! $
+      use1 𝓛 (given (HaveOneHome st.named) (‵ (all_lead n st.named))) (all_agree st.named) $ learn ! (λ homes. check ! (lent, homes) $ fjoin ! $ done !))
 
   -- there are as many slots as before; or one more, whose key says where its head lies
   abbrev pub MorePlaced : ℕ → Keys → ℕ → Type 0

@@ -5,7 +5,8 @@
 --     NamesLabels before held later  each value that it names is one with which a held key of a block is labelled; and something is lent
 --                                with it
 --     MakesPlaced st held e      where it makes a slot, the slot's key is held, and is labelled 1: the slot's head lies in the table
---     MayAdd n p seen held e     it is fair whatever the list is by then, and it neither ends nor begins an activation
+--     MayAdd n p seen held e     it is fair whatever the list is by then, and it neither ends nor begins an activation, nor
+--                                exchanges a link
 --     AddsEntryWith n p seen seen' held held' e   it was added: see AddsEntry; the keys know of it, and its own keys were made
 use Rattle.std.specs.Prelude.{◌≡◌, ℕ, ◌<◌, ◌≤◌, true, false, ◌⊎◌, List, [], ◌∷◌, ◌++◌, length}
 use base.Stored.{gnil}
@@ -16,16 +17,21 @@ use Rattle.seize_machine.specs.declared.machine.event.Answer.{Answer}
 use Rattle.seize_book.specs.Ledger.{HeldKey, Beside, IsThere, AllThere, HoldersKnow, WithKinds, with_list, keys_made}
 use Rattle.seize_book.specs.Entry.{Entry, Made, Deed, maker}
 use Rattle.seize_book.specs.Book.{after, IsLegalList, Does, mine, TheCount, TheBlock, TheField, TheTotal, kind_of, touches, IsKeyCount, rules, births, passes, slots, counts, blocks, fields, kinds}
-use Rattle.seize_book.specs.Blocks.{plans}
+use Rattle.seize_book.specs.Blocks.{block_number, plans}
 use Rattle.seize_book.specs.Chains.{HasChains, IsLed, field_value}
-use Rattle.seize_book.specs.Homes.{HasOne, IsSound}
+use Rattle.seize_book.specs.Homes.{HasOne, IsSound, home_of}
 use Rattle.seize_book.specs.Laws.{ended_by, starts}
 use Rattle.seize_book.specs.Loans.{AllCarryOne, CarriesOne}
+use Rattle.seize_book.specs.Pairs.{MakesNoPair}
 use Rattle.seize_book.specs.Saying.{AllSay, SaysAll}
 use Rattle.seize_book.specs.Tokens.{Name, start, IsSole, AddsEntry}
 
 abbrev pub pass_key : ℕ → List Entry → HeldKey Entry
 pass_key p own = record { kind = passes; key = p; own = own; label = 0; note = gnil }
+
+-- values that lie in blocks of one number lie in one block, since a number leads to one chunk for good
+abbrev pub HaveOneHome : List ℕ → Type 0
+HaveOneHome vs = (v w : ℕ) → has v vs ≡ true → has w vs ≡ true → block_number v ≡ block_number w → home_of v ≡ home_of w
 
 pub record Before (n : Name) (p : ℕ) (seen : List Entry) (held : List (HeldKey Entry)) (log : List Entry) : Type 0 where
   pub legal : IsLegalList (start n) log
@@ -37,6 +43,7 @@ pub record Before (n : Name) (p : ℕ) (seen : List Entry) (held : List (HeldKey
   pub kept : HoldersKnow (rules (start n)) held log
   pub alone : IsSole p → log ≡ seen
   pub lent : AllCarryOne (after (start n) log).named
+  pub homes : HaveOneHome (after (start n) log).named
 
 abbrev pub Covers : State → List (HeldKey Entry) → List Entry → Entry → Type 0
 Covers st held log e = (r k : ℕ) → Beside held r k → IsThere (rules st) r k log → touches (after st log) e (kind_of r) k ≡ false
@@ -87,7 +94,7 @@ StartsNone event = (s : ℕ) → starts s event ≡ false
 
 abbrev pub MayAdd : Name → ℕ → List Entry → List (HeldKey Entry) → Deed → Type 0
 MayAdd n p seen held d =
-    WithKinds kinds held × EndsNone d.event × StartsNone d.event
+    WithKinds kinds held × EndsNone d.event × (StartsNone d.event × MakesNoPair d.event)
     × ((own log : List Entry) → Before n p seen held log → Fair n (pass_key p own ∷ held) log (Made d))
 
 pub record AddsEntryWith (n : Name) (p : ℕ) (seen seen' : List Entry) (held held' : List (HeldKey Entry)) (d : Deed) : Type 0 where

@@ -25,13 +25,13 @@ abbrev pub kepts_of : ValueKeys → List ℕ
 kepts_of keys = kepts_in keys.keys.held
 
 -- the first of these words is of the first value, and so on
-abbrev pub Says : List ℕ → List ℕ → ℕ → ℕ → Type 0
-Says (x ∷ xs) (y ∷ ys) v k = ((x ≡ v) × (y ≡ k)) ⊎ Says xs ys v k
-Says _ _ v k = ⊥
+abbrev pub SaysKept : List ℕ → List ℕ → ℕ → ℕ → Type 0
+SaysKept (x ∷ xs) (y ∷ ys) v k = ((x ≡ v) × (y ≡ k)) ⊎ SaysKept xs ys v k
+SaysKept _ _ v k = ⊥
 
 abbrev pub IsTold : List Entry → ℕ → ℕ → Type 0
 IsTold [] v k = ⊥
-IsTold (Made d ∷ log) v k = Says (retires_by d.event) d.kepts v k ⊎ IsTold log v k
+IsTold (Made d ∷ log) v k = SaysKept (retires_by d.event) d.kepts v k ⊎ IsTold log v k
 IsTold (Used u ∷ log) v k = IsTold log v k
 
 abbrev pub AllTold : List Entry → List ℕ → List ℕ → Type 0

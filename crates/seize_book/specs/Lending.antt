@@ -3,6 +3,7 @@
 --     ArePermitsOf n permits            the list of permits is that of book n, and of the store where its blocks lie
 --     IsPermitFor n g permit            the permit is for this code, in the list of book n
 --     IsPermitForAll pass permit        it is for what is lent with each value that was ever named, as the pass has seen
+--     ArePairsPermitted pass permit     it is for codes that cover the pairs of all won exchanges that the pass has seen (see `Pairs`)
 --     IsPermitOf n vs permit            it is for what is lent with each of these values of book n
 --     MayLend keys ticket pool permit   there is one key of a block, with whose value nothing is lent; the ticket is that of the pool, and
 --                                       the permit for it
@@ -36,6 +37,7 @@ use Rattle.seize_book.specs.Homesteads.{state_seen}
 use Rattle.seize_book.specs.Ledger.{HeldKey}
 use Rattle.seize_book.specs.Loans.{Carries, CarriesNone, cell_of, loan_number, loan_of, place_of, CarriesOne}
 use Rattle.seize_book.specs.Others.{Renames, book_of, state_of, value_of, with_label}
+use Rattle.seize_book.specs.Pairs.{AreCovered, pairs_in}
 use Rattle.seize_book.specs.Private.{is_one, key_of, label_of}
 use Rattle.seize_book.specs.Slots.{hands_next}
 use Rattle.seize_book.specs.Tokens.{Name, chunk_label, start}
@@ -51,6 +53,10 @@ IsOfPlace v ticket = place_of v ≡ ticket.name
 abbrev pub ArePermitsOf : {C : Type 0} → Name → Permits C → Type 0
 ArePermitsOf n permits = (permits.list ≡ n.permits) × (permits.store ≡ n.store)
 
+-- the list of pairs that may follow one another in its links
+abbrev pub ArePairsOf : {C : Type 0} → Name → Permits C → Type 0
+ArePairsOf n pairs = (pairs.list ≡ n.pairs) × (pairs.store ≡ n.store)
+
 abbrev pub IsPermitFor : Name → Gv → Permit → Type 0
 IsPermitFor n g permit = (permit.list ≡ n.permits) × (permit.codes ≡ loan_number g ∷ [])
 
@@ -59,6 +65,9 @@ IsPermitOf n vs permit = (permit.list ≡ n.permits) × (permit.codes ≡ map lo
 
 abbrev pub IsPermitForAll : Pass → Permit → Type 0
 IsPermitForAll pass permit = IsPermitOf pass.name (state_seen pass).named permit
+
+abbrev pub ArePairsPermitted : Pass → Permit → Type 0
+ArePairsPermitted pass permit = (permit.list ≡ pass.name.pairs) × AreCovered permit.codes (pairs_in (start pass.name) pass.seen)
 
 abbrev pub MayLend : Keys → Ticket → Pool → Permit → Type 0
 MayLend keys ticket pool permit =

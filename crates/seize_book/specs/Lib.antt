@@ -8,6 +8,7 @@ pub mod Book
 pub mod Laws
 pub mod Loans
 pub mod Permits
+pub mod Pairs
 pub mod Tokens
 pub mod Shared
 pub mod Begin

@@ -4,6 +4,8 @@
 --                               value that was named something is lent, and the links of the opening are distinct
 --     LendsPass porter pass     a new pass of the porter's book, which isn't the first, with which nothing was made, and which has seen a
 --                               list that goes on from what the porter has seen
+--     GrewByOthers porter pass  the pass has seen a list that goes on from what the porter has seen, and nothing was made with the first
+--                               pass meanwhile
 --     Resizes porter porter' size   it is the same, but that the batch size is this
 --     LeavesHome porter porter'     it is the same, but not at home
 --     WasWhole home seen seen'  it is seen still, if the porter was at home: then that was the whole list, and nobody could add
@@ -49,6 +51,10 @@ pub record LendsPass (porter : Porter) (pass : Pass) : Type 0 where
   pub new : IsNewPass pass
   pub others : ¬ (IsSole pass.id)
   pub goes_on : GoesOnTo porter.name porter.seen pass.seen
+
+abbrev pub GrewByOthers : Porter → Pass → Type 0
+GrewByOthers porter pass =
+    IsPrefix porter.seen pass.seen × (mine (start porter.name) 0 pass.seen ≡ mine (start porter.name) 0 porter.seen)
 
 abbrev pub IsSamePorter : Porter → Porter → Type 0
 IsSamePorter porter porter' = (porter'.name ≡ porter.name) × (porter'.size ≡ porter.size)

@@ -51,6 +51,7 @@ use Rattle.seize_book.specs.Chains.{HasChains, field_value}
 use Rattle.seize_book.specs.Homes.{IsSound, home_of}
 use Rattle.seize_book.specs.Laws.{ended_lives}
 use Rattle.seize_book.specs.Loans.{AllCarryOne, cell_of, loan, loan_of, place_of}
+use Rattle.seize_book.specs.Pairs.{all_covered, pairs_in}
 use Rattle.seize_book.specs.Permits.{permit_if}
 
 -- Who may append: at the open gate each pass that the porter lent, at the shut gate the first pass alone, and at home none. The copy of
@@ -83,6 +84,8 @@ pub record Name : Type 0 where
   pub table : List ℕ
   -- the list of the codes that may be lent with its values
   pub permits : ℕ
+  -- and that of the pairs that may follow one another in its links
+  pub pairs : ℕ
   -- the opening
   pub slots : ℕ
   pub links : List (Option ℕ)
@@ -98,7 +101,8 @@ abbrev pub name_coded : Coded Name
 name_coded =
     code_by (List ℕ × (List (Option ℕ) × (List ℕ × List ℕ)))
     (coded× (coded_list coded_ℕ) (coded× (coded_list (coded_option coded_ℕ)) (coded× (coded_list coded_ℕ) (coded_list coded_ℕ))))
-    (λ n. (n.number ∷ n.log ∷ n.family ∷ n.slots ∷ n.gate.copy ∷ n.gate.tickets ∷ n.permits ∷ rows n, (n.links, (n.store, n.table))))
+    (λ n.
+    (n.number ∷ n.log ∷ n.family ∷ n.slots ∷ n.gate.copy ∷ n.gate.tickets ∷ n.permits ∷ n.pairs ∷ rows n, (n.links, (n.store, n.table))))
     (λ t. record {
       number = nth t.0 0;
       log = nth t.0 1;
@@ -106,15 +110,16 @@ name_coded =
       slots = nth t.0 3;
       gate = record { copy = nth t.0 4; tickets = nth t.0 5 };
       permits = nth t.0 6;
-      pass_keys = nth t.0 7;
-      number_keys = nth t.0 8;
-      slot_keys = nth t.0 9;
-      head_keys = nth t.0 10;
-      link_keys = nth t.0 11;
-      count_keys = nth t.0 12;
-      block_keys = nth t.0 13;
-      field_keys = nth t.0 14;
-      total_keys = nth t.0 15;
+      pairs = nth t.0 7;
+      pass_keys = nth t.0 8;
+      number_keys = nth t.0 9;
+      slot_keys = nth t.0 10;
+      head_keys = nth t.0 11;
+      link_keys = nth t.0 12;
+      count_keys = nth t.0 13;
+      block_keys = nth t.0 14;
+      field_keys = nth t.0 15;
+      total_keys = nth t.0 16;
       links = t.1.0;
       store = t.1.1.0;
       table = t.1.1.1;
@@ -206,10 +211,13 @@ all_lie n m = all_filled n.table (slot_labels n m)
 abbrev pub places_known : Name → State → Fml
 places_known n st = fsep (all_lead n st.named) (fsep (all_lie n (length st.slots)) (fact (AllCarryOne st.named)))
 
--- what the invariant holds beside the list and the keys: each activation that has ended is over; the gate; and where all is found that was
--- ever named or made
+-- each activation that has ended is over, and there is a permit for each pair that the list made
+abbrev pub past : Name → List Entry → Fml
+past n log = fsep (over (ended_lives log)) (all_covered n.pairs (pairs_in (start n) log))
+
+-- what the invariant holds beside the list and the keys: what is past; the gate; and where all is found that was ever named or made
 abbrev pub beside : Name → List Entry → Fml
-beside n log = fsep (over (ended_lives log)) (fsep (gate_keeps n.gate log) (places_known n (after (start n) log)))
+beside n log = fsep (past n log) (fsep (gate_keeps n.gate log) (places_known n (after (start n) log)))
 
 abbrev pub inside : Name → Fml
 inside n = contents entry_coded (rules (start n)) (beside n) n.log (rows n)

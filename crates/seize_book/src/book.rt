@@ -38,7 +38,7 @@ pub use keys::Keys;
 pub use link_keys::LinkKeys;
 pub use numbers_key::NumbersKey;
 pub use pass::Pass;
-pub use permit::{Condition, Permit, Permits};
+pub use permit::{Chosen, Condition, Permit, Permits, Permitted};
 pub use porter::{Porter, Stay};
 pub use seen::{Seen, Storage};
 pub use slot_key::SlotKey;

@@ -1,6 +1,6 @@
 -- What the label of a chunk says, which a pass has found by the number of a value. These facts are for callers.
 use Rattle.std.proofs.Math.Pow.{pow_mono}
-use Rattle.std.proofs.Common.{◌≡◌, ℕ, ◌+◌, ◌<◌, ◌≤◌, ◌^◌, true, length, refl, sym, ◌∙◌, ap, subst, arith}
+use Rattle.std.proofs.Common.{◌≡◌, ℕ, ◌+◌, ◌<◌, ◌≤◌, ◌^◌, true, length, sym, ◌∙◌, ap, subst, arith}
 use Rattle.std.proofs.lemmas.List.Elements.{All-get_or}
 use denote.RawPtr.{Ptr, null_ptr}
 use Rattle.seize_machine.specs.Machine.State.{has}
@@ -12,7 +12,7 @@ use Rattle.seize_table.proofs.Pairs.{left_pair, right_pair}
 use Rattle.seize_book.specs.Blocks.{block_number}
 use Rattle.seize_book.specs.Book.{after}
 use Rattle.seize_book.specs.Books.{IsNextIn}
-use Rattle.seize_book.specs.Homes.{IsSound, home_of}
+use Rattle.seize_book.specs.Homes.{home_of}
 use Rattle.seize_book.specs.Homesteads.{AreAt, state_seen}
 use Rattle.seize_book.specs.Loans.{CarriesNone, cell_of, place_of}
 use Rattle.seize_book.specs.Others.{FollowsValue, value_of}
@@ -26,7 +26,7 @@ use Rattle.seize_store.specs.declared.bare.Bare.{Bare}
 use Rattle.seize_store.specs.declared.hollow.Hollow.{Hollow}
 use Rattle.seize_store.specs.declared.row_token.Title.{Title}
 use Rattle.seize_words.specs.Counts.{home}
-use Rattle.seize_words.specs.Chunks.{IsBlockAfter, IsBlockAs, IsBlockIn, IsHollowAfter, IsHollowAs, IsHollowIn, IsLiveAt}
+use Rattle.seize_words.specs.Chunks.{IsBlockAfter, IsBlockAs, IsBlockIn, IsHollowAfter, IsHollowAs, IsHollowIn}
 use Rattle.seize_words.specs.declared.blocks.Blocks.{Blocks}
 use Rattle.seize_words.specs.declared.chunk.Header.{Header}
 use Rattle.seize_words.specs.declared.chunk.Part.{Part}
@@ -72,14 +72,6 @@ pub found_label : (known : RowToken) (pass : Pass) (label number : ℕ) → AreA
 found_label known pass label number homes placed its v named is =
     its ∙ (ap (λ (k : ℕ). label_in known.chunks (entry_of known.row k)) (sym is)
     ∙ (homes v named (subst (λ (k : ℕ). IsPlace k known.row (entry_of known.row k)) (sym is) placed)).0)
-
--- so of two values with one number that stand, as the pass has seen, both are one
-pub stands_once : (known : RowToken) (pass : Pass) (number v w : ℕ) → AreAt pass.name known (state_seen pass) → IsPlace number known.row (entry_of known.row number) → IsSound (state_seen pass)
-    → IsLiveAt v number pass → IsLiveAt w number pass → v ≡ w
-stands_once known pass number v w homes placed sound one other =
-    let label : ℕ = label_in known.chunks (entry_of known.row number) in
-    let same = sym (found_label known pass label number homes placed refl v one.0 one.2) ∙ found_label known pass label number homes placed refl w other.0 other.2 in
-    sound.one v w (same_home pass.name pass.name (home_of v) (cell_of v) (home_of w) (cell_of w) same) one.0 other.0 one.1 other.1
 
 -- and the content of that chunk is the place of each
 pub found_content : (known : RowToken) (pass : Pass) (number : ℕ) → AreAt pass.name known (state_seen pass) → IsPlace number known.row (entry_of known.row number)

@@ -26,6 +26,7 @@ use Rattle.seize_book.specs.Private.{Tag, is_one, key_of, tag_of, own_of, AreKey
 use Rattle.seize_words.specs.Stepping.{EndsAmong, FoundAs, IsStep, MayStep, in_step}
 use Rattle.seize_book.specs.Tokens.{Name, start}
 use Rattle.seize_words.specs.Words.{Site}
+use Rattle.seize_book.proofs.Pairs.{needs_none}
 use Rattle.seize_book.proofs.Facts.{unled, all_told_later, all_told_renewed, batch_near, count_added, count_alone, count_near, count_subtracted, in_range, word_added, word_subtracted, word_zero, deposit_added, deposit_subtracted, added_held, front_grows, front_there, held_front, held_values, walked_held, after_push, reached_after, plan_stays, differ, only_is, makes_none, no_place, no_labels, none_named, says_none, sound_push, blocks_within, keys_later, none_of}
 use Rattle.seize_book.specs.Kept.{AreToldIn}
 
@@ -136,6 +137,7 @@ module _ (n : Name) (k : ℕ) where
       its = pe;
       bears = c.births (after st log);
       ends = ends;
+      covered = needs_none (after st log) e c.link;
       shows = shows;
       stands = (stands, theirs);
     }

@@ -91,12 +91,9 @@ renewed_twice : (vs : List (HeldKey Entry)) (log : List Entry) → with_list vs 
 renewed_twice [] log = refl
 renewed_twice (x ∷ vs) log = ap (λ (hs : List (HeldKey Entry)). record { kind = x.kind; key = x.key; own = log; label = x.label; note = x.note } ∷ hs) (renewed_twice vs log)
 
-module _ (link : Link) (a : Activation) (pass pass' : Pass) (in_ : IsLinkFor link a pass) (keys keys' : Keys) (f : ℕ → ℕ) (v : ℕ) (ev : Option ℕ → Event) (trades : ℕ → Bool)
-    (told : Took (at_link pass.name (link_number link)) keys pass keys' pass' (a.life ∷ []) f v (entries pass 0 (λ v log. ev (link_at (after (start pass.name) log) (link_number link)))) trades) where
-  abbrev event : ℕ → List Entry → Event
-  event v log = ev (link_at (after (start pass.name) log) (link_number link))
-
-  abbrev step : HasStepped (at_link pass.name (link_number link)) pass.id pass.seen pass'.seen keys.held keys'.held (a.life ∷ []) v (f v) (entries pass 0 event) trades
+module _ (link : Link) (a : Activation) (pass pass' : Pass) (in_ : IsLinkFor link a pass) (keys keys' : Keys) (f : ℕ → ℕ) (v : ℕ) (ev : Event) (trades : ℕ → Bool)
+    (told : Took (at_link pass.name (link_number link)) keys pass keys' pass' (a.life ∷ []) f v (entries pass 0 (λ v log. ev)) trades) where
+  abbrev step : HasStepped (at_link pass.name (link_number link)) pass.id pass.seen pass'.seen keys.held keys'.held (a.life ∷ []) v (f v) (entries pass 0 (λ v log. ev)) trades
   step = told.2
 
   -- what the link held, as its word's keys know
@@ -107,6 +104,11 @@ module _ (link : Link) (a : Activation) (pass pass' : Pass) (in_ : IsLinkFor lin
   taken =
       let w = within pass.name a.slot a.life (link_number link) a.since pass.seen in_.within v pass.id keys.held step.since step.log step.found in
       record { same = told.0; before = step.log; noted = step.noted; is_before = step.is_log; during = (w.0, w.2, step.found.none_ended a.life (inl refl)); found = step.found.shows ∙ ap link_word held }
+
+  -- what it held, as it was known in the step
+  pub held_is : (o : Option ℕ) → link_at (after (start pass.name) step.log) (link_number link) ≡ o → held_before taken ≡ o
+  unfolding taken
+  held_is o is = is
 
   its_key : IsKeyOf (link_at (after (start pass.name) step.log) (link_number link)) step.since.1
   its_key = subst (λ (o : Option ℕ). IsKeyOf o step.since.1) held step.found.stands
@@ -120,15 +122,15 @@ module _ (link : Link) (a : Activation) (pass pass' : Pass) (in_ : IsLinkFor lin
   came_out e = ap value_in (had true e) ∙ value_of (link_at (after (start pass.name) step.log) (link_number link)) step.since.1 pass'.seen its_key
 
   -- what came out was named, and is loose
-  pub is_out : (exchange : Option ℕ → Exchange) → keys.name ≡ pass.name → ((o : Option ℕ) → ev o ≡ ExchangeLink a.slot (link_number link) (exchange o)) → ((o : Option ℕ) → v ≡ link_word o → is_stored o (exchange o) ≡ true) → trades v ≡ true
+  pub is_out : (exchange : Exchange) → keys.name ≡ pass.name → ev ≡ ExchangeLink a.slot (link_number link) exchange → is_stored (held_before taken) exchange ≡ true → trades v ≡ true
       → (w : ℕ) → value_in keys'.held ≡ Some w → (has w (state_of keys').named ≡ true) × (has w (state_of keys').loose ≡ true)
   unfolding taken
   is_out exchange book is stored e w out =
       let now : State = after (start pass.name) step.log in let old : Option ℕ = link_at now (link_number link) in let linked : link_at now (link_number link) ≡ Some w = sym (came_out e) ∙ out in
-      let done : next pass.size now (event v step.log) ≡ Some (step.noted.later, step.noted.answer) = subst (λ (l : List Entry). next pass.size (after (start pass.name) l) (event v step.log) ≡ Some (step.noted.later, step.noted.answer)) step.is_log step.noted.does in
-      let st : Step pass.size now (ExchangeLink a.slot (link_number link) (exchange old)) (step.noted.later, step.noted.answer) = subst (λ (x : Event). Step pass.size now x (step.noted.later, step.noted.answer)) (is old) (step_of _ _ _ _ done) in
+      let done : next pass.size now ev ≡ Some (step.noted.later, step.noted.answer) = subst (λ (l : List Entry). next pass.size (after (start pass.name) l) ev ≡ Some (step.noted.later, step.noted.answer)) step.is_log step.noted.does in
+      let st : Step pass.size now (ExchangeLink a.slot (link_number link) exchange) (step.noted.later, step.noted.answer) = subst (λ (x : Event). Step pass.size now x (step.noted.later, step.noted.answer)) is (step_of _ _ _ _ done) in
       let named = (linked_named now (reached_after pass.name step.log step.found.distinct step.found.before.legal) (link_number link) w linked).0 in
-      subst (λ (z : State). (has w z.named ≡ true) × (has w z.loose ≡ true)) (sym (knows w out book ∙ step.noted.leads)) (out_loose pass.size now a.slot (link_number link) (exchange old) (step.noted.later, step.noted.answer) w st (stored old (step.found.shows ∙ ap link_word held)) linked named)
+      subst (λ (z : State). (has w z.named ≡ true) × (has w z.loose ≡ true)) (sym (knows w out book ∙ step.noted.leads)) (out_loose pass.size now a.slot (link_number link) exchange (step.noted.later, step.noted.answer) w st stored linked named)
     where
       knows : (w : ℕ) → value_in keys'.held ≡ Some w → keys.name ≡ pass.name → state_of keys' ≡ after (start pass.name) pass'.seen
       knows w out book = ap (λ (t : Name × List Entry). after (start t.0) t.1) (λ j. ((told.1 ∙ book) j, (ap own_of (step.keys) ∙ renewed_own (held_then (kind_of links) (trades v) step.since.1 keys.held) pass'.seen w (sym (ap value_in step.keys) ∙ out)) j))
@@ -137,19 +139,20 @@ module _ (link : Link) (a : Activation) (pass pass' : Pass) (in_ : IsLinkFor lin
   stayed e = ap value_in (had false e) ∙ same_value keys.held pass'.seen
 
   -- where nothing was stored, all is as it was
-  same_then : (exchange : Option ℕ → Exchange) → ((o : Option ℕ) → ev o ≡ ExchangeLink a.slot (link_number link) (exchange o)) → ((o : Option ℕ) → v ≡ link_word o → is_stored o (exchange o) ≡ false) → step.noted.later ≡ after (start pass.name) step.log
+  same_then : (exchange : Exchange) → ev ≡ ExchangeLink a.slot (link_number link) exchange → is_stored (held_before taken) exchange ≡ false → step.noted.later ≡ after (start pass.name) step.log
+  unfolding taken
   same_then exchange is misses =
       let st : State = start pass.name in let now : State = after st step.log in let old : Option ℕ = link_at now (link_number link) in
-      let done : next pass.size now (event v step.log) ≡ Some (step.noted.later, step.noted.answer) = subst (λ (l : List Entry). next pass.size (after st l) (event v step.log) ≡ Some (step.noted.later, step.noted.answer)) step.is_log step.noted.does in
-      kept_state pass.size now a.slot (link_number link) (exchange old) (step.noted.later, step.noted.answer) (subst (λ (x : Event). Step pass.size now x (step.noted.later, step.noted.answer)) (is old) (step_of _ _ _ _ done)) (misses old (step.found.shows ∙ ap link_word held))
+      let done : next pass.size now ev ≡ Some (step.noted.later, step.noted.answer) = subst (λ (l : List Entry). next pass.size (after st l) ev ≡ Some (step.noted.later, step.noted.answer)) step.is_log step.noted.does in
+      kept_state pass.size now a.slot (link_number link) exchange (step.noted.later, step.noted.answer) (subst (λ (x : Event). Step pass.size now x (step.noted.later, step.noted.answer)) is (step_of _ _ _ _ done)) misses
 
   -- so the link holds what it held,
-  pub link_kept : (exchange : Option ℕ → Exchange) → ((o : Option ℕ) → ev o ≡ ExchangeLink a.slot (link_number link) (exchange o)) → ((o : Option ℕ) → v ≡ link_word o → is_stored o (exchange o) ≡ false) → link_at (after (start pass.name) pass'.seen) (link_number link) ≡ held_before taken
+  pub link_kept : (exchange : Exchange) → ev ≡ ExchangeLink a.slot (link_number link) exchange → is_stored (held_before taken) exchange ≡ false → link_at (after (start pass.name) pass'.seen) (link_number link) ≡ held_before taken
   unfolding taken
   link_kept exchange is misses = ap (λ (z : State). link_at z (link_number link)) (step.noted.leads ∙ same_then exchange is misses)
 
   -- and the value is as new as before
-  pub still_may : (exchange : Option ℕ → Exchange) → keys.name ≡ pass.name → IsNewIn pass.name (value_in keys.held) keys.held → ((o : Option ℕ) → ev o ≡ ExchangeLink a.slot (link_number link) (exchange o)) → ((o : Option ℕ) → v ≡ link_word o → is_stored o (exchange o) ≡ false) → trades v ≡ false
+  pub still_may : (exchange : Exchange) → keys.name ≡ pass.name → IsNewIn pass.name (value_in keys.held) keys.held → ev ≡ ExchangeLink a.slot (link_number link) exchange → is_stored (held_before taken) exchange ≡ false → trades v ≡ false
       → IsNewIn keys'.name (value_in keys'.held) keys'.held
   still_may exchange book new is misses e =
       let st : State = start pass.name in let now : State = after st step.log in
@@ -172,7 +175,7 @@ module _ (link : Link) (a : Activation) (pass pass' : Pass) (in_ : IsLinkFor lin
 -- a read leaves the link as it is
 pub read_later : (link : Link) (a : Activation) (pass pass' : Pass) (in_ : IsLinkFor link a pass) (keys keys' : Keys) (v : ℕ)
     → (told : Took (at_link pass.name (link_number link)) keys pass keys' pass' (a.life ∷ []) (λ v. v) v (entries pass 0 (λ v log. ReadLink a.slot (link_number link))) (λ v. false))
-    → link_at (after (start pass.name) pass'.seen) (link_number link) ≡ held_before (taken link a pass pass' in_ keys keys' (λ v. v) v (λ _. ReadLink a.slot (link_number link)) (λ v. false) told)
+    → link_at (after (start pass.name) pass'.seen) (link_number link) ≡ held_before (taken link a pass pass' in_ keys keys' (λ v. v) v (ReadLink a.slot (link_number link)) (λ v. false) told)
 unfolding taken
 read_later link a pass pass' in_ keys keys' v told =
     let step = told.2 in let l : ℕ = link_number link in let now : State = after (start pass.name) step.log in

@@ -1,5 +1,5 @@
 -- The calls of links: what is asked of them is enough for a step, and what is known after one.
-use Rattle.std.proofs.Common.{◌≡◌, ◌≢◌, ℕ, ◌<◌, Bool, true, false, ◌==◌, if◌then◌else◌, List, [], ◌∷◌, ◌++◌, length, Option, Some, None, refl, sym, ◌∙◌, ap, subst, ◌⊎◌, inl, inr, arith}
+use Rattle.std.proofs.Common.{◌≡◌, ◌≢◌, ℕ, ◌+◌, ◌<◌, Bool, true, false, ◌==◌, List, [], ◌∷◌, ◌++◌, length, Option, Some, None, refl, sym, ◌∙◌, ap, subst, ◌⊎◌, inl, inr, arith}
 use mathlib.Core.List.{IsPrefix}
 use base.Growing.{prefix_trans}
 use Rattle.seize_machine.specs.Machine.State.{State, head_at, is_active, link_at}
@@ -9,22 +9,23 @@ use Rattle.seize_machine.specs.declared.machine.event.Exchange.{Exchange}
 use Rattle.seize_machine.specs.declared.machine.event.Exchange.TheVariants.{Compare, Swap}
 use Rattle.seize_machine.specs.declared.machine.event.Answer.{Answer}
 use Rattle.seize_machine.specs.declared.machine.event.Answer.TheVariants.{Link as Held_}
-use Rattle.seize_machine.proofs.Facts.{Step, and_true, eq_true, is_true, links_length, next_of, step_of}
+use Rattle.seize_machine.proofs.Facts.{Step, linked_named, and_true, eq_true, is_true, links_length, next_of, step_of}
 use Rattle.atomic_table.proofs.Lists as kit
 use Rattle.seize_words.specs.Atomic.{after_exchange}
-use Rattle.seize_book.specs.Blocks.{link_word}
+use Rattle.seize_book.specs.Blocks.{block_number, link_word}
 use Rattle.seize_book.specs.Book.{Does, IsLegalList, after, blocks, kinds}
 use Rattle.seize_book.specs.Entry.{Deed, Entry, Made, Used}
 use Rattle.seize_book.specs.Homes.{home_of}
 use Rattle.seize_book.specs.Laws.{IsAmong, Reader, ended_lives, life}
 use Rattle.seize_book.specs.Ledger.{HeldKey, WithKinds}
-use Rattle.seize_words.specs.Links.{IsNewIn, IsWithin, at_link, comparand, is_at_most_one, value_in}
-use Rattle.seize_words.specs.Stepping.{FoundAs, IsStep, MayStep}
+use Rattle.seize_words.specs.Links.{IsNewIn, IsWithin, at_link, is_at_most_one, value_in, IsPairAllowed}
+use Rattle.seize_words.specs.Stepping.{FoundAs, IsStepFor, MayStep, MayStepFor}
 use Rattle.seize_book.specs.Tokens.{Name, start}
-use Rattle.seize_book.proofs.Facts.{after_push, equal, unequal}
-use Rattle.seize_book.proofs.Loans.{found_now}
+use Rattle.seize_book.proofs.Facts.{after_push, equal, reached_after, unequal}
+use Rattle.seize_book.proofs.Facts as facts
+use Rattle.seize_book.proofs.Loans.{found_named, found_now, reader_later}
 use Rattle.seize_words.proofs.Activations.{still}
-use Rattle.seize_words.proofs.Links.{legal_link, miss_does, miss_step, read_step, same, store_step}
+use Rattle.seize_words.proofs.Links.{found_first, legal_link, miss_does, miss_step, read_step, same, store_step}
 use Rattle.seize_book.proofs.Lives.{legal_first}
 
 -- there are as many links as at the beginning
@@ -34,6 +35,28 @@ links_stay st (Used u ∷ log) l = links_stay st log l
 links_stay st (Made e ∷ log) l =
     let w = legal_first st e log l in
     ap (λ (d : _). length (after d.0 log).links) w.2 ∙ links_stay (w.0).0 log w.3 ∙ links_length e.size st e.event w.0 (step_of _ _ _ _ w.1)
+
+-- An exchange that compares stores where the link holds just that, and where its word differs it doesn't.
+
+is_same : (o : Option ℕ) → same_link o o ≡ true
+is_same None = refl
+is_same (Some v) = equal v v refl
+
+same_words : (o q : Option ℕ) → same_link o q ≡ true → link_word o ≡ link_word q
+same_words None None h = refl
+same_words (Some v) (Some w) h = ap (λ (k : ℕ). link_word (Some k)) (eq_true v w h)
+same_words None (Some w) h = absurd (cc)
+same_words (Some v) None h = absurd (cc)
+
+pub hit : (current old o : Option ℕ) → old ≡ current → is_stored old (Compare current o) ≡ true
+hit current old o same = ap (λ (q : Option ℕ). same_link q current) same ∙ is_same current
+
+pub missed : (current old o : Option ℕ) → link_word old ≢ link_word current → is_stored old (Compare current o) ≡ false
+missed current old o differs = apart (is_true (same_link old current))
+  where
+    apart : (same_link old current ≡ true) ⊎ (same_link old current ≡ false) → same_link old current ≡ false
+    apart (inl h) = absurd (differs (same_words old current h))
+    apart (inr h) = h
 
 module _ (n : Name) (s a l : ℕ) (since seen : List Entry) (in_ : IsWithin n s a since seen l) where
   abbrev st : State
@@ -81,60 +104,65 @@ module _ (n : Name) (s a l : ℕ) (since seen : List Entry) (in_ : IsWithin n s 
   all_blocks (x ∷ y ∷ held) one = absurd (cc)
 
   pub may_swap_link : (p size new : ℕ) (held : List (HeldKey Entry)) → is_at_most_one held ≡ true → IsNewIn n (value_in held) held → new ≡ link_word (value_in held)
-      → MayStep (at_link n l) p seen held (a ∷ []) [] (λ v. new) (λ v log. Made (record { pass = p; size = size; event = ExchangeLink s l (Swap (value_in held)); life = 0; kepts = [] })) (λ v. true)
-  may_swap_link p size new held one fresh word =
-      (all_blocks held one, (λ v t own log found. let w = within v p held t log found in store_step n l v p size s seen held (a ∷ []) t own log found w.0 w.1 (value_in held) (Swap (value_in held)) refl fresh new word refl))
+      → (allowed : List ℕ) → ((old : Option ℕ) → IsPairAllowed allowed p l old (value_in held))
+      → MayStepFor allowed [] (at_link n l) p seen held (a ∷ []) [] (λ v. new) (λ v log. Made (record { pass = p; size = size; event = ExchangeLink s l (Swap (value_in held)); life = 0; kepts = [] })) (λ v. true)
+  may_swap_link p size new held one fresh word allowed pairs =
+      (all_blocks held one, (λ v t own log found. let w = within v p held t log found in store_step n l v p size s seen held (a ∷ []) t own log found w.0 w.1 (value_in held) (Swap (value_in held)) refl fresh allowed new word refl (pairs (link_at (after st log) l))))
 
-  -- Where the word is what was seen, the link holds what is compared; and else it doesn't.
+  -- Where the link holds a value of the block in which a value was found, in an activation that has not ended, it holds that: both are named
+  -- and not reclaimed, and blocks of one number are one block.
+  module _ (b : ℕ) (current : Option ℕ) (was : (x : ℕ) → current ≡ Some x → Reader st seen x b) (p : ℕ) (held : List (HeldKey Entry)) where
+    Found : ℕ → At → List Entry → Type 0
+    Found v t log = FoundAs (at_link n l) v p seen held (a ∷ b ∷ []) t log
 
-  is_same : (o : Option ℕ) → same_link o o ≡ true
-  is_same None = refl
-  is_same (Some v) = equal v v refl
+    holds_current : (v : ℕ) (t : At) (log : List Entry) → Found v t log → (old o : Option ℕ) → link_at (after st log) l ≡ old → current ≡ o → link_word old ≡ link_word o → old ≡ o
+    unfolding Found
+    holds_current v t log found None None at is word = refl
+    holds_current v t log found None (Some x) at is word = absurd (let e : 0 ≡ block_number x + 1 = word in omega (arith, e))
+    holds_current v t log found (Some y) None at is word = absurd (let e : block_number y + 1 ≡ 0 = word in omega (arith, e))
+    holds_current v t log found (Some y) (Some x) at is word =
+        let before = found.before in let there : Reader st log x b = reader_later st seen log x b before.grows (was x is) in
+        let lives = linked_named (after st log) (reached_after n log found.distinct before.legal) l y at in
+        let named = found_named st log there.1 x there.0 (reached_after n [] found.distinct refl) before.legal there.2 in
+        let stands = facts.found_stands n log found.distinct before.legal x b there (found.none_ended b (inr (inl refl))) in
+        let numbers : block_number y ≡ block_number x = (let e : block_number y + 1 ≡ block_number x + 1 = word in omega (arith, e)) in
+        ap Option.Some (before.sound.one y x (before.homes y x lives.0 named numbers) lives.0 named lives.1 stands)
 
-  same_words : (o q : Option ℕ) → same_link o q ≡ true → link_word o ≡ link_word q
-  same_words None None h = refl
-  same_words (Some v) (Some w) h = ap (λ (k : ℕ). link_word (Some k)) (eq_true v w h)
-  same_words None (Some w) h = absurd (cc)
-  same_words (Some v) None h = absurd (cc)
+    pub is_current : (v : ℕ) (t : At) (log : List Entry) → FoundAs (at_link n l) v p seen held (a ∷ b ∷ []) t log → v ≡ link_word current → link_at (after st log) l ≡ current
+    unfolding Found
+    is_current v t log found word = holds_current v t log found (link_at (after st log) l) current refl refl (sym (found.shows ∙ ap link_word (same n l v p seen held (a ∷ b ∷ []) t log found)) ∙ word)
 
-  pub hit : (current old o : Option ℕ) → link_word old ≡ link_word current → is_stored old (Compare (comparand current old) o) ≡ true
-  hit current old o e = ap (λ (b : Bool). same_link old (if b then old else current)) (equal (link_word old) (link_word current) e) ∙ is_same old
+    abbrev exchange : Exchange
+    exchange = Compare current (value_in held)
 
-  pub missed : (current old o : Option ℕ) → link_word old ≢ link_word current → is_stored old (Compare (comparand current old) o) ≡ false
-  missed current old o differs = ap (λ (b : Bool). same_link old (if b then old else current)) (unequal (link_word old) (link_word current) differs) ∙ apart (is_true (same_link old current))
-    where
-      apart : (same_link old current ≡ true) ⊎ (same_link old current ≡ false) → same_link old current ≡ false
-      apart (inl h) = absurd (differs (same_words old current h))
-      apart (inr h) = h
+    abbrev entry : ℕ → Entry
+    entry size = Made (record { pass = p; size = size; event = ExchangeLink s l exchange; life = 0; kepts = [] })
 
-  pub may_compare_link : (p size new : ℕ) (current : Option ℕ) (held : List (HeldKey Entry)) → is_at_most_one held ≡ true → IsNewIn n (value_in held) held → new ≡ link_word (value_in held)
-      → MayStep (at_link n l) p seen held (a ∷ []) [] (after_exchange (link_word current) new)
-      (λ v log. Made (record { pass = p; size = size; event = ExchangeLink s l (Compare (comparand current (link_at (after st log) l)) (value_in held)); life = 0; kepts = [] })) (λ v. v == link_word current)
-  may_compare_link p size new current held one fresh word = (all_blocks held one, step)
-    where
-      e : List Entry → Entry
-      e log = Made (record { pass = p; size = size; event = ExchangeLink s l (Compare (comparand current (link_at (after st log) l)) (value_in held)); life = 0; kepts = [] })
-
-      step : (v : ℕ) (t : At) (own log : List Entry) → FoundAs (at_link n l) v p seen held (a ∷ []) t log
-          → IsStep (at_link n l) p held [] (after_exchange (link_word current) new v) (Made (record { pass = p; size = size; event = ExchangeLink s l (Compare (comparand current (link_at (after st log) l)) (value_in held)); life = 0; kepts = [] })) (v == link_word current) t own log
-      step v t own log found =
-          let w = within v p held t log found in let old : Option ℕ = link_at (after st log) l in let is : v ≡ link_word old = found.shows ∙ ap link_word (same n l v p seen held (a ∷ []) t log found) in
-          let goal : ℕ → Type 0 = λ x. IsStep (at_link n l) p held [] x (Made (record { pass = p; size = size; event = ExchangeLink s l (Compare (comparand current old) (value_in held)); life = 0; kepts = [] })) (v == link_word current) t own log in
-          kit.exchanged v (link_word current) new goal
-          (λ same. subst (λ (b : Bool). IsStep (at_link n l) p held [] new (Made (record { pass = p; size = size; event = ExchangeLink s l (Compare (comparand current old) (value_in held)); life = 0; kepts = [] })) b t own log) (sym (equal v (link_word current) same))
-          (store_step n l v p size s seen held (a ∷ []) t own log found w.0 w.1 (value_in held) (Compare (comparand current old) (value_in held)) refl fresh new word (hit current old (value_in held) (sym is ∙ same))))
-          (λ differs. subst (λ (b : Bool). IsStep (at_link n l) p held [] v (Made (record { pass = p; size = size; event = ExchangeLink s l (Compare (comparand current old) (value_in held)); life = 0; kepts = [] })) b t own log) (sym (unequal v (link_word current) differs))
-          (miss_step n l v p size s seen held (a ∷ []) t own log found w.0 w.1 (value_in held) (Compare (comparand current old) (value_in held)) refl fresh (missed current old (value_in held) (λ x. differs (is ∙ x)))))
+    pub may_compare_link : (size new : ℕ) → is_at_most_one held ≡ true → IsNewIn n (value_in held) held → new ≡ link_word (value_in held)
+        → (allowed : List ℕ) → IsPairAllowed allowed p l current (value_in held)
+        → MayStepFor allowed [] (at_link n l) p seen held (a ∷ b ∷ []) [] (after_exchange (link_word current) new) (λ v log. Made (record { pass = p; size = size; event = ExchangeLink s l (Compare current (value_in held)); life = 0; kepts = [] })) (λ v. v == link_word current)
+    may_compare_link size new one fresh word allowed pair = (all_blocks held one, step)
+      where
+        step : (v : ℕ) (t : At) (own log : List Entry) → FoundAs (at_link n l) v p seen held (a ∷ b ∷ []) t log
+            → IsStepFor allowed [] (at_link n l) p held [] (after_exchange (link_word current) new v) (entry size) (v == link_word current) t own log
+        step v t own log found =
+            let w = within v p held t log (found_first a (b ∷ []) found) in let old : Option ℕ = link_at (after st log) l in let is : v ≡ link_word old = found.shows ∙ ap link_word (same n l v p seen held (a ∷ b ∷ []) t log found) in
+            kit.exchanged v (link_word current) new (λ x. IsStepFor allowed [] (at_link n l) p held [] x (entry size) (v == link_word current) t own log)
+            (λ seen_there. let at : old ≡ current = is_current v t log found seen_there in
+            subst (λ (c : Bool). IsStepFor allowed [] (at_link n l) p held [] new (entry size) c t own log) (sym (equal v (link_word current) seen_there))
+            (store_step n l v p size s seen held (a ∷ b ∷ []) t own log found w.0 w.1 (value_in held) exchange refl fresh allowed new word (hit current old (value_in held) at) (subst (λ (o : Option ℕ). IsPairAllowed allowed p l o (value_in held)) (sym at) pair)))
+            (λ differs. subst (λ (c : Bool). IsStepFor allowed [] (at_link n l) p held [] v (entry size) c t own log) (sym (unequal v (link_word current) differs))
+            (miss_step n l v p size s seen held (a ∷ b ∷ []) t own log found w.0 w.1 (value_in held) exchange refl fresh allowed (missed current old (value_in held) (λ x. differs (is ∙ x)))))
 
   -- and where something else is there, finds that
   pub compare_finds : (p size : ℕ) (current : Option ℕ) (held : List (HeldKey Entry)) → IsNewIn n (value_in held) held → (v : ℕ) (t : At) (log : List Entry) → FoundAs (at_link n l) v p seen held (a ∷ []) t log → (v == link_word current) ≡ false → (w : ℕ)
-      → link_at (after st (log ++ Made (record { pass = p; size = size; event = ExchangeLink s l (Compare (comparand current (link_at (after st log) l)) (value_in held)); life = 0; kepts = [] }) ∷ [])) l ≡ Some w
-      → Reader st (log ++ Made (record { pass = p; size = size; event = ExchangeLink s l (Compare (comparand current (link_at (after st log) l)) (value_in held)); life = 0; kepts = [] }) ∷ []) w a
+      → link_at (after st (log ++ Made (record { pass = p; size = size; event = ExchangeLink s l (Compare current (value_in held)); life = 0; kepts = [] }) ∷ [])) l ≡ Some w
+      → Reader st (log ++ Made (record { pass = p; size = size; event = ExchangeLink s l (Compare current (value_in held)); life = 0; kepts = [] }) ∷ []) w a
   compare_finds p size current held fresh v t log found differs w is =
-      let now : State = after st log in let old : Option ℕ = link_at now l in let o : Option ℕ = value_in held in let exchange : Exchange = Compare (comparand current old) o in
-      let e : Deed = record { pass = p; size = size; event = ExchangeLink s l exchange; life = 0; kepts = [] } in let d : State × Answer = (now, Held_ old) in let here = within v p held t log found in
+      let now : State = after st log in let old : Option ℕ = link_at now l in let o : Option ℕ = value_in held in let e : Deed = record { pass = p; size = size; event = ExchangeLink s l (Compare current o); life = 0; kepts = [] } in
+      let d : State × Answer = (now, Held_ old) in let here = within v p held t log found in
       let shows : v ≡ link_word old = found.shows ∙ ap link_word (same n l v p seen held (a ∷ []) t log found) in
       let not_seen : link_word old ≢ link_word current = λ x. absurd (let both : true ≡ false = sym (equal v (link_word current) (shows ∙ x)) ∙ differs in cc) in
-      let does : Does st log (Made e) d = miss_does n l v p size s seen held (a ∷ []) t log log found here.0 here.1 o exchange refl fresh (missed current old o not_seen) in
+      let does : Does st log (Made e) d = miss_does n l v p size s seen held (a ∷ []) t log log found here.0 here.1 o (Compare current o) refl fresh (missed current old o not_seen) in
       let holds : old ≡ Some w = sym (ap (λ (z : State). link_at z l) (after_push st log (Made e) d found.before.legal does)) ∙ is in
       subst (Reader st (log ++ Made e ∷ []) w) here.2 (found_now st log e d s w does (equal s s refl) holds)

@@ -3,7 +3,7 @@ use Rattle.std.proofs.Common.{◌≡◌, ◌≢◌, ℕ, ◌+◌, ◌-◌, ◌<�
 use Rattle.std.specs.Prelude.{slice_index_or}
 use base.Growing.{prefix_trans}
 use mathlib.Core.List.{IsPrefix}
-use Rattle.seize_machine.specs.Machine.State.{Mark, State, are_distinct, has, link_at, linked_values, slot_at}
+use Rattle.seize_machine.specs.Machine.State.{Mark, State, are_distinct, has, linked_values, slot_at}
 use Rattle.seize_machine.specs.Machine.Event.{Event}
 use Rattle.seize_machine.specs.Machine.History.{IsReached, first_or_none}
 use Rattle.seize_machine.specs.Machine.Next.{next}
@@ -64,7 +64,7 @@ pub use Rattle.seize_book.proofs.Facts.{named_lent}
 -- a value that was named stays so, and one that was reclaimed
 pub use Rattle.seize_book.proofs.Facts.{gone_later, named_later}
 -- what was found in a link stands while its activation lasts, and so a won exchange takes out what it takes the link to hold
-pub use Rattle.seize_words.proofs.Standing.{found_later, found_stands, took_current, was_found, word_back}
+pub use Rattle.seize_words.proofs.Standing.{found_later, found_stands, was_found, word_back}
 -- looks, a slot's key, and the walk of its call, in what the key knows later
 pub use Rattle.seize_words.proofs.Traversals.{hand_leaves, handing_named, knows_noted, knows_still, looks_twice, same_key, walk_kept, word_stays}
 use Rattle.seize_words.proofs.Stepped.{life_push}
@@ -227,10 +227,10 @@ note_seen key pass next note marks queue book grows legal distinct marking =
     omega (arith, then_there, more_slots n own pass.seen grows legal)
 
 -- A value that was found in a link was named, as the pass has seen by then.
-module _ (link : Link) (a : Activation) (pass pass' : Pass) (event : Option ℕ → Event) (v w : ℕ) (t : ActsOnLink link a pass pass' event v) (is : held_before t ≡ Some w) where
+module _ (link : Link) (a : Activation) (pass pass' : Pass) (event : Event) (v w : ℕ) (t : ActsOnLink link a pass pass' event v) (is : held_before t ≡ Some w) where
   named_now : has w (after (start pass.name) pass'.seen).named ≡ true
   named_now =
-      let st : State = start pass.name in let noted = t.noted in let e : Entry = Made (private pass (event (link_at (after st t.before) (link_number link)))) in
+      let st : State = start pass.name in let noted = t.noted in let e : Entry = Made (private pass event) in
       let appended : pass'.seen ≡ t.before ++ e ∷ [] = noted.appended ∙ ap (λ (log : List Entry). log ++ e ∷ []) t.is_before in
       let legal = legal_front st t.before e (subst (IsLegalList st) appended noted.legal) in
       let named = (linked_named (after st t.before) (reached_after pass.name t.before noted.distinct legal) (link_number link) w is).0 in
@@ -244,11 +244,11 @@ module _ (link : Link) (a : Activation) (pass pass' : Pass) (event : Option ℕ 
   held_lent = t.noted.lent w (subst (λ (z : State). has w z.named ≡ true) t.noted.leads named_now)
 
 -- so whoever has a glimpse of what the link held knows that it can be seen
-pub glimpse_lent : (link : Link) (a : Activation) (pass pass' : Pass) (event : Option ℕ → Event) (v w : ℕ) (glimpse : Glimpse) (t : ActsOnLink link a pass pass' event v) → glimpse.value ≡ held_before t → glimpse.value ≡ Some w → CarriesOne w
+pub glimpse_lent : (link : Link) (a : Activation) (pass pass' : Pass) (event : Event) (v w : ℕ) (glimpse : Glimpse) (t : ActsOnLink link a pass pass' event v) → glimpse.value ≡ held_before t → glimpse.value ≡ Some w → CarriesOne w
 glimpse_lent link a pass pass' event v w glimpse t its is = held_lent link a pass pass' event v w t (sym its ∙ is)
 
 -- and by which number, where the link's word was not 0: of a read, and of an exchange that was lost
-pub glimpse_found : (link : Link) (a : Activation) (pass pass' : Pass) (event : Option ℕ → Event) (v : ℕ) (glimpse : Glimpse) (t : ActsOnLink link a pass pass' event v) → glimpse.value ≡ held_before t → v ≢ 0
+pub glimpse_found : (link : Link) (a : Activation) (pass pass' : Pass) (event : Event) (v : ℕ) (glimpse : Glimpse) (t : ActsOnLink link a pass pass' event v) → glimpse.value ≡ held_before t → v ≢ 0
     → IsFoundAt glimpse.value (v - 1) pass'
 glimpse_found link a pass pass' event v glimpse t its some = go (held_before t) refl
   where

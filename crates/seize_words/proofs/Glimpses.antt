@@ -26,6 +26,7 @@ use Rattle.seize_book.proofs.Lives.{living}
 use Rattle.seize_book.proofs.Peeks.{sight_laws}
 use Rattle.seize_words.proofs.Sights.{keys_read}
 use Rattle.seize_book.proofs.Loans.{pass_shows}
+use Rattle.seize_words.proofs.Links.{found_first}
 use Rattle.seize_words.proofs.Steps.{Takes, had_then, left_then}
 
 module _ {M : Type 1} {𝓤 : Ura M} (𝓛 : Logic 𝓤) where
@@ -49,7 +50,7 @@ module _ {M : Type 1} {𝓤 : Ura M} (𝓛 : Logic 𝓤) where
   abbrev pub brought : ℕ → ℕ → Pr
   brought a γ = ⟦ ready γ ⟧ ∗ ⟦ flent (a ∷ []) (escrow γ) ⟧
 
-  module _ (site : Site) (pass : Pass) (held : List (HeldKey Entry)) (a : ℕ) (r : Share) (f : ℕ → ℕ) (entry : ℕ → List Entry → Entry) (trades : ℕ → Bool) (γ : ℕ) where
+  module _ (site : Site) (pass : Pass) (held : List (HeldKey Entry)) (a : ℕ) (others : List ℕ) (r : Share) (f : ℕ → ℕ) (entry : ℕ → List Entry → Entry) (trades : ℕ → Bool) (γ : ℕ) where
     abbrev n : Name
     n = site.name
 
@@ -57,13 +58,13 @@ module _ {M : Type 1} {𝓤 : Ura M} (𝓛 : Logic 𝓤) where
     seen_there v t = value_shown (trades v) (link_at (after (start n) t.0) site.number)
 
     abbrev pub had_of : ℕ → At → Fml
-    had_of v t = fsep (living 𝓛 (a ∷ []) r) (taken_share γ (seen_there v t))
+    had_of v t = fsep (living 𝓛 (a ∷ others) r) (taken_share γ (seen_there v t))
 
     abbrev then_ : ℕ → At → List Entry → At
-    then_ v t log = had_then 𝓛 site [] pass.id pass.seen held (a ∷ []) [] r f entry trades v t log
+    then_ v t log = had_then 𝓛 site [] pass.id pass.seen held (a ∷ others) [] r f entry trades v t log
 
     abbrev left : ℕ → At → List Entry → List (HeldKey Entry)
-    left v t log = left_then 𝓛 site [] pass.id pass.seen held (a ∷ []) [] r f entry trades v t log
+    left v t log = left_then 𝓛 site [] pass.id pass.seen held (a ∷ others) [] r f entry trades v t log
 
     abbrev log_of : ℕ → List Entry → List Entry
     log_of v log = log ++ entry v log ∷ []
@@ -78,18 +79,18 @@ module _ {M : Type 1} {𝓤 : Ura M} (𝓛 : Logic 𝓤) where
     Shares v t log b =
         ⟦ reached entry_coded n.log (log_of v log) ⟧ ∗ ⟦ keys_own n (left v t log) ⟧ ∗ ⟦ ready γ ⟧ ∗ ⟦ flent (a ∷ []) (escrow γ) ⟧ ⊢ upd 𝓤 (⟦ keys_own n (left v t log) ⟧ ∗ ⟦ taken_share γ (value_shown b (old v log)) ⟧)
 
-    shares : (link : site.kind ≡ links) → FindsFor site pass held a entry trades → (v : ℕ) (t : At) (log : List Entry) → FoundAs site v pass.id pass.seen held (a ∷ []) t log → AreOtherKeys site (log_of v log) (left v t log)
+    shares : (link : site.kind ≡ links) → FindsFor site pass held a entry trades → (v : ℕ) (t : At) (log : List Entry) → FoundAs site v pass.id pass.seen held (a ∷ others) t log → AreOtherKeys site (log_of v log) (left v t log)
         → (b : Bool) → trades v ≡ b → Shares v t log b
     unfolding Shares
     shares link finds v t log found stands true e = let Z : Pr = ⟦ keys_own n (left v t log) ⟧ ∗ ⟦ ready γ ⟧ in
         qed 𝓛 (‵ (reached entry_coded n.log (log_of v log)) ∷ ‵ (keys_own n (left v t log)) ∷ ‵ (ready γ) ∷ ‵ (flent (a ∷ []) (escrow γ)) ∷ []) ∵ suffices ! _ (upd_i 𝓤 Z) $ keep ! (1 ∷ 2 ∷ []) $ done !
-    shares link finds v t log found stands false e = keys_read 𝓛 n a γ (log_of v log) (old v log) (left v t log) (is_key link v t log stands) (λ w is. finds v t log found e w is)
+    shares link finds v t log found stands false e = keys_read 𝓛 n a γ (log_of v log) (old v log) (left v t log) (is_key link v t log stands) (λ w is. finds v t log (found_first a others found) e w is)
 
-    pub takes : site.kind ≡ links → FindsFor site pass held a entry trades → Takes 𝓛 site [] pass.id pass.seen held (a ∷ []) [] r f entry trades (brought a γ) had_of
+    pub takes : site.kind ≡ links → FindsFor site pass held a entry trades → Takes 𝓛 site [] pass.id pass.seen held (a ∷ others) [] r f entry trades (brought a γ) had_of
     unfolding Shares
     takes link finds v t log found stepped stands = let log' : List Entry = log_of v log in let keys : Fml = keys_own n (left v t log) in let P : Fml = pass_holds n pass.id log' in let o : Option ℕ = seen_there v (then_ v t log) in
         let Z : Pr = ⟦ P ⟧ ∗ ⟦ keys ⟧ ∗ ⟦ had_of v (then_ v t log) ⟧ in
-        qed 𝓛 (‵ P ∷ ‵ keys ∷ ‵ (living 𝓛 (a ∷ []) r) ∷ (‵ (ready γ) ⊛ ‵ (flent (a ∷ []) (escrow γ))) ∷ []) ∵ use1 𝓛 (‵ P ⊛ ‵ (reached entry_coded n.log log')) (pass_shows 𝓛 n pass.id log') $ split ! $
+        qed 𝓛 (‵ P ∷ ‵ keys ∷ ‵ (living 𝓛 (a ∷ others) r) ∷ (‵ (ready γ) ⊛ ‵ (flent (a ∷ []) (escrow γ))) ∷ []) ∵ use1 𝓛 (‵ P ⊛ ‵ (reached entry_coded n.log log')) (pass_shows 𝓛 n pass.id log') $ split ! $
         -- [the pass; the list; the keys; the token; the escrow and the right to it]
         move ! (4 ∷ []) $ split ! $ move ! (3 ∷ 4 ∷ 0 ∷ 1 ∷ []) $ group ! 4 $ use1 𝓛 (raw (upd 𝓤 (⟦ keys ⟧ ∗ ⟦ taken_share γ o ⟧))) (shares link finds v t log found stands (trades v) refl) $
         settle 𝓛 Z (‵ keys ⊛ ‵ (taken_share γ o)) $ suffices ! _ (upd_i 𝓤 Z) $ split ! $

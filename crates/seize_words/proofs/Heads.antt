@@ -30,6 +30,7 @@ use Rattle.seize_words.specs.Stepping.{EndsAmong, FoundAs, IsStep, MayStep, in_s
 use Rattle.seize_book.specs.Tokens.{Name, start}
 use Rattle.seize_words.specs.Words.{Site}
 use Rattle.seize_book.proofs.Lives.{legal_first, life_kept}
+use Rattle.seize_book.proofs.Pairs.{needs_none}
 use Rattle.seize_book.proofs.Facts.{equal, unequal, after_push, legal_push, reached_after, AllLess, block_stays, blocks_stay, head_stays, legal_prefix, plan_stays, plans_long, saw_there, tried_there, differ, only_is, makes_none, no_place, no_labels, none_named, says_none}
 
 abbrev pub at_head : Name → ℕ → Site
@@ -113,6 +114,7 @@ module _ (n : Name) (m : ℕ) where
       its = pe;
       bears = t.births (after st log);
       ends = ends;
+      covered = needs_none (after st log) e t.link;
       shows = shows;
       stands = refl;
     }

@@ -13,11 +13,13 @@ pub mod Walked
 pub mod Makes
 pub mod Taken
 pub mod Links
+pub mod Permitted
 pub mod LinkSites
 pub mod Stands
 pub mod LinkRows
 pub mod Noted
 pub mod Joined
+pub mod Lasted
 pub mod Exchanges
 pub mod Exchanged
 pub mod Units
@@ -28,3 +30,4 @@ pub mod Traversals
 pub mod Sights
 pub mod Glimpses
 pub mod Contents
+pub mod Keeping

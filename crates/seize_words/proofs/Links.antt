@@ -14,12 +14,27 @@ use Rattle.seize_book.specs.Entry.{Entry, Made}
 use Rattle.seize_book.specs.Fair.{Covers, IsLabel, NamesHeld, NamesLabels, pass_key}
 use Rattle.seize_book.specs.Ledger.{HeldKey, HoldersKnow, AllThere, Beside, with_list}
 use Rattle.seize_book.specs.Homes.{HasOne, IsVacant, home_of, is_home}
-use Rattle.seize_words.specs.Links.{at_link, IsNewIn}
-use Rattle.seize_words.specs.Stepping.{FoundAs, IsStep, in_step}
+use Rattle.seize_book.specs.Pairs.{AreCovered, unless_first, pair_if}
+use Rattle.seize_words.specs.Links.{at_link, IsNewIn, IsPairAllowed}
+use Rattle.seize_book.specs.Laws.{IsAmong}
+use Rattle.seize_words.specs.Stepping.{FoundAs, HasSteppedWith, IsStep, IsStepFor, in_step}
 use Rattle.seize_book.specs.Loans.{CarriesOne}
 use Rattle.seize_book.specs.Tokens.{Name, start}
-use Rattle.seize_words.specs.Words.{IsKeyOf}
+use Rattle.seize_words.specs.Words.{IsKeyOf, Site}
 use Rattle.seize_book.proofs.Facts.{after_push, differ, new_named, old_named, pushed, vacant_later}
+
+-- what is found while several activations last is found while the first does
+pub among_first : (a b : ℕ) (others : List ℕ) → IsAmong (a ∷ []) b → IsAmong (a ∷ others) b
+among_first a b others (inl is) = inl is
+among_first a b others (inr none) = absurd none
+
+abbrev pub found_first : (a : ℕ) (others : List ℕ) {site : Site} {v p : ℕ} {seen : List Entry} {held : List (HeldKey Entry)} {t : List Entry × List (HeldKey Entry)} {log : List Entry} → FoundAs site v p seen held (a ∷ others) t log → FoundAs site v p seen held (a ∷ []) t log
+found_first a others found = record { shows = found.shows; stands = found.stands; before = found.before; none_ended = λ b among. found.none_ended b (among_first a b others among); distinct = found.distinct }
+
+-- and so is what is known after a step
+abbrev pub stepped_first : (a : ℕ) (others : List ℕ) {births : List (ℕ × ℕ)} {site : Site} {p : ℕ} {seen seen' : List Entry} {held held' : List (HeldKey Entry)} {v w : ℕ} {entry : ℕ → List Entry → Entry} {trades : ℕ → Bool}
+    → HasSteppedWith births site p seen seen' held held' (a ∷ others) v w entry trades → HasSteppedWith births site p seen seen' held held' (a ∷ []) v w entry trades
+stepped_first a others stepped = record { log = stepped.log; noted = stepped.noted; is_log = stepped.is_log; since = stepped.since; found = found_first a others stepped.found; left = stepped.left; keys = stepped.keys }
 
 -- the keys of what a link holds, later
 pub key_later : (o : Option ℕ) (vs : List (HeldKey Entry)) (log : List Entry) → IsKeyOf o vs → IsKeyOf o (with_list vs log)
@@ -103,6 +118,11 @@ label_beside : (vs held : List (HeldKey Entry)) (u : ℕ) → IsLabel held u →
 label_beside [] held u is = is
 label_beside (x ∷ vs) held u is = inr (label_beside vs held u is)
 
+-- an exchange that is lost makes no pair
+none_bound : (ks : List ℕ) (p : ℕ) → AreCovered ks (unless_first p [])
+none_bound ks zero = tt
+none_bound ks (suc p) = tt
+
 module _ (n : Name) (l : ℕ) where
   abbrev st : State
   st = start n
@@ -132,6 +152,7 @@ module _ (n : Name) (l : ℕ) where
           its = refl;
           bears = refl;
           ends = λ a i. absurd i;
+          covered = tt;
           shows = found.shows ∙ ap link_word is;
           stands = subst (λ (o : Option ℕ). IsKeyOf o (with_list t.1 (log ++ reads ∷ []))) is (key_later (link_at (after st t.0) l) t.1 (log ++ reads ∷ []) found.stands);
         }
@@ -200,9 +221,9 @@ module _ (n : Name) (l : ℕ) where
           ⊎_elim (λ is. inr (inr (inr (label_beside t.1 held u (label_here held w u new.0 is))), subst CarriesOne (sym is) new.3)) (λ was. inl was) (pushed w now.named u named)
 
       -- it stores the value
-      pub store_step : (w : ℕ) → w ≡ link_word o → is_stored (link_at now l) exchange ≡ true
-          → IsStep (at_link n l) p held [] w (Made (record { pass = p; size = size; event = ExchangeLink s l exchange; life = 0; kepts = [] })) true t own log
-      store_step w word stored =
+      pub store_step : (allowed : List ℕ) (w : ℕ) → w ≡ link_word o → is_stored (link_at now l) exchange ≡ true → IsPairAllowed allowed p l (link_at now l) o
+          → IsStepFor allowed [] (at_link n l) p held [] w (Made (record { pass = p; size = size; event = ExchangeLink s l exchange; life = 0; kepts = [] })) true t own log
+      store_step allowed w word stored pair =
           let d : State × Answer = (swapped now l o, Held_ (link_at now l)) in
           let step : Step size now (ExchangeLink s l exchange) d = Step.exchanged s l exchange o (legal_link now s l on within) fresh (sym for, stored) in
           let does : Does st log exchanges d = next_of size now (ExchangeLink s l exchange) d step in
@@ -212,6 +233,7 @@ module _ (n : Name) (l : ℕ) where
             its = refl;
             bears = refl;
             ends = λ a i. absurd i;
+            covered = subst (AreCovered allowed) (λ j. unless_first p (pair_if (sym stored j) l (link_at now l) (sym for j))) pair;
             shows = word ∙ ap link_word (sym is);
             stands = subst (λ (x : Option ℕ). IsKeyOf x (with_list held (log ++ exchanges ∷ []))) (sym is) (key_later o held (log ++ exchanges ∷ []) (is_key n o held new));
           }
@@ -221,9 +243,9 @@ module _ (n : Name) (l : ℕ) where
       miss_does stored =
           next_of size now (ExchangeLink s l exchange) (now, Held_ (link_at now l)) (Step.compared s l exchange (legal_link now s l on within) (ap (is_none_or_fresh now) for ∙ fresh, stored))
 
-      pub miss_step : is_stored (link_at now l) exchange ≡ false
-          → IsStep (at_link n l) p held [] v (Made (record { pass = p; size = size; event = ExchangeLink s l exchange; life = 0; kepts = [] })) false t own log
-      miss_step stored =
+      pub miss_step : (allowed : List ℕ) → is_stored (link_at now l) exchange ≡ false
+          → IsStepFor allowed [] (at_link n l) p held [] v (Made (record { pass = p; size = size; event = ExchangeLink s l exchange; life = 0; kepts = [] })) false t own log
+      miss_step allowed stored =
           let d : State × Answer = (now, Held_ (link_at now l)) in
           let does : Does st log exchanges d = miss_does stored in
           let is : link_at (after st t.0) l ≡ link_at (after st (log ++ exchanges ∷ [])) l = same v p seen held alive t log found ∙ sym (ap (λ (z : State). link_at z l) (after_push st log exchanges d found.before.legal does)) in
@@ -232,6 +254,7 @@ module _ (n : Name) (l : ℕ) where
             its = refl;
             bears = refl;
             ends = λ a i. absurd i;
+            covered = subst (AreCovered allowed) (λ j. unless_first p (pair_if (sym stored j) l (link_at now l) (new_link exchange))) (none_bound allowed p);
             shows = found.shows ∙ ap link_word is;
             stands = subst (λ (x : Option ℕ). IsKeyOf x (with_list t.1 (log ++ exchanges ∷ []))) is (key_later (link_at (after st t.0) l) t.1 (log ++ exchanges ∷ []) found.stands);
           }

@@ -176,6 +176,7 @@ module _ (n : Name) (a b : List (HeldKey Entry)) where
             its = refl;
             bears = bears_now log is;
             ends = λ x in_. absurd in_;
+            covered = tt;
             shows = plus_one v s (was ∙ same ∙ sym is.many) may.few ∙ sym (one_more log before.legal is);
             stands = refl;
           }

@@ -1,24 +1,22 @@
--- What was found in a link stands while an activation lasts in which it was found; so a won exchange that takes the link to hold a value
--- which was found, in an activation that lasts, has taken out that very value.
-use Rattle.std.proofs.Common.{◌≡◌, ℕ, zero, suc, ◌+◌, ◌-◌, ◌%◌, ◌^◌, ◌<◌, true, List, [], ◌∷◌, ◌++◌, Option, None, Some, refl, sym, ap, ◌∙◌, subst, arith}
+-- What was found in a link stands while an activation lasts in which it was found.
+use Rattle.std.proofs.Common.{◌≡◌, ℕ, zero, suc, ◌%◌, ◌^◌, ◌<◌, true, false, List, [], ◌∷◌, ◌++◌, Option, Some, refl, sym, ap, ◌∙◌, subst, arith}
 use mathlib.Core.List.{IsPrefix}
-use Rattle.seize_machine.specs.Machine.State.{State, are_distinct, link_at, linked_values}
+use Rattle.seize_machine.specs.Machine.State.{State, are_distinct, has, link_at, linked_values}
 use Rattle.seize_machine.specs.Machine.Event.{Event}
 use Rattle.seize_machine.specs.Machine.History.{is_link_event, linked_value}
 use Rattle.seize_machine.specs.declared.machine.event.Answer.{Answer}
 use Rattle.seize_machine.proofs.Facts.{Step, step_of}
 use Rattle.seize_book.specs.Adding.{private}
-use Rattle.seize_book.specs.Blocks.{block_number, link_word}
+use Rattle.seize_book.specs.Blocks.{link_word}
 use Rattle.seize_book.specs.Book.{Does, IsLegalList, after}
 use Rattle.seize_book.specs.Entry.{Deed, Entry, Made}
 use Rattle.seize_book.specs.Laws.{Reader, life}
 use Rattle.seize_book.specs.Tokens.{Name, start}
-use Rattle.seize_book.specs.Passes.{LooksOn}
 use Rattle.seize_book.proofs.Facts.{equal, reached_after}
-use Rattle.seize_book.proofs.Loans.{found_named, found_now, reader_later}
+use Rattle.seize_book.proofs.Loans.{found_now, reader_later}
 use Rattle.seize_book.proofs.Facts as facts
 use Rattle.seize_words.specs.Activations.{IsLasting}
-use Rattle.seize_words.specs.Chunks.{IsLiveAt}
+use Rattle.seize_book.specs.Homesteads.{state_seen}
 use Rattle.seize_words.specs.LinkWords.{ActsOnLink, IsStepOn, WasFound, held_before, link_number}
 use Rattle.seize_words.specs.Links.{value_with}
 use Rattle.seize_words.specs.declared.activation.Activation.{Activation}
@@ -33,13 +31,13 @@ answers s l size st _ _ (Step.compared i k exchange can exact) on = (equal i s o
 answers s l size st _ _ _ on = absurd (on)
 
 -- so whoever makes it finds that
-pub was_found : (link : Link) (a : Activation) (pass pass' : Pass) (event : Option ℕ → Event) (v w : ℕ) (t : ActsOnLink link a pass pass' event v) → ((o : Option ℕ) → IsStepOn a.slot (link_number link) (event o)) → held_before t ≡ Some w → WasFound a w pass'
+pub was_found : (link : Link) (a : Activation) (pass pass' : Pass) (event : Event) (v w : ℕ) (t : ActsOnLink link a pass pass' event v) → IsStepOn a.slot (link_number link) event → held_before t ≡ Some w → WasFound a w pass'
 was_found link a pass pass' event v w t on is =
     let st : State = start pass.name in let noted = t.noted in let log : List Entry = t.before in let old : Option ℕ = link_at (after st log) (link_number link) in
-    let e : Deed = private pass (event old) in let d : State × Answer = (noted.later, noted.answer) in
+    let e : Deed = private pass event in let d : State × Answer = (noted.later, noted.answer) in
     let does : Does st log (Made e) d = subst (λ (l : List Entry). Does st l (Made e) d) t.is_before noted.does in
     let appended : pass'.seen ≡ log ++ Made e ∷ [] = noted.appended ∙ ap (λ (l : List Entry). l ++ Made e ∷ []) t.is_before in
-    let told = answers a.slot (link_number link) e.size (after st log) (event old) d (step_of _ _ _ _ does) (on old) in
+    let told = answers a.slot (link_number link) e.size (after st log) event d (step_of _ _ _ _ does) on in
     subst (λ (n : Name). Reader (start n) pass'.seen w a.life) (sym t.same.0)
     (subst (Reader st pass'.seen w) t.during.1 (subst (λ (l : List Entry). Reader st l w (life a.slot log)) (sym appended) (found_now st log e d a.slot w does told.0 (told.1 ∙ is))))
 
@@ -49,34 +47,10 @@ found_later a v pass pass' name grows found =
     subst (λ (n : Name). Reader (start n) pass'.seen v a.life) (sym name) (reader_later (start pass.name) pass.seen pass'.seen v a.life grows found)
 
 -- It stands where the activation has not ended, as a pass that looks at the list knows.
-pub found_stands : (a : Activation) (v : ℕ) (pass : Pass) → are_distinct (linked_values pass.name.links) ≡ true → IsLegalList (start pass.name) pass.seen → IsLasting a pass → WasFound a v pass → IsLiveAt v (block_number v) pass
-found_stands a v pass distinct legal lasts found = (
-  found_named (start pass.name) pass.seen found.1 v found.0 (reached_after pass.name [] distinct refl) legal found.2,
-  facts.found_stands pass.name pass.seen distinct legal v a.life found lasts,
-  refl,
-)
+pub found_stands : (a : Activation) (v : ℕ) (pass : Pass) → are_distinct (linked_values pass.name.links) ≡ true → IsLegalList (start pass.name) pass.seen → IsLasting a pass → WasFound a v pass → has v (state_seen pass).gone ≡ false
+found_stands a v pass distinct legal lasts found = facts.found_stands pass.name pass.seen distinct legal v a.life found lasts
 
 -- Each word of a link is that of a value, or of none.
 pub word_back : (w : ℕ) → w < 2 ^ 64 → link_word (value_with w) ≡ w
 word_back zero fits = refl
 word_back (suc w) fits = let small : w % 2 ^ 64 ≡ w = omega (arith, fits) in omega (arith, small)
-
--- Two options of values are one where they have one word, and values among them that have one number are one.
-pub one_by_word : (o p : Option ℕ) → link_word o ≡ link_word p → ((v w : ℕ) → o ≡ Some v → p ≡ Some w → block_number v ≡ block_number w → v ≡ w) → o ≡ p
-one_by_word None None same one = refl
-one_by_word None (Some w) same one = absurd (let e : 0 ≡ block_number w + 1 = same in omega (arith, e))
-one_by_word (Some v) None same one = absurd (let e : block_number v + 1 ≡ 0 = same in omega (arith, e))
-one_by_word (Some v) (Some w) same one = ap Some (one v w refl refl (let e : block_number v + 1 ≡ block_number w + 1 = same in omega (arith, e)))
-
--- So a won exchange that takes the link to hold what was found, in an activation that lasts, has taken out that: both stand, as a pass knows
--- that looks at the list afterwards, and so they are one (`Blocks::same`).
-pub took_current : (link : Link) (a found : Activation) (pass pass' later : Pass) (event : Option ℕ → Event) (v : ℕ) (current : Option ℕ) (t : ActsOnLink link a pass pass' event v) → ((o : Option ℕ) → IsStepOn a.slot (link_number link) (event o))
-    → v ≡ link_word current → ((w : ℕ) → current ≡ Some w → WasFound found w pass') → LooksOn pass' later → IsLasting a later → IsLasting found later
-    → ((x y : ℕ) → IsLiveAt x (v - 1) later → IsLiveAt y (v - 1) later → x ≡ y) → held_before t ≡ current
-took_current link a found pass pass' later event v current t on won seen looks lasts still one =
-    one_by_word (held_before t) current (sym t.found ∙ won) (λ x y is is' numbers.
-    let stands = λ (b : Activation) (z : ℕ) (lasting : IsLasting b later) (f : WasFound b z pass'). found_stands b z later (ap (λ (n : Name). are_distinct (linked_values n.links)) looks.same.0 ∙ looks.distinct) (subst (λ (n : Name). IsLegalList (start n) later.seen) (sym looks.same.0) looks.legal) lasting
-    (found_later b z pass' later looks.same.0 looks.grows f) in
-    let word : v ≡ block_number x + 1 = t.found ∙ ap link_word is in
-    let old = stands a x lasts (was_found link a pass pass' event v x t on is) in let new = stands found y still (seen y is') in
-    one x y (old.0, old.1, omega (arith, word)) (new.0, new.1, omega (arith, word, numbers)))

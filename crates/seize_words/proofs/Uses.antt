@@ -83,6 +83,7 @@ module _ (n : Name) (f : ℕ) where
       its = refl;
       bears = refl;
       ends = λ a i. absurd i;
+      covered = tt;
       shows = shows;
       stands = refl;
     }

@@ -7,7 +7,9 @@
 --     MayTakeStepIn, TakesStepIn        the same where the activation has not ended
 --     MayTakeStepWith, TakesStepWith    the same where the step makes keys
 --     FindsFor                      where a step on a link doesn't trade, who makes it finds what the link holds then, in this activation
---     MaySeeIn, SeesIn              it takes a share of what is lent with that, in the same step
+--     MayTakeStepFor                the same while these activations last, with a permit that covers the pair of a link's exchange
+--     SeesFor                       it takes a share of what is lent with that, in the same step;  MaySeeIn, SeesIn   so in one activation
+--     MayExchangeIn, ExchangesIn    so does an exchange that compares; the activation lasts too in which was found what it compares with
 --     MayLookAtWord word keys pass     they are of one book;  LooksAtWord word keys pass keys' pass' v     see LooksAt
 --     site_of keys, IsWordOf keys bits     which word the keys are of;  a word that holds this stands for what they know
 use Rattle.std.specs.Prelude.{◌≡◌, ℕ, ◌+◌, ◌-◌, ◌%◌, ◌^◌, Bool, false, List, [], ◌∷◌, ◌++◌, drop, Some}
@@ -22,13 +24,15 @@ use Rattle.seize_book.specs.Laws.{Reader}
 use Rattle.seize_book.specs.Ledger.{HeldKey, WithKinds}
 use Rattle.seize_book.specs.Private.{key_of, own_of}
 use Rattle.seize_book.specs.Passes.{IsSamePass}
-use Rattle.seize_words.specs.Stepping.{At, Births, FoundAs, HasSteppedWith, LooksAt, MayStepWith}
+use Rattle.seize_words.specs.Stepping.{At, Births, FoundAs, HasSteppedWith, LooksAt, MayStepFor, MayStepWith}
 use Rattle.seize_book.specs.Tokens.{start}
 use Rattle.seize_words.specs.Words.{Site, ShowsWord, AreOtherKeys, site_keys}
 use Rattle.seize_words.specs.declared.activation.Activation.{Activation}
 use Rattle.seize_book.specs.declared.book.keys.Keys.{Keys}
 use Rattle.seize_book.specs.declared.book.pass.Pass.{Pass}
+use Rattle.seize_book.specs.declared.book.permit.Permit.{Permit}
 use Rattle.seize_words.specs.declared.glimpse.Glimpse.{Glimpse}
+use Rattle.seize_words.specs.declared.lasting.Lasting.{Lasting}
 
 abbrev pub after_exchange : ℕ → ℕ → ℕ → ℕ
 after_exchange seen new v = either (eqb v seen) new v
@@ -68,10 +72,15 @@ MayTakeStep = MayTakeStepWith []
 abbrev pub TakesStep : Site → Keys → Pass → Keys → Pass → List ℕ → (ℕ → ℕ) → ℕ → Entries → (ℕ → Bool) → Type 0
 TakesStep = TakesStepWith []
 
--- the same where the activation has not ended
+-- the same where activations have not ended, with a permit that covers what the step exchanges
 
-abbrev pub MayTakeStepIn : Site → Keys → Pass → Activation → (ℕ → ℕ) → Entries → (ℕ → Bool) → Type 0
-MayTakeStepIn word keys pass activation f entry trades = MayTakeStep word keys pass (activation.life ∷ []) [] f entry trades
+abbrev pub MayTakeStepFor : Site → Keys → Pass → List ℕ → Permit → (ℕ → ℕ) → Entries → (ℕ → Bool) → Type 0
+MayTakeStepFor word keys pass alive permit f entry trades =
+    (word.name ≡ pass.name) × (keys.name ≡ pass.name) × (permit.list ≡ pass.name.pairs)
+    × MayStepFor permit.codes [] word pass.id pass.seen keys.held alive [] f entry trades
+
+abbrev pub MayTakeStepIn : Site → Keys → Pass → Activation → Permit → (ℕ → ℕ) → Entries → (ℕ → Bool) → Type 0
+MayTakeStepIn word keys pass activation = MayTakeStepFor word keys pass (activation.life ∷ [])
 
 abbrev pub TakesStepIn : Site → Keys → Pass → Keys → Pass → Activation → (ℕ → ℕ) → ℕ → Entries → (ℕ → Bool) → Type 0
 TakesStepIn word keys pass keys' pass' activation f v entry trades =
@@ -87,12 +96,24 @@ FindsFor word pass held life entry trades =
 
 abbrev pub MaySeeIn : Site → Keys → Pass → Activation → (ℕ → ℕ) → Entries → (ℕ → Bool) → Type 0
 MaySeeIn word keys pass activation f entry trades =
-    (word.kind ≡ links) × MayTakeStepIn word keys pass activation f entry trades × FindsFor word pass keys.held activation.life entry trades
+    (word.kind ≡ links) × MayTakeStep word keys pass (activation.life ∷ []) [] f entry trades
+    × FindsFor word pass keys.held activation.life entry trades
+
+abbrev pub MayExchangeIn : Site → Keys → Pass → Activation → Permit → Lasting → (ℕ → ℕ) → Entries → (ℕ → Bool) → Type 0
+MayExchangeIn word keys pass activation permit lasting f entry trades =
+    (word.kind ≡ links) × MayTakeStepFor word keys pass (activation.life ∷ lasting.life ∷ []) permit f entry trades
+    × FindsFor word pass keys.held activation.life entry trades
+
+abbrev pub SeesFor : Site → Keys → Pass → Keys → Pass → List ℕ → (ℕ → ℕ) → ℕ × Glimpse → Entries → (ℕ → Bool) → Type 0
+SeesFor word keys pass keys' pass' alive f found entry trades =
+    TakesStep word keys pass keys' pass' alive f found.0 entry trades
+    × (found.1.value ≡ value_shown (trades found.0) (link_at (after (start word.name) pass'.seen) word.number))
 
 abbrev pub SeesIn : Site → Keys → Pass → Keys → Pass → Activation → (ℕ → ℕ) → ℕ × Glimpse → Entries → (ℕ → Bool) → Type 0
-SeesIn word keys pass keys' pass' activation f found entry trades =
-    TakesStepIn word keys pass keys' pass' activation f found.0 entry trades
-    × (found.1.value ≡ value_shown (trades found.0) (link_at (after (start word.name) pass'.seen) word.number))
+SeesIn word keys pass keys' pass' activation = SeesFor word keys pass keys' pass' (activation.life ∷ [])
+
+abbrev pub ExchangesIn : Site → Keys → Pass → Keys → Pass → Activation → Lasting → (ℕ → ℕ) → ℕ × Glimpse → Entries → (ℕ → Bool) → Type 0
+ExchangesIn word keys pass keys' pass' activation lasting = SeesFor word keys pass keys' pass' (activation.life ∷ lasting.life ∷ [])
 
 -- a look, which adds nothing
 

@@ -17,10 +17,9 @@
 --     LendsIn blocks key number g       the key is for a value that was never named, by this number, and a value of code g is lent with it
 --     IsFoundAt o number pass           it is a value, which was named, as the pass has seen, by this number, and something is lent with it
 --     IsFoundAs o g                     it is a value, and one of code g is lent with it
---     IsLiveAt v number pass            v was named and not reclaimed, as the pass has seen, and this is its number
 --     IsHeaderOf header number pass     it is of the pass's book, and each value with this number that was ever named lies in its block,
 --                                       with its cell
-use Rattle.std.specs.Prelude.{◌≡◌, ℕ, ◌+◌, ◌<◌, ◌^◌, Option, Some, false, true}
+use Rattle.std.specs.Prelude.{◌≡◌, ℕ, ◌+◌, ◌<◌, ◌^◌, Option, Some, true}
 use base.Stored.{Gv}
 use Rattle.seize_machine.specs.Machine.State.{has}
 use Rattle.seize_store.specs.Named.{AreOfStore, bare_content, bare_label, bare_number, bare_store, bare_value, hollow_content, hollow_label, hollow_number, hollow_store}
@@ -124,9 +123,6 @@ pub record IsFoundAt (o : Option ℕ) (number : ℕ) (pass : Pass) : Type 0 wher
   pub named : has value (state_seen pass).named ≡ true
   pub numbered : block_number value ≡ number
   pub lent : CarriesOne value
-
-abbrev pub IsLiveAt : ℕ → ℕ → Pass → Type 0
-IsLiveAt v number pass = (has v (state_seen pass).named ≡ true) × (has v (state_seen pass).gone ≡ false) × (block_number v ≡ number)
 
 abbrev pub IsFoundAs : Option ℕ → Gv → Type 0
 IsFoundAs o g = (v : ℕ) × (o ≡ Some v) × IsLentAs v g

@@ -22,3 +22,5 @@ pub mod Walks
 pub mod Named
 pub mod Rows
 pub mod Joined
+pub mod Lasted
+pub mod Lasts

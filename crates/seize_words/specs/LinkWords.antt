@@ -6,6 +6,8 @@
 --                                      book's
 --     IsNewFor link key new       the key is that of a value that was never named, whose block is vacant, and with which something is lent;
 --                                 or none; this is its word
+--     IsPermittedSwap, IsPermittedExchange    the permit covers what the exchange does to the link
+--     WasFoundIn lasting o pass   where o is a value, it was found in a link in the activation that lasts, as the pass has seen
 --     IsLoose key                 the value was named, and it is loose, as its key knows
 --     HasNextLink left, IsNext left link left'     a link is left to make;  it was made
 --     ActsOnLink                  the event was made with the pass, during the activation;  IsDuring activation name list
@@ -25,7 +27,7 @@ use Rattle.seize_book.specs.Book.{after}
 use Rattle.seize_book.specs.Entry.{Entry, Made}
 use Rattle.seize_book.specs.Laws.{IsAmong, Reader, ended_lives, life}
 use Rattle.seize_book.specs.Ledger.{with_list}
-use Rattle.seize_words.specs.Links.{IsNewIn, IsWithin, comparand, value_in}
+use Rattle.seize_words.specs.Links.{IsNewIn, IsPairAllowed, IsWithin, value_in}
 use Rattle.seize_book.specs.Others.{state_of}
 use Rattle.seize_book.specs.Passes.{IsSamePass, LooksOn}
 use Rattle.seize_book.specs.Private.{key_of}
@@ -33,8 +35,10 @@ use Rattle.seize_book.specs.Tokens.{AddsEntry, Name, start}
 use Rattle.seize_words.specs.declared.activation.Activation.{Activation}
 use Rattle.seize_book.specs.declared.book.link_keys.LinkKeys.{LinkKeys}
 use Rattle.seize_book.specs.declared.book.pass.Pass.{Pass}
+use Rattle.seize_book.specs.declared.book.permit.Permit.{Permit}
 use Rattle.seize_book.specs.declared.book.value_key.ValueKey.{ValueKey}
 use Rattle.seize_words.specs.declared.glimpse.Glimpse.{Glimpse}
+use Rattle.seize_words.specs.declared.lasting.Lasting.{Lasting}
 use Rattle.seize_words.specs.declared.link.Link.{Link}
 use Rattle.seize_words.specs.declared.link.MaybeKey.{MaybeKey}
 
@@ -61,6 +65,24 @@ abbrev pub IsNewFor : Link → MaybeKey → ℕ → Type 0
 IsNewFor link key new =
     (key.keys.name ≡ link_book link) × IsNewIn (link_book link) (value_held key) key.keys.held × (new ≡ link_word (value_held key))
 
+abbrev pub WasFound : Activation → ℕ → Pass → Type 0
+WasFound a v pass = Reader (start pass.name) pass.seen v a.life
+
+-- Where threads may exchange links beside each other, what is put in may follow what the link holds: the permit covers it whatever that is;
+abbrev pub IsPermittedSwap : ℕ → MaybeKey → Pass → Permit → Type 0
+IsPermittedSwap l key pass permit =
+    (permit.list ≡ pass.name.pairs)
+    × ((old : Option ℕ) → IsPairAllowed permit.codes pass.id l old (value_held key))
+
+-- and of an exchange that compares, where it holds what the caller takes it to hold
+abbrev pub IsPermittedExchange : ℕ → MaybeKey → Pass → Option ℕ → Permit → Type 0
+IsPermittedExchange l key pass current permit =
+    (permit.list ≡ pass.name.pairs) × IsPairAllowed permit.codes pass.id l current (value_held key)
+
+-- that was found in an activation which lasts
+abbrev pub WasFoundIn : Lasting → Option ℕ → Pass → Type 0
+WasFoundIn lasting o pass = (v : ℕ) → o ≡ Some v → Reader (start pass.name) pass.seen v lasting.life
+
 abbrev pub IsSomeKey : MaybeKey → Type 0
 IsSomeKey key = is_some (value_held key) ≡ true
 
@@ -70,18 +92,16 @@ IsDuring a n list =
     (is_active (head_at (after (start n) list) a.slot) ≡ true) × (life a.slot list ≡ a.life) × ¬ (IsAmong (ended_lives list) a.life)
 
 -- The pass added the event, during the activation, where the link held this, and this was its word.
-pub record ActsOnLink (link : Link) (a : Activation) (pass pass' : Pass) (event : Option ℕ → Event) (v : ℕ) : Type 0 where
+pub record ActsOnLink (link : Link) (a : Activation) (pass pass' : Pass) (event : Event) (v : ℕ) : Type 0 where
   pub same : IsSamePass pass pass'
   pub before : List Entry
-  pub noted
-      : AddsEntry pass.name pass.id pass.seen pass'.seen
-      (Made (private pass (event (link_at (after (start pass.name) before) (link_number link)))))
+  pub noted : AddsEntry pass.name pass.id pass.seen pass'.seen (Made (private pass event))
   pub is_before : noted.before ≡ before
   pub during : IsDuring a pass.name before
   pub found : v ≡ link_word (link_at (after (start pass.name) before) (link_number link))
 
 -- what the link held
-abbrev pub held_before : {link : Link} {a : Activation} {pass pass' : Pass} {event : Option ℕ → Event} {v : ℕ}
+abbrev pub held_before : {link : Link} {a : Activation} {pass pass' : Pass} {event : Event} {v : ℕ}
     → ActsOnLink link a pass pass' event v → Option ℕ
 held_before {link} {a} {pass} t = link_at (after (start pass.name) t.before) (link_number link)
 
@@ -90,11 +110,8 @@ IsStepOn s l (ReadLink i k) = (i ≡ s) × (k ≡ l)
 IsStepOn s l (ExchangeLink i k exchange) = (i ≡ s) × (k ≡ l)
 IsStepOn s l _ = ⊥
 
-abbrev pub WasFound : Activation → ℕ → Pass → Type 0
-WasFound a v pass = Reader (start pass.name) pass.seen v a.life
-
 abbrev pub Reads : Link → Activation → Pass → Pass → ℕ → Type 0
-Reads link activation pass pass' v = ActsOnLink link activation pass pass' (λ _. ReadLink activation.slot (link_number link)) v
+Reads link activation pass pass' v = ActsOnLink link activation pass pass' (ReadLink activation.slot (link_number link)) v
 
 abbrev pub Sees : Link → Activation → Pass → Pass → ℕ → Glimpse → Type 0
 Sees link activation pass pass' v glimpse = (t : Reads link activation pass pass' v) × (glimpse.value ≡ held_before t)
@@ -118,16 +135,16 @@ IsLoose key =
 -- the key of what the link held came out
 abbrev pub Swaps : Link → Activation → MaybeKey → Pass → MaybeKey → Pass → ℕ → Type 0
 Swaps link activation key pass key' pass' v =
-    (t : ActsOnLink link activation pass pass' (λ _. ExchangeLink activation.slot (link_number link) (Swap (value_held key))) v)
+    (t : ActsOnLink link activation pass pass' (ExchangeLink activation.slot (link_number link) (Swap (value_held key))) v)
     × (key'.keys.name ≡ key.keys.name) × (value_held key' ≡ held_before t) × IsLoose key' × KnowsAll key' pass'
 
--- and here where it was what was seen; else it is the same key, its value may be named still, and the glimpse is of what the link held
+-- and here where that is what was taken to be there; else it is the same key, its value may be named still, and the glimpse is of what the
+-- link held
 abbrev pub CompareExchanges : Link → Activation → MaybeKey → Pass → Option ℕ → MaybeKey → Pass → ℕ → Glimpse → Type 0
 CompareExchanges link activation key pass current key' pass' v glimpse =
-    (t : ActsOnLink link activation pass pass' (λ old.
-    ExchangeLink activation.slot (link_number link) (Compare (comparand current old) (value_held key))) v)
+    (t : ActsOnLink link activation pass pass' (ExchangeLink activation.slot (link_number link) (Compare current (value_held key))) v)
     × (key'.keys.name ≡ key.keys.name)
-    × (v ≡ link_word current → (value_held key' ≡ held_before t) × IsLoose key' × (glimpse.value ≡ None))
+    × (v ≡ link_word current → (held_before t ≡ current) × (value_held key' ≡ held_before t) × IsLoose key' × (glimpse.value ≡ None))
     × (v ≢ link_word current →
     (value_held key' ≡ value_held key) × IsNewIn key'.keys.name (value_held key') key'.keys.held × (glimpse.value ≡ held_before t))
     × KnowsAll key' pass'

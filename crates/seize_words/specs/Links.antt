@@ -5,9 +5,8 @@
 --     IsNewIn n o vs     the keys are of this value, which was never named, as they know, and all that lay in its block before were
 --                        reclaimed; and something is lent with it; or there is neither value nor key
 --     value_in held, is_at_most_one held     the value that a key is labelled with, if there is one;  there is no other key
---     comparand current old   what an exchange compares that takes the link to hold `current`, where it holds `old`: their words decide
-use Rattle.std.specs.Prelude.{◌≡◌, ℕ, zero, suc, ◌<◌, ◌==◌, Bool, true, false, ◌&&◌, if◌then◌else◌, List, [], ◌∷◌, length, Option, Some, None}
-use Rattle.seize_book.specs.Blocks.{link_word}
+--     IsPairAllowed allowed p l held new   what such an exchange makes, which finds `held` and puts `new` in, is permitted
+use Rattle.std.specs.Prelude.{◌≡◌, ℕ, zero, suc, ◌<◌, ◌==◌, Bool, true, false, ◌&&◌, List, [], ◌∷◌, length, Option, Some, None}
 use mathlib.Core.List.{IsPrefix}
 use Rattle.seize_machine.specs.Machine.State.{head_at, is_active, has}
 use Rattle.seize_book.specs.Book.{after, blocks, links}
@@ -15,6 +14,7 @@ use Rattle.seize_book.specs.Entry.{Entry}
 use Rattle.seize_book.specs.Homes.{IsVacant, home_of}
 use Rattle.seize_book.specs.Laws.{life}
 use Rattle.seize_book.specs.Ledger.{HeldKey}
+use Rattle.seize_book.specs.Pairs.{AreCovered, unless_first, pair_if}
 use Rattle.seize_book.specs.Private.{own_of}
 use Rattle.seize_book.specs.Loans.{CarriesOne}
 use Rattle.seize_book.specs.Tokens.{Name, start}
@@ -51,10 +51,9 @@ is_at_most_one [] = true
 is_at_most_one (h ∷ []) = (h.kind == blocks) && (h.key == home_of h.label)
 is_at_most_one (h ∷ g ∷ held) = false
 
--- What is compared where the link is taken to hold `current`, and holds `old`: what it holds if that has the same word. A word can't tell
--- two values that lay in one block one after the other; `current` is what the link holds wherever it stands still.
-abbrev pub comparand : Option ℕ → Option ℕ → Option ℕ
-comparand current old = if link_word old == link_word current then old else current
+-- one of the permits with these numbers is for what an exchange of the link with this pass makes that finds `held` and puts `new` in
+abbrev pub IsPairAllowed : List ℕ → ℕ → ℕ → Option ℕ → Option ℕ → Type 0
+IsPairAllowed allowed p l held new = AreCovered allowed (unless_first p (pair_if true l held new))
 
 -- a value with this word, or none
 abbrev pub value_with : ℕ → Option ℕ

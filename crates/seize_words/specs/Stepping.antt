@@ -5,6 +5,8 @@
 --                              with f of it in the word, and this entry added, all is as it has to be (IsStep). It ends no activation but
 --                              those that have the lifetimes `lives`. Where it trades, the holder's keys stay with the word, for those
 --                              that stood there; at a count all but the slot's. It makes these keys, which go to the holder
+--     MayStepFor allowed births ..     the same of a step that may exchange a link: the permits with these numbers cover the pair that it
+--                              makes
 --     HasSteppedWith births site p seen seen' held held' alive v w entry trades   the step was taken, found v and left w
 --     IsStep, MayStep, HasStepped     the same where no keys are made
 --     LooksAt site p seen seen' held v     the word was read, which held v, and nothing was added to the list, which is seen' now
@@ -14,6 +16,7 @@ use Rattle.seize_book.specs.Ledger.{HeldKey, WithKinds, keys_made, with_list}
 use Rattle.seize_book.specs.Entry.{Entry, maker}
 use Rattle.seize_book.specs.Book.{Kind, TheCount, after, births_by, kind_of, kinds}
 use Rattle.seize_book.specs.Laws.{IsAmong, ended_in, ended_lives, life}
+use Rattle.seize_book.specs.Pairs.{AreCovered, pairs_by}
 use Rattle.seize_book.specs.Tokens.{start, AddsEntry}
 use Rattle.seize_book.specs.Fair.{Before, Fair, pass_key}
 use Rattle.seize_words.specs.Words.{Site, ShowsWord, AreOtherKeys, site_keys}
@@ -65,20 +68,29 @@ abbrev pub with_births : Keys → Births → List Entry → Keys
 with_births held [] log = held
 with_births held (b ∷ births) log = held ++ keys_made (b ∷ births) log
 
-pub record IsStepWith (births : Births) (site : Site) (p : ℕ) (held : Keys) (lives : List ℕ) (w : ℕ) (e : Entry) (trades : Bool) (t : At)
-    (own log : List Entry) : Type 0 where
+pub record IsStepFor (allowed : List ℕ) (births : Births) (site : Site) (p : ℕ) (held : Keys) (lives : List ℕ) (w : ℕ) (e : Entry)
+    (trades : Bool) (t : At) (own log : List Entry) : Type 0 where
   pub fair : Fair site.name (pass_key p own ∷ in_step site held t) log e
   pub its : maker e ≡ p
   pub bears : births_by (after (start site.name) log) e ≡ births
   pub ends : EndsAmong lives log e
+  pub covered : AreCovered allowed (pairs_by (after (start site.name) log) e)
   pub shows : ShowsWord site w (log ++ e ∷ [])
   pub stands : AreOtherKeys site (log ++ e ∷ []) (with_list (beside_then (kind_of site.kind) trades t.1 held) (log ++ e ∷ []))
 
-abbrev pub MayStepWith : Births → Site → ℕ → List Entry → Keys → List ℕ → List ℕ → (ℕ → ℕ) → (ℕ → List Entry → Entry) → (ℕ → Bool) → Type 0
-MayStepWith births site p seen held alive lives f entry trades =
+abbrev pub MayStepFor : List ℕ → Births → Site → ℕ → List Entry → Keys → List ℕ → List ℕ → (ℕ → ℕ) → (ℕ → List Entry → Entry) → (ℕ → Bool)
+    → Type 0
+MayStepFor allowed births site p seen held alive lives f entry trades =
     WithKinds kinds held
     × ((v : ℕ) (t : At) (own log : List Entry) → FoundAs site v p seen held alive t log
-    → IsStepWith births site p held lives (f v) (entry v log) (trades v) t own log)
+    → IsStepFor allowed births site p held lives (f v) (entry v log) (trades v) t own log)
+
+-- the same where no link is exchanged
+abbrev pub IsStepWith : Births → Site → ℕ → Keys → List ℕ → ℕ → Entry → Bool → At → List Entry → List Entry → Type 0
+IsStepWith = IsStepFor []
+
+abbrev pub MayStepWith : Births → Site → ℕ → List Entry → Keys → List ℕ → List ℕ → (ℕ → ℕ) → (ℕ → List Entry → Entry) → (ℕ → Bool) → Type 0
+MayStepWith = MayStepFor []
 
 pub record HasSteppedWith (births : Births) (site : Site) (p : ℕ) (seen seen' : List Entry) (held held' : Keys) (alive : List ℕ) (v w : ℕ)
     (entry : ℕ → List Entry → Entry) (trades : ℕ → Bool) : Type 0 where

@@ -26,7 +26,7 @@ impl<T: Drop> Blocks<T> {
     ghost use Rattle.seize_book.specs.Books.{IsNextIn};
     ghost use Rattle.seize_store.specs.Named.{bare_number, bare_title, bare_value, hollow_store, hollow_title, is_empty_list, owned_value, store_of, title_of, titles_of, titles_with};
     ghost use Rattle.seize_table.specs.declared.refusal.Refusal.TheVariants.{NoMemory};
-    ghost use Rattle.seize_words.specs.Chunks.{AreSpotsIn, IsBlockAfter, IsBlockIn, IsFoundAs, IsFoundAt, IsHeaderOf, IsLentAs, IsLiveAt, IsPartOf, LayIn, LendsIn, LiesIn, blocks_book};
+    ghost use Rattle.seize_words.specs.Chunks.{AreSpotsIn, IsBlockAfter, IsBlockIn, IsFoundAs, IsFoundAt, IsHeaderOf, IsLentAs, IsPartOf, LayIn, LendsIn, LiesIn, blocks_book};
     ghost use Rattle.seize_book.specs.Others.{IsLast, IsVacated, IsValueOf, book_of, value_of};
     ghost use Rattle.seize_book.specs.Blocks.{block_number};
     ghost use Rattle.seize_book.specs.Notes.{HasNoted, IsUnchanged, cell_in};
@@ -269,18 +269,6 @@ impl<T: Drop> Blocks<T> {
         let header = place.header();
         pass.agree(&header.book);
         header
-    }
-
-    /// Whether these are the numbers of one block. So two values that stand, as the pass has seen then, are the same just where their
-    /// numbers are; that of a value which was reclaimed may be another one's too. The pass looks at the list. It only compares.
-    pub fn same(&self, one: u64, other: u64, pass: &mut Pass) -> bool
-        requires book { blocks_book self.now ≡ pass.old.name }
-        requires named { HasNumber one (state_seen pass.old) }
-        ensures looks { LooksOn pass.old pass.new }
-        ensures same { (v w : ℕ) → IsLiveAt v one pass.new → IsLiveAt w other pass.new → (result ≡ true) ↔ (v ≡ w) }
-    {
-        pass.seek(one);
-        one == other
     }
 
     /// The cell where whoever has this key notes what it keeps of the block with this number, in which the key's value lies, whether that

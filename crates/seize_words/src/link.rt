@@ -11,9 +11,10 @@ mod word;
 
 use crate::activation::Activation;
 use crate::glimpse::Glimpse;
+use crate::lasting::Lasting;
 use crate::link::word::LinkWord;
 pub use row::Links;
-use seize_book::book::{Keys, LinkKeys, Pass, ValueKey};
+use seize_book::book::{Keys, LinkKeys, Pass, Permit, ValueKey};
 use seize_store::RowToken;
 use std::marker::Brand;
 
@@ -65,6 +66,15 @@ impl MaybeKey {
     }
 }
 
+/// What the caller of an exchange takes the link to hold.
+#[derive(Drop)]
+pub struct Expected<'g> {
+    /// Its word: 0 for nothing.
+    pub word: u64,
+    /// If it is a value, that was found in this activation; else it is any one.
+    pub lasting: Lasting<'g>,
+}
+
 /// Which value, or none, the caller of an exchange takes the link to hold. It is not there in the program: the caller passes `Brand`, and
 /// its proof picks one of the word that was seen; where none is picked it is none.
 pub trait Expects {
@@ -80,7 +90,7 @@ impl Link {
     ghost use Rattle.seize_book.specs.Homesteads.{state_seen};
     ghost use Rattle.seize_book.specs.Tokens.{IsSole};
     ghost use Rattle.seize_machine.specs.Machine.State.{link_at};
-    ghost use Rattle.seize_words.specs.LinkWords.{CompareExchanges, HasNextLink, IsLinkFor, IsNext, IsNewFor, Sees, Swaps, link_book, link_number};
+    ghost use Rattle.seize_words.specs.LinkWords.{CompareExchanges, HasNextLink, IsLinkFor, IsNext, IsNewFor, IsPermittedExchange, IsPermittedSwap, Sees, Swaps, WasFoundIn, link_book, link_number};
     ghost use Rattle.seize_words.specs.Stands.{IsSameLink, IsSharedLink, LeadsToBlock, Stands};
 
     /// The first of the links that were not made yet. It is empty.
@@ -122,40 +132,53 @@ impl Link {
         value: &mut MaybeKey,
         activation: &Activation,
         pass: &mut Pass,
+        permit: &Permit,
     ) -> u64
         requires shared { IsSharedLink self.now }
         requires within { IsLinkFor self.now activation.now pass.old }
         requires new { IsNewFor self.now value.old new }
+        requires rule { IsPermittedSwap (link_number self.now) value.old pass.old permit.now }
         ensures swaps { Swaps self.now activation.now value.old pass.old value.new pass.new result }
     {
         self.word
             .shared()
-            .swap_in::<Brand>(new, &mut value.keys, activation, pass)
+            .swap_in::<Brand>(new, &mut value.keys, activation, pass, permit)
     }
 
-    /// The same, but only if the link's word is what was seen. It gives the word of what the link held. If that was something else, the
-    /// value's key comes back, and the glimpse is of what the link holds, for as long as the activation is borrowed; else it is of nothing.
+    /// The same, but only if the link holds what it is expected to hold (`E`): nothing, or what was found in an activation that lasts. It
+    /// gives the word of what the link held. If that was something else, the value's key comes back, and the glimpse is of what the link
+    /// holds, for as long as the activation is borrowed; else it is of nothing.
     ///
-    /// The event compares with what the caller takes the link to hold (`E`), of the word that was seen, where the exchange is lost; and
-    /// where it is won with what the link held. That is the same where what was seen stands still (`took_current`).
+    /// Words decide, and they tell blocks. What was found stands while the activation lasts, so no other value of its block is there.
     ///
     /// It takes no memory and waits for nobody: one atomic compare and exchange.
     pub fn compare_exchange<'g, E: Expects>(
         &self,
-        seen: u64,
+        expected: &Expected<'_>,
         new: u64,
         value: &mut MaybeKey,
         activation: &'g Activation,
         pass: &mut Pass,
+        permit: &Permit,
     ) -> (u64, Glimpse<'g>)
         requires shared { IsSharedLink self.now }
         requires within { IsLinkFor self.now activation.now pass.old }
         requires new { IsNewFor self.now value.old new }
-        requires seen { seen ≡ link_word E.current }
+        requires seen { expected.now.word ≡ link_word E.current }
+        requires found { WasFoundIn expected.now.lasting E.current pass.old }
+        requires rule { IsPermittedExchange (link_number self.now) value.old pass.old E.current permit.now }
         ensures exchanges { CompareExchanges self.now activation.now value.old pass.old E.current value.new pass.new result.0 result.1 }
     {
         let word = self.word.shared();
-        word.exchange_in::<Brand>(seen, new, &mut value.keys, activation, pass)
+        word.exchange_in::<Brand>(
+            expected.word,
+            new,
+            &mut value.keys,
+            activation,
+            pass,
+            permit,
+            &expected.lasting,
+        )
     }
 
     /// It stands still from then on, and holds what the pass has seen, which is alone. It does nothing when the program runs.

@@ -9,8 +9,9 @@ ghost use Rattle.seize_words.specs.Words.{Site, site_coded, word_owns, word_shar
 
 use crate::activation::{Activation, Ended};
 use crate::glimpse::Glimpse;
+use crate::lasting::Lasting;
 use atomic_table::exchange;
-use seize_book::book::{Keys, Pass};
+use seize_book::book::{Keys, Pass, Permit};
 use std::marker::{Brand, Move, Owns, PhantomData};
 use std::sync::atomic::Ordering::SeqCst;
 use std::sync::atomic::raw;
@@ -52,7 +53,7 @@ impl Finds for Brand {
 }
 
 impl Word {
-    ghost use Rattle.seize_words.specs.Atomic.{IsWordOf, LooksAtWord, MayLookAtWord, MaySeeIn, MayTakeStep, MayTakeStepIn, MayTakeStepWith, SeesIn, TakesStep, TakesStepIn, TakesStepWith, after_exchange, minus, plus, site_of};
+    ghost use Rattle.seize_words.specs.Atomic.{ExchangesIn, IsWordOf, LooksAtWord, MayLookAtWord, MayExchangeIn, MaySeeIn, MayTakeStep, MayTakeStepIn, MayTakeStepWith, SeesIn, TakesStep, TakesStepIn, TakesStepWith, after_exchange, minus, plus, site_of};
 
     /// A word that holds `bits` and has the keys of what it stands for.
     pub(crate) fn new(bits: u64, keys: &mut Keys) -> Word
@@ -102,15 +103,16 @@ impl Word {
         keys: &mut Keys,
         activation: &Activation,
         pass: &mut Pass,
+        _permit: &Permit,
     ) -> u64
-        requires { MayTakeStepIn self.now keys.old pass.old activation.now (λ v. new) P.entry P.trades }
+        requires { MayTakeStepIn self.now keys.old pass.old activation.now _permit.now (λ v. new) P.entry P.trades }
         ensures { TakesStepIn self.now keys.old pass.old keys.new pass.new activation.now (λ v. new) result P.entry P.trades }
     {
         unsafe { raw::swap::<Brand>(self as *const Self as *const u64, new, SeqCst) }
     }
 
-    /// Stores `new` where the word of a link holds `seen`, and gives what it held, where the activation has not ended. Where it stores
-    /// nothing, it sees what is lent with what the link holds.
+    /// Stores `new` where the word of a link holds `seen`, and gives what it held, where the activation has not ended, and that has not in
+    /// which was found what it compares with. Where it stores nothing, it sees what is lent with what the link holds.
     pub(crate) fn exchange_in<'g, P: Finds>(
         &self,
         seen: u64,
@@ -118,9 +120,13 @@ impl Word {
         keys: &mut Keys,
         activation: &'g Activation,
         pass: &mut Pass,
+        _permit: &Permit,
+        _found: &Lasting<'_>,
     ) -> (u64, Glimpse<'g>)
-        requires { MaySeeIn self.now keys.old pass.old activation.now (after_exchange seen new) P.entry P.trades }
-        ensures { SeesIn self.now keys.old pass.old keys.new pass.new activation.now (after_exchange seen new) result P.entry P.trades }
+        requires { MayExchangeIn self.now keys.old pass.old activation.now _permit.now _found.now (after_exchange seen new)
+            P.entry P.trades }
+        ensures { ExchangesIn self.now keys.old pass.old keys.new pass.new activation.now _found.now (after_exchange seen new) result
+            P.entry P.trades }
     {
         let bits = unsafe { exchange::<Brand>(self as *const Self as *const u64, seen, new) };
         let glimpse = Glimpse {

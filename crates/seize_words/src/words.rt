@@ -10,10 +10,11 @@ use crate::activation::Activation;
 use crate::blocks::Blocks;
 use crate::chunk::{Header, Part};
 use crate::glimpse::{Found, Glimpse};
-use crate::link::{Expects, Links, MaybeKey};
+use crate::link::{Expected, Expects, Links, MaybeKey};
 use crate::slots::{NextSlot, Reservation, Slots};
 use seize_book::book::{
-    BookKeys, Condition, FutureBook, NumbersKey, Pass, Permits, Porter, Seen, SlotKey, Storage,
+    BookKeys, Condition, FutureBook, NumbersKey, Pass, Permit, Permits, Porter, Seen, SlotKey,
+    Storage,
 };
 use seize_store::Store;
 use seize_table::Refusal;
@@ -45,10 +46,10 @@ impl<T: Drop> Words<T> {
     ghost use Rattle.seize_book.specs.Blocks.{link_word};
     ghost use Rattle.seize_book.specs.Books.{HasKeys};
     ghost use Rattle.seize_words.specs.Joined.{IsInAt, IsNewTo, OnLink, OpensWords, with_size, words_book};
-    ghost use Rattle.seize_book.specs.Lending.{ArePermitsOf};
+    ghost use Rattle.seize_book.specs.Lending.{ArePairsOf, ArePermitsOf};
     ghost use Rattle.seize_book.specs.Porters.{Opens, Resizes};
     ghost use Rattle.seize_words.specs.Chunks.{IsFoundAs};
-    ghost use Rattle.seize_words.specs.LinkWords.{CompareExchanges, Finds, Sees, Swaps, held_before};
+    ghost use Rattle.seize_words.specs.LinkWords.{CompareExchanges, Finds, IsPermittedExchange, IsPermittedSwap, Sees, Swaps, WasFoundIn, held_before};
     ghost use Rattle.seize_words.specs.Reserved.{HasNextSlot, IsSameNext, MakesNextSlot};
     ghost use Rattle.seize_book.specs.Others.{AreNumbersOf};
     ghost use Rattle.seize_words.specs.Rows.{AreShared, IsSharedAt, StandsAt};
@@ -61,15 +62,26 @@ impl<T: Drop> Words<T> {
     /// # Errors
     ///
     /// `NoNumbers` where `capacity` is above the greatest number, and only then; `NoMemory` where a growth was refused.
-    pub fn new<C: Condition>(
+    pub fn new<C: Condition, D: Condition>(
         alloc: Global,
         capacity: usize,
         links: usize,
         size: usize,
-    ) -> Result<(Words<T>, Permits<C>, Porter, NumbersKey, NextSlot), Refusal>
-        ensures made { IfOk result (λ opened. OpensWords opened.0 opened.2 opened.3 opened.4 links size) }
+    ) -> Result<
+        (
+            Words<T>,
+            Permits<C>,
+            Permits<D>,
+            Porter,
+            NumbersKey,
+            NextSlot,
+        ),
+        Refusal,
+    >
+        ensures made { IfOk result (λ opened. OpensWords opened.0 opened.3 opened.4 opened.5 links size) }
         ensures shared { IfOk result (λ opened. AreShared opened.0.links) }
         ensures permits { IfOk result (λ opened. ArePermitsOf (words_book opened.0) opened.1) }
+        ensures pairs { IfOk result (λ opened. ArePairsOf (words_book opened.0) opened.2) }
         ensures refused { IfErr result (λ e. (e ≡ NoNumbers) ⊎ (e ≡ NoMemory)) }
         ensures no_numbers { (result ≡ Err NoNumbers) ↔ (MAX_INDEX < capacity) }
     {
@@ -77,12 +89,13 @@ impl<T: Drop> Words<T> {
         let (unopened, family) = FutureBook::new();
         let store = Store::new(alloc, &family);
         let permits = Words::permits::<Brand, C>(&store);
-        let (book, porter, keys) = Words::open::<Brand, C>(
-            &store, &table, &permits, unopened, links, size,
+        let pairs = Words::permits::<Brand, D>(&store);
+        let (book, porter, keys) = Words::open::<Brand, C, D>(
+            &store, &table, &permits, &pairs, unopened, links, size,
         );
         let blocks = Blocks::of(store, book);
         let (words, numbers, next) = Words::of(alloc, blocks, table, keys, links, size)?;
-        Ok((words, permits, porter, numbers, next))
+        Ok((words, permits, pairs, porter, numbers, next))
     }
 
     // The list of the codes that may be lent with the values of a book whose blocks lie in this store.
@@ -94,17 +107,20 @@ impl<T: Drop> Words<T> {
     }
 
     // A book whose blocks lie in this store, and whose heads lie in this table; what may be lent is in this list.
-    fn open<K: Storage, C: Condition>(
+    fn open<K: Storage, C: Condition, D: Condition>(
         _store: &Store<Header, Part, T>,
         _table: &ThreadLocal<Reservation>,
         _permits: &Permits<C>,
+        _pairs: &Permits<D>,
         unopened: FutureBook,
         links: usize,
         size: usize,
     ) -> (Seen, Porter, BookKeys)
-        requires { (K.store ≡ store_name _store.now) × (K.table ≡ name_of _table.now) × (K.permits ≡ _permits.now.list) }
+        requires { (K.store ≡ store_name _store.now) × (K.table ≡ name_of _table.now) × (K.permits ≡ _permits.now.list)
+            × (K.pairs ≡ _pairs.now.list) }
         ensures book { Opens result.0 result.1 result.2 links size (store_name _store.now) (name_of _table.now) }
-        ensures its { (result.0.name.family ≡ unopened.family) × (result.0.name.permits ≡ _permits.now.list) }
+        ensures its { (result.0.name.family ≡ unopened.family) × (result.0.name.permits ≡ _permits.now.list)
+            × (result.0.name.pairs ≡ _pairs.now.list) }
     {
         unopened.open::<K>(links, size)
     }
@@ -245,39 +261,46 @@ impl<T: Drop> Words<T> {
         value: &mut MaybeKey,
         activation: &Activation,
         pass: &mut Pass,
+        permit: &Permit,
     ) -> u64
         requires shared { IsSharedAt self.now.links link }
         requires book { words_book self.now ≡ pass.old.name }
         requires within { IsInAt activation.now pass.old link }
         requires new { IsNewTo (words_book self.now) value.old new }
+        requires rule { IsPermittedSwap link value.old pass.old permit.now }
         ensures swaps { OnLink (words_book self.now) link (λ link.
             Swaps link activation.now value.old pass.old value.new pass.new result) }
     {
-        self.links.get(link).swap(new, value, activation, pass)
+        self.links
+            .get(link)
+            .swap(new, value, activation, pass, permit)
     }
 
-    /// The same, but only if the link's word is what was seen. See `Link::compare_exchange`.
+    /// The same, but only if the link holds what it is expected to hold. See `Link::compare_exchange`.
     ///
     /// It takes no memory and waits for nobody: one load to find the link, and one atomic compare and exchange.
     pub fn exchange_link<'g, E: Expects>(
         &self,
         link: usize,
-        seen: u64,
+        expected: &Expected<'_>,
         new: u64,
         value: &mut MaybeKey,
         activation: &'g Activation,
         pass: &mut Pass,
+        permit: &Permit,
     ) -> (u64, Glimpse<'g>)
         requires shared { IsSharedAt self.now.links link }
         requires book { words_book self.now ≡ pass.old.name }
         requires within { IsInAt activation.now pass.old link }
         requires new { IsNewTo (words_book self.now) value.old new }
-        requires seen { seen ≡ link_word E.current }
+        requires seen { expected.now.word ≡ link_word E.current }
+        requires found { WasFoundIn expected.now.lasting E.current pass.old }
+        requires rule { IsPermittedExchange link value.old pass.old E.current permit.now }
         ensures exchanges { OnLink (words_book self.now) link (λ link.
             CompareExchanges link activation.now value.old pass.old E.current value.new pass.new result.0 result.1) }
     {
         self.links
             .get(link)
-            .compare_exchange::<Brand>(seen, new, value, activation, pass)
+            .compare_exchange::<Brand>(expected, new, value, activation, pass, permit)
     }
 }

@@ -53,7 +53,8 @@ pub fn begin(
     ensures retirer { IfSome result (λ begun. Leads (words_book begun.0) begun.3 begun.2 1 two_made) }
     ensures permits { IfSome result (λ begun. ArePermitsOf (words_book begun.0) begun.4) }
 {
-    let Ok((words, permits, porter, numbers, next)) = Words::new(alloc, 0, 1, 1) else {
+    let made = Words::new::<AnyCode, AnyCode>(alloc, 0, 1, 1);
+    let Ok((words, permits, _, porter, numbers, next)) = made else {
         return None;
     };
     let mut pass = porter.shut();

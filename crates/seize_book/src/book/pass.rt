@@ -1,5 +1,5 @@
 //! Passes. The keys beside it add entries with a pass; `porter` lends them.
-ghost use Rattle.std.specs.Prelude.{◌≡◌, ℕ, List};
+ghost use Rattle.std.specs.Prelude.{◌≡◌, ℕ, List, []};
 ghost use base.Stored.{coded_list};
 ghost use Rattle.seize_book.specs.Entry.{Entry, entry_coded};
 ghost use Rattle.seize_store.specs.Named.{IsRowOf};
@@ -98,6 +98,15 @@ impl<'p> Pass<'p> {
     /// list says of the values that it retires or puts what is kept of them.
     pub fn permit_for_named(&mut self) -> Permit
         ensures { LooksOn self.old self.new × IsPermitForAll self.new result × AllSay self.new.seen }
+    {
+        Permit {
+            marker: PhantomData,
+        }
+    }
+
+    /// A permit for no pair, which the first pass needs: what that does to links is not bound.
+    pub fn no_pairs(&mut self) -> Permit
+        ensures { (self.new ≡ self.old) × (result.list ≡ self.old.name.pairs) × (result.codes ≡ []) }
     {
         Permit {
             marker: PhantomData,

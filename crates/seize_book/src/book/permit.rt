@@ -1,15 +1,24 @@
 //! Permits: which codes may be lent with the values of a book, and what holds of each of these. Nothing here has bytes.
 ghost use Rattle.std.specs.Prelude.{◌≡◌, ℕ, List};
-ghost use base.Stored.{Gv, coded_list, coded_ℕ};
+ghost use base.Stored.{Gv, gnil, coded_list, coded_ℕ};
 ghost use denote.Sharing.{said};
 ghost use Rattle.seize_book.specs.Permits.{all_permitted, knows_permits};
 
 use crate::book::seen::Storage;
-use std::marker::{Model, PhantomData};
+use std::marker::{Brand, Model, PhantomData};
 
 /// What holds of each code that may be lent with the values of a book whose blocks lie in this store.
 pub trait Condition {
     ghost holds: { List ℕ → Gv → Type 0 };
+}
+
+/// A code, which is that of no value at hand. It is not there in the program: a caller passes `Brand`, and its proof picks the code.
+pub trait Chosen {
+    ghost code: { Gv };
+}
+
+impl Chosen for Brand {
+    ghost code = { gnil };
 }
 
 /// These codes may be lent, for good. It doesn't know what holds of them: `Permits::check` says it.
@@ -24,6 +33,17 @@ pub struct Permit {
 
 impl Model for Permit {
     ghost also_owns = { λ p. all_permitted p.list p.codes };
+
+    ghost also_shares = { λ p _ κ. said (all_permitted p.list p.codes) κ };
+}
+
+/// The permits that one look at the list gives.
+#[derive(Drop)]
+pub struct Permitted {
+    /// For what is lent with each value that was ever named.
+    pub named: Permit,
+    /// For the pairs of all exchanges that were won, but for those of the first pass: what each of these links held, and what went in.
+    pub pairs: Permit,
 }
 
 /// The list of the codes that may be lent. The condition holds of each of them. The list is there for good, and only grows.
@@ -65,6 +85,16 @@ impl<C: Condition> Permits<C> {
         }
     }
 
+    /// This code comes into the list, which `K` says.
+    pub fn permit_code<K: Chosen>(&self) -> Permit
+        requires { C.holds self.now.store K.code }
+        ensures { (result.list ≡ self.now.list) × (result.codes ≡ loan_number K.code ∷ []) }
+    {
+        Permit {
+            marker: PhantomData,
+        }
+    }
+
     /// The condition holds of each code that the permit is for. The permit is spent. It does nothing when the program runs: its contract
     /// is the law.
     pub fn check(&self, permit: Permit)
@@ -80,6 +110,10 @@ impl<C: Condition> Drop for Permits<C> {
         let Self { marker: _ } = self;
     }
 }
+
+unsafe impl Send for Permit {}
+
+unsafe impl Sync for Permit {}
 
 unsafe impl<C: Condition> Send for Permits<C> {}
 

@@ -7,6 +7,7 @@ ghost use Rattle.seize_book.specs.Entry.{Entry, entry_coded};
 ghost use Rattle.seize_book.specs.Tokens.{Name, name_coded};
 
 use crate::book::pass::Pass;
+use crate::book::permit::{Permit, Permitted};
 use crate::book::seen::Seen;
 use std::marker::{Model, PhantomData};
 
@@ -54,7 +55,9 @@ pub trait Stay<R> {
 
 impl Porter {
     ghost use mathlib.Core.List.{IsPrefix};
-    ghost use Rattle.seize_book.specs.Porters.{ComesHome, HadStay, LeavesHome, LendsPass, MayStay, OpensAgain, Resizes, Shuts};
+    ghost use Rattle.seize_book.specs.Lending.{ArePairsPermitted, IsPermitForAll};
+    ghost use Rattle.seize_book.specs.Passes.{LooksOn};
+    ghost use Rattle.seize_book.specs.Porters.{ComesHome, GrewByOthers, HadStay, LeavesHome, LendsPass, MayStay, OpensAgain, Resizes, Shuts};
     ghost use Rattle.seize_book.specs.Tokens.{IsSole};
 
     /// A new pass, which has seen what the porter has, and perhaps more; a kept [`Seen`] tells a new pass what an earlier one saw
@@ -69,6 +72,25 @@ impl Porter {
     {
         Pass {
             marker: PhantomData,
+        }
+    }
+
+    /// Looks at the list with one of its passes, and adds nothing. The pass has seen what the porter has then, and nothing was made with
+    /// the first pass since the porter left home: nobody has that pass meanwhile. The look gives two permits, both for the list that the
+    /// pass has seen then: that for what is lent with each value that was ever named, and that for the pairs of all exchanges that were
+    /// won, but for those of the first pass. It does nothing when the program runs.
+    pub fn look(&self, pass: &mut Pass) -> Permitted
+        requires { (self.now.home ≡ false) × (pass.old.name ≡ self.now.name) }
+        ensures { LooksOn pass.old pass.new × GrewByOthers self.now pass.new
+            × IsPermitForAll pass.new result.named × ArePairsPermitted pass.new result.pairs }
+    {
+        Permitted {
+            named: Permit {
+                marker: PhantomData,
+            },
+            pairs: Permit {
+                marker: PhantomData,
+            },
         }
     }
 

@@ -32,14 +32,17 @@ impl Model for Seen {
     ghost also_shares = { λ b _ κ. said (book_owns b.name b.seen) κ };
 }
 
-/// The store where the blocks of a book lie, by whose numbers words hold them, the table where its heads lie, and the list of the codes
-/// that may be lent. A caller passes `Brand`, and its proof picks them; those below are of no use, since none of them has this name.
+/// The store where the blocks of a book lie, by whose numbers words hold them, the table where its heads lie, the list of the codes that
+/// may be lent, and that of the pairs that may follow one another in its links. A caller passes `Brand`, and its proof picks them; those
+/// below are of no use, since none of them has this name.
 pub trait Storage {
     ghost store: { List ℕ };
 
     ghost table: { List ℕ };
 
     ghost permits: { ℕ };
+
+    ghost pairs: { ℕ };
 }
 
 impl Storage for Brand {
@@ -48,6 +51,8 @@ impl Storage for Brand {
     ghost table = { [] };
 
     ghost permits = { 0 };
+
+    ghost pairs = { 0 };
 }
 
 impl Seen {
@@ -62,7 +67,7 @@ impl Seen {
         size: usize,
     ) -> (Seen, Pass<'static>, Keys)
         ensures { IsFirst result.0 result.1 × (result.1.size ≡ size) × BeginsWithKeys result.0 result.2 links K.store K.table
-            × (result.0.name.family ≡ unopened.family) × (result.0.name.permits ≡ K.permits) }
+            × (result.0.name.family ≡ unopened.family) × (result.0.name.permits ≡ K.permits) × (result.0.name.pairs ≡ K.pairs) }
     {
         let FutureBook { marker: _ } = unopened;
         let book = Seen {

@@ -39,7 +39,7 @@ returns c =
     (λ j. ((c.shared.ensures ∙ is_at (site_in link.word) pass.name in_.book.0 link.link) j, c.empty-keys.ensures.2 j)) c.see_in.ensures.0 in
     record {
       sees = (
-        taken link a pass pass' in_ c.empty-keys.result c.see_in.new.keys (λ v. v) c.see_in.result.0 (λ _. ReadLink a.slot l) (λ v. false) took,
+        taken link a pass pass' in_ c.empty-keys.result c.see_in.new.keys (λ v. v) c.see_in.result.0 (ReadLink a.slot l) (λ v. false) took,
         c.see_in.ensures.1 ∙ (ap (λ (t : Site). link_at (after (start t.name) pass'.seen) t.number) c.shared.ensures ∙ ap (λ (n : Name). link_at (after (start n) pass'.seen) l) in_.book.0 ∙ read_later link a pass pass' in_ c.empty-keys.result c.see_in.new.keys c.see_in.result.0 took),
       );
     }

@@ -71,18 +71,18 @@ see_in_spec 𝓤 𝓛 𝓜 𝓡 wired P LP g d _ =
     move ! (9 ∷ 10 ∷ 11 ∷ []) $ opens_pass ! tt ℓ pass pb po (λ vs1. rewrite ! 0 (λ (z : Name). ‵ (pass_owns z pass.id pass.seen)) (sym asked.1.0) refl $
     use1 𝓛 (given (IsDistinct 𝓛 n) (‵ (knows n) ⊛ ‵ (fnamed n.number (inside n)) ⊛ ‵ (pass_holds n pass.id pass.seen))) (opened 𝓛 site pass.id pass.seen) $ learn ! (λ distinct. split3 ! $
     -- [the book; its invariant; the pass's; the pass; its cell, in four entries; the keys'; the keys; their cell; the token; the way back; the word's invariant; the other tokens; what is brought; the open escrow; half of the token; its way back; the activation]
-    let entry : ℕ → List Entry → Entry = g.entry in let L : Share = Share.left r in let had : ℕ → _ = had_of 𝓛 site pass keys.held activation.life L (λ v. v) entry g.trades γ in
+    let entry : ℕ → List Entry → Entry = g.entry in let L : Share = Share.left r in let had : ℕ → _ = had_of 𝓛 site pass keys.held activation.life [] L (λ v. v) entry g.trades γ in
     let after : ℕ → Fml = after_with 𝓛 site [] pass.id pass.seen keys.held β [] L (λ v. v) entry g.trades had in let out : ℕ → Fml = λ v. fsep (flft ν s) (after v) in
     first ! $ blocks ! $ sets ! (addr ! (through ! refl (stop !))) refl (tt, tt) $ sets ! (of_opd ! (get ! refl)) refl (tt, tt) $
     nothing ! $ move ! (21 ∷ 0 ∷ []) $ fjoin ! $ nothing ! $ join ! $ move ! (0 ∷ 19 ∷ []) $ join ! $ move ! (9 ∷ 0 ∷ []) $ join ! $ move ! (3 ∷ 0 ∷ []) $ join ! $ move ! (13 ∷ 0 ∷ []) $ join ! $ move ! (14 ∷ 2 ∷ 0 ∷ []) $
     use3 𝓛 (raw (𝓣.C _ (vptr b o ∷ seq_cst ∷ []) (λ u. mean 𝓛 (found out u))))
-    (via 𝓤 _ (steps_with 𝓛 site [] pass.id pass.seen keys.held β [] L (λ v. v) entry g.trades b o t.1 ν s apart distinct asked.1.2 (brought 𝓛 activation.life γ) had (takes 𝓛 site pass keys.held activation.life L (λ v. v) entry g.trades γ asked.0 asked.2))
+    (via 𝓤 _ (steps_with 𝓛 site [] pass.id pass.seen keys.held β [] L (λ v. v) entry g.trades b o t.1 ν s apart distinct asked.1.2 (brought 𝓛 activation.life γ) had (takes 𝓛 site pass keys.held activation.life [] L (λ v. v) entry g.trades γ asked.0 asked.2))
     (loads 𝓛 𝓜 𝓡 (code.calls-core::raw_atomic::load 𝓡.env wired) (block_ptr b o) out)) $
     sets ! (agg ! (and_then ! (lit ! tt) (no_more !))) refl (tt, (record { fits = lit< tt }, tt)) $
     Calls-last ! (fm 𝓛 𝓜 𝓡) (found out) (and_then ! (get ! refl) (and_then ! (get ! refl) (no_more !))) (λ u. finds ! out (λ v fits. lands_last ! refl (tt, record { fits = fits }) $ exec ! 𝓣.C 𝓣.Λ Ev (tail fn.body) (at_ret Ev Post) $ sets ! (of_opd ! (get ! refl)) refl (tt, record { fits = fits }) $
     fsplit ! $ move ! (0 ∷ 13 ∷ []) $ use2 𝓛 (later (‵ (flft κs.0 qs.0))) (apply∗ 𝓤 (𝓛.A.lft ν s) (H.⇛ (𝓛.A.lft κs.0 qs.0))) $ await ! tt $ move ! (1 ∷ []) $ fpick ! (λ x. fsplit ! $ fpick ! (λ so. drop ! $ fsplit ! $ move ! (1 ∷ []) $ fsplit ! $ move ! (1 ∷ []) $ fsplit ! $ fsplit ! $
     -- [half of the token; nothing; what was taken; the keys'; the pass's; the word's token; the book; the pass; its cell, in four entries; the keys; their cell; the other tokens; the open escrow; the way back; the activation]
-    let shown : Option ℕ = seen_there 𝓛 site pass keys.held activation.life L (λ v. v) entry g.trades γ v x in move ! (2 ∷ 18 ∷ 20 ∷ []) $
+    let shown : Option ℕ = seen_there 𝓛 site pass keys.held activation.life [] L (λ v. v) entry g.trades γ v x in move ! (2 ∷ 18 ∷ 20 ∷ []) $
     use3 𝓛 (later (‵ (glimpse κ shown) ⊛ ‵ (flft β (Share.right r)))) (closes_glimpse 𝓛 activation.life γ κ (Share.right r) shown) $ await ! tt $ split ! $ move ! (2 ∷ 1 ∷ []) $ use2 𝓛 (‵ (flft β r)) (𝓛.lfts.lft_join β r) $
     move ! (0 ∷ 18 ∷ []) $ use2 𝓛 (later (‵ (flft κ qs.1.1.0))) (apply∗ 𝓤 (𝓛.A.lft β r) (H.⇛ (𝓛.A.lft κ qs.1.1.0))) $ await ! tt $
     -- [the activation's token; the glimpse; nothing; the keys'; the pass's; the word's token; the book; the pass; its cell, in four entries; the keys; their cell; the other tokens]

@@ -13,9 +13,11 @@ use Rattle.seize_book.specs.Tokens.{Name, inside, knows, keys_own, pass_owns, pa
 use Rattle.seize_words.specs.contracts.activation.Activation as Activation
 use Rattle.seize_book.specs.contracts.book.keys.Keys as Keys
 use Rattle.seize_book.specs.contracts.book.pass.Pass as Pass
+use Rattle.seize_book.specs.Permits.{all_permitted}
+use Rattle.seize_book.specs.contracts.book.permit.Permit as Permit
 use Rattle.seize_words.specs.contracts.word.Word as Word
 use Rattle.seize_book.proofs.Passes.{IsDistinct}
-use Rattle.seize_words.proofs.Steps.{after_step, opened, steps}
+use Rattle.seize_words.proofs.Steps.{after_step, opened, steps_permitted}
 use Rattle.seize_book.proofs.Fields.{ends}
 use Rattle.seize_words.specs.contracts.word.Word.swap_in.{ended, clauses}
 use Rattle.seize_words.specs.contracts.word.Word.swap_in.Key.{name as #self}
@@ -26,19 +28,20 @@ pub swap_in_spec : {M : Type 1} → statement M
 swap_in_spec 𝓤 𝓛 𝓜 𝓡 wired P LP g d _ =
     let H = 𝓛.H in let 𝓣 = tables 𝓤 H 𝓜 𝓡 𝓡.env in let En = ended P g d in let c = clauses P g d 𝓛 𝓜.mem 𝓡.returns in
     let inst = bounded (a_type ∷ []) (P, tt) (dcons d dnil) in let fn = inst_fn inst code.function in let self = RefOf (0 ∷ []) tt (plain (λ _. Word.the_row)) (λ _. tt) in let lent = RefOf (2 ∷ []) tt (plain (λ _. Activation.the_row)) (λ _. tt) in
-    let Pa = plain (λ (κs : Lfts 6). Pass.the_row (named_lft 6 4 tt κs)) in let hs : Stays En.signature.params En.kept = (stay_dropped self yes, (stay_dropped (plain (λ _. u64)) yes, (stay_ref (1 ∷ []) tt (plain (λ _. Keys.the_row)), (stay_dropped lent yes, (stay_ref (3 ∷ []) tt (Pa), tt))))) in
-    proved 𝓛 En hs c 𝓜 𝓡 (Goes-dropped 𝓛 6 self yes (λ κs x f. refl), (Goes-dropped 𝓛 6 (plain (λ _. u64)) yes (λ κs x f. refl), (Goes-ref 𝓛 6 1 tt (plain (λ _. Keys.the_row)), (Goes-dropped 𝓛 6 lent yes (λ κs x f. refl), (Goes-ref 𝓛 6 3 tt (Pa), tt))))) (#self inst) fn (code.unfolded 𝓤 H 𝓜 𝓡 wired (P, tt) d)
-    (λ κs. (shr_vals, (uint_vals w64, (mut_vals, (shr_vals, (mut_vals, tt)))))) (λ κs. (shr_Tells (named 0) κs.0 Word.the_row, (uint_Tells w64, (mut_Tells (named 1) κs.1.0 Keys.the_row, (shr_Tells (named 2) κs.1.1.0 Activation.the_row, (mut_Tells (named 3) κs.1.1.1.0 (Pass.the_row (named_lft 6 4 tt κs)), tt)))))) (λ κs qs bounds a gh are.
-    let site = a.0.now in let new : ℕ = a.1.0 in let keys = a.1.1.0.now in let activation = a.1.1.1.0.now in let pass = a.1.1.1.1.0.now in let b : ℕ = a.0.ref_ptr.0 in let o : ℕ = a.0.ref_ptr.1 in let kb : ℕ = a.1.1.0.ref_ptr.0 in let ko : ℕ = a.1.1.0.ref_ptr.1 in let gb : ℕ = a.1.1.1.0.ref_ptr.0 in let go : ℕ = a.1.1.1.0.ref_ptr.1 in let pb : ℕ = a.1.1.1.1.0.ref_ptr.0 in let po : ℕ = a.1.1.1.1.0.ref_ptr.1 in let f : ℕ → ℕ = λ v. new in let β : Lft = activation.life ∷ [] in
+    let permit_ = RefOf (5 ∷ []) tt (plain (λ _. Permit.the_row)) (λ _. tt) in let Pa = plain (λ (κs : Lfts 7). Pass.the_row (named_lft 7 4 tt κs)) in let hs : Stays En.signature.params En.kept = (stay_dropped self yes, (stay_dropped (plain (λ _. u64)) yes, (stay_ref (1 ∷ []) tt (plain (λ _. Keys.the_row)), (stay_dropped lent yes, (stay_ref (3 ∷ []) tt (Pa), (stay_dropped permit_ yes, tt)))))) in
+    proved 𝓛 En hs c 𝓜 𝓡 (Goes-dropped 𝓛 7 self yes (λ κs x f. refl), (Goes-dropped 𝓛 7 (plain (λ _. u64)) yes (λ κs x f. refl), (Goes-ref 𝓛 7 1 tt (plain (λ _. Keys.the_row)), (Goes-dropped 𝓛 7 lent yes (λ κs x f. refl), (Goes-ref 𝓛 7 3 tt (Pa), (Goes-dropped 𝓛 7 permit_ yes (λ κs x f. refl), tt)))))) (#self inst) fn (code.unfolded 𝓤 H 𝓜 𝓡 wired (P, tt) d)
+    (λ κs. (shr_vals, (uint_vals w64, (mut_vals, (shr_vals, (mut_vals, (shr_vals, tt))))))) (λ κs. (shr_Tells (named 0) κs.0 Word.the_row, (uint_Tells w64, (mut_Tells (named 1) κs.1.0 Keys.the_row, (shr_Tells (named 2) κs.1.1.0 Activation.the_row, (mut_Tells (named 3) κs.1.1.1.0 (Pass.the_row (named_lft 7 4 tt κs)), (shr_Tells (named 5) κs.1.1.1.1.1.0 Permit.the_row, tt))))))) (λ κs qs bounds a gh are.
+    let site = a.0.now in let new : ℕ = a.1.0 in let keys = a.1.1.0.now in let activation = a.1.1.1.0.now in let pass = a.1.1.1.1.0.now in let b : ℕ = a.0.ref_ptr.0 in let o : ℕ = a.0.ref_ptr.1 in let kb : ℕ = a.1.1.0.ref_ptr.0 in let ko : ℕ = a.1.1.0.ref_ptr.1 in let gb : ℕ = a.1.1.1.0.ref_ptr.0 in let go : ℕ = a.1.1.1.0.ref_ptr.1 in let pb : ℕ = a.1.1.1.1.0.ref_ptr.0 in let po : ℕ = a.1.1.1.1.0.ref_ptr.1 in let permit = a.1.1.1.1.1.0.now in let mb : ℕ = a.1.1.1.1.1.0.ref_ptr.0 in let mo : ℕ = a.1.1.1.1.1.0.ref_ptr.1 in let f : ℕ → ℕ = λ v. new in let β : Lft = activation.life ∷ [] in
     let n : Name = site.name in
-    let ℓ : NamedLft = named_lft 6 4 tt κs in let y : (walk_of 𝓛 En hs c).Ghost = ((κs, qs, bounds, a, (vptr b o ∷ [], (vint w64 new ∷ [], (vptr kb ko ∷ [], (vptr gb go ∷ [], (vptr pb po ∷ [], tt)))))), gh) in let Post : Val → SProp 𝓤 = (walk_of 𝓛 En hs c).post y in
-    let toks : Fml = fsep (flft κs.0 qs.0) (fsep (flft κs.1.0 qs.1.0) (fsep (flft κs.1.1.0 qs.1.1.0) (fsep (flft κs.1.1.1.0 qs.1.1.1.0) (fsep (flft κs.1.1.1.1.0 qs.1.1.1.1.0) (fsep (flft κs.1.1.1.1.1.0 qs.1.1.1.1.1.0) ftrue))))) in
-    let Asked : Type 0 = MayTakeStepIn site keys pass activation f g.entry g.trades in
+    let ℓ : NamedLft = named_lft 7 4 tt κs in let y : (walk_of 𝓛 En hs c).Ghost = ((κs, qs, bounds, a, (vptr b o ∷ [], (vint w64 new ∷ [], (vptr kb ko ∷ [], (vptr gb go ∷ [], (vptr pb po ∷ [], (vptr mb mo ∷ [], tt))))))), gh) in let Post : Val → SProp 𝓤 = (walk_of 𝓛 En hs c).post y in
+    let toks : Fml = fsep (flft κs.0 qs.0) (fsep (flft κs.1.0 qs.1.0) (fsep (flft κs.1.1.0 qs.1.1.0) (fsep (flft κs.1.1.1.0 qs.1.1.1.0) (fsep (flft κs.1.1.1.1.0 qs.1.1.1.1.0) (fsep (flft κs.1.1.1.1.1.0 qs.1.1.1.1.1.0) (fsep (flft κs.1.1.1.1.1.1.0 qs.1.1.1.1.1.1.0) ftrue)))))) in
+    let Asked : Type 0 = MayTakeStepIn site keys pass activation permit f g.entry g.trades in
     qed 𝓛 ((‵ toks ⊛ ‵ (owns (types_at En.signature.params κs) a y.0.4)) ∷ raw (fact 𝓤 _) ∷ raw (fact 𝓤 Asked) ∷ []) ∵ keep ! (2 ∷ 0 ∷ []) $ heard ! Asked (λ asked. split ! $
     fsplit ! $ move ! (1 ∷ []) $ fsplit ! $ move ! (1 ∷ []) $ fsplit ! $ move ! (1 ∷ []) $ fsplit ! $ two_out ! $ move ! (5 ∷ []) $ fsplit ! $ fsplit ! $ move ! (2 ∷ []) $ fsplit ! $ move ! (1 ∷ []) $ fsplit ! $ fsplit3 ! $ move ! (3 ∷ []) $ fsplit ! $ fsplit ! $ move ! (2 ∷ []) $ fsplit ! $ fsplit3 ! $
     -- [the pass, in two; the keys, in two; the word; the tokens of the three, last first; the other tokens]
-    keep ! (1 ∷ 2 ∷ 7 ∷ 8 ∷ 11 ∷ 12 ∷ 15 ∷ 16 ∷ 13 ∷ 5 ∷ 14 ∷ []) $
-    enter ! 𝓣.C 𝓣.Λ fn (vptr b o ∷ vint w64 new ∷ vptr kb ko ∷ vptr gb go ∷ vptr pb po ∷ []) Post $ alloc_all ! (λ l. pass_all ! refl ((tt, tt), ((tt, record { fits = are.1.0.1 }), ((tt, tt), ((tt, tt), ((tt, tt), tt))))) $ let Ev = env fn.locals l in
+    move ! (3 ∷ []) $ fsplit ! $ fsplit ! $ drop ! $ unhide ! $ fsplit ! $ drop ! $ rewrite ! 0 (λ (γ : ℕ). ‵ (all_permitted γ permit.codes)) (asked.2 ∙ ap (λ (z : Name). z.pairs) (sym asked.0)) refl $
+    keep ! (3 ∷ 4 ∷ 8 ∷ 9 ∷ 12 ∷ 13 ∷ 16 ∷ 17 ∷ 14 ∷ 6 ∷ 15 ∷ 0 ∷ []) $
+    enter ! 𝓣.C 𝓣.Λ fn (vptr b o ∷ vint w64 new ∷ vptr kb ko ∷ vptr gb go ∷ vptr pb po ∷ vptr mb mo ∷ []) Post $ alloc_all ! (λ l. pass_all ! refl ((tt, tt), ((tt, record { fits = are.1.0.1 }), ((tt, tt), ((tt, tt), ((tt, tt), ((tt, tt), tt)))))) $ let Ev = env fn.locals l in
     move ! (9 ∷ []) $ unhide ! $ fsplit ! $ drop ! $ use0 𝓛 (‵ (before (β ++ κs.1.1.0) β)) (before-Incl 𝓛 (β ++ κs.1.1.0) β (meet_⊑_left β κs.1.1.0)) $ move ! (1 ∷ 0 ∷ []) $ use2 𝓛 (‵ (before κs.1.1.0 β)) (before_lent 𝓛 κs.1.1.0 β β) $ move ! (0 ∷ 10 ∷ []) $
     use2 𝓛 (later (some (λ (r : Share). ‵ (flft β r) ⊛ raw (wand 𝓤 (𝓛.A.lft β r) (H.⇛ (𝓛.A.lft κs.1.1.0 qs.1.1.0)))))) (Lends-one 𝓛 𝓜 𝓡 κs.1.1.0 β qs.1.1.0) $ await ! tt $ pick ! (λ r. split ! $ move ! (2 ∷ 3 ∷ 4 ∷ 5 ∷ 6 ∷ 7 ∷ 8 ∷ 9 ∷ 10 ∷ []) $
     -- [the pass, in two; the keys, in two; the word; the tokens of the three, last first; the other tokens; the activation's token; its way back]
@@ -51,9 +54,9 @@ swap_in_spec 𝓤 𝓛 𝓜 𝓡 wired P LP g d _ =
     -- [the book; its invariant; the pass's; the pass; its cell, in four entries; the keys'; the keys; their cell; the token; the way back; the word's invariant; the other tokens]
     let entry : ℕ → List Entry → Entry = g.entry in let after : ℕ → Fml = after_step 𝓛 site [] pass.id pass.seen keys.held β [] r f entry g.trades in let out : ℕ → Fml = λ v. fsep (flft ν s) (after v) in
     first ! $ blocks ! $ sets ! (addr ! (through ! refl (stop !))) refl (tt, tt) $ sets ! (of_opd ! (get ! refl)) refl (tt, tt) $
-    nothing ! $ move ! (19 ∷ 0 ∷ []) $ fjoin ! $ nothing ! $ join ! $ move ! (9 ∷ 0 ∷ []) $ join ! $ move ! (3 ∷ 0 ∷ []) $ join ! $ move ! (13 ∷ 0 ∷ []) $ join ! $ move ! (14 ∷ 2 ∷ 0 ∷ []) $
+    nothing ! $ move ! (19 ∷ 0 ∷ []) $ fjoin ! $ move ! (0 ∷ 20 ∷ []) $ join ! $ nothing ! $ join ! $ move ! (9 ∷ 0 ∷ []) $ join ! $ move ! (3 ∷ 0 ∷ []) $ join ! $ move ! (13 ∷ 0 ∷ []) $ join ! $ move ! (14 ∷ 2 ∷ 0 ∷ []) $
     use3 𝓛 (raw (𝓣.C _ (vptr b o ∷ vint w64 new ∷ seq_cst ∷ []) (λ u. mean 𝓛 (found out u))))
-    (via 𝓤 _ (steps 𝓛 site [] pass.id pass.seen keys.held β [] r f entry g.trades b o t.1 ν s apart distinct asked.2) (swaps 𝓛 𝓜 𝓡 (code.calls-core::raw_atomic::swap 𝓡.env wired) (block_ptr b o) new are.1.0.1 out)) $
+    (via 𝓤 _ (steps_permitted 𝓛 site [] pass.id pass.seen keys.held β [] r f entry g.trades b o t.1 ν s apart distinct permit.codes asked.3) (swaps 𝓛 𝓜 𝓡 (code.calls-core::raw_atomic::swap 𝓡.env wired) (block_ptr b o) new are.1.0.1 out)) $
     sets ! (agg ! (and_then ! (lit ! tt) (no_more !))) refl (tt, (record { fits = lit< tt }, tt)) $
     Calls-last ! (fm 𝓛 𝓜 𝓡) (found out) (and_then ! (get ! refl) (and_then ! (get ! refl) (and_then ! (get ! refl) (no_more !)))) (λ u. finds ! out (λ v fits. lands_last ! refl (tt, record { fits = fits }) $ exec ! 𝓣.C 𝓣.Λ Ev (tail fn.body) (at_ret Ev Post) $ sets ! (of_opd ! (get ! refl)) refl (tt, record { fits = fits }) $
     fsplit ! $ move ! (0 ∷ 13 ∷ []) $ use2 𝓛 (later (‵ (flft κs.0 qs.0))) (apply∗ 𝓤 (𝓛.A.lft ν s) (H.⇛ (𝓛.A.lft κs.0 qs.0))) $ await ! tt $ move ! (1 ∷ []) $ fpick ! (λ x. fsplit ! $ fpick ! (λ so. drop ! $ fsplit ! $ move ! (1 ∷ []) $ fsplit ! $ move ! (1 ∷ []) $ fsplit ! $ move ! (0 ∷ 17 ∷ []) $ use2 𝓛 (later (‵ (flft κs.1.1.0 qs.1.1.0))) (apply∗ 𝓤 (𝓛.A.lft β r) (H.⇛ (𝓛.A.lft κs.1.1.0 qs.1.1.0))) $ await ! tt $
@@ -66,6 +69,6 @@ swap_in_spec 𝓤 𝓛 𝓜 𝓡 wired P LP g d _ =
     flt_i ! v (2 ^ 64) fits $ feq_i ! (List Val) (vint w64 v ∷ []) (vint w64 v ∷ []) refl $ fjoin ! $
     move ! (6 ∷ 8 ∷ []) $ two_in ! $ move ! (8 ∷ 0 ∷ []) $ fjoin ! $ move ! (4 ∷ 0 ∷ []) $ fjoin ! $ move ! (6 ∷ 0 ∷ []) $ fjoin ! $
     -- [the tokens; the result; the keys, in two; the pass, in two]
-    nothing ! $ feq_i ! (List Val) (vptr pb po ∷ []) (vptr pb po ∷ []) refl $ move ! (0 ∷ 6 ∷ 7 ∷ []) $ fjoin3 ! $ fjoin ! $ nothing ! $ fjoin ! $ feq_i ! (List Val) (vptr kb ko ∷ []) (vptr kb ko ∷ []) refl $ move ! (0 ∷ 4 ∷ 5 ∷ []) $ fjoin3 ! $ fjoin ! $ nothing ! $ fjoin ! $ nothing ! $ fjoin ! $
+    nothing ! $ nothing ! $ fjoin ! $ feq_i ! (List Val) (vptr pb po ∷ []) (vptr pb po ∷ []) refl $ move ! (0 ∷ 6 ∷ 7 ∷ []) $ fjoin3 ! $ fjoin ! $ nothing ! $ fjoin ! $ feq_i ! (List Val) (vptr kb ko ∷ []) (vptr kb ko ∷ []) refl $ move ! (0 ∷ 4 ∷ 5 ∷ []) $ fjoin3 ! $ fjoin ! $ nothing ! $ fjoin ! $ nothing ! $ fjoin ! $
     returns ! (look_at ! 0 refl) $ free_all ! refl $ keep ! (1 ∷ 0 ∷ 2 ∷ []) $
-    by ! (ends 𝓛 En hs c y (vint w64 v) v (tt, (tt, (keys', (tt, (pass', tt))))) (tt, (tt, (tt, (tt, (tt, tt))))) (fact_i 𝓤 _ (emp 𝓤) ((asked.0, refl, refl), asked.0 ∙ sym asked.1, so)))))))))))))))))
+    by ! (ends 𝓛 En hs c y (vint w64 v) v (tt, (tt, (keys', (tt, (pass', (tt, tt)))))) (tt, (tt, (tt, (tt, (tt, (tt, tt)))))) (fact_i 𝓤 _ (emp 𝓤) ((asked.0, refl, refl), asked.0 ∙ sym asked.1, so)))))))))))))))))

@@ -16,7 +16,7 @@ returns-then-word-eq0 g c =
 pub see-value-requires : goal.see-value-requires
 see-value-requires g c =
     let words = c.args.self.now in let sees = c.read_link-word.ensures.sees in let mid = c.read_link-word.new.pass in let found = c.read_link-word.result in
-    (omega arith, (c.requires.book ∙ sym sees.2.0.same.0, subst (λ (o : Option ℕ). IsFoundAt o (found.0 - 1) mid) (sym c.again.ensures.1) (glimpse_found sees.0 c.args.activation.now c.args.pass.now mid (λ _. ReadLink c.args.activation.now.slot (link_number sees.0)) found.0 found.1 sees.2.0 sees.2.1 c.if-word-eq0.false)))
+    (omega arith, (c.requires.book ∙ sym sees.2.0.same.0, subst (λ (o : Option ℕ). IsFoundAt o (found.0 - 1) mid) (sym c.again.ensures.1) (glimpse_found sees.0 c.args.activation.now c.args.pass.now mid (ReadLink c.args.activation.now.slot (link_number sees.0)) found.0 found.1 sees.2.0 sees.2.1 c.if-word-eq0.false)))
 
 pub returns : goal.returns
 returns g c =

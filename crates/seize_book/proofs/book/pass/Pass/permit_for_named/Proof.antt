@@ -2,7 +2,6 @@
 use Rattle.seize_book.proofs.Kit.{join, Lfts, NamedLft, named_lft, ℕ, List, [], ◌∷◌, refl, proved, named, Val, vptr, SProp, emp, Fml, ftrue, fsep, flft, ‵, raw, ◌⊛◌, some, given, later, await, ◌$◌, ◌∵◌, !, qed, by, move, keep, split, fsplit, fsplit3, fjoin, fjoin3, pick, learn, use0, use1, feq_i, no_more, and_then, get, agg, returns, enter, alloc_all, pass_all, free_all, look_at, sets, fact_i, tables, owns, types_at, plain, mut_vals, mut_Tells, nothing, Stays, stay_ref, walk_of, Goes-ref}
 use Rattle.std.specs.Prelude.{map}
 use Rattle.seize_book.specs.Loans.{loan_of}
-use Rattle.seize_book.specs.Permits.{all_permitted}
 use Rattle.seize_book.specs.contracts.book.permit.Permit as Permit
 use Rattle.seize_book.proofs.Borrowed.{opens_pass, closes_pass, two_out, two_in}
 use Rattle.seize_book.specs.Book.{after}
@@ -11,7 +10,7 @@ use Rattle.seize_book.specs.Fair.{Before}
 use Rattle.seize_book.specs.Tokens.{pass_owns, start}
 use Rattle.seize_book.specs.contracts.book.pass.Pass as Pass
 use Rattle.seize_book.proofs.Fields.{Token, token, token_made, ends}
-use Rattle.seize_book.proofs.Looks.{finds_permits, looked}
+use Rattle.seize_book.proofs.Looks.{finds_permits, for_named, looked}
 use Rattle.seize_book.proofs.Passes.{IsDistinct}
 use Rattle.seize_book.specs.contracts.book.pass.Pass.permit_for_named.{ended, clauses}
 use Rattle.seize_book.specs.contracts.book.pass.Pass.permit_for_named.Key.{name as #self}
@@ -33,7 +32,7 @@ permit_for_named_spec 𝓤 𝓛 𝓜 𝓡 wired =
     enter ! 𝓣.C 𝓣.Λ fn (vptr pb po ∷ []) Post $ alloc_all ! (λ l. pass_all ! refl ((tt, tt), tt) $
     opens_pass ! tt ℓ b pb po (λ vs.
     -- [what the pass owns; the pass; its cell, in four entries]
-    use1 𝓛 (later (some (λ (log : List Entry). given (Before b.name b.id b.seen [] log × IsDistinct 𝓛 b.name) (‵ (pass_owns b.name b.id log) ⊛ ‵ (all_permitted b.name.permits (map loan_of (after (start b.name) log).named))))))
+    use1 𝓛 (later (some (λ (log : List Entry). given (Before b.name b.id b.seen [] log × IsDistinct 𝓛 b.name) (‵ (pass_owns b.name b.id log) ⊛ ‵ (for_named b.name log)))))
     (finds_permits 𝓛 b.name b.id b.seen) $ await ! tt $ pick ! (λ log. learn ! (λ so. split ! $
     -- [what the pass owns; the permits; the pass; its cell, in four entries]
     let b' : (Pass.the_row ℓ).Denot = record b { seen = log } in let r : Permit.the_row.Denot = record { marker = record {}; list = b.name.permits; codes = map loan_of (after (start b.name) log).named } in
