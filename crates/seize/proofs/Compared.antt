@@ -1,13 +1,10 @@
--- How an exchange that compares ends: it was won just where the link held what it compared; and what is had where it was lost.
+-- What is had where an exchange that compares was lost.
 use Rattle.std.proofs.Common.{◌≡◌, ◌≢◌, ◌⊎◌, inl, inr, ℕ, Bool, if◌then◌else◌, List, Option, None, Some, IfSome, sym, ap, subst, ◌∙◌}
 use base.Stored.{Coded}
 use Rattle.seize_machine.specs.Machine.Event.{Event}
 use Rattle.seize_machine.specs.declared.machine.event.Answer.{Answer}
-use Rattle.seize_book.specs.Blocks.{link_word}
 use Rattle.seize_book.specs.Passes.{LooksOn}
 use Rattle.seize_book.specs.declared.book.pass.Pass.{Pass}
-use Rattle.seize_book.proofs.Facts.{equal, unequal}
-use Rattle.seize_words.specs.Links.{comparand}
 use Rattle.seize_parts.specs.Blocks.{IsNamed, content}
 use Rattle.seize.specs.Collectors.{BelongsTo, IsBlockOf}
 use Rattle.seize.specs.Exchanges.{ComesBack}
@@ -16,16 +13,6 @@ use Rattle.seize_parts.specs.declared.block.owned.Owned.{Owned}
 use Rattle.seize.specs.declared.collector.Collector.{Collector}
 use Rattle.seize.proofs.Facts.{content_once}
 use Rattle.seize_parts.proofs.Made.{none_looked, then_none}
-
--- where the words are the same it compared what the link held
-pub won_compare : (current held : Option ℕ) → link_word held ≡ link_word current → comparand current held ≡ held
-won_compare current held same = ap (λ (b : Bool). if b then held else current) (equal (link_word held) (link_word current) same)
-
--- and else something that the link didn't hold
-pub lost_compare : (current held : Option ℕ) → link_word held ≢ link_word current → comparand current held ≢ held
-lost_compare current held other same =
-    let is : comparand current held ≡ current = ap (λ (b : Bool). if b then held else current) (unequal (link_word held) (link_word current) other) in
-    other (ap link_word (sym same ∙ is))
 
 -- a look at the list adds nothing to what was made
 pub made_looked : {p q r : Pass} {es : List (Event × Answer)} → Makes p q es → (r ≡ q) ⊎ LooksOn q r → Makes p r es

@@ -25,6 +25,8 @@ use Rattle.seize.specs.declared.block.shared.Shared.{Shared}
 -- what was found stays found, and a won exchange of it took out that; and what one call makes and then another
 pub use Rattle.seize.proofs.Found.{found_still, read_replaced}
 pub use Rattle.seize_parts.proofs.Made.{makes_then, then_none}
+-- what the rule of links carries on, and what a name says
+pub use Rattle.seize_parts.proofs.Ruled.{follows_between, held_after, held_at_last, held_between, held_from, held_through, held_throughout, holds_said, kept_within, says_once, since_seen}
 -- what calls made with a pass stands among the moments of which the laws speak, and in each list that goes on
 pub use Rattle.seize_parts.proofs.Stands.{made_since, read_found, reclaimed_still, retired_still}
 -- and a value whose retirement returned is retired there
@@ -46,7 +48,7 @@ pub found_content : {T R : Type 0} (collector : Collector T R) (coded : Coded T)
     → Shows collector coded.code held (Some shared) → held ≡ Some v → HasContent coded.code v x → shared_value shared ≡ x
 found_content collector coded held shared v x shows is has =
     content_once coded v (shared_value shared) x
-    (subst (λ (w : ℕ). IsLentAs w (coded.code (shared_value shared))) (some_is shows.1.0 v (sym shows.1.1 ∙ is)) shows.1.2) has
+    (subst (λ (w : ℕ). IsLentAs w (coded.code (shared_value shared))) (some_is shows.1.1.0 v (sym shows.1.1.1 ∙ (shows.0 ∙ is))) shows.1.1.2) has
 
 -- A registration's end only adds to what its pass has seen.
 pub use_ended : (s : ℕ) (pass pass' : Pass) (gave : Bool) → EndsUse s pass pass' gave → IsPrefix pass.seen pass'.seen

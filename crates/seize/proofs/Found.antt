@@ -1,28 +1,34 @@
--- What a guard found in a link. While its activation lasts that is not reclaimed, so a won exchange that takes a link to hold it took out
--- just that.
-use Rattle.std.proofs.Common.{◌≡◌, ◌≢◌, ◌⊎◌, ℕ, zero, suc, ◌+◌, ◌-◌, List, Option, None, Some, arith, inl, inr, refl, subst, sym, ◌∙◌}
+-- What was found in a link, and what a pass knows of it.
+use Rattle.std.proofs.Common.{◌≡◌, ◌≢◌, ◌⊎◌, ℕ, zero, suc, ◌+◌, ◌-◌, List, Option, None, Some, IfSome, arith, inl, inr, refl, subst, sym, ◌∙◌}
+use denote.Bor.{Bor}
+use mathlib.Core.List.{IsPrefix}
 use Rattle.seize_machine.specs.Machine.Event.{Event, ExchangeLink, ReadLink}
 use Rattle.seize_machine.specs.declared.machine.event.Answer.{Answer}
 use Rattle.seize_machine.specs.declared.machine.event.Exchange.TheVariants.{Compare}
 use Rattle.seize_book.specs.Blocks.{block_number, link_word}
 use Rattle.seize_book.specs.Books.{Learns}
 use Rattle.seize_book.specs.Homesteads.{HasNumber, state_seen}
+use Rattle.seize_book.specs.Entry.{Entry}
+use Rattle.seize_book.specs.Laws.{Reader}
 use Rattle.seize_book.specs.Passes.{LooksOn}
+use Rattle.seize_book.specs.Tokens.{Name, start}
+use Rattle.seize_book.proofs.Loans.{reader_later}
+use Rattle.seize_parts.proofs.Made.{none_learned, none_then}
 use Rattle.seize_book.specs.declared.book.pass.Pass.{Pass}
 use Rattle.seize_book.specs.declared.book.seen.Seen.{Seen}
-use Rattle.seize_words.specs.Links.{comparand}
-use Rattle.seize_words.specs.LinkWords.{CompareExchanges, Finds, held_before, link_number, value_held}
+use Rattle.seize_words.specs.LinkWords.{CompareExchanges, Finds, WasFoundIn, held_before, link_number, value_held}
 use Rattle.seize_words.specs.declared.activation.Activation.{Activation}
 use Rattle.seize_words.specs.declared.glimpse.Glimpse.{Glimpse}
 use Rattle.seize_words.specs.declared.link.Link.{Link}
 use Rattle.seize_words.specs.declared.link.MaybeKey.{MaybeKey}
-use Rattle.seize_words.proofs.Facts.{found_later, glimpse_found, seen_grows, took_current, was_found}
-use Rattle.seize_calls.proofs.Slots.{longer_left}
+use Rattle.seize_words.proofs.Facts.{found_later, was_found}
+use Rattle.seize_calls.proofs.Slots.{longer_left, longer_right}
 use base.Stored.{Gv}
 use Rattle.core.specs.declared.result.Result.{Result}
 use Rattle.core.specs.declared.result.Result.TheVariants.{Ok}
-use Rattle.seize.specs.Links.{Shows, shared_name}
-use Rattle.seize.specs.Exchanges.{FoundIn, IsOutcome, StandsAlone, TookFound}
+use Rattle.seize.specs.Collectors.{its_book}
+use Rattle.seize.specs.Links.{IsSharedOf, Shows, shared_name}
+use Rattle.seize.specs.Exchanges.{FoundIn, IsOutcome, Learned}
 use Rattle.seize.specs.declared.block.failed.Failed.{Failed}
 use Rattle.seize_parts.specs.declared.block.owned.Owned.{Owned}
 use Rattle.seize.specs.declared.block.shared.Shared.{Shared}
@@ -38,49 +44,51 @@ pub found_looked : (a : Activation) (o : Option ℕ) (pass pass' : Pass) → (pa
 found_looked a o pass pass' (inl same) found = subst (FoundIn a o) (sym same) found
 found_looked a o pass pass' (inr looks) found = λ v is. found_later a v pass pass' looks.same.0 looks.grows (found v is)
 
-pub found_learned : (a : Activation) (o : Option ℕ) (pass : Pass) (seen : Seen) (learned ready : Pass) → Learns pass seen learned → ready ≡ learned → FoundIn a o pass → FoundIn a o ready
-found_learned a o pass seen learned ready learns same found =
-    subst (FoundIn a o) (sym same) (λ v is. found_later a v pass learned learns.0.0 (longer_left pass.seen seen.seen learned.seen learns.2) (found v is))
+-- What the caller takes a link to hold was found in an activation that lasts, as the pass knows,
+abbrev pub KnowsFound : {T : Type 0} → Option (Bor (Shared T)) → Pass → Type 0
+KnowsFound current pass = IfSome current (λ shared. WasFoundIn shared.now.lasting (shared_name shared.now) pass)
+
+-- once it learned from it,
+pub found_learned : {T R : Type 0} (code : T → Gv) (collector : Collector T R) (current : Option (Bor (Shared T))) (pass pass' : Pass) → Learned current pass pass' → IfSome current (λ shared. IsSharedOf code collector shared.now) → its_book collector ≡ pass.name → KnowsFound current pass'
+found_learned code collector None pass pass' learned of book = tt
+found_learned code collector (Some shared) pass pass' learned of book = λ w is.
+    let l = shared.now.lasting in
+    reader_later (start pass'.name) l.seen pass'.seen w l.life (longer_right pass.seen l.seen pass'.seen learned.2)
+    (subst (λ (n : Name). Reader (start n) l.seen w l.life) (book ∙ sym learned.0.0) (of.2 w is))
+
+-- and whatever it learned since
+pub found_ready : {T : Type 0} (current : Option (Bor (Shared T))) (pass : Pass) (seen : Seen) (learned ready : Pass) → Learns pass seen learned → ready ≡ learned → KnowsFound current pass → KnowsFound current ready
+found_ready None pass seen learned ready learns same found = tt
+found_ready (Some shared) pass seen learned ready learns same found = λ w is.
+    let life = shared.now.lasting.life in
+    subst (λ (p : Pass). Reader (start p.name) p.seen w life) (sym same)
+    (subst (λ (n : Name). Reader (start n) learned.seen w life) (sym learns.0.0) (reader_later (start pass.name) pass.seen learned.seen w life (longer_left pass.seen seen.seen learned.seen learns.2) (found w is)))
+
+-- nothing is made where a pass learns
+pub told_then : {T : Type 0} (current : Option (Bor (Shared T))) {p q r : Pass} {es : List (Event × Answer)} → Learned current p q → Makes q r es → Makes p r es
+told_then None {p} {q} {r} {es} same makes = subst (λ (z : Pass). Makes z r es) same makes
+told_then (Some shared) {p} {q} learned makes =
+    let l = shared.now.lasting in none_then (none_learned p (record { marker = record {}; name = l.name; seen = l.seen }) q learned) makes
 
 -- what a read finds
 pub finds_found : (link : Link) (a : Activation) (pass pass' : Pass) (v : ℕ) (t : Finds link a pass pass' v) → FoundIn a (held_before t.reads) pass'
 finds_found link a pass pass' v t w is =
-    found_later a w t.mid pass' t.looks.same.0 t.looks.grows (was_found link a pass t.mid (λ _. ReadLink a.slot (link_number link)) v w t.reads (λ _. (refl, refl)) is)
+    found_later a w t.mid pass' t.looks.same.0 t.looks.grows (was_found link a pass t.mid (ReadLink a.slot (link_number link)) v w t.reads (refl, refl) is)
 
--- What a read found, and a won exchange that takes the link to hold it, are one, and the event compared with that.
-pub read_replaced : {T R : Type 0} (code : T → Gv) (a : Activation) (collector : Collector T R) (new : Option (Owned T)) (read : Pass) {held now : Option ℕ} {result : Option (Shared T)} {found : Shared T}
-    {outcome : Result (Option (Unlinked T)) (Failed T)} {out : Option (Unlinked T)} → Shows collector code held result → result ≡ Some found → FoundIn a held read
-    → IsOutcome code collector new (comparand (shared_name found) now) now outcome → TookFound a (shared_name found) read now outcome → outcome ≡ Ok out
-    → (comparand (shared_name found) now ≡ held) × (now ≡ held)
-read_replaced code a collector new read {held} {now} {result} {found} {outcome} {out} shows is there ends took won =
+-- What a read found, and a won exchange that takes the link to hold it, are one.
+pub read_replaced : {T R : Type 0} (code : T → Gv) (collector : Collector T R) (new : Option (Owned T)) {held now : Option ℕ} {result : Option (Shared T)} {found : Shared T}
+    {outcome : Result (Option (Unlinked T)) (Failed T)} {out : Option (Unlinked T)} → Shows collector code held result → result ≡ Some found → IsOutcome code collector new (shared_name found) now outcome → outcome ≡ Ok out
+    → (shared_name found ≡ held) × (now ≡ held)
+read_replaced code collector new {held} {now} {result} {found} {outcome} {out} shows is ends won =
     let name : shared_name found ≡ held = (subst (Shows collector code held) is shows).0 in
-    let compared : comparand (shared_name found) now ≡ now = (subst (IsOutcome code collector new (comparand (shared_name found) now) now) won ends).0 in
-    let same : now ≡ held = subst (TookFound a (shared_name found) read now) won took (subst (λ (o : Option ℕ). FoundIn a o read) (sym name) there) ∙ name in
-    (compared ∙ same, same)
+    let same : shared_name found ≡ now = (subst (IsOutcome code collector new (shared_name found) now) won ends).0 in
+    (name, sym same ∙ name)
 
 pub none_held : (o : Option ℕ) → link_word o ≡ 0 → o ≡ None
 none_held None is = refl
 none_held (Some w) is = absurd (let e : block_number w + 1 ≡ 0 = is in omega (arith, e))
 
 -- what an exchange finds
-module _ (link : Link) (a : Activation) (key : MaybeKey) (pass : Pass) (current : Option ℕ) (key' : MaybeKey) (pass' : Pass) (v : ℕ) (glimpse : Glimpse)
-    (t : CompareExchanges link a key pass current key' pass' v glimpse) where
-  abbrev event : Option ℕ → Event
-  event old = ExchangeLink a.slot (link_number link) (Compare (comparand current old) (value_held key))
-
-  pub exchange_found : FoundIn a (held_before t.0) pass'
-  exchange_found w is = was_found link a pass pass' event v w t.0 (λ _. (refl, refl)) is
-
-  pub exchange_number : v ≢ 0 → HasNumber (v - 1) (state_seen pass')
-  exchange_number some = let found = glimpse_found link a pass pass' event v (record glimpse { value = held_before t.0 }) t.0 refl some in (found.value, found.named, found.numbered)
-
-  -- and where it is won it took out what was found before
-  pub took_found : (later : Pass) → v ≡ link_word current → StandsAlone a v pass' later → FoundIn a current pass → held_before t.0 ≡ current
-  took_found later won alone found = go v refl
-    where
-      go : (n : ℕ) → v ≡ n → held_before t.0 ≡ current
-      go zero is = none_held (held_before t.0) (sym t.0.found ∙ is) ∙ sym (none_held current (sym won ∙ is))
-      go (suc n) is =
-          let stands = alone (λ none. absurd (omega (arith, none, is))) in
-          took_current link a a pass pass' later event v current t.0 (λ _. (refl, refl)) won
-          (λ w at. found_later a w pass pass' t.0.same.0 (seen_grows pass.name pass.id pass.seen pass'.seen _ t.0.noted) (found w at)) stands.0 stands.1 stands.1 stands.2
+pub exchange_found : (link : Link) (a : Activation) (key : MaybeKey) (pass : Pass) (current : Option ℕ) (key' : MaybeKey) (pass' : Pass) (v : ℕ) (glimpse : Glimpse)
+    (t : CompareExchanges link a key pass current key' pass' v glimpse) → FoundIn a (held_before t.0) pass'
+exchange_found link a key pass current key' pass' v glimpse t w is = was_found link a pass pass' (ExchangeLink a.slot (link_number link) (Compare current (value_held key))) v w t.0 (refl, refl) is

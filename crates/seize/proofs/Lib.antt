@@ -1,3 +1,4 @@
+pub mod Allowing
 pub mod Compared
 pub mod Found
 pub mod Guarded

@@ -11,7 +11,6 @@ use Rattle.seize_book.specs.Book.{after}
 use Rattle.seize_book.specs.Entry.{Deed, Entry}
 use Rattle.seize_book.specs.Tokens.{start}
 use Rattle.seize_book.specs.declared.book.pass.Pass.{Pass}
-use Rattle.seize_words.specs.Links.{comparand}
 use Rattle.seize_words.specs.LinkWords.{ActsOnLink, CompareExchanges, Finds, IsStepOn, Reads, Swaps, held_before, link_number, value_held}
 use Rattle.seize_words.specs.declared.activation.Activation.{Activation}
 use Rattle.seize_words.specs.declared.glimpse.Glimpse.{Glimpse}
@@ -28,16 +27,16 @@ link_answer s l size st event _ is (Step.compared _ k _ _ _) = ap (λ (j : ℕ).
 link_answer s l size st event _ is _ = absurd is
 
 -- a step on a link
-pub acts_on : (link : Link) (a : Activation) (pass pass' : Pass) (event : Option ℕ → Event) (v : ℕ) → ((o : Option ℕ) → IsStepOn a.slot (link_number link) (event o)) → (t : ActsOnLink link a pass pass' event v)
-    → MakesOne pass pass' (event (held_before t)) (Held (held_before t))
+pub acts_on : (link : Link) (a : Activation) (pass pass' : Pass) (event : Event) (v : ℕ) → IsStepOn a.slot (link_number link) event → (t : ActsOnLink link a pass pass' event v)
+    → MakesOne pass pass' event (Held (held_before t))
 acts_on link a pass pass' event v on t =
-    let l = link_number link in let d : Deed = private pass (event (held_before t)) in
+    let l = link_number link in let d : Deed = private pass event in
     one_answered_there pass pass' d (Held (held_before t)) t.same t.noted
-    (λ o step. link_answer a.slot l d.size (after (start pass.name) t.noted.before) d.event o (on (held_before t)) step ∙ ap (λ (log : List Entry). Held (link_at (after (start pass.name) log) l)) t.is_before)
+    (λ o step. link_answer a.slot l d.size (after (start pass.name) t.noted.before) d.event o on step ∙ ap (λ (log : List Entry). Held (link_at (after (start pass.name) log) l)) t.is_before)
 
 -- a read
 pub link_reads : (link : Link) (a : Activation) (pass pass' : Pass) (v : ℕ) (t : Reads link a pass pass' v) → MakesOne pass pass' (ReadLink a.slot (link_number link)) (Held (held_before t))
-link_reads link a pass pass' v t = acts_on link a pass pass' (λ _. ReadLink a.slot (link_number link)) v (λ o. (refl, refl)) t
+link_reads link a pass pass' v t = acts_on link a pass pass' (ReadLink a.slot (link_number link)) v (refl, refl) t
 
 -- a read, and a look at the list
 pub link_finds : (link : Link) (a : Activation) (pass pass' : Pass) (v : ℕ) (t : Finds link a pass pass' v) → MakesOne pass pass' (ReadLink a.slot (link_number link)) (Held (held_before t.reads))
@@ -46,11 +45,11 @@ link_finds link a pass pass' v t = then_none (link_reads link a pass t.mid v t.r
 -- an exchange
 pub link_swaps : (link : Link) (a : Activation) (key : MaybeKey) (pass : Pass) (key' : MaybeKey) (pass' : Pass) (v : ℕ) (t : Swaps link a key pass key' pass' v)
     → MakesOne pass pass' (ExchangeLink a.slot (link_number link) (Swap (value_held key))) (Held (held_before t.0))
-link_swaps link a key pass key' pass' v t = acts_on link a pass pass' (λ _. ExchangeLink a.slot (link_number link) (Swap (value_held key))) v (λ o. (refl, refl)) t.0
+link_swaps link a key pass key' pass' v t = acts_on link a pass pass' (ExchangeLink a.slot (link_number link) (Swap (value_held key))) v (refl, refl) t.0
 
 -- a compare and exchange, whether it was won or lost
 pub link_compares : (link : Link) (a : Activation) (key : MaybeKey) (pass : Pass) (current : Option ℕ) (key' : MaybeKey) (pass' : Pass) (v : ℕ) (glimpse : Glimpse)
     (t : CompareExchanges link a key pass current key' pass' v glimpse)
-    → MakesOne pass pass' (ExchangeLink a.slot (link_number link) (Compare (comparand current (held_before t.0)) (value_held key))) (Held (held_before t.0))
+    → MakesOne pass pass' (ExchangeLink a.slot (link_number link) (Compare current (value_held key))) (Held (held_before t.0))
 link_compares link a key pass current key' pass' v glimpse t =
-    acts_on link a pass pass' (λ old. ExchangeLink a.slot (link_number link) (Compare (comparand current old) (value_held key))) v (λ o. (refl, refl)) t.0
+    acts_on link a pass pass' (ExchangeLink a.slot (link_number link) (Compare current (value_held key))) v (refl, refl) t.0

@@ -39,6 +39,6 @@ pub protects : (a : Activation) (pass later : Pass) → LooksOn pass later → I
 protects a pass later looks lasts v k found gone =
     let n = later.name in let distinct : are_distinct (linked_values n.links) ≡ true = ap (λ (m : Name). are_distinct (linked_values m.links)) looks.same.0 ∙ looks.distinct in
     let legal : IsLegalList (start n) later.seen = subst (λ (m : Name). IsLegalList (start m) later.seen) (sym looks.same.0) looks.legal in
-    let stands : has v (state_seen later).gone ≡ false = (found_stands a v later distinct legal lasts (found v refl)).1 in
+    let stands : has v (state_seen later).gone ≡ false = found_stands a v later distinct legal lasts (found v refl) in
     let told : (state_seen later).gone ≡ handed (answers_of (moments_seen later)) = law_gone n.slots n.links (events_of later.seen) _ _ distinct (as_legal (start n) later.seen legal) in
     false≢true (sym stands ∙ ap (has v) told ∙ was_handed (moments_seen later) v k gone)

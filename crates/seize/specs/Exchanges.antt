@@ -1,17 +1,15 @@
 -- What contracts see of an exchange that compares.
---     current_name current     what the list calls the value that the caller takes a link to hold, or none
+--     current_name current     what the list calls the value that the caller takes a link to hold, or none;  current_value current     and
+--                              that value
 --     MakesExchange code collector s a link current new pass pass' result     slot s made one event, an exchange that compares: `put` is
 --                              what the list calls the new block, and `held` what the link held at the event
 --     ComesBack new back       the block comes back with its content, of the same store, or there is neither
 --     FoundIn a o pass         where o is a value, it was found in a link in this activation, as the pass has seen
 --     Protects a pass          no value that was found in this activation, as the pass has seen, is reclaimed in what it has seen
---     TookFound a current pass held result     if the exchange was won, and `current` was found in this activation, as the pass had seen
---                              before, the link held just that
---     StandsAlone a word pass later     where the word is that of a block, the pass has looked at the list since; the activation has not
---                              ended there, and at most one value of that block was named and not reclaimed
---     IsOutcome code collector new compare held result     where the link held what the exchange compared, that came out, of this
+--     Learned current pass pass'     the pass has learned what was seen where `current` was found
+--     IsOutcome code collector new current held result     where the link held just what the caller took it to hold, that came out, of this
 --                              collector; else what the link held was found, and the block that was to go in comes back
-use Rattle.std.specs.Prelude.{◌≡◌, ◌≢◌, ◌-◌, ℕ, Option, None, Some, IfSome}
+use Rattle.std.specs.Prelude.{◌≡◌, ◌≢◌, ℕ, Option, None, Some, IfSome}
 use denote.Bor.{Bor}
 use base.Stored.{Gv}
 use Rattle.core.specs.declared.result.Result.{Result}
@@ -21,14 +19,11 @@ use Rattle.seize_machine.specs.Machine.History.{Reclaimed}
 use Rattle.seize_machine.specs.declared.machine.event.Answer.TheVariants.{Link}
 use Rattle.seize_machine.specs.declared.machine.event.Exchange.TheVariants.{Compare}
 use Rattle.seize_book.specs.declared.book.pass.Pass.{Pass}
-use Rattle.seize_book.specs.Passes.{LooksOn}
-use Rattle.seize_words.specs.Activations.{IsLasting}
-use Rattle.seize_words.specs.Chunks.{IsLiveAt}
 use Rattle.seize_words.specs.LinkWords.{WasFound}
-use Rattle.seize_words.specs.Links.{comparand}
+use Rattle.seize_words.specs.Lasted.{LearnsFrom}
 use Rattle.seize_words.specs.declared.activation.Activation.{Activation}
 use Rattle.seize_parts.specs.Blocks.{IsNamed, content, store_name}
-use Rattle.seize.specs.Links.{ComesOut, IsUnlinkedOf, Shows, shared_name}
+use Rattle.seize.specs.Links.{ComesOut, IsUnlinkedOf, Shows, shared_name, shared_value}
 use Rattle.seize_parts.specs.Laws.{moments_seen}
 use Rattle.seize_parts.specs.Makes.{MakesOne}
 use Rattle.seize.specs.declared.block.failed.Failed.{Failed}
@@ -41,6 +36,10 @@ abbrev pub current_name : {T : Type 0} → Option (Bor (Shared T)) → Option �
 current_name (Some shared) = shared_name shared.now
 current_name None = None
 
+abbrev pub current_value : {T : Type 0} → Option (Bor (Shared T)) → Option T
+current_value (Some shared) = Some (shared_value shared.now)
+current_value None = None
+
 abbrev pub ComesBack : {T : Type 0} → Option (Owned T) → Option (Owned T) → Type 0
 ComesBack (Some new) (Some back) = (content back ≡ content new) × (store_name back ≡ store_name new)
 ComesBack None None = Unit {0}
@@ -52,29 +51,22 @@ FoundIn a o pass = (v : ℕ) → o ≡ Some v → WasFound a v pass
 abbrev pub Protects : Activation → Pass → Type 0
 Protects a pass = (v k : ℕ) → FoundIn a (Some v) pass → ¬ (Reclaimed (moments_seen pass) v k)
 
-abbrev pub TookFound : {T : Type 0} → Activation → Option ℕ → Pass → Option ℕ → Result (Option (Unlinked T)) (Failed T) → Type 0
-TookFound a current pass held (Ok out) = FoundIn a current pass → held ≡ current
-TookFound a current pass held (Err failed) = Unit {0}
-
-abbrev pub StandsAlone : Activation → ℕ → Pass → Pass → Type 0
-StandsAlone a word pass later =
-    word ≢ 0
-    → LooksOn pass later × IsLasting a later
-    × ((v w : ℕ) → IsLiveAt v (word - 1) later → IsLiveAt w (word - 1) later → v ≡ w)
+abbrev pub Learned : {T : Type 0} → Option (Bor (Shared T)) → Pass → Pass → Type 0
+Learned (Some shared) pass pass' = LearnsFrom shared.now.lasting pass pass'
+Learned None pass pass' = pass' ≡ pass
 
 abbrev pub IsOutcome : {T R : Type 0} → (T → Gv) → Collector T R → Option (Owned T) → Option ℕ → Option ℕ
     → Result (Option (Unlinked T)) (Failed T) → Type 0
-IsOutcome code collector new compare held (Ok out) =
-    (compare ≡ held) × ComesOut held out × IfSome out (IsUnlinkedOf collector)
-IsOutcome code collector new compare held (Err failed) =
-    (compare ≢ held) × Shows collector code held failed.found × ComesBack new failed.new
+IsOutcome code collector new current held (Ok out) =
+    (current ≡ held) × ComesOut held out × IfSome out (IsUnlinkedOf collector)
+IsOutcome code collector new current held (Err failed) =
+    (current ≢ held) × Shows collector code held failed.found × ComesBack new failed.new
 
 pub record MakesExchange {T R : Type 0} (code : T → Gv) (collector : Collector T R) (s : ℕ) (a : Activation) (link : ℕ) (current : Option ℕ)
     (new : Option (Owned T)) (pass pass' : Pass) (result : Result (Option (Unlinked T)) (Failed T)) : Type 0 where
   pub put : Option ℕ
   pub held : Option ℕ
   pub named : IsNamed code new put
-  pub made : MakesOne pass pass' (ExchangeLink s link (Compare (comparand current held) put)) (Link held)
-  pub outcome : IsOutcome code collector new (comparand current held) held result
+  pub made : MakesOne pass pass' (ExchangeLink s link (Compare current put)) (Link held)
+  pub outcome : IsOutcome code collector new current held result
   pub found : FoundIn a held pass'
-  pub took : TookFound a current pass held result

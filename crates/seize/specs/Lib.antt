@@ -17,6 +17,7 @@ pub use Rattle.seize_parts.specs.Furthers
 pub use Rattle.seize_parts.specs.Laws
 pub use Rattle.seize_parts.specs.Makes
 pub use Rattle.seize_parts.specs.Puts
+pub use Rattle.seize_parts.specs.Rules
 pub use Rattle.seize_parts.specs.Told
 pub use Rattle.seize_table.specs.Free
 pub use Rattle.seize_table.specs.Place

@@ -1,10 +1,12 @@
 -- What contracts see of what links hold, and of what came out of them. `code` is the code of the collector's element type.
 --     shared_name shared        what the list calls the value that was found;  shared_value shared     the value
 --     name_of found             what the list calls what was found, if there is anything
---     shared_book shared        the list of its collector;  IsSharedOf c shared     it is of this collector
+--     shared_book shared        the list of its collector
+--     IsSharedIn code n shared  it is of the collector of list n, its value is what its name says, and it was found in the activation that
+--                               it knows to last;  IsSharedOf code c shared     so it is, of this collector
 --     shared_block shared       which block it is: the list of its collector, and the word that a link shows for it
---     ShowsIn n code held shared     what was found is what the link held, a block of the collector of list n with that value; or there is
---                               neither;  Shows c code held shared     so it is, and the block is of this collector
+--     ShowsIn n code held shared     what was found is what the link held, of the collector of list n; or there is neither
+--     Shows c code held shared  so it is, of this collector
 --     unlinked_name u           what the list calls the value that is in no link;  IsUnlinkedOf c u   it keeps the words of this collector
 --     ComesOut held u           what came out is what the link held, or there is neither
 --     taken_name taken, taken_content taken, taken_book taken     what the list calls a value that is in no link, of a collector in one
@@ -13,7 +15,8 @@
 use Rattle.std.specs.Prelude.{◌≡◌, ℕ, Option, None, Some}
 use base.Stored.{Gv}
 use Rattle.seize_book.specs.Blocks.{link_word}
-use Rattle.seize_book.specs.Tokens.{Name}
+use Rattle.seize_book.specs.Laws.{Reader}
+use Rattle.seize_book.specs.Tokens.{Name, start}
 use Rattle.seize_words.specs.Chunks.{IsFoundAs}
 use Rattle.seize_words.specs.Joined.{words_book}
 use Rattle.seize_calls.specs.Slots.{its_value, loose_book}
@@ -35,13 +38,18 @@ abbrev pub shared_value : {T : Type 0} → Shared T → T
 shared_value shared = shared.value.now
 
 abbrev pub shared_book : {T : Type 0} → Shared T → Name
-shared_book shared = shared.origin.name
+shared_book shared = shared.lasting.name
 
 abbrev pub shared_block : {T : Type 0} → Shared T → Name × ℕ
 shared_block shared = (shared_book shared, link_word (shared_name shared))
 
-abbrev pub IsSharedOf : {T R : Type 0} → Collector T R → Shared T → Type 0
-IsSharedOf collector shared = shared_book shared ≡ words_book collector.words
+abbrev pub IsSharedIn : {T : Type 0} → (T → Gv) → Name → Shared T → Type 0
+IsSharedIn code n shared =
+    (shared_book shared ≡ n) × IsFoundAs (shared_name shared) (code (shared_value shared))
+    × ((v : ℕ) → shared_name shared ≡ Some v → Reader (start n) shared.lasting.seen v shared.lasting.life)
+
+abbrev pub IsSharedOf : {T R : Type 0} → (T → Gv) → Collector T R → Shared T → Type 0
+IsSharedOf code collector shared = IsSharedIn code (words_book collector.words) shared
 
 abbrev pub unlinked_name : {T : Type 0} → Unlinked T → ℕ
 unlinked_name unlinked = its_value unlinked.loose
@@ -67,8 +75,7 @@ TakesOut code None None = Unit {0}
 TakesOut code _ _ = ⊥
 
 abbrev pub ShowsIn : {T : Type 0} → Name → (T → Gv) → Option ℕ → Option (Shared T) → Type 0
-ShowsIn n code held (Some shared) =
-    (shared_name shared ≡ held) × IsFoundAs held (code (shared_value shared)) × (shared_book shared ≡ n)
+ShowsIn n code held (Some shared) = (shared_name shared ≡ held) × IsSharedIn code n shared
 ShowsIn n code held None = held ≡ None
 
 abbrev pub Shows : {T R : Type 0} → Collector T R → (T → Gv) → Option ℕ → Option (Shared T) → Type 0

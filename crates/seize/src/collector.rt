@@ -135,8 +135,15 @@ impl<T: Drop, R: Reclaim<T>> Collector<T, R> {
         ensures made { IfOk result (λ made. (its_size made ≡ size) × BeginsEmpty made links × (its_id made ≡ id)) }
         ensures refused { IfErr result (λ refusal. refusal ≡ no_memory) }
     {
-        let (words, permits, mut porter, key, next) = Words::new(alloc, processors, links, size)?;
-        let Ok(ender) = Box::new(alloc, Ender { reclaimer, permits }) else {
+        let (words, permits, pairs, mut porter, key, next) = Words::new(
+            alloc, processors, links, size,
+        )?;
+        let ender = Ender {
+            reclaimer,
+            permits,
+            pairs,
+        };
+        let Ok(ender) = Box::new(alloc, ender) else {
             return Err(Refusal::NoMemory);
         };
         porter.leave_home();
@@ -277,8 +284,9 @@ impl<T: Drop, R: Reclaim<T>> Collector<T, R> {
     ghost use Rattle.seize_machine.specs.Machine.Event.{Enter, Take};
     ghost use Rattle.seize_machine.specs.declared.machine.event.Answer.TheVariants.{Done};
     ghost use Rattle.seize_table.specs.declared.refusal.Refusal.TheVariants.{NoMemory as no_memory};
-    ghost use Rattle.seize.specs.Collectors.{IsPassOf};
+    ghost use Rattle.seize.specs.Collectors.{IsPassOf, seen_by};
     ghost use Rattle.seize_parts.specs.Laws.{HaveContents, LawsHold};
+    ghost use Rattle.seize_parts.specs.Rules.{KeepsSince};
     ghost use Rattle.seize_parts.specs.Makes.{Makes, MakesNone};
     ghost use Rattle.seize.specs.OwnedGuards.{owned_collector, owned_slot};
 
@@ -312,16 +320,19 @@ impl<T: Drop, R: Reclaim<T>> Collector<T, R> {
     /// So each value, whoever retired it, is reclaimed there at most once, and only after each slot that was active at its retirement has
     /// left or refreshed. And each name in it that was ever in a link, or retired, says a content of type `T`.
     ///
+    /// Each exchange that was won since the collector was shared, by whoever, meets the rule of its links (`Puts::keeps`). What one caller
+    /// did with an `Alone` is not among these, and the drop is not bound either.
+    ///
     /// It makes no event, and does nothing when the program runs: its contract is the laws.
     pub fn laws(&self, pass: &mut Pass)
         requires pass { IsPassOf self.now pass.old }
         ensures none { MakesNone pass.old pass.new }
         ensures laws { LawsHold pass.new }
         ensures contents { HaveContents T.row.coded.code pass.new }
+        ensures rule { KeepsSince T.row.coded.code R.keeps (seen_by self.now) pass.new }
     {
         machine::laws();
-        let permit = pass.permit_for_named();
-        self.ender.permits.check(permit);
+        self.ender.look(&self.porter, pass);
     }
 }
 

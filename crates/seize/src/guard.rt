@@ -33,11 +33,11 @@ impl<'r, 'c, T: Drop, R: Reclaim<T>> LocalGuard<'r, 'c, T, R> {
     ghost use Rattle.seize_machine.specs.declared.machine.event.Answer.TheVariants.{Link};
     ghost use Rattle.seize_machine.specs.declared.machine.event.Exchange.TheVariants.{Swap};
     ghost use Rattle.seize_machine.specs.declared.machine.event.Job.TheVariants.{Flush, Leave, Refresh, Retire};
-    ghost use Rattle.seize_parts.specs.Blocks.{IsNamed, content};
+    ghost use Rattle.seize_parts.specs.Blocks.{IsNamed, content, content_of};
     ghost use Rattle.seize.specs.Links.{ComesOut, IsSharedOf, IsUnlinkedOf, Shows, unlinked_name};
     ghost use Rattle.seize.specs.Collectors.{BelongsTo, IsBlockOf, IsPassOf, its_links};
     ghost use Rattle.seize_table.specs.declared.refusal.Refusal.TheVariants.{NoMemory as no_memory};
-    ghost use Rattle.seize.specs.Exchanges.{FoundIn, MakesExchange, Protects, current_name};
+    ghost use Rattle.seize.specs.Exchanges.{FoundIn, MakesExchange, Protects, current_name, current_value};
     ghost use Rattle.seize.specs.Guards.{IsGuardOf, guard_activation, guard_collector, guard_slot};
     ghost use Rattle.seize_parts.specs.Puts.{PutBy};
     ghost use Rattle.seize_parts.specs.Makes.{Defers, IsOfKind, MakesCall, MakesNone, MakesOne, StaysActive};
@@ -107,7 +107,7 @@ impl<'r, 'c, T: Drop, R: Reclaim<T>> LocalGuard<'r, 'c, T, R> {
     }
 
     /// Exchanges what a link holds for this block, or for none: the event `ExchangeLink`. It gives what the link held, which may outlive
-    /// the guard, and is to be retired.
+    /// the guard, and is to be retired. The rule of the collector's links has to let the new content follow whatever is there.
     ///
     /// It takes no memory and waits for nobody: one load to find the link, one atomic swap, and the look-up of the new block.
     pub fn swap(
@@ -118,6 +118,7 @@ impl<'r, 'c, T: Drop, R: Reclaim<T>> LocalGuard<'r, 'c, T, R> {
     ) -> Option<Unlinked<'c, T>>
         requires of { IsPassOf (guard_collector self.now) pass.old × (link < its_links (guard_collector self.now)) }
         requires value { IfSome value (λ owned. BelongsTo R.owners (guard_collector self.now) owned) }
+        requires rule { (x : Option T) → R.keeps link x (content_of value) }
         ensures of { IfSome result (IsUnlinkedOf (guard_collector self.now)) }
         ensures made { (new : Option ℕ) × (held : Option ℕ) × IsNamed T.row.coded.code value new × ComesOut held result
             × MakesOne pass.old pass.new (ExchangeLink (guard_slot self.now) link (Swap new)) (Link held) }
@@ -129,9 +130,8 @@ impl<'r, 'c, T: Drop, R: Reclaim<T>> LocalGuard<'r, 'c, T, R> {
     /// event `ExchangeLink`. It gives what the link held, which may outlive the guard, and is to be retired. What was found is of this
     /// collector.
     ///
-    /// Whether it holds that is decided by the number of its block. Where the exchange is won, the event compares with what the link held.
-    /// A value that this guard found since it entered or refreshed is not reclaimed while it stands. So where `current` is such a one, as
-    /// the pass has seen, a won exchange took out that very value, and no other one of the same block.
+    /// A won exchange took out just what was found, whoever found it: it stands while `current` is there, so its block has no other value.
+    /// The rule of the collector's links has to let the new content follow what was found (`Puts::keeps`).
     ///
     /// It takes no memory and waits for nobody: one atomic compare and exchange, and look-ups of the blocks.
     ///
@@ -147,7 +147,8 @@ impl<'r, 'c, T: Drop, R: Reclaim<T>> LocalGuard<'r, 'c, T, R> {
     ) -> Result<Option<Unlinked<'c, T>>, Failed<'_, T>>
         requires of { IsPassOf (guard_collector self.now) pass.old × (link < its_links (guard_collector self.now)) }
         requires value { IfSome new (λ owned. BelongsTo R.owners (guard_collector self.now) owned) }
-        requires current { IfSome current (λ shared. IsSharedOf (guard_collector self.now) shared.now) }
+        requires current { IfSome current (λ shared. IsSharedOf T.row.coded.code (guard_collector self.now) shared.now) }
+        requires rule { R.keeps link (current_value current) (content_of new) }
         ensures { MakesExchange T.row.coded.code (guard_collector self.now) (guard_slot self.now) (guard_activation self.now) link
             (current_name current.entry) new pass.old pass.new result }
     {
@@ -164,7 +165,8 @@ impl<'r, 'c, T: Drop, R: Reclaim<T>> LocalGuard<'r, 'c, T, R> {
     ) -> Result<Option<Unlinked<'c, T>>, Failed<'_, T>>
         requires of { IsPassOf (guard_collector self.now) pass.old × (link < its_links (guard_collector self.now)) }
         requires value { IfSome new (λ owned. BelongsTo R.owners (guard_collector self.now) owned) }
-        requires current { IfSome current (λ shared. IsSharedOf (guard_collector self.now) shared.now) }
+        requires current { IfSome current (λ shared. IsSharedOf T.row.coded.code (guard_collector self.now) shared.now) }
+        requires rule { R.keeps link (current_value current) (content_of new) }
         ensures { MakesExchange T.row.coded.code (guard_collector self.now) (guard_slot self.now) (guard_activation self.now) link
             (current_name current.entry) new pass.old pass.new result }
     {

@@ -47,10 +47,10 @@ impl<'c, T: Drop, R: Reclaim<T>> OwnedGuard<'c, T, R> {
     ghost use Rattle.seize_machine.specs.declared.machine.event.Job.TheVariants.{Flush, Refresh, Retire};
     ghost use Rattle.seize_table.specs.declared.refusal.Refusal.TheVariants.{NoMemory as no_memory};
     ghost use Rattle.seize_calls.specs.Slots.{IsInactive, its_number};
-    ghost use Rattle.seize_parts.specs.Blocks.{IsNamed, content};
+    ghost use Rattle.seize_parts.specs.Blocks.{IsNamed, content, content_of};
     ghost use Rattle.seize.specs.Links.{ComesOut, IsSharedOf, IsUnlinkedOf, Shows, unlinked_name};
     ghost use Rattle.seize.specs.Collectors.{BelongsTo, IsBlockOf, IsPassOf, IsSlotFor, its_links};
-    ghost use Rattle.seize.specs.Exchanges.{FoundIn, MakesExchange, Protects, current_name};
+    ghost use Rattle.seize.specs.Exchanges.{FoundIn, MakesExchange, Protects, current_name, current_value};
     ghost use Rattle.seize_parts.specs.Puts.{PutBy};
     ghost use Rattle.seize_parts.specs.Makes.{Defers, IsOfKind, LeavesAndGives, MakesCall, MakesNone, MakesOne};
     ghost use Rattle.seize.specs.OwnedGuards.{owned_activation, owned_collector, owned_slot};
@@ -137,7 +137,7 @@ impl<'c, T: Drop, R: Reclaim<T>> OwnedGuard<'c, T, R> {
     }
 
     /// Exchanges what a link holds for this block, or for none: the event `ExchangeLink`. It gives what the link held, which may outlive
-    /// the guard, and is to be retired.
+    /// the guard, and is to be retired. The rule of the collector's links has to let the new content follow whatever is there.
     ///
     /// It takes no memory and no lock, and waits for nobody: one load to find the link, one atomic swap, and the look-up of the new block.
     pub fn swap(
@@ -148,6 +148,7 @@ impl<'c, T: Drop, R: Reclaim<T>> OwnedGuard<'c, T, R> {
     ) -> Option<Unlinked<'c, T>>
         requires of { IsPassOf (owned_collector self.now) pass.old × (link < its_links (owned_collector self.now)) }
         requires value { IfSome value (λ owned. BelongsTo R.owners (owned_collector self.now) owned) }
+        requires rule { (x : Option T) → R.keeps link x (content_of value) }
         ensures of { IfSome result (IsUnlinkedOf (owned_collector self.now)) }
         ensures made { (new : Option ℕ) × (held : Option ℕ) × IsNamed T.row.coded.code value new × ComesOut held result
             × MakesOne pass.old pass.new (ExchangeLink (owned_slot self.now) link (Swap new)) (Link held) }
@@ -158,9 +159,8 @@ impl<'c, T: Drop, R: Reclaim<T>> OwnedGuard<'c, T, R> {
     /// Exchanges what a link holds for this block, or for none, if the link holds what was found, or nothing where that is `None`: the
     /// event `ExchangeLink`. It gives what the link held, which may outlive the guard, and is to be retired.
     ///
-    /// Whether it holds that is decided by the number of its block. Where the exchange is won, the event compares with what the link held.
-    /// A value that this guard found since it entered or refreshed is not reclaimed while it stands. So where `current` is such a one, as
-    /// the pass has seen, a won exchange took out that very value, and no other one of the same block.
+    /// A won exchange took out just what was found, whoever found it: it stands while `current` is there, so its block has no other value.
+    /// The rule of the collector's links has to let the new content follow what was found (`Puts::keeps`).
     ///
     /// It takes no memory and no lock, and waits for nobody: one atomic compare and exchange, and look-ups of the blocks.
     ///
@@ -176,7 +176,8 @@ impl<'c, T: Drop, R: Reclaim<T>> OwnedGuard<'c, T, R> {
     ) -> Result<Option<Unlinked<'c, T>>, Failed<'_, T>>
         requires of { IsPassOf (owned_collector self.now) pass.old × (link < its_links (owned_collector self.now)) }
         requires value { IfSome new (λ owned. BelongsTo R.owners (owned_collector self.now) owned) }
-        requires current { IfSome current (λ shared. IsSharedOf (owned_collector self.now) shared.now) }
+        requires current { IfSome current (λ shared. IsSharedOf T.row.coded.code (owned_collector self.now) shared.now) }
+        requires rule { R.keeps link (current_value current) (content_of new) }
         ensures { MakesExchange T.row.coded.code (owned_collector self.now) (owned_slot self.now) (owned_activation self.now) link
             (current_name current.entry) new pass.old pass.new result }
     {
@@ -193,7 +194,8 @@ impl<'c, T: Drop, R: Reclaim<T>> OwnedGuard<'c, T, R> {
     ) -> Result<Option<Unlinked<'c, T>>, Failed<'_, T>>
         requires of { IsPassOf (owned_collector self.now) pass.old × (link < its_links (owned_collector self.now)) }
         requires value { IfSome new (λ owned. BelongsTo R.owners (owned_collector self.now) owned) }
-        requires current { IfSome current (λ shared. IsSharedOf (owned_collector self.now) shared.now) }
+        requires current { IfSome current (λ shared. IsSharedOf T.row.coded.code (owned_collector self.now) shared.now) }
+        requires rule { R.keeps link (current_value current) (content_of new) }
         ensures { MakesExchange T.row.coded.code (owned_collector self.now) (owned_slot self.now) (owned_activation self.now) link
             (current_name current.entry) new pass.old pass.new result }
     {

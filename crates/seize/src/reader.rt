@@ -10,11 +10,12 @@ ghost use Rattle.seize_parts.specs.Reservations.{IsUnitIn};
 
 use crate::block::{Failed, Owned, Shared, Unlinked};
 use crate::collector::Collector;
-use crate::guard::exchanging::{came_back, current_word, exchange, look_back, shown};
+use crate::guard::exchanging::{came_back, current_word, exchange, learn_current, shown};
 use seize_parts::block::name;
 use seize_parts::reclaim::Reclaim;
 use seize_words::activation::Activation;
 use seize_words::book::{Pass, Seen};
+use seize_words::lasting::Lasting;
 use std::marker::Brand;
 
 /// What a guard reads with.
@@ -37,10 +38,10 @@ impl<'c, T: Drop, R: Reclaim<T>> Reader<'c, T, R> {
     ghost use Rattle.seize_machine.specs.Machine.Event.{ExchangeLink, ReadLink};
     ghost use Rattle.seize_machine.specs.declared.machine.event.Answer.TheVariants.{Link};
     ghost use Rattle.seize_machine.specs.declared.machine.event.Exchange.TheVariants.{Swap};
-    ghost use Rattle.seize_parts.specs.Blocks.{IsNamed};
+    ghost use Rattle.seize_parts.specs.Blocks.{IsNamed, content_of};
     ghost use Rattle.seize.specs.Links.{ComesOut, IsSharedOf, IsUnlinkedOf, Shows};
     ghost use Rattle.seize.specs.Collectors.{IsPassOf, its_links};
-    ghost use Rattle.seize.specs.Exchanges.{FoundIn, MakesExchange, Protects, current_name};
+    ghost use Rattle.seize.specs.Exchanges.{FoundIn, MakesExchange, Protects, current_name, current_value};
     ghost use Rattle.seize_parts.specs.Makes.{MakesNone, MakesOne};
 
     /// Reads a link.
@@ -52,8 +53,8 @@ impl<'c, T: Drop, R: Reclaim<T>> Reader<'c, T, R> {
         pass.learn(&self.seen);
         let (word, found) = self.collector.words.find(link, &self.unit, pass);
         let found = found?;
-        let book = &self.collector.words.blocks.book;
-        Some(Shared::of(found.value, word, found.glimpse, book))
+        let lasting = Lasting::of(&self.unit, pass);
+        Some(Shared::of(found.value, word, found.glimpse, lasting))
     }
 
     /// The pass looks at the list, in which the guard's activation has not ended.
@@ -75,6 +76,7 @@ impl<'c, T: Drop, R: Reclaim<T>> Reader<'c, T, R> {
     ) -> Option<Unlinked<'c, T>>
         requires of { IsPassOf self.now.collector.now pass.old × (link < its_links self.now.collector.now) }
         requires value { IfSome value (λ owned. BelongsTo R.owners self.now.collector.now owned) }
+        requires rule { (x : Option T) → R.keeps link x (content_of value) }
         ensures of { IfSome result (IsUnlinkedOf self.now.collector.now) }
         ensures made { (new : Option ℕ) × (held : Option ℕ) × IsNamed T.row.coded.code value new × ComesOut held result
             × MakesOne pass.old pass.new (ExchangeLink self.now.number link (Swap new)) (Link held) }
@@ -82,9 +84,10 @@ impl<'c, T: Drop, R: Reclaim<T>> Reader<'c, T, R> {
         let collector = self.collector;
         pass.learn(&self.seen);
         let (new, mut key) = name(value, &collector.words, collector.ender(), pass);
+        let permit = collector.ender().for_swap(link, &key, pass);
         let old = collector
             .words
-            .swap_link(link, new, &mut key, &self.unit, pass);
+            .swap_link(link, new, &mut key, &self.unit, pass, &permit);
         Unlinked::found(&collector.words, old, key)
     }
 
@@ -98,29 +101,23 @@ impl<'c, T: Drop, R: Reclaim<T>> Reader<'c, T, R> {
     ) -> Result<Option<Unlinked<'c, T>>, Failed<'_, T>>
         requires of { IsPassOf self.now.collector.now pass.old × (link < its_links self.now.collector.now) }
         requires value { IfSome new (λ owned. BelongsTo R.owners self.now.collector.now owned) }
-        requires current { IfSome current (λ shared. IsSharedOf self.now.collector.now shared.now) }
+        requires current { IfSome current (λ shared. IsSharedOf T.row.coded.code self.now.collector.now shared.now) }
+        requires rule { R.keeps link (current_value current) (content_of new) }
         ensures { MakesExchange T.row.coded.code self.now.collector.now self.now.number self.now.unit link
             (current_name current.entry) new pass.old pass.new result }
     {
         let collector = self.collector;
+        learn_current(current, pass);
         pass.learn(&self.seen);
-        let expected = current_word(current);
         let (word, mut key) = name(new, &collector.words, collector.ender(), pass);
-        let (old, glimpse) = exchange::<T, Brand>(
-            &collector.words,
-            link,
-            expected,
-            word,
-            &mut key,
-            current,
-            &self.unit,
-            pass,
+        let expected = current_word(current);
+        let (old, glimpse) = exchange::<T, R, Brand>(
+            collector, link, current, word, &mut key, &self.unit, pass,
         );
         if old == expected {
-            look_back(&collector.words.blocks, old, &self.unit, pass);
             return Ok(Unlinked::found(&collector.words, old, key));
         }
-        let found = shown(collector, old, glimpse, pass);
+        let found = shown(collector, old, glimpse, &self.unit, pass);
         let new = came_back(collector, word, key, pass);
         Err(Failed { found, new })
     }

@@ -21,7 +21,7 @@ use Rattle.seize_model.specs.Waiting.State as waiting
 use Rattle.seize_model.specs.Agreement.Shows.{ShowsReclaimers, ShowsSlot, ShowsState, ShowsValues, StandFor, head_of, held_value}
 use Rattle.seize_book.specs.Book.{IsLegalList, after}
 use Rattle.seize_book.specs.Entry.{Deed, Entry, Made, Use, Used}
-use Rattle.seize_book.specs.Kept.{IsTold, Says}
+use Rattle.seize_book.specs.Kept.{IsTold, SaysKept}
 use Rattle.seize_book.specs.Saying.{AllSay, retires_by}
 use Rattle.seize_book.specs.Tokens.{Name, start}
 use Rattle.seize_book.proofs.Facts.{equal, reached_after, told_if}
@@ -133,7 +133,7 @@ all_said [] = []
 all_said (Made d ∷ log) = kinds_of (retires_by d.event) d.kepts ++ all_said log
 all_said (Used u ∷ log) = all_said log
 
-each_told : (log : List Entry) (vs ks : List ℕ) → ((v k : ℕ) → Says vs ks v k → IsTold log v k) → AreOfKinds log (kinds_of vs ks)
+each_told : (log : List Entry) (vs ks : List ℕ) → ((v k : ℕ) → SaysKept vs ks v k → IsTold log v k) → AreOfKinds log (kinds_of vs ks)
 each_told log [] ks told = tt
 each_told log (v ∷ vs) [] told = tt
 each_told log (v ∷ vs) (k ∷ ks) told = (told v k (inl (refl, refl)), each_told log vs ks (λ w l says. told w l (inr says)))
@@ -152,7 +152,7 @@ said_told (Made e ∷ log) =
     told_append (Made e ∷ log) (kinds_of (retires_by e.event) e.kepts) (all_said log) (each_told (Made e ∷ log) (retires_by e.event) e.kepts (λ v k says. inl says)) (more_told e log (all_said log) (said_told log))
 said_told (Used u ∷ log) = used_told u log (all_said log) (said_told log)
 
-says_has : (vs ks : List ℕ) (v k : ℕ) → Says vs ks v k → Has (kinds_of vs ks) v
+says_has : (vs ks : List ℕ) (v k : ℕ) → SaysKept vs ks v k → Has (kinds_of vs ks) v
 says_has [] ks v k says = absurd says
 says_has (x ∷ vs) [] v k says = absurd says
 says_has (x ∷ vs) (l ∷ ks) v k (inl is) = subst (Has (kinds_of (x ∷ vs) (l ∷ ks))) is.0 (has_first (x, l) (kinds_of vs ks))

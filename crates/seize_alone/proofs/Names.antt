@@ -9,7 +9,7 @@ use Rattle.seize_model.specs.Waiting.Further.{Lighter, put_by}
 use Rattle.seize_model.specs.Agreement.Shows.{StandFor}
 use Rattle.seize_book.specs.Book.{IsLegalList}
 use Rattle.seize_book.specs.Entry.{Entry}
-use Rattle.seize_book.specs.Kept.{AllTold, IsTold, Says}
+use Rattle.seize_book.specs.Kept.{AllTold, IsTold, SaysKept}
 use Rattle.seize_book.specs.Tokens.{Name, start}
 use Rattle.seize_words.specs.Chunks.{IsLentAs}
 use Rattle.seize_calls.specs.Handing.{AreTheirs, Had, Handings, values_handed}
@@ -49,7 +49,7 @@ abbrev pub its_kinds : Handings → Had → List (ℕ × ℕ)
 its_kinds (h ∷ handed) (one ∷ had) = ((h.0, one.0) ∷ of_kind one.0 one.2) ++ its_kinds handed had
 its_kinds _ _ = []
 
-says_kind : (log : List Entry) (kind : ℕ) (vs : List ℕ) → ((v k : ℕ) → Says vs (map (λ _. kind) vs) v k → IsTold log v k) → AreOfKinds log (of_kind kind vs)
+says_kind : (log : List Entry) (kind : ℕ) (vs : List ℕ) → ((v k : ℕ) → SaysKept vs (map (λ _. kind) vs) v k → IsTold log v k) → AreOfKinds log (of_kind kind vs)
 says_kind log kind [] says = tt
 says_kind log kind (v ∷ vs) says = (says v kind (inl (refl, refl)), says_kind log kind vs (λ w k s. says w k (inr s)))
 
@@ -74,8 +74,8 @@ module _ {T : Type 0} (c : Coded T) (puts : ℕ → T → List T) where
       (subst (λ (g : Gv). IsLentAs h.0 g) (sym put.0.1) theirs.0.1, zip_lent one.2 (puts one.0 put.0.0) put.0.2) (names_lent handed kepts had put.1 theirs.1)
 
   -- of each that was put with one value the list says the kind
-  puts_told : (log : List Entry) (h : ℕ × List ℕ × List ℕ) (one : ℕ × Gv × List ℕ × List ℕ) → one.2 ≡ h.1 → one.3 ≡ h.2 → one.3 ≡ map (λ _. one.0) one.2 → ((v k : ℕ) → Says h.1 h.2 v k → IsTold log v k) → AreOfKinds log (of_kind one.0 one.2)
-  puts_told log h one ns ws kinds said = says_kind log one.0 one.2 (λ v k s. said v k (subst (λ (t : List ℕ × List ℕ). Says t.0 t.1 v k) (λ i. (ns i, (sym kinds ∙ ws) i)) s))
+  puts_told : (log : List Entry) (h : ℕ × List ℕ × List ℕ) (one : ℕ × Gv × List ℕ × List ℕ) → one.2 ≡ h.1 → one.3 ≡ h.2 → one.3 ≡ map (λ _. one.0) one.2 → ((v k : ℕ) → SaysKept h.1 h.2 v k → IsTold log v k) → AreOfKinds log (of_kind one.0 one.2)
+  puts_told log h one ns ws kinds said = says_kind log one.0 one.2 (λ v k s. said v k (subst (λ (t : List ℕ × List ℕ). SaysKept t.0 t.1 v k) (λ i. (ns i, (sym kinds ∙ ws) i)) s))
 
   pub kinds_told : (log : List Entry) (handed : Handings) (kepts : List ℕ) (had : Had) → PutAs c.code puts had → AreTheirs handed kepts had → AllTold log (values_handed handed) kepts → EachSaid log handed → AreOfKinds log (its_kinds handed had)
   kinds_told log [] kepts had put theirs told said = tt

@@ -59,11 +59,11 @@ pub made_alone : {numbers numbers' : NumbersKey} {key key' : SlotKey} {pass pass
 made_alone {numbers} {numbers'} {key} {key'} {pass} {pass'} sole makes = record { sole = sole; same = makes.same; deed = private pass (Take (slot_number key)); is = refl; noted = makes.noted; answers = refl }
 
 -- on a link
-module _ {link : SharedLink} {a : Activation} {pass pass' : Pass} {event : Event} {v : ℕ} (sole : IsSole pass.id) (t : ActsOnLink link a pass pass' (λ _. event) v) where
+module _ {link : SharedLink} {a : Activation} {pass pass' : Pass} {event : Event} {v : ℕ} (sole : IsSole pass.id) (t : ActsOnLink link a pass pass' event v) where
   on_link : (answer : Answer) → t.noted.answer ≡ answer → MakesAlone pass pass' event answer
   on_link answer is = record { sole = sole; same = t.same; deed = private pass event; is = refl; noted = t.noted; answers = is }
 
-pub swapped_alone : {link : SharedLink} {a : Activation} {pass pass' : Pass} {s l v : ℕ} {number : Option ℕ} → IsSole pass.id → (t : ActsOnLink link a pass pass' (λ _. ExchangeLink s l (Swap number)) v)
+pub swapped_alone : {link : SharedLink} {a : Activation} {pass pass' : Pass} {s l v : ℕ} {number : Option ℕ} → IsSole pass.id → (t : ActsOnLink link a pass pass' (ExchangeLink s l (Swap number)) v)
     → MakesAlone pass pass' (ExchangeLink s l (Swap number)) (Link (machine.link_at (after (start pass.name) t.before) l))
 swapped_alone {link} {a} {pass} {pass'} {s} {l} {v} {number} sole t =
     let before = after (start pass.name) t.noted.before in

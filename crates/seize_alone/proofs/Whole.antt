@@ -21,7 +21,7 @@ use Rattle.seize_model.specs.Agreement.Shows.{StandFor}
 use Rattle.seize_book.specs.Adding.{deed_with_words}
 use Rattle.seize_book.specs.Book.{IsLegalList, after, with_answers}
 use Rattle.seize_book.specs.Entry.{Deed, Entry, Made, Use, Used, maker, timed_deed}
-use Rattle.seize_book.specs.Kept.{AllTold, IsTold, Says, retires_by}
+use Rattle.seize_book.specs.Kept.{AllTold, IsTold, SaysKept, retires_by}
 use Rattle.seize_book.specs.Passes.{IsSamePass, events_by, events_in}
 use Rattle.seize_book.specs.Slots.{slot_number}
 use Rattle.seize_book.specs.Tokens.{IsSole, start}
@@ -48,7 +48,7 @@ AllServe puts of by (h ∷ handed) = StandFor of by h.1 (put_by puts (of h.0, by
 
 abbrev pub EachSaid : List Entry → Handings → Type 0
 EachSaid log [] = Unit {0}
-EachSaid log (h ∷ handed) = ((v k : ℕ) → Says h.1 h.2 v k → IsTold log v k) × EachSaid log handed
+EachSaid log (h ∷ handed) = ((v k : ℕ) → SaysKept h.1 h.2 v k → IsTold log v k) × EachSaid log handed
 
 abbrev first_pair : Handings → ℕ × List ℕ × List ℕ
 first_pair [] = (0, [], [])
@@ -62,7 +62,7 @@ other_pairs (p ∷ ps) = ps
 
 abbrev AllSaid : List Entry → List (Deed × Answer) → Type 0
 AllSaid log [] = Unit {0}
-AllSaid log (a ∷ made) = ((v k : ℕ) → Says (retires_by a.0.event) a.0.kepts v k → IsTold log v k) × AllSaid log made
+AllSaid log (a ∷ made) = ((v k : ℕ) → SaysKept (retires_by a.0.event) a.0.kepts v k → IsTold log v k) × AllSaid log made
 
 said_on : (e : Entry) (log : List Entry) (made : List (Deed × Answer)) → AllSaid log made → AllSaid (e ∷ log) made
 said_on e log [] all = tt
@@ -86,7 +86,7 @@ said_last : (log : List Entry) (a b : List (Deed × Answer)) → AllSaid log (a 
 said_last log [] b all = all
 said_last log (x ∷ a) b all = said_last log a b all.1
 
-puts_said : (log : List Entry) (e : Event) (kepts : List ℕ) → ((v k : ℕ) → Says (retires_by e) kepts v k → IsTold log v k) → (v k : ℕ) → Says (puts_of e) kepts v k → IsTold log v k
+puts_said : (log : List Entry) (e : Event) (kepts : List ℕ) → ((v k : ℕ) → SaysKept (retires_by e) kepts v k → IsTold log v k) → (v k : ℕ) → SaysKept (puts_of e) kepts v k → IsTold log v k
 puts_said log (Hand s ns) kepts all v k says = all v k says
 puts_said log (Take n) kepts all v k says = absurd says
 puts_said log (Give n) kepts all v k says = absurd says
@@ -103,7 +103,7 @@ puts_said log (Return s) kepts all v k says = absurd says
 puts_said log (ReadLink s l) kepts all v k says = absurd says
 puts_said log (ExchangeLink s l x) kepts all v k says = absurd says
 
-each_one : (log : List Entry) (d : Deed) (answer : Answer) (rest : Handings) → ((v k : ℕ) → Says (retires_by d.event) d.kepts v k → IsTold log v k) → EachSaid log rest → EachSaid log (hand_of d answer rest)
+each_one : (log : List Entry) (d : Deed) (answer : Answer) (rest : Handings) → ((v k : ℕ) → SaysKept (retires_by d.event) d.kepts v k → IsTold log v k) → EachSaid log rest → EachSaid log (hand_of d answer rest)
 each_one log d Done rest all each = each
 each_one log d (Head found) rest all each = each
 each_one log d (Count count) rest all each = each
@@ -197,7 +197,7 @@ module _ {pass pass' : Pass} {s : ℕ} {job : Job} {words : List ℕ} {had had' 
   pub whole_said : EachSaid pass'.seen w.handed
   whole_said = subst (EachSaid pass'.seen) all_hands (each_said pass'.seen all_made all_said)
 
-  pub begin_said : (v k : ℕ) → Says (retires_by (Begin s job)) words v k → IsTold pass'.seen v k
+  pub begin_said : (v k : ℕ) → SaysKept (retires_by (Begin s job)) words v k → IsTold pass'.seen v k
   begin_said = all_said.0
 
   pub whole_job : IsJob s job (events_made all_made)

@@ -1,8 +1,9 @@
--- What a call adds to the list: where its pass is alone only the call adds to it, and of its slot's own entries it adds all.
+-- What a call adds to the list: where its pass is alone only the call adds to it, and of its slot's own entries it adds all, as the slot's
+-- key knows.
 --     AllBy p log           all these entries were made with pass p
 --     AddsAlone pass pass'  where the pass is alone, all that it has seen beyond what it had seen was made with it
 --     AllMadeBy p acts      all these entries, which have their answers beside them, were made with pass p
---     AddsOwn key pass key'     all that was added to the slot's own entries was made with the pass
+--     AddsOwn key pass key'     all that came to the slot's own entries between what the two keys know was made with the pass
 use Rattle.std.specs.Prelude.{◌≡◌, ℕ, List, [], ◌∷◌, ◌++◌}
 use Rattle.seize_machine.specs.declared.machine.event.Answer.{Answer}
 use Rattle.seize_book.specs.Entry.{Entry, maker}

@@ -7,15 +7,15 @@
 --     Rests key pass key' pass' values'   no call of the slot is under way then, and these are the keys of its batch; whether it is in use
 --                        is as before. The pass has seen what it had seen (`grows`), and what was added where it is alone was made with it
 --                        (`alone`): then the events are all there are since. All that was added to the slot's own entries since its
---                        key knew them was made with it (`own`), and the key has seen all that the pass has (`sees`): the events of the
---                        call are all that the slot made, but for steps on links
+--                        key knew them was made with it (`own`), and the key has seen all that the pass has (`sees`). So where the pass had
+--                        seen what the key knew, the events of the call are all that the slot made since, but for steps on links
 --     Flushes key pass values had key' pass' values' had' retired     a flush: it began, settled, drained its queue, and returned. A
 --                        batch that wasn't empty was attempted
 --     RetiresOne key pass v kept values had key' pass' values' had' retired     a retirement: it began, v was put, of which this is
 --                        kept, and then it settled with v as the last, drained its queue, and returned. A full batch was attempted, as
 --                        DrainsOne says
---     SwapsOut job swap s pass out walk     `out` is the pass on its way: a call of slot s began with this job, the head was swapped
---                        out by this entry, and the call is about to walk these batches, which came out
+--     SwapsOut job swap s pass out walk     `out` is the pass after the swap and before the first count: a call of slot s began with this
+--                        job, the head was swapped out by this entry, and the call is about to walk these batches, which came out
 --     Leaves job stays swap key pass values had key' pass' values' had'     a leave or a refresh: it began, the head was swapped out by
 --                        this entry, and as many batches as came out were counted down (`each`); each such event takes the next one.
 --                        What was given up was handed before the next. Then the call had its queue alone, and the slot's batch as it was

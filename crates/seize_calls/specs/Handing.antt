@@ -9,8 +9,8 @@
 --     Queues queue puts words queue'     these came to the queue, last, of which this is kept
 --     TakesFirst queue v kept queue'     v was the first of the queue, of which this is kept, and the others are left
 --     IsServed keys name        the keys are of this book, and each of their values may be put by a reclaimer (AreNew)
---     GainsSpot spots spots' number     the chunk with this number came to the list, last; a full one gave its last 64 back before. For
---                               each value of a call Lays says so, of Laying
+--     GainsSpot spots spots' number     the chunk with this number came to the list, last; of a full one only the first 64 stayed before
+--                               that. For each value of a call Lays says so, of Laying
 use Rattle.std.specs.Prelude.{◌≡◌, ℕ, List, [], ◌∷◌, ◌++◌}
 use base.Stored.{Gv}
 use denote.Struct.Codes.{itself}

@@ -6,7 +6,8 @@
 --     plan_in key b          how batch b was detached, as the slot's key knows
 --     Continues key pass key' pass'  it is the same key and pass, and the slot's batch, whether it is in use and active, and its last
 --                            activation, are as they were; the pass has seen all that it had seen, and so no fewer slots; what was
---                            added where it is alone was made with it (AddsAlone), and so was all of the slot's own (AddsOwn)
+--                            added where it is alone was made with it (AddsAlone), and so was what the key saw come to the slot's own
+--                            entries (AddsOwn)
 --     IsAtTry key head header seen block front     the slot's call is about to insert its batch at this head, where it saw this word, with
 --                            the block of this number and header; and this is the number of the batch's first block
 --     TriesOnce at pass key' pass' won   it tried once, and won or lost

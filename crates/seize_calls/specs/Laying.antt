@@ -1,7 +1,7 @@
 -- Which chunks came to a slot's list of spots while values were handed.
 --     handed_by made         the values that these events handed, in order;  handed_with event answer     the value, if this one did
---     lay_all titles laid    the titles of a list to which these chunks came, one after the other, each last; a full one gave its last 64
---                            back before
+--     lay_all titles laid    the titles of a list to which these chunks came, one after the other, each last; of a full one only the first
+--                            64 stayed before that
 --     Lays pass spots pass' spots'     for each value that was handed with the pass meanwhile, in order, the chunk with the number of its
 --                            block came to the list, and nothing else was done to it (lay_all)
 use Rattle.std.specs.Prelude.{◌≡◌, ℕ, List, [], ◌∷◌, ◌++◌, map}

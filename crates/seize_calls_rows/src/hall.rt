@@ -1,6 +1,6 @@
 //! A hall is where visitors meet: the words of one book, the porter that lends its passes, and its list of permits. They share it by `&`.
 ghost use Rattle.std.specs.Prelude.{◌≡◌, IfOk};
-ghost use Rattle.seize_book.specs.Lending.{ArePermitsOf};
+ghost use Rattle.seize_book.specs.Lending.{ArePairsOf, ArePermitsOf};
 ghost use Rattle.seize_words.specs.Joined.{words_book};
 ghost use Rattle.seize_words.specs.Rows.{AreShared};
 ghost use Rattle.seize_calls.specs.Slots.{its_number};
@@ -17,23 +17,26 @@ use std::alloc::Global;
 /// How many links the book has.
 pub const ROW: usize = 1024;
 
-/// Any code may be lent.
+/// Any code may be lent, and in a link any may follow any.
 pub struct AnyCode {}
 
 impl Condition for AnyCode {
     ghost holds = { λ _ _. Unit {0} };
 }
 
-/// The words of a book, the porter, which lends passes, and the list of the codes that may be lent.
+/// The words of a book, the porter, which lends passes, and the lists of the codes that may be lent and of the pairs that may follow one
+/// another in links.
 #[derive(Drop)]
 pub struct Hall {
     pub words: Words<u64>,
     pub porter: Porter,
     pub permits: Permits<AnyCode>,
+    pub pairs: Permits<AnyCode>,
     ghost links: { HasLinks words },
     ghost shared: { AreShared words.links },
     ghost lends: { LendsFor words porter },
     ghost listed: { ArePermitsOf (words_book words) permits },
+    ghost paired: { ArePairsOf (words_book words) pairs },
 }
 
 /// What the slots of a book are made with, and how many there are.
@@ -49,7 +52,7 @@ pub struct Source {
 pub fn open(alloc: Global, size: usize) -> Result<(Hall, Source), Refusal>
     ensures { IfOk result (λ opened. CanMake opened.0.words opened.1 × (made_by opened.1 ≡ 0)) }
 {
-    let (words, permits, mut porter, numbers, next) = Words::new(alloc, 0, ROW, size)?;
+    let (words, permits, pairs, mut porter, numbers, next) = Words::new(alloc, 0, ROW, size)?;
     porter.leave_home();
     let source = Source {
         numbers,
@@ -61,6 +64,7 @@ pub fn open(alloc: Global, size: usize) -> Result<(Hall, Source), Refusal>
         words,
         porter,
         permits,
+        pairs,
     };
     Ok((hall, source))
 }

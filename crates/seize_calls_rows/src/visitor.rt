@@ -1,22 +1,19 @@
 //! A visitor has a slot as one value, and its activation beside it. Each of its calls has a pass of its own, which the porter lends for it.
 //! Others may add any events meanwhile.
-ghost use Rattle.std.specs.Prelude.{◌≡◌, ◌<◌, IfOk, IfSome, length};
-ghost use Rattle.seize_book.specs.Lending.{ArePermitsOf};
-ghost use Rattle.seize_words.specs.Joined.{words_book};
-ghost use Rattle.seize_words.specs.Rows.{AreShared};
+ghost use Rattle.std.specs.Prelude.{◌≡◌, ◌<◌, IfOk, IfSome};
 ghost use Rattle.seize_calls.specs.Slots.{IsLooseOf};
 ghost use Rattle.seize_calls_rows.specs.Visitors.{IsIn, IsSameSlot, IsVisitorOf, MayStepWith};
 
 use crate::by_look_up;
-use crate::hall::{AnyCode, Hall};
+use crate::hall::Hall;
 use seize_calls::handing::Reclaim;
 use seize_calls::manner::Beside;
 use seize_calls::slot::{Loose, Slot};
 use seize_table::Refusal;
 use seize_words::activation::Activation;
-use seize_words::book::{Pass, Permits};
+use seize_words::book::Pass;
 use seize_words::link::MaybeKey;
-use seize_words::words::Words;
+use seize_words::permits::for_swap;
 use std::sync::Wait;
 
 /// A slot, and the activation with which it enters.
@@ -67,31 +64,31 @@ impl Visitor {
     {
         let mut pass = hall.porter.pass();
         self.slot.teach(&mut pass);
-        self.put(&hall.words, &hall.permits, link, value, &mut pass)
+        self.put(hall, link, value, &mut pass)
     }
 
     // The same with a pass that has learned of the slot.
     fn put(
         &mut self,
-        words: &Words<u64>,
-        permits: &Permits<AnyCode>,
+        hall: &Hall,
         link: usize,
         value: u64,
         pass: &mut Pass,
     ) -> Result<Option<Loose>, Refusal>
-        requires inside { IsIn words.now self.old × MayStepWith words.now self.old.activation pass.old }
-        requires link { (link < length (words_book words.now).links) × AreShared words.now.links }
-        requires permits { ArePermitsOf (words_book words.now) permits.now }
-        ensures inside { IsIn words.now self.new × IsSameSlot self.old self.new }
-        ensures out { IfOk result (λ out. IfSome out (λ loose. IsLooseOf words.now loose)) }
+        requires inside { IsIn hall.now.words self.old × MayStepWith hall.now.words self.old.activation pass.old }
+        requires link { link < 1024 }
+        ensures inside { IsIn hall.now.words self.new × IsSameSlot self.old self.new }
+        ensures out { IfOk result (λ out. IfSome out (λ loose. IsLooseOf hall.now.words loose)) }
     {
+        let words = &hall.words;
         let made = self.slot.add(words, value, pass);
         let (mut key, block) = made.map_err(|(refusal, _)| refusal)?;
         let number = block.number() as u64;
-        let permit = permits.permit(&*block);
-        words.blocks.lend(&mut key, block, permit);
+        let lent = hall.permits.permit(&*block);
+        words.blocks.lend(&mut key, block, lent);
         let mut new = MaybeKey::some(key);
-        let old = words.swap_link(link, number + 1, &mut new, &self.activation, pass);
+        let permit = for_swap(&hall.pairs, link, &new, pass);
+        let old = words.swap_link(link, number + 1, &mut new, &self.activation, pass, &permit);
         Ok(Loose::of(old, new))
     }
 

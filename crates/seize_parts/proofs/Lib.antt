@@ -1,3 +1,4 @@
+pub mod Allowed
 pub mod Aparts
 pub mod Bare
 pub mod Behind
@@ -13,6 +14,7 @@ pub mod InUse
 pub mod Lighter
 pub mod Lying
 pub mod Made
+pub mod Moments
 pub mod Numbered
 pub mod OfKind
 pub mod OneLife
@@ -23,6 +25,7 @@ pub mod Placed
 pub mod Places
 pub mod Recovered
 pub mod Resting
+pub mod Ruled
 pub mod Shelved
 pub mod Stands
 pub mod Steps

@@ -9,7 +9,7 @@ use Rattle.seize_machine.specs.declared.machine.event.Answer.{Answer}
 use Rattle.seize_machine.specs.declared.machine.event.Answer.TheVariants.{Done}
 use Rattle.seize_book.specs.Book.{with_answers}
 use Rattle.seize_book.specs.Entry.{Deed, Entry, Made, Use, Used, maker}
-use Rattle.seize_book.specs.Kept.{IsTold, Says, retires_by}
+use Rattle.seize_book.specs.Kept.{IsTold, SaysKept, retires_by}
 use Rattle.seize_book.specs.Passes.{events_by, events_in}
 use Rattle.seize_book.specs.Tokens.{start}
 use Rattle.seize_book.specs.declared.book.pass.Pass.{Pass}
@@ -32,15 +32,15 @@ unused : (b : Bool) (u : Use) (a : Answer) (es : List (Entry × Answer)) (xs : L
 unused true u a es xs is = is
 unused false u a es xs is = is
 
-told_here : (b : Bool) (e : Deed) (answer : Answer) (log : List Entry) (es : List (Entry × Answer)) (before after : List (Deed × Answer)) (d : Deed) (a : Answer) (v k : ℕ) → Says (retires_by d.event) d.kepts v k
+told_here : (b : Bool) (e : Deed) (answer : Answer) (log : List Entry) (es : List (Entry × Answer)) (before after : List (Deed × Answer)) (d : Deed) (a : Answer) (v k : ℕ) → SaysKept (retires_by d.event) d.kepts v k
     → ((sooner : List (Deed × Answer)) → events_in es ≡ sooner ++ (d, a) ∷ after → IsTold log v k)
     → events_in (cond b ((Made e, answer) ∷ es) es) ≡ before ++ (d, a) ∷ after → IsTold (Made e ∷ log) v k
 told_here false e answer log es before after d a v k says on is = inr (on before is)
 told_here true e answer log es (x ∷ before) after d a v k says on is = inr (on before (ap rest_of is))
 told_here true e answer log es [] after d a v k says on is =
-    inl (subst (λ (x : Deed). Says (retires_by x.event) x.kepts v k) (sym (ap (λ (xs : List (Deed × Answer)). (first_or (d, a) xs).0) is)) says)
+    inl (subst (λ (x : Deed). SaysKept (retires_by x.event) x.kepts v k) (sym (ap (λ (xs : List (Deed × Answer)). (first_or (d, a) xs).0) is)) says)
 
-pub told_at : (test : Entry × Answer → Bool) (st : State) (log : List Entry) (before after : List (Deed × Answer)) (d : Deed) (a : Answer) (v k : ℕ) → Says (retires_by d.event) d.kepts v k
+pub told_at : (test : Entry × Answer → Bool) (st : State) (log : List Entry) (before after : List (Deed × Answer)) (d : Deed) (a : Answer) (v k : ℕ) → SaysKept (retires_by d.event) d.kepts v k
     → events_in (filter test (with_answers st log)) ≡ before ++ (d, a) ∷ after → IsTold log v k
 told_at test st [] [] after d a v k says is = absurd (cc)
 told_at test st [] (x ∷ before) after d a v k says is = absurd (cc)

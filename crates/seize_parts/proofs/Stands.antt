@@ -16,6 +16,7 @@ use Rattle.seize_parts.specs.Laws.{moments_seen}
 use Rattle.seize_parts.specs.Makes.{Makes, WasMade, made_with}
 use Rattle.seize_book.proofs.Facts.{equal}
 use Rattle.seize_parts.proofs.Made.{as_made}
+use Rattle.seize_parts.proofs.Moments.{moment_still}
 
 -- the moment e is this event, with this answer
 abbrev pub StandsAt : List Moment → Event × Answer → ℕ → Type 0
@@ -94,16 +95,10 @@ pub read_found : (s l v : ℕ) {p q : Pass} {es : List (Event × Answer)} → Ma
 read_found s l v makes made = let there = made_since (ReadLink s l, Link (Some v)) makes made in
     (there.0, there.1, (there.2.0, there.2.1, ap (is_link_event s) there.2.2 ∙ equal s s refl, ap linked_value there.2.3))
 
--- A moment of a list is one of each list that goes on from it, so what was retired in it was retired, and what was reclaimed was.
-
-moment_still : (st : State) (a b : List Entry) (q : ℕ) (m : Moment) → slice_get (moments st a) q ≡ Some m → slice_get (moments st (a ++ b)) q ≡ Some m
-moment_still st [] b q m is = absurd (cc)
-moment_still st (Made d ∷ a) b zero m is = is
-moment_still st (Made d ∷ a) b (suc q) m is = moment_still (or_illegal st (outcome st (Made d))).0 a b q m is
-moment_still st (Used u ∷ a) b q m is = moment_still st a b q m is
+-- What was retired in a list was retired in each that goes on from it, and what was reclaimed was.
 
 pub retired_still : (st : State) (a b : List Entry) (v q : ℕ) → IsPrefix a b → Retired (moments st a) v q → Retired (moments st b) v q
-retired_still st a b v q grows r = (r.0, subst (λ (log : List Entry). slice_get (moments st log) q ≡ Some r.0) grows.1 (moment_still st a grows.0 q r.0 r.1), r.2)
+retired_still st a b v q grows r = (r.0, moment_still st a b q r.0 grows r.1, r.2)
 
 pub reclaimed_still : (st : State) (a b : List Entry) (v c : ℕ) → IsPrefix a b → Reclaimed (moments st a) v c → Reclaimed (moments st b) v c
-reclaimed_still st a b v c grows r = (r.0, subst (λ (log : List Entry). slice_get (moments st log) c ≡ Some r.0) grows.1 (moment_still st a grows.0 c r.0 r.1), r.2)
+reclaimed_still st a b v c grows r = (r.0, moment_still st a b c r.0 grows r.1, r.2)

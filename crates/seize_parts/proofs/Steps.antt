@@ -9,7 +9,7 @@ use Rattle.seize_machine.specs.declared.machine.event.Answer.{Answer}
 use Rattle.seize_machine.specs.declared.machine.event.Answer.TheVariants.{Count}
 use Rattle.seize_book.specs.Adding.{private}
 use Rattle.seize_book.specs.Entry.{Deed, Entry, maker}
-use Rattle.seize_book.specs.Kept.{AllTold, IsTold, Says}
+use Rattle.seize_book.specs.Kept.{AllTold, IsTold, SaysKept}
 use Rattle.seize_book.specs.Loans.{loan_number}
 use Rattle.seize_book.specs.Passes.{events_by}
 use Rattle.seize_book.specs.Slots.{active_of, slot_number}
@@ -42,7 +42,7 @@ AllOf Is (one ∷ had) = Is one × AllOf Is had
 -- what the list says of the blocks that were put with each of these
 abbrev EachSaid : List Entry → Handings → Type 0
 EachSaid log [] = Unit {0}
-EachSaid log (h ∷ handed) = ((u k : ℕ) → Says h.1 h.2 u k → IsTold log u k) × EachSaid log handed
+EachSaid log (h ∷ handed) = ((u k : ℕ) → SaysKept h.1 h.2 u k → IsTold log u k) × EachSaid log handed
 
 abbrev pub HandSo : (ℕ → List ℕ → Type 0) → Handings → Type 0
 HandSo IsPut [] = Unit {0}
@@ -53,9 +53,9 @@ HandSo IsPut (h ∷ handed) = IsPut h.0 h.1 × HandSo IsPut handed
 pub record Gives (IsPut : ℕ → List ℕ → Type 0) (final : List Entry) : Type 1 where
   pub Is : One → Type 0
   pub so : (h : ℕ × List ℕ × List ℕ) (one : One) → IsLentAs h.0 one.1 → one.2 ≡ h.1 → one.3 ≡ h.2 → Is one → IsTold final h.0 one.0
-      → ((u k : ℕ) → Says h.1 h.2 u k → IsTold final u k) → IsPut h.0 h.1
+      → ((u k : ℕ) → SaysKept h.1 h.2 u k → IsTold final u k) → IsPut h.0 h.1
 
-all_said : (vs : List ℕ) (kind : ℕ) (log : List Entry) → ((u k : ℕ) → Says vs (map (λ _. kind) vs) u k → IsTold log u k) → All (λ u. IsTold log u kind) vs
+all_said : (vs : List ℕ) (kind : ℕ) (log : List Entry) → ((u k : ℕ) → SaysKept vs (map (λ _. kind) vs) u k → IsTold log u k) → All (λ u. IsTold log u kind) vs
 all_said [] kind log said = All-nil _
 all_said (v ∷ vs) kind log said = All-cons (λ u. IsTold log u kind) v vs (said v kind (inl (refl, refl))) (all_said vs kind log (λ u k so. said u k (inr so)))
 
@@ -69,7 +69,7 @@ puts_by {T} code puts pass = record {
     value = is.0;
     content = lent ∙ ap loan_number (sym is.1);
     put = subst (λ (vs : List ℕ). AreNamesOf code vs (puts one.0 is.0)) names is.2;
-    same_kind = all_said h.1 one.0 pass.seen (subst (λ (ks : List ℕ). (u k : ℕ) → Says h.1 ks u k → IsTold pass.seen u k) (sym words ∙ is.3 ∙ ap (λ (vs : List ℕ). map (λ _. one.0) vs) names) said);
+    same_kind = all_said h.1 one.0 pass.seen (subst (λ (ks : List ℕ). (u k : ℕ) → SaysKept h.1 ks u k → IsTold pass.seen u k) (sym words ∙ is.3 ∙ ap (λ (vs : List ℕ). map (λ _. one.0) vs) names) said);
   };
 }
 

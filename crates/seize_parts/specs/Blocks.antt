@@ -1,5 +1,6 @@
 -- What contracts see of blocks in hand. `code` is the code of the collector's element type, by which a name says a value.
 --     content owned             the value of a block in hand;  store_name owned     the store where it lies
+--     content_of block          the value of the block, if there is one
 --     HoldsOnly owners store v  each block inside the value v lies in this store: one that `owners` (of `Puts`) names
 --     Belongs owners store owned     the block lies in this store, with each block inside it
 --     owners_in owners blocks   the stores of these blocks, and of the blocks inside them
@@ -17,6 +18,10 @@ use Rattle.seize_parts.specs.declared.block.owned.Owned.{Owned}
 
 abbrev pub content : {T : Type 0} → Owned T → T
 content owned = store.owned_value owned.block
+
+abbrev pub content_of : {T : Type 0} → Option (Owned T) → Option T
+content_of (Some owned) = Some (content owned)
+content_of None = None
 
 abbrev pub store_name : {T : Type 0} → Owned T → List ℕ
 store_name owned = store.store_of owned.block

@@ -3,7 +3,7 @@
 --     Weighs code weight l n    this number, of what is lent with a value, stands for what weighs one more than n; 0 stands for nothing
 use Rattle.std.specs.Prelude.{◌≡◌, ℕ, zero, suc}
 use base.Stored.{Gv}
-use Rattle.seize_book.specs.Lending.{ArePermitsOf}
+use Rattle.seize_book.specs.Lending.{ArePairsOf}
 use Rattle.seize_book.specs.Loans.{loan_number}
 use Rattle.seize_book.specs.Tokens.{Name}
 use Rattle.seize_words.specs.Joined.{words_book}
@@ -11,7 +11,7 @@ use Rattle.seize_words.specs.declared.words.Words.{Words}
 use Rattle.seize_parts.specs.declared.ender.Ender.{Ender}
 
 abbrev pub IsEnderIn : {T R : Type 0} → Name → Ender T R → Type 0
-IsEnderIn n ender = ArePermitsOf n ender.permits
+IsEnderIn n ender = (ender.permits.list ≡ n.permits) × (ender.permits.store ≡ n.store) × ArePairsOf n ender.pairs
 
 abbrev pub IsEnderOf : {T R : Type 0} → Words T → Ender T R → Type 0
 IsEnderOf words ender = IsEnderIn (words_book words) ender

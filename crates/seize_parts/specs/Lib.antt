@@ -13,6 +13,7 @@ pub mod Placing
 pub mod Puts
 pub mod Reservations
 pub mod Resting
+pub mod Rules
 pub mod Served
 pub mod Shelves
 pub mod Sweeps

@@ -10,13 +10,13 @@
 --     IsStepOf IsPut s step   it is a step of a call of slot s between its begin and its return. Where it hands a value v, the reclaimer
 --                             put blocks with the names vs: `IsPut v vs` says of which it may be so;  AreStepsOf IsPut s steps   so is each
 --     made_by s st log        the events of slot s in a list that goes on from this state, with their answers, but for steps on links
---     Undivided s pass pass' events     these are all events that slot s made between two moments, but for steps on links. Before the first
---                             and after the second no more was made with the pass
+--     Undivided s pass pass' events     these are all events that slot s made between two points of the list, but for steps on links.
+--                             Before the first and after the second no more was made with the pass
 --     whole_call s job steps  the events of a call of slot s with this job and these steps, from its begin to its return
 --     MakesCall IsPut s job pass pass'     such a call was made, with `IsPut` of the pass as it is then, and no other event of the slot
 --                             stands between its own (`Undivided`)
 --     Defers s job pass pass'     a whole call of slot s, and none of its steps hands a value to its reclaimer
---     LeavesAndGives IsPut s pass pass'    a whole call of slot s to leave, by which the pass is `left`, and then its number went back
+--     LeavesAndGives IsPut s pass pass'    a whole call of slot s to leave, after which the pass is `left`, and then its number went back
 --     EndsUse s pass pass' gave     the use of slot s ended: its number went back; or no event was made, and it is active (`StaysActive`)
 --     Enters s pass pass'     slot s entered; or no event was made, and it is active
 --     IsOfKind v kind pass    the retirement of v said that it is of this kind, in what the pass has seen

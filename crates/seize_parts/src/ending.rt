@@ -93,7 +93,8 @@ fn empty<T: Drop, R: Reclaim<T>>(
 {
     slot.teach(pass);
     let mut key = MaybeKey::none(pass);
-    let word = words.swap_link(link, 0, &mut key, activation, pass);
+    let permit = pass.no_pairs();
+    let word = words.swap_link(link, 0, &mut key, activation, pass, &permit);
     if let Some(loose) = Loose::of(word, key) {
         slot.retire(words, loose, 0, &mut Forwards::new(ender), pass, &Alone {});
     }

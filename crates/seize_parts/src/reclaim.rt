@@ -1,5 +1,5 @@
 //! Reclaimers: what becomes of a value that no slot can read any more. A reclaimer may put further blocks, which are retired in turn.
-ghost use Rattle.std.specs.Prelude.{ℕ, ◌<◌, List, [], map, sum};
+ghost use Rattle.std.specs.Prelude.{ℕ, ◌<◌, Option, List, [], map, sum};
 ghost use Rattle.std.proofs.Common.{lit<};
 ghost use Rattle.seize_parts.specs.Blocks.{HoldsOnly};
 ghost use Rattle.seize_parts.specs.Furthers.{Joins, further_store};
@@ -25,6 +25,11 @@ pub trait Puts<T> {
 
     /// The contents of the blocks that it puts with a value of this kind, in order.
     ghost puts: { ℕ → T → List T } = { λ _ _. [] };
+
+    /// The rule of the links: what a link may change to, by its number and the contents before and after; `None` is that of an empty link.
+    /// Each exchange by a guard has to meet it, and `Collector::laws` says that all did since the collector was shared. What one caller
+    /// does with an `Alone` need not meet it, nor does the drop. Where no rule is given, a link may change to anything.
+    ghost keeps: { ℕ → Option T → Option T → Type 0 } = { λ _ _ _. Unit {0} };
 
     ghost lighter: { (kind : ℕ) (value : T) → sum (map weight (puts kind value)) < weight value };
 }

@@ -1,5 +1,5 @@
 //! Code over guards of any kind, run with a guard of each: both do the same.
-ghost use Rattle.std.specs.Prelude.{◌≡◌, ◌<◌, IfOk};
+ghost use Rattle.std.specs.Prelude.{◌≡◌, ◌<◌, Option, IfOk};
 ghost use Rattle.seize.specs.Blocks.{HoldsOnly};
 ghost use Rattle.seize.specs.Collectors.{IsPassOf, its_links, its_store};
 ghost use Rattle.seize_threads_rows.specs.declared.marked.Marked.{Marked};
@@ -37,6 +37,7 @@ fn collector<'a>(alloc: Global) -> Result<Collector<Marked<'a>>, Refusal>
 fn put<'a, G: Guard<Marked<'a>>, W: Wait>(guard: &G, value: Marked<'a>, rt: &W, pass: &mut Pass)
     requires of { IsPassOf (G.guarded guard.now) pass.old × (0 < its_links (G.guarded guard.now)) }
     requires fits { (x : Marked) → HoldsOnly G.Reclaimer.owners (its_store (G.guarded guard.now)) x }
+    requires rule { (x y : Option Marked) → G.Reclaimer.keeps 0 x y }
     ensures { IsPassOf (G.guarded guard.now) pass.new }
 {
     if let Ok(block) = guard.owned(value) {
@@ -64,6 +65,7 @@ fn exchange<'a, G: Guard<Marked<'a>>, W: Wait>(
 ) -> Option<u64>
     requires of { IsPassOf (G.guarded guard.now) pass.old × (0 < its_links (G.guarded guard.now)) }
     requires fits { (x : Marked) → HoldsOnly G.Reclaimer.owners (its_store (G.guarded guard.now)) x }
+    requires rule { (x y : Option Marked) → G.Reclaimer.keeps 0 x y }
     ensures { IsPassOf (G.guarded guard.now) pass.new }
 {
     let new = guard.owned(value).ok()?;
@@ -98,6 +100,7 @@ fn make_calls<'a, G: Guard<Marked<'a>>, W: Wait>(
 ) -> Came
     requires of { IsPassOf (G.guarded guard.old) pass.old × (0 < its_links (G.guarded guard.old)) }
     requires fits { (x : Marked) → HoldsOnly G.Reclaimer.owners (its_store (G.guarded guard.old)) x }
+    requires rule { (x y : Option Marked) → G.Reclaimer.keeps 0 x y }
     ensures { IsPassOf (G.guarded guard.new) pass.new × (G.guarded guard.new ≡ G.guarded guard.old) }
 {
     put(guard, Marked { value: 0, marks }, rt, pass);

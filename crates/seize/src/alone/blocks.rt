@@ -13,6 +13,7 @@ use seize_parts::alone::place::{Place, Unit};
 use seize_parts::reclaim::Reclaim;
 use seize_table::Refusal;
 use seize_words::book::{Pass, Stay};
+use seize_words::lasting::Lasting;
 use seize_words::words::Words;
 use std::marker::Brand;
 
@@ -179,7 +180,8 @@ impl<T: Drop, R: Reclaim<T>> Alone<T, R> {
         let Some((word, found)) = self.words.peek_link(link) else {
             return Ok(None);
         };
-        let book = &self.words.blocks.book;
-        Ok(Some(Shared::of(found.value, word, found.glimpse, book)))
+        let mut glimpse = found.glimpse;
+        let lasting = Lasting::of_sight(glimpse.again().sight(), &self.words.blocks.book);
+        Ok(Some(Shared::of(found.value, word, glimpse, lasting)))
     }
 }

@@ -56,7 +56,8 @@ impl<'a, T: Drop, R: Reclaim<T>> Stay<Option<Loose>> for Exchanging<'a, T, R> {
         let (words, unit) = (self.words, self.unit);
         pass.learn(&unit.seen);
         let (new, mut key) = name(self.new.take(), words, self.ender, pass);
-        let old = words.swap_link(self.link, new, &mut key, &unit.unit, pass);
+        let permit = pass.no_pairs();
+        let old = words.swap_link(self.link, new, &mut key, &unit.unit, pass, &permit);
         Loose::of(old, key)
     }
 }

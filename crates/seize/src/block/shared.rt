@@ -1,41 +1,12 @@
 //! Blocks as a guard found them in a link.
 ghost use Rattle.std.specs.Prelude.{◌≡◌};
-ghost use base.Fml.{ftrue};
 ghost use Rattle.seize_book.specs.Blocks.{link_word};
-ghost use Rattle.seize_book.specs.Tokens.{Name, name_coded};
 
-use seize_words::book::Seen;
+use seize_words::book::Pass;
 use seize_words::glimpse::Glimpse;
-use std::marker::{Model, PhantomData};
+use seize_words::lasting::Lasting;
+use seize_words::link::Expected;
 use std::ops::Deref;
-
-/// The list of a block's collector. It has no bytes.
-#[derive(Drop)]
-pub(crate) struct Origin {
-    marker: PhantomData<()>,
-    /// The list.
-    pub(crate) ghost name: { Name } by { name_coded },
-}
-
-impl Model for Origin {
-    ghost also_owns = { λ _. ftrue };
-}
-
-// It owns nothing, so any thread may have it.
-unsafe impl Send for Origin {}
-
-unsafe impl Sync for Origin {}
-
-impl Origin {
-    // This list.
-    fn of(_book: &Seen) -> Origin
-        ensures { result.name ≡ _book.now.name }
-    {
-        Origin {
-            marker: PhantomData,
-        }
-    }
-}
 
 /// What was found in a link. It reads as its value, for as long as the guard that found it is borrowed, or the `Alone`: until then the
 /// value is not reclaimed.
@@ -45,24 +16,56 @@ pub struct Shared<'g, T> {
     // as the link's word showed it
     pub(crate) word: u64,
     pub(crate) glimpse: Glimpse<'g>,
-    pub(crate) origin: Origin,
+    // the activation in which it was found, and the list of its collector
+    pub(crate) lasting: Lasting<'g>,
     ghost worded: { word ≡ link_word glimpse.value },
 }
 
 impl<'g, T> Shared<'g, T> {
-    ghost use Rattle.std.specs.Prelude.{◌↔◌, true};
-    ghost use Rattle.seize.specs.Links.{shared_block, shared_book, shared_name, shared_value};
+    ghost use Rattle.std.specs.Prelude.{◌↔◌, ℕ, Some, true};
+    ghost use Rattle.seize_machine.specs.Machine.History.{Reclaimed};
+    ghost use Rattle.seize_parts.specs.Laws.{moments_seen};
+    ghost use Rattle.seize_parts.specs.Makes.{MakesNone};
+    ghost use Rattle.seize.specs.Links.{IsSharedIn, shared_block, shared_book, shared_name, shared_value};
 
-    // The value that was found where a link showed this word. Its label says the list of the collector that has the link.
-    pub(crate) fn of(value: &'g T, word: u64, glimpse: Glimpse<'g>, book: &Seen) -> Shared<'g, T>
+    // The value that was found where a link showed this word, in this activation.
+    pub(crate) fn of(
+        value: &'g T,
+        word: u64,
+        glimpse: Glimpse<'g>,
+        lasting: Lasting<'g>,
+    ) -> Shared<'g, T>
         requires { word ≡ link_word glimpse.value }
-        ensures { (shared_name result ≡ glimpse.entry.value) × (shared_value result ≡ value.now) × (shared_book result ≡ book.now.name) }
+        ensures { (shared_name result ≡ glimpse.entry.value) × (shared_value result ≡ value.now) × (result.lasting ≡ lasting.entry) }
     {
         Shared {
             value,
             word,
             glimpse,
-            origin: Origin::of(book),
+            lasting,
+        }
+    }
+
+    /// The pass looks at the list of events. The value is not reclaimed in what it sees then, whoever found it.
+    ///
+    /// It makes no event, and does nothing when the program runs: its contract is the law.
+    pub fn stands(&self, pass: &mut Pass)
+        requires { IsSharedIn T.row.coded.code pass.old.name self.now }
+        ensures none { MakesNone pass.old pass.new }
+        ensures stands { (v k : ℕ) → shared_name self.now ≡ Some v → ¬ (Reclaimed (moments_seen pass.new) v k) }
+    {
+        self.lasting.tell(pass);
+        pass.slots();
+        self.lasting.lasts(pass);
+    }
+
+    // What an exchange expects that takes a link to hold it.
+    pub(crate) fn expected(&self) -> Expected<'g>
+        ensures { (result.word ≡ link_word (shared_name self.now)) × (result.lasting ≡ self.now.lasting) }
+    {
+        Expected {
+            word: self.word,
+            lasting: self.lasting.again(),
         }
     }
 

@@ -5,10 +5,10 @@ ghost use Rattle.seize_machine.specs.declared.machine.event.Answer.TheVariants.{
 ghost use Rattle.seize_machine.specs.declared.machine.event.Exchange.TheVariants.{Swap};
 ghost use Rattle.seize_machine.specs.declared.machine.event.Job.TheVariants.{Flush, Refresh, Retire};
 ghost use Rattle.seize_table.specs.declared.refusal.Refusal.TheVariants.{NoMemory as no_memory};
-ghost use Rattle.seize_parts.specs.Blocks.{IsNamed, content};
+ghost use Rattle.seize_parts.specs.Blocks.{IsNamed, content, content_of};
 ghost use Rattle.seize.specs.Links.{ComesOut, IsSharedOf, IsUnlinkedOf, Shows, unlinked_name};
 ghost use Rattle.seize.specs.Collectors.{BelongsTo, IsBlockOf, IsNewPassOf, IsPassOf, its_id, its_links};
-ghost use Rattle.seize.specs.Exchanges.{FoundIn, MakesExchange, Protects, current_name};
+ghost use Rattle.seize.specs.Exchanges.{FoundIn, MakesExchange, Protects, current_name, current_value};
 ghost use Rattle.seize_parts.specs.Puts.{PutBy};
 ghost use Rattle.seize_parts.specs.Makes.{Defers, IsOfKind, MakesCall, MakesNone, MakesOne, StaysActive};
 ghost use Rattle.seize_words.specs.declared.activation.Activation.{Activation};
@@ -69,16 +69,18 @@ pub trait Guard<T: Drop> {
         ensures none { MakesNone pass.old pass.new }
         ensures protects { Protects (activation self.now) pass.new };
 
-    /// Exchanges what a link holds for this block, or for none: the event `ExchangeLink`. It gives what the link held.
+    /// Exchanges what a link holds for this block, or for none: the event `ExchangeLink`. It gives what the link held. The rule of the
+    /// links has to let the new content follow whatever is there.
     fn swap(&self, link: usize, value: Option<Owned<T>>, pass: &mut Pass) -> Option<Unlinked<'_, T>>
         requires of { IsPassOf (guarded self.now) pass.old × (link < its_links (guarded self.now)) }
         requires value { IfSome value (λ owned. BelongsTo Self.Reclaimer.owners (guarded self.now) owned) }
+        requires rule { (x : Option T) → Self.Reclaimer.keeps link x (content_of value) }
         ensures of { IfSome result (IsUnlinkedOf (guarded self.now)) }
         ensures made { (new : Option ℕ) × (held : Option ℕ) × IsNamed T.row.coded.code value new × ComesOut held result
             × MakesOne pass.old pass.new (ExchangeLink (number self.now) link (Swap new)) (Link held) };
 
-    /// Exchanges what a link holds for this block, or for none, if the link holds what was found, or nothing where that is `None`. That is
-    /// decided by the number of its block. Where this guard found `current`, as the pass has seen, a won exchange took out that very value.
+    /// Exchanges what a link holds for this block, or for none, if the link holds what was found, or nothing where that is `None`. A won
+    /// exchange took out just what was found, whoever found it. The rule of the links has to let the new content follow that.
     ///
     /// # Errors
     ///
@@ -92,7 +94,8 @@ pub trait Guard<T: Drop> {
     ) -> Result<Option<Unlinked<'_, T>>, Failed<'_, T>>
         requires of { IsPassOf (guarded self.now) pass.old × (link < its_links (guarded self.now)) }
         requires value { IfSome new (λ owned. BelongsTo Self.Reclaimer.owners (guarded self.now) owned) }
-        requires current { IfSome current (λ shared. IsSharedOf (guarded self.now) shared.now) }
+        requires current { IfSome current (λ shared. IsSharedOf T.row.coded.code (guarded self.now) shared.now) }
+        requires rule { Self.Reclaimer.keeps link (current_value current) (content_of new) }
         ensures { MakesExchange T.row.coded.code (guarded self.now) (number self.now) (activation self.now) link
             (current_name current.entry) new pass.old pass.new result };
 
@@ -106,7 +109,8 @@ pub trait Guard<T: Drop> {
     ) -> Result<Option<Unlinked<'_, T>>, Failed<'_, T>>
         requires of { IsPassOf (guarded self.now) pass.old × (link < its_links (guarded self.now)) }
         requires value { IfSome new (λ owned. BelongsTo Self.Reclaimer.owners (guarded self.now) owned) }
-        requires current { IfSome current (λ shared. IsSharedOf (guarded self.now) shared.now) }
+        requires current { IfSome current (λ shared. IsSharedOf T.row.coded.code (guarded self.now) shared.now) }
+        requires rule { Self.Reclaimer.keeps link (current_value current) (content_of new) }
         ensures { MakesExchange T.row.coded.code (guarded self.now) (number self.now) (activation self.now) link
             (current_name current.entry) new pass.old pass.new result };
 

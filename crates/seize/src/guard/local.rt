@@ -4,10 +4,10 @@ ghost use Rattle.seize_machine.specs.Machine.Event.{ExchangeLink};
 ghost use Rattle.seize_machine.specs.declared.machine.event.Answer.TheVariants.{Link};
 ghost use Rattle.seize_machine.specs.declared.machine.event.Exchange.TheVariants.{Swap};
 ghost use Rattle.seize_machine.specs.declared.machine.event.Job.TheVariants.{Retire};
-ghost use Rattle.seize_parts.specs.Blocks.{IsNamed};
+ghost use Rattle.seize_parts.specs.Blocks.{IsNamed, content_of};
 ghost use Rattle.seize.specs.Links.{ComesOut, IsSharedOf, IsUnlinkedOf, unlinked_name};
 ghost use Rattle.seize.specs.Collectors.{BelongsTo, IsPassOf, its_links};
-ghost use Rattle.seize.specs.Exchanges.{MakesExchange, current_name};
+ghost use Rattle.seize.specs.Exchanges.{MakesExchange, current_name, current_value};
 ghost use Rattle.seize.specs.Guards.{guard_activation, guard_collector, guard_slot};
 ghost use Rattle.seize_parts.specs.Makes.{Defers, IsOfKind, MakesOne};
 
@@ -54,6 +54,7 @@ impl<T: Drop, R: Reclaim<T>> Guard<T> for LocalGuard<'_, '_, T, R> {
     fn swap(&self, link: usize, value: Option<Owned<T>>, pass: &mut Pass) -> Option<Unlinked<'_, T>>
         requires of { IsPassOf (guard_collector self.now) pass.old × (link < its_links (guard_collector self.now)) }
         requires value { IfSome value (λ owned. BelongsTo R.owners (guard_collector self.now) owned) }
+        requires rule { (x : Option T) → R.keeps link x (content_of value) }
         ensures of { IfSome result (IsUnlinkedOf (guard_collector self.now)) }
         ensures made { (new : Option ℕ) × (held : Option ℕ) × IsNamed T.row.coded.code value new × ComesOut held result
             × MakesOne pass.old pass.new (ExchangeLink (guard_slot self.now) link (Swap new)) (Link held) }
@@ -70,7 +71,8 @@ impl<T: Drop, R: Reclaim<T>> Guard<T> for LocalGuard<'_, '_, T, R> {
     ) -> Result<Option<Unlinked<'_, T>>, Failed<'_, T>>
         requires of { IsPassOf (guard_collector self.now) pass.old × (link < its_links (guard_collector self.now)) }
         requires value { IfSome new (λ owned. BelongsTo R.owners (guard_collector self.now) owned) }
-        requires current { IfSome current (λ shared. IsSharedOf (guard_collector self.now) shared.now) }
+        requires current { IfSome current (λ shared. IsSharedOf T.row.coded.code (guard_collector self.now) shared.now) }
+        requires rule { R.keeps link (current_value current) (content_of new) }
         ensures { MakesExchange T.row.coded.code (guard_collector self.now) (guard_slot self.now) (guard_activation self.now) link
             (current_name current.entry) new pass.old pass.new result }
     {
@@ -86,7 +88,8 @@ impl<T: Drop, R: Reclaim<T>> Guard<T> for LocalGuard<'_, '_, T, R> {
     ) -> Result<Option<Unlinked<'_, T>>, Failed<'_, T>>
         requires of { IsPassOf (guard_collector self.now) pass.old × (link < its_links (guard_collector self.now)) }
         requires value { IfSome new (λ owned. BelongsTo R.owners (guard_collector self.now) owned) }
-        requires current { IfSome current (λ shared. IsSharedOf (guard_collector self.now) shared.now) }
+        requires current { IfSome current (λ shared. IsSharedOf T.row.coded.code (guard_collector self.now) shared.now) }
+        requires rule { R.keeps link (current_value current) (content_of new) }
         ensures { MakesExchange T.row.coded.code (guard_collector self.now) (guard_slot self.now) (guard_activation self.now) link
             (current_name current.entry) new pass.old pass.new result }
     {

@@ -4,10 +4,10 @@ ghost use Rattle.seize_machine.specs.Machine.Event.{ExchangeLink};
 ghost use Rattle.seize_machine.specs.declared.machine.event.Answer.TheVariants.{Link};
 ghost use Rattle.seize_machine.specs.declared.machine.event.Exchange.TheVariants.{Swap};
 ghost use Rattle.seize_machine.specs.declared.machine.event.Job.TheVariants.{Retire};
-ghost use Rattle.seize_parts.specs.Blocks.{IsNamed};
+ghost use Rattle.seize_parts.specs.Blocks.{IsNamed, content_of};
 ghost use Rattle.seize.specs.Links.{ComesOut, IsSharedOf, IsUnlinkedOf, unlinked_name};
 ghost use Rattle.seize.specs.Collectors.{BelongsTo, IsPassOf, its_links};
-ghost use Rattle.seize.specs.Exchanges.{MakesExchange, current_name};
+ghost use Rattle.seize.specs.Exchanges.{MakesExchange, current_name, current_value};
 ghost use Rattle.seize_parts.specs.Makes.{Defers, IsOfKind, MakesOne};
 ghost use Rattle.seize.specs.OwnedGuards.{owned_activation, owned_collector, owned_slot};
 
@@ -55,6 +55,7 @@ impl<T: Drop, R: Reclaim<T>> Guard<T> for OwnedGuard<'_, T, R> {
     fn swap(&self, link: usize, value: Option<Owned<T>>, pass: &mut Pass) -> Option<Unlinked<'_, T>>
         requires of { IsPassOf (owned_collector self.now) pass.old × (link < its_links (owned_collector self.now)) }
         requires value { IfSome value (λ owned. BelongsTo R.owners (owned_collector self.now) owned) }
+        requires rule { (x : Option T) → R.keeps link x (content_of value) }
         ensures of { IfSome result (IsUnlinkedOf (owned_collector self.now)) }
         ensures made { (new : Option ℕ) × (held : Option ℕ) × IsNamed T.row.coded.code value new × ComesOut held result
             × MakesOne pass.old pass.new (ExchangeLink (owned_slot self.now) link (Swap new)) (Link held) }
@@ -71,7 +72,8 @@ impl<T: Drop, R: Reclaim<T>> Guard<T> for OwnedGuard<'_, T, R> {
     ) -> Result<Option<Unlinked<'_, T>>, Failed<'_, T>>
         requires of { IsPassOf (owned_collector self.now) pass.old × (link < its_links (owned_collector self.now)) }
         requires value { IfSome new (λ owned. BelongsTo R.owners (owned_collector self.now) owned) }
-        requires current { IfSome current (λ shared. IsSharedOf (owned_collector self.now) shared.now) }
+        requires current { IfSome current (λ shared. IsSharedOf T.row.coded.code (owned_collector self.now) shared.now) }
+        requires rule { R.keeps link (current_value current) (content_of new) }
         ensures { MakesExchange T.row.coded.code (owned_collector self.now) (owned_slot self.now) (owned_activation self.now) link
             (current_name current.entry) new pass.old pass.new result }
     {
@@ -87,7 +89,8 @@ impl<T: Drop, R: Reclaim<T>> Guard<T> for OwnedGuard<'_, T, R> {
     ) -> Result<Option<Unlinked<'_, T>>, Failed<'_, T>>
         requires of { IsPassOf (owned_collector self.now) pass.old × (link < its_links (owned_collector self.now)) }
         requires value { IfSome new (λ owned. BelongsTo R.owners (owned_collector self.now) owned) }
-        requires current { IfSome current (λ shared. IsSharedOf (owned_collector self.now) shared.now) }
+        requires current { IfSome current (λ shared. IsSharedOf T.row.coded.code (owned_collector self.now) shared.now) }
+        requires rule { R.keeps link (current_value current) (content_of new) }
         ensures { MakesExchange T.row.coded.code (owned_collector self.now) (owned_slot self.now) (owned_activation self.now) link
             (current_name current.entry) new pass.old pass.new result }
     {

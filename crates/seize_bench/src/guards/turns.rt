@@ -1,5 +1,6 @@
 //! What a thread does in a run, turn by turn.
-ghost use Rattle.std.specs.Prelude.{◌≡◌, ◌<◌, ◌≤◌, ◌+◌, IfSome};
+ghost use Rattle.std.specs.Prelude.{◌≡◌, ◌<◌, ◌≤◌, ◌+◌, ℕ, Option, IfSome};
+ghost use Rattle.seize.specs.Blocks.{content_of};
 ghost use Rattle.seize.specs.Collectors.{BelongsTo, IsPassOf, its_links};
 ghost use Rattle.seize.specs.Guards.{guard_collector};
 ghost use Rattle.seize.specs.OwnedGuards.{owned_collector};
@@ -171,6 +172,7 @@ fn replace<G: Guard<u64>, W: Wait>(
 )
     requires of { IsPassOf (G.guarded guard.now) pass.old × (link < its_links (G.guarded guard.now)) }
     requires new { IfSome new (λ owned. BelongsTo G.Reclaimer.owners (G.guarded guard.now) owned) }
+    requires rule { (x : Option ℕ) → G.Reclaimer.keeps link x (content_of new) }
     ensures pass { IsPassOf (G.guarded guard.now) pass.new }
 {
     if let Some(old) = guard.swap(link, new, pass) {

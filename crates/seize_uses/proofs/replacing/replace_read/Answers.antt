@@ -11,7 +11,7 @@ use Rattle.seize_uses.proofs.replacing.replace_read.Goals as goal
 pub returns-in-Ok-clause-took : goal.returns-in-Ok-clause-took
 returns-in-Ok-clause-took g c =
     let guard = c.args.guard.now in let s = g.G.Guard.number guard in let finds = c.protect.ensures in let took = c.compare_exchange.ensures in
-    let same = read_replaced gnum (g.G.Guard.activation guard) (g.G.Guard.guarded guard) (Some c.args.new) c.protect.new.pass finds.2 c.in-Some.is finds.3 took.outcome took.took c.in-Ok.is in (
+    let same = read_replaced gnum (g.G.Guard.guarded guard) (Some c.args.new) finds.2 c.in-Some.is took.outcome c.in-Ok.is in (
       finds.0,
       took.put,
       took.named,

@@ -3,4 +3,4 @@ use Rattle.seize.specs.Exchanges.{current_name}
 use Rattle.seize.proofs.reader.Reader.compare_exchange.Given as goal
 
 abbrev pub ghosts-exchange : goal.ghosts-exchange
-ghosts-exchange a c = record { current = current_name c._current }
+ghosts-exchange a c = record { current = current_name c.current }

@@ -1,11 +1,21 @@
 use Rattle.std.proofs.Common.{ℕ, Option, ap, arith, sym, subst, ◌∙◌}
 use Rattle.seize_book.specs.Blocks.{link_word}
 use Rattle.seize_words.specs.LinkWords.{held_before, value_held}
+use Rattle.seize_book.specs.Tokens.{Name}
+use Rattle.seize_book.specs.declared.book.pass.Pass.{Pass}
+use Rattle.seize_parts.specs.Enders.{IsEnderIn}
 use Rattle.seize.specs.Links.{ComesOut}
+use Rattle.seize.proofs.Allowing.{allows_any}
 use Rattle.seize.proofs.Guarded.{guard_swaps}
 use Rattle.seize.proofs.Readable.{swapped_readable}
 use Rattle.seize.specs.Collectors.{its_book}
 use Rattle.seize.proofs.reader.Reader.swap.Goals as goal
+
+pub for_swap-permit-requires : goal.for_swap-permit-requires
+for_swap-permit-requires g c = record {
+  ender = subst (λ (n : Name). IsEnderIn n c.ender-2.result.now) (sym (ap (λ (p : Pass). p.name) c.name-new.ensures.pass ∙ c.learn.ensures.0.0 ∙ c.requires.of.0.0)) c.ender-2.ensures;
+  rule = allows_any g.row.T.coded.code g.R.Puts.keeps c.args.link c.args.value (value_held c.name-new.result.1) c.name-new.ensures.named c.requires.rule;
+}
 
 pub found-requires : goal.found-requires
 found-requires g c =
