@@ -3,6 +3,7 @@
 ghost use Rattle.std.specs.Prelude.{◌≡◌, ◌<◌, IfOk, IfSome};
 ghost use Rattle.seize_calls.specs.Slots.{IsLooseOf};
 ghost use Rattle.seize_calls_rows.specs.Visitors.{IsIn, IsSameSlot, IsVisitorOf, MayStepWith};
+ghost use Rattle.seize_words.specs.Joined.{words_book};
 
 use crate::by_look_up;
 use crate::hall::Hall;
