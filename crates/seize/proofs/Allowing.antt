@@ -11,12 +11,7 @@ use Rattle.seize.specs.Links.{IsSharedOf, shared_name, shared_value}
 use Rattle.seize.specs.declared.block.shared.Shared.{Shared}
 use Rattle.seize.specs.declared.collector.Collector.{Collector}
 use Rattle.seize.proofs.Facts.{content_once}
-
-named_says : {T : Type 0} (code : T → Gv) (block : Option (Owned T)) (o : Option ℕ) → IsNamed code block o → Says code o (content_of block)
-named_says code (Some owned) (Some v) named = named
-named_says code None None named = tt
-named_says code (Some owned) None named = absurd named
-named_says code None (Some v) named = absurd named
+use Rattle.seize.proofs.Onwards.{named_says}
 
 -- whatever is there
 pub allows_any : {T : Type 0} (code : T → Gv) (keeps : ℕ → Option T → Option T → Type 0) (l : ℕ) (block : Option (Owned T)) (o : Option ℕ) → IsNamed code block o → ((x : Option T) → keeps l x (content_of block))

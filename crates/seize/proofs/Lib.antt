@@ -8,6 +8,7 @@ mod Lawful
 pub mod Contents
 pub mod Protected
 pub mod Retired
+pub mod Onwards
 pub mod Facts
 mod Lone
 mod Still

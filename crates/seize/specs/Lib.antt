@@ -5,6 +5,7 @@ pub mod Guards
 pub mod Links
 pub mod Looks
 pub mod Loose
+pub mod Moments
 pub mod OwnedGuards
 pub mod Reclaims
 pub mod Registrations

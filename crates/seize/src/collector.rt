@@ -320,8 +320,9 @@ impl<T: Drop, R: Reclaim<T>> Collector<T, R> {
     /// So each value, whoever retired it, is reclaimed there at most once, and only after each slot that was active at its retirement has
     /// left or refreshed. And each name in it that was ever in a link, or retired, says a content of type `T`.
     ///
-    /// Each exchange that was won since the collector was shared, by whoever, meets the rule of its links (`Puts::keeps`). What one caller
-    /// did with an `Alone` is not among these, and the drop is not bound either.
+    /// Each exchange that was won since the collector was last shared, by whoever, meets the rule of its links (`Puts::keeps`). A call by
+    /// `&mut` ends the sharing: `learn`, `reclaim_all`, `alone`. What one caller did with an `Alone` is not among these exchanges, and the
+    /// drop is not bound either.
     ///
     /// It makes no event, and does nothing when the program runs: its contract is the laws.
     pub fn laws(&self, pass: &mut Pass)

@@ -24,8 +24,8 @@ impl Condition for AnyCode {
     ghost holds = { λ _ _. Unit {0} };
 }
 
-/// The words of a book, the porter, which lends passes, and the lists of the codes that may be lent and of the pairs that may follow one
-/// another in links.
+/// The words of a book, the porter, which lends passes, and the lists of the codes that may be lent and of the pairs that links may
+/// go through.
 #[derive(Drop)]
 pub struct Hall {
     pub words: Words<u64>,

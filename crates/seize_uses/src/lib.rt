@@ -2,7 +2,9 @@
 #![tactic(auto)]
 
 pub mod cache;
+pub mod links;
 pub mod machine;
+pub mod moved;
 pub mod nest;
 pub mod one_caller;
 pub mod reclaimers;
@@ -10,4 +12,5 @@ pub mod reclaiming;
 pub mod replacing;
 pub mod shared;
 pub mod table;
+pub mod versions;
 pub mod watched;

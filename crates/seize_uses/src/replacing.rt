@@ -1,12 +1,12 @@
 //! A block in the place of the one that was read: how a structure without locks changes a link.
 ghost use base.Stored.{gnum};
-ghost use Rattle.std.specs.Prelude.{◌≡◌, ◌<◌, ℕ, Option, Some, [], ◌∷◌, IfOk, IfSome};
-ghost use Rattle.seize.specs.Blocks.{IsNamed};
-ghost use Rattle.seize.specs.Links.{IsUnlinkedOf};
+ghost use Rattle.std.specs.Prelude.{◌≡◌, ◌<◌, ℕ, Option, None, Some, [], ◌∷◌, IfOk, IfSome};
+ghost use Rattle.seize.specs.Blocks.{HasContent, IsNamed, content};
+ghost use Rattle.seize.specs.Links.{IsUnlinkedOf, unlinked_name};
 ghost use Rattle.seize.specs.Collectors.{BelongsTo, IsBlockOf, IsPassOf, its_links};
 ghost use Rattle.seize.specs.Guards.{guard_collector};
 ghost use Rattle.seize.specs.Machine.Event.{ExchangeLink, ReadLink};
-ghost use Rattle.seize.specs.Makes.{Makes};
+ghost use Rattle.seize.specs.Makes.{Makes, MakesOne};
 ghost use Rattle.seize.specs.Registrations.{registered_in};
 ghost use Rattle.seize_machine.specs.declared.machine.event.Answer.TheVariants.{Link};
 ghost use Rattle.seize_machine.specs.declared.machine.event.Exchange.TheVariants.{Compare};
@@ -24,6 +24,7 @@ pub fn replace_read<'g, G: Guard<u64>>(
 ) -> Result<Option<Unlinked<'g, u64>>, Option<Owned<u64>>>
     requires of { IsPassOf (G.guarded guard.now) pass.old × (0 < its_links (G.guarded guard.now)) }
     requires value { BelongsTo G.Reclaimer.owners (G.guarded guard.now) new }
+    requires rule { (x : ℕ) → G.Reclaimer.keeps 0 (Some x) (Some (content new)) }
     ensures pass { IsPassOf (G.guarded guard.now) pass.new }
     ensures of { IfOk result (λ out. IfSome out (IsUnlinkedOf (G.guarded guard.now))) }
     ensures took { IfOk result (λ _. (held : Option ℕ) × (v : Option ℕ) × IsNamed gnum (Some new) v × Makes pass.old pass.new
@@ -35,6 +36,30 @@ pub fn replace_read<'g, G: Guard<u64>>(
     match guard.compare_exchange(0, Some(&found), Some(new), pass) {
         Ok(old) => Ok(old),
         Err(failed) => Err(failed.new),
+    }
+}
+
+/// Takes out of link 0 by one guard what another guard of the collector found there, if the link holds that still. The number that was
+/// found comes with what came out. The passes need not have met: what came out is the very value that was found, as that stands until then.
+pub fn take_found<'g, G: Guard<u64>>(
+    finder: &G,
+    taker: &'g G,
+    seen: &mut Pass,
+    pass: &mut Pass,
+) -> Option<(u64, Unlinked<'g, u64>)>
+    requires finder { IsPassOf (G.guarded finder.now) seen.old × (0 < its_links (G.guarded finder.now)) }
+    requires taker { IsPassOf (G.guarded taker.now) pass.old × (G.guarded taker.now ≡ G.guarded finder.now) }
+    requires rule { (x : ℕ) → G.Reclaimer.keeps 0 (Some x) None }
+    ensures passes { IsPassOf (G.guarded finder.now) seen.new × IsPassOf (G.guarded taker.now) pass.new }
+    ensures of { IfSome result (λ taken. IsUnlinkedOf (G.guarded taker.now) taken.1) }
+    ensures took { IfSome result (λ taken. let v = unlinked_name taken.1 in HasContent gnum v taken.0
+        × MakesOne seen.old seen.new (ReadLink (G.number finder.now) 0) (Link (Some v))
+        × MakesOne pass.old pass.new (ExchangeLink (G.number taker.now) 0 (Compare (Some v) None)) (Link (Some v))) }
+{
+    let found = finder.protect(0, seen)?;
+    match taker.compare_exchange(0, Some(&found), None, pass) {
+        Ok(Some(out)) => Some((*found, out)),
+        _ => None,
     }
 }
 

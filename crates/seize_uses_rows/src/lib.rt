@@ -4,4 +4,6 @@
 #[cfg(test)]
 mod further;
 #[cfg(test)]
+mod ruled;
+#[cfg(test)]
 mod tests;

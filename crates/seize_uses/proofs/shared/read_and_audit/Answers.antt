@@ -1,4 +1,4 @@
-use Rattle.std.proofs.Common.{ℕ, Option, ap, inl, subst, sym}
+use Rattle.std.proofs.Common.{◌≡◌, ℕ, Option, Some, ap, inl, subst, sym, ◌∙◌}
 use base.Stored.{gnum}
 use Rattle.seize.specs.Blocks.{HasContent}
 use Rattle.seize.specs.Links.{Shows}
@@ -13,9 +13,10 @@ use Rattle.seize_uses.proofs.shared.read_and_audit.Goals as goal
 pub returns-clause-found : goal.returns-clause-found
 returns-clause-found c =
     let guard = c.args.guard.now in let s = guard_slot guard in let reads = c.protect.ensures in let pass = c.protected.new.pass in let none = c.protected.ensures.none in
-    let held = (subst (Shows (guard_collector guard) gnum reads.0) c.in_ok-found.was reads.2).1 in let v = held.0 in (
+    let shows = subst (Shows (guard_collector guard) gnum reads.0) c.in_ok-found.was reads.2 in let v = shows.1.1.0 in
+    let held : reads.0 ≡ Some v = sym shows.0 ∙ shows.1.1.1 in (
       v,
-      subst (HasContent gnum v) (sym c.deref.ensures) held.2,
-      read_found s 0 v (then_none reads.1 none) (inl (ap (λ (o : Option ℕ). (ReadLink s 0, Link o)) held.1)),
-      λ k gone. c.protected.ensures.protects v k (subst (λ (o : Option ℕ). FoundIn (guard_activation guard) o pass) held.1 (found_still (guard_activation guard) reads.0 none reads.3)) gone,
+      subst (HasContent gnum v) (sym c.deref.ensures) shows.1.1.2,
+      read_found s 0 v (then_none reads.1 none) (inl (ap (λ (o : Option ℕ). (ReadLink s 0, Link o)) held)),
+      λ k gone. c.protected.ensures.protects v k (subst (λ (o : Option ℕ). FoundIn (guard_activation guard) o pass) held (found_still (guard_activation guard) reads.0 none reads.3)) gone,
     )
