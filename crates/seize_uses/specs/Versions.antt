@@ -1,5 +1,6 @@
 -- The rule of versions.
---     GrowsTo before after      what may follow what in a link: after a version comes no smaller one, and none is taken out
+--     GrowsTo before after      what may follow what in a link: after a version comes no smaller one, and none is taken out. Where nothing
+--                               was, any may come
 use Rattle.std.specs.Prelude.{◌≤◌, Option, None, Some}
 use Rattle.seize_uses.specs.declared.versions.Version.{Version}
 

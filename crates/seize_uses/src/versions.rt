@@ -2,10 +2,15 @@
 //! is taken out. So whoever has read a link knows that each later read finds no smaller version, by whichever guard, and whatever other
 //! threads do in between.
 ghost use Rattle.std.proofs.Common.{lit<};
-ghost use Rattle.std.specs.Prelude.{◌≡◌, ◌<◌, ◌≤◌, ◌↔◌, Option, Some, IfOk, IfSome, IsTrue, true};
+ghost use Rattle.std.specs.Prelude.{◌≡◌, ◌<◌, ◌≤◌, ◌↔◌, ℕ, Option, Some, [], ◌∷◌, IfOk, IfSome, IsTrue, true};
 ghost use Rattle.seize.specs.Collectors.{IsPassOf, its_links};
 ghost use Rattle.seize.specs.Exchanges.{current_value};
-ghost use Rattle.seize.specs.Guards.{guard_collector};
+ghost use Rattle.seize.specs.Guards.{guard_collector, guard_slot};
+ghost use Rattle.seize.specs.Machine.Event.{ReadLink};
+ghost use Rattle.seize.specs.Makes.{Makes, MakesOne};
+ghost use Rattle.seize.specs.Rules.{Says};
+ghost use Rattle.seize_machine.specs.declared.machine.event.Answer.TheVariants.{Link};
+ghost use Rattle.seize_uses.specs.contracts.versions.Version.{the_row};
 ghost use Rattle.seize_uses.specs.declared.versions.Version.{Version};
 ghost use Rattle.seize_uses.specs.Reached.{HasReached};
 ghost use Rattle.seize_uses.specs.Versions.{GrowsTo};
@@ -43,6 +48,8 @@ pub fn newest(
 ) -> Option<Version>
     requires of { IsPassOf (guard_collector guard.now) pass.old × (link < its_links (guard_collector guard.now)) }
     ensures pass { IsPassOf (guard_collector guard.now) pass.new }
+    ensures read { (held : Option ℕ) × Says the_row.coded.code held result
+        × MakesOne pass.old pass.new (ReadLink (guard_slot guard.now) link) (Link held) }
     ensures no_less { (version : Version) → HasReached (guard_collector guard.now) link version pass.old → GrowsTo (Some version) result }
     ensures reached { IfSome result (λ version. HasReached (guard_collector guard.now) link version pass.new) }
 {
@@ -63,6 +70,9 @@ pub fn read_twice(
     requires of { IsPassOf (guard_collector first.now) pass.old × (link < its_links (guard_collector first.now)) }
     requires same { guard_collector second.now ≡ guard_collector first.now }
     ensures pass { IsPassOf (guard_collector first.now) pass.new }
+    ensures read { (one : Option ℕ) × (other : Option ℕ) × Says the_row.coded.code one result.0
+        × Says the_row.coded.code other result.1 × Makes pass.old pass.new
+        ((ReadLink (guard_slot first.now) link, Link one) ∷ (ReadLink (guard_slot second.now) link, Link other) ∷ []) }
     ensures grows { GrowsTo result.0 result.1 }
 {
     let one = newest(first, link, pass);
@@ -71,7 +81,8 @@ pub fn read_twice(
 }
 
 /// Puts this version into a link in the place of an older one, or of none, and retires what was there. It says whether it did: not where
-/// the link holds a later version, and not where another thread was faster.
+/// the link holds a later version, and not where another thread was faster. Where it did, the pass knows that the link has reached this
+/// version.
 ///
 /// # Errors
 ///
