@@ -53,7 +53,7 @@ IsOfPlace v ticket = place_of v ≡ ticket.name
 abbrev pub ArePermitsOf : {C : Type 0} → Name → Permits C → Type 0
 ArePermitsOf n permits = (permits.list ≡ n.permits) × (permits.store ≡ n.store)
 
--- the list of pairs that may follow one another in its links
+-- the list of the pairs, before and after, that its links may go through
 abbrev pub ArePairsOf : {C : Type 0} → Name → Permits C → Type 0
 ArePairsOf n pairs = (pairs.list ≡ n.pairs) × (pairs.store ≡ n.store)
 

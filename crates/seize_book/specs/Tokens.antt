@@ -84,7 +84,7 @@ pub record Name : Type 0 where
   pub table : List ℕ
   -- the list of the codes that may be lent with its values
   pub permits : ℕ
-  -- and that of the pairs that may follow one another in its links
+  -- and that of the pairs, before and after, that its links may go through
   pub pairs : ℕ
   -- the opening
   pub slots : ℕ

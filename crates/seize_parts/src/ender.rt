@@ -1,5 +1,5 @@
-//! The reclaimer of a collector, with the list of the codes that may be lent with its values: those of contents that the reclaimer may be
-//! given.
+//! The reclaimer of a collector, with the two lists of its book: the codes that may be lent with values, which are those of contents that
+//! the reclaimer may be given; and the pairs of contents that its rule of links allows.
 ghost use Rattle.std.specs.Prelude.{◌≡◌};
 ghost use Rattle.seize_book.specs.Pairs.{IsPairOf};
 ghost use Rattle.seize_parts.specs.Blocks.{HoldsOnly};
@@ -38,7 +38,7 @@ pub struct Ender<T: Drop, R: Reclaim<T>> {
     pub reclaimer: R,
     /// The codes that may be lent.
     pub permits: Permits<Fit<T, R>>,
-    /// The pairs that may follow one another in links.
+    /// The pairs, before and after, that links may go through.
     pub pairs: Permits<Allowed<T, R>>,
 }
 

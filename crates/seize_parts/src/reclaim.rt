@@ -10,7 +10,8 @@ mod watch;
 pub use further::Further;
 pub use watch::Watch;
 
-/// What a reclaimer puts with a value of this type. It says nothing when the program runs.
+/// What a reclaimer says of values of this type: what it puts with one, and what a link of them may change to. Nothing of it is there when
+/// the program runs.
 ///
 /// A value may hold blocks of its collector. Its reclaimer takes them out and puts them, and they are retired in turn: so a chain of blocks
 /// ends without recursion. What it puts weighs less, together, than the value that it was given, so this comes to an end. A reclaimer that
@@ -26,9 +27,10 @@ pub trait Puts<T> {
     /// The contents of the blocks that it puts with a value of this kind, in order.
     ghost puts: { ℕ → T → List T } = { λ _ _. [] };
 
-    /// The rule of the links: what a link may change to, by its number and the contents before and after; `None` is that of an empty link.
-    /// Each exchange by a guard has to meet it, and `Collector::laws` says that all did since the collector was shared. What one caller
-    /// does with an `Alone` need not meet it, nor does the drop. Where no rule is given, a link may change to anything.
+    /// The rule of the links: `keeps link before after` says that this link may change from the one content to the other; `None` is that
+    /// of an empty link. Each exchange by a guard has to meet it, and `Collector::laws` says that all did since the collector was last
+    /// shared. What one caller does with an `Alone` need not meet it, nor does the drop. Where no rule is given, a link may change to
+    /// anything. A rule that allows nothing is allowed: then links change by `Alone` and the drop alone.
     ghost keeps: { ℕ → Option T → Option T → Type 0 } = { λ _ _ _. Unit {0} };
 
     ghost lighter: { (kind : ℕ) (value : T) → sum (map weight (puts kind value)) < weight value };

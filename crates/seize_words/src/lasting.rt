@@ -1,4 +1,5 @@
-//! What shows that an activation lasts for as long as a borrow of it, where the borrow itself is not at hand. Nothing here has bytes.
+//! What shows that an activation, or the sight of a value, lasts for as long as a borrow of it, where the borrow itself is not at hand.
+//! Nothing here has bytes.
 ghost use Rattle.std.specs.Prelude.{◌≡◌, ℕ, List};
 ghost use base.Stored.{coded_list};
 ghost use denote.Sharing.{said};
@@ -11,7 +12,8 @@ use seize_book::book::{Pass, Seen};
 use seize_content::Sight;
 use std::marker::{Model, PhantomData};
 
-/// An activation has not ended for `'g`. It goes with what was found in the activation, and knows a list in which that was found.
+/// An activation has not ended for `'g`. It goes with what was found in the activation, and knows a list in which that was found. Of what
+/// was found without an activation it knows the book alone (`of_sight`).
 #[derive(Drop)]
 pub struct Lasting<'g> {
     marker: PhantomData<&'g ()>,

@@ -1,5 +1,5 @@
-//! Permits for exchanges of links, from the list of the pairs that may follow one another in them. Each exchange that may be won shows one,
-//! but for those of the first pass (`Pass::no_pairs`). Nothing here runs.
+//! Permits for exchanges of links, from the list of the pairs, before and after, that links may go through. Each exchange that may be won
+//! shows one, but for those of the first pass (`Pass::no_pairs`). Nothing here runs.
 ghost use Rattle.std.specs.Prelude.{◌≡◌, ◌∷◌, [], suc};
 ghost use Rattle.seize_book.specs.Lending.{ArePairsOf};
 ghost use Rattle.seize_book.specs.Loans.{loan_number};
@@ -38,7 +38,7 @@ pub fn for_exchange<C: Condition, E: Expects>(
     permit::<C, Brand>(pairs, link, key)
 }
 
-// The permit for the pair that `K` says.
+// The permit for the pair that `K` says. Link and key are for the proof, which picks the pair by them.
 fn permit<C: Condition, K: Chosen>(pairs: &Permits<C>, _link: usize, _key: &MaybeKey) -> Permit
     requires { C.holds pairs.now.store K.code }
     ensures { (result.list ≡ pairs.now.list) × (result.codes ≡ loan_number K.code ∷ []) }

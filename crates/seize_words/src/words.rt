@@ -54,8 +54,9 @@ impl<T: Drop> Words<T> {
     ghost use Rattle.seize_book.specs.Others.{AreNumbersOf};
     ghost use Rattle.seize_words.specs.Rows.{AreShared, IsSharedAt, StandsAt};
 
-    /// The words of a new book, with so many links, which are empty, and no slot; the list of the codes that may be lent with its values;
-    /// the porter of its passes, which is at home; and the keys with which its slots are made. A slot attempts its batch when that has
+    /// The words of a new book, with so many links, which are empty, and no slot; the list of the codes that may be lent with its values
+    /// and that of the pairs that its links may go through; the porter of its passes, which is at home; and the two keys with which its
+    /// slots are made. A slot attempts its batch when that has
     /// `size` values, and at least one; `set_size` sets another size. The table of heads has the buckets of the numbers from 0 to
     /// `capacity`. It asks for their memory and for that of the links; the store of blocks has no rows yet.
     ///

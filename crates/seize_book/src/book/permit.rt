@@ -1,4 +1,5 @@
-//! Permits: which codes may be lent with the values of a book, and what holds of each of these. Nothing here has bytes.
+//! Permits. A book has two lists of codes: those that may be lent with its values, and those of the pairs, before and after, that its links
+//! may go through. Of each code in a list that list's condition holds. Nothing here has bytes.
 ghost use Rattle.std.specs.Prelude.{◌≡◌, ℕ, List};
 ghost use base.Stored.{Gv, gnil, coded_list, coded_ℕ};
 ghost use denote.Sharing.{said};
@@ -7,7 +8,7 @@ ghost use Rattle.seize_book.specs.Permits.{all_permitted, knows_permits};
 use crate::book::seen::Storage;
 use std::marker::{Brand, Model, PhantomData};
 
-/// What holds of each code that may be lent with the values of a book whose blocks lie in this store.
+/// What holds of each code in a list of a book whose blocks lie in this store.
 pub trait Condition {
     ghost holds: { List ℕ → Gv → Type 0 };
 }
@@ -21,7 +22,7 @@ impl Chosen for Brand {
     ghost code = { gnil };
 }
 
-/// These codes may be lent, for good. It doesn't know what holds of them: `Permits::check` says it.
+/// These codes are in a list, for good. It doesn't know what holds of them: `Permits::check` says it.
 #[derive(Drop)]
 pub struct Permit {
     pub(crate) marker: PhantomData<()>,
@@ -46,7 +47,7 @@ pub struct Permitted {
     pub pairs: Permit,
 }
 
-/// The list of the codes that may be lent. The condition holds of each of them. The list is there for good, and only grows.
+/// A list of codes. The condition holds of each of them. The list is there for good, and only grows.
 pub struct Permits<C: Condition> {
     marker: PhantomData<C>,
     /// The list.

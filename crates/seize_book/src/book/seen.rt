@@ -33,8 +33,8 @@ impl Model for Seen {
 }
 
 /// The store where the blocks of a book lie, by whose numbers words hold them, the table where its heads lie, the list of the codes that
-/// may be lent, and that of the pairs that may follow one another in its links. A caller passes `Brand`, and its proof picks them; those
-/// below are of no use, since none of them has this name.
+/// may be lent, and that of the pairs, before and after, that its links may go through. A caller passes `Brand`, and its proof picks them;
+/// those below are of no use, since none of them has this name.
 pub trait Storage {
     ghost store: { List ℕ };
 

@@ -120,7 +120,7 @@ impl<T: Drop> Numbers<T> {
 pub struct Resting<'a, T: Drop, R: Reclaim<T>> {
     /// The words of the collector.
     pub words: &'a Words<T>,
-    /// Its reclaimer, with the codes that may be lent.
+    /// Its reclaimer, with the lists of its book.
     pub ender: &'a Ender<T, R>,
     /// Where places take their memory.
     pub alloc: Global,
