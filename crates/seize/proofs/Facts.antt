@@ -22,8 +22,8 @@ use Rattle.seize_parts.specs.Makes.{EndsUse, IsOfKind}
 use Rattle.seize.specs.Reclaims.{Learns, ReclaimsAll, moments_kept, moments_of}
 use Rattle.seize.specs.declared.collector.Collector.{Collector}
 use Rattle.seize.specs.declared.block.shared.Shared.{Shared}
--- what was found stays found, and a won exchange of it took out that; and what one call makes and then another
-pub use Rattle.seize.proofs.Found.{found_still, read_replaced}
+-- what was found stays found; and what one call makes and then another
+pub use Rattle.seize.proofs.Found.{found_still}
 pub use Rattle.seize_parts.proofs.Made.{makes_then, then_none}
 -- what the rule of links carries on, and what a name says
 pub use Rattle.seize_parts.proofs.Ruled.{follows_between, held_after, held_at_last, held_between, held_from, held_through, held_throughout, holds_said, kept_within, says_once, since_seen}

@@ -1,14 +1,11 @@
 -- What was found in a link, and what a pass knows of it.
-use Rattle.std.proofs.Common.{◌≡◌, ◌≢◌, ◌⊎◌, ℕ, zero, suc, ◌+◌, ◌-◌, List, Option, None, Some, IfSome, arith, inl, inr, refl, subst, sym, ◌∙◌}
+use Rattle.std.proofs.Common.{◌≡◌, ◌⊎◌, ℕ, ◌+◌, List, Option, None, Some, IfSome, arith, inl, inr, refl, subst, sym, ◌∙◌}
 use denote.Bor.{Bor}
-use mathlib.Core.List.{IsPrefix}
 use Rattle.seize_machine.specs.Machine.Event.{Event, ExchangeLink, ReadLink}
 use Rattle.seize_machine.specs.declared.machine.event.Answer.{Answer}
 use Rattle.seize_machine.specs.declared.machine.event.Exchange.TheVariants.{Compare}
 use Rattle.seize_book.specs.Blocks.{block_number, link_word}
 use Rattle.seize_book.specs.Books.{Learns}
-use Rattle.seize_book.specs.Homesteads.{HasNumber, state_seen}
-use Rattle.seize_book.specs.Entry.{Entry}
 use Rattle.seize_book.specs.Laws.{Reader}
 use Rattle.seize_book.specs.Passes.{LooksOn}
 use Rattle.seize_book.specs.Tokens.{Name, start}
@@ -24,15 +21,10 @@ use Rattle.seize_words.specs.declared.link.MaybeKey.{MaybeKey}
 use Rattle.seize_words.proofs.Facts.{found_later, was_found}
 use Rattle.seize_calls.proofs.Slots.{longer_left, longer_right}
 use base.Stored.{Gv}
-use Rattle.core.specs.declared.result.Result.{Result}
-use Rattle.core.specs.declared.result.Result.TheVariants.{Ok}
 use Rattle.seize.specs.Collectors.{its_book}
-use Rattle.seize.specs.Links.{IsSharedOf, Shows, shared_name}
-use Rattle.seize.specs.Exchanges.{FoundIn, IsOutcome, Learned}
-use Rattle.seize.specs.declared.block.failed.Failed.{Failed}
-use Rattle.seize_parts.specs.declared.block.owned.Owned.{Owned}
+use Rattle.seize.specs.Links.{IsSharedOf, shared_name}
+use Rattle.seize.specs.Exchanges.{FoundIn, Learned}
 use Rattle.seize.specs.declared.block.shared.Shared.{Shared}
-use Rattle.seize.specs.declared.block.unlinked.Unlinked.{Unlinked}
 use Rattle.seize.specs.declared.collector.Collector.{Collector}
 use Rattle.seize_parts.specs.Makes.{Makes}
 
@@ -74,15 +66,6 @@ told_then (Some shared) {p} {q} learned makes =
 pub finds_found : (link : Link) (a : Activation) (pass pass' : Pass) (v : ℕ) (t : Finds link a pass pass' v) → FoundIn a (held_before t.reads) pass'
 finds_found link a pass pass' v t w is =
     found_later a w t.mid pass' t.looks.same.0 t.looks.grows (was_found link a pass t.mid (ReadLink a.slot (link_number link)) v w t.reads (refl, refl) is)
-
--- What a read found, and a won exchange that takes the link to hold it, are one.
-pub read_replaced : {T R : Type 0} (code : T → Gv) (collector : Collector T R) (new : Option (Owned T)) {held now : Option ℕ} {result : Option (Shared T)} {found : Shared T}
-    {outcome : Result (Option (Unlinked T)) (Failed T)} {out : Option (Unlinked T)} → Shows collector code held result → result ≡ Some found → IsOutcome code collector new (shared_name found) now outcome → outcome ≡ Ok out
-    → (shared_name found ≡ held) × (now ≡ held)
-read_replaced code collector new {held} {now} {result} {found} {outcome} {out} shows is ends won =
-    let name : shared_name found ≡ held = (subst (Shows collector code held) is shows).0 in
-    let same : shared_name found ≡ now = (subst (IsOutcome code collector new (shared_name found) now) won ends).0 in
-    (name, sym same ∙ name)
 
 pub none_held : (o : Option ℕ) → link_word o ≡ 0 → o ≡ None
 none_held None is = refl

@@ -1,12 +1,11 @@
 -- A rule of links that holds of each code of the list of pairs holds of each pair for which there is a permit.
-use Rattle.std.proofs.Common.{◌≡◌, ℕ, zero, suc, Bool, true, false, ◌||◌, ◌==◌, List, [], ◌∷◌, Option, refl, sym, ◌∙◌, ap, subst}
+use Rattle.std.proofs.Common.{◌≡◌, ℕ, zero, suc, Bool, true, false, ◌||◌, ◌==◌, List, [], ◌∷◌, refl, sym, ◌∙◌, ap, subst}
 use base.Stored.{Gv, gnum, gcons}
 use Rattle.seize_machine.specs.Machine.State.{has}
 use Rattle.seize_machine.proofs.Facts.{eq_true}
 use Rattle.seize_book.specs.Loans.{code_number}
 use Rattle.seize_book.specs.Pairs.{AllKeep, AreCovered, Admits, IsPairOf, Pair, pair_code}
 use Rattle.seize_book.specs.Permits.{AllAre, IsCodeOf}
-use Rattle.seize_words.specs.Links.{IsPairAllowed}
 use Rattle.seize_words.proofs.Contents.{same_code}
 
 -- what a code says
@@ -50,7 +49,3 @@ module _ (keeps : ℕ → ℕ → ℕ → Type 0) where
       let says : so.1 ≡ w = ap (λ (g : Gv). number_of (first_of (rest_of g))) same in
       let next : so.2 ≡ t.next = ap (λ (g : Gv). number_of (rest_of (rest_of g))) same in
       (subst (λ (z : ℕ × ℕ). keeps z.0 t.was z.1) (λ j. (link j, next j)) (so.4 t.was (subst (λ (z : ℕ). Admits z t.was) (sym says) are.0.1)), all_keep ks ts all are.1)
-
--- a permit for none allows no pass but the first to exchange a link
-pub none_allowed : (p l : ℕ) (held new : Option ℕ) → ¬ (IsPairAllowed [] (suc p) l held new)
-none_allowed p l held new is = absurd (let h : false ≡ true = is.0.2 in cc)
