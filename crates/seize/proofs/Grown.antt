@@ -14,10 +14,12 @@ use Rattle.seize_model.proofs.Simulation.Numbers.{slot_taken, taken_if}
 use Rattle.seize_book.proofs.Facts.{equal}
 use Rattle.seize_book.specs.Tokens.{Name}
 use Rattle.seize_parts.specs.Kinds.{kind_of}
-use Rattle.seize_parts.specs.Placing.{ArePlaces, Lies, lies_for, lies_in}
-use Rattle.seize_parts.specs.Reservations.{place_label}
+use Rattle.seize_parts.specs.Places.{LiesThen}
+use Rattle.seize_parts.specs.Placing.{ArePlaces, AreSound, Lies, lies_for, lies_in}
+use Rattle.seize_parts.specs.Reservations.{IsReservation, place_label}
 use Rattle.seize_parts.specs.Told.{Grew, Said}
 use Rattle.seize_parts.specs.declared.alone.place.Place.{Place}
+use Rattle.seize_parts.proofs.Lying.{sound_set}
 
 -- Kinds.
 
@@ -66,22 +68,8 @@ module _ {T : Type 0} (st : State T ℕ) (k : ℕ) (kind : Kind) where
   count_if true = length-append st.slots _
   count_if false = length-set st.slots k _
 
-  pub one_more : k ≡ length st.slots → length grown.slots ≡ length st.slots + 1
-  one_more new = count_if (k == length st.slots) ∙ ap (λ (b : Bool). if b then length st.slots + 1 else length st.slots) (equal_so (k == length st.slots) refl)
-    where
-      same : (n : ℕ) → (n == n) ≡ true
-      same n = grind arith
-
-      equal_so : (b : Bool) → (k == length st.slots) ≡ b → (k == length st.slots) ≡ true
-      equal_so true is = is
-      equal_so false is = absurd (false≢true (sym is ∙ ap (λ (n : ℕ). n == length st.slots) new ∙ same (length st.slots)))
-
-  pub as_many : ¬ (k ≡ length st.slots) → length grown.slots ≡ length st.slots
-  as_many old = count_if (k == length st.slots) ∙ ap (λ (b : Bool). if b then length st.slots + 1 else length st.slots) (other_so (k == length st.slots) refl)
-    where
-      other_so : (b : Bool) → (k == length st.slots) ≡ b → (k == length st.slots) ≡ false
-      other_so true is = absurd (old (eq_true k (length st.slots) is))
-      other_so false is = is
+  pub many_then : (made : ℕ) → made ≡ length st.slots → (if k == made then made + 1 else made) ≡ length grown.slots
+  many_then made counted = ap (λ (m : ℕ). if k == m then m + 1 else m) counted ∙ sym (count_if (k == length st.slots))
 
   -- What lies in the places, where there was room for the new one.
 
@@ -89,9 +77,15 @@ module _ {T : Type 0} (st : State T ℕ) (k : ℕ) (kind : Kind) where
   within made places least counted room = let below : least_unused st.slots ≤ length st.slots = prefix_len-le-length _ st.slots in omega (arith, least, counted, room, below)
 
   pub grown_places : (n : Name) (items room back : List (Option (Place T))) (place : Place T) → ArePlaces n st items → ((t : ℕ) → get_or room t None ≡ get_or items t None) → k < length room → back ≡ slice_set room k (Some place)
-      → k ≡ least_unused st.slots → is_free kind ≡ false → lies_in place ≡ (is_owned kind, (0, (place_label n k 1, (None, n.family)))) → ArePlaces n grown back
-  grown_places n items room back place are same there put least used is t = go (k == t) refl
+      → k ≡ least_unused st.slots → is_free kind ≡ false → LiesThen place (is_owned kind, (0, (place_label n k 1, (None, n.family)))) → ArePlaces n grown back
+  grown_places n items room back place are same there put least used is = record {
+    lie = λ t. go t (k == t) refl;
+    sound = subst AreSound (sym put) (sound_set room k (Some place) (λ t other at. are.sound t other (sym (same t) ∙ at)) (λ other at. subst (λ (x : Place T). IsReservation x.reservation) (one at) is.1));
+  }
     where
+      one : {x y : Place T} → Some x ≡ Some y → x ≡ y
+      one e = cc
+
       own : (slot_at grown k).kind ≡ kind
       own = (slot_taken st k kind (k == length st.slots) least refl).0
 
@@ -101,16 +95,23 @@ module _ {T : Type 0} (st : State T ℕ) (k : ℕ) (kind : Kind) where
       for : Kind × ℕ → Option Lies
       for x = if is_free x.0 then None else Some (is_owned x.0, (x.1, (place_label n k 1, ((if not (x.1 == 0) then Some (k, n) else None), n.family))))
 
-      go : (b : Bool) → (k == t) ≡ b → option_map lies_in (get_or back t None) ≡ lies_for n (slot_at grown t) t
-      go true e =
+      go : (t : ℕ) (b : Bool) → (k == t) ≡ b → option_map lies_in (get_or back t None) ≡ lies_for n (slot_at grown t) t
+      go t true e =
           subst (λ (i : ℕ). option_map lies_in (get_or back i None) ≡ lies_for n (slot_at grown i) i) (eq_true k t e)
-          (ap (λ (l : List (Option (Place T))). option_map lies_in (get_or l k None)) put ∙ ap (λ (o : Option (Place T)). option_map lies_in o) (get_or-set_same room k (Some place) None there) ∙ ap (λ (l : Lies). Some l) is
+          (ap (λ (l : List (Option (Place T))). option_map lies_in (get_or l k None)) put ∙ ap (λ (o : Option (Place T)). option_map lies_in o) (get_or-set_same room k (Some place) None there) ∙ ap (λ (l : Lies). Some l) is.0
           ∙ ap (λ (b : Bool). if b then None else Some (is_owned kind, (0, (place_label n k 1, (None, n.family))))) (sym used)
           ∙ ap (λ (x : Kind × ℕ). if is_free x.0 then None else Some (is_owned x.0, (x.1, (place_label n k 1, ((if not (x.1 == 0) then Some (k, n) else None), n.family))))) (λ j. (sym own j, sym none j)))
-      go false e =
+      go t false e =
           let other : ¬ (t ≡ k) = λ one. false≢true (sym e ∙ equal k t (sym one)) in
-          ap (λ (l : List (Option (Place T))). option_map lies_in (get_or l t None)) put ∙ ap (λ (o : Option (Place T)). option_map lies_in o) (get_or-set_other room k t (Some place) None other ∙ same t) ∙ are t
+          ap (λ (l : List (Option (Place T))). option_map lies_in (get_or l t None)) put ∙ ap (λ (o : Option (Place T)). option_map lies_in o) (get_or-set_other room k t (Some place) None other ∙ same t) ∙ are.lie t
           ∙ ap (λ (x : Slot T ℕ). lies_for n x t) (sym (other_slot t other))
+
+-- where room was made, the same lies in the places
+pub places_same : {T : Type 0} (n : Name) (st : State T ℕ) (items room : List (Option (Place T))) → ((t : ℕ) → get_or room t None ≡ get_or items t None) → ArePlaces n st items → ArePlaces n st room
+places_same n st items room same are = record {
+  lie = λ t. ap (λ (o : Option (Place _)). option_map lies_in o) (same t) ∙ are.lie t;
+  sound = λ t place is. are.sound t place (sym (same t) ∙ is);
+}
 
 -- What the model's call answered where it did so.
 

@@ -36,7 +36,7 @@ use Rattle.seize_parts.specs.Reservations.{IsHeadFor, place_label}
 use Rattle.seize.specs.Collectors.{IsPassOf, its_book, its_words}
 use Rattle.seize.specs.Guards.{guard_collector, guard_slot}
 use Rattle.seize.specs.declared.collector.Collector.{Collector}
-use Rattle.seize.specs.declared.guard.LocalGuard.{LocalGuard}
+use Rattle.seize.specs.declared.guard.local.LocalGuard.{LocalGuard}
 use Rattle.seize.proofs.LinkSteps.{link_compares, link_finds, link_swaps}
 use Rattle.seize_parts.proofs.Made.{none_learned, none_then}
 

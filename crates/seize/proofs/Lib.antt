@@ -11,9 +11,11 @@ pub mod Retired
 pub mod Onwards
 pub mod Facts
 mod Lone
+mod Fresh
 mod Still
 mod Grown
 mod Linked
 mod Reclaimed
 mod Outlined
 mod Running
+pub use Rattle.seize_alone.proofs.Outlines

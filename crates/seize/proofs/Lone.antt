@@ -1,135 +1,98 @@
--- A collector in one caller's hands: what the porter's first pass knows of the state, and what lies in the places.
-use Rattle.std.proofs.Common.{arith, ◌≡◌, ◌⊎◌, ℕ, ◌==◌, ◌<◌, ◌≤◌, true, not, if◌then◌else◌, List, length, Option, sym, ap, subst, ◌∙◌}
+-- A collector in one caller's hands: what stays so after a call, and what lies in the place of a slot.
+use Rattle.std.proofs.Common.{arith, ◌≡◌, ℕ, ◌==◌, ◌<◌, ◌++◌, true, not, if◌then◌else◌, List, [], ◌∷◌, length, Option, None, Some, option_map, Bool, refl, sym, ap, subst, ◌∙◌}
 use base.Growing.{prefix_trans}
 use base.Stored.{Gv}
 use mathlib.Core.List.{IsPrefix}
+use Rattle.seize_machine.specs.Machine.Event.{Event}
 use Rattle.seize_machine.specs.Machine.State.{are_distinct, linked_values}
-use Rattle.seize_model.specs.Waiting.State.{State}
+use Rattle.seize_machine.specs.declared.machine.event.Answer.{Answer}
+use Rattle.seize_model.specs.Waiting.State.{State, has_guard, slot_at}
 use Rattle.seize_book.specs.Book.{IsLegalList}
-use Rattle.seize_book.specs.Entry.{Entry}
-use Rattle.seize_book.specs.Porters.{ComesHome, GoesOnTo, HadStay, Shuts}
+use Rattle.seize_book.specs.Entry.{Entry, Made}
+use Rattle.seize_book.specs.Passes.{IsSamePass}
+use Rattle.seize_book.specs.Porters.{GoesOnTo}
 use Rattle.seize_book.specs.Tokens.{IsSole, Name, start}
 use Rattle.seize_book.specs.declared.book.pass.Pass.{Pass}
-use Rattle.seize_book.specs.declared.book.porter.Porter.{Porter}
 use Rattle.seize_words.specs.Joined.{words_book}
 use Rattle.seize_words.specs.declared.words.Words.{Words}
-use Rattle.seize_calls.specs.Slots.{IsPassFor}
+use Rattle.seize_calls.specs.Slots.{its_number}
+use Rattle.seize_alone.specs.Events.{MakesAlone}
 use Rattle.seize_alone.specs.Holding.{Holds}
-use Rattle.seize.specs.Alones.{AsListed, IsAlone, View}
+use Rattle.seize.specs.Alones.{AreNumbersFor, AsListed, IsAlone, View}
 use Rattle.seize.specs.Stillness.{LinksHold}
-use Rattle.seize_parts.specs.Placing.{ArePlaces}
+use Rattle.seize_parts.specs.Aparts.{MayGo}
+use Rattle.seize_parts.specs.Places.{HasUnit, LiesThen, MayCall}
+use Rattle.seize_parts.specs.Placing.{ArePlaces, Lies, held_in, lying_in, unit_in}
 use Rattle.seize.specs.declared.alone.hands.Hands.{Hands}
 use Rattle.seize_parts.specs.declared.alone.place.Place.{Place}
+use Rattle.seize_parts.specs.declared.alone.place.Unit.{Unit as Held}
 use Rattle.seize_parts.specs.declared.ender.Ender.{Ender}
+use Rattle.seize_parts.specs.declared.numbers.Numbers.{Numbers}
+use Rattle.seize_parts.proofs.Called.{only_there, unit_there}
 
--- The pass.
+-- one event made the list longer
+pub made_grows : {pass pass' : Pass} {event : Event} {answer : Answer} → MakesAlone pass pass' event answer → IsPrefix pass.seen pass'.seen
+made_grows {pass} {pass'} makes =
+    let e = makes.noted in subst (IsPrefix pass.seen) (sym e.appended) (prefix_trans pass.seen e.before (e.before ++ Made makes.deed ∷ []) e.grows (Made makes.deed ∷ [], refl))
 
-pub record Knows {T : Type 0} (code : T → Gv) (words : Words T) (hands : Hands T) (pass : Pass) : Type 0 where
-  pub for : IsPassFor words pass
-  pub sole : IsSole pass.id
-  pub size : hands.state.size ≡ pass.size
-  pub distinct : are_distinct (linked_values pass.name.links) ≡ true
-  pub holds : Holds code hands.state hands.names hands.kinds pass.name pass.seen
+-- the unit of the activation lies in the place of a slot with guards
+pub unit_held : (n : Name) (s : ℕ) (unit : Option Held) (on : Bool) → option_map unit_in unit ≡ (if on then Some (s, n) else None) → on ≡ true → (held : Held) × (unit ≡ Some held) × (held.number ≡ s) × (held.seen.name ≡ n)
+unit_held n s (Some held) on is active =
+    let same : (held.number, held.seen.name) ≡ (s, n) = one (is ∙ ap (λ (b : Bool). if b then Some (s, n) else None) active) in (held, refl, λ j. (same j).0, λ j. (same j).1)
+  where
+    one : {a b : ℕ × Name} → Some a ≡ Some b → a ≡ b
+    one e = cc
+unit_held n s None on is active = absurd (let both : None ≡ Some (s, n) = is ∙ ap (λ (b : Bool). if b then Some (s, n) else None) active in cc)
 
--- the porter is at home, so its first pass has seen just what it had seen
-pub knows : {T R : Type 0} {code : T → Gv} {words : Words T} {porter : Porter} {numbers : ℕ} {places : List (Option (Place T))} {made : ℕ} {ender : Ender T R} {hands : Hands T} {pass : Pass}
-    → IsAlone code words porter numbers places made ender hands → Shuts porter pass → Knows code words hands pass
-knows {T} {R} {code} {words} {porter} {hands = hands} {pass = pass} a shuts = record {
-  for = (sym (shuts.book.0 ∙ a.lends.0), sym (shuts.book.1 ∙ a.lends.1));
-  sole = shuts.alone;
-  size = a.sized ∙ sym a.lends.1 ∙ sym shuts.book.1;
-  distinct = ap (λ (n : Name). are_distinct (linked_values n.links)) shuts.book.0 ∙ shuts.goes_on.distinct;
-  holds = subst (λ (t : Name × List Entry). Holds code hands.state hands.names hands.kinds t.0 t.1) (λ j. (sym shuts.book.0 j, sym (shuts.was a.lends.2) j)) a.holds;
-}
-
--- After a work of the porter's first pass.
-
--- the list goes on from what the porter had seen, if it does from what the pass was lent with
-pub goes_through : {gave : Pass → Pass → Type 0} {porter porter' : Porter} (stay : HadStay gave porter porter') → GoesOnTo stay.lent.name stay.lent.seen stay.back.seen → GoesOnTo porter.name porter.seen porter'.seen
-goes_through {porter = porter} stay on =
-    let at : GoesOnTo porter.name stay.lent.seen stay.back.seen = subst (λ (n : Name). GoesOnTo n stay.lent.seen stay.back.seen) stay.shut.book.0 on in
-    subst (GoesOnTo porter.name porter.seen) (sym stay.again.1) (record { grows = prefix_trans porter.seen stay.lent.seen stay.back.seen stay.shut.goes_on.grows at.grows; legal = at.legal; sound = at.sound; lent = at.lent; distinct = at.distinct })
-
-module _ {T R : Type 0} {code : T → Gv} {words : Words T} {porter : Porter} {numbers : ℕ} {places : List (Option (Place T))} {made : ℕ} {ender : Ender T R} {hands : Hands T} (a : IsAlone code words porter numbers places made ender hands)
-    {gave : Pass → Pass → Type 0} {porter' : Porter} (stay : HadStay gave porter porter') where
-  -- the hands hold what they hold as the porter has seen then
-  pub held_again : {st : State T ℕ} {names : List (ℕ × T)} {kinds : List (ℕ × ℕ)} → Holds code st names kinds stay.back.name stay.back.seen → Holds code st names kinds porter'.name porter'.seen
-  held_again {st} {names} {kinds} holds = subst (λ (t : Name × List Entry). Holds code st names kinds t.0 t.1) (λ j. (stay.again.0.0 j, sym stay.again.1 j)) holds
-
-  -- the list goes on from what it was
-  pub list_grows : {seen : List Entry} → porter.seen ≡ seen → IsPrefix seen porter'.seen
-  list_grows {seen} is = subst (IsPrefix seen) (sym stay.again.1) (subst (λ (x : List Entry). IsPrefix x stay.back.seen) (stay.shut.was a.lends.2 ∙ is) stay.grows)
-
-  -- it is the porter of the same words
-  pub lends_again : (porter'.name ≡ words_book words) × (porter'.size ≡ words.size) × (porter'.home ≡ true)
-  lends_again = (sym stay.again.0.0 ∙ stay.same.0 ∙ stay.shut.book.0 ∙ a.lends.0, sym stay.again.0.1 ∙ stay.same.2 ∙ stay.shut.book.1 ∙ a.lends.1, stay.again.2)
-
-  pub alone_again : (hands' : Hands T) (places' : List (Option (Place T))) (made' : ℕ) → made' ≡ length hands'.state.slots → hands'.state.size ≡ hands.state.size → hands'.state.links ≡ hands.state.links
-      → ArePlaces (words_book words) hands'.state places' → Holds code hands'.state hands'.names hands'.kinds porter'.name porter'.seen → hands'.held ≡ hands.held → IsAlone code words porter' numbers places' made' ender hands'
-  alone_again hands' places' made' counted size links placed holds held = record {
-    lends = lends_again;
-    numbered = a.numbered;
-    ends = a.ends;
-    counted = counted;
-    sized = size ∙ a.sized;
-    linked = ap length links ∙ a.linked;
-    named = ap length held ∙ a.named;
-    stand = subst (λ (t : List (Option ℕ) × List (Option T)). LinksHold code words.links t.0 t.1) (λ j. (sym held j, sym links j)) a.stand;
-    placed = placed;
-    holds = holds;
-  }
-
--- and so it is where the numbers lie behind the same lock
-pub same_numbers : {T R : Type 0} {code : T → Gv} {words : Words T} {porter : Porter} {numbers numbers' : ℕ} {places : List (Option (Place T))} {made : ℕ} {ender : Ender T R} {hands : Hands T} → IsAlone code words porter numbers places made ender hands
-    → numbers' ≡ numbers → IsAlone code words porter numbers' places made ender hands
-same_numbers {code = code} {words = words} {porter = porter} {places = places} {made = made} {ender = ender} {hands = hands} a same = subst (λ (n : ℕ). IsAlone code words porter n places made ender hands) (sym same) a
-
--- With no event.
+pub held_place : {T : Type 0} (o : Option (Place T)) (unit : Held) → held_in o ≡ Some unit → (place : Place T) × (o ≡ Some place) × (place.unit ≡ Some unit)
+held_place (Some place) unit is = (place, refl, is)
+held_place None unit is = absurd (cc)
 
 -- a slot with guards is active
 pub some_guards : (n : ℕ) → 0 < n → not (n == 0) ≡ true
 some_guards n some = grind arith
 
--- the invariant, where the porter stayed at home
-pub alone_still : {T R : Type 0} {code : T → Gv} {words : Words T} {porter : Porter} {numbers : ℕ} {places : List (Option (Place T))} {made : ℕ} {ender : Ender T R} {hands : Hands T} → IsAlone code words porter numbers places made ender hands
-    → (hands' : Hands T) (places' : List (Option (Place T))) → length hands'.state.slots ≡ length hands.state.slots → hands'.state.size ≡ hands.state.size → hands'.state.links ≡ hands.state.links
-    → ArePlaces (words_book words) hands'.state places' → Holds code hands'.state hands'.names hands'.kinds porter.name porter.seen → hands'.held ≡ hands.held → IsAlone code words porter numbers places' made ender hands'
-alone_still {T} {code = code} {words = words} a hands' places' slots size links placed holds held = record {
-  lends = a.lends;
-  numbered = a.numbered;
-  ends = a.ends;
-  counted = a.counted ∙ sym slots;
-  sized = size ∙ a.sized;
-  linked = ap length links ∙ a.linked;
-  named = ap length held ∙ a.named;
-  stand = subst (λ (t : List (Option ℕ) × List (Option T)). LinksHold code words.links t.0 t.1) (λ j. (sym held j, sym links j)) a.stand;
-  placed = placed;
-  holds = holds;
-}
+module _ {T R : Type 0} {code : T → Gv} {words : Words T} {pass : Pass} {numbers : Numbers T} {places : List (Option (Place T))} {made : ℕ} {ender : Ender T R} {hands : Hands T} (a : IsAlone code words pass numbers places made ender hands) where
+  pub sized : hands.state.size ≡ words.size
+  sized = a.knows.size ∙ sym a.knows.for.1
 
--- What the porter at home knows, as it comes home once more.
-
-module _ {T R : Type 0} {code : T → Gv} {words : Words T} {porter porter' : Porter} {numbers : ℕ} {places : List (Option (Place T))} {made : ℕ} {ender : Ender T R} {hands : Hands T} (a : IsAlone code words porter numbers places made ender hands)
-    (home : ComesHome porter porter') where
-  pub seen_still : porter'.seen ≡ porter.seen
-  seen_still = home.was a.lends.2
-
-  pub alone_home : IsAlone code words porter' numbers places made ender hands
-  alone_home = record {
-    lends = (home.book.0 ∙ a.lends.0, home.book.1 ∙ a.lends.1, home.home);
-    numbered = a.numbered;
+  -- the invariant after a call
+  pub alone_again : {pass' : Pass} {numbers' : Numbers T} → IsSamePass pass pass' → AreNumbersFor words numbers' → (hands' : Hands T) (places' : List (Option (Place T))) (made' : ℕ) → made' ≡ length hands'.state.slots → hands'.state.size ≡ hands.state.size
+      → hands'.state.links ≡ hands.state.links → ArePlaces (words_book words) hands'.state places' → Holds code hands'.state hands'.names hands'.kinds pass'.name pass'.seen → hands'.held ≡ hands.held → IsAlone code words pass' numbers' places' made' ender hands'
+  alone_again {pass'} same numbered hands' places' made' counted size links placed holds held = record {
+    knows = record {
+      for = (a.knows.for.0 ∙ sym same.0, a.knows.for.1 ∙ sym same.2);
+      sole = subst IsSole (sym same.1) a.knows.sole;
+      size = size ∙ a.knows.size ∙ sym same.2;
+      distinct = ap (λ (n : Name). are_distinct (linked_values n.links)) same.0 ∙ a.knows.distinct;
+      holds = holds;
+    };
+    numbered = numbered;
     ends = a.ends;
-    counted = a.counted;
-    sized = a.sized;
-    linked = a.linked;
-    named = a.named;
-    stand = a.stand;
-    placed = a.placed;
-    holds = subst (λ (t : Name × List Entry). Holds code hands.state hands.names hands.kinds t.0 t.1) (λ j. (sym home.book.0 j, sym seen_still j)) a.holds;
+    counted = counted;
+    linked = ap length links ∙ a.linked;
+    named = ap length held ∙ a.named;
+    stand = subst (λ (t : List (Option ℕ) × List (Option T)). LinksHold code words.links t.0 t.1) (λ j. (sym held j, sym links j)) a.stand;
+    placed = placed;
   }
 
-  pub goes_home : GoesOnTo (words_book words) porter.seen porter.seen
-  goes_home = subst (λ (t : Name × List Entry). GoesOnTo t.0 porter.seen t.1) (λ j. (a.lends.0 j, seen_still j)) home.goes_on
+  -- all may be reclaimed
+  pub may_go : MayGo pass places hands.state
+  may_go = ((a.knows.size, a.knows.distinct), subst (λ (n : Name). ArePlaces n hands.state places) a.knows.for.0 a.placed)
+
+  -- What lies in the place of a slot in use.
+  module _ (s : ℕ) (place : Place T) (is : LiesThen place (lying_in (words_book words) (slot_at hands.state s) s)) where
+    pub may_call : MayCall words place pass × (its_number place.reservation.slot ≡ s)
+    may_call = let there = only_there words s pass place.reservation (ap (λ (t : Lies). t.1.1.0) is.0) a.knows.for a.knows.sole in ((is.1, there.0), there.1)
+
+    pub has_unit : has_guard (slot_at hands.state s) ≡ true → HasUnit words place
+    has_unit on =
+        let unit = unit_held (words_book words) s place.unit (has_guard (slot_at hands.state s)) (ap (λ (t : Lies). t.1.1.1.0) is.0) on in
+        (unit.0, unit.1, unit_there (words_book words) s (its_number place.reservation.slot) unit.0 unit.3 unit.2 may_call.1)
+
+-- a list that goes on twice
+pub goes_then : {n : Name} {seen later last : List Entry} → GoesOnTo n seen later → GoesOnTo n later last → GoesOnTo n seen last
+goes_then {seen = seen} {later = later} {last = last} one two = record { grows = prefix_trans seen later last one.grows two.grows; legal = two.legal; sound = two.sound; lent = two.lent; distinct = two.distinct }
 
 -- what the list says of the state
 pub as_listed : {T : Type 0} {code : T → Gv} (v : View T) (names : List (ℕ × T)) (kinds : List (ℕ × ℕ)) → IsLegalList (start v.book) v.seen → Holds code v.state names kinds v.book v.seen → AsListed code v

@@ -1,22 +1,23 @@
 -- A call that leaves kinds, guards and links as they were: what lies in the places, and the invariant.
-use Rattle.std.proofs.Common.{◌≡◌, ℕ, ◌<◌, Bool, true, false, List, [], length, Option, Some, slice_set, refl, sym, ap, ◌∙◌}
+use Rattle.std.proofs.Common.{◌≡◌, ℕ, ◌<◌, Bool, true, false, List, [], length, Option, Some, slice_set, refl, sym, ap, subst, ◌∙◌}
 use base.Stored.{Gv}
 use Rattle.seize_model.specs.Waiting.Calls.{is_free}
 use Rattle.seize_model.specs.Waiting.State.{State, set_slot, slot_at}
-use Rattle.seize_book.specs.Porters.{HadStay}
+use Rattle.seize_book.specs.Passes.{IsSamePass}
 use Rattle.seize_book.specs.Tokens.{Name}
 use Rattle.seize_book.specs.declared.book.pass.Pass.{Pass}
-use Rattle.seize_book.specs.declared.book.porter.Porter.{Porter}
 use Rattle.seize_words.specs.Joined.{words_book}
 use Rattle.seize_words.specs.declared.words.Words.{Words}
 use Rattle.seize_alone.proofs.Outlines.{guards_in, kind_in, outline, set_frame, slots_in}
 use Rattle.seize_alone.specs.Holding.{Holds}
 use Rattle.seize.specs.Alones.{IsAlone}
 use Rattle.seize_parts.specs.Kinds.{kind_of}
-use Rattle.seize_parts.specs.Placing.{ArePlaces, lies_for, lies_in, lying_in}
+use Rattle.seize_parts.specs.Places.{LiesThen}
+use Rattle.seize_parts.specs.Placing.{ArePlaces, lies_for, lying_in}
 use Rattle.seize.specs.declared.alone.hands.Hands.{Hands}
 use Rattle.seize_parts.specs.declared.alone.place.Place.{Place}
 use Rattle.seize_parts.specs.declared.ender.Ender.{Ender}
+use Rattle.seize_parts.specs.declared.numbers.Numbers.{Numbers}
 use Rattle.seize_parts.proofs.Lying.{laid, slot_there}
 use Rattle.seize.proofs.Lone.{alone_again}
 
@@ -27,23 +28,24 @@ kind_used false = refl
 -- The places.
 
 pub places_still : {U : Type 0} (n : Name) (st now : State U ℕ) (places : List (Option (Place U))) → outline now ≡ outline st → ArePlaces n st places → ArePlaces n now places
-places_still {U} n st now places same are t = are t ∙ (λ j. lies_for {T = U} n (record { kind = kind_in st now (sym same) t j; guards = guards_in st now (sym same) t j; batch = []; order = [] }) t)
+places_still {U} n st now places same are = record {
+  lie = λ t. are.lie t ∙ (λ j. lies_for {T = U} n (record { kind = kind_in st now (sym same) t j; guards = guards_in st now (sym same) t j; batch = []; order = [] }) t);
+  sound = are.sound;
+}
 
 -- so where a place was changed
 pub laid_again : {U : Type 0} (n : Name) (st now : State U ℕ) (s : ℕ) (items : List (Option (Place U))) (place : Place U) → outline now ≡ outline st → ArePlaces n st items → is_free (slot_at st s).kind ≡ false → s < length items
-    → lies_in place ≡ lying_in n (slot_at st s) s → ArePlaces n now (slice_set items s (Some place))
+    → LiesThen place (lying_in n (slot_at st s) s) → ArePlaces n now (slice_set items s (Some place))
 laid_again {U} n st now s items place same are used lies is =
     let there : State U ℕ = set_slot st s (slot_at st s) in
     places_still n there now (slice_set items s (Some place)) (same ∙ sym (ap (λ f. f.0) (set_frame st s (slot_at st s) refl)))
     (laid n st s (slot_at st s) items place are (slot_there st s used) lies used is)
 
--- The invariant, after such a call as a work of the porter's first pass.
-
-module _ {T R : Type 0} {code : T → Gv} {words : Words T} {porter : Porter} {numbers : ℕ} {places : List (Option (Place T))} {made : ℕ} {ender : Ender T R} {hands : Hands T} (a : IsAlone code words porter numbers places made ender hands)
-    {gave : Pass → Pass → Type 0} {porter' : Porter} (stay : HadStay gave porter porter') where
-  pub outlined_again : (now : State T ℕ) (hands' : Hands T) (places' : List (Option (Place T))) → hands'.state ≡ now → outline now ≡ outline hands.state → now.links ≡ hands.state.links → now.size ≡ hands.state.size
-      → ArePlaces (words_book words) now places' → Holds code hands'.state hands'.names hands'.kinds porter'.name porter'.seen → hands'.held ≡ hands.held → IsAlone code words porter' numbers places' made ender hands'
-  outlined_again now hands' places' is same links size placed holds held =
-      alone_again a stay hands' places' made (a.counted ∙ sym (slots_in now hands.state same) ∙ ap (λ (x : State T ℕ). length x.slots) (sym is))
-      (ap (λ (x : State T ℕ). x.size) is ∙ size) (ap (λ (x : State T ℕ). x.links) is ∙ links)
-      (λ s. placed s ∙ ap (λ (x : State T ℕ). lies_for (words_book words) (slot_at x s) s) (sym is)) holds held
+-- The invariant, after such a call.
+pub outlined_again : {T R : Type 0} {code : T → Gv} {words : Words T} {pass pass' : Pass} {numbers : Numbers T} {places : List (Option (Place T))} {made : ℕ} {ender : Ender T R} {hands : Hands T} → IsAlone code words pass numbers places made ender hands
+    → IsSamePass pass pass' → (now : State T ℕ) (hands' : Hands T) (places' : List (Option (Place T))) → hands'.state ≡ now → outline now ≡ outline hands.state → now.links ≡ hands.state.links → now.size ≡ hands.state.size
+    → ArePlaces (words_book words) now places' → Holds code hands'.state hands'.names hands'.kinds pass'.name pass'.seen → hands'.held ≡ hands.held → IsAlone code words pass' numbers places' made ender hands'
+outlined_again {T} {words = words} {made = made} {hands = hands} a still now hands' places' is same links size placed holds held =
+    alone_again a still a.numbered hands' places' made (a.counted ∙ sym (slots_in now hands.state same) ∙ ap (λ (x : State T ℕ). length x.slots) (sym is))
+    (ap (λ (x : State T ℕ). x.size) is ∙ size) (ap (λ (x : State T ℕ). x.links) is ∙ links)
+    (subst (λ (x : State T ℕ). ArePlaces (words_book words) x places') (sym is) placed) holds held

@@ -1,6 +1,6 @@
 -- A call by which values may be gone, made where its pass is alone: the hands hold what the model says then, and the watch was told of the
 -- values gone, in order.
-use Rattle.std.proofs.Common.{◌≡◌, ℕ, ◌==◌, ◌||◌, ◌⊎◌, inl, inr, ◌<◌, ◌≤◌, Bool, true, false, if◌then◌else◌, List, [], ◌∷◌, Option, Some, None, option_map, refl, sym, ap, subst, ◌∙◌, arith}
+use Rattle.std.proofs.Common.{◌≡◌, ℕ, ◌==◌, ◌||◌, ◌⊎◌, inl, inr, ◌<◌, ◌≤◌, Bool, true, false, if◌then◌else◌, List, [], ◌∷◌, Option, Some, None, refl, sym, ap, subst, ◌∙◌, arith}
 use Rattle.std.specs.Prelude.{Err, Ok, Result}
 use base.Stored.{Coded, Gv}
 use Rattle.seize_table.specs.declared.refusal.Refusal.{Refusal}
@@ -30,22 +30,11 @@ use Rattle.seize_alone.proofs.Slots.{slot_flushes, slot_parts, slot_refreshes, s
 use Rattle.seize_parts.specs.Kinds.{kind_of}
 use Rattle.seize_parts.specs.Places.{CallsSlot}
 use Rattle.seize_parts.specs.Told.{Answers, HasTold, told_of}
-use Rattle.seize_parts.specs.Placing.{unit_in}
 use Rattle.seize.specs.declared.alone.hands.Hands.{Hands}
-use Rattle.seize_parts.specs.declared.alone.place.Unit.{Unit as Held}
 use Rattle.seize_parts.specs.declared.reservation.Reservation.{Reservation}
 use Rattle.seize_parts.proofs.Called.{sole_still}
 use Rattle.seize_parts.proofs.Aparts.{told_gone}
-use Rattle.seize.proofs.Lone.{Knows}
-
--- the unit of the activation lies in the place of a slot with guards
-pub unit_held : (n : Name) (s : ℕ) (unit : Option Held) (on : Bool) → option_map unit_in unit ≡ (if on then Some (s, n) else None) → on ≡ true → (held : Held) × (unit ≡ Some held) × (held.number ≡ s) × (held.seen.name ≡ n)
-unit_held n s (Some held) on is active =
-    let same : (held.number, held.seen.name) ≡ (s, n) = one (is ∙ ap (λ (b : Bool). if b then Some (s, n) else None) active) in (held, refl, λ j. (same j).0, λ j. (same j).1)
-  where
-    one : {a b : ℕ × Name} → Some a ≡ Some b → a ≡ b
-    one e = cc
-unit_held n s None on is active = absurd (let both : None ≡ Some (s, n) = is ∙ ap (λ (b : Bool). if b then Some (s, n) else None) active in cc)
+use Rattle.seize.specs.Alones.{ShowsHands}
 
 -- what a call asks that needs a guard of the slot
 pub may_act : {T : Type 0} (st : State T ℕ) (s : ℕ) → no_guard st s ≡ None → (is_free (slot_at st s).kind ≡ false) × (has_guard (slot_at st s) ≡ true)
@@ -118,7 +107,7 @@ turned c told o pass seen seen' had then_held tells = record {
   hears = tells.2 ∙ told_gone c told seen tells.0 had o.1 tells.1 then_held.1;
 }
 
-module _ {T Seen : Type 0} (c : Coded T) (puts : ℕ → T → List T) (weight : T → ℕ) (lighter : Lighter puts weight) (told : Seen → T → Seen) {words : Words T} {hands : Hands T} {pass : Pass} (k : Knows c.code words hands pass) (r r' : Reservation T)
+module _ {T Seen : Type 0} (c : Coded T) (puts : ℕ → T → List T) (weight : T → ℕ) (lighter : Lighter puts weight) (told : Seen → T → Seen) {words : Words T} {hands : Hands T} {pass : Pass} (k : ShowsHands c.code words hands pass) (r r' : Reservation T)
     (pass' : Pass) (seen seen' : Seen) where
   abbrev st : State T ℕ
   st = hands.state
@@ -135,7 +124,7 @@ module _ {T Seen : Type 0} (c : Coded T) (puts : ℕ → T → List T) (weight :
   }
 
   -- it is the slot that lies in the place
-  its_slot : {Does : Slot T → Pass → Slot T → Pass → Had → Type 0} (calls : CallsSlot c.code puts told r pass r' pass' seen seen' Does) (s : ℕ) → its_number r.slot ≡ s → slot_number calls.slot.key ≡ s
+  its_slot : {Does : Slot T → Pass → Slot T → Pass → Had → Type 0} (calls : CallsSlot c.code puts told r pass r' pass' seen seen' Does) (s : ℕ) → its_number r.slot ≡ s → slot_number calls.slot.holder.key ≡ s
   its_slot calls s at = calls.slot.together.numbered ∙ calls.its ∙ at
 
   -- a leave with the last guard
@@ -148,7 +137,7 @@ module _ {T Seen : Type 0} (c : Coded T) (puts : ℕ → T → List T) (weight :
       (its_slot calls s at)
       (λ used guards.
       let done = slot_parts c st hands.names hands.kinds calls.slot r'.slot calls.ready pass' puts weight lighter calls.had (called_alone calls) calls.does used guards in
-      (turned c told (with_further puts weight (slot_number calls.slot.key) (one_guard_less st (slot_number calls.slot.key))) pass' seen seen' calls.had done.0 calls.tells, done.1, done.2))
+      (turned c told (with_further puts weight (slot_number calls.slot.holder.key) (one_guard_less st (slot_number calls.slot.holder.key))) pass' seen seen' calls.had done.0 calls.tells, done.1, done.2))
 
   -- a refresh
   pub refreshed : (s : ℕ) → its_number r.slot ≡ s → CallsSlot c.code puts told r pass r' pass' seen seen' (λ slot ready slot' p had. (a : Activation) × SlotRefreshes slot ready a [] slot' p had) → is_free (slot_at st s).kind ≡ false
@@ -160,7 +149,7 @@ module _ {T Seen : Type 0} (c : Coded T) (puts : ℕ → T → List T) (weight :
       (its_slot calls s at)
       (λ used active parts.
       let done = slot_refreshes c st hands.names hands.kinds calls.slot r'.slot calls.ready pass' puts weight lighter calls.had (called_alone calls) calls.does.0 calls.does.1 used active parts in
-      (done.0, turned c told (refresh puts weight st (slot_number calls.slot.key)).1 pass' seen seen' calls.had done.1 calls.tells))
+      (done.0, turned c told (refresh puts weight st (slot_number calls.slot.holder.key)).1 pass' seen seen' calls.had done.1 calls.tells))
 
   -- a flush
   pub flushed : (s : ℕ) → its_number r.slot ≡ s → CallsSlot c.code puts told r pass r' pass' seen seen' (λ slot ready slot' p had. (retired : Bool) × SlotFlushes slot ready [] slot' p had retired) → is_free (slot_at st s).kind ≡ false
@@ -171,7 +160,7 @@ module _ {T Seen : Type 0} (c : Coded T) (puts : ℕ → T → List T) (weight :
       (its_slot calls s at)
       (λ used active.
       let done = slot_flushes c st hands.names hands.kinds calls.slot r'.slot calls.ready pass' puts weight lighter calls.had (called_alone calls) calls.does.0 calls.does.1 used active in
-      (done.0, turned c told (flush puts weight st (slot_number calls.slot.key)).1 pass' seen seen' calls.had done.1 calls.tells))
+      (done.0, turned c told (flush puts weight st (slot_number calls.slot.holder.key)).1 pass' seen seen' calls.had done.1 calls.tells))
 
   -- a retirement
   pub retired : (s : ℕ) (loose : Loose) (kind : ℕ) (x : T) → its_number r.slot ≡ s
@@ -181,4 +170,4 @@ module _ {T Seen : Type 0} (c : Coded T) (puts : ℕ → T → List T) (weight :
       subst (λ (s : ℕ). is_free (slot_at st s).kind ≡ false → ((retire puts weight st s x kind).0 ≡ Ok tt) × Turned c told (retire puts weight st s x kind).1 pass' seen seen') (its_slot calls s at)
       (λ used.
       let done = slot_retires c st hands.names hands.kinds calls.slot r'.slot calls.ready pass' puts weight lighter calls.had (called_alone calls) loose kind x calls.does.0 calls.does.1 lent used in
-      (done.0, turned c told (retire puts weight st (slot_number calls.slot.key) x kind).1 pass' seen seen' calls.had done.1 calls.tells))
+      (done.0, turned c told (retire puts weight st (slot_number calls.slot.holder.key) x kind).1 pass' seen seen' calls.had done.1 calls.tells))

@@ -5,15 +5,14 @@ use Rattle.std.proofs.lemmas.List.{get_or-set_other, get_or-set_same}
 use base.Stored.{Coded, Gv}
 use Rattle.seize_machine.proofs.Facts.{eq_true}
 use Rattle.seize_machine.specs.Machine.State as machine
-use Rattle.seize_machine.specs.Machine.State.{link_at as held_at}
+use Rattle.seize_machine.specs.Machine.State.{are_distinct, linked_values, link_at as held_at}
 use Rattle.seize_model.specs.Waiting.Calls.{link_at}
 use Rattle.seize_model.specs.Waiting.State.{State}
 use Rattle.seize_book.proofs.Facts.{equal}
-use Rattle.seize_book.specs.Entry.{Entry}
-use Rattle.seize_book.specs.Porters.{HadStay}
-use Rattle.seize_book.specs.Tokens.{Name}
+use Rattle.seize_book.specs.Homesteads.{state_seen}
+use Rattle.seize_book.specs.Passes.{IsSamePass}
+use Rattle.seize_book.specs.Tokens.{IsSole, Name}
 use Rattle.seize_book.specs.declared.book.pass.Pass.{Pass}
-use Rattle.seize_book.specs.declared.book.porter.Porter.{Porter}
 use Rattle.seize_book.specs.declared.book.seen.Seen.{Seen}
 use Rattle.seize_words.specs.Joined.{words_book}
 use Rattle.seize_words.specs.Named.{link_count}
@@ -28,14 +27,11 @@ use Rattle.seize.specs.Alones.{IsAlone}
 use Rattle.seize_parts.specs.Enders.{IsEnderIn}
 use Rattle.seize.specs.Looks.{with_link}
 use Rattle.seize_parts.specs.Placing.{ArePlaces}
-use Rattle.seize.specs.Stillness.{LinksHold, StaysHome, state_at}
+use Rattle.seize.specs.Stillness.{LinksHold}
 use Rattle.seize.specs.declared.alone.hands.Hands.{Hands}
 use Rattle.seize_parts.specs.declared.alone.place.Place.{Place}
 use Rattle.seize_parts.specs.declared.ender.Ender.{Ender}
-
--- a list that shows a state shows it of a porter that has seen the same
-pub holds_so : {T : Type 0} {code : T → Gv} {st : State T ℕ} {names : List (ℕ × T)} {kinds : List (ℕ × ℕ)} (porter porter' : Porter) → StaysHome porter porter' → Holds code st names kinds porter.name porter.seen → Holds code st names kinds porter'.name porter'.seen
-holds_so {code = code} {st} {names} {kinds} porter porter' same holds = subst (λ (t : Name × List Entry). Holds code st names kinds t.0 t.1) (λ j. (sym same.0 j, sym same.2 j)) holds
+use Rattle.seize_parts.specs.declared.numbers.Numbers.{Numbers}
 
 -- what links hold by name, from link l on
 abbrev pub names_from : machine.State → ℕ → ℕ → List (Option ℕ)
@@ -52,17 +48,17 @@ names_there ms l (suc n) zero less = let same : l ≡ l + 0 = omega arith in ap 
 names_there ms l (suc n) (suc i) less = let same : (l + 1) + i ≡ l + suc i = omega arith in names_there ms (l + 1) n i (omega (arith, less)) ∙ ap (λ (k : ℕ). held_at ms k) same
 
 -- all of them, once they were put to rest
-pub stand_first : {T : Type 0} (c : Coded T) (links : Links) (porter : Porter) (st : State T ℕ) (names : List (ℕ × T)) (kinds : List (ℕ × ℕ)) (held : List (Option ℕ)) → AllStand links (state_at porter) → Holds c.code st names kinds porter.name porter.seen
-    → held ≡ names_from (state_at porter) 0 (link_count links) → LinksHold c.code links held st.links
-stand_first c links porter st names kinds held stand holds are l less =
-    let is : held_at (state_at porter) l ≡ get_or held l None = sym (ap (λ (os : List (Option ℕ)). get_or os l None) are ∙ names_there (state_at porter) 0 (link_count links) l less ∙ zero_on l) in
-    subst (λ (o : Option ℕ). StandsAt links l o × IsHeldAs c.code o (link_at st l)) is (stand l, link_held c st names kinds porter.name porter.seen l holds)
+pub stand_first : {T : Type 0} (c : Coded T) (links : Links) (pass : Pass) (st : State T ℕ) (names : List (ℕ × T)) (kinds : List (ℕ × ℕ)) (held : List (Option ℕ)) → AllStand links (state_seen pass) → Holds c.code st names kinds pass.name pass.seen
+    → held ≡ names_from (state_seen pass) 0 (link_count links) → LinksHold c.code links held st.links
+stand_first c links pass st names kinds held stand holds are l less =
+    let is : held_at (state_seen pass) l ≡ get_or held l None = sym (ap (λ (os : List (Option ℕ)). get_or os l None) are ∙ names_there (state_seen pass) 0 (link_count links) l less ∙ zero_on l) in
+    subst (λ (o : Option ℕ). StandsAt links l o × IsHeldAs c.code o (link_at st l)) is (stand l, link_held c st names kinds pass.name pass.seen l holds)
   where
-    zero_on : (k : ℕ) → held_at (state_at porter) (0 + k) ≡ held_at (state_at porter) k
-    zero_on k = let same : 0 + k ≡ k = omega arith in ap (λ (i : ℕ). held_at (state_at porter) i) same
+    zero_on : (k : ℕ) → held_at (state_seen pass) (0 + k) ≡ held_at (state_seen pass) k
+    zero_on k = let same : 0 + k ≡ k = omega arith in ap (λ (i : ℕ). held_at (state_seen pass) i) same
 
 -- one was exchanged
-module _ {T : Type 0} (code : T → Gv) (links mid links' : Links) (st : State T ℕ) (names : List (Option ℕ)) (link : ℕ) (new : Option T) (held : Option ℕ) (stirred : IsSameBut link links mid) (rested : IsSameBut link mid links') (stands : StandsAt links' link held)
+module _ {T : Type 0} (code : T → Gv) (links links' : Links) (st : State T ℕ) (names : List (Option ℕ)) (link : ℕ) (new : Option T) (held : Option ℕ) (same : IsSameBut link links links') (stands : StandsAt links' link held)
     (is : IsHeldAs code held (link_at (with_link st link new) link)) (below : link < length names) (are : LinksHold code links names st.links) where
   abbrev now : State T ℕ
   now = with_link st link new
@@ -73,30 +69,34 @@ module _ {T : Type 0} (code : T → Gv) (links mid links' : Links) (st : State T
   at : (b : Bool) (l : ℕ) → (l == link) ≡ b → l < link_count links' → Held l (get_or (slice_set names link held) l None)
   at true l e less = subst (λ (k : ℕ). Held k (get_or (slice_set names link held) k None)) (sym (eq_true l link e)) (subst (Held link) (sym (get_or-set_same names link held None below)) (stands, is))
   at false l e less =
-      let other : ¬ (l ≡ link) = λ same. false≢true (sym e ∙ equal l link same) in
-      let was = are l (subst (λ (b : Seen). l < length b.name.links) (rested.0 ∙ stirred.0) less) in let o = get_or names l None in
+      let other : ¬ (l ≡ link) = λ is. false≢true (sym e ∙ equal l link is) in
+      let was = are l (subst (λ (b : Seen). l < length b.name.links) same.0 less) in let o = get_or names l None in
       subst (Held l) (sym (get_or-set_other names link l held None other))
-      (rested.1 l o other (stirred.1 l o other was.0), subst (λ (x : Option T). IsHeldAs code o x) (sym (get_or-set_other st.links link l new None other)) was.1)
+      (same.1 l o other was.0, subst (λ (x : Option T). IsHeldAs code o x) (sym (get_or-set_other st.links link l new None other)) was.1)
 
   pub stand_swapped : LinksHold code links' (slice_set names link held) now.links
   stand_swapped l less = at (l == link) l refl less
 
 -- The invariant after an exchange.
-pub alone_swapped : {T R : Type 0} {code : T → Gv} {words : Words T} {porter : Porter} {numbers : ℕ} {places : List (Option (Place T))} {made : ℕ} {ender : Ender T R} {hands : Hands T} → IsAlone code words porter numbers places made ender hands
-    → {gave : Pass → Pass → Type 0} {porter' porter'' : Porter} → HadStay gave porter porter' → StaysHome porter' porter'' → (words' : Words T) → words'.blocks ≡ words.blocks → words'.size ≡ words.size → (hands' : Hands T)
+pub alone_swapped : {T R : Type 0} {code : T → Gv} {words : Words T} {pass : Pass} {numbers : Numbers T} {places : List (Option (Place T))} {made : ℕ} {ender : Ender T R} {hands : Hands T} → IsAlone code words pass numbers places made ender hands
+    → {pass' : Pass} → IsSamePass pass pass' → (words' : Words T) → words'.blocks ≡ words.blocks → words'.size ≡ words.size → (hands' : Hands T)
     → length hands'.state.slots ≡ length hands.state.slots → hands'.state.size ≡ hands.state.size → length hands'.state.links ≡ length hands.state.links → length hands'.held ≡ length hands.held → LinksHold code words'.links hands'.held hands'.state.links → ArePlaces (words_book words) hands'.state places
-    → Holds code hands'.state hands'.names hands'.kinds porter''.name porter''.seen → IsAlone code words' porter'' numbers places made ender hands'
-alone_swapped {T} {R} {words = words} {places = places} {ender = ender} a stay same words' blocks size hands' slots sized links named stand placed holds =
+    → Holds code hands'.state hands'.names hands'.kinds pass'.name pass'.seen → IsAlone code words' pass' numbers places made ender hands'
+alone_swapped {T} {R} {words = words} {numbers = numbers} {places = places} {ender = ender} a same words' blocks size hands' slots sized links named stand placed holds =
     let book : words_book words' ≡ words_book words = ap (λ (b : Blocks T). b.book.name) blocks in
     record {
-      lends = (same.0 ∙ sym stay.again.0.0 ∙ stay.same.0 ∙ stay.shut.book.0 ∙ a.lends.0 ∙ sym book, same.1 ∙ sym stay.again.0.1 ∙ stay.same.2 ∙ stay.shut.book.1 ∙ a.lends.1 ∙ sym size, same.3);
-      numbered = a.numbered ∙ ap (λ (n : Name). n.family) (sym book);
+      knows = record {
+        for = (book ∙ a.knows.for.0 ∙ sym same.0, size ∙ a.knows.for.1 ∙ sym same.2);
+        sole = subst IsSole (sym same.1) a.knows.sole;
+        size = sized ∙ a.knows.size ∙ sym same.2;
+        distinct = ap (λ (n : Name). are_distinct (linked_values n.links)) same.0 ∙ a.knows.distinct;
+        holds = holds;
+      };
+      numbered = (a.numbered.0, a.numbered.1 ∙ sym book, a.numbered.2);
       ends = subst (λ (n : Name). IsEnderIn n ender) (sym book) a.ends;
       counted = a.counted ∙ sym slots;
-      sized = sized ∙ a.sized ∙ sym size;
       linked = links ∙ a.linked ∙ ap (λ (n : Name). length n.links) (sym book);
       named = named ∙ a.named ∙ ap (λ (n : Name). length n.links) (sym book);
       stand = stand;
       placed = subst (λ (n : Name). ArePlaces n hands'.state places) (sym book) placed;
-      holds = holds;
     }

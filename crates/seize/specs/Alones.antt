@@ -3,6 +3,7 @@
 --                       (`seize_model`), the names of what links hold, and the events of the list
 --     name_at a l       what the list calls the value that link l holds, if it holds one
 --     view_coded        the code of views, by that of values
+--     resized a n       it has this batch size, and else it is the same
 --     opening_in a      the state in which its list of events begins
 --     moments_in a      the events of its list, each with the states before and after it
 --     IsSame a a'       it is the same collector: by its list, its batch size, its id and how many links it has
@@ -10,9 +11,12 @@
 --     ListGrows a a'    the list goes on: what was there is its beginning
 --     AsListed code a   the list is legal, where it ends no call is under way, and it leads to a machine that shows the state, in which
 --                       numbers stand for values by their names, and for kinds as the list says (`Holds`)
---     IsAlone code words porter numbers places made ender hands     what is so of its parts: all are of one list. The porter is at home.
---                       The hands hold the state, which what the porter has seen shows, with the batch size; and so many slots were made.
---                       The links stand still, and hold what the state says, and what lies in the places is what it says of the slots
+--     ShowsHands code words hands pass     the pass is of these words, and alone, and what it has seen shows the state that the
+--                       hands hold, with its batch size. The links of the list begin with values that differ
+--     AreNumbersFor words numbers     these are the numbers of the slots of these words
+--     IsAlone code words pass numbers places made ender hands     what is so of its parts: all are of one list, which the pass knows. So
+--                       many slots were made. The links stand still, and hold what the state says, and what lies in the places is what it
+--                       says of the slots
 use Rattle.std.specs.Prelude.{◌≡◌, ℕ, List, Option, None, length, slice_index_or, true}
 use mathlib.Core.List.{IsPrefix}
 use mathlib.Core.Path.{refl}
@@ -20,21 +24,25 @@ use base.Stored.{Coded, Gv, coded×, coded_list, coded_ℕ}
 use Rattle.std.specs.Coded.{code_by, coded_option}
 use Rattle.seize_machine.specs.Machine.History.{Moment}
 use Rattle.seize_machine.specs.Machine.State as machine
+use Rattle.seize_machine.specs.Machine.State.{are_distinct, linked_values}
 use Rattle.seize_model.specs.Waiting.State.{State}
 use Rattle.seize_book.specs.Book.{IsLegalList, after, moments}
 use Rattle.seize_book.specs.Entry.{Entry, entry_coded}
-use Rattle.seize_book.specs.Tokens.{Name, name_coded, start}
-use Rattle.seize_book.specs.declared.book.porter.Porter.{Porter}
+use Rattle.seize_book.specs.Tokens.{IsSole, Name, name_coded, start}
+use Rattle.seize_book.specs.declared.book.pass.Pass.{Pass}
 use Rattle.seize_words.specs.Joined.{words_book}
 use Rattle.seize_words.specs.declared.words.Words.{Words}
+use Rattle.seize_calls.specs.Slots.{IsPassFor}
 use Rattle.seize_alone.specs.Holding.{Holds}
 use Rattle.seize_parts.specs.Enders.{IsEnderOf}
+use Rattle.seize_parts.specs.Numbers.{AreNumbers, KnowsLeast}
 use Rattle.seize_parts.specs.Placing.{ArePlaces}
 use Rattle.seize.specs.States.{state_coded}
 use Rattle.seize.specs.Stillness.{LinksHold}
 use Rattle.seize.specs.declared.alone.hands.Hands.{Hands}
 use Rattle.seize_parts.specs.declared.alone.place.Place.{Place}
 use Rattle.seize_parts.specs.declared.ender.Ender.{Ender}
+use Rattle.seize_parts.specs.declared.numbers.Numbers.{Numbers}
 
 pub record View (T : Type 0) : Type 0 where
   pub book : Name
@@ -64,6 +72,9 @@ view_coded {T} c =
 abbrev pub name_at : {T : Type 0} → View T → ℕ → Option ℕ
 name_at a l = slice_index_or a.held l None
 
+abbrev pub resized : {T : Type 0} → View T → ℕ → View T
+resized a n = record a { size = n; state = record a.state { size = n } }
+
 abbrev pub opening_in : {T : Type 0} → View T → machine.State
 opening_in a = start a.book
 
@@ -86,15 +97,23 @@ pub record AsListed {T : Type 0} (code : T → Gv) (a : View T) : Type 0 where
   pub kinds : List (ℕ × ℕ)
   pub holds : Holds code a.state names kinds a.book a.seen
 
-pub record IsAlone {T R : Type 0} (code : T → Gv) (words : Words T) (porter : Porter) (numbers : ℕ) (places : List (Option (Place T)))
+pub record ShowsHands {T : Type 0} (code : T → Gv) (words : Words T) (hands : Hands T) (pass : Pass) : Type 0 where
+  pub for : IsPassFor words pass
+  pub sole : IsSole pass.id
+  pub size : hands.state.size ≡ pass.size
+  pub distinct : are_distinct (linked_values pass.name.links) ≡ true
+  pub holds : Holds code hands.state hands.names hands.kinds pass.name pass.seen
+
+abbrev pub AreNumbersFor : {T : Type 0} → Words T → Numbers T → Type 0
+AreNumbersFor words numbers = AreNumbers numbers × (numbers.book.name ≡ words_book words) × KnowsLeast numbers
+
+pub record IsAlone {T R : Type 0} (code : T → Gv) (words : Words T) (pass : Pass) (numbers : Numbers T) (places : List (Option (Place T)))
     (made : ℕ) (ender : Ender T R) (hands : Hands T) : Type 0 where
-  pub lends : (porter.name ≡ words_book words) × (porter.size ≡ words.size) × (porter.home ≡ true)
-  pub numbered : numbers ≡ (words_book words).family
+  pub knows : ShowsHands code words hands pass
+  pub numbered : AreNumbersFor words numbers
   pub ends : IsEnderOf words ender
   pub counted : made ≡ length hands.state.slots
-  pub sized : hands.state.size ≡ words.size
   pub linked : length hands.state.links ≡ length (words_book words).links
   pub named : length hands.held ≡ length (words_book words).links
   pub stand : LinksHold code words.links hands.held hands.state.links
   pub placed : ArePlaces (words_book words) hands.state places
-  pub holds : Holds code hands.state hands.names hands.kinds porter.name porter.seen

@@ -7,7 +7,7 @@
 --     FoundIn a o pass         where o is a value, it was found in a link in this activation, as the pass has seen
 --     Protects a pass          no value that was found in this activation, as the pass has seen, is reclaimed in what it has seen
 --     Learned current pass pass'     the pass has learned what was seen where `current` was found
---     IsOutcome code collector new current held result     where the link held just what the caller took it to hold, that came out, of this
+--     WonOrLost code collector new current held result     where the link held just what the caller took it to hold, that came out, of this
 --                              collector; else what the link held was found, and the block that was to go in comes back
 use Rattle.std.specs.Prelude.{◌≡◌, ◌≢◌, ℕ, Option, None, Some, IfSome}
 use denote.Bor.{Bor}
@@ -55,11 +55,11 @@ abbrev pub Learned : {T : Type 0} → Option (Bor (Shared T)) → Pass → Pass 
 Learned (Some shared) pass pass' = LearnsFrom shared.now.lasting pass pass'
 Learned None pass pass' = pass' ≡ pass
 
-abbrev pub IsOutcome : {T R : Type 0} → (T → Gv) → Collector T R → Option (Owned T) → Option ℕ → Option ℕ
+abbrev pub WonOrLost : {T R : Type 0} → (T → Gv) → Collector T R → Option (Owned T) → Option ℕ → Option ℕ
     → Result (Option (Unlinked T)) (Failed T) → Type 0
-IsOutcome code collector new current held (Ok out) =
+WonOrLost code collector new current held (Ok out) =
     (current ≡ held) × ComesOut held out × IfSome out (IsUnlinkedOf collector)
-IsOutcome code collector new current held (Err failed) =
+WonOrLost code collector new current held (Err failed) =
     (current ≢ held) × Shows collector code held failed.found × ComesBack new failed.new
 
 pub record MakesExchange {T R : Type 0} (code : T → Gv) (collector : Collector T R) (s : ℕ) (a : Activation) (link : ℕ) (current : Option ℕ)
@@ -68,5 +68,5 @@ pub record MakesExchange {T R : Type 0} (code : T → Gv) (collector : Collector
   pub held : Option ℕ
   pub named : IsNamed code new put
   pub made : MakesOne pass pass' (ExchangeLink s link (Compare current put)) (Link held)
-  pub outcome : IsOutcome code collector new current held result
+  pub outcome : WonOrLost code collector new current held result
   pub found : FoundIn a held pass'

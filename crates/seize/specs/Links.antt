@@ -1,6 +1,6 @@
 -- What contracts see of what links hold, and of what came out of them. `code` is the code of the collector's element type.
 --     shared_name shared        what the list calls the value that was found;  shared_value shared     the value
---     name_of found             what the list calls what was found, if there is anything
+--     found_name found             what the list calls what was found, if there is anything
 --     shared_book shared        the list of its collector
 --     IsSharedIn code n shared  it is of the collector of list n, its value is what its name says, and it was found in the activation that
 --                               it knows to last;  IsSharedOf code c shared     so it is, of this collector
@@ -30,9 +30,9 @@ use Rattle.seize_parts.specs.Blocks.{HasContent}
 abbrev pub shared_name : {T : Type 0} → Shared T → Option ℕ
 shared_name shared = shared.glimpse.value
 
-abbrev pub name_of : {T : Type 0} → Option (Shared T) → Option ℕ
-name_of (Some shared) = shared_name shared
-name_of None = None
+abbrev pub found_name : {T : Type 0} → Option (Shared T) → Option ℕ
+found_name (Some shared) = shared_name shared
+found_name None = None
 
 abbrev pub shared_value : {T : Type 0} → Shared T → T
 shared_value shared = shared.value.now

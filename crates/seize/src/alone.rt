@@ -1,11 +1,11 @@
 //! The collector in one caller's hands. Nobody shares it, so each call is exactly what the model of waiting sets says (`seize_model`): its
-//! answer, the state after it, and the values that are gone, in order. A slot lies in its place (`place`), events and calls are works that
-//! the porter's first pass is lent to, and the state is kept in `hands`, which has no bytes.
-ghost use Rattle.std.specs.Prelude.{box_value, length};
+//! answer, the state after it, and the values that are gone, in order. It has the list's first pass, which is alone, the numbers, and the
+//! slots in use in their places (`place`); the state is kept in `hands`, which has no bytes.
+ghost use Rattle.std.specs.Prelude.{◌≡◌, ◌==◌, ◌+◌, ◌<◌, ◌^◌, box_value, if◌then◌else◌, length};
 ghost use Rattle.seize_words.specs.Joined.{words_book};
 ghost use Rattle.seize.specs.Alones.{IsAlone, View, view_coded};
 
-mod all;
+mod beginning;
 mod blocks;
 mod codes;
 mod hands;
@@ -14,22 +14,19 @@ mod reclaiming;
 mod running;
 mod sharing;
 
-use crate::alone::all::reclaim_by;
 pub use crate::alone::codes::Codes;
 use crate::alone::hands::Hands;
 pub use crate::alone::running::{Call, Reply};
 use crate::alone::sharing::shared;
-use seize_cells::Lock;
 use seize_machine::machine;
 use seize_parts::alone::calls::held;
 use seize_parts::alone::place::{Place, back, out, room};
-use seize_parts::alone::taking::{Freeing, Taking};
 use seize_parts::ender::Ender;
 use seize_parts::numbers::Numbers;
 use seize_parts::reclaim::{Boxed, Reclaim};
 use seize_parts::reservation::Reservation;
 use seize_table::Refusal;
-use seize_words::book::Porter;
+use seize_words::book::Pass;
 use seize_words::words::Words;
 use std::alloc::Global;
 use std::marker::{Brand, Model};
@@ -41,8 +38,8 @@ use std::marker::{Brand, Model};
 /// first.
 pub struct Alone<T: Drop + Codes, R: Reclaim<T> = Boxed> {
     words: Words<T>,
-    porter: Porter,
-    numbers: Lock<Numbers<T>>,
+    pass: Pass<'static>,
+    numbers: Numbers<T>,
     // Those of slots in use, by their numbers.
     places: Vec<Option<Place<T>>>,
     // How many slots were made.
@@ -65,10 +62,18 @@ impl<T: Drop + Codes, R: Reclaim<T>> Model for Alone<T, R> {
       links = length (words_book a.words).links;
       state = a.hands.state;
       held = a.hands.held;
-      seen = a.porter.seen;
+      seen = a.pass.seen;
     } };
 
-    ghost invariant = { λ a. IsAlone T.its.code a.words a.porter a.numbers a.places.items a.made (box_value a.ender) a.hands };
+    ghost invariant = { λ a. IsAlone T.its.code a.words a.pass a.numbers a.places.items a.made (box_value a.ender) a.hands };
+}
+
+// How many slots there are, with that of number `n`: it comes after all that were made, or it is one of them.
+fn made_then(made: usize, n: usize) -> usize
+    requires { n + 1 < 2 ^ 64 }
+    ensures { result ≡ (if n == made then made + 1 else made) }
+{
+    if n == made { n + 1 } else { made }
 }
 
 impl<T: Drop, R: Reclaim<T>> Alone<T, R> {
@@ -107,7 +112,7 @@ impl<T: Drop, R: Reclaim<T>> Alone<T, R> {
         ensures laws { LawsOf (opening_in self.old) (moments_in self.old) }
     {
         machine::laws();
-        self.porter.come_home();
+        self.pass.slots();
     }
 
     // Whether the slot is owned, and how many guards it has, where its number is in use. An owned one has one at most.
@@ -155,26 +160,19 @@ impl<T: Drop, R: Reclaim<T>> Alone<T, R> {
         ensures unchanged { OnErr result (self.new ≡ self.old) }
     {
         room(&mut self.places, self.made + 1)?;
-        let mut taking = Taking {
-            words: &self.words,
-            alloc: self.alloc,
-            numbers: &mut self.numbers,
-        };
-        let (slot, shelf) = self.porter.stay(&mut taking)?;
+        let (slot, shelf) = self.numbers.take(&self.words, self.alloc, &mut self.pass)?;
         let number = slot.number();
         let reservation = Reservation::new(&self.words, slot, 1);
         let place = Place {
             owned,
             guards: 0,
-            reservation: Lock::new(reservation),
+            reservation,
             unit: None,
             shelf,
         };
         back(&mut self.places, number, place);
-        if number == self.made {
-            self.made += 1;
-        }
-        self.hands = Hands::of::<Brand, (usize, bool)>(&self.hands, &self.porter, &(number, owned));
+        self.made = made_then(self.made, number);
+        self.hands = Hands::of::<Brand, (usize, bool)>(&self.hands, &self.pass, &(number, owned));
         Ok(number)
     }
 
@@ -185,8 +183,8 @@ impl<T: Drop, R: Reclaim<T>> Alone<T, R> {
         ensures same { IsLinkedSame self.old self.new }
         ensures grows { ListGrows self.old self.new }
     {
-        held(&mut self.places[s]).begin(&self.words, &mut self.porter);
-        self.hands = Hands::of::<Brand, usize>(&self.hands, &self.porter, &s);
+        held(&mut self.places[s]).begin(&self.words, &mut self.pass);
+        self.hands = Hands::of::<Brand, usize>(&self.hands, &self.pass, &s);
     }
 
     // The registered slot, which has guards, has so many then. No event is made.
@@ -197,7 +195,7 @@ impl<T: Drop, R: Reclaim<T>> Alone<T, R> {
         ensures grows { ListGrows self.old self.new }
     {
         held(&mut self.places[s]).guards = guards;
-        self.hands = Hands::of::<Brand, (usize, u64)>(&self.hands, &self.porter, &(s, guards));
+        self.hands = Hands::of::<Brand, (usize, u64)>(&self.hands, &self.pass, &(s, guards));
     }
 
     // The number of the slot, which has no guard, goes back.
@@ -208,14 +206,9 @@ impl<T: Drop, R: Reclaim<T>> Alone<T, R> {
         ensures grows { ListGrows self.old self.new }
     {
         let place = out(&mut self.places, s);
-        let mut reservation = Some(place.reservation.into_value());
-        let mut freeing = Freeing {
-            words: &self.words,
-            reservation: &mut reservation,
-            numbers: &mut self.numbers,
-        };
-        self.porter.stay(&mut freeing);
-        self.hands = Hands::of::<Brand, usize>(&self.hands, &self.porter, &s);
+        let Place { reservation, .. } = place;
+        self.numbers.free(&self.words, reservation, &mut self.pass);
+        self.hands = Hands::of::<Brand, usize>(&self.hands, &self.pass, &s);
     }
 
     /// Takes the least number that is not in use, for a registered slot without a guard. It asks for memory where a slot is made, and where
@@ -297,7 +290,7 @@ impl<T: Drop + Codes, R: Reclaim<T>> Drop for Alone<T, R> {
     fn drop(self) {
         let Alone {
             mut words,
-            mut porter,
+            mut pass,
             mut numbers,
             mut places,
             made: _,
@@ -306,16 +299,9 @@ impl<T: Drop + Codes, R: Reclaim<T>> Drop for Alone<T, R> {
             alloc,
             hands: _,
         } = self;
-        reclaim_by(
-            &words,
-            &ender,
-            &mut porter,
-            &mut numbers,
-            &mut places,
-            &mut (),
-        );
+        numbers.clear(&words, &ender, &mut places, &mut pass, &mut ());
         words.links.stir();
         // Nothing is left to reclaim, so this ends what the links hold.
-        drop(shared(words, porter, numbers, places, ender, id, alloc));
+        drop(shared(words, pass, numbers, places, ender, id, alloc));
     }
 }

@@ -7,27 +7,22 @@ ghost use Rattle.seize_parts.specs.Enders.{IsEnderOf};
 mod ids;
 
 use crate::block::Owned;
-use crate::owned::OwnedGuard;
+use crate::guard::OwnedGuard;
 use crate::registration::Registration;
 pub use ids::IdSource;
 use seize_cells::Lock;
 use seize_machine::machine;
-use seize_parts::alone::calls::Heard;
 use seize_parts::ender::Ender;
 use seize_parts::ending::end_all;
-use seize_parts::numbers::sweeping::Sweeping;
+use seize_parts::numbers::sweeping::{Heard, Sweeping};
 use seize_parts::numbers::{Numbers, Registering};
 use seize_parts::reclaim::{Boxed, Reclaim, Watch};
 use seize_table::Refusal;
 use seize_words::book::{Pass, Porter, Seen, Stay};
 use seize_words::words::Words;
 use std::alloc::Global;
-use std::cmp::max;
 use std::fmt;
 use std::sync::Wait;
-
-// For how many processors a collector may be made: 2^63.
-const MOST_PROCESSORS: usize = 0x8000_0000_0000_0000;
 
 /// Keeps retired values until no slot that was active at their retirement can read them any more. Threads share it by `&`.
 ///
@@ -91,7 +86,10 @@ impl<T: Drop, R: Reclaim<T>> Collector<T, R> {
     ghost use Rattle.seize_parts.specs.Blocks.{content};
     ghost use Rattle.seize.specs.Collectors.{BeginsEmpty, IsBlockOf, IsNewPassOf, IsPassOf, IsRefusalFor, its_book, its_id, its_links, its_size, its_words, seen_by};
     ghost use Rattle.seize.specs.Registrations.{registered_in, registered_slot};
+    ghost use Rattle.seize_book.specs.Porters.{Shuts};
+    ghost use Rattle.seize_calls.specs.Slots.{IsPassFor};
     ghost use Rattle.seize_parts.specs.Makes.{MakesNone, MakesOne};
+    ghost use Rattle.seize_parts.specs.Numbers.{AreNumbers, IsLockFor};
 
     /// The same, with a reclaimer of the caller's own: each value that was retired goes to it once no slot can read it any more, and so
     /// does what the links hold when the collector is dropped, as of kind 0.
@@ -110,13 +108,7 @@ impl<T: Drop, R: Reclaim<T>> Collector<T, R> {
             × (its_id made ≡ ids.old) × (ids.new ≡ ids.old + 1)) }
         ensures refused { IfErr result (λ refusal. (ids.new ≡ ids.old) × IsRefusalFor processors ids.old refusal) }
     {
-        if processors > MOST_PROCESSORS {
-            return Err(Refusal::TooManyProcessors);
-        }
-        let size = max(32, processors).next_power_of_two();
-        let Some(id) = ids.next() else {
-            return Err(Refusal::NoNumbers);
-        };
+        let (id, size) = ids.begin(processors)?;
         let collector = Collector::with(alloc, id, size, processors, links, reclaimer)?;
         ids.give();
         Ok(collector)
@@ -182,19 +174,22 @@ impl<T: Drop, R: Reclaim<T>> Collector<T, R> {
         }
     }
 
-    /// Its parts, for one caller's hands.
+    /// Its parts, for one caller's hands. The first pass is alone.
     pub(crate) fn into_parts(
         self,
     ) -> (
         Words<T>,
-        Porter,
-        Lock<Numbers<T>>,
+        Pass<'static>,
+        Numbers<T>,
         Box<Ender<T, R>>,
         u64,
         Global,
     )
-        ensures { (result.0 ≡ self.words) × (result.1 ≡ self.porter) × (result.2 ≡ self.numbers) × (result.3 ≡ self.ender)
-            × (result.4 ≡ self.id) }
+        ensures words { (words_book result.0 ≡ its_book self) × (result.0.size ≡ its_size self) × AreShared result.0.links }
+        ensures pass { IsPassFor result.0 result.1 × Shuts self.porter result.1 }
+        ensures numbers { AreNumbers result.2 × IsLockFor result.0 result.2 }
+        ensures ender { IsEnderOf result.0 (box_value result.3) }
+        ensures id { result.4 ≡ its_id self }
     {
         let Collector {
             words,
@@ -204,7 +199,7 @@ impl<T: Drop, R: Reclaim<T>> Collector<T, R> {
             id,
             alloc,
         } = self;
-        (words, porter, numbers, ender, id, alloc)
+        (words, porter.shut(), numbers.into_value(), ender, id, alloc)
     }
 
     /// How many links it has.
@@ -288,7 +283,7 @@ impl<T: Drop, R: Reclaim<T>> Collector<T, R> {
     ghost use Rattle.seize_parts.specs.Laws.{HaveContents, LawsHold};
     ghost use Rattle.seize_parts.specs.Rules.{KeepsSince};
     ghost use Rattle.seize_parts.specs.Makes.{Makes, MakesNone};
-    ghost use Rattle.seize.specs.OwnedGuards.{owned_collector, owned_slot};
+    ghost use Rattle.seize.specs.Guards.{owned_collector, owned_slot};
 
     /// A guard that threads share, with a slot of its own: that of the least number that is not in use, which enters. The events `Take` and
     /// `Enter`.

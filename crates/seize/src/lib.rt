@@ -12,15 +12,12 @@ mod alone;
 pub mod block;
 pub mod collector;
 pub mod guard;
-pub mod owned;
-mod reader;
 pub mod registration;
 
 pub use alone::{Alone, Call, Codes, Reply};
 pub use block::{Failed, Owned, Shared, Taken, Unlinked};
 pub use collector::{Collector, IdSource};
-pub use guard::{Guard, LocalGuard};
-pub use owned::OwnedGuard;
+pub use guard::{Guard, GuardCore, LocalGuard, OwnedGuard};
 pub use registration::Registration;
 pub use seize_machine::machine;
 pub use seize_model::{agreement, waiting};

@@ -6,8 +6,7 @@ ghost use Rattle.seize_parts.specs.Reservations.{IsHeadFor, place_label};
 
 use crate::block::{Owned, Unlinked};
 use crate::collector::Collector;
-use crate::guard::LocalGuard;
-use crate::reader::Reader;
+use crate::guard::{GuardCore, LocalGuard};
 use seize_calls::slot::Slot;
 use seize_cells::LocalLock;
 use seize_parts::numbers::Ending;
@@ -94,6 +93,7 @@ impl<'c, T: Drop, R: Reclaim<T>> Registration<'c, T, R> {
     ///
     /// `TooManyGuards` where the slot has 2^64 - 1 guards, or within another call of the same registration, as from its reclaimer, or
     /// the `Drop` of a value that the call reclaims. No event was made then.
+    #[inline(always)]
     pub fn enter(&self, pass: &mut Pass) -> Result<LocalGuard<'_, 'c, T, R>, Refusal>
         requires pass { IsPassOf (registered_in self.now) pass.old }
         ensures made { IfOk result (λ guard. IsGuardOf self.now guard × Enters (registered_slot self.now) pass.old pass.new) }
@@ -106,13 +106,13 @@ impl<'c, T: Drop, R: Reclaim<T>> Registration<'c, T, R> {
         };
         match self.reservation.try_with(entering, pass) {
             Ok(Ok((unit, seen))) => {
-                let reader = Reader {
+                let core = GuardCore {
                     collector,
                     number: self.number,
                     unit,
                     seen,
                 };
-                Ok(LocalGuard::of(self, reader))
+                Ok(LocalGuard::of(self, core))
             }
             Ok(Err(refusal)) => Err(refusal),
             Err(_) => Err(Refusal::TooManyGuards),
@@ -125,6 +125,7 @@ impl<'c, T: Drop, R: Reclaim<T>> Registration<'c, T, R> {
     /// # Errors
     ///
     /// `NoMemory` where the store could not grow; the value comes back.
+    #[inline(always)]
     pub fn owned(&self, value: T) -> Result<Owned<T>, (Refusal, T)>
         ensures made { IfOk result (λ owned. IsBlockOf (registered_in self.now) owned × (content owned ≡ value)) }
         ensures refused { IfErr result (λ refused. (refused.0 ≡ no_memory) × (refused.1 ≡ value)) }
@@ -148,6 +149,7 @@ impl<'c, T: Drop, R: Reclaim<T>> Registration<'c, T, R> {
     ///
     /// But for what that does, it takes no memory. An insertion is tried again as often as other threads change the head between a look at
     /// it and the try. Within another call of the same registration it waits for ever.
+    #[inline(always)]
     pub fn retire<W: Wait>(&self, rt: &W, pass: &mut Pass, value: Unlinked<'_, T>)
         requires pass { IsPassOf (registered_in self.now) pass.old }
         requires value { IsUnlinkedOf (registered_in self.now) value }
@@ -160,6 +162,7 @@ impl<'c, T: Drop, R: Reclaim<T>> Registration<'c, T, R> {
 
     /// The same, and says of which kind the value is. Its reclaimer is given the kind, and the list says for good that this is kept of the
     /// value.
+    #[inline(always)]
     pub fn retire_as<W: Wait>(&self, rt: &W, pass: &mut Pass, value: Unlinked<'_, T>, kind: u64)
         requires pass { IsPassOf (registered_in self.now) pass.old }
         requires value { IsUnlinkedOf (registered_in self.now) value }

@@ -13,13 +13,15 @@ use Rattle.seize_book.specs.Passes.{events_by}
 use Rattle.seize_book.specs.Slots.{slot_number}
 use Rattle.seize_book.specs.declared.book.pass.Pass.{Pass}
 use Rattle.seize_book.proofs.Facts.{all_told_append, all_told_grow}
+use Rattle.seize_calls.specs.Alone.{Onward}
 use Rattle.seize_calls.specs.Handing.{Had, Handings, HasHad, values_handed}
 use Rattle.seize_calls.specs.Inserts.{InsertTries, all_insert_events, insert_events, losses}
 use Rattle.seize_calls.specs.Marks.{actives, readings}
-use Rattle.seize_calls.specs.Settling.{CallState, Drains, DrainsOne, Onward, Settles, done_event}
+use Rattle.seize_calls.specs.Settling.{CallState, Drains, DrainsOne, Settles, done_event}
 use Rattle.seize_calls.specs.Walking.{handed_in, hands, steps}
 use Rattle.seize_calls.proofs.Handed.{had_more, had_none, handed_append}
-use Rattle.seize_calls.proofs.Onwards.{onward_none, onward_twice, round_on}
+use Rattle.seize_calls.proofs.Alone.{onward_none, onward_twice}
+use Rattle.seize_calls.proofs.Onwards.{round_on}
 use Rattle.seize_alone.proofs.Work.{AllWork, hands_append, hands_of, work_append}
 
 -- from one pass to the other, by slot s at this size

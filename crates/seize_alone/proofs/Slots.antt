@@ -40,26 +40,26 @@ module _ {T U : Type 0} (c : Coded T) (st : State T ℕ) (names : List (ℕ × T
 
   module _ (puts : ℕ → T → List T) (weight : T → ℕ) (lighter : Lighter puts weight) (had' : Had) (a : CallsAlone c puts st names kinds pass pass' had') where
     abbrev s : ℕ
-    s = slot_number slot.key
+    s = slot_number slot.holder.key
 
     pub slot_retires : (loose : Loose) (kind : ℕ) (x : T) (retired : Bool) → SlotRetires slot pass loose kind [] slot' pass' had' retired → IsLentAs (its_value loose) (c.code x) → is_free (slot_at st s).kind ≡ false
         → ((retire puts weight st s x kind).0 ≡ Ok tt) × HoldsThen c.code (retire puts weight st s x kind).1 had' pass'
-    slot_retires loose kind x retired r lent used = retires_held c puts weight lighter st names kinds (its_value loose) kind x retired slot.key r.ready _ slot'.key pass' _ had' r.does (slot_ready r.prepares a) lent used
+    slot_retires loose kind x retired r lent used = retires_held c puts weight lighter st names kinds (its_value loose) kind x retired slot.holder.key r.ready _ slot'.holder.key pass' _ had' r.does (slot_ready r.prepares a) lent used
 
     pub slot_flushes : (retired : Bool) → SlotFlushes slot pass [] slot' pass' had' retired → is_free (slot_at st s).kind ≡ false → has_guard (slot_at st s) ≡ true
         → ((flush puts weight st s).0 ≡ Ok tt) × HoldsThen c.code (flush puts weight st s).1 had' pass'
-    slot_flushes retired r used active = flushes_held c puts weight lighter st names kinds retired slot.key r.ready _ slot'.key pass' _ had' r.does (slot_ready r.prepares a) used active
+    slot_flushes retired r used active = flushes_held c puts weight lighter st names kinds retired slot.holder.key r.ready _ slot'.holder.key pass' _ had' r.does (slot_ready r.prepares a) used active
 
     pub slot_leaves : SlotLeaves slot pass [] slot' pass' had' → (slot_at st s).kind ≡ Registered → (slot_at st s).guards ≡ 1 → ((leave puts weight st s).0 ≡ Ok tt) × HoldsThen c.code (leave puts weight st s).1 had' pass'
-    slot_leaves r kind guards = leaves_held c puts weight lighter st names kinds slot.key r.ready _ slot'.key pass' _ had' r.does (slot_ready r.prepares a) kind guards
+    slot_leaves r kind guards = leaves_held c puts weight lighter st names kinds slot.holder.key r.ready _ slot'.holder.key pass' _ had' r.does (slot_ready r.prepares a) kind guards
 
     pub slot_parts : SlotLeaves slot pass [] slot' pass' had' → is_free (slot_at st s).kind ≡ false → (slot_at st s).guards ≡ 1
         → HoldsThen c.code (with_further puts weight s (one_guard_less st s)) had' pass' × (is_free (slot_at (with_further puts weight s (one_guard_less st s)).0 s).kind ≡ false) × (has_guard (slot_at (with_further puts weight s (one_guard_less st s)).0 s) ≡ false)
-    slot_parts r used guards = parts_held c puts weight lighter st names kinds slot.key r.ready _ slot'.key pass' _ had' r.does (slot_ready r.prepares a) used guards
+    slot_parts r used guards = parts_held c puts weight lighter st names kinds slot.holder.key r.ready _ slot'.holder.key pass' _ had' r.does (slot_ready r.prepares a) used guards
 
     pub slot_refreshes : (activation : Activation) → SlotRefreshes slot pass activation [] slot' pass' had' → is_free (slot_at st s).kind ≡ false → has_guard (slot_at st s) ≡ true → (is_owned (slot_at st s).kind || ((slot_at st s).guards == 1)) ≡ true
         → ((refresh puts weight st s).0 ≡ Ok tt) × HoldsThen c.code (refresh puts weight st s).1 had' pass'
-    slot_refreshes activation r used active parts = refreshes_held c puts weight lighter st names kinds activation.life slot.key r.ready _ slot'.key pass' _ had' r.does (slot_ready r.prepares a) used active parts
+    slot_refreshes activation r used active parts = refreshes_held c puts weight lighter st names kinds activation.life slot.holder.key r.ready _ slot'.holder.key pass' _ had' r.does (slot_ready r.prepares a) used active parts
 
   -- Single events.
 

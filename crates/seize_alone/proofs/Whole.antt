@@ -29,10 +29,10 @@ use Rattle.seize_book.specs.declared.book.pass.Pass.{Pass}
 use Rattle.seize_book.specs.declared.book.slot_key.SlotKey.{SlotKey}
 use Rattle.seize_book.specs.declared.book.value_keys.ValueKeys.{ValueKeys}
 use Rattle.seize_book.proofs.Facts.{all_told_append, all_told_grow}
-use Rattle.seize_calls.specs.Alone.{AddsAlone}
+use Rattle.seize_calls.specs.Alone.{AddsAlone, Onward}
 use Rattle.seize_calls.specs.Calls.{BeginsSo, Flushes, Leaves, Rests, RetiresOne, Returns}
 use Rattle.seize_calls.specs.Handing.{Had, Handings, HasHad, values_handed}
-use Rattle.seize_calls.specs.Settling.{CallState, Onward, done_event}
+use Rattle.seize_calls.specs.Settling.{CallState, done_event}
 use Rattle.seize_calls.specs.Walking.{handed_in, steps}
 use Rattle.seize_calls.proofs.Events.{same_done}
 use Rattle.seize_calls.proofs.Handed.{had_more, handed_append}
@@ -40,7 +40,7 @@ use Rattle.seize_calls.proofs.Leaving.{left_made}
 use Rattle.seize_calls.proofs.Onwards.{round_on, settles_on}
 use Rattle.seize_alone.proofs.Work.{AllWork, IsWork, answers_made, events_made, hand_of, hands_append, hands_of, puts_of, sized_so, their_values, to_return, work_append}
 use Rattle.seize_alone.proofs.Played.{play_alone}
-use Rattle.seize_alone.proofs.Segments.{Segment, drained, drains_on, joined, moved, rounded, settled, steps_pairs, steps_work}
+use Rattle.seize_alone.proofs.Segments.{Segment, drained, joined, moved, rounded, settled, steps_pairs, steps_work}
 
 abbrev pub AllServe : {T R : Type 0} → (R → T → List T) → (ℕ → T) → (ℕ → R) → Handings → Type 0
 AllServe puts of by [] = Unit {0}
@@ -218,10 +218,10 @@ module _ (key : SlotKey) (pass : Pass) (job : Job) (words : List ℕ) (had : Had
     (begins : BeginsSo key pass job words keys had begun) (seg : Segment begun.pass.size (slot_number begun.key) begun.pass ended_at.pass begun.had ended_at.had)
     (returns : Returns ended_at key' pass' keys' had') (rests : Rests key pass key' pass' keys') where
   abbrev its : Segment pass.size (slot_number key) begun.pass ended_at.pass had ended_at.had
-  its = subst (λ (h : Had). Segment pass.size (slot_number key) begun.pass ended_at.pass h ended_at.had) begins.had_none (moved begins.begins.keeps.same.2 begins.begins.keeps.its.1 seg)
+  its = subst (λ (h : Had). Segment pass.size (slot_number key) begun.pass ended_at.pass h ended_at.had) begins.had_none (moved begins.begins.keeps.on.same.2 begins.begins.keeps.on.its.1 seg)
 
   abbrev drained_same : IsSamePass pass ended_at.pass
-  drained_same = (sym returns.keeps.same.0 ∙ rests.same.0, sym returns.keeps.same.1 ∙ rests.same.1, sym returns.keeps.same.2 ∙ rests.same.2)
+  drained_same = (sym returns.keeps.on.same.0 ∙ rests.same.0, sym returns.keeps.on.same.1 ∙ rests.same.1, sym returns.keeps.on.same.2 ∙ rests.same.2)
 
   abbrev returned : List (Deed × Answer)
   returned = done_event pass (Return (slot_number key))
@@ -230,7 +230,7 @@ module _ (key : SlotKey) (pass : Pass) (job : Job) (words : List ℕ) (had : Had
   begin = deed_with_words pass (Begin (slot_number key) job) words
 
   abbrev ended : events_by pass' ≡ events_by ended_at.pass ++ returned
-  ended = returns.made ∙ ap (λ (log : List (Deed × Answer)). events_by ended_at.pass ++ log) (same_done pass ended_at.pass drained_same Return (slot_number key) (slot_number ended_at.key) (sym returns.keeps.its.1 ∙ rests.its.1))
+  ended = returns.made ∙ ap (λ (log : List (Deed × Answer)). events_by ended_at.pass ++ log) (same_done pass ended_at.pass drained_same Return (slot_number key) (slot_number ended_at.key) (sym returns.keeps.on.its.1 ∙ rests.its.1))
 
   pub whole : Whole pass pass' (slot_number key) job words had had'
   whole = record {
@@ -242,7 +242,7 @@ module _ (key : SlotKey) (pass : Pass) (job : Job) (words : List ℕ) (had : Had
     kepts = its.kepts;
     hands = its.hands;
     has_had = subst (λ (h : Had). HasHad its.handed its.kepts had h) (sym returns.had_none) its.has_had;
-    told = all_told_grow ended_at.pass.seen pass'.seen (values_handed its.handed) its.kepts returns.keeps.grows its.told;
+    told = all_told_grow ended_at.pass.seen pass'.seen (values_handed its.handed) its.kepts returns.keeps.on.grows its.told;
     grows = rests.grows;
     same = rests.same;
     alone = rests.alone;
@@ -252,13 +252,13 @@ pub retired_whole : {key : SlotKey} {pass : Pass} {v kept : ℕ} {keys : ValueKe
     → Whole pass pass' (slot_number key) (RetireJob v) (kept ∷ []) had had'
 retired_whole {key} {pass} {v} {kept} {keys} {had} {key'} {pass'} {keys'} {had'} {retired} r =
     let on : Onward r.begun.key r.begun.pass r.settled.key r.settled.pass = round_on r.begun v kept r.settled retired r.drains_one in
-    whole key pass (RetireJob v) (kept ∷ []) had key' pass' keys keys' had' r.begun r.drained r.begins (joined (rounded r.begun v kept r.settled retired r.drains_one) (moved on.same.2 on.its.1 (drained r.settled r.drained r.drains))) r.returns r.rests
+    whole key pass (RetireJob v) (kept ∷ []) had key' pass' keys keys' had' r.begun r.ends.drained r.begins (joined (rounded r.begun v kept r.settled retired r.drains_one) (moved on.same.2 on.its.1 (drained r.settled r.ends.drained r.ends.drains.drains))) r.ends.returns r.rests
 
 pub flushed_whole : {key : SlotKey} {pass : Pass} {keys : ValueKeys} {had : Had} {key' : SlotKey} {pass' : Pass} {keys' : ValueKeys} {had' : Had} {retired : Bool} → Flushes key pass keys had key' pass' keys' had' retired
     → Whole pass pass' (slot_number key) FlushJob [] had had'
 flushed_whole {key} {pass} {keys} {had} {key'} {pass'} {keys'} {had'} {retired} r =
     let on : Onward r.begun.key r.begun.pass r.settled.key r.settled.pass = settles_on 1 r.begun r.settled retired r.settles in
-    whole key pass FlushJob [] had key' pass' keys keys' had' r.begun r.drained r.begins (joined (settled 1 r.begun r.settled retired r.settles) (moved on.same.2 on.its.1 (drained r.settled r.drained r.drains))) r.returns r.rests
+    whole key pass FlushJob [] had key' pass' keys keys' had' r.begun r.ends.drained r.begins (joined (settled 1 r.begun r.settled retired r.settles) (moved on.same.2 on.its.1 (drained r.settled r.ends.drained r.ends.drains.drains))) r.ends.returns r.rests
 
 -- a leave, or a refresh
 pub left_whole : {job : Job} {stays : Bool} {swap : Deed} {key : SlotKey} {pass : Pass} {keys : ValueKeys} {had : Had} {key' : SlotKey} {pass' : Pass} {keys' : ValueKeys} {had' : Had} → Leaves job stays swap key pass keys had key' pass' keys' had'
@@ -266,19 +266,19 @@ pub left_whole : {job : Job} {stays : Bool} {swap : Deed} {key : SlotKey} {pass 
 left_whole {job} {stays} {swap} {key} {pass} {keys} {had} {key'} {pass'} {keys'} {had'} r swaps = record {
   work = (swap, Done) ∷ (walk ++ seg.made);
   all_work = (is_work, work_append pass.size s walk seg.made (steps_work pass s r.walked) seg.work);
-  made = r.returns.made ∙ (λ i. seg.events i ++ same_done pass r.drained.pass drained_same Return s (slot_number r.drained.key) drained_its i)
+  made = r.ends.returns.made ∙ (λ i. seg.events i ++ same_done pass r.ends.drained.pass drained_same Return s (slot_number r.ends.drained.key) drained_its i)
       ∙ ap (λ (log : List (Deed × Answer)). (log ++ seg.made) ++ returned) (left_made r ∙ append_assoc (events_by pass ++ began) swapped walk)
       ∙ ap (λ (log : List (Deed × Answer)). log ++ returned) (append_assoc (events_by pass ++ began) (swapped ++ walk) seg.made)
       ∙ append_assoc (events_by pass ++ began) ((swapped ++ walk) ++ seg.made) returned ∙ append_assoc (events_by pass) began (((swapped ++ walk) ++ seg.made) ++ returned);
   handed = handed_in r.walked ++ seg.handed;
   kepts = r.kepts ++ seg.kepts;
   hands = hands_append walk seg.made ∙ (λ i. steps_pairs pass s r.walked i ++ seg.hands i);
-  has_had = subst (λ (h : Had). HasHad (handed_in r.walked ++ seg.handed) (r.kepts ++ seg.kepts) had h) (sym r.returns.had_none)
-      (had_more (handed_in r.walked) seg.handed r.kepts seg.kepts had r.behind.had r.drained.had r.has_had seg.has_had);
+  has_had = subst (λ (h : Had). HasHad (handed_in r.walked ++ seg.handed) (r.kepts ++ seg.kepts) had h) (sym r.ends.returns.had_none)
+      (had_more (handed_in r.walked) seg.handed r.kepts seg.kepts had r.behind.had r.ends.drained.had r.has_had seg.has_had);
   told = subst (λ (vs : List ℕ). AllTold pass'.seen vs (r.kepts ++ seg.kepts)) (sym (handed_append (handed_in r.walked) seg.handed))
       (all_told_append pass'.seen (values_handed (handed_in r.walked)) r.kepts (values_handed seg.handed) seg.kepts
-      (all_told_grow r.behind.pass.seen pass'.seen (values_handed (handed_in r.walked)) r.kepts (prefix_trans r.behind.pass.seen r.drained.pass.seen pass'.seen on.grows r.returns.keeps.grows) r.told)
-      (all_told_grow r.drained.pass.seen pass'.seen (values_handed seg.handed) seg.kepts r.returns.keeps.grows seg.told));
+      (all_told_grow r.behind.pass.seen pass'.seen (values_handed (handed_in r.walked)) r.kepts (prefix_trans r.behind.pass.seen r.ends.drained.pass.seen pass'.seen on.grows r.ends.returns.keeps.on.grows) r.told)
+      (all_told_grow r.ends.drained.pass.seen pass'.seen (values_handed seg.handed) seg.kepts r.ends.returns.keeps.on.grows seg.told));
   grows = r.rests.grows;
   same = r.rests.same;
   alone = r.rests.alone;
@@ -287,17 +287,17 @@ left_whole {job} {stays} {swap} {key} {pass} {keys} {had} {key'} {pass'} {keys'}
     s : ℕ
     s = slot_number key
 
-    on : Onward r.behind.key r.behind.pass r.drained.key r.drained.pass
-    on = drains_on r.behind r.drained r.drains
+    on : Onward r.behind.key r.behind.pass r.ends.drained.key r.ends.drained.pass
+    on = r.ends.drains.on
 
-    drained_same : IsSamePass pass r.drained.pass
-    drained_same = (sym r.returns.keeps.same.0 ∙ r.rests.same.0, sym r.returns.keeps.same.1 ∙ r.rests.same.1, sym r.returns.keeps.same.2 ∙ r.rests.same.2)
+    drained_same : IsSamePass pass r.ends.drained.pass
+    drained_same = (sym r.ends.returns.keeps.on.same.0 ∙ r.rests.same.0, sym r.ends.returns.keeps.on.same.1 ∙ r.rests.same.1, sym r.ends.returns.keeps.on.same.2 ∙ r.rests.same.2)
 
-    drained_its : slot_number r.drained.key ≡ s
-    drained_its = sym r.returns.keeps.its.1 ∙ r.rests.its.1
+    drained_its : slot_number r.ends.drained.key ≡ s
+    drained_its = sym r.ends.returns.keeps.on.its.1 ∙ r.rests.its.1
 
-    seg : Segment pass.size s r.behind.pass r.drained.pass r.behind.had r.drained.had
-    seg = moved (sym on.same.2 ∙ drained_same.2) (sym on.its.1 ∙ drained_its) (drained r.behind r.drained r.drains)
+    seg : Segment pass.size s r.behind.pass r.ends.drained.pass r.behind.had r.ends.drained.had
+    seg = moved (sym on.same.2 ∙ drained_same.2) (sym on.its.1 ∙ drained_its) (drained r.behind r.ends.drained r.ends.drains.drains)
 
     began : List (Deed × Answer)
     began = done_event pass (Begin s job)

@@ -4,8 +4,8 @@ ghost use Rattle.seize.specs.Links.{IsTakenOf};
 ghost use base.Stored.{coded_unit};
 
 use seize::{Alone, Call, Refusal, Reply, Taken, Watch};
-use seize_rows::telling::telling;
-use seize_threads_rows::values::Digit;
+use seize_test_kit::telling::telling;
+use seize_test_kit::values::Digit;
 use std::alloc::{AllocError, Global};
 use std::collections::VecDeque;
 use std::process::Abort;

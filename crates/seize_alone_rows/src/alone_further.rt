@@ -1,5 +1,5 @@
 //! Further values on a collector in one caller's hands: how far one call goes, in which order values go, and that each goes once. Where a
-//! chain or a wide value was made, a sign is given (`sign` of `seize_rows`): no call after it asks for memory.
+//! chain or a wide value was made, a sign is given (`sign` of `seize_test_kit`): no call after it asks for memory.
 ghost use Rattle.std.specs.Prelude.{◌≡◌, All, IfOk};
 ghost use Rattle.seize.specs.Alones.{IsSame};
 ghost use Rattle.seize.specs.Blocks.{Belongs, store_name};
@@ -9,8 +9,8 @@ use crate::nests::{
     AloneNests, Block, Ends, Heard, alone_nests, around, leaf, retire, retire_new, round,
 };
 use seize::{Alone, Collector, IdSource, Owned, Refusal};
-use seize_rows::sign::give_sign;
-use seize_threads_rows::values::{Counted, ended};
+use seize_test_kit::sign::give_sign;
+use seize_test_kit::values::{Counted, ended};
 use std::alloc::{AllocError, Global};
 use std::process::Abort;
 use std::sync::atomic::AtomicU64;

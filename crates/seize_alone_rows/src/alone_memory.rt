@@ -8,7 +8,7 @@ ghost use Rattle.seize_uses.specs.Nests.{owners_of};
 use crate::alone_further::leaves;
 use crate::nests::{AloneNests, Block, Ends, Heard, alone_nests, leaf, number_in, retire};
 use seize::Refusal;
-use seize_rows::sign::give_sign;
+use seize_test_kit::sign::give_sign;
 use std::alloc::Global;
 use std::process::Abort;
 use std::test::*;

@@ -7,8 +7,8 @@ use crate::nests::{
     AloneNests, Ends, Heard, alone_nests, leaf, number_in, retire, retire_new, round,
 };
 use seize::{Alone, Refusal};
-use seize_rows::telling::{Telling, defer_alone, telling};
-use seize_threads_rows::values::Digit;
+use seize_test_kit::telling::{Telling, defer_alone, telling};
+use seize_test_kit::values::Digit;
 use std::alloc::Global;
 use std::process::Abort;
 use std::sync::Wait;

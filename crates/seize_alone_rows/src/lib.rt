@@ -19,6 +19,8 @@ mod chance;
 #[cfg(test)]
 mod grouped;
 #[cfg(test)]
+mod making;
+#[cfg(test)]
 mod nests;
 #[cfg(test)]
 mod oracle;

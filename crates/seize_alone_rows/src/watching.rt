@@ -68,6 +68,25 @@ fn retire(
     }
 }
 
+// Retires three numbers by way of a slot of its own, and reclaims all.
+fn retire_three(
+    rt: &impl Abort,
+    log: &AtomicU64,
+    alone: &mut Alone<u64, Logging<'_>>,
+) -> Result<(), Fail> {
+    let mut noting = Noting { log };
+    let slot = alone.register()?;
+    retire(rt, alone, slot, 1, &mut noting)?;
+    assert_eq!(rt; log.load(Ordering::SeqCst), 0);
+    retire(rt, alone, slot, 2, &mut noting)?;
+    assert_eq!(rt; log.load(Ordering::SeqCst), 1627);
+    retire(rt, alone, slot, 3, &mut noting)?;
+    assert_eq!(rt; log.load(Ordering::SeqCst), 1627);
+    alone.reclaim_all(&mut noting);
+    assert_eq!(rt; log.load(Ordering::SeqCst), 162738);
+    Ok(())
+}
+
 // Batches of two. 1 and 2 go with the second retirement, 3 as all is reclaimed: of each the watch is told, and then the reclaimer has it.
 #[test]
 fn the_watch_is_told_just_before_the_reclaimer(rt: HostRuntime) -> Result<(), Fail> {
@@ -80,18 +99,9 @@ fn the_watch_is_told_just_before_the_reclaimer(rt: HostRuntime) -> Result<(), Fa
         0,
         reclaimer,
     )?;
-    let Ok(mut alone) = collector.batch_size(2).alone() else {
+    let collector = collector.batch_size(2);
+    let Ok(mut alone) = collector.alone() else {
         return Err(Fail::new("the collector came back"));
     };
-    let mut noting = Noting { log: &log };
-    let slot = alone.register()?;
-    retire(&rt, &mut alone, slot, 1, &mut noting)?;
-    assert_eq!(rt; log.load(Ordering::SeqCst), 0);
-    retire(&rt, &mut alone, slot, 2, &mut noting)?;
-    assert_eq!(rt; log.load(Ordering::SeqCst), 1627);
-    retire(&rt, &mut alone, slot, 3, &mut noting)?;
-    assert_eq!(rt; log.load(Ordering::SeqCst), 1627);
-    alone.reclaim_all(&mut noting);
-    assert_eq!(rt; log.load(Ordering::SeqCst), 162738);
-    Ok(())
+    retire_three(&rt, &log, &mut alone)
 }

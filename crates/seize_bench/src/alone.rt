@@ -4,7 +4,7 @@ ghost use Rattle.seize.specs.Blocks.{store_name};
 
 use crate::clock::{RUNS, Samples, Span};
 use crate::guards::{RETIRED, refused};
-use seize::{Alone, Collector, IdSource, Owned, Refusal};
+use seize::{Alone, IdSource, Owned, Refusal};
 use std::alloc::Global;
 use std::io;
 use std::rt::Clock;
@@ -17,8 +17,7 @@ const TURNS: u64 = 1_000;
 fn alone(alloc: Global) -> Result<Alone<u64>, Refusal>
     ensures { IfOk result (λ made. made.links ≡ 1) }
 {
-    let made: Collector<u64> = Collector::new(alloc, &mut IdSource::new(), 1, 1)?;
-    made.alone().map_err(|_| Refusal::NoMemory)
+    Alone::new(alloc, &mut IdSource::new(), 1, 1)
 }
 
 // A block goes into the link, and what came out is retired.

@@ -2,7 +2,7 @@
 //! values of new blocks in, and retire what came out, or what was never in a link.
 ghost use Rattle.std.specs.Prelude.{◌≡◌, ◌+◌, ◌≤◌, IfOk};
 ghost use Rattle.seize.specs.Collectors.{its_links};
-ghost use Rattle.seize.specs.OwnedGuards.{owned_collector};
+ghost use Rattle.seize.specs.Guards.{owned_collector};
 ghost use Rattle.seize.specs.Registrations.{registered_in};
 
 mod turns;

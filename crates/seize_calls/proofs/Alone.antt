@@ -1,5 +1,6 @@
 -- What is added where a pass is alone, and to a slot's own entries.
-use Rattle.std.proofs.Common.{◌≡◌, ℕ, ◌==◌, Bool, cond, List, [], ◌∷◌, ◌++◌, filter, map, refl, sym, ap, subst, ◌∙◌, append_assoc, append-nil}
+use Rattle.std.proofs.Common.{◌≡◌, ℕ, ◌==◌, Bool, false, cond, List, [], ◌∷◌, ◌++◌, filter, map, refl, sym, ap, subst, ◌∙◌, append_assoc, append-nil}
+use base.Growing.{prefix_trans}
 use Rattle.std.proofs.lemmas.List.{append_cancel_left}
 use Rattle.std.proofs.lemmas.List.Elements.{filter-append}
 use Rattle.seize_machine.specs.Machine.State.{State}
@@ -10,12 +11,14 @@ use Rattle.seize_machine.specs.declared.machine.event.Answer.TheVariants.{Done}
 use Rattle.seize_book.specs.Book.{after, mine, with_answers}
 use Rattle.seize_book.specs.Entry.{Deed, Entry, Made, Used, deeds, maker, timed_deed}
 use Rattle.seize_book.specs.Passes.{IsSamePass, LooksOn, events_by, events_in, mine_of}
-use Rattle.seize_book.specs.Slots.{acts_of}
+use Rattle.seize_book.specs.Laws.{starts}
+use Rattle.seize_book.specs.Slots.{AddsDeed, active_of, acts_of, slot_number, slot_of}
 use Rattle.seize_book.specs.Tokens.{AddsEntry, IsSole, Name, start}
 use Rattle.seize_book.specs.declared.book.pass.Pass.{Pass}
 use Rattle.seize_book.specs.declared.book.slot_key.SlotKey.{SlotKey}
-use Rattle.seize_book.proofs.Facts.{deeds_append, equal}
-use Rattle.seize_calls.specs.Alone.{AddsAlone, AddsOwn, AllBy, AllMadeBy}
+use Rattle.seize_book.proofs.Facts.{deeds_append, equal, same_twice}
+use Rattle.seize_words.proofs.Facts.{life_kept, seen_grows}
+use Rattle.seize_calls.specs.Alone.{AddsAlone, AddsOwn, AllBy, AllMadeBy, Onward}
 
 abbrev pub alone_none : (pass : Pass) → AddsAlone pass pass
 alone_none pass = λ sole. ([], sym (append-nil pass.seen), tt)
@@ -56,6 +59,38 @@ own_twice key one two pass pass1 same a b = (
   b.1 ∙ ap (λ (acts : List (Entry × Answer)). acts ++ b.0) a.1 ∙ append_assoc (acts_of key) a.0 b.0,
   all_made_append pass.id a.0 b.0 a.2 (subst (λ (p : ℕ). AllMadeBy p b.0) same.1 b.2),
 )
+
+-- What stays over the parts of a call: over none, a look, one event, and some parts and then more.
+
+abbrev pub onward_none : (key : SlotKey) (pass : Pass) → Onward key pass key pass
+onward_none key pass = record { same = (refl, refl, refl); its = (refl, refl); used = refl; active = refl; life = refl; grows = ([], append-nil pass.seen); alone = alone_none pass; own = own_none key pass key refl }
+
+pub onward_looked : (key : SlotKey) (pass pass' : Pass) → LooksOn pass pass' → Onward key pass key pass'
+onward_looked key pass pass' looks = record { same = looks.same; its = (refl, refl); used = refl; active = refl; life = refl; grows = looks.grows; alone = alone_looked pass pass' looks; own = own_none key pass key refl }
+
+pub onward_event : (key key' : SlotKey) (pass pass' : Pass) (d : Deed) → AddsDeed key pass key' pass' d → d.pass ≡ pass.id → starts (slot_number key) d.event ≡ false → (slot_of key').used ≡ (slot_of key).used → active_of key' ≡ active_of key → Onward key pass key' pass'
+onward_event key key' pass pass' d notes by none used active = record {
+  same = notes.0;
+  its = (notes.1.0, notes.1.1);
+  used = used;
+  active = active;
+  life = life_kept key key' pass pass' d notes none;
+  grows = seen_grows pass.name pass.id pass.seen pass'.seen _ notes.2.0;
+  alone = alone_noted pass pass' (Made d) by notes.2.0;
+  own = own_one key pass key' (Made d) notes.2.0.answer by notes.2.1.acts;
+}
+
+pub onward_twice : (key one two : SlotKey) (pass pass1 pass2 : Pass) → Onward key pass one pass1 → Onward one pass1 two pass2 → Onward key pass two pass2
+onward_twice key one two pass pass1 pass2 first second = record {
+  same = same_twice pass pass1 pass2 first.same second.same;
+  its = (second.its.0 ∙ first.its.0, second.its.1 ∙ first.its.1);
+  used = second.used ∙ first.used;
+  active = second.active ∙ first.active;
+  life = second.life ∙ first.life;
+  grows = prefix_trans pass.seen pass1.seen pass2.seen first.grows second.grows;
+  alone = alone_twice pass pass1 pass2 first.same first.alone second.alone;
+  own = own_twice key one two pass pass1 first.same first.own second.own;
+}
 
 -- Then the list has the events that were made with the pass, in their order, and no others. This is for callers: by it they know the state.
 

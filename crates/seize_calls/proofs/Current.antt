@@ -1,30 +1,24 @@
 -- What a look at the list leaves of a slot, and shows of it; and an activation that has begun, and lasts, is the slot's current one.
-use Rattle.std.proofs.Common.{◌≡◌, ◌⊎◌, inl, inr, ◌<◌, true, List, [], ◌++◌, length, None, sym, ap, subst, ◌∙◌, append-nil, arith}
+use Rattle.std.proofs.Common.{◌≡◌, ◌⊎◌, inl, inr, true, List, [], ◌++◌, None, sym, subst, ◌∙◌, append-nil}
 use base.Growing.{prefix_trans}
 use mathlib.Core.List.{IsPrefix}
-use Rattle.seize_machine.specs.Machine.State.{Slot as Record, are_distinct, head_at, is_active, linked_values, slot_at}
-use Rattle.seize_store.specs.Named.{AreOfStore}
+use Rattle.seize_machine.specs.Machine.State.{head_at, is_active, slot_at}
 use Rattle.seize_book.specs.Book.{IsLegalList, after}
 use Rattle.seize_book.specs.Entry.{Entry}
 use Rattle.seize_book.specs.Homesteads.{state_seen}
-use Rattle.seize_book.specs.Kept.{AreTold}
 use Rattle.seize_book.specs.Laws.{IsAmong, ended_lives, life}
 use Rattle.seize_book.specs.Slots.{LooksWithSlotKey, active_of, life_of, own_list, slot_number, slot_of}
 use Rattle.seize_book.specs.Tokens.{Name, start}
 use Rattle.seize_book.specs.declared.book.pass.Pass.{Pass}
-use Rattle.seize_book.specs.declared.book.seen.Seen.{Seen}
 use Rattle.seize_book.specs.declared.book.slot_key.SlotKey.{SlotKey}
 use Rattle.seize_words.specs.Activations.{IsLasting}
-use Rattle.seize_words.specs.Walks.{Knows}
 use Rattle.seize_words.specs.declared.activation.Activation.{Activation}
 use Rattle.seize_words.proofs.Activations.{still}
-use Rattle.seize_words.proofs.Facts.{all_told_later, more_slots}
-use Rattle.seize_calls.specs.Batches.{keys_in}
 use Rattle.seize_calls.specs.Calls.{HasBegun}
 use Rattle.seize_calls.specs.Slots.{InActivation, IsActive, SlotLooks, its_book, its_number}
-use Rattle.seize_calls.specs.Together.{BelongTogether, what_saw}
+use Rattle.seize_calls.specs.Together.{what_saw}
 use Rattle.seize_calls.specs.declared.slot.Slot.{Slot}
-use Rattle.seize_calls.proofs.Slots.{Ready, begun_later, holder}
+use Rattle.seize_calls.proofs.Slots.{begun_later}
 
 -- the slot is active, in this activation, in what the pass has seen
 pub is_current : (a : Activation) (pass : Pass) → HasBegun a pass → IsLegalList (start pass.name) pass.seen → IsLasting a pass
@@ -52,52 +46,21 @@ module _ (key : SlotKey) (p : Pass) (key' : SlotKey) (pass' : Pass) (looks : Loo
   pub looked_life : life_of key' ≡ life_of key
   looked_life = let by = looks.seen_by in (λ j. life (by.1 j) (by.2 j)) ∙ looks.lives
 
--- what it leaves of a slot, which has seen then what the pass has
-module _ {T : Type 0} (s : Slot T) (p : Pass) (ready : Ready s.seen p) (key' : SlotKey) (pass' : Pass) (looks : LooksWithSlotKey s.key p key' pass') (seen' : Seen) (same : seen'.name ≡ s.seen.name) (saw : seen'.seen ≡ pass'.seen) where
-  -- the slot's book is the pass's
-  pub looked_name : seen'.name ≡ p.name
-  looked_name = same ∙ ready.named
-
-  pub looked_grows : IsPrefix s.seen.seen seen'.seen
-  looked_grows = subst (IsPrefix s.seen.seen) (sym saw) (prefix_trans s.seen.seen p.seen pass'.seen ready.grows looks.on.grows)
-
-  pub looked_together : BelongTogether s.number key' s.batch s.spots seen'
-  looked_together =
-      let there = (holder s p ready).2 in let more = more_slots p.name p.seen pass'.seen looks.on.grows looks.on.legal in
-      record {
-        book = looks.seen_by.0 ∙ s.together.book ∙ sym same;
-        numbered = looks.seen_by.1 ∙ s.together.numbered;
-        there = subst (λ (t : Name × List Entry). s.number < length (after (start t.0) t.1).slots) (λ j. (sym looked_name j, sym saw j)) (omega (arith, there, more));
-        call = ap (λ (z : Record). z.call) (looked_slot s.key p key' pass' looks) ∙ s.together.call;
-        batch_is = (s.together.batch_is.0 ∙ sym same, s.together.batch_is.1 ∙ sym (ap (λ (z : Record). z.batch) (looked_slot s.key p key' pass' looks)));
-        spots_in = subst (λ (n : Name). AreOfStore s.spots n.store) (sym same) s.together.spots_in;
-      }
-
-  pub looked_knows : Knows key' (what_saw seen')
-  looked_knows = record {
-    seen = ([], append-nil (own_list key') ∙ looks.seen_by.2 ∙ sym saw);
-    legal = subst (λ (t : Name × List Entry). IsLegalList (start t.0) t.1) (λ j. (sym looked_name j, sym saw j)) looks.on.legal;
-    distinct = ap (λ (n : Name). are_distinct (linked_values n.links)) looked_name ∙ looks.on.distinct;
-  }
-
-  pub looked_told : AreTold (keys_in s.batch) (what_saw s.seen) → AreTold (keys_in s.batch) (what_saw seen')
-  looked_told told = all_told_later s.seen.seen seen'.seen (keys_in s.batch).keys.held looked_grows told
-
 module _ {T : Type 0} (s s' : Slot T) (pass pass' : Pass) (looks : SlotLooks s pass s' pass') (named : its_book s ≡ pass.name) where
   now_named : s'.seen.name ≡ pass'.name
   now_named = let l = looks.0 in l.same.1 ∙ named ∙ sym l.prepares.same.0 ∙ sym l.does.on.same.0
 
-  book : s'.key.keys.name ≡ pass'.name
+  book : s'.holder.key.keys.name ≡ pass'.name
   book = s'.together.book ∙ now_named
 
-  number : slot_number s'.key ≡ its_number s
+  number : slot_number s'.holder.key ≡ its_number s
   number = s'.together.numbered ∙ looks.0.same.0
 
-  own : own_list s'.key ≡ pass'.seen
+  own : own_list s'.holder.key ≡ pass'.seen
   own = looks.0.does.seen_by.2
 
   -- the pass knows of the slot what the slot's key knows, by its number; and no call of it is under way
-  pub shown : (slot_at (state_seen pass') (its_number s) ≡ slot_of s'.key) × (is_active (head_at (state_seen pass') (its_number s)) ≡ active_of s'.key) × ((slot_of s'.key).call ≡ None)
+  pub shown : (slot_at (state_seen pass') (its_number s) ≡ slot_of s'.holder.key) × (is_active (head_at (state_seen pass') (its_number s)) ≡ active_of s'.holder.key) × ((slot_of s'.holder.key).call ≡ None)
   shown = (
     (λ j. slot_at (after (start (sym book j)) (sym own j)) (sym number j)),
     (λ j. is_active (head_at (after (start (sym book j)) (sym own j)) (sym number j))),
@@ -123,4 +86,4 @@ module _ {T : Type 0} (s s' : Slot T) (pass pass' : Pass) (looks : SlotLooks s p
     }
 
     pub current_active : IsActive s
-    current_active = sym (looked_active s.key looks.0.ready s'.key pass' looks.0.does) ∙ current_in.active
+    current_active = sym (looked_active s.holder.key looks.0.ready s'.holder.key pass' looks.0.does) ∙ current_in.active

@@ -11,16 +11,16 @@ use Rattle.seize_machine.specs.declared.machine.event.Job.{Job}
 use Rattle.seize_machine.specs.declared.machine.event.Job.TheVariants.{Flush, Leave, Refresh, Retire}
 use Rattle.seize_machine.proofs.Facts.{Step, after_put, beginning, next_of, some_is, step_put}
 use Rattle.seize_book.specs.Adding.{deed_with_words, private}
-use Rattle.seize_book.specs.Entry.{Deed, Made}
+use Rattle.seize_book.specs.Entry.{Deed}
 use Rattle.seize_book.specs.Passes.{IsSamePass, events_by}
 use Rattle.seize_book.specs.Slots.{AddsDeed, AddsEvent, slot_number, slot_of}
 use Rattle.seize_book.specs.declared.book.pass.Pass.{Pass}
 use Rattle.seize_book.specs.declared.book.slot_key.SlotKey.{SlotKey}
-use Rattle.seize_words.proofs.Facts.{deeds_grew, events_grew, life_kept, seen_grows}
-use Rattle.seize_calls.specs.Calls.{Begins}
+use Rattle.seize_words.proofs.Facts.{deeds_grew, events_grew}
+use Rattle.seize_calls.specs.Calls.{Begins, job_of}
 use Rattle.seize_calls.specs.Settling.{PutsValue, done_event}
 use Rattle.seize_calls.specs.Inserts.{Continues}
-use Rattle.seize_calls.proofs.Alone.{alone_noted, own_one}
+use Rattle.seize_calls.proofs.Alone.{onward_event}
 use Rattle.seize_calls.proofs.Keeps.{keeps_from, outcome, same_private, state_before, step_noted}
 use Rattle.seize_calls.proofs.Marks.{within}
 
@@ -61,7 +61,7 @@ there st s idle = go (cases_lt s (length st.slots))
     go (inl less) = less
     go (inr past) = absurd (let none : is_idle no_slot ≡ true = sym (ap is_idle (get_or_past st.slots s no_slot past)) ∙ idle in cc)
 
-abbrev Kept : State → ℕ → State × Answer → Call → Type 0
+abbrev pub Kept : State → ℕ → State × Answer → Call → Type 0
 Kept st s d call =
     ((slot_at d.0 s).call ≡ Some call) × ((slot_at d.0 s).batch ≡ (slot_at st s).batch) × ((slot_at d.0 s).used ≡ (slot_at st s).used) × (d.0.heads ≡ st.heads) × (d.1 ≡ Done)
 
@@ -95,14 +95,10 @@ module _ (key key' : SlotKey) (pass pass' : Pass) (job : Job) (kepts : List ℕ)
 
 -- by its job
 module _ (key key' : SlotKey) (pass pass' : Pass) where
-  abbrev out_call : Bool → Call
-  out_call stays = record { place = Out stays; queue = [] }
-
-  pub leave_so : (notes : AddsEvent key pass key' pass' (Begin (slot_number key) Leave)) → Kept (state_before key key' pass pass' (Begin (slot_number key) Leave) [] notes) (slot_number key) (outcome key key' pass pass' (Begin (slot_number key) Leave) [] notes) (out_call false)
-  leave_so notes = begun_so pass.size (state_before key key' pass pass' (Begin (slot_number key) Leave) [] notes) (slot_number key) Leave _ (Out false) (step_noted key key' pass pass' (Begin (slot_number key) Leave) [] notes) refl
-
-  pub refresh_so : (notes : AddsEvent key pass key' pass' (Begin (slot_number key) Refresh)) → Kept (state_before key key' pass pass' (Begin (slot_number key) Refresh) [] notes) (slot_number key) (outcome key key' pass pass' (Begin (slot_number key) Refresh) [] notes) (out_call true)
-  refresh_so notes = begun_so pass.size (state_before key key' pass pass' (Begin (slot_number key) Refresh) [] notes) (slot_number key) Refresh _ (Out true) (step_noted key key' pass pass' (Begin (slot_number key) Refresh) [] notes) refl
+  pub out_so : (stays : Bool) (notes : AddsEvent key pass key' pass' (Begin (slot_number key) (job_of stays)))
+      → Kept (state_before key key' pass pass' (Begin (slot_number key) (job_of stays)) [] notes) (slot_number key) (outcome key key' pass pass' (Begin (slot_number key) (job_of stays)) [] notes) (record { place = Out stays; queue = [] })
+  out_so true notes = begun_so pass.size _ (slot_number key) Refresh _ (Out true) (step_noted key key' pass pass' (Begin (slot_number key) Refresh) [] notes) refl
+  out_so false notes = begun_so pass.size _ (slot_number key) Leave _ (Out false) (step_noted key key' pass pass' (Begin (slot_number key) Leave) [] notes) refl
 
   abbrev pub flush_call : (notes : AddsEvent key pass key' pass' (Begin (slot_number key) Flush)) → Call
   flush_call notes = record { place = flushing_at (length (state_before key key' pass pass' (Begin (slot_number key) Flush) [] notes).slots) (slot_of key).batch; queue = [] }
@@ -143,16 +139,8 @@ module _ (key key' : SlotKey) (pass pass' : Pass) (notes : AddsEvent key pass ke
 
   pub puts_so : PutsValue key pass v key' pass'
   puts_so = record {
-    on = record {
-      same = notes.0;
-      its = (notes.1.0, notes.1.1);
-      used = ap (λ (z : Slot). z.used) slot_put ∙ ap (λ (z : Slot). z.used) notes.2.1.was;
-      active = notes.2.1.is_now_active ∙ ap (λ (x : State × Answer). is_active (head_at x.0 (slot_number key))) is_put ∙ notes.2.1.was_active;
-      life = life_kept key key' pass pass' (private pass put) notes refl;
-      grows = seen_grows pass.name pass.id pass.seen pass'.seen _ notes.2.0;
-      alone = alone_noted pass pass' (Made (private pass put)) refl notes.2.0;
-      own = own_one key pass key' (Made (private pass put)) notes.2.0.answer refl notes.2.1.acts;
-    };
+    on = onward_event key key' pass pass' (private pass put) notes refl refl (ap (λ (z : Slot). z.used) slot_put ∙ ap (λ (z : Slot). z.used) notes.2.1.was)
+        (notes.2.1.is_now_active ∙ ap (λ (x : State × Answer). is_active (head_at x.0 (slot_number key))) is_put ∙ notes.2.1.was_active);
     batch = ap (λ (z : Slot). z.batch) slot_put ∙ ap (λ (z : Slot). z.batch ++ v ∷ []) notes.2.1.was;
     made = events_grew pass pass' put notes.0 notes.2.0 ∙ ap (λ (x : State × Answer). events_by pass ++ (private pass put, x.1) ∷ []) is_put;
   }

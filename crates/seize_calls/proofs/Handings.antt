@@ -79,8 +79,8 @@ pub record IsHanding {key : SlotKey} {pass : Pass} {values : ValueKeys} {front :
   pub its_block : number ≡ block_number first
   pub theirs : HasHad handed (kepts done) had had'
 
-abbrev pub none_handed : (key : SlotKey) (pass : Pass) (values : ValueKeys) (front : ℕ) (given : IsGiven key pass values front) (queue : ValueKeys) (had : Had) → IsHanding given queue had key pass values queue front had
-none_handed key pass values front given queue had = record {
+abbrev pub none_handed : {key : SlotKey} {pass : Pass} {values : ValueKeys} {front : ℕ} (given : IsGiven key pass values front) (queue : ValueKeys) (had : Had) → IsHanding given queue had key pass values queue front had
+none_handed {key} {pass} {values} {front} given queue had = record {
   goes_on = (keeps_none key pass, ([], append-nil (own_list key)));
   done = [];
   split = refl;
@@ -99,7 +99,7 @@ none_handed key pass values front given queue had = record {
   theirs = had_none had;
 }
 
-module _ (key0 : SlotKey) (pass0 : Pass) (values0 : ValueKeys) (front : ℕ) (given : IsGiven key0 pass0 values0 front) (queue0 : ValueKeys) (had0 : Had) (key : SlotKey) (pass : Pass) (values queue : ValueKeys) (number : ℕ) (had : Had)
+module _ {key0 : SlotKey} {pass0 : Pass} {values0 : ValueKeys} {front : ℕ} {given : IsGiven key0 pass0 values0 front} {queue0 : ValueKeys} {had0 : Had} {key : SlotKey} {pass : Pass} {values queue : ValueKeys} {number : ℕ} {had : Had}
     (r : IsHanding given queue0 had0 key pass values queue number had) where
   pub some_left : values_of values ≢ []
   some_left none = absurd (let e : None ≡ Some r.first = sym (ap first_or_none none) ∙ r.is_first in cc)
@@ -112,7 +112,7 @@ module _ (key0 : SlotKey) (pass0 : Pass) (values0 : ValueKeys) (front : ℕ) (gi
     among v = among_all v (value_of value) (values_of rest) (values_of values) nexts.2
 
     pub its_book : IsValueOf value pass
-    its_book = nexts.1 ∙ (r.book ∙ sym r.goes_on.0.same.0)
+    its_book = nexts.1 ∙ (r.book ∙ sym r.goes_on.0.on.same.0)
 
     pub is_last : IsLast value
     is_last =
@@ -131,7 +131,7 @@ module _ (key0 : SlotKey) (pass0 : Pass) (values0 : ValueKeys) (front : ℕ) (gi
     pub is_there : block_number (value_of value) ≡ number
     is_there = ap block_number (some_is _ _ (sym (ap first_or_none nexts.2) ∙ r.is_first)) ∙ sym r.its_block
 
-    module _ (key' : SlotKey) (pass' : Pass) (queue' : ValueKeys) (had' : Had) (hand : HandsOne key pass (value_of value) queue key' pass' queue') (more : HasHad ((value_of value, hand.puts, hand.words) ∷ []) (kept_in (note_in value) ∷ []) had had') where
+    module _ {key' : SlotKey} {pass' : Pass} {queue' : ValueKeys} {had' : Had} (hand : HandsOne key pass (value_of value) queue key' pass' queue') (more : HasHad ((value_of value, hand.puts, hand.words) ∷ []) (kept_in (note_in value) ∷ []) had had') where
       leads : leads_first (note_in value) rest.keys.held ≡ true
       leads =
           leads_on value.keys.held rest.keys.held value.one
@@ -155,7 +155,7 @@ module _ (key0 : SlotKey) (pass0 : Pass) (values0 : ValueKeys) (front : ℕ) (gi
       made_more =
           let s = slot_number key0 in let behind = hands pass0 s r.handed in
           hand.made ∙ ap (λ (log : List (Deed × Answer)). log ++ hands pass (slot_number key) one) r.made
-          ∙ ap (λ (log : List (Deed × Answer)). (events_by pass0 ++ behind) ++ log) (same_hands pass0 pass r.goes_on.0.same (slot_number key) one ∙ ap (λ (k : ℕ). hands pass0 k one) r.goes_on.0.its.1)
+          ∙ ap (λ (log : List (Deed × Answer)). (events_by pass0 ++ behind) ++ log) (same_hands pass0 pass r.goes_on.0.on.same (slot_number key) one ∙ ap (λ (k : ℕ). hands pass0 k one) r.goes_on.0.on.its.1)
           ∙ append_assoc (events_by pass0) behind (hands pass0 s one)
           ∙ ap (λ (log : List (Deed × Answer)). events_by pass0 ++ log) (sym (hands_append pass0 s r.handed one))
 
@@ -215,7 +215,7 @@ module _ (key0 : SlotKey) (pass0 : Pass) (values0 : ValueKeys) (front : ℕ) (gi
           which = which_more ∙ ap labels_of (sym all_done);
           made = made_more;
           walks_on = stands_more ∙ ap (λ (held : Keys). Some (record { place = Rest (labels_of held) given.walk; queue = given.queue ++ values_put (r.handed ++ one) })) empty;
-          none = (nexts.0 ∙ (r.book ∙ sym goes.0.same.0), empty);
+          none = (nexts.0 ∙ (r.book ∙ sym goes.0.on.same.0), empty);
           queued = queued_more;
         }
 

@@ -13,7 +13,6 @@ use Rattle.seize_book.specs.Private.{labels_of}
 use Rattle.seize_book.specs.Homesteads.{state_seen}
 use Rattle.seize_book.specs.Passes.{events_by}
 use Rattle.seize_book.specs.Slots.{IsKeyOfBook, slot_number, slot_of}
-use Rattle.seize_words.specs.Counts.{values_in}
 use Rattle.seize_words.specs.Walks.{Knows}
 use Rattle.seize_words.proofs.Facts.{detached_named}
 use Rattle.seize_words.specs.Totals.{slots_seen}
@@ -95,7 +94,7 @@ round_step (h ∷ held) (suc k) (suc i) d less le =
     )
 
 -- the call has taken a turn at so many of them, and won so many insertions
-pub record HasTurned {key : SlotKey} {pass : Pass} {marks : List SlotMark} {front : ℕ} (at : IsInserting key pass marks front) (count won : ℕ) (key' : SlotKey) (pass' : Pass) : Type 0 where
+pub record HasTurned {key : SlotKey} {pass : Pass} {marks : List SlotMark} {front : ℕ} {values : List ℕ} (at : IsInserting key pass marks front values) (count won : ℕ) (key' : SlotKey) (pass' : Pass) : Type 0 where
   pub keeps : Continues key pass key' pass'
   pub turns : List InsertTries
   pub each : length turns ≡ count
@@ -106,8 +105,8 @@ pub record HasTurned {key : SlotKey} {pass : Pass} {marks : List SlotMark} {fron
   pub planned : plan_in key' at.batch ≡ plan_in key at.batch
   pub stands : (slot_of key').call ≡ Some (record { place = look at.batch (at.won + won) (marked_slots (drop count marks)); queue = at.queue })
 
-abbrev pub none_turned : (key : SlotKey) (pass : Pass) (marks : List SlotMark) (front : ℕ) (at : IsInserting key pass marks front) → HasTurned at 0 0 key pass
-none_turned key pass marks front at = record {
+abbrev pub none_turned : {key : SlotKey} {pass : Pass} {marks : List SlotMark} {front : ℕ} {values : List ℕ} (at : IsInserting key pass marks front values) → HasTurned at 0 0 key pass
+none_turned {key} {pass} {marks} at = record {
   keeps = keeps_none key pass;
   turns = [];
   each = refl;
@@ -123,7 +122,7 @@ none_turned key pass marks front at = record {
     no_turns [] = refl
     no_turns (m ∷ ms) = refl
 
-module _ (key : SlotKey) (pass : Pass) (marks : List SlotMark) (front : ℕ) (at : IsInserting key pass marks front) (i won : ℕ) (now : SlotKey) (pass1 : Pass) (r : HasTurned at i won now pass1) (d : SlotMark) (less : i < length marks) where
+module _ {key : SlotKey} {pass : Pass} {marks : List SlotMark} {front : ℕ} {values : List ℕ} {at : IsInserting key pass marks front values} {i won : ℕ} {now : SlotKey} {pass1 : Pass} (r : HasTurned at i won now pass1) (d : SlotMark) (less : i < length marks) where
   abbrev mark : SlotMark
   mark = get_or marks i d
 
@@ -147,7 +146,7 @@ module _ (key : SlotKey) (pass : Pass) (marks : List SlotMark) (front : ℕ) (at
   pub next_seen : mark.slot < slots_seen pass1
   next_seen = let its = planned_at (plan_in key at.batch) (slots_seen pass) marks i d at.planned less in let more = r.keeps.seen in omega (arith, its.1, more)
 
-  module _ (key' : SlotKey) (pass' : Pass) (one : Bool) (turned : InsertsAtSlot at_next pass1 key' pass' one) where
+  module _ {key' : SlotKey} {pass' : Pass} {one : Bool} (turned : InsertsAtSlot at_next pass1 key' pass' one) where
     abbrev turn : InsertTries
     turn = record { lost = turned.lost; won = one }
 
@@ -173,7 +172,7 @@ module _ (key : SlotKey) (pass : Pass) (marks : List SlotMark) (front : ℕ) (at
           made = turned.made
               ∙ ap (λ (log : List (Deed × Answer)). log ++ insert_events pass1 (slot_number now) mark.slot turn) r.made
               ∙ ap (λ (log : List (Deed × Answer)). (before ++ all_insert_events pass s ms r.turns) ++ log)
-              (same_turn pass pass1 r.keeps.same (slot_number now) mark.slot turn ∙ ap (λ (k : ℕ). insert_events pass k mark.slot turn) r.keeps.its.1)
+              (same_turn pass pass1 r.keeps.on.same (slot_number now) mark.slot turn ∙ ap (λ (k : ℕ). insert_events pass k mark.slot turn) r.keeps.on.its.1)
               ∙ append_assoc before (all_insert_events pass s ms r.turns) (insert_events pass s mark.slot turn)
               ∙ ap (λ (log : List (Deed × Answer)). before ++ log)
               (sym (turns_push pass s ms r.turns mark.slot turn (r.each ∙ sym (many_taken marks i less)))
@@ -189,8 +188,8 @@ module _ (key : SlotKey) (pass : Pass) (marks : List SlotMark) (front : ℕ) (at
         many_taken (e ∷ es) zero l = refl
         many_taken (e ∷ es) (suc k) l = ap suc (many_taken es k (omega (arith, l)))
 
-pub all_turned : (key : SlotKey) (pass : Pass) (marks : List SlotMark) (front : ℕ) (at : IsInserting key pass marks front) (i won : ℕ) (key' : SlotKey) (pass' : Pass) → HasTurned at i won key' pass' → length marks ≤ i → InsertsAtEach at key' pass' won
-all_turned key pass marks front at i won key' pass' r past = record {
+pub all_turned : {key : SlotKey} {pass : Pass} {marks : List SlotMark} {front : ℕ} {values : List ℕ} {at : IsInserting key pass marks front values} {i won : ℕ} {key' : SlotKey} {pass' : Pass} → HasTurned at i won key' pass' → length marks ≤ i → InsertsAtEach at key' pass' won
+all_turned {key} {pass} {marks} {at} {i} {won} r past = record {
   keeps = r.keeps;
   turns = r.turns;
   each = let each = r.each in let within = r.within in omega (arith, each, within, past);
@@ -206,8 +205,8 @@ pub detached_look : (b won : ℕ) (ms queue : List ℕ) → detached_by (Some (r
 detached_look b won [] queue = refl
 detached_look b won (m ∷ ms) queue = refl
 
-module _ (key : SlotKey) (pass : Pass) (held : Keys) (k front : ℕ) (at : IsInserting key pass (take k (slot_marks_of held)) front) (values : labels_of held ≡ values_in key at.batch) (enough : k ≤ length (slot_marks_of held))
-    (i won : ℕ) (now : SlotKey) (pass1 : Pass) (r : HasTurned at i won now pass1) (less : i < k) (book : IsKeyOfBook now pass1) (knows : Knows now pass1) (round : Round) (rest_is : rest_in round ≡ drop i held) where
+module _ {key : SlotKey} {pass : Pass} (held : Keys) (k : ℕ) {front : ℕ} {at : IsInserting key pass (take k (slot_marks_of held)) front (labels_of held)} (enough : k ≤ length (slot_marks_of held))
+    {i won : ℕ} {now : SlotKey} {pass1 : Pass} (r : HasTurned at i won now pass1) (less : i < k) (book : IsKeyOfBook now pass1) (knows : Knows now pass1) (round : Round) (rest_is : rest_in round ≡ drop i held) where
   abbrev none : SlotMark
   none = record { block = 0; slot = 0 }
 
@@ -220,7 +219,7 @@ module _ (key : SlotKey) (pass : Pass) (held : Keys) (k front : ℕ) (at : IsIns
   pub next_named : has step.0.label (state_seen pass1).named ≡ true
   next_named =
       detached_named now pass1 book knows at.batch step.0.label (ap detached_by r.stands ∙ detached_look at.batch (at.won + won) (marked_slots (drop i (take k (slot_marks_of held)))) at.queue)
-      (subst (λ (vs : List ℕ). Contains vs step.0.label) (values ∙ ap (λ (plan : Plan). plan.values) (sym r.planned)) step.4)
+      (subst (λ (vs : List ℕ). Contains vs step.0.label) (at.its_values ∙ ap (λ (plan : Plan). plan.values) (sym r.planned)) step.4)
 
   abbrev pub with_at : IsAtSlot now (slot_in step.0.note) (block_number step.0.label) front → IsAtNext now pass1 round front
   with_at a = record {
@@ -228,17 +227,24 @@ module _ (key : SlotKey) (pass : Pass) (held : Keys) (k front : ℕ) (at : IsIns
     others = drop (i + 1) held;
     is_first = rest_is ∙ step.1;
     at = a;
-    seen = subst (λ (s : SlotMark). s.slot < slots_seen pass1) step.3 (next_seen key pass (take k (slot_marks_of held)) front at i won now pass1 r none within);
+    seen = subst (λ (s : SlotMark). s.slot < slots_seen pass1) step.3 (next_seen r none within);
     named = next_named;
   }
 
   abbrev pub round_next : IsAtNext now pass1 round front
-  round_next = with_at (subst (λ (s : SlotMark). IsAtSlot now s.slot s.block front) step.3 (at_next key pass (take k (slot_marks_of held)) front at i won now pass1 r none within))
+  round_next = with_at (subst (λ (s : SlotMark). IsAtSlot now s.slot s.block front) step.3 (at_next r none within))
 
-  pub round_turned : (key' : SlotKey) (pass' : Pass) (one : Bool) → ((next : IsAtNext now pass1 round front) → InsertsAtSlot next.at pass1 key' pass' one) → HasTurned at (i + 1) (won + (if one then 1 else 0)) key' pass'
-  round_turned key' pass' one all =
-      turned_next key pass (take k (slot_marks_of held)) front at i won now pass1 r none within key' pass' one
-      (subst (λ (s : SlotMark). (a : IsAtSlot now s.slot s.block front) → InsertsAtSlot a pass1 key' pass' one) (sym step.3) (λ a. all (with_at a)) (at_next key pass (take k (slot_marks_of held)) front at i won now pass1 r none within))
+  pub round_turned : {key' : SlotKey} {pass' : Pass} {one : Bool} → ((next : IsAtNext now pass1 round front) → InsertsAtSlot next.at pass1 key' pass' one) → HasTurned at (i + 1) (won + (if one then 1 else 0)) key' pass'
+  round_turned {key'} {pass'} {one} all =
+      turned_next r none within
+      (subst (λ (s : SlotMark). (a : IsAtSlot now s.slot s.block front) → InsertsAtSlot a pass1 key' pass' one) (sym step.3) (λ a. all (with_at a)) (at_next r none within))
 
   pub round_done : (round' : Round) → GoesPast round_next round' → done_in round ≡ take i held → (done_in round' ≡ take (i + 1) held) × (rest_in round' ≡ drop (i + 1) held)
   round_done round' past is = (past.1 ∙ ap (λ (hs : Keys). hs ++ step.0 ∷ []) is ∙ sym step.2, past.2)
+
+-- A round that was begun with the keys of a batch, by the pass as it was, took the batch's turns.
+pub turns_of_batch : {key key' : SlotKey} {pass pass1 pass' : Pass} {held held1 : Keys} (k : ℕ) {front won : ℕ} → pass1 ≡ pass → held1 ≡ held
+    → ((at : IsInserting key pass1 (take k (slot_marks_of held1)) front (labels_of held1)) → InsertsAtEach at key' pass' won)
+    → (at : IsInserting key pass (take k (slot_marks_of held)) front (labels_of held)) → InsertsAtEach at key' pass' won
+turns_of_batch {key} {key'} {pass'} k {front} {won} same are =
+    subst (λ (t : Pass × Keys). (at : IsInserting key t.0 (take k (slot_marks_of t.1)) front (labels_of t.1)) → InsertsAtEach at key' pass' won) (λ i. (same i, are i))

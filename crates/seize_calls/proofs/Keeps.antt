@@ -1,5 +1,5 @@
 -- What an event of a slot's call leaves as it was, and what it makes.
-use Rattle.std.proofs.Common.{◌≡◌, ℕ, ◌<◌, ◌≤◌, false, List, [], ◌∷◌, ◌++◌, length, get_or, set, Some, refl, sym, ap, subst, ◌∙◌, ◌⊎◌, inl, inr, append-nil, arith}
+use Rattle.std.proofs.Common.{◌≡◌, ℕ, ◌<◌, ◌≤◌, false, List, [], ◌∷◌, ◌++◌, length, get_or, set, Some, refl, sym, ap, subst, ◌∙◌, ◌⊎◌, inl, inr, arith}
 use Rattle.std.proofs.lemmas.List.{get_or-set_same, get_or-set_other, get_or_past}
 use Rattle.std.proofs.lemmas.Bool.{cases_lt}
 use base.Growing.{prefix_trans}
@@ -22,10 +22,9 @@ use Rattle.seize_book.specs.Slots.{AddsDeed, IsKeyOfBook, own_list, slot_number,
 use Rattle.seize_book.specs.Tokens.{Name, start}
 use Rattle.seize_book.specs.declared.book.pass.Pass.{Pass}
 use Rattle.seize_book.specs.declared.book.slot_key.SlotKey.{SlotKey}
-use Rattle.seize_book.proofs.Facts.{same_twice}
-use Rattle.seize_words.proofs.Facts.{deeds_grew, life_kept, more_seen, more_slots, seen_grows}
+use Rattle.seize_words.proofs.Facts.{deeds_grew, more_seen, more_slots, seen_grows}
 use Rattle.seize_calls.specs.Inserts.{Continues}
-use Rattle.seize_calls.proofs.Alone.{alone_looked, alone_none, alone_noted, alone_twice, own_none, own_one, own_twice}
+use Rattle.seize_calls.proofs.Alone.{alone_noted, onward_event, onward_looked, onward_none, onward_twice, own_one}
 use Rattle.seize_calls.proofs.Marks.{within}
 
 -- The machine makes an event for a call: it goes on so, and nothing else of its slot changes.
@@ -101,18 +100,12 @@ module _ (key key' : SlotKey) (pass pass' : Pass) (event : Event) (kepts : List 
   pub keeps_from : ((slot_at outcome.0 (slot_number key)).batch ≡ (slot_at state_before (slot_number key)).batch) → ((slot_at outcome.0 (slot_number key)).used ≡ (slot_at state_before (slot_number key)).used)
       → (is_active (head_at outcome.0 (slot_number key)) ≡ is_active (head_at state_before (slot_number key))) → starts (slot_number key) event ≡ false → Continues key pass key' pass'
   keeps_from batch used active none = record {
-    same = notes.0;
-    its = (notes.1.0, notes.1.1);
+    on = onward_event key key' pass pass' (deed_with_words pass event kepts) notes refl none (ap (λ (z : Slot). z.used) notes.2.1.is ∙ used ∙ ap (λ (z : Slot). z.used) notes.2.1.was)
+        (notes.2.1.is_now_active ∙ active ∙ notes.2.1.was_active);
     batch = ap (λ (z : Slot). z.batch) notes.2.1.is ∙ batch ∙ ap (λ (z : Slot). z.batch) notes.2.1.was;
-    used = ap (λ (z : Slot). z.used) notes.2.1.is ∙ used ∙ ap (λ (z : Slot). z.used) notes.2.1.was;
-    active = notes.2.1.is_now_active ∙ active ∙ notes.2.1.was_active;
-    life = life_kept key key' pass pass' (deed_with_words pass event kepts) notes none;
     seen =
         subst (λ (z : Name). length (after (start pass.name) pass.seen).slots ≤ length (after (start z) pass'.seen).slots) (sym notes.0.0)
         (more_slots pass.name pass.seen pass'.seen (seen_grows pass.name pass.id pass.seen pass'.seen _ notes.2.0) notes.2.0.legal);
-    grows = seen_grows pass.name pass.id pass.seen pass'.seen _ notes.2.0;
-    alone = alone_noted pass pass' (Made (deed_with_words pass event kepts)) refl notes.2.0;
-    own = own_one key pass key' (Made (deed_with_words pass event kepts)) notes.2.0.answer refl notes.2.1.acts;
   }
 
   -- it knows all that it knew
@@ -131,42 +124,34 @@ module _ (key key' : SlotKey) (pass pass' : Pass) (event : Event) (kepts : List 
 
 pub keeps_used : (key key' : SlotKey) (pass pass' : Pass) (f v : ℕ) → Uses key pass key' pass' f v → Continues key pass key' pass'
 keeps_used key key' pass pass' f v uses = record {
-  same = uses.same;
-  its = (uses.seen_by.0, uses.seen_by.1);
+  on = record {
+    same = uses.same;
+    its = (uses.seen_by.0, uses.seen_by.1);
+    used = ap (λ (z : Slot). z.used) uses.slot;
+    active = uses.active;
+    life = uses.life;
+    grows = seen_grows pass.name pass.id pass.seen pass'.seen _ uses.noted;
+    alone = alone_noted pass pass' (using key pass f v) refl uses.noted;
+    own = own_one key pass key' (using key pass f v) uses.noted.answer refl uses.acts;
+  };
   batch = ap (λ (z : Slot). z.batch) uses.slot;
-  used = ap (λ (z : Slot). z.used) uses.slot;
-  active = uses.active;
-  life = uses.life;
   seen =
       subst (λ (z : Name). length (after (start pass.name) pass.seen).slots ≤ length (after (start z) pass'.seen).slots) (sym uses.same.0)
       (more_slots pass.name pass.seen pass'.seen (seen_grows pass.name pass.id pass.seen pass'.seen _ uses.noted) uses.noted.legal);
-  grows = seen_grows pass.name pass.id pass.seen pass'.seen _ uses.noted;
-  alone = alone_noted pass pass' (using key pass f v) refl uses.noted;
-  own = own_one key pass key' (using key pass f v) uses.noted.answer refl uses.acts;
 }
 
 abbrev pub keeps_none : (key : SlotKey) (pass : Pass) → Continues key pass key pass
-keeps_none key pass = record { same = (refl, refl, refl); its = (refl, refl); batch = refl; used = refl; active = refl; life = refl; seen = omega arith; grows = ([], append-nil pass.seen); alone = alone_none pass; own = own_none key pass key refl }
+keeps_none key pass = record { on = onward_none key pass; batch = refl; seen = omega arith }
 
 pub keeps_looked : (key : SlotKey) (pass pass' : Pass) → LooksOn pass pass' → Continues key pass key pass'
-keeps_looked key pass pass' looks = record { same = looks.same; its = (refl, refl); batch = refl; used = refl; active = refl; life = refl; seen = more_seen pass pass' looks; grows = looks.grows; alone = alone_looked pass pass' looks; own = own_none key pass key refl }
+keeps_looked key pass pass' looks = record { on = onward_looked key pass pass' looks; batch = refl; seen = more_seen pass pass' looks }
 
 pub keeps_twice : (key one two : SlotKey) (pass pass1 pass2 : Pass) → Continues key pass one pass1 → Continues one pass1 two pass2 → Continues key pass two pass2
-keeps_twice key one two pass pass1 pass2 first second = record {
-  same = same_twice pass pass1 pass2 first.same second.same;
-  its = (second.its.0 ∙ first.its.0, second.its.1 ∙ first.its.1);
-  batch = second.batch ∙ first.batch;
-  used = second.used ∙ first.used;
-  active = second.active ∙ first.active;
-  life = second.life ∙ first.life;
-  seen = let a = first.seen in let b = second.seen in omega (arith, a, b);
-  grows = prefix_trans pass.seen pass1.seen pass2.seen first.grows second.grows;
-  alone = alone_twice pass pass1 pass2 first.same first.alone second.alone;
-  own = own_twice key one two pass pass1 first.same first.own second.own;
-}
+keeps_twice key one two pass pass1 pass2 first second =
+    record { on = onward_twice key one two pass pass1 pass2 first.on second.on; batch = second.batch ∙ first.batch; seen = let a = first.seen in let b = second.seen in omega (arith, a, b) }
 
 pub keeps_book : (key key' : SlotKey) (pass pass' : Pass) → Continues key pass key' pass' → IsKeyOfBook key pass → IsKeyOfBook key' pass'
-keeps_book key key' pass pass' keeps book = keeps.its.0 ∙ book ∙ sym keeps.same.0
+keeps_book key key' pass pass' keeps book = keeps.on.its.0 ∙ book ∙ sym keeps.on.same.0
 
 -- the entry of an event is the same with a pass as it was before
 pub same_telling : (pass pass' : Pass) → IsSamePass pass pass' → (event : Event) (kepts : List ℕ) → deed_with_words pass' event kepts ≡ deed_with_words pass event kepts

@@ -1,7 +1,7 @@
 -- Which chunks came to a list of spots, by what was made meanwhile.
 use Rattle.std.proofs.Common.{◌≡◌, ℕ, zero, suc, ℤ, Bool, true, false, List, [], ◌∷◌, ◌++◌, map, refl, sym, ap, subst, ◌∙◌, append_assoc, append-nil}
 use Rattle.std.proofs.lemmas.List.{map-append}
-use Rattle.seize_machine.specs.Machine.Event.{AddCount, Detach, Return}
+use Rattle.seize_machine.specs.Machine.Event.{AddCount, Detach}
 use Rattle.seize_machine.specs.declared.machine.event.Answer.{Answer}
 use Rattle.seize_machine.specs.declared.machine.event.Answer.TheVariants.{Count}
 use Rattle.seize_store.specs.Named.{hollow_number, hollow_title, titles_of, titles_with}
@@ -12,7 +12,7 @@ use Rattle.seize_book.specs.Adding.{private}
 use Rattle.seize_book.specs.Blocks.{block_number}
 use Rattle.seize_book.specs.Entry.{Deed}
 use Rattle.seize_book.specs.Passes.{MadeNone, events_by, events_in}
-use Rattle.seize_book.specs.Slots.{AddsDeed, AddsEvent, slot_number}
+use Rattle.seize_book.specs.Slots.{AddsDeed, slot_number}
 use Rattle.seize_book.specs.declared.book.pass.Pass.{Pass}
 use Rattle.seize_book.specs.declared.book.slot_key.SlotKey.{SlotKey}
 use Rattle.seize_book.specs.declared.book.value_keys.ValueKeys.{ValueKeys}
@@ -137,13 +137,6 @@ lays_twice pass mid pass' spots spots1 spots' first second = record {
   last = second.last ∙ ap (λ (titles : List Title). lay_all titles second.laid) first.last ∙ sym (lay_more first.laid second.laid (titles_of spots));
 }
 
--- A whole call began, and returned in the end.
-pub lays_whole : {T : Type 0} (key one two key' : SlotKey) (pass pass1 pass2 pass' : Pass) (d : Deed) (spots spots' : Spots Header Part T) → AddsDeed key pass one pass1 d → ((answer : Answer) → handed_with d.event answer ≡ [])
-    → Lays pass1 spots pass2 spots' → AddsEvent two pass2 key' pass' (Return (slot_number two)) → Lays pass spots pass' spots'
-lays_whole key one two key' pass pass1 pass2 pass' d spots spots' begun quiet between last =
-    lays_twice pass pass1 pass' spots spots spots' (lays_deed key one pass pass1 d spots begun quiet)
-    (lays_twice pass1 pass2 pass' spots spots' spots' between (lays_deed two key' pass2 pass' (private pass2 (Return (slot_number two))) spots' last (λ answer. refl)))
-
--- And its pass learned first what the slot had seen.
+-- The pass of a call learned first what the slot had seen.
 pub lays_ready : {T : Type 0} (pass ready pass1 pass' : Pass) (spots spots' : Spots Header Part T) → MadeNone pass ready → Lays ready spots pass1 spots' → pass' ≡ pass1 → Lays pass spots pass' spots'
 lays_ready pass ready pass1 pass' spots spots' none lays same = lays_twice pass ready pass' spots spots spots' (lays_same pass ready spots none) (subst (λ (p : Pass). Lays ready spots p spots') (sym same) lays)

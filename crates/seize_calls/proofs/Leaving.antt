@@ -3,8 +3,9 @@ use Rattle.std.proofs.Common.{◌≡◌, ℕ, ◌<◌, ◌≤◌, Bool, true, fa
 use Rattle.std.proofs.lemmas.List.{get_or-set_same, get_or_past}
 use Rattle.std.proofs.lemmas.Bool.{cases_lt}
 use base.Growing.{prefix_trans}
-use Rattle.seize_machine.specs.Machine.State.{Active, Inactive, Out, Slot, State, head_at, is_active, no_slot, slot_at}
-use Rattle.seize_machine.specs.Machine.Event.{Begin, Event, Return, SwapOut}
+use mathlib.Core.List.{IsPrefix}
+use Rattle.seize_machine.specs.Machine.State.{Active, Inactive, Out, Rest, Slot, State, head_at, is_active, no_slot, slot_at}
+use Rattle.seize_machine.specs.Machine.Event.{Begin, Event, SwapOut}
 use Rattle.seize_machine.specs.Machine.Next.{leaving_at, of_call}
 use Rattle.seize_machine.specs.declared.machine.event.Answer.{Answer}
 use Rattle.seize_machine.specs.declared.machine.event.Answer.TheVariants.{Done}
@@ -13,34 +14,39 @@ use Rattle.seize_machine.proofs.Facts.{Step, some_is, step_of}
 use Rattle.seize_book.specs.Blocks.{block_for, list_word}
 use Rattle.seize_book.specs.Book.{after}
 use Rattle.seize_book.specs.Entry.{Deed, Entry, Made}
-use Rattle.seize_book.specs.Homesteads.{state_seen}
+use Rattle.seize_book.specs.Kept.{kepts_in, kepts_of}
+use Rattle.seize_book.specs.Laws.{life}
+use Rattle.seize_book.specs.Ledger.{HeldKey}
 use Rattle.seize_book.specs.Passes.{IsSamePass, events_by}
-use Rattle.seize_words.specs.Reservations.{WalksFrom, beginning, slot}
-use Rattle.seize_book.specs.Slots.{AddsDeed, AddsEvent, active_of, own_list, slot_number, slot_of, start_of}
+use Rattle.seize_book.specs.Private.{labels_of}
+use Rattle.seize_book.specs.Slots.{AddsDeed, IsKeyOfBook, active_of, own_list, slot_number, slot_of, start_of}
 use Rattle.seize_book.specs.Tokens.{Name, start}
+use Rattle.seize_book.specs.Values.{values_of}
 use Rattle.seize_book.specs.declared.book.pass.Pass.{Pass}
 use Rattle.seize_book.specs.declared.book.slot_key.SlotKey.{SlotKey}
-use Rattle.seize_words.specs.declared.reservation.Head.{Head as Word}
-use Rattle.seize_book.proofs.Facts.{same_twice}
-use Rattle.seize_words.proofs.Facts.{all_told_later, deeds_grew, seen_grows}
-use Rattle.seize_calls.proofs.Alone.{alone_noted, alone_twice, own_one, own_twice}
-use Rattle.seize_book.specs.Slots.{IsKeyOfBook}
-use mathlib.Core.List.{IsPrefix}
-use Rattle.seize_book.specs.Kept.{AreTold, kepts_in, kepts_of}
-use Rattle.seize_book.specs.Ledger.{HeldKey}
-use Rattle.seize_book.specs.Private.{labels_of}
-use Rattle.seize_book.specs.Values.{IsEmpty, values_of}
 use Rattle.seize_book.specs.declared.book.value_keys.ValueKeys.{ValueKeys}
-use Rattle.seize_words.specs.Walks.{Knows}
-use Rattle.seize_machine.specs.Machine.State.{Rest}
-use Rattle.seize_calls.specs.Calls.{Begins, Leaves}
+use Rattle.seize_book.proofs.Facts.{same_twice}
+use Rattle.seize_words.specs.Reservations.{IsActivationOf, IsLastOf, IsOfSlot, WalksFrom, beginning, slot}
+use Rattle.seize_words.specs.declared.activation.Activation.{Activation}
+use Rattle.seize_words.specs.declared.reservation.Head.{Head as Word}
+use Rattle.seize_words.specs.declared.words.Words.{Words}
+use Rattle.seize_words.proofs.Facts.{all_told_later, deeds_grew, knows_noted, seen_grows}
+use Rattle.seize_calls.specs.Alone.{AddsAlone, AddsOwn, Onward}
+use Rattle.seize_calls.specs.Batches.{keys_in}
+use Rattle.seize_calls.specs.Calls.{Begins, Ends, HasBegun, Leaves, SwapsOut, job_of, life_when}
+use Rattle.seize_calls.specs.Furthers.{further_in}
 use Rattle.seize_calls.specs.Handing.{Had, values_put, words_put}
-use Rattle.seize_calls.specs.Settling.{CallState, Drains, HasBatch, HasQueue, IsWellFormed, Onward, done_event}
+use Rattle.seize_calls.specs.Together.{IsUnderWay}
+use Rattle.seize_calls.specs.Laying.{Lays}
+use Rattle.seize_calls.specs.Settling.{CallState, HasBatch, HasQueue, call_state, done_event}
 use Rattle.seize_calls.specs.Walking.{IsAtWalk, WalksAll, handed_in, steps}
-use Rattle.seize_calls.proofs.Events.{keeps_returned}
-use Rattle.seize_calls.proofs.Whole.{returned, whole_rests}
+use Rattle.seize_calls.specs.declared.further.Further.{Further}
+use Rattle.seize_calls.specs.declared.holder.Holder.{Holder}
+use Rattle.seize_calls.proofs.Alone.{alone_noted, alone_twice, onward_twice, own_one, own_twice}
+use Rattle.seize_calls.proofs.Laid.{lays_deed, lays_twice}
 use Rattle.seize_calls.proofs.Marks.{within}
 use Rattle.seize_calls.proofs.Strolls.{same_steps}
+use Rattle.seize_calls.proofs.Whole.{Begun, ends_on}
 
 pub same_beginning : (pass pass' : Pass) → IsSamePass pass pass' → (life : ℕ) (event : Event) → beginning pass' life event ≡ beginning pass life event
 same_beginning pass pass' same life event =
@@ -66,128 +72,172 @@ after_swap size st _ stays queue _ (Step.swapped_out s other q stands) is on =
     which true = refl
     which false = refl
 
-module _ (key one two : SlotKey) (pass pass1 pass2 : Pass) (job : Job) (stays : Bool) (life : ℕ) (begins : Begins key pass job [] one pass1) (on : active_of key ≡ true) (out : (slot_of one).call ≡ Some (record { place = Out stays; queue = [] }))
-    (notes : AddsDeed one pass1 two pass2 (beginning pass1 life (SwapOut (slot_number one)))) (head : Word) (word : ℕ) (walks : WalksFrom head two word []) (own : slot head ≡ slot_number key) where
+-- The head was swapped out by a call that began, and had this word.
+pub record Swapped {T : Type 0} (words : Words T) (stays : Bool) (life : ℕ) (holder : Holder T) (pass : Pass) (queue : Further) (two : SlotKey) (pass2 : Pass) (word : ℕ) : Type 0 where
+  pub at : IsAtWalk two word
+  pub none_waits : at.queue ≡ []
+  pub swaps : SwapsOut (job_of stays) (beginning pass (life_when stays life) (SwapOut (slot_number holder.key))) (slot_number holder.key) pass pass2 at.walk
+  pub under : IsUnderWay words (record { key = two; batch = holder.batch; spots = holder.spots }) queue pass2
+  pub empty : (further_in queue).keys.held ≡ []
+  pub its : (two.keys.name ≡ holder.key.keys.name) × (slot_number two ≡ slot_number holder.key)
+  pub sees : own_list two ≡ pass2.seen
+  pub batch : (slot_of two).batch ≡ (slot_of holder.key).batch
+  pub used : (slot_of two).used ≡ (slot_of holder.key).used
+  pub active : active_of two ≡ stays
+  pub alone : AddsAlone pass pass2
+  pub own : AddsOwn holder.key pass two
+  pub laid : Lays pass holder.spots pass2 holder.spots
+
+module _ {T : Type 0} (words : Words T) (stays : Bool) (holder : Holder T) (pass : Pass) (queue : Further) (one : SlotKey) (pass1 : Pass) (b : Begun words (job_of stays) [] (Out stays) holder pass queue one pass1) (on : active_of holder.key ≡ true) (life : ℕ) (two : SlotKey) (pass2 : Pass)
+    (notes : AddsDeed one pass1 two pass2 (beginning pass1 (life_when stays life) (SwapOut (slot_number one)))) (head : Word) (word : ℕ) (walks : WalksFrom head two word []) (own : slot head ≡ slot_number holder.key) where
+  abbrev begins : Begins holder.key pass (job_of stays) [] one pass1
+  begins = b.begins
+
   abbrev s : ℕ
-  s = slot_number key
+  s = slot_number holder.key
 
-  abbrev st : State
-  st = after (start_of one) notes.2.0.before
+  abbrev swap : Pass → ℕ → Deed
+  swap p k = beginning p (life_when stays life) (SwapOut k)
 
-  abbrev d : State × Answer
-  d = (notes.2.0.later, notes.2.0.answer)
-
-  so : ((slot_at d.0 (slot_number one)).batch ≡ (slot_at st (slot_number one)).batch) × ((slot_at d.0 (slot_number one)).used ≡ (slot_at st (slot_number one)).used) × (is_active (head_at d.0 (slot_number one)) ≡ stays) × (d.1 ≡ Done)
+  so : ((slot_of two).batch ≡ (slot_of one).batch) × ((slot_of two).used ≡ (slot_of one).used) × (active_of two ≡ stays) × (notes.2.0.answer ≡ Done)
   so =
-      after_swap pass1.size st (slot_number one) stays [] d (step_of pass1.size st (SwapOut (slot_number one)) d notes.2.1.legal) (ap (λ (z : Slot). z.call) notes.2.1.was ∙ out)
-      (notes.2.1.was_active ∙ begins.keeps.active ∙ on)
-
-  abbrev pub at_walk : IsAtWalk two word
-  at_walk = record {
-    walk = walks.0;
-    queue = [];
-    walking = walks.1;
-    leads = walks.2 ∙ ap (λ (m : ℕ). list_word (λ b. block_for (start_of two) (own_list two) b m) walks.0) (own ∙ sym begins.keeps.its.1 ∙ sym notes.1.1);
-  }
+      let d : State × Answer = (notes.2.0.later, notes.2.0.answer) in let st = after (start_of one) notes.2.0.before in
+      let is = after_swap pass1.size st (slot_number one) stays [] d (step_of pass1.size st (SwapOut (slot_number one)) d notes.2.1.legal) (ap (λ (z : Slot). z.call) notes.2.1.was ∙ b.stands) (notes.2.1.was_active ∙ begins.keeps.on.active ∙ on) in (
+        ap (λ (z : Slot). z.batch) notes.2.1.is ∙ is.0 ∙ ap (λ (z : Slot). z.batch) notes.2.1.was,
+        ap (λ (z : Slot). z.used) notes.2.1.is ∙ is.1 ∙ ap (λ (z : Slot). z.used) notes.2.1.was,
+        notes.2.1.is_now_active ∙ is.2,
+        is.3,
+      )
 
   same_two : IsSamePass pass pass2
-  same_two = same_twice pass pass1 pass2 begins.keeps.same notes.0
+  same_two = same_twice pass pass1 pass2 begins.keeps.on.same notes.0
 
-  its_two : (two.keys.name ≡ key.keys.name) × (slot_number two ≡ s)
-  its_two = (notes.1.0 ∙ begins.keeps.its.0, notes.1.1 ∙ begins.keeps.its.1)
+  its_two : (two.keys.name ≡ holder.key.keys.name) × (slot_number two ≡ s)
+  its_two = (notes.1.0 ∙ begins.keeps.on.its.0, notes.1.1 ∙ begins.keeps.on.its.1)
 
-  abbrev swap : Deed
-  swap = beginning pass life (SwapOut s)
+  grew : IsPrefix pass1.seen pass2.seen
+  grew = seen_grows pass1.name pass1.id pass1.seen pass2.seen _ notes.2.0
 
-  made_two : events_by pass2 ≡ (events_by pass ++ done_event pass (Begin s job)) ++ (swap, Done) ∷ []
+  made_two : events_by pass2 ≡ (events_by pass ++ done_event pass (Begin s (job_of stays))) ++ (swap pass s, Done) ∷ []
   made_two =
-      deeds_grew pass1 pass2 (beginning pass1 life (SwapOut (slot_number one))) notes.0 notes.2.0
-      ∙ ap (λ (log : List (Deed × Answer)). log ++ (beginning pass1 life (SwapOut (slot_number one)), notes.2.0.answer) ∷ []) begins.made
-      ∙ ap (λ (a : Answer). (events_by pass ++ done_event pass (Begin s job)) ++ (beginning pass1 life (SwapOut (slot_number one)), a) ∷ []) so.3
-      ∙ ap (λ (x : Deed). (events_by pass ++ done_event pass (Begin s job)) ++ (x, Done) ∷ []) (same_beginning pass pass1 begins.keeps.same life (SwapOut (slot_number one)) ∙ ap (λ (k : ℕ). beginning pass life (SwapOut k)) begins.keeps.its.1)
+      deeds_grew pass1 pass2 (swap pass1 (slot_number one)) notes.0 notes.2.0
+      ∙ ap (λ (log : List (Deed × Answer)). log ++ (swap pass1 (slot_number one), notes.2.0.answer) ∷ []) begins.made
+      ∙ ap (λ (a : Answer). (events_by pass ++ done_event pass (Begin s (job_of stays))) ++ (swap pass1 (slot_number one), a) ∷ []) so.3
+      ∙ ap (λ (x : Deed). (events_by pass ++ done_event pass (Begin s (job_of stays))) ++ (x, Done) ∷ []) (same_beginning pass pass1 begins.keeps.on.same (life_when stays life) (SwapOut (slot_number one)) ∙ ap (swap pass) begins.keeps.on.its.1)
 
-  stands_two : IsKeyOfBook key pass → (slot_at (state_seen pass2) s).call ≡ Some (record { place = Rest [] walks.0; queue = [] })
-  stands_two book =
-      subst (λ (t : Name × List Entry × ℕ). (slot_at (after (start t.0) t.1) t.2).call ≡ Some (record { place = Rest [] walks.0; queue = [] }))
-      (λ j. ((its_two.0 ∙ book ∙ sym same_two.0) j, notes.1.2 j, its_two.1 j)) walks.1
+  under_two : IsUnderWay words (record { key = two; batch = holder.batch; spots = holder.spots }) queue pass2
+  under_two = let is = b.under.holds in let has = b.under.queue_is in
+      record {
+        holds = record {
+          keyed = record {
+            of = (is.keyed.of.0 ∙ sym notes.0.0, is.keyed.of.1 ∙ sym notes.0.2);
+            its = notes.1.0 ∙ (is.keyed.its ∙ sym notes.0.0);
+            knows = knows_noted one two pass1 pass2 (swap pass1 (slot_number one)) notes;
+          };
+          batch = (is.batch.0 ∙ sym notes.0.0, is.batch.1 ∙ sym so.0, all_told_later pass1.seen pass2.seen (keys_in holder.batch).keys.held grew is.batch.2);
+          spots = is.spots;
+        };
+        queue_is = (has.0 ∙ sym notes.0.0, all_told_later pass1.seen pass2.seen (further_in queue).keys.held grew has.1);
+      }
 
-  module _ (three : SlotKey) (pass3 : Pass) (values queue0 queue3 : ValueKeys) (had had3 : Had) (empty0 : queue0.keys.held ≡ []) (all : WalksAll at_walk pass2 queue0 had three pass3 queue3 had3) where
-    abbrev pub behind : CallState
-    behind = record { key = three; pass = pass3; batch = values; queue = queue3; had = had3 }
+  pub swapped : Swapped words stays life holder pass queue two pass2 word
+  swapped = record {
+    at = record {
+      walk = walks.0;
+      queue = [];
+      walking = walks.1;
+      leads = walks.2 ∙ ap (λ (m : ℕ). list_word (λ b. block_for (start_of two) (own_list two) b m) walks.0) (own ∙ sym its_two.1);
+    };
+    none_waits = refl;
+    swaps = record {
+      same = same_two;
+      grows = prefix_trans pass.seen pass1.seen pass2.seen begins.keeps.on.grows grew;
+      made = made_two;
+      stands =
+          subst (λ (t : Name × List Entry × ℕ). (slot_at (after (start t.0) t.1) t.2).call ≡ Some (record { place = Rest [] walks.0; queue = [] }))
+          (λ j. (under_two.holds.keyed.its j, notes.1.2 j, its_two.1 j)) walks.1;
+    };
+    under = under_two;
+    empty = b.empty;
+    its = its_two;
+    sees = notes.1.2;
+    batch = so.0 ∙ begins.keeps.batch;
+    used = so.1 ∙ begins.keeps.on.used;
+    active = so.2;
+    alone = alone_twice pass pass1 pass2 begins.keeps.on.same begins.keeps.on.alone (alone_noted pass1 pass2 (Made (swap pass1 (slot_number one))) refl notes.2.0);
+    own = own_twice holder.key one two pass pass1 begins.keeps.on.same begins.keeps.on.own (own_one one pass1 two (Made (swap pass1 (slot_number one))) notes.2.0.answer refl notes.2.1.acts);
+    laid = lays_twice pass pass1 pass2 holder.spots holder.spots holder.spots b.laid (lays_deed one two pass1 pass2 (swap pass1 (slot_number one)) holder.spots notes (λ answer. refl));
+  }
 
-    pub same_three : IsSamePass pass pass3
-    same_three = same_twice pass pass2 pass3 same_two all.goes_on.0.same
+-- Then it walked, drained its queue, and returned.
+module _ {T : Type 0} (words : Words T) (stays : Bool) (life : ℕ) (holder : Holder T) (pass : Pass) (queue : Further) (two : SlotKey) (pass2 : Pass) (word : ℕ) (w : Swapped words stays life holder pass queue two pass2 word)
+    (holder3 : Holder T) (queue3 : Further) (pass3 : Pass) (had had3 : Had) (all : WalksAll w.at pass2 (further_in queue) had holder3.key pass3 (further_in queue3) had3) where
+  abbrev key : SlotKey
+  key = holder.key
 
-    its_three : (three.keys.name ≡ key.keys.name) × (slot_number three ≡ s)
-    its_three = (all.goes_on.0.its.0 ∙ its_two.0, all.goes_on.0.its.1 ∙ its_two.1)
+  abbrev three : SlotKey
+  three = holder3.key
 
-    walked_queue : (values_of queue3 ≡ values_put (handed_in all.walked)) × (kepts_of queue3 ≡ words_put (handed_in all.walked))
-    walked_queue = (
-      all.queued.1 ∙ ap (λ (held : List (HeldKey Entry)). labels_of held ++ values_put (handed_in all.walked)) empty0,
-      all.queued.2 ∙ ap (λ (held : List (HeldKey Entry)). kepts_in held ++ words_put (handed_in all.walked)) empty0,
-    )
+  abbrev behind : CallState
+  behind = call_state holder3 pass3 queue3 had3
 
-    grows_three : IsPrefix pass.seen pass3.seen
-    grows_three =
-        prefix_trans pass.seen pass1.seen pass3.seen begins.keeps.grows
-        (prefix_trans pass1.seen pass2.seen pass3.seen (seen_grows pass1.name pass1.id pass1.seen pass2.seen _ notes.2.0) all.goes_on.0.grows)
+  walked_queue : (values_of (further_in queue3) ≡ values_put (handed_in all.walked)) × (kepts_of (further_in queue3) ≡ words_put (handed_in all.walked))
+  walked_queue = (
+    all.queued.1 ∙ ap (λ (held : List (HeldKey Entry)). labels_of held ++ values_put (handed_in all.walked)) w.empty,
+    all.queued.2 ∙ ap (λ (held : List (HeldKey Entry)). kepts_in held ++ words_put (handed_in all.walked)) w.empty,
+  )
 
-    pub walked_over : HasQueue three queue3
-    walked_over = all.over ∙ ap (λ (q : List ℕ). Some (record { place = Rest [] []; queue = q })) (sym walked_queue.0)
+  pub walked_over : HasQueue three (further_in queue3)
+  walked_over = all.over ∙ ap (λ (q : List ℕ). Some (record { place = Rest [] []; queue = q })) (ap (λ (q : List ℕ). q ++ values_put (handed_in all.walked)) w.none_waits ∙ sym walked_queue.0)
 
-    batch_three : (slot_of three).batch ≡ (slot_of key).batch
-    batch_three = all.goes_on.0.batch ∙ ap (λ (z : Slot). z.batch) notes.2.1.is ∙ so.0 ∙ ap (λ (z : Slot). z.batch) notes.2.1.was ∙ begins.keeps.batch
+  module _ (key' : SlotKey) (pass' : Pass) (values' : ValueKeys) (had' : Had) (ends : Ends behind key' pass' values' had') where
+    pub out_on : Onward two pass2 key' pass'
+    out_on = onward_twice two three key' pass2 pass3 pass' all.goes_on.0.on (ends_on behind key' pass' values' had' ends)
 
-    pub walked_sits : IsKeyOfBook key pass → Knows three pass3 → HasBatch key pass values → IsEmpty queue0 pass → AreTold queue3 pass3 → IsWellFormed behind
-    walked_sits book knows batch queue told = record {
-      its = its_three.0 ∙ (book ∙ sym same_three.0);
-      knows = knows;
-      batch = (batch.0 ∙ sym same_three.0, batch.1 ∙ sym batch_three, all_told_later pass.seen pass3.seen values.keys.held grows_three batch.2);
-      queue = (all.queued.0 ∙ (queue.0 ∙ sym same_three.0), told);
+    pub has_left : holder3.batch ≡ holder.batch → HasBatch key' pass' values' → Leaves (job_of stays) stays (beginning pass (life_when stays life) (SwapOut (slot_number key))) key pass (keys_in holder.batch) had key' pass' values' had'
+    has_left batch has = record {
+      walk = w.at.walk;
+      out = pass2;
+      swaps_out = w.swaps;
+      walked = all.walked;
+      each = all.each;
+      kepts = all.kepts;
+      behind = behind;
+      grows = all.goes_on.0.on.grows;
+      its = (all.goes_on.0.on.its.0 ∙ w.its.0, all.goes_on.0.on.its.1 ∙ w.its.1);
+      stands = walked_over;
+      kept = all.goes_on.0.batch ∙ w.batch;
+      made = all.made ∙ ap (λ (log : List (Deed × Answer)). events_by pass2 ++ log)
+          (same_steps pass pass2 w.swaps.same (slot_number two) all.walked ∙ ap (λ (k : ℕ). steps pass k all.walked) w.its.1);
+      has_had = all.has_had;
+      told = all.told;
+      queued = walked_queue;
+      batch = ap keys_in batch;
+      ends = ends;
+      rests = record {
+        same = same_twice pass pass2 pass' w.swaps.same out_on.same;
+        grows = prefix_trans pass.seen pass2.seen pass'.seen w.swaps.grows out_on.grows;
+        alone = alone_twice pass pass2 pass' w.swaps.same w.alone out_on.alone;
+        own = own_twice key two key' pass pass2 w.swaps.same w.own out_on.own;
+        sees = ends.sees;
+        its = (out_on.its.0 ∙ w.its.0, out_on.its.1 ∙ w.its.1);
+        call = ends.call;
+        used = out_on.used ∙ w.used;
+        batch = has;
+      };
+      active = out_on.active ∙ w.active;
     }
 
-    module _ (b : CallState) (drains : Drains behind b) (onward : Onward three pass3 b.key b.pass) (sits : IsWellFormed b) (empty : values_of b.queue ≡ []) (key' : SlotKey) (pass' : Pass) (last : AddsEvent b.key b.pass key' pass' (Return (slot_number b.key))) where
-      pub has_left : Leaves job stays swap key pass values had key' pass' b.batch b.had
-      has_left = record {
-        walk = walks.0;
-        out = pass2;
-        swaps_out = record { same = same_two; grows = prefix_trans pass.seen pass1.seen pass2.seen begins.keeps.grows (seen_grows pass1.name pass1.id pass1.seen pass2.seen _ notes.2.0); made = made_two; stands = stands_two book };
-        walked = all.walked;
-        each = all.each;
-        kepts = all.kepts;
-        behind = behind;
-        grows = all.goes_on.0.grows;
-        its = its_three;
-        stands = walked_over;
-        kept = batch_three;
-        made = all.made ∙ ap (λ (log : List (Deed × Answer)). events_by pass2 ++ log)
-            (same_steps pass pass2 same_two (slot_number two) all.walked ∙ ap (λ (k : ℕ). steps pass k all.walked) its_two.1);
-        has_had = all.has_had;
-        told = all.told;
-        queued = walked_queue;
-        batch = refl;
-        drained = b;
-        drains = drains;
-        returns = returned b key' pass' last empty;
-        rests =
-            whole_rests key pass b key' pass' (same_twice pass pass3 b.pass same_three onward.same) (prefix_trans pass.seen pass1.seen b.pass.seen begins.keeps.grows grows_begun)
-            (alone_twice pass pass1 b.pass begins.keeps.same begins.keeps.alone
-            (alone_twice pass1 pass2 b.pass notes.0 (alone_noted pass1 pass2 (Made (beginning pass1 life (SwapOut (slot_number one)))) refl notes.2.0)
-            (alone_twice pass2 pass3 b.pass all.goes_on.0.same all.goes_on.0.alone onward.alone)))
-            (own_twice key one b.key pass pass1 begins.keeps.same begins.keeps.own
-            (own_twice one two b.key pass1 pass2 notes.0 (own_one one pass1 two (Made (beginning pass1 life (SwapOut (slot_number one)))) notes.2.0.answer refl notes.2.1.acts)
-            (own_twice two three b.key pass2 pass3 all.goes_on.0.same all.goes_on.0.own onward.own)))
-            (onward.its.0 ∙ its_three.0, onward.its.1 ∙ its_three.1)
-            (onward.used ∙ all.goes_on.0.used ∙ ap (λ (z : Slot). z.used) notes.2.1.is ∙ so.1 ∙ ap (λ (z : Slot). z.used) notes.2.1.was ∙ begins.keeps.used)
-            sits last;
-        active = (keeps_returned b.key key' b.pass pass' last).active ∙ onward.active ∙ all.goes_on.0.active ∙ notes.2.1.is_now_active ∙ so.2;
-      }
-        where
-          book : IsKeyOfBook key pass
-          book = sym (onward.its.0 ∙ its_three.0) ∙ sits.its ∙ onward.same.0 ∙ same_three.0
+-- The activation is the slot's still, and has begun with what its key knew.
+module _ (key key' : SlotKey) (pass pass' : Pass) (on : Onward key pass key' pass') (a : Activation) where
+  pub of_still : IsOfSlot key a → IsOfSlot key' a
+  of_still of = (of.0 ∙ sym on.its.0, of.1 ∙ sym on.its.1, of.2)
 
-          grows_begun : IsPrefix pass1.seen b.pass.seen
-          grows_begun = prefix_trans pass1.seen pass2.seen b.pass.seen (seen_grows pass1.name pass1.id pass1.seen pass2.seen _ notes.2.0) (prefix_trans pass2.seen pass3.seen b.pass.seen all.goes_on.0.grows onward.grows)
+  pub begun_last : IsKeyOfBook key pass → own_list key ≡ pass.seen → IsActivationOf key a → IsLastOf key' a × HasBegun a pass'
+  begun_last book sees is = let of = is.of_slot in (
+    (of_still of, sym is.its ∙ (λ i. life (of.1 i) (is.since i)) ∙ sym on.life),
+    record { book = of.0 ∙ book ∙ sym on.same.0; active = is.active; its = is.its; known = subst (λ (log : List Entry). IsPrefix log pass'.seen) (sym (is.since ∙ sees)) on.grows },
+  )
 
 -- All that was made before the queue was drained.
 pub left_made : {job : Job} {stays : Bool} {swap : Deed} {key : SlotKey} {pass : Pass} {values : ValueKeys} {had : Had} {key' : SlotKey} {pass' : Pass} {values' : ValueKeys} {had' : Had} → (l : Leaves job stays swap key pass values had key' pass' values' had')

@@ -4,9 +4,9 @@ pub mod Batches
 pub mod Chains
 pub mod Current
 pub mod Events
-pub mod Exactly
 pub mod Handed
 pub mod Handings
+pub mod Holders
 pub mod Inserts
 pub mod Keeps
 pub mod Laid

@@ -15,23 +15,22 @@ use Rattle.seize_machine.proofs.Facts.{Step, Stands, some_is, step_of}
 use Rattle.seize_book.specs.Adding.{private}
 use Rattle.seize_book.specs.Blocks.{block_for, block_number, word_of}
 use Rattle.seize_book.specs.Book.{IsLegalList, after}
-use Rattle.seize_book.specs.Entry.{Deed, Entry as Logged, Made}
+use Rattle.seize_book.specs.Entry.{Deed, Entry as Logged}
 use Rattle.seize_book.specs.Ledger.{HeldKey}
 use Rattle.seize_book.specs.Private.{labels_of}
 use Rattle.seize_words.specs.Heads.{reads_at}
-use Rattle.seize_book.specs.Passes.{IsSamePass, LooksOn, events_by, events_in}
+use Rattle.seize_book.specs.Passes.{LooksOn, events_by, events_in}
 use Rattle.seize_words.specs.Reservations.{MayRead, ShowsHead, slot}
-use Rattle.seize_book.specs.Slots.{AddsEvent, IsKeyOfBook, active_of, life_of, own_list, slot_number, slot_of, start_of}
+use Rattle.seize_book.specs.Slots.{AddsEvent, IsKeyOfBook, own_list, slot_number, slot_of, start_of}
 use Rattle.seize_book.specs.Tokens.{Name, start}
 use Rattle.seize_words.specs.Totals.{slots_seen}
 use Rattle.seize_words.specs.Walks.{Knows}
 use Rattle.seize_book.specs.declared.book.pass.Pass.{Pass}
 use Rattle.seize_book.specs.declared.book.slot_key.SlotKey.{SlotKey}
 use Rattle.seize_words.specs.declared.reservation.Head.{Head as Word}
-use Rattle.seize_book.proofs.Facts.{same_twice}
-use Rattle.seize_words.proofs.Facts.{events_grew, knows_noted, knows_still, life_kept, more_seen, more_slots, note_seen, seen_grows}
-use Rattle.seize_calls.specs.Alone.{AddsAlone, AddsOwn}
-use Rattle.seize_calls.proofs.Alone.{alone_looked, alone_none, alone_noted, alone_twice, own_none, own_one, own_twice}
+use Rattle.seize_words.proofs.Facts.{events_grew, knows_noted, knows_still, more_seen, more_slots, note_seen, seen_grows}
+use Rattle.seize_calls.specs.Alone.{Onward}
+use Rattle.seize_calls.proofs.Alone.{onward_event, onward_looked, onward_none, onward_twice}
 use Rattle.seize_calls.proofs.Batches.{counted_is}
 use Rattle.seize_calls.proofs.Named.{batch_named}
 use Rattle.seize_calls.specs.Batches.{SlotMark, marked_slots, slot_in, slot_marks_of, without_slot, without_slots}
@@ -107,17 +106,10 @@ next_of done (h ∷ rest) batch e less = (h.label, labels_of rest, refl, subst (
 
 -- so many heads were read, and so many slots marked
 pub record IsReading {key : SlotKey} (at : BeginsToMark key) (end : ℕ) (pass : Pass) (held : List (HeldKey Logged)) (count marked : ℕ) (key' : SlotKey) (pass' : Pass) (round : Round) : Type 0 where
-  pub same : IsSamePass pass pass'
-  pub its : (key'.keys.name ≡ key.keys.name) × (slot_number key' ≡ slot_number key)
+  pub on : Onward key pass key' pass'
   pub knows : Knows key' pass'
   pub there : end ≤ slots_seen pass'
-  pub grows : IsPrefix pass.seen pass'.seen
-  pub alone : AddsAlone pass pass'
-  pub own : AddsOwn key pass key'
   pub batch : (slot_of key').batch ≡ (slot_of key).batch
-  pub used : (slot_of key').used ≡ (slot_of key).used
-  pub active : active_of key' ≡ active_of key
-  pub life : life_of key' ≡ life_of key
   pub finds : List Bool
   pub read : length finds ≡ count
   pub many : length (actives 0 finds) ≡ marked
@@ -135,17 +127,10 @@ abbrev pub none_read : (key : SlotKey) (at : BeginsToMark key) (end : ℕ) (pass
 none_read key at end pass round knows there book is =
     let all = ap (λ (held : Keys). held ++ rest_in round) is.0 in
     record {
-      same = (refl, refl, refl);
-      its = (refl, refl);
+      on = onward_none key pass;
       knows = knows;
       there = there;
-      grows = ([], append-nil pass.seen);
-      alone = alone_none pass;
-      own = own_none key pass key refl;
       batch = refl;
-      used = refl;
-      active = refl;
-      life = refl;
       finds = [];
       read = refl;
       many = refl;
@@ -200,13 +185,13 @@ word_some block Inactive n = absurd (n refl)
 word_some block (Active waiting) n = refl
 
 -- The next head is read.
-module _ (key0 : SlotKey) (at : BeginsToMark key0) (end : ℕ) (pass0 : Pass) (held : Keys) (i k : ℕ) (key : SlotKey) (pass : Pass) (round : Round) (r : IsReading at end pass0 held i k key pass round) (head : Word)
+module _ {key0 : SlotKey} {at : BeginsToMark key0} {end : ℕ} {pass0 : Pass} {held : Keys} {i k : ℕ} {key : SlotKey} {pass : Pass} {round : Round} (r : IsReading at end pass0 held i k key pass round) (head : Word)
     (head_is : (head.word.name ≡ pass0.name) × (slot head ≡ i)) (less : i < end) (book : IsKeyOfBook key0 pass0) where
   is_head : head.word.name ≡ pass.name
-  is_head = head_is.0 ∙ sym r.same.0
+  is_head = head_is.0 ∙ sym r.on.same.0
 
   pub may_read : IsKeyOfBook key pass × (head.word.name ≡ pass.name)
-  may_read = (r.its.0 ∙ book ∙ sym r.same.0, is_head)
+  may_read = (r.on.its.0 ∙ book ∙ sym r.on.same.0, is_head)
 
   pub reads_next : MayRead key head pass
   reads_next = (
@@ -217,7 +202,7 @@ module _ (key0 : SlotKey) (at : BeginsToMark key0) (end : ℕ) (pass0 : Pass) (h
       in_turn_now : (i note : ℕ) → in_turn i note i ≡ true
       in_turn_now i note = grind arith
 
-  module _ (key' : SlotKey) (pass' : Pass) (v : ℕ) (noted : AddsEvent key pass key' pass' (ReadHead (slot_number key) (slot head))) (shows : ShowsHead head pass'.seen v) where
+  module _ {key' : SlotKey} {pass' : Pass} {v : ℕ} (noted : AddsEvent key pass key' pass' (ReadHead (slot_number key) (slot head))) (shows : ShowsHead head pass'.seen v) where
     abbrev st : State
     st = after (start_of key) noted.2.0.before
 
@@ -243,14 +228,11 @@ module _ (key0 : SlotKey) (at : BeginsToMark key0) (end : ℕ) (pass0 : Pass) (h
     pub same_batch : (slot_of key').batch ≡ batch
     same_batch = ap (λ (z : Slot). z.batch) noted.2.1.is ∙ read.1 ∙ ap (λ (z : Slot). z.batch) noted.2.1.was ∙ r.batch
 
-    pub same_used : (slot_of key').used ≡ (slot_of key0).used
-    same_used = ap (λ (z : Slot). z.used) noted.2.1.is ∙ read.2 ∙ ap (λ (z : Slot). z.used) noted.2.1.was ∙ r.used
-
-    pub same_active : active_of key' ≡ active_of key0
-    same_active = noted.2.1.is_now_active ∙ ap (λ (hs : List Head). is_active (get_or hs (slot_number key) Inactive)) read.3 ∙ noted.2.1.was_active ∙ r.active
-
-    pub same_life : life_of key' ≡ life_of key0
-    same_life = life_kept key key' pass pass' (private pass (ReadHead (slot_number key) (slot head))) noted refl ∙ r.life
+    pub read_on : Onward key0 pass0 key' pass'
+    read_on =
+        onward_twice key0 key key' pass0 pass pass' r.on
+        (onward_event key key' pass pass' (private pass (ReadHead (slot_number key) (slot head))) noted refl refl (ap (λ (z : Slot). z.used) noted.2.1.is ∙ read.2 ∙ ap (λ (z : Slot). z.used) noted.2.1.was)
+        (noted.2.1.is_now_active ∙ ap (λ (hs : List Head). is_active (get_or hs (slot_number key) Inactive)) read.3 ∙ noted.2.1.was_active))
 
     goes_on : (active : Bool) → is_active (head_at st (slot head)) ≡ active → (slot_of key').call ≡ Some (record { place = marked_place active i at.note (actives 0 r.finds) batch; queue = at.queue })
     goes_on active e =
@@ -259,23 +241,8 @@ module _ (key0 : SlotKey) (at : BeginsToMark key0) (end : ℕ) (pass0 : Pass) (h
         ∙ ap (λ (m : ℕ). Some (record { place = marked_place active m at.note (actives 0 r.finds) (slot_at st (slot_number key)).batch; queue = at.queue })) head_is.1
         ∙ ap (λ (vs : List ℕ). Some (record { place = marked_place active i at.note (actives 0 r.finds) vs; queue = at.queue })) (ap (λ (z : Slot). z.batch) noted.2.1.was ∙ r.batch)
 
-    pub same : IsSamePass pass0 pass'
-    same = same_twice pass0 pass pass' r.same noted.0
-
-    pub same_key : (key'.keys.name ≡ key0.keys.name) × (slot_number key' ≡ slot_number key0)
-    same_key = (noted.1.0 ∙ r.its.0, noted.1.1 ∙ r.its.1)
-
     pub knows : Knows key' pass'
     knows = knows_noted key key' pass pass' (private pass (ReadHead (slot_number key) (slot head))) noted
-
-    pub grown : IsPrefix pass0.seen pass'.seen
-    grown = prefix_trans pass0.seen pass.seen pass'.seen r.grows (seen_grows pass.name pass.id pass.seen pass'.seen _ noted.2.0)
-
-    adds_alone : AddsAlone pass0 pass'
-    adds_alone = alone_twice pass0 pass pass' r.same r.alone (alone_noted pass pass' (Made (private pass (ReadHead (slot_number key) (slot head)))) refl noted.2.0)
-
-    adds_own : AddsOwn key0 pass0 key'
-    adds_own = own_twice key0 key key' pass0 pass r.same r.own (own_one key pass key' (Made (private pass (ReadHead (slot_number key) (slot head)))) noted.2.0.answer refl noted.2.1.acts)
 
     pub there : end ≤ slots_seen pass'
     there =
@@ -293,9 +260,9 @@ module _ (key0 : SlotKey) (at : BeginsToMark key0) (end : ℕ) (pass0 : Pass) (h
         ∙ ap (λ (log : List (Deed × Answer)). before ++ log) (sym (readings_push pass0 s0 0 r.finds active))
       where
         is : (private pass (ReadHead (slot_number key) (slot head)), noted.2.0.answer) ≡ reading pass0 (slot_number key0) (0 + length r.finds) active
-        is = ap (λ (p : ℕ). (record { pass = p; size = pass.size; event = ReadHead (slot_number key) (slot head); life = 0; kepts = [] }, noted.2.0.answer)) r.same.1
-            ∙ ap (λ (k : ℕ). (record { pass = pass0.id; size = k; event = ReadHead (slot_number key) (slot head); life = 0; kepts = [] }, noted.2.0.answer)) r.same.2
-            ∙ ap (λ (s : ℕ). (private pass0 (ReadHead s (slot head)), noted.2.0.answer)) r.its.1
+        is = ap (λ (p : ℕ). (record { pass = p; size = pass.size; event = ReadHead (slot_number key) (slot head); life = 0; kepts = [] }, noted.2.0.answer)) r.on.same.1
+            ∙ ap (λ (k : ℕ). (record { pass = pass0.id; size = k; event = ReadHead (slot_number key) (slot head); life = 0; kepts = [] }, noted.2.0.answer)) r.on.same.2
+            ∙ ap (λ (s : ℕ). (private pass0 (ReadHead s (slot head)), noted.2.0.answer)) r.on.its.1
             ∙ ap (λ (m : ℕ). (private pass0 (ReadHead (slot_number key0) m), noted.2.0.answer)) (head_is.1 ∙ sym r.read ∙ zero_plus (length r.finds))
             ∙ ap (λ (a : Answer). (private pass0 (ReadHead (slot_number key0) (0 + length r.finds)), a)) (read.4 ∙ ap HeadRead e)
           where
@@ -310,17 +277,10 @@ module _ (key0 : SlotKey) (at : BeginsToMark key0) (end : ℕ) (pass0 : Pass) (h
     passed_over none =
         let off = word_none block (head_at st (slot head)) (sym word ∙ none) in let marks = actives_off 0 r.finds in
         record {
-          same = same;
-          its = same_key;
+          on = read_on;
           knows = knows;
           there = there;
-          grows = grown;
-          alone = adds_alone;
-          own = adds_own;
           batch = same_batch;
-          used = same_used;
-          active = same_active;
-          life = same_life;
           finds = r.finds ++ false ∷ [];
           read = long false;
           many = ap (λ (ms : List ℕ). length ms) marks ∙ r.many;
@@ -353,9 +313,9 @@ module _ (key0 : SlotKey) (at : BeginsToMark key0) (end : ℕ) (pass0 : Pass) (h
       pub has_next : HasNextValue round pass'
       has_next =
           let next = next_of (done_in round) (rest_in round) batch r.values (omega (arith, many_done, short)) in
-          (next.0, next.1, next.2, batch_named key' pass' (same_key.0 ∙ book ∙ sym same.0) knows next.0 (subst (λ (vs : List ℕ). Contains vs next.0) (sym same_batch) next.3))
+          (next.0, next.1, next.2, batch_named key' pass' (read_on.its.0 ∙ book ∙ sym read_on.same.0) knows next.0 (subst (λ (vs : List ℕ). Contains vs next.0) (sym same_batch) next.3))
 
-      module _ (round' : Round) (marks : Remarks round i round') (pass'' : Pass) (looks : LooksOn pass' pass'') where
+      module _ {round' : Round} (marks : Remarks round i round') {pass'' : Pass} (looks : LooksOn pass' pass'') where
         now : all_in round' ≡ (done_in round ++ with_slot i marks.note marks.first ∷ []) ++ rest_in round'
         now = ap (λ (held : Keys). held ++ rest_in round') marks.now
 
@@ -364,17 +324,10 @@ module _ (key0 : SlotKey) (at : BeginsToMark key0) (end : ℕ) (pass0 : Pass) (h
 
         pub one_marked : IsReading at end pass0 held (i + 1) (k + 1) key' pass'' round'
         one_marked = record {
-          same = same_twice pass0 pass' pass'' same looks.same;
-          its = same_key;
+          on = onward_twice key0 key' key' pass0 pass' pass'' read_on (onward_looked key' pass' pass'' looks);
           knows = knows_still key' pass' pass'' knows looks;
           there = let more = more_seen pass' pass'' looks in omega (arith, there, more);
-          grows = prefix_trans pass0.seen pass'.seen pass''.seen grown looks.grows;
-          alone = alone_twice pass0 pass' pass'' same adds_alone (alone_looked pass' pass'' looks);
-          own = adds_own;
           batch = same_batch;
-          used = same_used;
-          active = same_active;
-          life = same_life;
           finds = r.finds ++ true ∷ [];
           read = long true;
           many = ap (λ (ms : List ℕ). length ms) one_on ∙ length_push (actives 0 r.finds) i ∙ ap (λ (n : ℕ). n + 1) r.many;
@@ -406,14 +359,9 @@ module _ (key0 : SlotKey) (at : BeginsToMark key0) (end : ℕ) (pass0 : Pass) (h
         record {
           finds = r.finds ++ true ∷ [];
           within = omega (arith, less, there, long true);
-          grows = grown;
-          alone = adds_alone;
-          own = adds_own;
+          on = read_on;
           made = made true (is_on some);
           batch = same_batch;
-          used = same_used;
-          active = same_active;
-          life = same_life;
           stands = (
             goes_on true (is_on some) ∙ ap after_test (not_short (length (actives 0 r.finds)) (length batch) (omega (arith, r.many, all))),
             ap (λ (ms : List ℕ). length ms) one_on ∙ length_push (actives 0 r.finds) i ∙ (let more : length (actives 0 r.finds) + 1 ≡ suc (length batch) = omega (arith, r.many, all) in more),
@@ -424,19 +372,14 @@ module _ (key0 : SlotKey) (at : BeginsToMark key0) (end : ℕ) (pass0 : Pass) (h
         not_short a b e = grind arith
 
 -- All heads were read.
-pub all_read : {key0 : SlotKey} (at : BeginsToMark key0) (end : ℕ) (pass0 : Pass) (held : Keys) (i k : ℕ) (key : SlotKey) (pass : Pass) (round : Round) → IsReading at end pass0 held i k key pass round → i ≡ end → at.note ≤ end
+pub all_read : {key0 : SlotKey} {at : BeginsToMark key0} {end : ℕ} {pass0 : Pass} {held : Keys} {i k : ℕ} {key : SlotKey} {pass : Pass} {round : Round} → IsReading at end pass0 held i k key pass round → i ≡ end → at.note ≤ end
     → EndsMarks at pass0 key pass (slot_marks_of (all_in round)) (Ready k)
-all_read {key0} at end pass0 held i k key pass round r all le = record {
+all_read {key0} {at} {i} {k} {round} r all le = record {
   finds = r.finds;
   within = let there = r.there in let read = r.read in omega (arith, all, there, read);
-  grows = r.grows;
-  alone = r.alone;
-  own = r.own;
+  on = r.on;
   made = r.made;
   batch = r.batch;
-  used = r.used;
-  active = r.active;
-  life = r.life;
   stands = (
     ap (λ (o : Option Call). unwrap_or (of_call can_detach_at o) false) r.stands ∙ is_le at.note i (omega (arith, all, le)),
     r.stands ∙ ap (λ (n : ℕ). Some (record { place = Mark n at.note (actives 0 r.finds); queue = at.queue })) (sym r.read),
@@ -457,15 +400,10 @@ ends_before {key0} at pass0 pass1 key pass marks ends looks e =
     record {
       finds = e.finds;
       within = e.within;
-      grows = prefix_trans pass0.seen pass1.seen pass.seen looks.grows e.grows;
-      alone = alone_twice pass0 pass1 pass looks.same (alone_looked pass0 pass1 looks) e.alone;
-      own = own_twice key0 key0 key pass0 pass1 looks.same (own_none key0 pass0 key0 refl) e.own;
+      on = onward_twice key0 key0 key pass0 pass1 pass (onward_looked key0 pass0 pass1 looks) e.on;
       made = e.made ∙ ap (λ (log : List (Deed × Answer)). log ++ readings pass1 (slot_number key0) 0 e.finds) (ap events_in looks.none_made)
           ∙ ap (λ (log : List (Deed × Answer)). events_by pass0 ++ log) (same_readings (slot_number key0) 0 e.finds);
       batch = e.batch;
-      used = e.used;
-      active = e.active;
-      life = e.life;
       stands = e.stands;
     }
   where
@@ -482,11 +420,3 @@ note_seen_then key at pass pass' book knows looks =
     let here = sym looks.same.0 in
     note_seen key pass' 0 at.note [] at.queue (book ∙ here) (prefix_trans (own_list key) pass.seen pass'.seen knows looks.grows) (subst (λ (n : Name). IsLegalList (start n) pass'.seen) here looks.legal)
     (subst (λ (n : Name). are_distinct (linked_values n.links) ≡ true) here looks.distinct) at.marking
-
--- and has seen what the slot's key knows
-pub knows_looked : (key : SlotKey) (pass pass' : Pass) → IsPrefix (own_list key) pass.seen → LooksOn pass pass' → Knows key pass'
-knows_looked key pass pass' knows looks = record {
-  seen = prefix_trans (own_list key) pass.seen pass'.seen knows looks.grows;
-  legal = subst (λ (n : Name). IsLegalList (start n) pass'.seen) (sym looks.same.0) looks.legal;
-  distinct = subst (λ (n : Name). are_distinct (linked_values n.links) ≡ true) (sym looks.same.0) looks.distinct;
-}

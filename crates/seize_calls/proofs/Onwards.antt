@@ -1,6 +1,6 @@
 -- What stays over the parts of a call.
 use Rattle.std.proofs.Common.{◌≡◌, ℕ, ◌<◌, ◌≤◌, Bool, true, false, if◌then◌else◌, nat_le, List, [], ◌∷◌, ◌++◌, Option, Some, is_some, length, max, refl, sym, ap, subst, ◌∙◌, append-nil, inl, inr, ◌⊎◌, arith}
-use base.Growing.{prefix_trans}
+use Rattle.std.proofs.lemmas.List.{length_push}
 use Rattle.seize_machine.specs.Machine.State.{Append, Call, Mark, Place, Rest}
 use Rattle.seize_machine.specs.Machine.Event.{Put}
 use Rattle.seize_machine.specs.Machine.Next.{of_call}
@@ -13,33 +13,14 @@ use Rattle.seize_book.specs.declared.book.pass.Pass.{Pass}
 use Rattle.seize_book.specs.declared.book.slot_key.SlotKey.{SlotKey}
 use Rattle.seize_book.specs.declared.book.value_keys.ValueKeys.{ValueKeys}
 use Rattle.seize_book.specs.Kept.{AreTold, IsTold}
-use Rattle.seize_book.proofs.Facts.{same_twice}
 use Rattle.seize_words.proofs.Facts.{all_told_later, pushed_told, told_later}
-use Rattle.seize_words.specs.Walks.{Knows}
+use Rattle.seize_calls.specs.Alone.{Onward}
 use Rattle.seize_calls.specs.Batches.{IsPushed}
-use Rattle.seize_calls.specs.Inserts.{Continues}
-use Rattle.seize_calls.specs.Settling.{CallState, Drains, DrainsOne, HasQueue, IsToMark, IsWellFormed, MayPut, Onward, PutsValue, Settles, Stays}
-use Rattle.seize_calls.proofs.Alone.{alone_none, alone_twice, own_none, own_twice}
+use Rattle.seize_calls.specs.Settling.{CallState, DrainsOne, HasQueue, IsToMark, MarksFrom, MayPut, PutsValue, Settles, Stays}
+use Rattle.seize_calls.proofs.Alone.{onward_none, onward_twice}
 use Rattle.seize_calls.proofs.Events.{call_put, put_st, puts_so}
 use Rattle.seize_calls.proofs.Handed.{queues_none}
-
-abbrev pub onward_none : (key : SlotKey) (pass : Pass) → Onward key pass key pass
-onward_none key pass = record { same = (refl, refl, refl); its = (refl, refl); used = refl; active = refl; life = refl; grows = ([], append-nil pass.seen); alone = alone_none pass; own = own_none key pass key refl }
-
-pub onward_twice : (key one two : SlotKey) (pass pass1 pass2 : Pass) → Onward key pass one pass1 → Onward one pass1 two pass2 → Onward key pass two pass2
-onward_twice key one two pass pass1 pass2 first second = record {
-  same = same_twice pass pass1 pass2 first.same second.same;
-  its = (second.its.0 ∙ first.its.0, second.its.1 ∙ first.its.1);
-  used = second.used ∙ first.used;
-  active = second.active ∙ first.active;
-  life = second.life ∙ first.life;
-  grows = prefix_trans pass.seen pass1.seen pass2.seen first.grows second.grows;
-  alone = alone_twice pass pass1 pass2 first.same first.alone second.alone;
-  own = own_twice key one two pass pass1 first.same first.own second.own;
-}
-
-pub keeps_onward : (key key' : SlotKey) (pass pass' : Pass) → Continues key pass key' pass' → Onward key pass key' pass'
-keeps_onward key key' pass pass' keeps = record { same = keeps.same; its = keeps.its; used = keeps.used; active = keeps.active; life = keeps.life; grows = keeps.grows; alone = keeps.alone; own = keeps.own }
+use Rattle.seize_calls.proofs.Holders.{HasKeys}
 
 pub settles_on : (least : ℕ) (a b : CallState) (retired : Bool) → Settles least a b retired → Onward a.key a.pass b.key b.pass
 settles_on least a b false stays = stays.on
@@ -86,12 +67,6 @@ only_stays least a few rests = record {
   had_none = refl;
 }
 
--- with an empty queue there are no rounds
-pub no_rounds : (a b : CallState) → Drains a b → values_of a.queue ≡ [] → b ≡ a
-no_rounds a _ Drains.over none = refl
-no_rounds a _ (Drains.goes_on b c queue v kept retired drains takes round) none =
-    absurd (let same = no_rounds a b drains none in let e : v ∷ values_of queue ≡ [] = sym takes.1 ∙ ap (λ (x : CallState). values_of x.queue) same ∙ none in cc)
-
 -- A value is put.
 
 pub may_put : (key : SlotKey) (v : ℕ) (queue : ValueKeys) → MayPut key v queue → is_some (puts_next (slot_of key)) ≡ true
@@ -119,7 +94,7 @@ module _ (key key' : SlotKey) (pass pass' : Pass) (v : ℕ) (queue : ValueKeys) 
   many : length batch ≡ length (slot_of key').batch
   many = ap (λ (vs : List ℕ). length vs) (sym is_put.batch)
 
-  pub put_marks : pass.size ≤ length (slot_of key').batch → 1 ≤ length (slot_of key').batch → IsToMark key' queue
+  put_marks : pass.size ≤ length (slot_of key').batch → 1 ≤ length (slot_of key').batch → IsToMark key' queue
   put_marks full some = (
     record {
       note = slots;
@@ -132,27 +107,28 @@ module _ (key key' : SlotKey) (pass pass' : Pass) (v : ℕ) (queue : ValueKeys) 
       reaches : (size k : ℕ) → size ≤ k → 1 ≤ k → nat_le (max 1 size) k ≡ true
       reaches size k le some = grind arith
 
-  pub put_rests : length (slot_of key').batch < pass.size → HasQueue key' queue
+  put_rests : length (slot_of key').batch < max 1 pass.size → HasQueue key' queue
   put_rests few = stands ∙ ap (λ (b : Bool). Some (record { place = if b then Mark 0 slots [] else Rest [] []; queue = values_of queue })) (short (max 1 pass.size) (length batch) (omega (arith, many, few)))
     where
       short : (a b : ℕ) → b < a → nat_le a b ≡ false
       short a b less = grind arith
 
-pub put_sits : (a b : CallState) (v kept : ℕ) → PutsValue a.key a.pass v b.key b.pass → IsPushed a.batch v kept b.batch → b.queue ≡ a.queue → IsWellFormed a → Knows b.key b.pass → IsTold a.pass.seen v kept → IsWellFormed b
-put_sits a b v kept puts pushed queue sits knows told = record {
-  its = puts.on.its.0 ∙ (sits.its ∙ sym puts.on.same.0);
-  knows = knows;
-  batch = (
-    pushed.0 ∙ (sits.batch.0 ∙ sym puts.on.same.0),
-    pushed.1 ∙ (ap (λ (vs : List ℕ). vs ++ v ∷ []) sits.batch.1 ∙ sym puts.batch),
+  pub put_from : (size : ℕ) → size ≡ pass.size → MarksFrom size key' queue
+  put_from size is =
+      let grew = length_push (slot_of key).batch v in
+      (λ full. put_marks (omega (arith, full, is)) (omega (arith, many, grew)), λ few. put_rests (subst (λ (k : ℕ). length (slot_of key').batch < max 1 k) is few))
+
+pub put_keys : (a b : CallState) (v kept : ℕ) → PutsValue a.key a.pass v b.key b.pass → IsPushed a.batch v kept b.batch → b.queue ≡ a.queue → HasKeys a → IsTold a.pass.seen v kept → HasKeys b
+put_keys a b v kept puts pushed queue has told = (
+  (
+    pushed.0 ∙ (has.0.0 ∙ sym puts.on.same.0),
+    pushed.1 ∙ (ap (λ (vs : List ℕ). vs ++ v ∷ []) has.0.1 ∙ sym puts.batch),
     (pushed_told b.pass.seen a.batch.keys.held b.batch.keys.held v kept pushed.1 pushed.2
-        (all_told_later a.pass.seen b.pass.seen a.batch.keys.held puts.on.grows sits.batch.2) (told_later a.pass.seen b.pass.seen v kept puts.on.grows told)),
-  );
-  queue = (
-    ap (λ (keys : ValueKeys). keys.keys.name) queue ∙ (sits.queue.0 ∙ sym puts.on.same.0),
-    subst (λ (keys : ValueKeys). AreTold keys b.pass) (sym queue) (all_told_later a.pass.seen b.pass.seen a.queue.keys.held puts.on.grows sits.queue.1),
-  );
-}
+        (all_told_later a.pass.seen b.pass.seen a.batch.keys.held puts.on.grows has.0.2) (told_later a.pass.seen b.pass.seen v kept puts.on.grows told)),
+  ),
+  ap (λ (keys : ValueKeys). keys.keys.name) queue ∙ (has.1 ∙ sym puts.on.same.0),
+  subst (λ (keys : ValueKeys). AreTold keys b.pass) (sym queue) (all_told_later a.pass.seen b.pass.seen a.queue.keys.held puts.on.grows has.2),
+)
 
 pub below_full : (size many : ℕ) → many < size → many < max 1 size
 below_full size many less = grind arith

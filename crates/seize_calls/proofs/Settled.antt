@@ -1,7 +1,6 @@
 -- Where a call has come to that attempted, and handed what was given up.
 use Rattle.std.proofs.Common.{◌≡◌, ℕ, ◌≤◌, Bool, true, false, if◌then◌else◌, List, [], ◌∷◌, ◌++◌, length, Some, refl, sym, ap, subst, ◌∙◌, append-nil, inr}
 use Rattle.std.proofs.lemmas.Bool.{false≢true}
-use base.Growing.{prefix_trans}
 use Rattle.seize_machine.specs.Machine.State.{Rest}
 use Rattle.seize_machine.specs.Machine.Event.{AddCount, Detach}
 use Rattle.seize_machine.specs.Machine.History.{first_or_none}
@@ -12,16 +11,15 @@ use Rattle.seize_book.specs.Adding.{private}
 use Rattle.seize_book.specs.Book.{after}
 use Rattle.seize_book.specs.Entry.{Deed, Entry as Logged}
 use Rattle.seize_book.specs.Ledger.{HeldKey, with_list}
-use Rattle.seize_book.specs.Passes.{IsSamePass, events_by}
+use Rattle.seize_book.specs.Passes.{events_by}
 use Rattle.seize_book.specs.Slots.{IsKeyOfBook, own_list, slot_number, slot_of, start_of}
 use Rattle.seize_book.specs.Tokens.{Name}
-use Rattle.seize_book.specs.Values.{values_of}
+use Rattle.seize_book.specs.Values.{IsEmpty, values_of}
 use Rattle.seize_words.specs.Walks.{Knows}
 use Rattle.seize_book.specs.Private.{labels_of}
 use Rattle.seize_book.specs.declared.book.pass.Pass.{Pass}
 use Rattle.seize_book.specs.declared.book.slot_key.SlotKey.{SlotKey}
 use Rattle.seize_book.specs.declared.book.value_keys.ValueKeys.{ValueKeys}
-use Rattle.seize_book.proofs.Facts.{same_twice}
 use Rattle.seize_words.proofs.Facts.{alike_told, all_of_told, all_told_grow, all_told_later, all_told_renewed, own_reached}
 use Rattle.seize_calls.specs.Attempts.{Retires}
 use Rattle.seize_book.specs.Kept.{AllTold, AreTold, AreToldIn, kepts_of}
@@ -29,14 +27,15 @@ use Rattle.seize_calls.specs.Batches.{AreRemarked}
 use Rattle.seize_calls.specs.Handing.{Had, HasHad, values_handed, values_put}
 use Rattle.seize_calls.specs.Inserts.{all_insert_events}
 use Rattle.seize_calls.specs.Marks.{BeginsToMark, EndsMarks, actives, readings}
-use Rattle.seize_calls.specs.Settling.{CallState, HasBatch, IsToMark, IsWellFormed, RetiresBatch, Stays, done_event}
+use Rattle.seize_calls.specs.Settling.{CallState, HasBatch, IsToMark, RetiresBatch, Stays, done_event}
 use Rattle.seize_calls.specs.Walking.{HandsAll, IsGiven, hands}
 use Rattle.seize_calls.specs.Numbered.{starts_at}
 use Rattle.seize_calls.specs.declared.marking.MarkOutcome.TheVariants.{TooMany}
-use Rattle.seize_calls.proofs.Alone.{alone_twice, own_twice}
 use Rattle.seize_calls.proofs.Attempts.{first_block}
 use Rattle.seize_calls.proofs.Batches.{kepts, remarked_kepts, remarked_labels, renewed_kepts, renewed_labels}
 use Rattle.seize_calls.proofs.Handed.{had_none, queues_none}
+use Rattle.seize_calls.proofs.Holders.{HasKeys}
+use Rattle.seize_calls.proofs.Alone.{onward_twice}
 use Rattle.seize_calls.proofs.Strolls.{same_hands}
 
 module _ (a : CallState) (m : IsToMark a.key a.queue) where
@@ -53,10 +52,10 @@ module _ (a : CallState) (m : IsToMark a.key a.queue) where
   has_values book knows = marking_full (after (start_of a.key) (own_list a.key)) s 0 at.note [] at.queue (own_reached a.key a.pass book knows) at.marking
 
   -- the batch stays
-  pub has_stayed : (key1 : SlotKey) (pass1 : Pass) → IsSamePass a.pass pass1 → (key1.keys.name ≡ a.key.keys.name) × (slot_number key1 ≡ s) → EndsMarks at a.pass key1 pass1 [] TooMany → (values1 : ValueKeys) → AreRemarked a.batch values1
+  pub has_stayed : (key1 : SlotKey) (pass1 : Pass) → EndsMarks at a.pass key1 pass1 [] TooMany → (values1 : ValueKeys) → AreRemarked a.batch values1
       → Stays 0 a (record { key = key1; pass = pass1; batch = values1; queue = a.queue; had = a.had })
-  has_stayed key1 pass1 same its ends values1 remarked = record {
-    on = record { same = same; its = its; used = ends.used; active = ends.active; life = ends.life; grows = ends.grows; alone = ends.alone; own = ends.own };
+  has_stayed key1 pass1 ends values1 remarked = record {
+    on = ends.on;
     batch = ends.batch;
     rests = ends.stands.0 ∙ ap (λ (q : List ℕ). Some (record { place = Rest [] []; queue = q })) m.1;
     finds = ends.finds;
@@ -68,7 +67,7 @@ module _ (a : CallState) (m : IsToMark a.key a.queue) where
   }
 
   -- or it was retired
-  module _ (key1 : SlotKey) (pass1 : Pass) (values1 : ValueKeys) (zero : Bool) (same : IsSamePass a.pass pass1) (its : (key1.keys.name ≡ a.key.keys.name) × (slot_number key1 ≡ s)) (r : Retires at a.pass a.batch key1 pass1 values1 zero) where
+  module _ (key1 : SlotKey) (pass1 : Pass) (values1 : ValueKeys) (zero : Bool) (r : Retires at a.pass a.batch key1 pass1 values1 zero) where
     abbrev before : List (Deed × Answer)
     before = (((events_by a.pass ++ readings a.pass s 0 r.finds) ++ done_event a.pass (Detach s)) ++ all_insert_events a.pass s (actives 0 r.finds) r.turns) ++ (private a.pass (AddCount s), Count r.count) ∷ []
 
@@ -76,7 +75,7 @@ module _ (a : CallState) (m : IsToMark a.key a.queue) where
     pub has_waited : zero ≡ false → RetiresBatch a (record { key = key1; pass = pass1; batch = values1; queue = a.queue; had = a.had })
     has_waited off = let none = sym r.is_count ∙ off in
         record {
-          on = record { same = same; its = its; used = r.used; active = r.active; life = r.life; grows = r.grows; alone = r.alone; own = r.own };
+          on = r.on;
           batch = r.batch;
           rests =
               r.stands ∙ ap (λ (z : Bool). Some (record { place = Rest (if z then batch else []) []; queue = at.queue })) off
@@ -113,10 +112,10 @@ module _ (a : CallState) (m : IsToMark a.key a.queue) where
       pub still_told : AreTold values1 pass1
       still_told =
           let held = r.marked.keys.held in
-          subst (λ (t : Name × List (HeldKey Logged)). AreToldIn pass1.seen t.1) (λ j. ((its_batch.0 ∙ sym same.0 ∙ sym r.keys.0) j, sym kept_keys j))
+          subst (λ (t : Name × List (HeldKey Logged)). AreToldIn pass1.seen t.1) (λ j. ((its_batch.0 ∙ sym r.on.same.0 ∙ sym r.keys.0) j, sym kept_keys j))
           (all_told_renewed pass1.seen held pass1.seen
           (alike_told pass1.seen a.batch.keys.held held (sym (remarked_labels held a.batch.keys.held r.remarked.1)) (sym (remarked_kepts held a.batch.keys.held r.remarked.1))
-          (all_told_later a.pass.seen pass1.seen a.batch.keys.held r.grows its_batch.2)))
+          (all_told_later a.pass.seen pass1.seen a.batch.keys.held r.on.grows its_batch.2)))
 
       abbrev pub given_now : IsGiven key1 pass1 values1 front
       given_now =
@@ -135,21 +134,12 @@ module _ (a : CallState) (m : IsToMark a.key a.queue) where
             told = still_told;
           }
 
-      pub has_handed : (key2 : SlotKey) (pass2 : Pass) (values2 queue2 : ValueKeys) (had2 : Had) → (all_of : HandsAll given_now a.queue key2 pass2 values2 queue2) → HasHad all_of.handed (kepts_of values1) a.had had2
-          → RetiresBatch a (record { key = key2; pass = pass2; batch = values2; queue = queue2; had = had2 })
-      has_handed key2 pass2 values2 queue2 had2 handed theirs =
+      pub has_handed : (key2 : SlotKey) (pass2 : Pass) (batch2 values2 queue2 : ValueKeys) (had2 : Had) → IsEmpty batch2 pass1 → (all_of : HandsAll given_now a.queue key2 pass2 values2 queue2) → HasHad all_of.handed (kepts_of values1) a.had had2
+          → RetiresBatch a (record { key = key2; pass = pass2; batch = batch2; queue = queue2; had = had2 })
+      has_handed key2 pass2 batch2 values2 queue2 had2 empty handed theirs =
           let keeps = handed.goes_on.0 in let all = sym r.is_count ∙ on in
           record {
-            on = record {
-              same = same_twice a.pass pass1 pass2 same keeps.same;
-              its = (keeps.its.0 ∙ its.0, keeps.its.1 ∙ its.1);
-              used = keeps.used ∙ r.used;
-              active = keeps.active ∙ r.active;
-              life = keeps.life ∙ r.life;
-              grows = prefix_trans a.pass.seen pass1.seen pass2.seen r.grows keeps.grows;
-              alone = alone_twice a.pass pass1 pass2 same r.alone keeps.alone;
-              own = own_twice a.key key1 key2 a.pass pass1 same r.own keeps.own;
-            };
+            on = onward_twice a.key key1 key2 a.pass pass1 pass2 r.on keeps.on;
             batch = keeps.batch ∙ r.batch;
             rests = handed.walks_on ∙ ap (λ (q : List ℕ). Some (record { place = Rest [] []; queue = q })) (ap (λ (q : List ℕ). q ++ values_put handed.handed) m.1 ∙ sym handed.queued.1);
             finds = r.finds;
@@ -160,43 +150,30 @@ module _ (a : CallState) (m : IsToMark a.key a.queue) where
             under_guard = λ active. absurd (false≢true (sym (r.under_guard active) ∙ on));
             which = handed.which ∙ (same_values ∙ ap (λ (z : Bool). if z then batch else []) (sym all));
             made = handed.made ∙ ap (λ (log : List (Deed × Answer)). log ++ hands pass1 (slot_number key1) handed.handed) r.made
-                ∙ ap (λ (log : List (Deed × Answer)). before ++ log) (same_hands a.pass pass1 same (slot_number key1) handed.handed ∙ ap (λ (k : ℕ). hands a.pass k handed.handed) its.1);
-            none = handed.none;
+                ∙ ap (λ (log : List (Deed × Answer)). before ++ log) (same_hands a.pass pass1 r.on.same (slot_number key1) handed.handed ∙ ap (λ (k : ℕ). hands a.pass k handed.handed) r.on.its.1);
+            none = (empty.0 ∙ sym keeps.on.same.0, empty.1);
             queued = handed.queued;
             told = subst (λ (ks : List ℕ). AllTold pass2.seen (values_handed handed.handed) ks) (same_kepts ∙ ap (λ (z : Bool). if z then kepts_of a.batch else []) (sym all))
                 (subst (λ (vs : List ℕ). AllTold pass2.seen vs (kepts_of values1)) (sym handed.which)
-                (all_told_grow pass1.seen pass2.seen (values_of values1) (kepts_of values1) keeps.grows
+                (all_told_grow pass1.seen pass2.seen (values_of values1) (kepts_of values1) keeps.on.grows
                 (all_of_told pass1.seen values1.keys.held still_told)));
             has_had = subst (λ (ks : List ℕ). HasHad handed.handed ks a.had had2) (same_kepts ∙ ap (λ (z : Bool). if z then kepts_of a.batch else []) (sym all)) theirs;
           }
 
--- What the call's holder has then is as it was.
+-- The keys that the call's holder has then.
 
-pub stays_sits : (a b : CallState) → Stays 0 a b → IsWellFormed a → Knows b.key b.pass → IsWellFormed b
-stays_sits a b stays sits knows = record {
-  its = stays.on.its.0 ∙ (sits.its ∙ sym stays.on.same.0);
-  knows = knows;
-  batch = (
-    stays.keys.0 ∙ (sits.batch.0 ∙ sym stays.on.same.0),
-    remarked_labels b.batch.keys.held a.batch.keys.held stays.keys.1 ∙ (sits.batch.1 ∙ sym stays.batch),
+pub stays_keys : (a b : CallState) → Stays 0 a b → HasKeys a → HasKeys b
+stays_keys a b stays has = (
+  (
+    stays.keys.0 ∙ (has.0.0 ∙ sym stays.on.same.0),
+    remarked_labels b.batch.keys.held a.batch.keys.held stays.keys.1 ∙ (has.0.1 ∙ sym stays.batch),
     (alike_told b.pass.seen a.batch.keys.held b.batch.keys.held (sym (remarked_labels b.batch.keys.held a.batch.keys.held stays.keys.1)) (sym (remarked_kepts b.batch.keys.held a.batch.keys.held stays.keys.1))
-        (all_told_later a.pass.seen b.pass.seen a.batch.keys.held stays.on.grows sits.batch.2)),
-  );
-  queue = (
-    stays.queued.0 ∙ (sits.queue.0 ∙ sym stays.on.same.0),
-    (alike_told b.pass.seen a.queue.keys.held b.queue.keys.held (sym (stays.queued.1 ∙ append-nil (values_of a.queue))) (sym (stays.queued.2 ∙ append-nil (kepts_of a.queue)))
-        (all_told_later a.pass.seen b.pass.seen a.queue.keys.held stays.on.grows sits.queue.1)),
-  );
-}
+        (all_told_later a.pass.seen b.pass.seen a.batch.keys.held stays.on.grows has.0.2)),
+  ),
+  stays.queued.0 ∙ (has.1 ∙ sym stays.on.same.0),
+  (alike_told b.pass.seen a.queue.keys.held b.queue.keys.held (sym (stays.queued.1 ∙ append-nil (values_of a.queue))) (sym (stays.queued.2 ∙ append-nil (kepts_of a.queue)))
+      (all_told_later a.pass.seen b.pass.seen a.queue.keys.held stays.on.grows has.2)),
+)
 
-pub goes_sits : (a b : CallState) → RetiresBatch a b → IsWellFormed a → Knows b.key b.pass → AreTold b.queue b.pass → IsWellFormed b
-goes_sits a b went sits knows told = record {
-  its = went.on.its.0 ∙ (sits.its ∙ sym went.on.same.0);
-  knows = knows;
-  batch = (
-    went.none.0,
-    ap labels_of went.none.1 ∙ sym went.batch,
-    subst (λ (held : List (HeldKey Logged)). AreToldIn b.pass.seen held) (sym went.none.1) tt,
-  );
-  queue = (went.queued.0 ∙ (sits.queue.0 ∙ sym went.on.same.0), told);
-}
+pub none_kept : (key : SlotKey) (pass : Pass) (values : ValueKeys) → IsEmpty values pass → (slot_of key).batch ≡ [] → HasBatch key pass values
+none_kept key pass values empty none = (empty.0, ap labels_of empty.1 ∙ sym none, subst (λ (held : List (HeldKey Logged)). AreToldIn pass.seen held) (sym empty.1) tt)

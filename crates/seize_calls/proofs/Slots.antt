@@ -1,5 +1,5 @@
 -- What a pass knows of a slot that learned what the slot had seen, and what the slot's parts have to do with one another after a call.
-use Rattle.std.proofs.Common.{◌≡◌, ℕ, ◌<◌, ◌≤◌, true, false, ◌&&◌, List, [], ◌∷◌, length, not, is_some, None, Some, inl, inr, refl, sym, ap, subst, ◌∙◌, arith}
+use Rattle.std.proofs.Common.{◌≡◌, ℕ, ◌<◌, ◌≤◌, true, false, ◌&&◌, List, [], ◌∷◌, length, append-nil, not, is_some, None, Some, inl, inr, sym, ap, subst, ◌∙◌, arith}
 use base.Growing.{prefix_refl, prefix_trans}
 use mathlib.Core.List.{IsPrefix}
 use Rattle.seize_machine.proofs.Facts.{Step, next_of}
@@ -10,7 +10,6 @@ use Rattle.seize_machine.specs.Machine.State.{Active as Entered}
 use Rattle.seize_machine.specs.declared.machine.event.Answer.{Answer}
 use Rattle.seize_machine.specs.declared.machine.event.Answer.TheVariants.{Done}
 use Rattle.seize_store.specs.Named.{AreOfStore}
-use Rattle.seize_store.specs.declared.spot.Spots.{Spots}
 use Rattle.seize_table.specs.Place.{all_numbers}
 use Rattle.seize_book.specs.Adding.{private}
 use Rattle.seize_book.specs.Book.{IsLegalList, after}
@@ -20,7 +19,7 @@ use Rattle.seize_book.specs.Kept.{AreTold}
 use Rattle.seize_book.specs.Others.{MayTakeNumber, first_false, use_flags}
 use Rattle.seize_book.specs.Passes.{Longer, LooksOn}
 use Rattle.seize_book.specs.Laws.{life}
-use Rattle.seize_book.specs.Slots.{AddsDeed, AddsEvent, Moves, active_of, life_of, own_list, slot_number, slot_of, start_of}
+use Rattle.seize_book.specs.Slots.{AddsDeed, AddsEvent, LooksWithSlotKey, Moves, active_of, life_of, own_list, slot_number, slot_of, start_of}
 use Rattle.seize_book.specs.Tokens.{Name, start}
 use Rattle.seize_book.specs.declared.book.numbers_key.NumbersKey.{NumbersKey}
 use Rattle.seize_book.specs.declared.book.pass.Pass.{Pass}
@@ -30,17 +29,16 @@ use Rattle.seize_words.specs.Joined.{IsHolder, IsInAt}
 use Rattle.seize_words.specs.Reservations.{IsActivationOf, IsLastOf, beginning}
 use Rattle.seize_words.specs.Walks.{Knows}
 use Rattle.seize_words.specs.declared.activation.Activation.{Activation}
-use Rattle.seize_words.specs.declared.chunk.Header.{Header}
-use Rattle.seize_words.specs.declared.chunk.Part.{Part}
+use Rattle.seize_words.specs.declared.words.Words.{Words}
 use Rattle.seize_book.proofs.Facts.{legal_prefix, same_twice}
 use Rattle.seize_words.proofs.Facts.{all_told_later, knows_noted, may_take_by, more_slots, moved, seen_grows}
 use Rattle.seize_calls.proofs.Keeps.{state_before}
 use Rattle.seize_calls.specs.Batches.{keys_in}
 use Rattle.seize_calls.specs.Calls.{HasBegun, Rests}
 use Rattle.seize_calls.specs.Settling.{HasBatch}
-use Rattle.seize_calls.specs.Slots.{HasActivation, InActivation, IsInUse, IsInactive, KeepsActivation, Prepares}
-use Rattle.seize_calls.specs.Together.{BelongTogether, what_saw}
-use Rattle.seize_calls.specs.declared.batch.Batch.{Batch}
+use Rattle.seize_calls.specs.Slots.{CallsWith, HasActivation, IsInUse, IsInactive, IsOfList, IsOfWords, IsPassFor, KeepsActivation, Prepares}
+use Rattle.seize_calls.specs.Together.{BelongTogether, IsHolderFor, what_saw}
+use Rattle.seize_calls.specs.declared.holder.Holder.{Holder}
 use Rattle.seize_calls.specs.declared.slot.Slot.{Slot}
 
 pub longer_right : (a b c : List Entry) → Longer a b c → IsPrefix b c
@@ -51,13 +49,22 @@ pub longer_left : (a b c : List Entry) → Longer a b c → IsPrefix a c
 longer_left a b c (inl t) = subst (IsPrefix a) (sym t.1) t.0
 longer_left a b c (inr t) = subst (IsPrefix a) (sym t.1) (prefix_refl a)
 
+-- what has begun has begun for each pass that has seen no less
+pub begun_later : (a : Activation) (pass pass' : Pass) → pass'.name ≡ pass.name → IsPrefix pass.seen pass'.seen → HasBegun a pass → HasBegun a pass'
+begun_later a pass pass' same grows begun = record {
+  book = begun.book ∙ sym same;
+  active = begun.active;
+  its = begun.its;
+  known = prefix_trans a.since pass.seen pass'.seen begun.known grows;
+}
+
 -- there are no fewer slots in a longer list
 slots_of : (n m : Name) (seen seen' : List Entry) → m ≡ n → IsPrefix seen seen' → IsLegalList (start m) seen' → length (after (start n) seen).slots ≤ length (after (start m) seen').slots
 slots_of n m seen seen' same grows legal =
     subst (λ (z : Name). length (after (start z) seen).slots ≤ length (after (start m) seen').slots) same (more_slots m seen seen' grows legal)
 
 -- a slot in use has no call under way
-pub idle_in : {T : Type 0} (s : Slot T) → IsInUse s → is_idle (slot_of s.key) ≡ true
+pub idle_in : {T : Type 0} (s : Slot T) → IsInUse s → is_idle (slot_of s.holder.key) ≡ true
 idle_in s used = λ j. used j && not (is_some (s.together.call j))
 
 knows_as : (key : SlotKey) (pass : Pass) (seen : Seen) → seen.name ≡ pass.name → seen.seen ≡ pass.seen → Knows key pass → Knows key (what_saw seen)
@@ -88,40 +95,82 @@ ready_looked seen p q ready looks = record {
 }
 
 module _ {T : Type 0} (s : Slot T) (p : Pass) (ready : Ready s.seen p) where
-  pub holder : IsHolder s.key p s.number
+  pub holder : IsHolder s.holder.key p s.number
   holder =
       let there = s.together.there in let more = slots_of s.seen.name p.name s.seen.seen p.seen (sym ready.named) ready.grows ready.legal in
       (s.together.book ∙ ready.named, s.together.numbered, omega (arith, there, more))
 
-  pub batch_at : AreTold (keys_in s.batch) (what_saw s.seen) → HasBatch s.key p (keys_in s.batch)
-  batch_at told = (s.together.batch_is.0 ∙ ready.named, s.together.batch_is.1, all_told_later s.seen.seen p.seen (keys_in s.batch).keys.held ready.grows told)
+-- so the slot's holder may make calls with the pass
+pub holds_ready : {T : Type 0} (words : Words T) (s : Slot T) (pass p : Pass) → IsOfWords words s → IsPassFor words pass → Learns pass s.seen p → IsHolderFor words s.holder p
+holds_ready words s pass p of for learns =
+    let ready = ready_learned s.seen pass p (of.book ∙ for.0) learns in
+    record {
+      keyed = record {
+        of = (for.0 ∙ sym learns.0.0, for.1 ∙ sym learns.0.2);
+        its = (holder s p ready).0;
+        knows = record {
+          seen = prefix_trans (own_list s.holder.key) s.seen.seen p.seen of.knows.seen ready.grows;
+          legal = ready.legal;
+          distinct = ap (λ (n : Name). are_distinct (linked_values n.links)) (sym ready.named) ∙ of.knows.distinct;
+        };
+      };
+      batch = (s.together.batch_is.0 ∙ ready.named, s.together.batch_is.1, all_told_later s.seen.seen p.seen (keys_in s.holder.batch).keys.held ready.grows of.told);
+      spots = subst (λ (n : Name). AreOfStore s.holder.spots n.store) of.book s.together.spots_in;
+    }
 
-  -- after a call, which leaves no call under way
-  module _ (key' : SlotKey) (pass' : Pass) (batch' : Batch) (spots' : Spots Header Part T) (seen' : Seen) (rests : Rests s.key p key' pass' (keys_in batch')) (knows : Knows key' pass')
-      (same : seen'.name ≡ s.seen.name) (saw : seen'.seen ≡ pass'.seen) where
-    named' : seen'.name ≡ pass'.name
-    named' = same ∙ ready.named ∙ sym rests.same.0
+-- what the slot's holder has after a call, which leaves no call under way
+pub record IsAfter {T : Type 0} (s : Slot T) (p : Pass) (holder' : Holder T) (pass' : Pass) : Type 0 where
+  pub name : pass'.name ≡ p.name
+  pub grows : IsPrefix p.seen pass'.seen
+  pub its : (holder'.key.keys.name ≡ s.holder.key.keys.name) × (slot_number holder'.key ≡ slot_number s.holder.key)
+  pub knows : Knows holder'.key pass'
+  pub call : (slot_of holder'.key).call ≡ None
+  pub batch : HasBatch holder'.key pass' (keys_in holder'.batch)
+  pub spots : AreOfStore holder'.spots s.seen.name.store
 
-    pub together : AreOfStore spots' s.seen.name.store → BelongTogether s.number key' batch' spots' seen'
-    together of_store =
-        let there = holder.2 in let more = slots_of p.name pass'.name p.seen pass'.seen rests.same.0 rests.grows knows.legal in
-        record {
-          book = rests.its.0 ∙ s.together.book ∙ sym same;
-          numbered = rests.its.1 ∙ s.together.numbered;
-          there = subst (λ (t : Name × List Entry). s.number < length (after (start t.0) t.1).slots) (λ j. (sym named' j, sym saw j)) (omega (arith, there, more));
-          call = rests.call;
-          batch_is = (rests.batch.0 ∙ sym named', rests.batch.1);
-          spots_in = subst (λ (n : Name). AreOfStore spots' n.store) (sym same) of_store;
-        }
+module _ {T : Type 0} (s : Slot T) (p : Pass) (ready : Ready s.seen p) (holder' : Holder T) (pass' : Pass) (is : IsAfter s p holder' pass') where
+  pub together : (seen' : Seen) → seen'.name ≡ s.seen.name → seen'.seen ≡ pass'.seen → BelongTogether s.number holder' seen'
+  together seen' same saw =
+      let there = (holder s p ready).2 in let more = slots_of p.name pass'.name p.seen pass'.seen is.name is.grows is.knows.legal in let named : seen'.name ≡ pass'.name = same ∙ ready.named ∙ sym is.name in
+      record {
+        book = is.its.0 ∙ s.together.book ∙ sym same;
+        numbered = is.its.1 ∙ s.together.numbered;
+        there = subst (λ (t : Name × List Entry). s.number < length (after (start t.0) t.1).slots) (λ j. (sym named j, sym saw j)) (omega (arith, there, more));
+        call = is.call;
+        batch_is = (is.batch.0 ∙ sym named, is.batch.1);
+        spots_in = subst (λ (n : Name). AreOfStore holder'.spots n.store) (sym same) is.spots;
+      }
 
-    pub told_in : AreTold (keys_in batch') (what_saw seen')
-    told_in = subst (λ (log : List Entry). AreTold (keys_in batch') (record (what_saw seen') { seen = log })) (sym saw) rests.batch.2
+  module _ (slot' : Slot T) (its : slot'.holder ≡ holder') (same : slot'.seen.name ≡ s.seen.name) (saw : slot'.seen.seen ≡ pass'.seen) where
+    pub of_list : (n : Name) → IsOfList n s → IsOfList n slot'
+    of_list n of = record {
+      book = same ∙ of.book;
+      knows = subst (λ (h : Holder T). Knows h.key (what_saw slot'.seen)) (sym its) (knows_as holder'.key pass' slot'.seen (same ∙ ready.named ∙ sym is.name) saw is.knows);
+      told = subst (λ (t : Holder T × List Entry). AreTold (keys_in t.0.batch) (record (what_saw slot'.seen) { seen = t.1 })) (λ j. (sym its j, sym saw j)) is.batch.2;
+    }
 
-    pub knows_in : Knows key' (what_saw seen')
-    knows_in = knows_as key' pass' seen' named' saw knows
+    -- where it keeps the slot active, and its last activation, it keeps the slot in it
+    pub keeps_in : slot'.number ≡ s.number → active_of holder'.key ≡ active_of s.holder.key → life_of holder'.key ≡ life_of s.holder.key → KeepsActivation s slot'
+    keeps_in number active life_ a in_it = record {
+      active = ap (λ (h : Holder T). active_of h.key) its ∙ active ∙ in_it.active;
+      its = (
+        in_it.its.0 ∙ s.together.book ∙ sym same ∙ sym slot'.together.book,
+        in_it.its.1 ∙ s.together.numbered ∙ sym number ∙ sym slot'.together.numbered,
+        in_it.its.2 ∙ sym life_ ∙ sym (ap (λ (h : Holder T). life_of h.key) its),
+      );
+      begun = begun_later a (what_saw s.seen) (what_saw slot'.seen) same (subst (IsPrefix s.seen.seen) (sym saw) (prefix_trans s.seen.seen p.seen pass'.seen ready.grows is.grows)) in_it.begun;
+    }
 
-    pub grows_in : IsPrefix s.seen.seen seen'.seen
-    grows_in = subst (IsPrefix s.seen.seen) (sym saw) (prefix_trans s.seen.seen p.seen pass'.seen ready.grows rests.grows)
+pub after_call : {T : Type 0} (words : Words T) (s : Slot T) (p : Pass) (holder' : Holder T) (pass' : Pass) → IsOfWords words s → Rests s.holder.key p holder'.key pass' (keys_in holder'.batch) → IsHolderFor words holder' pass' → IsAfter s p holder' pass'
+after_call words s p holder' pass' of rests is = record {
+  name = rests.same.0;
+  grows = rests.grows;
+  its = rests.its;
+  knows = is.keyed.knows;
+  call = rests.call;
+  batch = is.batch;
+  spots = subst (λ (n : Name). AreOfStore holder'.spots n.store) (sym of.book) is.spots;
+}
 
 -- Entering leaves the slot's record.
 pub entered_so : (key key' : SlotKey) (log : List Entry) (pass : Pass) (its : ℕ) (later : State) (answer : Answer) → Moves key key' log (beginning pass its (Enter (slot_number key))) later answer → is_idle (slot_of key) ≡ true → active_of key ≡ false → slot_of key' ≡ slot_of key
@@ -130,44 +179,43 @@ entered_so key key' log pass its later answer moves idle off =
     let is : next pass.size st (Enter s) ≡ Some d = next_of pass.size st (Enter s) d (Step.entered s (ap is_idle moves.was ∙ idle) (moves.was_active ∙ off)) in
     moved key key' log (beginning pass its (Enter s)) later answer moves d is ∙ moves.was
 
--- What an event of the slot leaves that makes no call, and leaves its batch: the slot's parts, and what was seen.
-module _ {T : Type 0} (s : Slot T) (p : Pass) (ready : Ready s.seen p) (key' : SlotKey) (pass' : Pass) (d : Deed) (notes : AddsDeed s.key p key' pass' d) (call : (slot_of key').call ≡ None)
-    (batch : (slot_of key').batch ≡ (slot_of s.key).batch) (seen' : Seen) (same : seen'.name ≡ s.seen.name) (saw : seen'.seen ≡ pass'.seen) where
-  goes : IsPrefix p.seen pass'.seen
-  goes = seen_grows p.name p.id p.seen pass'.seen _ notes.2.0
+-- An event of the slot that makes no call leaves its batch, and so does a look at the list.
+module _ {T : Type 0} (s : Slot T) (p : Pass) (ready : Ready s.seen p) (told : AreTold (keys_in s.holder.batch) (what_saw s.seen)) (key' : SlotKey) (pass' : Pass) (call : (slot_of key').call ≡ (slot_of s.holder.key).call) (batch : (slot_of key').batch ≡ (slot_of s.holder.key).batch) where
+  abbrev still : Holder T
+  still = record { key = key'; batch = s.holder.batch; spots = s.holder.spots }
 
-  pub together_still : BelongTogether s.number key' s.batch s.spots seen'
-  together_still =
-      let there = (holder s p ready).2 in let more = slots_of p.name p.name p.seen pass'.seen refl goes notes.2.0.legal in
-      record {
-        book = notes.1.0 ∙ s.together.book ∙ sym same;
-        numbered = notes.1.1 ∙ s.together.numbered;
-        there = subst (λ (t : Name × List Entry). s.number < length (after (start t.0) t.1).slots) (λ j. ((sym ready.named ∙ sym same) j, sym saw j)) (omega (arith, there, more));
-        call = call;
-        batch_is = (s.together.batch_is.0 ∙ sym same, s.together.batch_is.1 ∙ sym batch);
-        spots_in = subst (λ (n : Name). AreOfStore s.spots n.store) (sym same) s.together.spots_in;
-      }
+  still_after : pass'.name ≡ p.name → IsPrefix p.seen pass'.seen → (key'.keys.name ≡ s.holder.key.keys.name) × (slot_number key' ≡ slot_number s.holder.key) → Knows key' pass' → IsAfter s p still pass'
+  still_after name grows its knows = record {
+    name = name;
+    grows = grows;
+    its = its;
+    knows = knows;
+    call = call ∙ s.together.call;
+    batch = (s.together.batch_is.0 ∙ ready.named ∙ sym name, s.together.batch_is.1 ∙ sym batch, all_told_later s.seen.seen pass'.seen (keys_in s.holder.batch).keys.held (prefix_trans s.seen.seen p.seen pass'.seen ready.grows grows) told);
+    spots = s.together.spots_in;
+  }
 
-  pub knows_still : Knows key' (what_saw seen')
-  knows_still = knows_as key' pass' seen' (same ∙ ready.named ∙ sym notes.0.0) saw (knows_noted s.key key' p pass' _ notes)
+  pub after_event : (d : Deed) → AddsDeed s.holder.key p key' pass' d → IsAfter s p still pass'
+  after_event d notes = still_after notes.0.0 (seen_grows p.name p.id p.seen pass'.seen _ notes.2.0) (notes.1.0, notes.1.1) (knows_noted s.holder.key key' p pass' d notes)
 
-  pub told_still : AreTold (keys_in s.batch) (what_saw s.seen) → AreTold (keys_in s.batch) (what_saw seen')
-  told_still told =
-      all_told_later s.seen.seen seen'.seen (keys_in s.batch).keys.held (subst (IsPrefix s.seen.seen) (sym saw) (prefix_trans s.seen.seen p.seen pass'.seen ready.grows goes)) told
+  pub after_look : LooksWithSlotKey s.holder.key p key' pass' → IsAfter s p still pass'
+  after_look looks =
+      still_after looks.on.same.0 looks.on.grows (looks.seen_by.0, looks.seen_by.1)
+      (record { seen = ([], append-nil (own_list key') ∙ looks.seen_by.2); legal = subst (λ (n : Name). IsLegalList (start n) pass'.seen) (sym looks.on.same.0) looks.on.legal; distinct = ap (λ (n : Name). are_distinct (linked_values n.links)) looks.on.same.0 ∙ looks.on.distinct })
 
 module _ {T : Type 0} (s : Slot T) (p : Pass) (key' : SlotKey) (pass' : Pass) where
   -- entering leaves the slot's record
-  pub stays_entered : (a : Activation) → AddsDeed s.key p key' pass' (beginning p a.life (Enter (slot_number s.key))) → IsInUse s → IsInactive s → slot_of key' ≡ slot_of s.key
+  pub stays_entered : (a : Activation) → AddsDeed s.holder.key p key' pass' (beginning p a.life (Enter (slot_number s.holder.key))) → IsInUse s → IsInactive s → slot_of key' ≡ slot_of s.holder.key
   stays_entered a notes used off =
       let n = notes.2.0 in
-      entered_so s.key key' n.before p a.life n.later n.answer notes.2.1 (idle_in s used) off
+      entered_so s.holder.key key' n.before p a.life n.later n.answer notes.2.1 (idle_in s used) off
 
   -- a slot that is there is so before its event
-  pub there_before : Ready s.seen p → (e : Event) → (notes : AddsEvent s.key p key' pass' e) → slot_number s.key < length (state_before s.key key' p pass' e [] notes).slots
+  pub there_before : Ready s.seen p → (e : Event) → (notes : AddsEvent s.holder.key p key' pass' e) → slot_number s.holder.key < length (state_before s.holder.key key' p pass' e [] notes).slots
   there_before ready e notes =
       let n = notes.2.0 in let own = holder s p ready in
       let legal : IsLegalList (start p.name) n.before = legal_prefix (start p.name) n.before pass'.seen (Made (private p e) ∷ [], sym n.appended) n.legal in
-      let more = slots_of p.name s.key.keys.name p.seen n.before own.0 n.grows (subst (λ (m : Name). IsLegalList (start m) n.before) (sym own.0) legal) in
+      let more = slots_of p.name s.holder.key.keys.name p.seen n.before own.0 n.grows (subst (λ (m : Name). IsLegalList (start m) n.before) (sym own.0) legal) in
       omega (arith, own.1, own.2, more)
 
 -- the pass is ready when it has learned of the slot, and when it has looked at the list then
@@ -191,10 +239,17 @@ module _ {T : Type 0} (slot : Slot T) (pass p : Pass) (book : slot.seen.name ≡
   }
 
 -- then it has seen what the slot's key knew
-pub knew_ready : {T : Type 0} (slot : Slot T) (pass ready : Pass) → Prepares slot pass ready → Knows slot.key (what_saw slot.seen) → IsPrefix (own_list slot.key) ready.seen
-knew_ready slot pass ready prepares knows = prefix_trans (own_list slot.key) slot.seen.seen ready.seen knows.seen prepares.grows.1
+pub knew_ready : {T : Type 0} (slot : Slot T) (pass ready : Pass) → Prepares slot pass ready → Knows slot.holder.key (what_saw slot.seen) → IsPrefix (own_list slot.holder.key) ready.seen
+knew_ready slot pass ready prepares knows = prefix_trans (own_list slot.holder.key) slot.seen.seen ready.seen knows.seen prepares.grows.1
 
--- An activation that has begun may step on each link, and has begun for each pass that has seen no less.
+-- so a call was made with it
+pub calls_with : {T : Type 0} (slot : Slot T) (n : Name) (pass p : Pass) → IsOfList n slot → n ≡ pass.name → Learns pass slot.seen p → (slot' : Slot T) (pass' one : Pass) → slot'.number ≡ slot.number
+    → (slot'.seen.name ≡ slot.seen.name) × (slot'.seen.seen ≡ one.seen) × (pass' ≡ one) → (Does : Pass → Pass → Type 0) → Does p one → CallsWith slot pass slot' pass' (λ q. Does q pass')
+calls_with slot n pass p of named learns slot' pass' one number seen Does does =
+    let prepares = learned slot pass p (of.book ∙ named) learns in
+    record { same = (number, seen.0); ready = p; prepares = prepares; knew = knew_ready slot pass p prepares of.knows; does = subst (Does p) (sym seen.2) does; seen = seen.1 ∙ sym (ap (λ (q : Pass). q.seen) seen.2) }
+
+-- An activation that has begun may step on each link.
 pub begun_at : (a : Activation) (pass : Pass) (l : ℕ) → HasBegun a pass → l < length pass.name.links → IsInAt a pass l
 begun_at a pass l begun is = (
   begun.book,
@@ -206,33 +261,12 @@ begun_at a pass l begun is = (
   },
 )
 
-pub begun_later : (a : Activation) (pass pass' : Pass) → pass'.name ≡ pass.name → IsPrefix pass.seen pass'.seen → HasBegun a pass → HasBegun a pass'
-begun_later a pass pass' same grows begun = record {
-  book = begun.book ∙ sym same;
-  active = begun.active;
-  its = begun.its;
-  known = prefix_trans a.since pass.seen pass'.seen begun.known grows;
-}
-
--- so it has begun for a pass that is ready
-pub begun_for : {T : Type 0} (slot : Slot T) (a : Activation) (pass ready : Pass) → slot.seen.name ≡ pass.name → Prepares slot pass ready → InActivation slot a → HasBegun a ready
-begun_for slot a pass ready book prepares is = begun_later a (what_saw slot.seen) ready (prepares.same.0 ∙ sym book) prepares.grows.1 is.begun
-
 -- the slot's last activation, as calls ask for it
-pub last_of : {T : Type 0} (slot : Slot T) (a : Activation) → HasActivation slot a → IsLastOf slot.key a
+pub last_of : {T : Type 0} (slot : Slot T) (a : Activation) → HasActivation slot a → IsLastOf slot.holder.key a
 last_of slot a has = ((has.0.its.0, has.0.its.1, has.1), has.0.its.2)
 
--- a call that keeps the slot active, and its last activation, keeps the slot in it
-pub kept_in : {T : Type 0} (slot slot' : Slot T) → slot'.seen.name ≡ slot.seen.name → slot'.number ≡ slot.number → active_of slot'.key ≡ active_of slot.key → life_of slot'.key ≡ life_of slot.key
-    → IsPrefix slot.seen.seen slot'.seen.seen → KeepsActivation slot slot'
-kept_in slot slot' name number active life_ grows a is = record {
-  active = active ∙ is.active;
-  its = (is.its.0 ∙ slot.together.book ∙ sym name ∙ sym slot'.together.book, is.its.1 ∙ slot.together.numbered ∙ sym number ∙ sym slot'.together.numbered, is.its.2 ∙ sym life_);
-  begun = begun_later a (what_saw slot.seen) (what_saw slot'.seen) name grows is.begun;
-}
-
 -- an activation has begun with what the slot's key knows
-pub begins_in : {T : Type 0} (slot' : Slot T) (a : Activation) → IsActivationOf slot'.key a → own_list slot'.key ≡ slot'.seen.seen → HasActivation slot' a
+pub begins_in : {T : Type 0} (slot' : Slot T) (a : Activation) → IsActivationOf slot'.holder.key a → own_list slot'.holder.key ≡ slot'.seen.seen → HasActivation slot' a
 begins_in slot' a is own = let of_slot = is.of_slot in (
   record {
     active = (λ i. is_active (head_at (after (start (sym of_slot.0 i)) (sym is.since i)) (sym of_slot.1 i))) ∙ is.active;
@@ -247,8 +281,19 @@ begins_in slot' a is own = let of_slot = is.of_slot in (
   of_slot.2,
 )
 
+-- after a refresh it is in its new activation
+pub inside_after : {T : Type 0} (slot' : Slot T) (a : Activation) (pass' : Pass) → active_of slot'.holder.key ≡ true → IsLastOf slot'.holder.key a × HasBegun a pass' → slot'.seen.seen ≡ pass'.seen → HasActivation slot' a
+inside_after slot' a pass' active is saw = let of = is.0.0 in let begun = is.1 in (
+  record {
+    active = active;
+    its = (of.0, of.1, is.0.1);
+    begun = record { book = of.0 ∙ slot'.together.book; active = begun.active; its = begun.its; known = subst (IsPrefix a.since) (sym saw) begun.known };
+  },
+  of.2,
+)
+
 -- which numbers a slot may take again, by which are in use
 pub may_take_slot : {T : Type 0} (numbers : NumbersKey) (slot : Slot T) → slot.number ≡ first_false (use_flags numbers) → slot.number < length (use_flags numbers) → slot.number < all_numbers
-    → MayTakeNumber numbers slot.key
+    → MayTakeNumber numbers slot.holder.key
 may_take_slot numbers slot least below few =
-    let its = slot.together.numbered in may_take_by numbers slot.key (its ∙ least) (subst (λ (k : ℕ). k < length (use_flags numbers)) (sym its) below) (subst (λ (k : ℕ). k < all_numbers) (sym its) few)
+    let its = slot.together.numbered in may_take_by numbers slot.holder.key (its ∙ least) (subst (λ (k : ℕ). k < length (use_flags numbers)) (sym its) below) (subst (λ (k : ℕ). k < all_numbers) (sym its) few)

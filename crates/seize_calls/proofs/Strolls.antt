@@ -139,7 +139,7 @@ none_waited key word at pass queue had one =
       queued = queues_none queue;
     }
 
-module _ (key0 : SlotKey) (word : ℕ) (at : IsAtWalk key0 word) (pass0 : Pass) (queue0 : ValueKeys) (had0 : Had) (key : SlotKey) (pass : Pass) (leads : ℕ) (queue : ValueKeys) (had : Had) (r : IsStrolling at pass0 queue0 had0 key pass leads queue had) (key1 : SlotKey) (pass1 : Pass) (values : ValueKeys) where
+module _ {key0 : SlotKey} {word : ℕ} {at : IsAtWalk key0 word} {pass0 : Pass} {queue0 : ValueKeys} {had0 : Had} {key : SlotKey} {pass : Pass} {leads : ℕ} {queue : ValueKeys} {had : Had} (r : IsStrolling at pass0 queue0 had0 key pass leads queue had) where
   abbrev s : ℕ
   s = slot_number key0
 
@@ -150,33 +150,33 @@ module _ (key0 : SlotKey) (word : ℕ) (at : IsAtWalk key0 word) (pass0 : Pass) 
   goes counts same its = same_countings pass0 pass same (slot_number key) counts ∙ ap (λ (k : ℕ). countings pass0 k counts) its
 
   -- the walk is over
-  pub strolled : WalksTo r.here pass key1 pass1 values Over → WalksAll at pass0 queue0 had0 key1 pass1 queue had
-  strolled w =
+  pub strolled : {key1 : SlotKey} {pass1 : Pass} {values : ValueKeys} → WalksTo r.here pass key1 pass1 values Over → WalksAll at pass0 queue0 had0 key1 pass1 queue had
+  strolled {key1} {pass1} {values} w =
       let ends : EndsWalk r.here w.held pass key1 pass1 values = w.ends_so in
       record {
         goes_on = goes_twice key0 key key1 pass0 pass pass1 r.goes_on w.goes_on;
         walked = r.walked ++ plain w.held;
         kepts = r.kepts;
         has_had = subst (λ (vs : Handings). HasHad vs r.kepts had0 had) (handed_plain r.walked w.held) r.has_had;
-        told = subst (λ (vs : Handings). AllTold pass1.seen (values_handed vs) r.kepts) (handed_plain r.walked w.held) (all_told_grow pass.seen pass1.seen (values_handed (handed_in r.walked)) r.kepts w.goes_on.0.grows r.told);
+        told = subst (λ (vs : Handings). AllTold pass1.seen (values_handed vs) r.kepts) (handed_plain r.walked w.held) (all_told_grow pass.seen pass1.seen (values_handed (handed_in r.walked)) r.kepts w.goes_on.0.on.grows r.told);
         each = length-append r.walked (plain w.held) ∙ ap (λ (n : ℕ). length r.walked + n) (plain_many w.held ∙ ends.each) ∙ r.each;
         made = ends.made ∙ ap (λ (log : List (Deed × Answer)). log ++ countings pass (slot_number key) w.held) r.made
             ∙ append_assoc (events_by pass0) behind (countings pass (slot_number key) w.held)
             ∙ ap (λ (log : List (Deed × Answer)). events_by pass0 ++ log)
-            (ap (λ (log : List (Deed × Answer)). behind ++ log) (goes w.held r.goes_on.0.same r.goes_on.0.its.1 ∙ sym (plain_steps pass0 s w.held)) ∙ sym (steps_append pass0 s r.walked (plain w.held)));
+            (ap (λ (log : List (Deed × Answer)). behind ++ log) (goes w.held r.goes_on.0.on.same r.goes_on.0.on.its.1 ∙ sym (plain_steps pass0 s w.held)) ∙ sym (steps_append pass0 s r.walked (plain w.held)));
         over = ends.over ∙ ap (λ (q : List ℕ). Some (record { place = Rest [] []; queue = q })) (r.same_queue ∙ ap (λ (vs : Handings). at.queue ++ values_put vs) (handed_plain r.walked w.held));
         queued = subst (λ (vs : Handings). Queues queue0 (values_put vs) (words_put vs) queue) (handed_plain r.walked w.held) r.queued;
       }
 
   -- or a batch was given up, and is handed
-  module _ (front rest : ℕ) (w : WalksTo r.here pass key1 pass1 values (GivesUp front rest)) (book : IsKeyOfBook key1 pass1) (knows : Knows key1 pass1) where
+  module _ {key1 : SlotKey} {pass1 : Pass} {values : ValueKeys} {front rest : ℕ} (w : WalksTo r.here pass key1 pass1 values (GivesUp front rest)) (book : IsKeyOfBook key1 pass1) (knows : Knows key1 pass1) where
     abbrev stop : Stops r.here w.held pass key1 pass1 values front rest
     stop = w.ends_so
 
     abbrev pub given_now : IsGiven key1 pass1 values front
     given_now = stop.gives
 
-    module _ (key2 : SlotKey) (pass2 : Pass) (values2 queue2 : ValueKeys) (had2 : Had) (handed : HandsAll given_now queue key2 pass2 values2 queue2) (more : HasHad handed.handed (kepts_of values) had had2) where
+    module _ {key2 : SlotKey} {pass2 : Pass} {values2 queue2 : ValueKeys} {had2 : Had} (handed : HandsAll given_now queue key2 pass2 values2 queue2) (more : HasHad handed.handed (kepts_of values) had had2) where
       pub handed_on : IsStrolling at pass0 queue0 had0 key2 pass2 rest queue2 had2
       handed_on =
           let one = goes_twice key0 key key1 pass0 pass pass1 r.goes_on w.goes_on in let vs = handed.handed in
@@ -189,15 +189,15 @@ module _ (key0 : SlotKey) (word : ℕ) (at : IsAtWalk key0 word) (pass0 : Pass) 
             told = subst (λ (us : Handings). AllTold pass2.seen (values_handed us) (r.kepts ++ kepts_of values)) (handed_last r.walked w.held stop.zero vs)
                 (subst (λ (us : List ℕ). AllTold pass2.seen us (r.kepts ++ kepts_of values)) (sym (handed_append (handed_in r.walked) vs))
                 (all_told_append pass2.seen (values_handed (handed_in r.walked)) r.kepts (values_handed vs) (kepts_of values)
-                (all_told_grow pass.seen pass2.seen (values_handed (handed_in r.walked)) r.kepts (prefix_trans pass.seen pass1.seen pass2.seen w.goes_on.0.grows handed.goes_on.0.grows) r.told)
+                (all_told_grow pass.seen pass2.seen (values_handed (handed_in r.walked)) r.kepts (prefix_trans pass.seen pass1.seen pass2.seen w.goes_on.0.on.grows handed.goes_on.0.on.grows) r.told)
                 (subst (λ (us : List ℕ). AllTold pass2.seen us (kepts_of values)) (sym handed.which)
-                (all_told_grow pass1.seen pass2.seen (values_of values) (kepts_of values) handed.goes_on.0.grows (all_of_told pass1.seen values.keys.held given_now.told)))));
+                (all_told_grow pass1.seen pass2.seen (values_of values) (kepts_of values) handed.goes_on.0.on.grows (all_of_told pass1.seen values.keys.held given_now.told)))));
             queued = subst (λ (us : Handings). Queues queue0 (values_put us) (words_put us) queue2) (handed_last r.walked w.held stop.zero vs) (queues_more queue0 queue queue2 (handed_in r.walked) vs r.queued handed.queued);
             made = handed.made
                 ∙ ap (λ (log : List (Deed × Answer)). log ++ hands pass1 (slot_number key1) vs) (stop.made ∙ ap (λ (log : List (Deed × Answer)). log ++ countings pass (slot_number key) (w.held ++ stop.zero ∷ [])) r.made
-                ∙ ap (λ (log : List (Deed × Answer)). (events_by pass0 ++ behind) ++ log) (goes (w.held ++ stop.zero ∷ []) r.goes_on.0.same r.goes_on.0.its.1))
+                ∙ ap (λ (log : List (Deed × Answer)). (events_by pass0 ++ behind) ++ log) (goes (w.held ++ stop.zero ∷ []) r.goes_on.0.on.same r.goes_on.0.on.its.1))
                 ∙ ap (λ (log : List (Deed × Answer)). ((events_by pass0 ++ behind) ++ countings pass0 s (w.held ++ stop.zero ∷ [])) ++ log)
-                (same_hands pass0 pass1 one.0.same (slot_number key1) vs ∙ ap (λ (k : ℕ). hands pass0 k vs) one.0.its.1)
+                (same_hands pass0 pass1 one.0.on.same (slot_number key1) vs ∙ ap (λ (k : ℕ). hands pass0 k vs) one.0.on.its.1)
                 ∙ append_assoc (events_by pass0 ++ behind) (countings pass0 s (w.held ++ stop.zero ∷ [])) (hands pass0 s vs)
                 ∙ ap (λ (log : List (Deed × Answer)). (events_by pass0 ++ behind) ++ log) (last_step pass0 s w.held stop.zero vs)
                 ∙ append_assoc (events_by pass0) behind (steps pass0 s (plain w.held ++ (stop.zero, vs) ∷ []))
@@ -207,7 +207,7 @@ module _ (key0 : SlotKey) (word : ℕ) (at : IsAtWalk key0 word) (pass0 : Pass) 
               queue = given_now.queue ++ values_put vs;
               walking = handed.walks_on;
               leads = stop.leads
-                  ∙ word_stays key1 key2 pass1 0 given_now.walk given_now.queue book knows handed.goes_on.0.its.0 handed.goes_on.0.its.1 handed.goes_on.1
+                  ∙ word_stays key1 key2 pass1 0 given_now.walk given_now.queue book knows handed.goes_on.0.on.its.0 handed.goes_on.0.on.its.1 handed.goes_on.1
                   (λ b there. subst (λ (o : Option Call). Contains (walk_of o) b) (sym given_now.given_up) there);
             };
             each =

@@ -105,8 +105,8 @@ module _ (key : SlotKey) (pass : Pass) (head : Head) (header : Header) (seen blo
             made =
                 made_noted two key' pass2 pass' (event won) [] notes call (on won) Done so
                 ∙ ap (λ (log : List (Deed × Answer)). log ++ (private pass2 (event won), Done) ∷ []) made_none
-                ∙ ap (λ (d : Deed). events_by pass ++ (d, Done) ∷ []) (same_private pass pass2 keeps_both.same (event won))
-                ∙ ap (λ (s : ℕ). events_by pass ++ (private pass (e s), Done) ∷ []) keeps_both.its.1;
+                ∙ ap (λ (d : Deed). events_by pass ++ (d, Done) ∷ []) (same_private pass pass2 keeps_both.on.same (event won))
+                ∙ ap (λ (s : ℕ). events_by pass ++ (private pass (e s), Done) ∷ []) keeps_both.on.its.1;
             planned = plan_kept two key' pass2 pass' (private pass2 (event won)) t.batch at.its_front.0 notes (front_same key two t.batch front planned_both at.its_front).1 ∙ planned_both;
             stands = stands_so won (call_after two key' pass2 pass' (event won) [] notes call (on won) Done so);
           }

@@ -1,5 +1,5 @@
 -- A turn of a call at one slot: it looks at the head, and tries to insert its batch there, until it wins or finds the slot inactive.
-use Rattle.std.proofs.Common.{◌≡◌, ◌≢◌, ℕ, zero, suc, ◌+◌, ◌<◌, ◌^◌, Bool, true, false, if◌then◌else◌, List, [], ◌∷◌, ◌++◌, length, get_or, Option, Some, refl, sym, ap, subst, ◌∙◌, unwrap_or, append_assoc, append-nil, arith}
+use Rattle.std.proofs.Common.{◌≡◌, ◌≢◌, ℕ, zero, suc, ◌+◌, ◌<◌, Bool, true, false, if◌then◌else◌, List, [], ◌∷◌, ◌++◌, length, get_or, Option, Some, refl, sym, ap, subst, ◌∙◌, unwrap_or, append_assoc, append-nil, arith}
 use Rattle.seize_machine.specs.Machine.State.{Active, Call, Head as MachineHead, Inactive, Look, State, head_at, is_active, waiting_at}
 use Rattle.seize_machine.specs.Machine.Event.{Event, ReadHead}
 use Rattle.seize_machine.specs.Machine.Next.{look, looked, looked_on, of_call, scheme}
@@ -10,15 +10,14 @@ use Rattle.seize_machine.specs.declared.machine.event.Try.TheVariants.{Won, Lost
 use Rattle.seize_book.specs.Adding.{private}
 use Rattle.seize_book.specs.Blocks.{Plan, block_for, block_in, list_word, plan_value, word_of}
 use Rattle.seize_book.specs.Book.{after}
-use Rattle.seize_words.specs.Chunks.{IsHeaderOf}
+use Rattle.seize_words.specs.Chunks.{IsHeaderOf, header_book, header_home}
 use Rattle.seize_book.specs.Entry.{Deed, Entry}
 use Rattle.seize_words.specs.Heads.{IsTrying, reads_at}
 use Rattle.seize_book.specs.Homes.{home_of}
 use Rattle.seize_book.specs.Passes.{IsSamePass, LooksOn, events_by}
-use Rattle.seize_words.specs.Reservations.{MayRead, ShowsHead, slot}
+use Rattle.seize_words.specs.Reservations.{IsHeadOfBook, MayRead, ShowsHead, slot}
 use Rattle.seize_book.specs.Slots.{AddsEvent, IsKeyOfBook, own_list, slot_number, slot_of, start_of}
 use Rattle.seize_book.specs.Tokens.{Name, start}
-use Rattle.seize_words.specs.Totals.{slots_seen}
 use Rattle.seize_words.specs.Walks.{Knows}
 use Rattle.seize_book.specs.declared.book.pass.Pass.{Pass}
 use Rattle.seize_book.specs.declared.book.slot_key.SlotKey.{SlotKey}
@@ -26,9 +25,9 @@ use Rattle.seize_words.specs.declared.chunk.Header.{Header}
 use Rattle.seize_words.specs.declared.reservation.Head.{Head}
 use Rattle.seize_book.proofs.Facts.{equal}
 use Rattle.seize_words.proofs.Facts.{looked_named, plan_kept}
-use Rattle.seize_calls.specs.Inserts.{Continues, HasHome, InsertTries, InsertsAtSlot, IsAtSlot, IsAtTry, TriesOnce, all_insert_events, insert_events, last_at, losses, plan_in, trying}
+use Rattle.seize_calls.specs.Inserts.{Continues, InsertTries, InsertsAtSlot, IsAtHead, IsAtSlot, IsAtTry, TriesOnce, all_insert_events, insert_events, last_at, losses, plan_in, trying}
 use Rattle.seize_calls.specs.Marks.{reading}
-use Rattle.seize_calls.proofs.Keeps.{Goes, call_after, call_before, heads_read, keeps_book, keeps_looked, keeps_noted, keeps_twice, looked_again, looked_same, made_noted, outcome, same_private, state_before, step_noted}
+use Rattle.seize_calls.proofs.Keeps.{Goes, call_after, call_before, heads_read, keeps_book, keeps_looked, keeps_none, keeps_noted, keeps_twice, looked_again, looked_same, made_noted, outcome, same_private, state_before, step_noted}
 use Rattle.seize_calls.proofs.Marks.{word_none, word_some}
 use Rattle.seize_calls.proofs.Tries.{front_same}
 
@@ -40,8 +39,8 @@ pub record IsTurning {key : SlotKey} {m block front : ℕ} (at : IsAtSlot key m 
   pub planned : plan_in key' at.batch ≡ plan_in key at.batch
   pub looking : (slot_of key').call ≡ Some (record { place = Look at.batch at.won m at.later; queue = at.queue })
 
-abbrev pub turns_begin : {m block front : ℕ} (key : SlotKey) (at : IsAtSlot key m block front) (pass : Pass) → Continues key pass key pass → IsTurning at pass key pass
-turns_begin key at pass keeps = record { keeps = keeps; lost = 0; made = sym (append-nil (events_by pass)); planned = refl; looking = at.looking }
+abbrev pub turns_begin : {key : SlotKey} {m block front : ℕ} (at : IsAtSlot key m block front) (pass : Pass) → IsTurning at pass key pass
+turns_begin {key} at pass = record { keeps = keeps_none key pass; lost = 0; made = sym (append-nil (events_by pass)); planned = refl; looking = at.looking }
 
 -- The events of a turn are the same with a pass as it was before.
 
@@ -75,9 +74,9 @@ same_turns pass pass' same s (m ∷ ms) (turn ∷ turns) =
     ap (λ (log : List (Deed × Answer)). log ++ all_insert_events pass' s ms turns) (same_turn pass pass' same s m turn)
     ∙ ap (λ (log : List (Deed × Answer)). insert_events pass s m turn ++ log) (same_turns pass pass' same s ms turns)
 
--- the header is that of the block for the slot
+-- this is the header of the block for the slot
 pub its_home : (key : SlotKey) (pass : Pass) (m block front : ℕ) (header : Header) (at : IsAtSlot key m block front) → IsKeyOfBook key pass → Knows key pass → IsHeaderOf header block pass
-    → HasHome at header
+    → home_of (let plan = plan_in key at.batch in plan_value m plan.slots plan.values) ≡ header_home header
 its_home key pass m block front header at book knows is =
     is.1 (plan_value m (plan_in key at.batch).slots (plan_in key at.batch).values) (looked_named key pass book knows at.batch at.won m at.later at.queue at.looking) (sym at.its_block)
 
@@ -89,8 +88,11 @@ inactive_is : (h : MachineHead) → is_active h ≡ false → h ≡ Inactive
 inactive_is Inactive e = refl
 inactive_is (Active waiting) e = absurd (cc)
 
-module _ (key0 : SlotKey) (pass0 : Pass) (head : Head) (block front : ℕ) (at : IsAtSlot key0 (slot head) block front) (book : IsKeyOfBook key0 pass0) (head_is : head.word.name ≡ pass0.name) (seen0 : slot head < slots_seen pass0)
-    (key : SlotKey) (pass : Pass) (r : IsTurning at pass0 key pass) where
+module _ {key0 : SlotKey} {pass0 : Pass} {head : Head} {header : Header} {block front : ℕ} (here : IsAtHead key0 pass0 head header block front) (book : IsKeyOfBook key0 pass0 × IsHeadOfBook head pass0 × (header_book header ≡ pass0.name))
+    {key : SlotKey} {pass : Pass} (r : IsTurning here.at pass0 key pass) where
+  abbrev at : IsAtSlot key0 (slot head) block front
+  at = here.at
+
   abbrev m : ℕ
   m = slot head
 
@@ -98,18 +100,18 @@ module _ (key0 : SlotKey) (pass0 : Pass) (head : Head) (block front : ℕ) (at :
   call = record { place = Look at.batch at.won m at.later; queue = at.queue }
 
   is_head : head.word.name ≡ pass.name
-  is_head = head_is ∙ sym r.keeps.same.0
+  is_head = book.1 ∙ sym r.keeps.on.same.0
 
   pub may_read : IsKeyOfBook key pass × (head.word.name ≡ pass.name)
-  may_read = (keeps_book key0 key pass0 pass r.keeps book, is_head)
+  may_read = (keeps_book key0 key pass0 pass r.keeps book.0, is_head)
 
   pub reads_again : MayRead key head pass
   reads_again = (
     ap (λ (o : Option Call). unwrap_or (of_call (reads_at m) o) false) r.looking ∙ equal m m refl,
-    subst (λ (n : Name). m < length (after (start n) pass.seen).slots) (sym is_head) (let grows = r.keeps.seen in omega (arith, seen0, grows)),
+    subst (λ (n : Name). m < length (after (start n) pass.seen).slots) (sym is_head) (let seen = here.seen in let grows = r.keeps.seen in omega (arith, seen, grows)),
   )
 
-  module _ (key' : SlotKey) (pass' : Pass) (v : ℕ) (noted : AddsEvent key pass key' pass' (ReadHead (slot_number key) m)) (shows : ShowsHead head pass'.seen v) where
+  module _ {key' : SlotKey} {pass' : Pass} {v : ℕ} (noted : AddsEvent key pass key' pass' (ReadHead (slot_number key) m)) (shows : ShowsHead head pass'.seen v) where
     abbrev event : Event
     event = ReadHead (slot_number key) m
 
@@ -140,8 +142,8 @@ module _ (key0 : SlotKey) (pass0 : Pass) (head : Head) (block front : ℕ) (at :
         made_noted key key' pass pass' event [] noted call (looked_on scheme h) (HeadRead (is_active h)) goes_so
         ∙ ap (λ (log : List (Deed × Answer)). log ++ (private pass event, HeadRead (is_active h)) ∷ []) r.made
         ∙ ap (λ (x : Deed × Answer). (events_by pass0 ++ losses pass0 (slot_number key0) m r.lost) ++ x ∷ [])
-        (ap (λ (d : Deed). (d, HeadRead (is_active h))) (same_private pass0 pass r.keeps.same event)
-        ∙ ap (λ (s : ℕ). (private pass0 (ReadHead s m), HeadRead (is_active h))) r.keeps.its.1
+        (ap (λ (d : Deed). (d, HeadRead (is_active h))) (same_private pass0 pass r.keeps.on.same event)
+        ∙ ap (λ (s : ℕ). (private pass0 (ReadHead s m), HeadRead (is_active h))) r.keeps.on.its.1
         ∙ ap (λ (b : Bool). reading pass0 (slot_number key0) m b) e)
 
     pub planned_read : plan_in key' at.batch ≡ plan_in key0 at.batch
@@ -184,51 +186,50 @@ module _ (key0 : SlotKey) (pass0 : Pass) (head : Head) (block front : ℕ) (at :
         is_block = at.its_block ∙ ap (λ (plan : Plan). block_in plan m) (sym planned_read);
       }
 
-      module _ (header : Header) (home : HasHome at header) (fits : block + 2 < 2 ^ 64) where
-        abbrev pub at_try : IsAtTry key' head header v block front
-        at_try = record {
-          tries = now_trying;
-          fits = fits;
-          its_home = ap (λ (plan : Plan). home_of (plan_value m plan.slots plan.values)) planned_read ∙ home;
-          its_front = front_same key0 key' at.batch front planned_read at.its_front;
+      abbrev pub at_try : IsAtTry key' head header v block front
+      at_try = record {
+        tries = now_trying;
+        fits = here.fits;
+        its_home = ap (λ (plan : Plan). home_of (plan_value m plan.slots plan.values)) planned_read ∙ here.home;
+        its_front = front_same key0 key' at.batch front planned_read at.its_front;
+      }
+
+      module _ {key2 : SlotKey} {pass2 : Pass} {won : Bool} (tried : TriesOnce at_try pass' key2 pass2 won) where
+        keeps_all : Continues key0 pass0 key2 pass2
+        keeps_all = keeps_twice key0 key' key2 pass0 pass' pass2 keeps_read tried.keeps
+
+        planned_all : plan_in key2 at.batch ≡ plan_in key0 at.batch
+        planned_all = tried.planned ∙ planned_read
+
+        abbrev end : Event
+        end = Event.Insert (slot_number key') m (if won then Won else Lost)
+
+        made_all : events_by pass2 ≡ events_by pass0 ++ (losses pass0 (slot_number key0) m r.lost ++ reading pass0 (slot_number key0) m true ∷ trying pass0 (slot_number key0) m (if won then Won else Lost) ∷ [])
+        made_all =
+            let before = events_by pass0 in let lost = losses pass0 (slot_number key0) m r.lost in let one = reading pass0 (slot_number key0) m true in let two = trying pass0 (slot_number key0) m (if won then Won else Lost) in
+            tried.made
+            ∙ ap (λ (log : List (Deed × Answer)). log ++ trying pass' (slot_number key') m (if won then Won else Lost) ∷ []) (made_read true on)
+            ∙ ap (λ (x : Deed × Answer). ((before ++ lost) ++ one ∷ []) ++ x ∷ [])
+            (ap (λ (d : Deed). (d, Done)) (same_private pass0 pass' keeps_read.on.same end) ∙ ap (λ (s : ℕ). trying pass0 s m (if won then Won else Lost)) keeps_read.on.its.1)
+            ∙ append_assoc (before ++ lost) (one ∷ []) (two ∷ []) ∙ append_assoc before lost (one ∷ two ∷ [])
+
+        pub won_turn : won ≡ true → InsertsAtSlot at pass0 key2 pass2 true
+        won_turn is = record {
+          keeps = keeps_all;
+          lost = r.lost;
+          made = made_all ∙ ap (λ (w : Bool). events_by pass0 ++ (losses pass0 (slot_number key0) m r.lost ++ reading pass0 (slot_number key0) m true ∷ trying pass0 (slot_number key0) m (if w then Won else Lost) ∷ [])) is;
+          planned = planned_all;
+          stands = tried.stands ∙ ap (λ (w : Bool). Some (record { place = if w then look at.batch (at.won + 1) at.later else Look at.batch at.won m at.later; queue = at.queue })) is;
         }
 
-        module _ (key2 : SlotKey) (pass2 : Pass) (won : Bool) (tried : TriesOnce at_try pass' key2 pass2 won) where
-          keeps_all : Continues key0 pass0 key2 pass2
-          keeps_all = keeps_twice key0 key' key2 pass0 pass' pass2 keeps_read tried.keeps
-
-          planned_all : plan_in key2 at.batch ≡ plan_in key0 at.batch
-          planned_all = tried.planned ∙ planned_read
-
-          abbrev end : Event
-          end = Event.Insert (slot_number key') m (if won then Won else Lost)
-
-          made_all : events_by pass2 ≡ events_by pass0 ++ (losses pass0 (slot_number key0) m r.lost ++ reading pass0 (slot_number key0) m true ∷ trying pass0 (slot_number key0) m (if won then Won else Lost) ∷ [])
-          made_all =
-              let before = events_by pass0 in let lost = losses pass0 (slot_number key0) m r.lost in let one = reading pass0 (slot_number key0) m true in let two = trying pass0 (slot_number key0) m (if won then Won else Lost) in
-              tried.made
-              ∙ ap (λ (log : List (Deed × Answer)). log ++ trying pass' (slot_number key') m (if won then Won else Lost) ∷ []) (made_read true on)
-              ∙ ap (λ (x : Deed × Answer). ((before ++ lost) ++ one ∷ []) ++ x ∷ [])
-              (ap (λ (d : Deed). (d, Done)) (same_private pass0 pass' keeps_read.same end) ∙ ap (λ (s : ℕ). trying pass0 s m (if won then Won else Lost)) keeps_read.its.1)
-              ∙ append_assoc (before ++ lost) (one ∷ []) (two ∷ []) ∙ append_assoc before lost (one ∷ two ∷ [])
-
-          pub won_turn : won ≡ true → InsertsAtSlot at pass0 key2 pass2 true
-          won_turn is = record {
-            keeps = keeps_all;
-            lost = r.lost;
-            made = made_all ∙ ap (λ (w : Bool). events_by pass0 ++ (losses pass0 (slot_number key0) m r.lost ++ reading pass0 (slot_number key0) m true ∷ trying pass0 (slot_number key0) m (if w then Won else Lost) ∷ [])) is;
-            planned = planned_all;
-            stands = tried.stands ∙ ap (λ (w : Bool). Some (record { place = if w then look at.batch (at.won + 1) at.later else Look at.batch at.won m at.later; queue = at.queue })) is;
-          }
-
-          pub lost_turn : won ≡ false → IsTurning at pass0 key2 pass2
-          lost_turn is = record {
-            keeps = keeps_all;
-            lost = suc r.lost;
-            made = made_all ∙ ap (λ (w : Bool). events_by pass0 ++ (losses pass0 (slot_number key0) m r.lost ++ reading pass0 (slot_number key0) m true ∷ trying pass0 (slot_number key0) m (if w then Won else Lost) ∷ [])) is;
-            planned = planned_all;
-            looking = tried.stands ∙ ap (λ (w : Bool). Some (record { place = if w then look at.batch (at.won + 1) at.later else Look at.batch at.won m at.later; queue = at.queue })) is;
-          }
+        pub lost_turn : won ≡ false → IsTurning at pass0 key2 pass2
+        lost_turn is = record {
+          keeps = keeps_all;
+          lost = suc r.lost;
+          made = made_all ∙ ap (λ (w : Bool). events_by pass0 ++ (losses pass0 (slot_number key0) m r.lost ++ reading pass0 (slot_number key0) m true ∷ trying pass0 (slot_number key0) m (if w then Won else Lost) ∷ [])) is;
+          planned = planned_all;
+          looking = tried.stands ∙ ap (λ (w : Bool). Some (record { place = if w then look at.batch (at.won + 1) at.later else Look at.batch at.won m at.later; queue = at.queue })) is;
+        }
 
 -- What a turn comes to from before a look on.
 pub inserted_before : {key : SlotKey} {m block front : ℕ} (at : IsAtSlot key m block front) (pass0 pass1 : Pass) (key' : SlotKey) (pass' : Pass) (won : Bool) → LooksOn pass0 pass1 → InsertsAtSlot at pass1 key' pass' won → InsertsAtSlot at pass0 key' pass' won

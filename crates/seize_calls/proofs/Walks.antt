@@ -86,7 +86,7 @@ none_walked key word at pass values empty = record {
   none = empty;
 }
 
-module _ (key0 : SlotKey) (word : ℕ) (at : IsAtWalk key0 word) (pass0 : Pass) (key : SlotKey) (pass : Pass) (values : ValueKeys) (leads : ℕ) (r : IsWalking at pass0 key pass values leads) where
+module _ {key0 : SlotKey} {word : ℕ} {at : IsAtWalk key0 word} {pass0 : Pass} {key : SlotKey} {pass : Pass} {values : ValueKeys} {leads : ℕ} (r : IsWalking at pass0 key pass values leads) where
   -- a word that is not 1 leads to a batch
   pub is_at : leads ≢ 1 → IsAtBatch key leads
   is_at more = go r.left r.walking r.leads
@@ -125,7 +125,7 @@ module _ (key0 : SlotKey) (word : ℕ) (at : IsAtWalk key0 word) (pass0 : Pass) 
     same_queue : batch.queue ≡ at.queue
     same_queue = ap (λ (c : Call). c.queue) same_call
 
-    module _ (key' : SlotKey) (pass' : Pass) (values' : ValueKeys) (rest : ℕ) (zero : Bool) (down : CountsDown batch pass key' values' pass' rest zero) where
+    module _ {key' : SlotKey} {pass' : Pass} {values' : ValueKeys} {rest : ℕ} {zero : Bool} (down : CountsDown batch pass key' values' pass' rest zero) where
       abbrev count : ℤ
       count = down.counts.1.0
 
@@ -136,7 +136,7 @@ module _ (key0 : SlotKey) (word : ℕ) (at : IsAtWalk key0 word) (pass0 : Pass) 
       )
 
       mid_same : IsSamePass pass0 down.mid
-      mid_same = same_twice pass0 pass down.mid r.goes_on.0.same down.looks.same
+      mid_same = same_twice pass0 pass down.mid r.goes_on.0.on.same down.looks.same
 
       made_down : events_by pass' ≡ events_by pass0 ++ countings pass0 (slot_number key0) (r.held ++ count ∷ [])
       made_down =
@@ -145,7 +145,7 @@ module _ (key0 : SlotKey) (word : ℕ) (at : IsAtWalk key0 word) (pass0 : Pass) 
           ∙ ap (λ (log : List (Deed × Answer)). log ++ (private down.mid event, down.counts.0.2.0.answer) ∷ []) (looked_same pass down.mid down.looks ∙ r.made)
           ∙ ap (λ (a : Answer). (before ++ old) ++ (private down.mid event, a) ∷ []) down.counts.1.1
           ∙ ap (λ (d : Deed). (before ++ old) ++ (d, Counted count) ∷ []) (same_private pass0 down.mid mid_same event)
-          ∙ ap (λ (s : ℕ). (before ++ old) ++ counting pass0 s count ∷ []) r.goes_on.0.its.1
+          ∙ ap (λ (s : ℕ). (before ++ old) ++ counting pass0 s count ∷ []) r.goes_on.0.on.its.1
           ∙ append_assoc before old (counting pass0 (slot_number key0) count ∷ [])
           ∙ ap (λ (log : List (Deed × Answer)). before ++ log) (sym (countings_push pass0 (slot_number key0) r.held count))
 

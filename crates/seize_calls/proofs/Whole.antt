@@ -1,33 +1,39 @@
 -- Whole calls, put together of what their parts did.
-use Rattle.std.proofs.Common.{◌≡◌, ℕ, ◌<◌, List, [], ◌∷◌, length, Some, refl, sym, ap, subst, ◌∙◌, inl, arith}
-use base.Growing.{prefix_trans}
-use mathlib.Core.List.{IsPrefix}
-use Rattle.seize_machine.specs.Machine.State.{Append, Mark, Rest}
-use Rattle.seize_machine.specs.Machine.Event.{Begin, Event, Return}
+use Rattle.std.proofs.Common.{◌≡◌, ℕ, ◌<◌, ◌≤◌, Bool, List, [], ◌∷◌, length, Some, refl, sym, ap, subst, ◌∙◌, inl, arith}
+use Rattle.seize_machine.specs.Machine.State.{Append, Mark, Out, Place, Rest}
+use Rattle.seize_machine.specs.Machine.Event.{Begin, Return}
 use Rattle.seize_machine.specs.Machine.Next.{flushing_at}
 use Rattle.seize_machine.specs.declared.machine.event.Job.{Job}
 use Rattle.seize_machine.specs.declared.machine.event.Job.TheVariants.{Flush, Retire}
 use Rattle.seize_book.specs.Adding.{deed_with_words}
 use Rattle.seize_book.specs.Entry.{Entry as Logged}
-use Rattle.seize_book.specs.Kept.{AreTold, AreToldIn}
+use Rattle.seize_book.specs.Kept.{AreToldIn}
 use Rattle.seize_book.specs.Ledger.{HeldKey, with_list}
-use Rattle.seize_book.specs.Private.{IsOver, label_of}
-use Rattle.seize_book.specs.Passes.{IsSamePass}
-use Rattle.seize_book.specs.Slots.{AddsDeed, AddsEvent, IsKeyOfBook, slot_number, slot_of}
+use Rattle.seize_book.specs.Private.{IsOver, label_of, labels_of}
+use Rattle.seize_book.specs.Slots.{AddsDeed, AddsEvent, slot_number, slot_of}
 use Rattle.seize_book.specs.Values.{IsEmpty, values_of}
 use Rattle.seize_book.specs.declared.book.pass.Pass.{Pass}
 use Rattle.seize_book.specs.declared.book.slot_key.SlotKey.{SlotKey}
 use Rattle.seize_book.specs.declared.book.value_keys.ValueKeys.{ValueKeys}
-use Rattle.seize_words.specs.Named.{slot_book}
-use Rattle.seize_book.proofs.Facts.{same_twice}
-use Rattle.seize_words.proofs.Facts.{all_told_later}
+use Rattle.seize_words.proofs.Facts.{knows_noted}
 use Rattle.seize_words.specs.Walks.{Knows}
-use Rattle.seize_calls.specs.Alone.{AddsAlone, AddsOwn}
-use Rattle.seize_calls.specs.Calls.{Begins, Rests, Returns}
-use Rattle.seize_calls.specs.Settling.{CallState, HasBatch, HasQueue, IsToMark, IsWellFormed, MayPut}
-use Rattle.seize_calls.proofs.Alone.{alone_twice, own_twice}
-use Rattle.seize_calls.proofs.Events.{begins_so, begun_retire_so, call_begun, call_returned, flush_call, flush_so, keeps_returned, made_returned}
-use Rattle.seize_calls.proofs.Keeps.{state_before}
+use Rattle.seize_words.specs.declared.words.Words.{Words}
+use Rattle.seize_calls.specs.Alone.{Onward}
+use Rattle.seize_calls.specs.Batches.{keys_in}
+use Rattle.seize_calls.specs.Calls.{Begins, BeginsSo, Ends, Flushes, Rests, RetiresOne, Returns, job_of}
+use Rattle.seize_calls.specs.Furthers.{further_in}
+use Rattle.seize_calls.specs.Handing.{Had}
+use Rattle.seize_calls.specs.Together.{IsHolderFor, IsUnderWay}
+use Rattle.seize_calls.specs.Laying.{Lays}
+use Rattle.seize_calls.specs.Settling.{CallState, DrainsOne, HasBatch, HasQueue, MarksFrom, MayPut, Settles}
+use Rattle.seize_calls.specs.declared.further.Further.{Further}
+use Rattle.seize_calls.specs.declared.holder.Holder.{Holder}
+use Rattle.seize_calls.proofs.Events.{Kept, begins_so, begun_retire_so, call_begun, flush_so, keeps_returned, made_returned, out_so}
+use Rattle.seize_calls.proofs.Holders.{under_on}
+use Rattle.seize_calls.proofs.Keeps.{outcome, state_before}
+use Rattle.seize_calls.proofs.Laid.{lays_deed}
+use Rattle.seize_calls.proofs.Alone.{onward_twice}
+use Rattle.seize_calls.proofs.Onwards.{round_on, settles_on}
 
 -- The call returns when its queue is empty.
 
@@ -38,75 +44,121 @@ pub returned : (a : CallState) (key' : SlotKey) (pass' : Pass) → AddsEvent a.k
 returned a key' pass' notes none =
     record { keeps = keeps_returned a.key key' a.pass pass' notes; made = made_returned a.key key' a.pass pass' notes; batch = refl; none = none; had_none = refl }
 
-pub whole_rests : (key : SlotKey) (pass : Pass) (a : CallState) (key' : SlotKey) (pass' : Pass) → IsSamePass pass a.pass → IsPrefix pass.seen a.pass.seen → AddsAlone pass a.pass → AddsOwn key pass a.key
-    → (slot_book a.key ≡ slot_book key) × (slot_number a.key ≡ slot_number key) → (slot_of a.key).used ≡ (slot_of key).used → IsWellFormed a → AddsEvent a.key a.pass key' pass' (Return (slot_number a.key)) → Rests key pass key' pass' a.batch
-whole_rests key pass a key' pass' same grows alone own its used sits notes =
-    let keeps = keeps_returned a.key key' a.pass pass' notes in
-    record {
-      same = same_twice pass a.pass pass' same keeps.same;
-      grows = prefix_trans pass.seen a.pass.seen pass'.seen grows keeps.grows;
-      alone = alone_twice pass a.pass pass' same alone keeps.alone;
-      own = own_twice key a.key key' pass a.pass same own keeps.own;
-      sees = notes.1.2;
-      its = (keeps.its.0 ∙ its.0, keeps.its.1 ∙ its.1);
-      call = call_returned a.key key' a.pass pass' notes;
-      used = keeps.used ∙ used;
-      batch = (sits.batch.0 ∙ sym keeps.same.0, sits.batch.1 ∙ sym keeps.batch, all_told_later a.pass.seen pass'.seen a.batch.keys.held keeps.grows sits.batch.2);
-    }
+-- From where a call has its queue alone to its return.
+module _ (a : CallState) (key' : SlotKey) (pass' : Pass) (values' : ValueKeys) (had' : Had) (ends : Ends a key' pass' values' had') where
+  pub ends_on : Onward a.key a.pass key' pass'
+  ends_on = let d = ends.drained in onward_twice a.key d.key key' a.pass d.pass pass' ends.drains.on ends.returns.keeps.on
 
--- A call begins with an empty queue, with the pass that made the queue and is as it was.
+  pub call_rests : (key : SlotKey) (pass : Pass) → Onward key pass key' pass' → HasBatch key' pass' values' → Rests key pass key' pass' values'
+  call_rests key pass on batch = record { same = on.same; grows = on.grows; alone = on.alone; own = on.own; sees = ends.sees; its = on.its; call = ends.call; used = on.used; batch = batch }
 
-pub begun_notes : (key one : SlotKey) (made pass pass1 : Pass) (event : Event) (kepts : List ℕ) → made ≡ pass → AddsDeed key made one pass1 (deed_with_words made event kepts) → AddsDeed key pass one pass1 (deed_with_words pass event kepts)
-begun_notes key one made pass pass1 event kepts same notes = subst (λ (p : Pass). AddsDeed key p one pass1 (deed_with_words p event kepts)) same notes
+-- A call begins with an empty queue, and stands at this place.
+pub record Begun {T : Type 0} (words : Words T) (job : Job) (kepts : List ℕ) (place : Place) (holder : Holder T) (pass : Pass) (queue : Further) (key1 : SlotKey) (pass1 : Pass) : Type 0 where
+  pub begins : Begins holder.key pass job kepts key1 pass1
+  pub under : IsUnderWay words (record { key = key1; batch = holder.batch; spots = holder.spots }) queue pass1
+  pub empty : (further_in queue).keys.held ≡ []
+  pub stands : (slot_of key1).call ≡ Some (record { place = place; queue = [] })
+  pub laid : Lays pass holder.spots pass1 holder.spots
 
--- of no values the list says what is to be said
-pub none_queued : (queue : ValueKeys) (pass : Pass) → queue.keys.held ≡ [] → AreTold queue pass
-none_queued queue pass none = subst (λ (held : List (HeldKey Logged)). AreToldIn pass.seen held) (sym none) tt
+-- The pass is as it was when the queue was made.
+module _ {T : Type 0} (words : Words T) (holder : Holder T) (pass made : Pass) (same : made ≡ pass) (queue : Further) (empty : IsEmpty (further_in queue) pass) (is : IsHolderFor words holder pass) (key1 : SlotKey) (pass1 : Pass) where
+  abbrev key : SlotKey
+  key = holder.key
 
-pub begun_sits : (key : SlotKey) (pass : Pass) (job : Job) (kepts : List ℕ) (a : CallState) → Begins key pass job kepts a.key a.pass → IsKeyOfBook key pass → Knows a.key a.pass → HasBatch key pass a.batch → IsEmpty a.queue pass → IsWellFormed a
-begun_sits key pass job kepts a begins book knows batch queue = let keeps = begins.keeps in
-    record {
-      its = keeps.its.0 ∙ (book ∙ sym keeps.same.0);
-      knows = knows;
-      batch = (batch.0 ∙ sym keeps.same.0, batch.1 ∙ sym keeps.batch, all_told_later pass.seen a.pass.seen a.batch.keys.held keeps.grows batch.2);
-      queue = (queue.0 ∙ sym keeps.same.0, none_queued a.queue a.pass queue.1);
-    }
+  -- of no values the list says what is to be said
+  under_begun : (job : Job) (kepts : List ℕ) → Begins key pass job kepts key1 pass1 → Knows key1 pass1 → IsUnderWay words (record { key = key1; batch = holder.batch; spots = holder.spots }) queue pass1
+  under_begun job kepts begins knows =
+      under_on words holder pass is queue key1 pass1 (empty.0, subst (λ (held : List (HeldKey Logged)). AreToldIn pass.seen held) (sym empty.1) tt) begins.keeps knows
 
--- A flush begins.
-module _ (key one : SlotKey) (pass pass1 : Pass) (notes : AddsEvent key pass one pass1 (Begin (slot_number key) Flush)) where
-  pub flush_begins : Begins key pass Flush [] one pass1
-  flush_begins = begins_so key one pass pass1 Flush [] notes (flush_call key one pass pass1 notes) (flush_so key one pass pass1 notes)
+  begun : (job : Job) (kepts : List ℕ) (place : Place) (notes : AddsDeed key pass key1 pass1 (deed_with_words pass (Begin (slot_number key) job) kepts))
+      → Kept (state_before key key1 pass pass1 (Begin (slot_number key) job) kepts notes) (slot_number key) (outcome key key1 pass pass1 (Begin (slot_number key) job) kepts notes) (record { place = place; queue = [] }) → Begun words job kepts place holder pass queue key1 pass1
+  begun job kepts place notes so = let d = deed_with_words pass (Begin (slot_number key) job) kepts in let begins = begins_so key key1 pass pass1 job kepts notes _ so in
+      record {
+        begins = begins;
+        under = under_begun job kepts begins (knows_noted key key1 pass pass1 d notes);
+        empty = empty.1;
+        stands = call_begun key key1 pass pass1 job kepts notes _ so;
+        laid = lays_deed key key1 pass pass1 d holder.spots notes (λ answer. refl);
+      }
 
-  flush_stands : (slot_of one).call ≡ Some (flush_call key one pass pass1 notes)
-  flush_stands = call_begun key one pass pass1 Flush [] notes (flush_call key one pass pass1 notes) (flush_so key one pass pass1 notes)
+  at_pass : (job : Job) (kepts : List ℕ) → AddsDeed key made key1 pass1 (deed_with_words made (Begin (slot_number key) job) kepts) → AddsDeed key pass key1 pass1 (deed_with_words pass (Begin (slot_number key) job) kepts)
+  at_pass job kepts notes = subst (λ (p : Pass). AddsDeed key p key1 pass1 (deed_with_words p (Begin (slot_number key) job) kepts)) same notes
 
-  pub flush_marks : (queue : ValueKeys) → values_of queue ≡ [] → 0 < length (slot_of key).batch → IsToMark one queue
-  flush_marks queue none some =
-      let n = length (state_before key one pass pass1 (Begin (slot_number key) Flush) [] notes).slots in (
-        record { note = n; queue = []; marking = flush_stands ∙ ap (λ place. Some (record { place = place; queue = [] })) (marks n (slot_of key).batch some) },
-        sym none,
-      )
-    where
-      marks : (n : ℕ) (batch : List ℕ) → 0 < length batch → flushing_at n batch ≡ Mark 0 n []
-      marks n [] some = absurd (omega (arith, some))
-      marks n (v ∷ batch) some = refl
+  pub begun_retire : (v kept : ℕ) → AddsDeed key made key1 pass1 (deed_with_words made (Begin (slot_number key) (Retire v)) (kept ∷ [])) → Begun words (Retire v) (kept ∷ []) (Append v) holder pass queue key1 pass1
+  begun_retire v kept notes = let here = at_pass (Retire v) (kept ∷ []) notes in begun (Retire v) (kept ∷ []) (Append v) here (begun_retire_so key key1 pass pass1 v kept here)
 
-  pub flush_over : (queue : ValueKeys) → values_of queue ≡ [] → (slot_of key).batch ≡ [] → HasQueue one queue
-  flush_over queue empty none =
-      let n = length (state_before key one pass pass1 (Begin (slot_number key) Flush) [] notes).slots in
-      flush_stands ∙ ap (λ (batch : List ℕ). Some (record { place = flushing_at n batch; queue = [] })) none
-      ∙ ap (λ (q : List ℕ). Some (record { place = Rest [] []; queue = q })) (sym empty)
+  pub begun_out : (stays : Bool) → AddsEvent key made key1 pass1 (Begin (slot_number key) (job_of stays)) → Begun words (job_of stays) [] (Out stays) holder pass queue key1 pass1
+  begun_out stays notes = let here = at_pass (job_of stays) [] notes in begun (job_of stays) [] (Out stays) here (out_so key key1 pass pass1 stays here)
 
--- A retirement begins.
+  pub begun_flush : AddsEvent key made key1 pass1 (Begin (slot_number key) Flush) → (n : ℕ) × Begun words Flush [] (flushing_at n (slot_of key).batch) holder pass queue key1 pass1
+  begun_flush notes = let here = at_pass Flush [] notes in (_, begun Flush [] _ here (flush_so key key1 pass pass1 here))
 
-pub begins_append : (key one : SlotKey) (pass pass1 : Pass) (v kept : ℕ) → AddsDeed key pass one pass1 (deed_with_words pass (Begin (slot_number key) (Retire v)) (kept ∷ [])) → (slot_of one).call ≡ Some (record { place = Append v; queue = [] })
-begins_append key one pass pass1 v kept notes = call_begun key one pass pass1 (Retire v) (kept ∷ []) notes (record { place = Append v; queue = [] }) (begun_retire_so key one pass pass1 v kept notes)
+module _ {T : Type 0} (words : Words T) (holder : Holder T) (pass : Pass) (queue : Further) (key1 : SlotKey) (pass1 : Pass) (had : Had) where
+  abbrev first : CallState
+  first = record { key = key1; pass = pass1; batch = keys_in holder.batch; queue = further_in queue; had = had }
 
-pub retire_begins : (key one : SlotKey) (pass pass1 : Pass) (v kept : ℕ) → AddsDeed key pass one pass1 (deed_with_words pass (Begin (slot_number key) (Retire v)) (kept ∷ [])) → Begins key pass (Retire v) (kept ∷ []) one pass1
-retire_begins key one pass pass1 v kept notes = begins_so key one pass pass1 (Retire v) (kept ∷ []) notes (record { place = Append v; queue = [] }) (begun_retire_so key one pass pass1 v kept notes)
+  so_begun : (job : Job) (kepts : List ℕ) (place : Place) → Begun words job kepts place holder pass queue key1 pass1 → BeginsSo holder.key pass job kepts (keys_in holder.batch) had first
+  so_begun job kepts place b = record { begins = b.begins; batch = refl; none = ap labels_of b.empty; had_none = refl }
 
-pub retire_puts : (key one : SlotKey) (pass pass1 : Pass) (v kept : ℕ) (queue : ValueKeys) → AddsDeed key pass one pass1 (deed_with_words pass (Begin (slot_number key) (Retire v)) (kept ∷ [])) → values_of queue ≡ [] → MayPut one v queue
-retire_puts key one pass pass1 v kept queue notes none = (Append v, [], begins_append key one pass pass1 v kept notes, inl (refl, sym none))
+  -- what a call did that attempted, and ended
+  module _ (job : Job) (kepts : List ℕ) (place : Place) (b : Begun words job kepts place holder pass queue key1 pass1) (settled : CallState) (on : Onward key1 pass1 settled.key settled.pass) (key' : SlotKey) (pass' : Pass) (values' : ValueKeys) (had' : Had)
+      (ends : Ends settled key' pass' values' had') where
+    pub whole_on : Onward holder.key pass key' pass'
+    whole_on =
+        onward_twice holder.key settled.key key' pass settled.pass pass' (onward_twice holder.key key1 settled.key pass pass1 settled.pass b.begins.keeps.on on)
+        (ends_on settled key' pass' values' had' ends)
+
+  -- A flush.
+  module _ (n : ℕ) (b : Begun words Flush [] (flushing_at n (slot_of holder.key).batch) holder pass queue key1 pass1) where
+    -- it marks where there is something to retire
+    pub flush_from : MarksFrom 1 key1 (further_in queue)
+    flush_from = (
+      λ some. (record { note = n; queue = []; marking = b.stands ∙ ap (λ place. Some (record { place = place; queue = [] })) (marks (slot_of holder.key).batch (subst (λ (vs : List ℕ). 1 ≤ length vs) b.begins.keeps.batch some)) }, sym (ap labels_of b.empty)),
+      λ few. b.stands ∙ (λ i. Some (record { place = none (slot_of holder.key).batch (subst (λ (vs : List ℕ). length vs < 1) b.begins.keeps.batch few) i; queue = sym (ap labels_of b.empty) i })),
+    )
+      where
+        marks : (batch : List ℕ) → 1 ≤ length batch → flushing_at n batch ≡ Mark 0 n []
+        marks [] some = absurd (omega (arith, some))
+        marks (v ∷ batch) some = refl
+
+        none : (batch : List ℕ) → length batch < 1 → flushing_at n batch ≡ Rest [] []
+        none [] few = refl
+        none (v ∷ batch) few = absurd (omega (arith, few))
+
+    pub has_flushed : (settled : CallState) (retired : Bool) → Settles 1 first settled retired → (key' : SlotKey) (pass' : Pass) (values' : ValueKeys) (had' : Had) → Ends settled key' pass' values' had' → HasBatch key' pass' values'
+        → Flushes holder.key pass (keys_in holder.batch) had key' pass' values' had' retired
+    has_flushed settled retired settles key' pass' values' had' ends batch =
+        let on = whole_on Flush [] _ b settled (settles_on 1 first settled retired settles) key' pass' values' had' ends in
+        record {
+          begun = first;
+          begins = so_begun Flush [] _ b;
+          settled = settled;
+          settles = settles;
+          ends = ends;
+          rests = call_rests settled key' pass' values' had' ends holder.key pass on batch;
+          active = on.active;
+          life = on.life;
+        }
+
+  -- A retirement.
+  module _ (v kept : ℕ) (b : Begun words (Retire v) (kept ∷ []) (Append v) holder pass queue key1 pass1) where
+    pub retire_puts : MayPut key1 v (further_in queue)
+    retire_puts = (Append v, [], b.stands, inl (refl, sym (ap labels_of b.empty)))
+
+    pub has_retired : (settled : CallState) (retired : Bool) → DrainsOne first v kept settled retired → (key' : SlotKey) (pass' : Pass) (values' : ValueKeys) (had' : Had) → Ends settled key' pass' values' had' → HasBatch key' pass' values'
+        → RetiresOne holder.key pass v kept (keys_in holder.batch) had key' pass' values' had' retired
+    has_retired settled retired round key' pass' values' had' ends batch =
+        let on = whole_on (Retire v) (kept ∷ []) _ b settled (round_on first v kept settled retired round) key' pass' values' had' ends in
+        record {
+          begun = first;
+          begins = so_begun (Retire v) (kept ∷ []) _ b;
+          settled = settled;
+          drains_one = round;
+          ends = ends;
+          rests = call_rests settled key' pass' values' had' ends holder.key pass on batch;
+          active = on.active;
+          life = on.life;
+        }
 
 -- the key of the value is for the same value, which comes last
 pub same_label : (held : List (HeldKey Logged)) (log : List Logged) → label_of (with_list held log) ≡ label_of held

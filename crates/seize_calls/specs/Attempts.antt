@@ -4,11 +4,8 @@
 --     Retires at pass values key' pass' values' zero      all that was made with the pass is that the slot read the heads, detached the
 --                        batch, took a turn at each slot whose head was active (`all_insert_events`), and added the insertions won; the
 --                        count is 0 then or isn't. Where it is 0 the batch's values are given up to the call, with their keys. Nothing
---                        else of the slot has changed but its batch, which is empty. Where the slot is active the count is not 0. What
---                        was added where the pass is alone was made with it (AddsAlone), and so was all that was added of the slot's own
---                        (AddsOwn)
+--                        else of the slot has changed but its batch, which is empty (Onward). Where the slot is active the count is not 0
 use Rattle.std.specs.Prelude.{◌≡◌, ℤ, Bool, true, false, if◌then◌else◌, List, [], ◌∷◌, ◌++◌, length, Some}
-use mathlib.Core.List.{IsPrefix}
 use Rattle.seize_machine.specs.Machine.Event.{AddCount, Detach}
 use Rattle.seize_machine.specs.Machine.Next.{is_zero}
 use Rattle.seize_machine.specs.Machine.State.{Rest}
@@ -16,11 +13,11 @@ use Rattle.seize_machine.specs.declared.machine.event.Answer.TheVariants.{Count,
 use Rattle.seize_book.specs.Adding.{private}
 use Rattle.seize_words.specs.Counts.{LeavesKeys}
 use Rattle.seize_book.specs.Passes.{events_by}
-use Rattle.seize_book.specs.Slots.{active_of, life_of, slot_number, slot_of}
+use Rattle.seize_book.specs.Slots.{active_of, slot_number, slot_of}
 use Rattle.seize_book.specs.declared.book.pass.Pass.{Pass}
 use Rattle.seize_book.specs.declared.book.slot_key.SlotKey.{SlotKey}
 use Rattle.seize_book.specs.declared.book.value_keys.ValueKeys.{ValueKeys}
-use Rattle.seize_calls.specs.Alone.{AddsAlone, AddsOwn}
+use Rattle.seize_calls.specs.Alone.{Onward}
 use Rattle.seize_calls.specs.Batches.{AreRemarked}
 use Rattle.seize_calls.specs.Inserts.{InsertTries, all_insert_events}
 use Rattle.seize_calls.specs.Marks.{BeginsToMark, EndsMarks, actives, readings}
@@ -36,16 +33,11 @@ pub record Retires {key : SlotKey} (at : BeginsToMark key) (pass : Pass) (values
   pub count : ℤ
   pub is_count : zero ≡ is_zero count
   pub under_guard : active_of key ≡ true → zero ≡ false
-  pub grows : IsPrefix pass.seen pass'.seen
-  pub alone : AddsAlone pass pass'
-  pub own : AddsOwn key pass key'
+  pub on : Onward key pass key' pass'
   pub made : let s = slot_number key in
       events_by pass' ≡ (((events_by pass ++ readings pass s 0 finds) ++ (private pass (Detach s), Done) ∷ [])
       ++ all_insert_events pass s (actives 0 finds) turns) ++ (private pass (AddCount s), Count count) ∷ []
   pub batch : (slot_of key').batch ≡ []
-  pub used : (slot_of key').used ≡ (slot_of key).used
-  pub active : active_of key' ≡ active_of key
-  pub life : life_of key' ≡ life_of key
   pub stands : (slot_of key').call ≡ Some (record { place = Rest (if zero then (slot_of key).batch else []) []; queue = at.queue })
   pub marked : ValueKeys
   pub remarked : AreRemarked values marked

@@ -1,16 +1,14 @@
 -- What a slot's holder keeps of the slot's batch: the keys of its values. Which block comes next, and at which slot the batch is to be
 -- inserted with a block, is noted of the blocks themselves.
---     keys_in batch            the keys of its values, in order;  first_in batch     the number of the first one's block
+--     keys_in batch            the keys of its values, in order
 --     slot_in g                what a note of this code says of the slot
 --     SlotMark                 a value's block, and the slot that is noted of it
 --     slot_marks_of held, slot_marks_in batch    those of the values whose keys these are, in order, or of a batch;  marked_slots marks
 --                                      the slots
 --     without_slots held       the keys, with all that is noted but the slots
 --     AreRemarked keys keys'   they are the same keys, and all that is noted is the same but the slots
---     IsAsBefore batch batch'  the keys and the first number are as they were, and what is noted
 --     IsPushed keys v kept keys'    one value more comes last, of which this is kept
 --     LeadsFrom keys number keys'   they are the same keys, and the last one leads on to the block of this number
---     keys_book keys           the book of the keys
 --     IsNewValue value         its value was never named, all that lay in its block before were reclaimed, and something is lent with
 --                              it, as AreNew says of several
 use Rattle.std.specs.Prelude.{◌≡◌, ℕ, true, map, List, [], ◌∷◌, ◌++◌}
@@ -21,7 +19,6 @@ use Rattle.seize_book.specs.Kept.{kepts_of}
 use Rattle.seize_book.specs.Ledger.{HeldKey}
 use Rattle.seize_book.specs.Linked.{are_joined}
 use Rattle.seize_book.specs.Others.{book_of}
-use Rattle.seize_book.specs.Tokens.{Name}
 use Rattle.seize_book.specs.Values.{AllNew, book_in, values_of}
 use Rattle.seize_book.specs.declared.book.value_key.ValueKey.{ValueKey}
 use Rattle.seize_book.specs.declared.book.value_keys.ValueKeys.{ValueKeys}
@@ -29,9 +26,6 @@ use Rattle.seize_calls.specs.declared.batch.Batch.{Batch}
 
 abbrev pub keys_in : Batch → ValueKeys
 keys_in batch = batch.values
-
-abbrev pub first_in : Batch → ℕ
-first_in batch = batch.first
 
 -- What is noted of them.
 
@@ -65,11 +59,6 @@ without_slots held = map (λ h. record { kind = h.kind; key = h.key; own = h.own
 abbrev pub AreRemarked : ValueKeys → ValueKeys → Type 0
 AreRemarked keys keys' = (book_in keys' ≡ book_in keys) × (without_slots keys'.keys.held ≡ without_slots keys.keys.held)
 
-abbrev pub IsAsBefore : Batch → Batch → Type 0
-IsAsBefore batch batch' =
-    (book_in (keys_in batch') ≡ book_in (keys_in batch)) × ((keys_in batch').keys.held ≡ (keys_in batch).keys.held)
-    × (first_in batch' ≡ first_in batch)
-
 abbrev pub IsPushed : ValueKeys → ℕ → ℕ → ValueKeys → Type 0
 IsPushed keys v kept keys' =
     (book_in keys' ≡ book_in keys) × (values_of keys' ≡ values_of keys ++ v ∷ []) × (kepts_of keys' ≡ kepts_of keys ++ kept ∷ [])
@@ -78,9 +67,6 @@ abbrev pub LeadsFrom : ValueKeys → ℕ → ValueKeys → Type 0
 LeadsFrom keys number keys' =
     (book_in keys' ≡ book_in keys) × (values_of keys' ≡ values_of keys) × (kepts_of keys' ≡ kepts_of keys)
     × ((h : HeldKey Entry) → block_number h.label ≡ number → are_joined keys'.keys.held (h ∷ []) ≡ true)
-
-abbrev pub keys_book : ValueKeys → Name
-keys_book keys = book_in keys
 
 abbrev pub IsNewValue : ValueKey → Type 0
 IsNewValue value = AllNew (book_of value) value.keys.held

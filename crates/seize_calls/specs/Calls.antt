@@ -4,16 +4,16 @@
 --     Begins key pass job kepts key' pass'     the call began with this job, and said these words of what it retires
 --     BeginsSo key pass job kepts values had a     and stands there, with nothing in its queue
 --     Returns a key' pass' values had     the call returned, with nothing in its queue
+--     Ends a key' pass' values had     the call drained its queue (DrainsAll), and returned
 --     Rests key pass key' pass' values'   no call of the slot is under way then, and these are the keys of its batch; whether it is in use
---                        is as before. The pass has seen what it had seen (`grows`), and what was added where it is alone was made with it
---                        (`alone`): then the events are all there are since. All that was added to the slot's own entries since its
---                        key knew them was made with it (`own`), and the key has seen all that the pass has (`sees`). So where the pass had
---                        seen what the key knew, the events of the call are all that the slot made since, but for steps on links
---     Flushes key pass values had key' pass' values' had' retired     a flush: it began, settled, drained its queue, and returned. A
---                        batch that wasn't empty was attempted
+--                        is as before. The pass has seen what it had seen (`grows`), and what was added is as AddsAlone and AddsOwn say.
+--                        The key has seen all that the pass has (`sees`). So where the pass had seen what the key knew, the events of
+--                        the call are all that the slot made since, but for steps on links
+--     Flushes key pass values had key' pass' values' had' retired     a flush: it began, settled a batch that wasn't empty, and ended
 --     RetiresOne key pass v kept values had key' pass' values' had' retired     a retirement: it began, v was put, of which this is
---                        kept, and then it settled with v as the last, drained its queue, and returned. A full batch was attempted, as
---                        DrainsOne says
+--                        kept, and then it settled with v as the last, drained its queue, and returned (DrainsOne, Ends)
+--     job_of stays, life_when stays life     the job of a slot that swaps its head out, and stays active or not;  the lifetime that begins
+--                        then, and none where the slot leaves
 --     SwapsOut job swap s pass out walk     `out` is the pass after the swap and before the first count: a call of slot s began with this
 --                        job, the head was swapped out by this entry, and the call is about to walk these batches, which came out
 --     Leaves job stays swap key pass values had key' pass' values' had'     a leave or a refresh: it began, the head was swapped out by
@@ -21,13 +21,13 @@
 --                        What was given up was handed before the next. Then the call had its queue alone, and the slot's batch as it was
 --                        (`stands`, `kept`); it drained the queue, and returned. The slot is active afterwards or not. The reclaimer had
 --                        what was handed (HasHad), each value with the word that the list says is kept of it
-use Rattle.std.specs.Prelude.{◌≡◌, ℕ, ℤ, Bool, true, List, [], ◌∷◌, ◌++◌, None, Some, length}
+use Rattle.std.specs.Prelude.{◌≡◌, ℕ, ℤ, Bool, true, false, List, [], ◌∷◌, ◌++◌, None, Some, length}
 use mathlib.Core.List.{IsPrefix}
 use Rattle.seize_machine.specs.Machine.Event.{Begin, Return}
 use Rattle.seize_machine.specs.Machine.State.{Rest, head_at, is_active, is_idle, slot_at}
 use Rattle.seize_machine.specs.declared.machine.event.Answer.TheVariants.{Done}
 use Rattle.seize_machine.specs.declared.machine.event.Job.{Job}
-use Rattle.seize_machine.specs.declared.machine.event.Job.TheVariants.{Flush, Retire}
+use Rattle.seize_machine.specs.declared.machine.event.Job.TheVariants.{Flush, Leave, Refresh, Retire}
 use Rattle.seize_book.specs.Book.{after}
 use Rattle.seize_book.specs.Adding.{deed_with_words}
 use Rattle.seize_book.specs.Entry.{Deed}
@@ -46,7 +46,7 @@ use Rattle.seize_book.specs.declared.book.value_keys.ValueKeys.{ValueKeys}
 use Rattle.seize_calls.specs.Alone.{AddsAlone, AddsOwn}
 use Rattle.seize_calls.specs.Handing.{Had, Handings, HasHad, values_handed, values_put, words_put}
 use Rattle.seize_calls.specs.Inserts.{Continues}
-use Rattle.seize_calls.specs.Settling.{CallState, Drains, DrainsOne, HasBatch, HasQueue, Settles, done_event}
+use Rattle.seize_calls.specs.Settling.{CallState, DrainsAll, DrainsOne, HasBatch, HasQueue, Settles, done_event}
 use Rattle.seize_calls.specs.Walking.{handed_in, steps}
 
 abbrev pub IsInside : SlotKey → Type 0
@@ -76,6 +76,13 @@ pub record Returns (a : CallState) (key' : SlotKey) (pass' : Pass) (values : Val
   pub none : values_of a.queue ≡ []
   pub had_none : had ≡ a.had
 
+pub record Ends (a : CallState) (key' : SlotKey) (pass' : Pass) (values : ValueKeys) (had : Had) : Type 0 where
+  pub drained : CallState
+  pub drains : DrainsAll a drained
+  pub returns : Returns drained key' pass' values had
+  pub call : (slot_of key').call ≡ None
+  pub sees : own_list key' ≡ pass'.seen
+
 pub record Rests (key : SlotKey) (pass : Pass) (key' : SlotKey) (pass' : Pass) (values' : ValueKeys) : Type 0 where
   pub same : IsSamePass pass pass'
   pub grows : IsPrefix pass.seen pass'.seen
@@ -93,9 +100,7 @@ pub record Flushes (key : SlotKey) (pass : Pass) (values : ValueKeys) (had : Had
   pub begins : BeginsSo key pass Flush [] values had begun
   pub settled : CallState
   pub settles : Settles 1 begun settled retired
-  pub drained : CallState
-  pub drains : Drains settled drained
-  pub returns : Returns drained key' pass' values' had'
+  pub ends : Ends settled key' pass' values' had'
   pub rests : Rests key pass key' pass' values'
   pub active : active_of key' ≡ active_of key
   pub life : life_of key' ≡ life_of key
@@ -106,12 +111,18 @@ pub record RetiresOne (key : SlotKey) (pass : Pass) (v kept : ℕ) (values : Val
   pub begins : BeginsSo key pass (Retire v) (kept ∷ []) values had begun
   pub settled : CallState
   pub drains_one : DrainsOne begun v kept settled retired
-  pub drained : CallState
-  pub drains : Drains settled drained
-  pub returns : Returns drained key' pass' values' had'
+  pub ends : Ends settled key' pass' values' had'
   pub rests : Rests key pass key' pass' values'
   pub active : active_of key' ≡ active_of key
   pub life : life_of key' ≡ life_of key
+
+abbrev pub job_of : Bool → Job
+job_of true = Refresh
+job_of false = Leave
+
+abbrev pub life_when : Bool → ℕ → ℕ
+life_when true life = life
+life_when false _ = 0
 
 pub record SwapsOut (job : Job) (swap : Deed) (s : ℕ) (pass out : Pass) (walk : List ℕ) : Type 0 where
   pub same : IsSamePass pass out
@@ -138,8 +149,6 @@ pub record Leaves (job : Job) (stays : Bool) (swap : Deed) (key : SlotKey) (pass
   pub queued : let handed = handed_in walked in
       (values_of behind.queue ≡ values_put handed) × (kepts_of behind.queue ≡ words_put handed)
   pub batch : behind.batch ≡ values
-  pub drained : CallState
-  pub drains : Drains behind drained
-  pub returns : Returns drained key' pass' values' had'
+  pub ends : Ends behind key' pass' values' had'
   pub rests : Rests key pass key' pass' values'
   pub active : active_of key' ≡ stays

@@ -4,22 +4,19 @@
 --                            inactive
 --     all_insert_events pass s ms turns   those of a turn at each of these slots, in order;  won_in turns     how many insertions were won
 --     plan_in key b          how batch b was detached, as the slot's key knows
---     Continues key pass key' pass'  it is the same key and pass, and the slot's batch, whether it is in use and active, and its last
---                            activation, are as they were; the pass has seen all that it had seen, and so no fewer slots; what was
---                            added where it is alone was made with it (AddsAlone), and so was what the key saw come to the slot's own
---                            entries (AddsOwn)
+--     Continues key pass key' pass'  it goes on (Onward), the slot's batch is as it was, and the pass has seen no fewer slots
 --     IsAtTry key head header seen block front     the slot's call is about to insert its batch at this head, where it saw this word, with
 --                            the block of this number and header; and this is the number of the batch's first block
 --     TriesOnce at pass key' pass' won   it tried once, and won or lost
 --     IsAtSlot key m block front     the slot's call is about to read the head of slot m again, to insert its batch there with this block
---     HasHome at header          this is the block's header
+--     IsAtHead key pass head header block front     so it is at this head, whose slot was seen, and this is the block's header
 --     IsAtNext key pass round front     so it is at the slot that is noted of the next block of the round, with this block
 --     GoesPast next round'       the round went past it
 --     InsertsAtSlot at pass key' pass' won   it took a turn there, and is at the next slot
---     IsInserting key pass marks front   the slot's call is about to do so at these slots, each with its block
+--     IsInserting key pass marks front values   the slot's call is about to do so at these slots, each with its block, with the batch of
+--                            these values
 --     InsertsAtEach at pass key' pass' won   it took a turn at each, and is about to add this many insertions
 use Rattle.std.specs.Prelude.{◌≡◌, ℕ, zero, suc, ◌+◌, ◌<◌, ◌≤◌, ◌^◌, Bool, true, false, if◌then◌else◌, List, [], ◌∷◌, ◌++◌, length, Some, slice_index_or}
-use mathlib.Core.List.{IsPrefix}
 use Rattle.seize_machine.specs.Machine.Event.{Insert}
 use Rattle.seize_machine.specs.Machine.Next.{look}
 use Rattle.seize_machine.specs.Machine.State.{Add, Look, has}
@@ -31,21 +28,21 @@ use Rattle.seize_book.specs.Adding.{private}
 use Rattle.seize_book.specs.Blocks.{Plan, block_in, block_number, no_plan, plan_value, plans}
 use Rattle.seize_words.specs.Chunks.{header_home}
 use Rattle.seize_book.specs.Entry.{Deed, Entry}
+use Rattle.seize_words.specs.Counts.{values_in}
 use Rattle.seize_words.specs.Headers.{IsFrontBlock}
 use Rattle.seize_words.specs.Heads.{IsTrying}
 use Rattle.seize_book.specs.Homes.{home_of}
 use Rattle.seize_book.specs.Homesteads.{state_seen}
 use Rattle.seize_book.specs.Ledger.{HeldKey}
-use Rattle.seize_words.specs.Named.{slot_book}
-use Rattle.seize_book.specs.Passes.{IsSamePass, events_by}
+use Rattle.seize_book.specs.Passes.{events_by}
 use Rattle.seize_words.specs.Reservations.{slot}
-use Rattle.seize_book.specs.Slots.{active_of, life_of, own_list, slot_number, slot_of, start_of}
+use Rattle.seize_book.specs.Slots.{own_list, slot_number, slot_of, start_of}
 use Rattle.seize_words.specs.Totals.{slots_seen}
 use Rattle.seize_book.specs.declared.book.pass.Pass.{Pass}
 use Rattle.seize_book.specs.declared.book.slot_key.SlotKey.{SlotKey}
 use Rattle.seize_words.specs.declared.chunk.Header.{Header}
 use Rattle.seize_words.specs.declared.reservation.Head.{Head}
-use Rattle.seize_calls.specs.Alone.{AddsAlone, AddsOwn}
+use Rattle.seize_calls.specs.Alone.{Onward}
 use Rattle.seize_calls.specs.Batches.{SlotMark, marked_slots, slot_in}
 use Rattle.seize_calls.specs.Marks.{reading}
 use Rattle.seize_calls.specs.Rounds.{book_at, done_in, rest_in}
@@ -85,16 +82,9 @@ abbrev pub plan_in : SlotKey → ℕ → Plan
 plan_in key b = slice_index_or (plans (start_of key) (own_list key)) b no_plan
 
 pub record Continues (key : SlotKey) (pass : Pass) (key' : SlotKey) (pass' : Pass) : Type 0 where
-  pub same : IsSamePass pass pass'
-  pub its : (slot_book key' ≡ slot_book key) × (slot_number key' ≡ slot_number key)
+  pub on : Onward key pass key' pass'
   pub batch : (slot_of key').batch ≡ (slot_of key).batch
-  pub used : (slot_of key').used ≡ (slot_of key).used
-  pub active : active_of key' ≡ active_of key
-  pub life : life_of key' ≡ life_of key
   pub seen : slots_seen pass ≤ slots_seen pass'
-  pub grows : IsPrefix pass.seen pass'.seen
-  pub alone : AddsAlone pass pass'
-  pub own : AddsOwn key pass key'
 
 pub record IsAtTry (key : SlotKey) (head : Head) (header : Header) (seen block front : ℕ) : Type 0 where
   pub tries : IsTrying (start_of key) (slot_number key) (own_list key) (slot head) seen block
@@ -120,9 +110,11 @@ pub record IsAtSlot (key : SlotKey) (m block front : ℕ) : Type 0 where
   pub its_block : block ≡ block_in (plan_in key batch) m
   pub its_front : IsFrontBlock key batch front
 
--- this is the header of the block for the slot
-abbrev pub HasHome : {key : SlotKey} {m block front : ℕ} → IsAtSlot key m block front → Header → Type 0
-HasHome {key} {m} at header = home_of (let plan = plan_in key at.batch in plan_value m plan.slots plan.values) ≡ header_home header
+pub record IsAtHead (key : SlotKey) (pass : Pass) (head : Head) (header : Header) (block front : ℕ) : Type 0 where
+  pub at : IsAtSlot key (slot head) block front
+  pub home : home_of (let plan = plan_in key at.batch in plan_value (slot head) plan.slots plan.values) ≡ header_home header
+  pub fits : block + 2 < 2 ^ 64
+  pub seen : slot head < slots_seen pass
 
 pub record InsertsAtSlot {key : SlotKey} {m block front : ℕ} (at : IsAtSlot key m block front) (pass : Pass) (key' : SlotKey) (pass' : Pass)
     (won : Bool) : Type 0 where
@@ -151,16 +143,17 @@ ArePlanned plan seen [] = Unit {0}
 ArePlanned plan seen (mark ∷ marks) =
     ((mark.block ≡ block_in plan mark.slot) × (mark.slot < seen)) × ArePlanned plan seen marks
 
-pub record IsInserting (key : SlotKey) (pass : Pass) (marks : List SlotMark) (front : ℕ) : Type 0 where
+pub record IsInserting (key : SlotKey) (pass : Pass) (marks : List SlotMark) (front : ℕ) (values : List ℕ) : Type 0 where
   pub batch : ℕ
   pub won : ℕ
   pub queue : List ℕ
   pub stands : (slot_of key).call ≡ Some (record { place = look batch won (marked_slots marks); queue = queue })
   pub planned : ArePlanned (plan_in key batch) (slots_seen pass) marks
   pub its_front : IsFrontBlock key batch front
+  pub its_values : values ≡ values_in key batch
 
-pub record InsertsAtEach {key : SlotKey} {pass : Pass} {marks : List SlotMark} {front : ℕ} (at : IsInserting key pass marks front)
-    (key' : SlotKey) (pass' : Pass) (won : ℕ) : Type 0 where
+pub record InsertsAtEach {key : SlotKey} {pass : Pass} {marks : List SlotMark} {front : ℕ} {values : List ℕ}
+    (at : IsInserting key pass marks front values) (key' : SlotKey) (pass' : Pass) (won : ℕ) : Type 0 where
   pub keeps : Continues key pass key' pass'
   pub turns : List InsertTries
   pub each : length turns ≡ length marks

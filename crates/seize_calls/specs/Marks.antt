@@ -1,16 +1,13 @@
--- How a call marks that has put the value with which its batch is full, or that begins to flush. The pass has seen what it had seen, and
--- what was added where it is alone was made with it (AddsAlone), and so was all that was added of the slot's own (AddsOwn).
+-- How a call marks that has put the value with which its batch is full, or that begins to flush.
 --     BeginsToMark key       the slot's call is to read the first head
 --     readings pass s n finds     slot s read heads, with the pass: from this number on, in order, as many as there are answers, which say
 --                            whether the head was active
 --     actives n finds        the numbers of those that were active, in order
 --     EndsMarks at pass key' pass' marks' ends     all that was made with the pass is that the slot read the heads of some slots that there
---                            are, from the first on; the batch stays as it was, and so does whether the slot is in use and active. The
---                            slots marked are those whose heads were active, and the batch may be detached: these slots are noted of the
---                            first blocks, one each, in order. Or the call has given up, and has only its queue to go on with; then one
---                            more was active than there are values
+--                            are, from the first on; the batch stays as it was (Onward). The slots marked are those whose heads were
+--                            active, and the batch may be detached: these slots are noted of the first blocks, one each, in order. Or
+--                            the call has given up, and has only its queue to go on with; one more was active than there are values
 use Rattle.std.specs.Prelude.{◌≡◌, ℕ, suc, ◌≤◌, Bool, true, false, List, [], ◌∷◌, ◌++◌, length, take, Some}
-use mathlib.Core.List.{IsPrefix}
 use Rattle.seize_machine.specs.Machine.Event.{ReadHead}
 use Rattle.seize_machine.specs.Machine.State.{Mark, Rest}
 use Rattle.seize_machine.specs.declared.machine.event.Answer.{Answer}
@@ -19,11 +16,11 @@ use Rattle.seize_book.specs.Adding.{private}
 use Rattle.seize_book.specs.Batches.{CanDetach}
 use Rattle.seize_book.specs.Entry.{Deed}
 use Rattle.seize_book.specs.Passes.{events_by}
-use Rattle.seize_book.specs.Slots.{active_of, life_of, slot_number, slot_of}
+use Rattle.seize_book.specs.Slots.{slot_number, slot_of}
 use Rattle.seize_words.specs.Totals.{slots_seen}
 use Rattle.seize_book.specs.declared.book.pass.Pass.{Pass}
 use Rattle.seize_book.specs.declared.book.slot_key.SlotKey.{SlotKey}
-use Rattle.seize_calls.specs.Alone.{AddsAlone, AddsOwn}
+use Rattle.seize_calls.specs.Alone.{Onward}
 use Rattle.seize_calls.specs.Batches.{SlotMark, marked_slots}
 use Rattle.seize_calls.specs.declared.marking.MarkOutcome.{MarkOutcome}
 use Rattle.seize_calls.specs.declared.marking.MarkOutcome.TheVariants.{Ready, TooMany}
@@ -58,12 +55,7 @@ pub record EndsMarks {key : SlotKey} (at : BeginsToMark key) (pass : Pass) (key'
     (ends : MarkOutcome) : Type 0 where
   pub finds : List Bool
   pub within : length finds ≤ slots_seen pass'
-  pub grows : IsPrefix pass.seen pass'.seen
-  pub alone : AddsAlone pass pass'
-  pub own : AddsOwn key pass key'
+  pub on : Onward key pass key' pass'
   pub made : events_by pass' ≡ events_by pass ++ readings pass (slot_number key) 0 finds
   pub batch : (slot_of key').batch ≡ (slot_of key).batch
-  pub used : (slot_of key').used ≡ (slot_of key).used
-  pub active : active_of key' ≡ active_of key
-  pub life : life_of key' ≡ life_of key
   pub stands : StandsAfter at finds key' marks' ends

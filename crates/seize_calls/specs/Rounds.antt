@@ -1,7 +1,6 @@
 -- A round through the keys of a batch, from the first one on.
 --     done_in round, rest_in round, all_in round     the keys of the values where it has been, of those to come, and of all
---     book_at round            their book;  round_number round     the number of the block of the next one
---     BeginsRound round held   it has been nowhere, and these are to come
+--     book_at round            their book
 --     IsRoundOf round values   it has been nowhere, and these values are to come
 --     HasNextValue round pass     there is a next value, which was named, as the pass has seen
 --     IsNextOf header round    there is one, and this is the header of its block
@@ -33,12 +32,6 @@ all_in round = done_in round ++ rest_in round
 
 abbrev pub book_at : Round → Name
 book_at round = round.done.keys.name
-
-abbrev pub round_number : Round → ℕ
-round_number round = round.number
-
-abbrev pub BeginsRound : Round → List (HeldKey Entry) → Type 0
-BeginsRound round held = (done_in round ≡ []) × (rest_in round ≡ held)
 
 abbrev pub IsRoundOf : Round → List ℕ → Type 0
 IsRoundOf round values = (done_in round ≡ []) × (labels_of (rest_in round) ≡ values)

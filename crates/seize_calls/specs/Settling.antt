@@ -1,14 +1,10 @@
 -- What a slot's call does with its slot's batch, and with the further values in its queue.
 --     CallState              where a call stands: the slot's key, its pass, the keys of the slot's batch and of the queue, and what the
---                            reclaimer had so far;  call_state key pass batch queue had     by what its caller holds
+--                            reclaimer had so far;  call_state holder pass queue had     by what its caller holds
 --     HasBatch key pass values    these are the keys of the values of the slot's batch, and of each the list says what is kept of it
---     IsWellFormed a         all is of one book, the pass has seen what the slot's key knows, and the batch's keys are those of its values;
---                            of these, and of the queue's, the list says what is kept
---     Onward key pass key' pass'     it is the same slot and pass; whether it is in use and active, and its last activation, are as they
---                            were. The pass has seen what it had seen. What was added where it is alone was made with it (AddsAlone); so
---                            was all that was added of the slot's own (AddsOwn)
 --     IsToMark key queue     the slot's call is to read the first head, and has these values in its queue
 --     HasQueue key queue     it has nothing else to do but with these
+--     MarksFrom least key queue     it is to mark where its slot's batch has `least` values or more, and else it has its queue alone
 --     MayPut key v queue     it is to put v, which it retires, or which is the first of its queue; then it has these
 --     Stays least a b        the batch stays: the heads were read, and one slot more was active than it has values; or none was read, and
 --                            it has fewer values than `least`. The keys are as they were, with all that is noted but the slots, and the
@@ -21,8 +17,8 @@
 --     DrainsOne a v kept b retired   it put v, of which this is kept, and then it settled with v as the last: a full batch was attempted,
 --                            which has as many values as the batch size of the pass, and one at least
 --     Drains a b             rounds with the values of its queue: as often as they came, with the first of them each time
-use Rattle.std.specs.Prelude.{◌≡◌, ◌⊎◌, ℕ, ℤ, suc, ◌<◌, max, Bool, true, false, if◌then◌else◌, List, [], ◌∷◌, ◌++◌, length, Some}
-use mathlib.Core.List.{IsPrefix}
+--     DrainsAll a b          so it went on until none was left
+use Rattle.std.specs.Prelude.{◌≡◌, ◌⊎◌, ℕ, ℤ, suc, ◌<◌, ◌≤◌, max, Bool, true, false, if◌then◌else◌, List, [], ◌∷◌, ◌++◌, length, Some}
 use Rattle.seize_machine.specs.Machine.Event.{AddCount, Detach, Event, Put}
 use Rattle.seize_machine.specs.Machine.Next.{is_zero}
 use Rattle.seize_machine.specs.Machine.State.{Append, Place, Rest}
@@ -30,15 +26,13 @@ use Rattle.seize_machine.specs.declared.machine.event.Answer.{Answer}
 use Rattle.seize_machine.specs.declared.machine.event.Answer.TheVariants.{Count, Done}
 use Rattle.seize_book.specs.Adding.{private}
 use Rattle.seize_book.specs.Entry.{Deed}
-use Rattle.seize_words.specs.Named.{slot_book}
-use Rattle.seize_book.specs.Passes.{IsSamePass, events_by}
-use Rattle.seize_book.specs.Slots.{IsKeyOfBook, active_of, life_of, slot_number, slot_of}
+use Rattle.seize_book.specs.Passes.{events_by}
+use Rattle.seize_book.specs.Slots.{active_of, slot_number, slot_of}
 use Rattle.seize_book.specs.Values.{AreOfBook, IsEmpty, values_of}
 use Rattle.seize_book.specs.declared.book.pass.Pass.{Pass}
 use Rattle.seize_book.specs.declared.book.slot_key.SlotKey.{SlotKey}
 use Rattle.seize_book.specs.declared.book.value_keys.ValueKeys.{ValueKeys}
-use Rattle.seize_words.specs.Walks.{Knows}
-use Rattle.seize_calls.specs.Alone.{AddsAlone, AddsOwn}
+use Rattle.seize_calls.specs.Alone.{Onward}
 use Rattle.seize_book.specs.Kept.{AllTold, AreTold, kepts_of}
 use Rattle.seize_calls.specs.Batches.{AreRemarked, IsPushed, keys_in}
 use Rattle.seize_calls.specs.Furthers.{further_in}
@@ -46,8 +40,8 @@ use Rattle.seize_calls.specs.Handing.{Had, Handings, HasHad, Queues, TakesFirst,
 use Rattle.seize_calls.specs.Inserts.{InsertTries, all_insert_events}
 use Rattle.seize_calls.specs.Marks.{BeginsToMark, actives, readings}
 use Rattle.seize_calls.specs.Walking.{hands}
-use Rattle.seize_calls.specs.declared.batch.Batch.{Batch}
 use Rattle.seize_calls.specs.declared.further.Further.{Further}
+use Rattle.seize_calls.specs.declared.holder.Holder.{Holder}
 
 pub record CallState : Type 0 where
   pub key : SlotKey
@@ -56,33 +50,23 @@ pub record CallState : Type 0 where
   pub queue : ValueKeys
   pub had : Had
 
-abbrev pub call_state : SlotKey → Pass → Batch → Further → Had → CallState
-call_state key pass batch queue had = record { key = key; pass = pass; batch = keys_in batch; queue = further_in queue; had = had }
+abbrev pub call_state : {T : Type 0} → Holder T → Pass → Further → Had → CallState
+call_state holder pass queue had =
+    record { key = holder.key; pass = pass; batch = keys_in holder.batch; queue = further_in queue; had = had }
 
 abbrev pub HasBatch : SlotKey → Pass → ValueKeys → Type 0
 HasBatch key pass values = AreOfBook values pass × (values_of values ≡ (slot_of key).batch) × AreTold values pass
-
-pub record IsWellFormed (a : CallState) : Type 0 where
-  pub its : IsKeyOfBook a.key a.pass
-  pub knows : Knows a.key a.pass
-  pub batch : HasBatch a.key a.pass a.batch
-  pub queue : AreOfBook a.queue a.pass × AreTold a.queue a.pass
-
-pub record Onward (key : SlotKey) (pass : Pass) (key' : SlotKey) (pass' : Pass) : Type 0 where
-  pub same : IsSamePass pass pass'
-  pub its : (slot_book key' ≡ slot_book key) × (slot_number key' ≡ slot_number key)
-  pub used : (slot_of key').used ≡ (slot_of key).used
-  pub active : active_of key' ≡ active_of key
-  pub life : life_of key' ≡ life_of key
-  pub grows : IsPrefix pass.seen pass'.seen
-  pub alone : AddsAlone pass pass'
-  pub own : AddsOwn key pass key'
 
 abbrev pub IsToMark : SlotKey → ValueKeys → Type 0
 IsToMark key queue = (at : BeginsToMark key) × (at.queue ≡ values_of queue)
 
 abbrev pub HasQueue : SlotKey → ValueKeys → Type 0
 HasQueue key queue = (slot_of key).call ≡ Some (record { place = Rest [] []; queue = values_of queue })
+
+abbrev pub MarksFrom : ℕ → SlotKey → ValueKeys → Type 0
+MarksFrom least key queue =
+    let many = length (slot_of key).batch in
+    (least ≤ many → IsToMark key queue) × (many < max 1 least → HasQueue key queue)
 
 abbrev pub MayPut : SlotKey → ℕ → ValueKeys → Type 0
 MayPut key v queue =
@@ -146,3 +130,9 @@ pub data Drains (a : CallState) : CallState → Type 0 where
   over : Drains a a
   goes_on : (b c : CallState) (queue : ValueKeys) (v kept : ℕ) (retired : Bool) → Drains a b → TakesFirst b.queue v kept queue
       → DrainsOne (record { key = b.key; pass = b.pass; batch = b.batch; queue = queue; had = b.had }) v kept c retired → Drains a c
+
+pub record DrainsAll (a b : CallState) : Type 0 where
+  pub on : Onward a.key a.pass b.key b.pass
+  pub drains : Drains a b
+  pub rests : HasQueue b.key b.queue
+  pub none : values_of b.queue ≡ []

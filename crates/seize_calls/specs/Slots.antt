@@ -10,7 +10,6 @@
 --     KeepsCalls slot slot'    all these are the same
 --     its_spots slot           its list of spots
 --     MakesOneSlot numbers next pass numbers' slot next' pass'     the slot was made (MakesNextSlot), and has seen what the pass has
---     IsPassFor words pass     it is a pass of their book, with their batch size
 --     SetsUse numbers pass' numbers' slot used     the key of the numbers follows, and which are in use is as before, but for this slot's
 --     MayEnterWith slot a      the slot is inactive, and it is an activation of it, with all units
 --     InActivation slot a      the slot is active, and this is its activation, which has begun, as was seen
@@ -23,15 +22,14 @@
 --     CallsWith slot pass slot' pass' Does     once the pass was ready, and had seen what the slot's key knew, this was done. It is the
 --                              same slot, and has seen what the pass has
 --     SlotEnters, SlotRetires, SlotFlushes, SlotLeaves, SlotRefreshes     so a call of the slot did, with this pass and with what the
---                              reclaimer had: see `RetiresOne`, `Flushes` and `Leaves`
+--                              reclaimer had: see `RetiresOne`, `Flushes` and `Leaves`;  SlotGoes stays slot pass life had slot' pass' had'
+--                              left or refreshed, by whether it stays active
 --     SlotGives, SlotTakes     its number went back by the event `Give`, or was taken again by `Take`; it keeps its batch
 --     SlotLooks slot pass slot' pass'     pass and key looked at the list, where the slot is as its key knew; it keeps its batch
 use Rattle.std.specs.Prelude.{◌≡◌, ℕ, Bool, true, false, List, Some, slice_set}
 use mathlib.Core.List.{IsPrefix}
 use Rattle.seize_machine.specs.Machine.Event.{Enter, Give, SwapOut, Take}
-use Rattle.seize_machine.specs.declared.machine.event.Job.TheVariants.{Leave, Refresh}
 use Rattle.seize_store.specs.declared.spot.Spots.{Spots}
-use Rattle.seize_book.specs.Adding.{private}
 use Rattle.seize_book.specs.Book.{IsLegalList}
 use Rattle.seize_book.specs.Entry.{Entry}
 use Rattle.seize_book.specs.Kept.{AreTold}
@@ -60,34 +58,35 @@ use Rattle.seize_words.specs.declared.link.MaybeKey.{MaybeKey}
 use Rattle.seize_words.specs.declared.reservation.Head.{Head}
 use Rattle.seize_words.specs.declared.words.Words.{Words}
 use Rattle.seize_calls.specs.Batches.{keys_in}
-use Rattle.seize_calls.specs.Calls.{Flushes, HasBegun, Leaves, RetiresOne}
+use Rattle.seize_calls.specs.Calls.{Flushes, HasBegun, Leaves, RetiresOne, job_of, life_when}
 use Rattle.seize_calls.specs.Handing.{Had}
+pub use Rattle.seize_calls.specs.Together.{IsPassFor}
 use Rattle.seize_calls.specs.Together.{what_saw}
 use Rattle.seize_calls.specs.declared.slot.Loose.{Loose}
 use Rattle.seize_calls.specs.declared.slot.Slot.{Slot}
 
 pub record IsOfList {T : Type 0} (n : Name) (slot : Slot T) : Type 0 where
   pub book : slot.seen.name ≡ n
-  pub knows : Knows slot.key (what_saw slot.seen)
-  pub told : AreTold (keys_in slot.batch) (what_saw slot.seen)
+  pub knows : Knows slot.holder.key (what_saw slot.seen)
+  pub told : AreTold (keys_in slot.holder.batch) (what_saw slot.seen)
 
 abbrev pub IsOfWords : {T : Type 0} → Words T → Slot T → Type 0
 IsOfWords words slot = IsOfList (words_book words) slot
 
 abbrev pub IsInUse : {T : Type 0} → Slot T → Type 0
-IsInUse slot = (slot_of slot.key).used ≡ true
+IsInUse slot = (slot_of slot.holder.key).used ≡ true
 
 abbrev pub IsActive : {T : Type 0} → Slot T → Type 0
-IsActive slot = active_of slot.key ≡ true
+IsActive slot = active_of slot.holder.key ≡ true
 
 abbrev pub IsInactive : {T : Type 0} → Slot T → Type 0
-IsInactive slot = active_of slot.key ≡ false
+IsInactive slot = active_of slot.holder.key ≡ false
 
 abbrev pub IsSlotOf : {T : Type 0} → Words T → Slot T → Type 0
 IsSlotOf words slot = IsOfWords words slot × IsInUse slot
 
 abbrev pub IsFreeSlotOf : {T : Type 0} → Words T → Slot T → Type 0
-IsFreeSlotOf words slot = IsOfWords words slot × ((slot_of slot.key).used ≡ false) × IsInactive slot
+IsFreeSlotOf words slot = IsOfWords words slot × ((slot_of slot.holder.key).used ≡ false) × IsInactive slot
 
 abbrev pub its_number : {T : Type 0} → Slot T → ℕ
 its_number slot = slot.number
@@ -96,13 +95,13 @@ abbrev pub its_book : {T : Type 0} → Slot T → Name
 its_book slot = slot.seen.name
 
 abbrev pub its_key : {T : Type 0} → Slot T → SlotKey
-its_key slot = slot.key
+its_key slot = slot.holder.key
 
 abbrev pub its_batch : {T : Type 0} → Slot T → ValueKeys
-its_batch slot = keys_in slot.batch
+its_batch slot = keys_in slot.holder.batch
 
 abbrev pub its_spots : {T : Type 0} → Slot T → Spots Header Part T
-its_spots slot = slot.spots
+its_spots slot = slot.holder.spots
 
 abbrev pub its_seen : {T : Type 0} → Slot T → List Entry
 its_seen slot = slot.seen.seen
@@ -112,25 +111,22 @@ IsItsHead slot head = (head_book head ≡ slot.seen.name) × (head_slot head ≡
 
 abbrev pub KeepsCalls : {T : Type 0} → Slot T → Slot T → Type 0
 KeepsCalls slot slot' =
-    (slot'.number ≡ slot.number) × (slot'.key ≡ slot.key) × (slot'.batch ≡ slot.batch) × (slot'.seen ≡ slot.seen)
+    (slot'.number ≡ slot.number) × (its_key slot' ≡ its_key slot) × (slot'.holder.batch ≡ slot.holder.batch) × (slot'.seen ≡ slot.seen)
 
 abbrev pub MakesOneSlot : {T : Type 0} → NumbersKey → NextSlot → Pass → NumbersKey → Slot T → NextSlot → Pass → Type 0
 MakesOneSlot numbers next pass numbers' slot next' pass' =
-    MakesNextSlot numbers next pass numbers' slot.key next' pass' × (slot.seen.seen ≡ pass'.seen)
-
-abbrev pub IsPassFor : {T : Type 0} → Words T → Pass → Type 0
-IsPassFor words pass = (words_book words ≡ pass.name) × (words.size ≡ pass.size)
+    MakesNextSlot numbers next pass numbers' slot.holder.key next' pass' × (slot.seen.seen ≡ pass'.seen)
 
 abbrev pub SetsUse : {T : Type 0} → NumbersKey → Pass → NumbersKey → Slot T → Bool → Type 0
 SetsUse numbers pass' numbers' slot used =
     FollowsNumbers numbers pass' numbers' × (use_flags numbers' ≡ slice_set (use_flags numbers) slot.number used)
 
 abbrev pub MayEnterWith : {T : Type 0} → Slot T → Activation → Type 0
-MayEnterWith slot a = IsInactive slot × IsOfSlot slot.key a
+MayEnterWith slot a = IsInactive slot × IsOfSlot slot.holder.key a
 
 pub record InActivation {T : Type 0} (slot : Slot T) (a : Activation) : Type 0 where
   pub active : IsActive slot
-  pub its : (a.name ≡ slot.key.keys.name) × (a.slot ≡ slot_number slot.key) × (a.life ≡ life_of slot.key)
+  pub its : (a.name ≡ slot.holder.key.keys.name) × (a.slot ≡ slot_number slot.holder.key) × (a.life ≡ life_of slot.holder.key)
   pub begun : HasBegun a (what_saw slot.seen)
 
 abbrev pub HasActivation : {T : Type 0} → Slot T → Activation → Type 0
@@ -169,41 +165,47 @@ pub record CallsWith {T : Type 0} (slot : Slot T) (pass : Pass) (slot' : Slot T)
   pub same : (slot'.number ≡ slot.number) × (slot'.seen.name ≡ slot.seen.name)
   pub ready : Pass
   pub prepares : Prepares slot pass ready
-  pub knew : IsPrefix (own_list slot.key) ready.seen
+  pub knew : IsPrefix (own_list slot.holder.key) ready.seen
   pub does : Does ready
   pub seen : slot'.seen.seen ≡ pass'.seen
 
 abbrev pub SlotEnters : {T : Type 0} → Slot T → Pass → Activation → Slot T → Pass → Type 0
 SlotEnters slot pass a slot' pass' =
-    CallsWith slot pass slot' pass' (λ p. AddsDeed slot.key p slot'.key pass' (beginning p a.life (Enter (its_number slot))))
+    CallsWith slot pass slot' pass' (λ p. AddsDeed (its_key slot) p (its_key slot') pass' (beginning p a.life (Enter (its_number slot))))
 
 abbrev pub SlotRetires : {T : Type 0} → Slot T → Pass → Loose → ℕ → Had → Slot T → Pass → Had → Bool → Type 0
 SlotRetires slot pass loose kept had slot' pass' had' retired =
     CallsWith slot pass slot' pass' (λ p.
-    RetiresOne slot.key p (its_value loose) kept (keys_in slot.batch) had slot'.key pass' (keys_in slot'.batch) had' retired)
+    RetiresOne (its_key slot) p (its_value loose) kept (its_batch slot) had (its_key slot') pass' (its_batch slot') had' retired)
 
 abbrev pub SlotFlushes : {T : Type 0} → Slot T → Pass → Had → Slot T → Pass → Had → Bool → Type 0
 SlotFlushes slot pass had slot' pass' had' retired =
-    CallsWith slot pass slot' pass' (λ p. Flushes slot.key p (keys_in slot.batch) had slot'.key pass' (keys_in slot'.batch) had' retired)
+    CallsWith slot pass slot' pass' (λ p.
+    Flushes (its_key slot) p (its_batch slot) had (its_key slot') pass' (its_batch slot') had' retired)
+
+-- by whether the slot stays active, and with this lifetime that it begins then
+abbrev pub SlotGoes : {T : Type 0} → Bool → Slot T → Pass → ℕ → Had → Slot T → Pass → Had → Type 0
+SlotGoes stays slot pass life had slot' pass' had' =
+    CallsWith slot pass slot' pass' (λ p. let swap = beginning p (life_when stays life) (SwapOut (slot_number slot.holder.key)) in
+    Leaves (job_of stays) stays swap (its_key slot) p (its_batch slot) had (its_key slot') pass' (its_batch slot') had')
 
 abbrev pub SlotLeaves : {T : Type 0} → Slot T → Pass → Had → Slot T → Pass → Had → Type 0
-SlotLeaves slot pass had slot' pass' had' =
-    CallsWith slot pass slot' pass' (λ p. let swap = private p (SwapOut (slot_number slot.key)) in
-    Leaves Leave false swap slot.key p (keys_in slot.batch) had slot'.key pass' (keys_in slot'.batch) had')
+SlotLeaves slot pass had slot' pass' had' = SlotGoes false slot pass 0 had slot' pass' had'
 
 abbrev pub SlotRefreshes : {T : Type 0} → Slot T → Pass → Activation → Had → Slot T → Pass → Had → Type 0
-SlotRefreshes slot pass a had slot' pass' had' =
-    CallsWith slot pass slot' pass' (λ p. let swap = beginning p a.life (SwapOut (slot_number slot.key)) in
-    Leaves Refresh true swap slot.key p (keys_in slot.batch) had slot'.key pass' (keys_in slot'.batch) had')
+SlotRefreshes slot pass a had slot' pass' had' = SlotGoes true slot pass a.life had slot' pass' had'
 
 abbrev pub SlotGives : {T : Type 0} → Slot T → Pass → Slot T → Pass → Type 0
 SlotGives slot pass slot' pass' =
-    CallsWith slot pass slot' pass' (λ p. AddsEvent slot.key p slot'.key pass' (Give (its_number slot))) × (slot'.batch ≡ slot.batch)
+    CallsWith slot pass slot' pass' (λ p. AddsEvent (its_key slot) p (its_key slot') pass' (Give (its_number slot)))
+    × (slot'.holder.batch ≡ slot.holder.batch)
 
 abbrev pub SlotTakes : {T : Type 0} → Slot T → Pass → Slot T → Pass → Type 0
 SlotTakes slot pass slot' pass' =
-    CallsWith slot pass slot' pass' (λ p. AddsEvent slot.key p slot'.key pass' (Take (its_number slot))) × (slot'.batch ≡ slot.batch)
+    CallsWith slot pass slot' pass' (λ p. AddsEvent (its_key slot) p (its_key slot') pass' (Take (its_number slot)))
+    × (slot'.holder.batch ≡ slot.holder.batch)
 
 abbrev pub SlotLooks : {T : Type 0} → Slot T → Pass → Slot T → Pass → Type 0
 SlotLooks slot pass slot' pass' =
-    CallsWith slot pass slot' pass' (λ p. LooksWithSlotKey slot.key p slot'.key pass') × (slot'.batch ≡ slot.batch)
+    CallsWith slot pass slot' pass' (λ p. LooksWithSlotKey (its_key slot) p (its_key slot') pass')
+    × (slot'.holder.batch ≡ slot.holder.batch)

@@ -1,24 +1,18 @@
 //! An attempt to retire a slot's batch: it marks the active slots, detaches the batch, inserts it at each of them that is active still, and
 //! adds the insertions won to its count. Others may step on all these words meanwhile, and add any events.
-ghost use Rattle.std.specs.Prelude.{◌≡◌};
-ghost use mathlib.Core.List.{IsPrefix};
 ghost use Rattle.seize_calls.specs.Attempts.{Attempts};
 ghost use Rattle.seize_calls.specs.Batches.{keys_in};
+ghost use Rattle.seize_calls.specs.Together.{IsKeyFor};
 ghost use Rattle.seize_calls.specs.Marks.{BeginsToMark};
 ghost use Rattle.seize_calls.specs.Settling.{HasBatch};
-ghost use Rattle.seize_words.specs.Chunks.{blocks_book};
-ghost use Rattle.seize_book.specs.Passes.{IsSamePass};
-ghost use Rattle.seize_words.specs.Reserved.{slots_book};
-ghost use Rattle.seize_book.specs.Slots.{IsKeyOfBook, own_list, slot_number};
 ghost use Rattle.seize_words.specs.Walks.{Knows};
 
 use crate::batch::Batch;
 use crate::inserting::insert_each;
 use crate::manner::Manner;
 use crate::marking::{MarkOutcome, mark};
-use seize_words::blocks::Blocks;
 use seize_words::book::{Pass, SlotKey};
-use seize_words::slots::Slots;
+use seize_words::words::Words;
 
 /// What an attempt comes to.
 #[derive(Clone, Copy, PartialEq, Eq, Debug)]
@@ -34,30 +28,26 @@ pub enum AttemptOutcome {
 /// Attempts to retire the slot's batch, which is this one. Afterwards it has no values, unless it stays, or is given up.
 ///
 /// It takes no memory, and waits as its manner does.
-pub fn attempt<T: Drop, M: Manner>(
-    slots: &Slots,
-    blocks: &Blocks<T>,
+pub(crate) fn attempt<T: Drop, M: Manner>(
+    words: &Words<T>,
     batch: &mut Batch,
     key: &mut SlotKey,
     pass: &mut Pass,
     manner: &M,
 ) -> AttemptOutcome
-    requires may { M.may manner.now pass.old.id }
-    requires book { IsKeyOfBook key.old pass.old × (slots_book slots.now ≡ pass.old.name) × (blocks_book blocks.now ≡ pass.old.name) }
-    requires knows { Knows key.old pass.old }
+    requires key { IsKeyFor words.now key.old pass.old × M.may manner.now pass.old.id }
     requires begins { BeginsToMark key.old }
     requires batch { HasBatch key.old pass.old (keys_in batch.old) }
-    ensures book { IsKeyOfBook key.new pass.new × IsSamePass pass.old pass.new × (slot_number key.new ≡ slot_number key.old) }
     ensures knows { Knows key.new pass.new }
     ensures ends { (at : BeginsToMark key.old) → Attempts at pass.old (keys_in batch.old) key.new pass.new (keys_in batch.new) result }
 {
-    match mark(slots, blocks, batch, key, pass) {
+    match mark(words, batch, key, pass) {
         MarkOutcome::TooMany => AttemptOutcome::Stays,
         MarkOutcome::Ready(marked) => {
             key.detach(pass);
             let front = batch.first;
-            let won = insert_each(slots, blocks, batch, marked, key, pass, manner);
-            let header = blocks.header(front, pass);
+            let won = insert_each(words, batch, marked, key, pass, manner);
+            let header = words.blocks.header(front, pass);
             if header.count.add(won, key, &mut batch.values, pass) {
                 AttemptOutcome::GivenUp
             } else {

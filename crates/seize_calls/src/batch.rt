@@ -1,12 +1,15 @@
 //! The batch of a slot, as its holder keeps it: the keys of its values, and where the first and the last lie. What comes between is noted
 //! of the blocks themselves, so a batch takes no memory, however many values it has.
 ghost use Rattle.std.specs.Prelude.{◌≡◌, true};
+ghost use Rattle.seize_book.specs.Blocks.{block_number};
+ghost use Rattle.seize_book.specs.Others.{value_of};
 ghost use Rattle.seize_calls.specs.Numbered.{ends_at, is_count_of, starts_at};
 ghost use Rattle.seize_book.specs.Values.{AreClosed, values_of};
 
 use crate::chain::join;
 use seize_words::blocks::Blocks;
 use seize_words::book::{Pass, ValueKey, ValueKeys};
+use std::mem;
 
 /// The keys of the values of a slot's batch, in the order in which they were put. Of each block it is noted which one comes next, and of
 /// the last one's that none does.
@@ -26,12 +29,19 @@ pub struct Batch {
     ghost closed: { AreClosed values },
 }
 
+/// A value that is about to join a batch, with the number of its block and what is kept of it.
+pub struct Newcomer {
+    pub(crate) number: u64,
+    pub(crate) kept: u64,
+    pub(crate) value: ValueKey,
+    ghost its: { block_number (value_of value) ≡ number },
+}
+
 impl Batch {
     ghost use Rattle.std.specs.Prelude.{length, min, ◌-◌, ◌^◌};
-    ghost use Rattle.seize_book.specs.Blocks.{block_number};
-    ghost use Rattle.seize_book.specs.Others.{book_of, value_of};
-    ghost use Rattle.seize_book.specs.Values.{IsEmpty};
-    ghost use Rattle.seize_calls.specs.Batches.{IsPushed, keys_book, keys_in};
+    ghost use Rattle.seize_book.specs.Others.{book_of};
+    ghost use Rattle.seize_book.specs.Values.{IsEmpty, IsEmptyIn, book_in};
+    ghost use Rattle.seize_calls.specs.Batches.{IsPushed, keys_in};
     ghost use Rattle.seize_words.specs.Chunks.{blocks_book};
 
     /// A batch of no values, of the pass's book.
@@ -46,20 +56,19 @@ impl Batch {
         }
     }
 
-    /// One value more comes last, of which this is its block's number and what is kept.
+    /// One value more comes last.
     ///
     /// It takes no memory: two look-ups, a plain read and two plain writes.
-    pub(crate) fn push<T: Drop>(
-        &mut self,
-        blocks: &Blocks<T>,
-        number: u64,
-        kept: u64,
-        value: ValueKey,
-    )
-        requires book { (keys_book (keys_in self.old) ≡ blocks_book blocks.now) × (book_of value ≡ blocks_book blocks.now) }
-        requires number { block_number (value_of value) ≡ number }
-        ensures { IsPushed (keys_in self.old) (value_of value) kept (keys_in self.new) }
+    #[inline(always)]
+    pub(crate) fn push<T: Drop>(&mut self, blocks: &Blocks<T>, newcomer: Newcomer)
+        requires { (book_in (keys_in self.old) ≡ blocks_book blocks.now) × (book_of newcomer.value ≡ blocks_book blocks.now) }
+        ensures { IsPushed (keys_in self.old) (value_of newcomer.value) newcomer.kept (keys_in self.new) }
     {
+        let Newcomer {
+            number,
+            kept,
+            value,
+        } = newcomer;
         let empty = self.len == 0;
         join(
             blocks,
@@ -73,5 +82,15 @@ impl Batch {
         self.first = if empty { number } else { self.first };
         self.last = number;
         self.len = self.len.saturating_add(1);
+    }
+
+    /// All its values come out, with the number of the first one's block, and none are left.
+    pub(crate) fn take(&mut self) -> (u64, ValueKeys)
+        ensures out { (result.0 ≡ self.old.first) × (result.1 ≡ keys_in self.old) }
+        ensures left { IsEmptyIn (book_in (keys_in self.old)) (keys_in self.new) }
+    {
+        let none = self.values.none();
+        self.len = 0;
+        (self.first, mem::replace(&mut self.values, none))
     }
 }

@@ -3,8 +3,8 @@
 ghost use Rattle.std.specs.Prelude.{◌≡◌, ◌+◌, ◌<◌, ◌^◌, true};
 ghost use Rattle.seize_book.specs.Blocks.{block_number};
 ghost use Rattle.seize_book.specs.Others.{book_of, value_of};
-ghost use Rattle.seize_book.specs.Values.{AreClosed, AreNew, values_of};
-ghost use Rattle.seize_calls.specs.Batches.{IsNewValue, IsPushed, LeadsFrom, keys_book};
+ghost use Rattle.seize_book.specs.Values.{AreClosed, AreNew, book_in, values_of};
+ghost use Rattle.seize_calls.specs.Batches.{IsNewValue, IsPushed, LeadsFrom};
 ghost use Rattle.seize_calls.specs.Numbered.{are_none, ends_at};
 ghost use Rattle.seize_words.specs.Chunks.{blocks_book};
 
@@ -16,6 +16,7 @@ use seize_words::note::Note;
 /// where there are some.
 ///
 /// It takes no memory: two look-ups, a plain read and two plain writes.
+#[inline(always)]
 pub(crate) fn join<T: Drop>(
     blocks: &Blocks<T>,
     values: &mut ValueKeys,
@@ -25,7 +26,7 @@ pub(crate) fn join<T: Drop>(
     kept: u64,
     value: ValueKey,
 )
-    requires book { (keys_book values.old ≡ blocks_book blocks.now) × (book_of value ≡ blocks_book blocks.now) }
+    requires book { (book_in values.old ≡ blocks_book blocks.now) × (book_of value ≡ blocks_book blocks.now) }
     requires empty { empty ≡ are_none (values_of values.old) }
     requires last { ends_at last (values_of values.old) ≡ true }
     requires number { block_number (value_of value) ≡ number }
@@ -47,6 +48,7 @@ pub(crate) fn join<T: Drop>(
 }
 
 /// What is noted of the last value's block says then that the block of this number comes next, where there are values.
+#[inline(always)]
 pub(crate) fn lead_on<T: Drop>(
     blocks: &Blocks<T>,
     values: &mut ValueKeys,
@@ -54,7 +56,7 @@ pub(crate) fn lead_on<T: Drop>(
     last: u64,
     number: u64,
 )
-    requires book { keys_book values.old ≡ blocks_book blocks.now }
+    requires book { book_in values.old ≡ blocks_book blocks.now }
     requires empty { empty ≡ are_none (values_of values.old) }
     requires last { ends_at last (values_of values.old) ≡ true }
     requires fits { number + 1 < 2 ^ 64 }

@@ -1,25 +1,22 @@
 //! The queue of a slot's call: when the call has nothing else to do it retires what is there, the first first, until none is left. What
 //! goes to its reclaimer meanwhile may put more. Others may add any events meanwhile. Beside others the queue ends where reclaimers come
 //! to put no more; alone it ends by weights.
-ghost use Rattle.std.specs.Prelude.{◌≡◌, []};
-ghost use Rattle.seize_book.specs.Values.{values_of};
+ghost use Rattle.std.specs.Prelude.{◌≡◌};
 ghost use Rattle.seize_calls.specs.Furthers.{further_in};
+ghost use Rattle.seize_calls.specs.Together.{IsUnderWay};
 ghost use Rattle.seize_calls.specs.Laying.{Lays};
-ghost use Rattle.seize_calls.specs.Settling.{Drains, HasQueue, IsWellFormed, Onward, call_state};
-ghost use Rattle.seize_words.specs.Chunks.{AreSpotsIn, blocks_book};
-ghost use Rattle.seize_words.specs.Reserved.{slots_book};
+ghost use Rattle.seize_calls.specs.Settling.{DrainsAll, HasQueue, call_state};
+ghost use Rattle.seize_words.specs.Chunks.{blocks_book};
+ghost use Rattle.seize_words.specs.Joined.{words_book};
 
-use crate::batch::Batch;
 use crate::further::Further;
 use crate::handing::Reclaim;
+use crate::holder::Holder;
 use crate::limit::Limit;
 use crate::manner::{Alone, Beside, Manner};
-use crate::settling::put;
-use seize_store::Spots;
 use seize_words::blocks::Blocks;
-use seize_words::book::{Pass, Permit, SlotKey};
-use seize_words::chunk::{Header, Part};
-use seize_words::slots::Slots;
+use seize_words::book::{Pass, Permit};
+use seize_words::words::Words;
 use std::marker::Brand;
 use std::sync::Wait;
 
@@ -47,34 +44,21 @@ pub trait Lightens<T>: Reclaim<T> {
 
 /// A manner in which a call's queue can be drained where its reclaimer is such a one.
 pub trait Drainer<T: Drop, R: Reclaim<T>>: Manner {
-    /// What `drain` does, also where the queue is empty.
+    /// What `Holder::drain` does, also where the queue is empty.
     fn drain_all(
         &self,
-        slots: &Slots,
-        blocks: &Blocks<T>,
-        spots: &mut Spots<Header, Part, T>,
-        batch: &mut Batch,
-        size: usize,
+        holder: &mut Holder<T>,
+        words: &Words<T>,
         queue: &mut Further,
-        key: &mut SlotKey,
         reclaimer: &mut R,
         pass: &mut Pass,
     )
-        requires may { Self.may self.now pass.old.id }
-        requires words { (slots_book slots.now ≡ pass.old.name) × (blocks_book blocks.now ≡ pass.old.name) }
-        requires size { size ≡ pass.old.size }
-        requires well_formed { IsWellFormed (call_state key.old pass.old batch.old queue.old (R.had reclaimer.old)) }
-        requires rests { HasQueue key.old (further_in queue.old) }
-        requires serves { R.serves reclaimer.old (blocks_book blocks.now) }
-        requires spots { AreSpotsIn blocks.now spots.old }
-        ensures well_formed { IsWellFormed (call_state key.new pass.new batch.new queue.new (R.had reclaimer.new)) }
-        ensures serves { R.serves reclaimer.new (blocks_book blocks.now) }
-        ensures spots { AreSpotsIn blocks.now spots.new }
-        ensures laid { Lays pass.old spots.old pass.new spots.new }
-        ensures on { Onward key.old pass.old key.new pass.new }
-        ensures over { HasQueue key.new (further_in queue.new) × (values_of (further_in queue.new) ≡ []) }
-        ensures drains { let from = call_state key.old pass.old batch.old queue.old (R.had reclaimer.old) in
-            Drains from (call_state key.new pass.new batch.new queue.new (R.had reclaimer.new)) };
+        requires stands { IsUnderWay words.now holder.old queue.old pass.old × HasQueue holder.old.key (further_in queue.old) }
+        requires serves { R.serves reclaimer.old (words_book words.now) × Self.may self.now pass.old.id }
+        ensures stands { IsUnderWay words.now holder.new queue.new pass.new × R.serves reclaimer.new (words_book words.now) }
+        ensures laid { Lays pass.old holder.old.spots pass.new holder.new.spots }
+        ensures drains { let from = call_state holder.old pass.old queue.old (R.had reclaimer.old) in
+            DrainsAll from (call_state holder.new pass.new queue.new (R.had reclaimer.new)) };
 }
 
 /// It ends where reclaimers come to put no more.
@@ -83,13 +67,9 @@ impl<T: Drop, R: Reclaim<T>, W: Wait> Drainer<T, R> for Beside<'_, W> {
     #[inline(never)]
     fn drain_all(
         &self,
-        slots: &Slots,
-        blocks: &Blocks<T>,
-        spots: &mut Spots<Header, Part, T>,
-        batch: &mut Batch,
-        size: usize,
+        holder: &mut Holder<T>,
+        words: &Words<T>,
         queue: &mut Further,
-        key: &mut SlotKey,
         reclaimer: &mut R,
         pass: &mut Pass,
     ) {
@@ -97,11 +77,8 @@ impl<T: Drop, R: Reclaim<T>, W: Wait> Drainer<T, R> for Beside<'_, W> {
             if queue.front == 0 {
                 return;
             }
-            let (value, number, kept) = queue.next(blocks);
-            put(
-                slots, blocks, spots, batch, size, number, kept, value, queue, key, reclaimer,
-                pass, self,
-            );
+            let newcomer = queue.newcomer(&words.blocks);
+            holder.put(words, newcomer, queue, reclaimer, pass, self);
         }
         unreachable!()
     }
@@ -113,68 +90,47 @@ impl<T: Drop, R: Lightens<T>> Drainer<T, R> for Alone {
     #[inline(never)]
     fn drain_all(
         &self,
-        slots: &Slots,
-        blocks: &Blocks<T>,
-        spots: &mut Spots<Header, Part, T>,
-        batch: &mut Batch,
-        size: usize,
+        holder: &mut Holder<T>,
+        words: &Words<T>,
         queue: &mut Further,
-        key: &mut SlotKey,
         reclaimer: &mut R,
         pass: &mut Pass,
     ) {
-        reclaimer.weigh(batch.values.permit(), blocks);
-        reclaimer.weigh(queue.values.permit(), blocks);
-        let _limit = Limit::of::<Brand>(batch, queue);
+        reclaimer.weigh(holder.batch.values.permit(), &words.blocks);
+        reclaimer.weigh(queue.values.permit(), &words.blocks);
+        let _limit = Limit::of::<Brand>(&holder.batch, queue);
         while queue.front != 0 {
-            let (value, number, kept) = queue.next(blocks);
-            put(
-                slots, blocks, spots, batch, size, number, kept, value, queue, key, reclaimer,
-                pass, self,
-            );
-            reclaimer.lightens(blocks);
+            let newcomer = queue.newcomer(&words.blocks);
+            holder.put(words, newcomer, queue, reclaimer, pass, self);
+            reclaimer.lightens(&words.blocks);
         }
     }
 }
 
-/// Retires the values of the queue, which the slot's call has left to do, until none is left. Each joins the slot's batch, which is
-/// attempted where it has `size` values or more: the batch size of the pass. The chunks of the blocks of what is handed go to the list, in
-/// order.
-///
-/// It takes no memory, but for what the reclaimer does, and waits as its manner does. Where the queue is empty it compares one word.
-#[inline(always)]
-pub fn drain<T: Drop, R: Reclaim<T>, M: Drainer<T, R>>(
-    slots: &Slots,
-    blocks: &Blocks<T>,
-    spots: &mut Spots<Header, Part, T>,
-    batch: &mut Batch,
-    size: usize,
-    queue: &mut Further,
-    key: &mut SlotKey,
-    reclaimer: &mut R,
-    pass: &mut Pass,
-    manner: &M,
-)
-    requires may { M.may manner.now pass.old.id }
-    requires words { (slots_book slots.now ≡ pass.old.name) × (blocks_book blocks.now ≡ pass.old.name) }
-    requires size { size ≡ pass.old.size }
-    requires well_formed { IsWellFormed (call_state key.old pass.old batch.old queue.old (R.had reclaimer.old)) }
-    requires rests { HasQueue key.old (further_in queue.old) }
-    requires serves { R.serves reclaimer.old (blocks_book blocks.now) }
-    requires spots { AreSpotsIn blocks.now spots.old }
-    ensures well_formed { IsWellFormed (call_state key.new pass.new batch.new queue.new (R.had reclaimer.new)) }
-    ensures serves { R.serves reclaimer.new (blocks_book blocks.now) }
-    ensures spots { AreSpotsIn blocks.now spots.new }
-    ensures laid { Lays pass.old spots.old pass.new spots.new }
-    ensures on { Onward key.old pass.old key.new pass.new }
-    ensures over { HasQueue key.new (further_in queue.new) × (values_of (further_in queue.new) ≡ []) }
-    ensures drains { let from = call_state key.old pass.old batch.old queue.old (R.had reclaimer.old) in
-        Drains from (call_state key.new pass.new batch.new queue.new (R.had reclaimer.new)) }
-{
-    if queue.front == 0 {
-        return;
+impl<T: Drop> Holder<T> {
+    /// Retires the values of the queue, which the slot's call has left to do, until none is left. Each joins the slot's batch, which is
+    /// attempted where it is full. The chunks of the blocks of what is handed go to the list, in order.
+    ///
+    /// It takes no memory, but for what the reclaimer does, and waits as its manner does. Where the queue is empty it compares one word.
+    #[inline(always)]
+    pub(crate) fn drain<R: Reclaim<T>, M: Drainer<T, R>>(
+        &mut self,
+        words: &Words<T>,
+        queue: &mut Further,
+        reclaimer: &mut R,
+        pass: &mut Pass,
+        manner: &M,
+    )
+        requires stands { IsUnderWay words.now self.old queue.old pass.old × HasQueue self.old.key (further_in queue.old) }
+        requires serves { R.serves reclaimer.old (words_book words.now) × M.may manner.now pass.old.id }
+        ensures stands { IsUnderWay words.now self.new queue.new pass.new × R.serves reclaimer.new (words_book words.now) }
+        ensures laid { Lays pass.old self.old.spots pass.new self.new.spots }
+        ensures drains { let from = call_state self.old pass.old queue.old (R.had reclaimer.old) in
+            DrainsAll from (call_state self.new pass.new queue.new (R.had reclaimer.new)) }
+    {
+        if queue.front == 0 {
+            return;
+        }
+        manner.drain_all(self, words, queue, reclaimer, pass);
     }
-    manner.drain_all(
-        slots, blocks, spots, batch, size, queue, key, reclaimer, pass,
-    );
 }

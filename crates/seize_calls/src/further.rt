@@ -4,6 +4,7 @@ ghost use Rattle.std.specs.Prelude.{◌≡◌, true};
 ghost use Rattle.seize_calls.specs.Numbered.{ends_at, word_of_first};
 ghost use Rattle.seize_book.specs.Values.{AreClosed, values_of};
 
+use crate::batch::Newcomer;
 use crate::chain::{join, lead_on};
 use seize_words::blocks::Blocks;
 use seize_words::book::{Pass, SlotKey, ValueKey, ValueKeys};
@@ -33,8 +34,8 @@ impl Further {
     ghost use Rattle.seize_book.specs.Lending.{IsLentKey};
     ghost use Rattle.seize_book.specs.Others.{book_of, value_of};
     ghost use Rattle.seize_book.specs.Slots.{AddsDeed, IsKeyOfBook, hands_next, slot_number, slot_of};
-    ghost use Rattle.seize_book.specs.Values.{AreNew, AreOfBook, FollowsValues, IsEmpty, IsEmptyIn};
-    ghost use Rattle.seize_calls.specs.Batches.{IsPushed, keys_book};
+    ghost use Rattle.seize_book.specs.Values.{AreNew, AreOfBook, FollowsValues, IsEmpty, IsEmptyIn, book_in};
+    ghost use Rattle.seize_calls.specs.Batches.{IsPushed};
     ghost use Rattle.seize_calls.specs.Furthers.{IsFirstOut, JoinsValues, further_in};
     ghost use Rattle.seize_words.specs.Chunks.{blocks_book};
 
@@ -51,7 +52,7 @@ impl Further {
 
     /// No values, of the same book.
     pub fn none(&mut self) -> Further
-        ensures { (self.new ≡ self.old) × IsEmptyIn (keys_book (further_in self.old)) (further_in result) }
+        ensures { (self.new ≡ self.old) × IsEmptyIn (book_in (further_in self.old)) (further_in result) }
     {
         Further {
             front: 0,
@@ -72,7 +73,7 @@ impl Further {
     ///
     /// It takes no memory: two look-ups, a plain read and two plain writes.
     pub fn put<T: Drop>(&mut self, blocks: &Blocks<T>, number: u64, kept: u64, value: ValueKey)
-        requires book { (keys_book (further_in self.old) ≡ blocks_book blocks.now) × (book_of value ≡ blocks_book blocks.now) }
+        requires book { (book_in (further_in self.old) ≡ blocks_book blocks.now) × (book_of value ≡ blocks_book blocks.now) }
         requires value { IsNextIn value number × IsLentKey value }
         requires new { AreNew (further_in self.old) }
         ensures puts { IsPushed (further_in self.old) (value_of value) kept (further_in self.new) }
@@ -96,10 +97,10 @@ impl Further {
     ///
     /// It takes no memory, however many they are: a look-up, a plain read and a plain write.
     pub fn append<T: Drop>(&mut self, blocks: &Blocks<T>, other: &mut Further)
-        requires book { (keys_book (further_in self.old) ≡ blocks_book blocks.now) ×
-            (keys_book (further_in other.old) ≡ blocks_book blocks.now) }
+        requires book { (book_in (further_in self.old) ≡ blocks_book blocks.now) ×
+            (book_in (further_in other.old) ≡ blocks_book blocks.now) }
         ensures joins { JoinsValues (further_in self.old) (further_in other.old) (further_in self.new) }
-        ensures emptied { (keys_book (further_in other.new) ≡ keys_book (further_in other.old)) ×
+        ensures emptied { (book_in (further_in other.new) ≡ book_in (further_in other.old)) ×
             (values_of (further_in other.new) ≡ []) }
         ensures new { AreNew (further_in self.old) → AreNew (further_in other.old) →
             AreNew (further_in self.new) × AreNew (further_in other.new) }
@@ -119,7 +120,7 @@ impl Further {
     ///
     /// It takes no memory: a look-up and a plain read.
     pub fn next<T: Drop>(&mut self, blocks: &Blocks<T>) -> (ValueKey, u64, u64)
-        requires book { keys_book (further_in self.old) ≡ blocks_book blocks.now }
+        requires book { book_in (further_in self.old) ≡ blocks_book blocks.now }
         requires some { values_of (further_in self.old) ≢ [] }
         ensures first { IsFirstOut (further_in self.old) result.0 result.1 result.2 (further_in self.new) }
         ensures new { AreNew (further_in self.old) → IsNextIn result.0 result.1 × IsLentKey result.0 × AreNew (further_in self.new) }
@@ -129,6 +130,23 @@ impl Further {
         let note = value.note(blocks.cell(number, &value));
         self.front = note.next;
         (value, number, note.kept)
+    }
+
+    /// The first of them, which there is, as it joins the slot's batch.
+    ///
+    /// It takes no memory: a look-up and a plain read.
+    #[inline]
+    pub(crate) fn newcomer<T: Drop>(&mut self, blocks: &Blocks<T>) -> Newcomer
+        requires book { book_in (further_in self.old) ≡ blocks_book blocks.now }
+        requires some { values_of (further_in self.old) ≢ [] }
+        ensures { IsFirstOut (further_in self.old) result.value result.number result.kept (further_in self.new) }
+    {
+        let (value, number, kept) = self.next(blocks);
+        Newcomer {
+            number,
+            kept,
+            value,
+        }
     }
 
     /// The event `Hand`: the value that the slot's call is about to hand goes to its reclaimer, which put these. It says what is kept of

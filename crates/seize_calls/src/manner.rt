@@ -1,12 +1,11 @@
 //! In what manner a call is made: beside others, or by a pass that is alone. Beside others an insertion may be lost, and is tried again.
 //! Where the pass of the call is alone nobody changes a head meanwhile, so an insertion is won at once.
-ghost use Rattle.std.specs.Prelude.{◌≡◌, ◌<◌, ◌+◌, ◌^◌, ℕ};
-ghost use Rattle.seize_calls.specs.Inserts.{HasHome, InsertsAtSlot, IsAtSlot};
+ghost use Rattle.std.specs.Prelude.{◌≡◌, ℕ};
+ghost use Rattle.seize_calls.specs.Inserts.{InsertsAtSlot, IsAtHead};
 ghost use Rattle.seize_words.specs.Chunks.{header_book};
-ghost use Rattle.seize_words.specs.Reservations.{IsHeadOfBook, slot};
+ghost use Rattle.seize_words.specs.Reservations.{IsHeadOfBook};
 ghost use Rattle.seize_book.specs.Slots.{IsKeyOfBook};
 ghost use Rattle.seize_book.specs.Tokens.{IsSole};
-ghost use Rattle.seize_words.specs.Totals.{slots_seen};
 ghost use Rattle.seize_words.specs.Walks.{Knows};
 
 use crate::inserting::try_once;
@@ -34,14 +33,11 @@ pub trait Manner {
     ) -> bool
         requires may { may self.now pass.old.id }
         requires book { IsKeyOfBook key.old pass.old × IsHeadOfBook head.now pass.old × (header_book header.now ≡ pass.old.name) }
-        requires fits { block + 2 < 2 ^ 64 }
         requires knows { Knows key.old pass.old }
-        requires at { IsAtSlot key.old (slot head.now) block front }
-        requires home { (at : IsAtSlot key.old (slot head.now) block front) → HasHome at header.now }
-        requires seen { slot head.now < slots_seen pass.old }
-        ensures book { IsKeyOfBook key.new pass.new }
+        requires here { IsAtHead key.old pass.old head.now header.now block front }
         ensures knows { Knows key.new pass.new }
-        ensures inserted { (at : IsAtSlot key.old (slot head.now) block front) → InsertsAtSlot at pass.old key.new pass.new result };
+        ensures inserted { (here : IsAtHead key.old pass.old head.now header.now block front)
+            → InsertsAtSlot here.at pass.old key.new pass.new result };
 }
 
 /// Beside others, with any pass. An insertion is tried again as often as others change the head between a look at it and the try, so a call

@@ -1,5 +1,5 @@
 //! A round through the values of a batch, from the first one on: it finds their blocks one after the other by what is noted of them.
-ghost use Rattle.std.specs.Prelude.{◌≡◌, true};
+ghost use Rattle.std.specs.Prelude.{◌≡◌, [], true};
 ghost use Rattle.seize_calls.specs.Numbered.{starts_at};
 ghost use Rattle.seize_book.specs.Values.{AreClosed, AreOfBook, LeadsOn, book_in as book_of_keys, values_of};
 
@@ -24,7 +24,7 @@ pub struct Round {
 impl Round {
     ghost use Rattle.seize_book.specs.Passes.{LooksOn};
     ghost use Rattle.seize_book.specs.Values.{IsEmpty};
-    ghost use Rattle.seize_calls.specs.Rounds.{BeginsRound, HasNextValue, IsNextOf, MovesPast, Remarks, all_in, book_at, round_number};
+    ghost use Rattle.seize_calls.specs.Rounds.{HasNextValue, IsNextOf, MovesPast, Remarks, all_in, book_at, done_in, rest_in};
     ghost use Rattle.seize_words.specs.Chunks.{blocks_book};
 
     /// A round through all these, of which the first has this number.
@@ -34,7 +34,8 @@ impl Round {
         requires closed { AreClosed values.old }
         ensures pass { pass.new ≡ pass.old }
         ensures none { IsEmpty values.new pass.old }
-        ensures begins { (book_at result ≡ pass.old.name) × BeginsRound result values.old.keys.held × (round_number result ≡ first) }
+        ensures begins { (book_at result ≡ pass.old.name) × ((done_in result ≡ []) × (rest_in result ≡ values.old.keys.held))
+            × (result.number ≡ first) }
     {
         let done = ValueKeys::new(pass);
         let mut rest = ValueKeys::new(pass);
@@ -48,7 +49,7 @@ impl Round {
 
     /// The number of the block of the next value.
     pub fn number(&self) -> u64
-        ensures { result ≡ round_number self.now }
+        ensures { result ≡ self.now.number }
     {
         self.number
     }

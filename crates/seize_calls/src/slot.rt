@@ -1,20 +1,20 @@
-//! A slot as its holder has it, in one value, and its calls. They are those of `calls`, with all that belongs to the slot; a pass that is
-//! lent anew for each call learns first what the ones before it saw.
+//! A slot in one value: its number, its holder, and what its passes have seen. Its calls are those of its holder; a pass that is lent anew
+//! for each call learns first what the ones before it saw.
 ghost use Rattle.std.specs.Prelude.{◌≡◌, IfErr, IfNone, IfOk, IfSome, false, true};
 ghost use Rattle.seize_book.specs.Blocks.{block_number};
 ghost use Rattle.seize_book.specs.Others.{AreNumbersOf, value_of};
 ghost use Rattle.seize_words.specs.Joined.{words_book};
 ghost use Rattle.seize_calls.specs.Together.{BelongTogether};
 
-use crate::batch::Batch;
-use crate::calls;
+use crate::batch::{Batch, Newcomer};
 use crate::draining::Drainer;
 use crate::handing::Reclaim;
-use seize_store::{Bare, Spots};
+use crate::holder::{Holder, Way};
+use seize_store::Bare;
 use seize_table::Refusal;
 use seize_words::activation::Activation;
 use seize_words::blocks::Blocks;
-use seize_words::book::{NumbersKey, Pass, Seen, SlotKey, ValueKey};
+use seize_words::book::{NumbersKey, Pass, Seen, ValueKey};
 use seize_words::chunk::{Header, Part};
 use seize_words::link::MaybeKey;
 use seize_words::reservation::Head;
@@ -78,19 +78,16 @@ impl Loose {
     }
 }
 
-/// What the holder of a slot has: the right to its calls, its batch, and spots, the chunks of blocks whose values are gone, for its next
-/// blocks. For each value that a call hands, in order, the chunk of its block comes to these, last (`laid`). No call of the slot is under
-/// way.
+/// A slot, with all that belongs to it (`Holder`). For each value that a call hands, in order, the chunk of its block comes to its list of
+/// spots, last (`laid`). No call of the slot is under way.
 ///
 /// Where it is dropped, its slot stays as it is for good: active if it is active, and with its batch.
 #[derive(Drop)]
 pub struct Slot<T> {
     number: usize,
-    key: SlotKey,
-    batch: Batch,
-    spots: Spots<Header, Part, T>,
+    holder: Holder<T>,
     seen: Seen,
-    ghost together: { BelongTogether number key batch spots seen },
+    ghost together: { BelongTogether number holder seen },
 }
 
 impl<T: Drop> Slot<T> {
@@ -108,7 +105,7 @@ impl<T: Drop> Slot<T> {
     ghost use Rattle.seize_calls.specs.Calls.{HasBegun};
     ghost use Rattle.seize_calls.specs.Slots.{HasActivation, InActivation, IsLooseOf, IsPassFor, KeepsActivation, MayEnterWith};
     ghost use Rattle.seize_calls.specs.Slots.{IsActive, IsFreeSlotOf, IsInactive, IsItsHead, IsOfWords, IsSlotOf};
-    ghost use Rattle.seize_calls.specs.Slots.{SlotEnters, SlotFlushes, SlotGives, SlotLeaves, SlotLooks, SlotRefreshes, SlotRetires, SlotTakes};
+    ghost use Rattle.seize_calls.specs.Slots.{SlotEnters, SlotFlushes, SlotGives, SlotGoes, SlotLeaves, SlotLooks, SlotRefreshes, SlotRetires, SlotTakes};
 
     /// Makes the slot that comes next, which is inactive and has no batch. It takes memory for its list of spots first, and for a bucket of
     /// the table of heads where that has none for it.
@@ -142,9 +139,7 @@ impl<T: Drop> Slot<T> {
         seen.learn(pass);
         let slot = Slot {
             number,
-            key,
-            batch,
-            spots,
+            holder: Holder { key, batch, spots },
             seen,
         };
         Ok((slot, next))
@@ -161,7 +156,7 @@ impl<T: Drop> Slot<T> {
     pub fn activation(&self) -> Activation
         ensures { IsOfSlot (its_key self.now) result }
     {
-        Activation::new(&self.key)
+        Activation::new(&self.holder.key)
     }
 
     /// What its passes have seen, by which another pass learns that its activation began (`Pass::learn`).
@@ -177,6 +172,7 @@ impl<T: Drop> Slot<T> {
     /// # Errors
     ///
     /// `NoMemory` where a growth of the store was refused; the value comes back.
+    #[inline(always)]
     pub fn add(
         &mut self,
         words: &Words<T>,
@@ -188,7 +184,7 @@ impl<T: Drop> Slot<T> {
         ensures made { IfOk result (λ made. IsBlockIn words.now.blocks value made.0 made.1) }
         ensures refused { IfErr result (λ refused. (refused.0 ≡ NoMemory) × (refused.1 ≡ value)) }
     {
-        words.blocks.add_from(&mut self.spots, value, pass)
+        words.blocks.add_from(&mut self.holder.spots, value, pass)
     }
 
     /// Looks at the list with no event: the pass knows of the slot then what its own key says. It does nothing else.
@@ -198,7 +194,7 @@ impl<T: Drop> Slot<T> {
         ensures looks { SlotLooks self.old pass.old self.new pass.new }
     {
         pass.learn(&self.seen);
-        self.key.look(pass);
+        self.holder.key.look(pass);
         self.seen.learn(pass);
     }
 
@@ -238,7 +234,7 @@ impl<T: Drop> Slot<T> {
         ensures numbers { SetsUse numbers.old pass.new numbers.new self.old false }
     {
         pass.learn(&self.seen);
-        self.key.give(numbers, pass);
+        self.holder.key.give(numbers, pass);
         self.seen.learn(pass);
     }
 
@@ -255,7 +251,7 @@ impl<T: Drop> Slot<T> {
         ensures numbers { SetsUse numbers.old pass.new numbers.new self.old true }
     {
         pass.learn(&self.seen);
-        self.key.take_again(numbers, pass);
+        self.holder.key.take_again(numbers, pass);
         self.seen.learn(pass);
     }
 
@@ -275,6 +271,7 @@ impl<T: Drop> Slot<T> {
     /// The slot enters by its head, which begins the activation.
     ///
     /// It takes no memory and waits for nobody: one atomic swap.
+    #[inline(always)]
     pub fn enter(
         &mut self,
         _words: &Words<T>,
@@ -290,7 +287,7 @@ impl<T: Drop> Slot<T> {
         ensures enters { SlotEnters self.old pass.old activation.new self.new pass.new }
     {
         pass.learn(&self.seen);
-        head.enter(activation, &mut self.key, pass);
+        head.enter(activation, &mut self.holder.key, pass);
         self.seen.learn(pass);
     }
 
@@ -299,6 +296,7 @@ impl<T: Drop> Slot<T> {
     /// that of whichever call hands it, with the word `kept`.
     ///
     /// It takes no memory, but for what the reclaimer does, and waits as its manner does.
+    #[inline(always)]
     pub fn retire<R: Reclaim<T>, M: Drainer<T, R>>(
         &mut self,
         words: &Words<T>,
@@ -319,20 +317,12 @@ impl<T: Drop> Slot<T> {
     {
         pass.learn(&self.seen);
         let Loose { number, value } = value;
-        let retired = calls::retire(
-            &words.slots,
-            &words.blocks,
-            &mut self.spots,
-            &mut self.batch,
-            words.size,
+        let newcomer = Newcomer {
             number,
             kept,
             value,
-            &mut self.key,
-            reclaimer,
-            pass,
-            manner,
-        );
+        };
+        let retired = self.holder.retire(words, newcomer, reclaimer, pass, manner);
         self.seen.learn(pass);
         retired
     }
@@ -356,17 +346,7 @@ impl<T: Drop> Slot<T> {
         ensures flushes { SlotFlushes self.old pass.old (R.had reclaimer.old) self.new pass.new (R.had reclaimer.new) result }
     {
         pass.learn(&self.seen);
-        let retired = calls::flush(
-            &words.slots,
-            &words.blocks,
-            &mut self.spots,
-            &mut self.batch,
-            words.size,
-            &mut self.key,
-            reclaimer,
-            pass,
-            manner,
-        );
+        let retired = self.holder.flush(words, reclaimer, pass, manner);
         self.seen.learn(pass);
         retired
     }
@@ -375,6 +355,7 @@ impl<T: Drop> Slot<T> {
     /// given up. What reclaimers put meanwhile joins the slot's batch, as with `retire`.
     ///
     /// It takes no memory and waits as `retire` does.
+    #[inline(always)]
     pub fn leave<R: Reclaim<T>, M: Drainer<T, R>>(
         &mut self,
         words: &Words<T>,
@@ -393,27 +374,22 @@ impl<T: Drop> Slot<T> {
         ensures laid { Lays pass.old (its_spots self.old) pass.new (its_spots self.new) }
         ensures leaves { SlotLeaves self.old pass.old (R.had reclaimer.old) self.new pass.new (R.had reclaimer.new) }
     {
-        pass.learn(&self.seen);
-        calls::leave(
-            &words.slots,
-            head,
-            &words.blocks,
-            &mut self.spots,
-            &mut self.batch,
-            words.size,
+        let stays = false;
+        self.leave_by(
+            words,
+            Way { head, stays },
             activation,
-            &mut self.key,
             reclaimer,
             pass,
             manner,
         );
-        self.seen.learn(pass);
     }
 
     /// The slot refreshes by its head: it ends its activation and begins another, and stays active. It counts down what waited for it, and
     /// hands what is given up. What reclaimers put meanwhile joins the slot's batch, as with `retire`.
     ///
     /// It takes no memory and waits as `retire` does.
+    #[inline(always)]
     pub fn refresh<R: Reclaim<T>, M: Drainer<T, R>>(
         &mut self,
         words: &Words<T>,
@@ -434,20 +410,42 @@ impl<T: Drop> Slot<T> {
         ensures refreshes { let had = R.had reclaimer.old in
             SlotRefreshes self.old pass.old activation.new had self.new pass.new (R.had reclaimer.new) }
     {
-        pass.learn(&self.seen);
-        calls::refresh(
-            &words.slots,
-            head,
-            &words.blocks,
-            &mut self.spots,
-            &mut self.batch,
-            words.size,
+        let stays = true;
+        self.leave_by(
+            words,
+            Way { head, stays },
             activation,
-            &mut self.key,
             reclaimer,
             pass,
             manner,
         );
+    }
+
+    // The slot leaves, or refreshes where it stays.
+    #[inline(always)]
+    fn leave_by<R: Reclaim<T>, M: Drainer<T, R>>(
+        &mut self,
+        words: &Words<T>,
+        way: Way<'_>,
+        activation: &mut Activation,
+        reclaimer: &mut R,
+        pass: &mut Pass,
+        manner: &M,
+    )
+        requires of { IsSlotOf words.now self.old × IsPassFor words.now pass.old × M.may manner.now pass.old.id }
+        requires head { IsItsHead self.old way.head.now }
+        requires inside { HasActivation self.old activation.old }
+        requires serves { R.serves reclaimer.old (words_book words.now) }
+        ensures of { IsSlotOf words.now self.new × R.serves reclaimer.new (words_book words.now) }
+        ensures left { way.entry.stays ≡ false → MayEnterWith self.new activation.new }
+        ensures inside { way.entry.stays ≡ true → HasActivation self.new activation.new }
+        ensures laid { Lays pass.old (its_spots self.old) pass.new (its_spots self.new) }
+        ensures goes { let had = R.had reclaimer.old in
+            SlotGoes way.entry.stays self.old pass.old activation.new.life had self.new pass.new (R.had reclaimer.new) }
+    {
+        pass.learn(&self.seen);
+        self.holder
+            .leave_by(words, way, activation, reclaimer, pass, manner);
         self.seen.learn(pass);
     }
 }

@@ -3,19 +3,20 @@
 ghost use Rattle.std.specs.Prelude.{◌≡◌};
 ghost use Rattle.seize_calls.specs.Laying.{Lays};
 ghost use Rattle.seize_calls.specs.Walking.{IsAtWalk, WalksAll, WalksTo};
-ghost use Rattle.seize_words.specs.Chunks.{AreSpotsIn, blocks_book};
+ghost use Rattle.seize_words.specs.Chunks.{blocks_book};
+ghost use Rattle.seize_words.specs.Joined.{words_book};
 ghost use Rattle.seize_book.specs.Slots.{IsKeyOfBook};
-ghost use Rattle.seize_book.specs.Kept.{AreTold};
-ghost use Rattle.seize_book.specs.Values.{AreOfBook, IsEmpty};
+ghost use Rattle.seize_book.specs.Values.{IsEmpty};
 ghost use Rattle.seize_calls.specs.Furthers.{further_in};
+ghost use Rattle.seize_calls.specs.Together.{IsUnderWay};
 ghost use Rattle.seize_words.specs.Walks.{Knows};
 
 use crate::further::Further;
-use crate::handing::{Reclaim, hand_all};
-use seize_store::Spots;
+use crate::handing::Reclaim;
+use crate::holder::Holder;
 use seize_words::blocks::Blocks;
 use seize_words::book::{Pass, SlotKey, ValueKeys};
-use seize_words::chunk::{Header, Part};
+use seize_words::words::Words;
 
 /// Where a walk stops.
 #[derive(Clone, Copy, PartialEq, Eq, Debug)]
@@ -55,87 +56,60 @@ pub fn walk<T: Drop>(
     WalkOutcome::Over
 }
 
-/// Counts down all the batches to which this word leads. What one of them gives up is handed before the walk goes on, and what the
-/// reclaimer puts joins the call's queue. The chunks of the blocks of what is handed go to the list, in order.
-///
-/// It takes no memory and waits for nobody, but for what the reclaimer does. Where no batch waits it compares one word.
-#[inline(always)]
-pub fn walk_all<T: Drop, R: Reclaim<T>>(
-    blocks: &Blocks<T>,
-    spots: &mut Spots<Header, Part, T>,
-    word: u64,
-    key: &mut SlotKey,
-    reclaimer: &mut R,
-    queue: &mut Further,
-    pass: &mut Pass,
-)
-    requires book { IsKeyOfBook key.old pass.old × (blocks_book blocks.now ≡ pass.old.name) }
-    requires queue { AreOfBook (further_in queue.old) pass.old }
-    requires told { AreTold (further_in queue.old) pass.old }
-    requires knows { Knows key.old pass.old }
-    requires at { IsAtWalk key.old word }
-    requires serves { R.serves reclaimer.old (blocks_book blocks.now) }
-    requires spots { AreSpotsIn blocks.now spots.old }
-    ensures book { IsKeyOfBook key.new pass.new }
-    ensures knows { Knows key.new pass.new }
-    ensures walks { (at : IsAtWalk key.old word) → let had = R.had reclaimer.old in let had' = R.had reclaimer.new in
-        WalksAll at pass.old (further_in queue.old) had key.new pass.new (further_in queue.new) had' }
-    ensures told { AreTold (further_in queue.new) pass.new }
-    ensures serves { R.serves reclaimer.new (blocks_book blocks.now) }
-    ensures spots { AreSpotsIn blocks.now spots.new }
-    ensures laid { Lays pass.old spots.old pass.new spots.new }
-{
-    if word == 1 {
-        return;
+impl<T: Drop> Holder<T> {
+    /// Counts down all the batches to which this word leads. What one of them gives up is handed before the walk goes on, and what the
+    /// reclaimer puts joins the call's queue. The chunks of the blocks of what is handed go to the list, in order.
+    ///
+    /// It takes no memory and waits for nobody, but for what the reclaimer does. Where no batch waits it compares one word.
+    #[inline(always)]
+    pub(crate) fn walk_all<R: Reclaim<T>>(
+        &mut self,
+        words: &Words<T>,
+        word: u64,
+        queue: &mut Further,
+        reclaimer: &mut R,
+        pass: &mut Pass,
+    )
+        requires stands { IsUnderWay words.now self.old queue.old pass.old × R.serves reclaimer.old (words_book words.now) }
+        requires at { IsAtWalk self.old.key word }
+        ensures stands { IsUnderWay words.now self.new queue.new pass.new × R.serves reclaimer.new (words_book words.now) }
+        ensures walks { (self.new.batch ≡ self.old.batch) × ((at : IsAtWalk self.old.key word) → let had = R.had reclaimer.old in
+            WalksAll at pass.old (further_in queue.old) had self.new.key pass.new (further_in queue.new) (R.had reclaimer.new)) }
+        ensures laid { Lays pass.old self.old.spots pass.new self.new.spots }
+    {
+        if word == 1 {
+            return;
+        }
+        self.walk_waiting(words, word, queue, reclaimer, pass);
     }
-    walk_waiting(blocks, spots, word, key, reclaimer, queue, pass);
-}
 
-// The same where some may wait. It is kept out of the calls, so that those for which none waits are short.
-#[cold]
-#[inline(never)]
-fn walk_waiting<T: Drop, R: Reclaim<T>>(
-    blocks: &Blocks<T>,
-    spots: &mut Spots<Header, Part, T>,
-    word: u64,
-    key: &mut SlotKey,
-    reclaimer: &mut R,
-    queue: &mut Further,
-    pass: &mut Pass,
-)
-    requires book { IsKeyOfBook key.old pass.old × (blocks_book blocks.now ≡ pass.old.name) }
-    requires queue { AreOfBook (further_in queue.old) pass.old }
-    requires told { AreTold (further_in queue.old) pass.old }
-    requires knows { Knows key.old pass.old }
-    requires at { IsAtWalk key.old word }
-    requires serves { R.serves reclaimer.old (blocks_book blocks.now) }
-    requires spots { AreSpotsIn blocks.now spots.old }
-    ensures book { IsKeyOfBook key.new pass.new }
-    ensures knows { Knows key.new pass.new }
-    ensures walks { (at : IsAtWalk key.old word) → let had = R.had reclaimer.old in let had' = R.had reclaimer.new in
-        WalksAll at pass.old (further_in queue.old) had key.new pass.new (further_in queue.new) had' }
-    ensures told { AreTold (further_in queue.new) pass.new }
-    ensures serves { R.serves reclaimer.new (blocks_book blocks.now) }
-    ensures spots { AreSpotsIn blocks.now spots.new }
-    ensures laid { Lays pass.old spots.old pass.new spots.new }
-{
-    let mut values = ValueKeys::new(pass);
-    let mut leads = word;
-    loop {
-        match walk(blocks, leads, key, &mut values, pass) {
-            WalkOutcome::Over => return,
-            WalkOutcome::GivesUp(front, rest) => {
-                hand_all(
-                    blocks,
-                    spots,
-                    front,
-                    &mut values,
-                    reclaimer,
-                    queue,
-                    key,
-                    pass,
-                );
-                leads = rest;
+    // The same where some may wait. It is kept out of the calls, so that those for which none waits are short.
+    #[cold]
+    #[inline(never)]
+    fn walk_waiting<R: Reclaim<T>>(
+        &mut self,
+        words: &Words<T>,
+        word: u64,
+        queue: &mut Further,
+        reclaimer: &mut R,
+        pass: &mut Pass,
+    )
+        requires stands { IsUnderWay words.now self.old queue.old pass.old × R.serves reclaimer.old (words_book words.now) }
+        requires at { IsAtWalk self.old.key word }
+        ensures stands { IsUnderWay words.now self.new queue.new pass.new × R.serves reclaimer.new (words_book words.now) }
+        ensures walks { (self.new.batch ≡ self.old.batch) × ((at : IsAtWalk self.old.key word) → let had = R.had reclaimer.old in
+            WalksAll at pass.old (further_in queue.old) had self.new.key pass.new (further_in queue.new) (R.had reclaimer.new)) }
+        ensures laid { Lays pass.old self.old.spots pass.new self.new.spots }
+    {
+        let mut values = ValueKeys::new(pass);
+        let mut leads = word;
+        loop {
+            match walk(&words.blocks, leads, &mut self.key, &mut values, pass) {
+                WalkOutcome::Over => return,
+                WalkOutcome::GivesUp(front, rest) => {
+                    self.hand_all(words, front, &mut values, queue, reclaimer, pass);
+                    leads = rest;
+                }
             }
         }
     }

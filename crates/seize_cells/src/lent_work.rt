@@ -21,6 +21,7 @@ pub trait LockWork<M: Steady, A, R> {
 }
 
 /// Has the work done on the cell's value, by whoever has the cell's token.
+#[inline(always)]
 pub(crate) fn work_in<M: Steady, W: LockWork<M, A, R>, A, R>(
     cell: &SteadyCell<M>,
     token: &mut CellToken,

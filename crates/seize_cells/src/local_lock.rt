@@ -43,6 +43,7 @@ impl<M: Steady> LocalLock<M> {
     }
 
     /// Has the work done on the value and on what is lent beside it. Within another work it is not done, and comes back.
+    #[inline(always)]
     pub fn try_with<W: LockWork<M, A, R>, A, R>(&self, work: W, with: &mut A) -> Result<R, W>
         requires { MayLock M.label M.sound self.now (λ x. W.may work x with.old) }
         ensures done { IfOk result (λ r. HadLock M.label M.sound self.now (λ x y. W.gives work x y with.old with.new r)) }
@@ -57,6 +58,7 @@ impl<M: Steady> LocalLock<M> {
     }
 
     /// The same, but within another work it waits for ever.
+    #[inline(always)]
     pub fn with<W: LockWork<M, A, R>, A, R>(&self, rt: &impl Wait, work: W, with: &mut A) -> R
         requires { MayLock M.label M.sound self.now (λ x. W.may work x with.old) }
         ensures { HadLock M.label M.sound self.now (λ x y. W.gives work x y with.old with.new result) }

@@ -52,6 +52,7 @@ impl TokenPlace {
     }
 
     /// The token, if it is there.
+    #[inline(always)]
     pub(crate) fn take(&self) -> Option<CellToken>
         ensures { IfSome result (λ token. token.name ≡ self.now.place) }
     {
@@ -73,6 +74,7 @@ impl TokenPlace {
     }
 
     /// Lays the token there.
+    #[inline(always)]
     pub(crate) fn give(&self, token: CellToken)
         requires { token.name ≡ self.now.place }
     {

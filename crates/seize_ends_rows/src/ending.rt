@@ -3,8 +3,8 @@ ghost use Rattle.std.specs.Prelude.{◌≡◌, ◌<◌, IfOk, IfSome};
 ghost use Rattle.seize.specs.Collectors.{IsBlockOf, IsPassOf, its_links};
 ghost use Rattle.seize.specs.Registrations.{registered_in};
 
-use seize::{Collector, IdSource, Owned, Pass, Refusal, Registration, Unlinked};
-use seize_threads_rows::values::{Counted, ended};
+use seize::{Collector, Guard, IdSource, Owned, Pass, Refusal, Registration, Unlinked};
+use seize_test_kit::values::{Counted, ended};
 use std::alloc::Global;
 use std::sync::Wait;
 use std::sync::atomic::AtomicU64;

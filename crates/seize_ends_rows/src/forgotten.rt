@@ -6,8 +6,8 @@ ghost use Rattle.seize.specs.Collectors.{IsPassOf};
 ghost use Rattle.seize.specs.Registrations.{registered_in};
 
 use crate::ending::{Counting, collector, put_in_all};
-use seize::{Collector, IdSource, LocalGuard, Pass, Refusal, Registration, Unlinked, Watch};
-use seize_threads_rows::values::{Counted, Digit, ended};
+use seize::{Collector, Guard, IdSource, LocalGuard, Pass, Refusal, Registration, Unlinked, Watch};
+use seize_test_kit::values::{Counted, Digit, ended};
 use std::alloc::{AllocError, Global};
 use std::ops::Range;
 use std::sync::Wait;

@@ -2,11 +2,11 @@
 ghost use Rattle.std.specs.Prelude.{◌≡◌, ◌<◌, IfOk, IfSome};
 ghost use Rattle.seize.specs.Links.{IsUnlinkedOf};
 ghost use Rattle.seize.specs.Collectors.{IsBlockOf, IsPassOf, its_links};
-ghost use Rattle.seize.specs.OwnedGuards.{owned_collector};
+ghost use Rattle.seize.specs.Guards.{owned_collector};
 ghost use Rattle.seize.specs.Registrations.{registered_in};
 
 use seize::{Collector, IdSource, Owned, OwnedGuard, Pass, Refusal, Registration, Unlinked};
-use seize_threads_rows::marked::{Marked, ended, ends_of, marks};
+use seize_test_kit::marked::{Marked, ended, ends_of, marks};
 use std::alloc::Global;
 use std::process::Abort;
 use std::sync::Wait;

@@ -2,13 +2,14 @@
 ghost use Rattle.std.proofs.Common.{lit<};
 ghost use Rattle.std.specs.Prelude.{◌≡◌, IfOk};
 ghost use Rattle.seize.specs.Collectors.{IsPassOf, its_links};
-ghost use Rattle.seize.specs.OwnedGuards.{owned_collector};
+ghost use Rattle.seize.specs.Guards.{owned_collector};
 ghost use Rattle.seize.specs.Registrations.{registered_in};
 
 use seize::{
-    Collector, Further, IdSource, OwnedGuard, Pass, Puts, Reclaim, Refusal, Registration, Unlinked,
+    Collector, Further, Guard, IdSource, OwnedGuard, Pass, Puts, Reclaim, Refusal, Registration,
+    Unlinked,
 };
-use seize_threads_rows::values::ended;
+use seize_test_kit::values::ended;
 use std::alloc::Global;
 use std::process::Abort;
 use std::sync::Wait;

@@ -6,9 +6,9 @@ ghost use Rattle.seize.specs.Collectors.{IsPassOf, its_links};
 ghost use Rattle.seize.specs.Registrations.{registered_in};
 
 use crate::ending::{Counting, TIMES, collector, put_by_two, put_in_all, retire, retire_by_two};
-use seize::{Collector, IdSource, Pass, Refusal, Registration};
-use seize_threads_rows::marked::{Marked, ended as ended_marks, marks};
-use seize_threads_rows::values::ended;
+use seize::{Collector, Guard, IdSource, Pass, Refusal, Registration};
+use seize_test_kit::marked::{Marked, ended as ended_marks, marks};
+use seize_test_kit::values::ended;
 use std::alloc::Global;
 use std::sync::Wait;
 use std::sync::atomic::AtomicU64;

@@ -4,7 +4,7 @@ ghost use Rattle.seize.specs.Collectors.{IsPassOf};
 
 use crate::forgotten::{Digits, Telling, forget_guard, forget_owned, register, retire, telling};
 use seize::{Alone, Refusal, Registration};
-use seize_threads_rows::values::Digit;
+use seize_test_kit::values::Digit;
 use std::alloc::Global;
 use std::process::Abort;
 use std::sync::Wait;

@@ -136,23 +136,23 @@ nothing_handed (h ∷ handed) (kept ∷ kepts) (one ∷ had) are none =
 
 module _ {T : Type 0} (slot : Slot T) (pass : Pass) (slot' : Slot T) (pass' : Pass) (sole : IsSole pass.id) (had had' : Had) where
   module _ (off : OthersOff (its_number slot) (state_seen pass)) (on : IsActive slot) (retired : Bool) (e : SlotFlushes slot pass had slot' pass' had' retired) where
-    abbrev f : Flushes slot.key e.ready (keys_in slot.batch) had slot'.key pass' (keys_in slot'.batch) had' retired
+    abbrev f : Flushes slot.holder.key e.ready (keys_in slot.holder.batch) had slot'.holder.key pass' (keys_in slot'.holder.batch) had' retired
     f = e.does
 
     abbrev k : ℕ
-    k = slot_number slot.key
+    k = slot_number slot.holder.key
 
     own : slot_number f.begun.key ≡ k
-    own = f.begins.begins.keeps.its.1
+    own = f.begins.begins.keeps.on.its.1
 
     begun_sole : IsSole f.begun.pass.id
-    begun_sole = still_sole e.ready f.begun.pass f.begins.begins.keeps.same (prepared_sole slot pass e.ready e.prepares sole)
+    begun_sole = still_sole e.ready f.begun.pass f.begins.begins.keeps.on.same (prepared_sole slot pass e.ready e.prepares sole)
 
     -- no other slot is active when the call has begun
     begun_off : OthersOff (slot_number f.begun.key) (state_seen f.begun.pass)
     begun_off t differs =
         let keeps = f.begins.begins.keeps in let differs_own : ¬ (t ≡ k) = λ e. differs (e ∙ sym own) in
-        (led_made k e.ready f.begun.pass _ keeps.same keeps.alone (prepared_sole slot pass e.ready e.prepares sole) f.begins.begins.made (((λ u apart. other k u k refl apart), λ l. refl), tt)).active t differs_own
+        (led_made k e.ready f.begun.pass _ keeps.on.same keeps.on.alone (prepared_sole slot pass e.ready e.prepares sole) f.begins.begins.made (((λ u apart. other k u k refl apart), λ l. refl), tt)).active t differs_own
         ∙ ap (λ (st : State). is_active (head_at st t)) (prepared_same slot pass e.ready e.prepares sole)
         ∙ off t (λ e. differs_own (e ∙ sym slot.together.numbered))
 
@@ -160,34 +160,34 @@ module _ {T : Type 0} (slot : Slot T) (pass : Pass) (slot' : Slot T) (pass' : Pa
     settled : (b : Bool) → Settles 1 f.begun f.settled b → ((slot_of f.settled.key).batch ≡ []) × (values_of f.settled.queue ≡ [])
     settled true r = (
       r.batch,
-      r.queued.1 ∙ ap (λ (vs : List ℕ). vs ++ values_put r.handed) f.begins.none ∙ ap values_put (r.under_guard (f.begins.begins.keeps.active ∙ on)),
+      r.queued.1 ∙ ap (λ (vs : List ℕ). vs ++ values_put r.handed) f.begins.none ∙ ap values_put (r.under_guard (f.begins.begins.keeps.on.active ∙ on)),
     )
     settled false r = (r.batch ∙ stays_short f.begun f.settled r begun_sole begun_off, r.queued.1 ∙ ap (λ (vs : List ℕ). vs ++ []) f.begins.none)
 
-    pub flush_bare : (slot_of slot'.key).batch ≡ []
+    pub flush_bare : (slot_of slot'.holder.key).batch ≡ []
     flush_bare =
-        let is = settled retired f.settles in let same = drains_none f.settled f.drained is.1 f.drains in
-        f.returns.keeps.batch ∙ ap (λ (x : CallState). (slot_of x.key).batch) same ∙ is.0
+        let is = settled retired f.settles in let same = drains_none f.settled f.ends.drained is.1 f.ends.drains.drains in
+        f.ends.returns.keeps.batch ∙ ap (λ (x : CallState). (slot_of x.key).batch) same ∙ is.0
 
 -- Where nothing is put, a leave of a slot without a batch leaves none.
 module _ {T : Type 0} (slot : Slot T) (pass : Pass) (slot' : Slot T) (pass' : Pass) (had : Had) (e : SlotLeaves slot pass [] slot' pass' (without_puts had)) where
-  abbrev l : Leaves Leave false (private e.ready (SwapOut (slot_number slot.key))) slot.key e.ready (keys_in slot.batch) [] slot'.key pass' (keys_in slot'.batch) (without_puts had)
+  abbrev l : Leaves Leave false (private e.ready (SwapOut (slot_number slot.holder.key))) slot.holder.key e.ready (keys_in slot.holder.batch) [] slot'.holder.key pass' (keys_in slot'.holder.batch) (without_puts had)
   l = e.does
 
   none_queued : values_of l.behind.queue ≡ []
   none_queued =
-      let all : NothingPut l.drained.had = subst NothingPut l.returns.had_none (without_nothing had) in
-      let first = nothing_first l.behind.had _ (subst NothingPut (drained l.behind l.drained l.drains).has_had.after all) in
+      let all : NothingPut l.ends.drained.had = subst NothingPut l.ends.returns.had_none (without_nothing had) in
+      let first = nothing_first l.behind.had _ (subst NothingPut (drained l.behind l.ends.drained l.ends.drains.drains).has_had.after all) in
       l.queued.0 ∙ nothing_handed (handed_in l.walked) l.kepts l.has_had.more l.has_had.theirs (subst NothingPut l.has_had.after first)
 
-  pub leave_bare : (slot_of slot.key).batch ≡ [] → (slot_of slot'.key).batch ≡ []
+  pub leave_bare : (slot_of slot.holder.key).batch ≡ [] → (slot_of slot'.holder.key).batch ≡ []
   leave_bare bare =
-      sym l.rests.batch.1 ∙ ap values_of l.returns.batch
-      ∙ ap (λ (x : CallState). values_of x.batch) (drains_none l.behind l.drained none_queued l.drains)
+      sym l.rests.batch.1 ∙ ap values_of l.ends.returns.batch
+      ∙ ap (λ (x : CallState). values_of x.batch) (drains_none l.behind l.ends.drained none_queued l.ends.drains.drains)
       ∙ ap values_of l.batch ∙ slot.together.batch_is.1 ∙ bare
 
 -- A slot that looked at the list, and that has no batch as its key knows, leaves nothing behind.
-pub cleared_by : {T : Type 0} (slot slot' : Slot T) (pass pass' : Pass) → SlotLooks slot pass slot' pass' → its_book slot ≡ pass.name → IsInactive slot → (slot_of slot.key).batch ≡ [] → LeavesNothing pass' (its_number slot)
+pub cleared_by : {T : Type 0} (slot slot' : Slot T) (pass pass' : Pass) → SlotLooks slot pass slot' pass' → its_book slot ≡ pass.name → IsInactive slot → (slot_of slot.holder.key).batch ≡ [] → LeavesNothing pass' (its_number slot)
 cleared_by slot slot' pass pass' looks book off none =
     let so = shown slot slot' pass pass' looks book in record {
       call = ap (λ (z : Record). is_some z.call) so.0 ∙ ap is_some so.2;
@@ -250,5 +250,5 @@ module _ {T : Type 0} (words : Words T) (s0 s2 s3 s4 s5 : Slot T) (p0 p1 p2 p3 p
       off2 : OthersOff (its_number s2) (state_seen p2)
       off2 t differs = led2.leads.active t (λ e. differs (e ∙ sym num2)) ∙ ap (λ (st : State). is_active (head_at st t)) (prepared_same s0 p0 p1 prep sole) ∙ off t
 
-      batch3 : (slot_of s3.key).batch ≡ []
+      batch3 : (slot_of s3.holder.key).batch ≡ []
       batch3 = flush_bare s2 p2 s3 p3 sole2 [] e3 off2 active retired flushed

@@ -1,14 +1,13 @@
 -- A call of a slot in the place of a reservation, made where its pass is alone, with what its reclaimer had and what a watch was told.
 use Rattle.std.proofs.Common.{◌≡◌, ℕ, List, refl, sym, subst, ◌∙◌}
+use base.Growing.{prefix_trans}
 use base.Stored.{Gv}
+use mathlib.Core.List.{IsPrefix}
 use Rattle.seize_book.specs.Book.{IsLegalList}
 use Rattle.seize_book.specs.Entry.{Entry}
 use Rattle.seize_book.specs.Passes.{IsSamePass}
-use Rattle.seize_book.specs.Porters.{HadStay}
 use Rattle.seize_book.specs.Tokens.{IsSole, Name, start}
-use Rattle.seize_content.specs.Steady.{keeps}
 use Rattle.seize_book.specs.declared.book.pass.Pass.{Pass}
-use Rattle.seize_book.specs.declared.book.porter.Porter.{Porter}
 use Rattle.seize_words.specs.Joined.{words_book}
 use Rattle.seize_words.specs.declared.words.Words.{Words}
 use Rattle.seize_calls.specs.Handing.{Had}
@@ -16,23 +15,11 @@ use Rattle.seize_calls.specs.Slots.{CallsWith, IsOfWords, IsPassFor, its_book, i
 use Rattle.seize_calls.specs.declared.slot.Slot.{Slot}
 use Rattle.seize_alone.specs.Gone.{PutAs}
 use Rattle.seize_parts.specs.Places.{CallsSlot, IsOnly, IsUnmoved}
-use Rattle.seize_parts.specs.Reservations.{IsReservation, IsUnit, its_label, place_label}
+use Rattle.seize_parts.specs.Reservations.{IsUnit, its_label, place_label}
 use Rattle.seize_parts.specs.declared.alone.place.Unit.{Unit}
 use Rattle.seize_parts.specs.Told.{HasTold}
 use Rattle.seize_parts.specs.declared.reservation.Reservation.{Reservation}
 use Rattle.seize_parts.proofs.Placed.{label_family, label_most, label_number, still_for}
-
--- what a work of the porter's first pass did is said otherwise
-pub stayed_so : {gave gave' : Pass → Pass → Type 0} {porter porter' : Porter} → HadStay gave porter porter' → ((lent back : Pass) → gave lent back → gave' lent back) → HadStay gave' porter porter'
-stayed_so stay so = record {
-  lent = stay.lent;
-  back = stay.back;
-  shut = stay.shut;
-  same = stay.same;
-  grows = stay.grows;
-  gives = so stay.lent stay.back stay.gives;
-  again = stay.again;
-}
 
 -- nothing was done
 pub still_none : (pass : Pass) → IsUnmoved pass pass
@@ -50,10 +37,11 @@ legal_then words slot slot' pass pass' Does calls of for same =
 
 module _ {T Seen : Type 0} (code : T → Gv) (puts : ℕ → T → List T) (told : Seen → T → Seen) (words : Words T) (r : Reservation T) (pass : Pass) (r' : Reservation T) (pass' : Pass) (seen seen' : Seen)
     (Does : Slot T → Pass → Slot T → Pass → Had → Type 0) where
-  pub called : (slot : Slot T) (ready : Pass) (had : Had) (Did : Pass → Type 0) → its_number slot ≡ its_number r.slot → IsUnmoved pass ready → IsPassFor words pass → IsOfWords words r'.slot → Does slot ready r'.slot pass' had
-      → (calls : CallsWith slot ready r'.slot pass' Did) → IsSamePass calls.ready pass' → PutAs code puts had → HasTold code told seen seen' had → CallsSlot code puts told r pass r' pass' seen seen' Does
-  called slot ready had Did its still for of does calls same put tells = record {
+  pub called : (slot : Slot T) (ready : Pass) (had : Had) (Did : Pass → Type 0) → its_number slot ≡ its_number r.slot → IsUnmoved pass ready → IsSole pass.id → IsPassFor words pass → IsOfWords words r'.slot → Does slot ready r'.slot pass' had
+      → (calls : CallsWith slot ready r'.slot pass' Did) → IsSamePass calls.ready pass' → IsPrefix calls.ready.seen pass'.seen → PutAs code puts had → HasTold code told seen seen' had → CallsSlot code puts told r pass r' pass' seen seen' Does
+  called slot ready had Did its still sole for of does calls same grows put tells = record {
     same = (same.0 ∙ calls.prepares.same.0 ∙ still.same.0, same.1 ∙ calls.prepares.same.1 ∙ still.same.1, same.2 ∙ calls.prepares.same.2 ∙ still.same.2);
+    grows = subst (λ (x : List Entry). IsPrefix x pass'.seen) (still.alone sole) (prefix_trans ready.seen calls.ready.seen pass'.seen calls.prepares.grows.0 grows);
     slot = slot;
     ready = ready;
     its = its;
@@ -65,13 +53,11 @@ module _ {T Seen : Type 0} (code : T → Gv) (puts : ℕ → T → List T) (told
     tells = tells;
   }
 
--- What lies under the lock of a place, by its label: a reservation for one guard.
+-- What lies in a place, by its label: a reservation for one guard.
 
-pub only_there : {T : Type 0} (words : Words T) (s : ℕ) (pass : Pass) (lock : ℕ) → lock ≡ place_label (words_book words) s 1 → IsPassFor words pass → IsSole pass.id → (r : Reservation T) → keeps its_label IsReservation lock r
-    → IsOnly words r pass × (its_number r.slot ≡ s)
-only_there words s pass lock at for sole r is =
-    let n = its_book r.slot in let m = words_book words in let t = its_number r.slot in let same = is.0 ∙ at in
-    ((label_family n m t s r.most 1 same, label_most n m t s r.most 1 same, for, sole), label_number n m t s r.most 1 same)
+pub only_there : {T : Type 0} (words : Words T) (s : ℕ) (pass : Pass) (r : Reservation T) → its_label r ≡ place_label (words_book words) s 1 → IsPassFor words pass → IsSole pass.id → IsOnly words r pass × (its_number r.slot ≡ s)
+only_there words s pass r at for sole =
+    let n = its_book r.slot in let m = words_book words in let t = its_number r.slot in ((label_family n m t s r.most 1 at, label_most n m t s r.most 1 at, for, sole), label_number n m t s r.most 1 at)
 
 -- and the unit of a place is of the slot that lies there
 pub unit_there : (n : Name) (s t : ℕ) (unit : Unit) → unit.seen.name ≡ n → unit.number ≡ s → t ≡ s → IsUnit n t unit.unit unit.seen

@@ -14,7 +14,7 @@ use Rattle.seize_parts.proofs.Made.{makes_ready, none_looked}
 module _ {T : Type 0} (slot : Slot T) (pass : Pass) (slot' : Slot T) (pass' : Pass) where
   -- no event is made
   pub slot_looks : SlotLooks slot pass slot' pass' → MakesNone pass pass'
-  slot_looks looks = makes_ready slot pass slot' pass' (λ p. LooksWithSlotKey slot.key p slot'.key pass') [] (λ ready does. none_looked ready pass' does.on) looks.0
+  slot_looks looks = makes_ready slot pass slot' pass' (λ p. LooksWithSlotKey slot.holder.key p slot'.holder.key pass') [] (λ ready does. none_looked ready pass' does.on) looks.0
 
   -- and a slot that is active, as its key knew, is so in what the pass has seen then
   pub looks_active : (words : Words T) → IsOfWords words slot → IsPassFor words pass → SlotLooks slot pass slot' pass' → IsActive slot → IsActiveIn pass' (its_number slot)

@@ -1,6 +1,6 @@
 -- A collector comes from threads that shared it into one caller's hands: what these hold first, and what lies in the places.
 --     AreUsed st places     each slot is used as what lies in its place says
---     StartsAt code porter places st names kinds     the hands hold this state first, as the porter has seen: its slots are used as what lies
+--     StartsAt code pass places st names kinds     the hands hold this state first, as the pass has seen: its slots are used as what lies
 --                             in these places says
 use Rattle.std.proofs.Common.{Bool, false, not, ◌==◌, ◌≤◌, slice_set, ⊎_elim, ◌≡◌, ℕ, true, if◌then◌else◌, List, length, Option, None, Some, option_map, get_or, refl, sym, ap, subst, ◌∙◌, arith}
 use base.Stored.{Gv}
@@ -8,13 +8,9 @@ use Rattle.seize_machine.specs.Machine.State as machine
 use Rattle.seize_model.specs.declared.kind.Kind.{Kind}
 use Rattle.seize_model.specs.Waiting.Calls.{is_free, is_owned}
 use Rattle.seize_model.specs.Waiting.State.{Slot, State, has_guard, slot_at}
-use Rattle.seize_book.specs.Book.{after}
-use Rattle.seize_book.specs.Entry.{Entry}
-use Rattle.seize_book.specs.Porters.{OpensAgain}
 use Rattle.seize_book.specs.Saying.{AllSay}
-use Rattle.seize_book.specs.Tokens.{Name, start}
+use Rattle.seize_book.specs.Tokens.{Name}
 use Rattle.seize_book.specs.declared.book.pass.Pass.{Pass}
-use Rattle.seize_book.specs.declared.book.porter.Porter.{Porter}
 use Rattle.seize_alone.specs.Begins.{Begun}
 use Rattle.seize_alone.specs.Holding.{Holds}
 use Rattle.seize_alone.proofs.Shown.{many_shown}
@@ -30,22 +26,20 @@ use Rattle.seize_parts.proofs.Resting.{rests_held}
 abbrev pub AreUsed : {T : Type 0} → State T ℕ → List (Option (Place T)) → Type 0
 AreUsed st places = (s : ℕ) → ((slot_at st s).kind ≡ (use_in (get_or places s None)).0) × ((slot_at st s).guards ≡ (use_in (get_or places s None)).1)
 
-abbrev pub StartsAt : {T : Type 0} → (T → Gv) → Porter → List (Option (Place T)) → State T ℕ → List (ℕ × T) → List (ℕ × ℕ) → Type 0
-StartsAt code porter places st names kinds =
-    Holds code st names kinds porter.name porter.seen × (st.size ≡ porter.size) × (length st.links ≡ length porter.name.links) × AreUsed st places
+abbrev pub StartsAt : {T : Type 0} → (T → Gv) → Pass → List (Option (Place T)) → State T ℕ → List (ℕ × T) → List (ℕ × ℕ) → Type 0
+StartsAt code pass places st names kinds =
+    Holds code st names kinds pass.name pass.seen × (st.size ≡ pass.size) × (length st.links ≡ length pass.name.links) × AreUsed st places
 
-module _ {T : Type 0} (code : T → Gv) (lent back : Pass) (porter : Porter) (found : Found T) (comes : ComesToRest lent back found) (again : OpensAgain back porter) where
+module _ {T : Type 0} (code : T → Gv) (had pass : Pass) (found : Found T) (comes : ComesToRest had pass found) where
   -- there is such a state, where all was found
-  pub starts : found.all ≡ true → HaveContents code back → AllSay back.seen → (st : State T ℕ) × (names : List (ℕ × T)) × (kinds : List (ℕ × ℕ)) × StartsAt code porter found.places.items st names kinds
+  pub starts : found.all ≡ true → HaveContents code pass → AllSay pass.seen → (st : State T ℕ) × (names : List (ℕ × T)) × (kinds : List (ℕ × ℕ)) × StartsAt code pass found.places.items st names kinds
   starts all contents say =
-      let b : Begun code porter.size porter.name porter.seen (λ s. use_in (get_or found.places.items s None)) =
-      subst (λ (t : Name × List Entry). Begun code porter.size t.0 t.1 (λ s. use_in (get_or found.places.items s None))) (λ j. (again.0.0 j, sym again.1 j)) (rests_held code lent back found porter.size all comes contents say) in
+      let b : Begun code pass.size pass.name pass.seen (λ s. use_in (get_or found.places.items s None)) = rests_held code had pass found pass.size all comes contents say in
       (b.state, b.names, b.kinds, (b.holds, b.sized, b.links, b.slots))
 
   -- so many slots are in it
-  pub many_slots : (st : State T ℕ) (names : List (ℕ × T)) (kinds : List (ℕ × ℕ)) → Holds code st names kinds porter.name porter.seen → found.made ≡ length st.slots
-  many_slots st names kinds holds =
-      comes.made ∙ (λ j. length (after (start (again.0.0 j)) (sym again.1 j)).slots) ∙ many_shown holds
+  pub many_slots : (st : State T ℕ) (names : List (ℕ × T)) (kinds : List (ℕ × ℕ)) → Holds code st names kinds pass.name pass.seen → found.made ≡ length st.slots
+  many_slots st names kinds holds = comes.made ∙ many_shown holds
 
 -- What lies in the places is what the state says.
 module _ {T : Type 0} (n : Name) (now : machine.State) (s : ℕ) (slot : Slot T ℕ) where
@@ -73,11 +67,11 @@ module _ {T : Type 0} (n : Name) (now : machine.State) (s : ℕ) (slot : Slot T 
       ap Option.Some lies ∙ sym (ap (λ (b : Bool). if b then None else Some (lying_in n slot s)) (ap is_free kind ∙ used_kind place.owned))
 
 pub all_placed : {T : Type 0} (n : Name) (now : machine.State) (st : State T ℕ) (places : List (Option (Place T))) → AreUsed st places → ((s : ℕ) (place : Place T) → get_or places s None ≡ Some place → IsLeftAt n now s place) → ArePlaces n st places
-all_placed n now st places used left s = placed_left n now s (slot_at st s) (get_or places s None) (used s).0 (used s).1 (left s)
+all_placed n now st places used left = record { lie = λ s. placed_left n now s (slot_at st s) (get_or places s None) (used s).0 (used s).1 (left s); sound = λ s place is. (left s place is).sound }
 
 -- What was left may be laid on its shelf again.
 pub left_may : {T : Type 0} (n : Name) (now : machine.State) (s : ℕ) (place : Place T) → IsLeftAt n now s place → MayLay n place
-left_may n now s place is = record { slot = s; reservation = is.reservation; unit = is.unit; shelf = is.shelf; fits = λ owned. is.used.owned (ap (λ (b : Bool). is_owned (kind_of b)) owned) }
+left_may n now s place is = record { slot = s; sound = is.sound; reservation = is.reservation; unit = is.unit; shelf = is.shelf; fits = λ owned. is.used.owned (ap (λ (b : Bool). is_owned (kind_of b)) owned) }
 
 -- What lies in a place may be laid on its shelf.
 some_lies : {a b : Lies} → Some a ≡ Some b → a ≡ b
@@ -86,7 +80,7 @@ some_lies e = cc
 pub may_lay : {T : Type 0} (n m : Name) (st : State T ℕ) (places : List (Option (Place T))) → ArePlaces n st places → ((s : ℕ) → is_owned (slot_at st s).kind ≡ true → (slot_at st s).guards ≤ 1) → m ≡ n
     → (s : ℕ) (place : Place T) → get_or places s None ≡ Some place → MayLay m place
 may_lay {T} n m st places are one same s place is =
-    subst (λ (t : Name). MayLay t place) (sym same) (go (is_free (slot_at st s).kind) (sym (ap (λ (o : Option (Place T)). option_map lies_in o) is) ∙ are s))
+    subst (λ (t : Name). MayLay t place) (sym same) (go (is_free (slot_at st s).kind) (sym (ap (λ (o : Option (Place T)). option_map lies_in o) is) ∙ are.lie s))
   where
     its_unit : Option (ℕ × Name)
     its_unit = Some (s, n)
@@ -100,6 +94,7 @@ may_lay {T} n m st places are one same s place is =
     go false e =
         let lies : lies_in place ≡ lying_in n (slot_at st s) s = some_lies e in let guards : place.guards ≡ (slot_at st s).guards = ap (λ (t : Lies). t.1.0) lies in record {
           slot = s;
+          sound = are.sound s place is;
           reservation = ap (λ (t : Lies). t.1.1.0) lies;
           unit = ap (λ (t : Lies). t.1.1.1.0) lies ∙ turned_back ((slot_at st s).guards == 0) ∙ ap (λ (k : ℕ). if k == 0 then None else its_unit) (sym guards);
           shelf = ap (λ (t : Lies). t.1.1.1.1) lies;

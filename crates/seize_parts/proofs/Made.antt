@@ -173,7 +173,7 @@ makes_next numbers left pass numbers' key left' pass' makes =
 pub makes_slot : {T : Type 0} (numbers : NumbersKey) (left : NextSlot) (pass : Pass) (numbers' : NumbersKey) (slot : Slot T) (left' : NextSlot) (pass' : Pass) → MakesOneSlot numbers left pass numbers' slot left' pass'
     → MakesOne pass pass' (Take (its_number slot)) Done
 makes_slot numbers left pass numbers' slot left' pass' makes =
-    subst (λ (s : ℕ). MakesOne pass pass' (Take s) Done) slot.together.numbered (makes_next numbers left pass numbers' slot.key left' pass' makes.0)
+    subst (λ (s : ℕ). MakesOne pass pass' (Take s) Done) slot.together.numbered (makes_next numbers left pass numbers' slot.holder.key left' pass' makes.0)
 
 module _ {T : Type 0} (slot : Slot T) (pass : Pass) (slot' : Slot T) (pass' : Pass) where
   -- a call makes what is made once the pass is ready for it
@@ -182,15 +182,15 @@ module _ {T : Type 0} (slot : Slot T) (pass : Pass) (slot' : Slot T) (pass' : Pa
 
   pub slot_enters : (a : Activation) → SlotEnters slot pass a slot' pass' → MakesOne pass pass' (Enter (its_number slot)) Done
   slot_enters a enters =
-      makes_ready (λ p. AddsDeed slot.key p slot'.key pass' (beginning p a.life (Enter (its_number slot)))) ((Enter (its_number slot), Done) ∷ [])
-      (λ ready does. key_enters slot.key ready slot'.key pass' a.life (its_number slot) does) enters
+      makes_ready (λ p. AddsDeed slot.holder.key p slot'.holder.key pass' (beginning p a.life (Enter (its_number slot)))) ((Enter (its_number slot), Done) ∷ [])
+      (λ ready does. key_enters slot.holder.key ready slot'.holder.key pass' a.life (its_number slot) does) enters
 
   pub slot_gives : SlotGives slot pass slot' pass' → MakesOne pass pass' (Give (its_number slot)) Done
   slot_gives gives =
-      makes_ready (λ p. AddsEvent slot.key p slot'.key pass' (Give (its_number slot))) ((Give (its_number slot), Done) ∷ [])
-      (λ ready does. key_gives slot.key ready slot'.key pass' (its_number slot) does) gives.0
+      makes_ready (λ p. AddsEvent slot.holder.key p slot'.holder.key pass' (Give (its_number slot))) ((Give (its_number slot), Done) ∷ [])
+      (λ ready does. key_gives slot.holder.key ready slot'.holder.key pass' (its_number slot) does) gives.0
 
   pub slot_takes : SlotTakes slot pass slot' pass' → MakesOne pass pass' (Take (its_number slot)) Done
   slot_takes takes =
-      makes_ready (λ p. AddsEvent slot.key p slot'.key pass' (Take (its_number slot))) ((Take (its_number slot), Done) ∷ [])
-      (λ ready does. key_takes slot.key ready slot'.key pass' (its_number slot) does) takes.0
+      makes_ready (λ p. AddsEvent slot.holder.key p slot'.holder.key pass' (Take (its_number slot))) ((Take (its_number slot), Done) ∷ [])
+      (λ ready does. key_takes slot.holder.key ready slot'.holder.key pass' (its_number slot) does) takes.0

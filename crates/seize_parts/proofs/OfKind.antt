@@ -16,10 +16,12 @@ use Rattle.seize_book.specs.declared.book.pass.Pass.{Pass}
 use Rattle.seize_book.specs.declared.book.slot_key.SlotKey.{SlotKey}
 use Rattle.seize_book.specs.declared.book.value_keys.ValueKeys.{ValueKeys}
 use Rattle.seize_words.proofs.Facts.{told_later}
+use Rattle.seize_calls.specs.Alone.{Onward}
 use Rattle.seize_calls.specs.Calls.{RetiresOne}
 use Rattle.seize_calls.specs.Handing.{Had}
-use Rattle.seize_calls.specs.Settling.{CallState, Drains, Onward}
-use Rattle.seize_calls.proofs.Onwards.{onward_none, onward_twice, round_on}
+use Rattle.seize_calls.specs.Settling.{CallState, Drains}
+use Rattle.seize_calls.proofs.Alone.{onward_none, onward_twice}
+use Rattle.seize_calls.proofs.Onwards.{round_on}
 use Rattle.seize_parts.proofs.Stands.{rest_of}
 
 -- Where an event is picked from the list that says something of a value, the list says it.
@@ -50,13 +52,6 @@ told_at test st (Made e ∷ log) before after d a v k says is =
     let done = or_illegal st (next e.size st e.event) in
     told_here (test (Made e, done.1)) e done.1 log (filter test (with_answers done.0 log)) before after d a v k says (λ sooner so. told_at test done.0 log sooner after d a v k says so) is
 
--- What a pass has seen grows in a call.
-
-drained_on : (a b : CallState) → Drains a b → Onward a.key a.pass b.key b.pass
-drained_on a _ Drains.over = onward_none a.key a.pass
-drained_on a c (Drains.goes_on b _ queue v kept retired drains takes round) =
-    onward_twice a.key b.key c.key a.pass b.pass c.pass (drained_on a b drains) (round_on (record { key = b.key; pass = b.pass; batch = b.batch; queue = queue; had = b.had }) v kept c retired round)
-
 -- **The kind of a retirement is what the list says of its value.**
 pub kind_told : (key : SlotKey) (pass : Pass) (v kept : ℕ) (values : ValueKeys) (had : Had) (key' : SlotKey) (pass' : Pass) (values' : ValueKeys) (had' : Had) (retired : Bool)
     → RetiresOne key pass v kept values had key' pass' values' had' retired → IsTold pass'.seen v kept
@@ -67,9 +62,9 @@ kind_told key pass v kept values had key' pass' values' had' retired r = told_la
 
     grows : IsPrefix begun.seen pass'.seen
     grows =
-        prefix_trans begun.seen r.drained.pass.seen pass'.seen
-        (prefix_trans begun.seen r.settled.pass.seen r.drained.pass.seen (round_on r.begun v kept r.settled retired r.drains_one).grows (drained_on r.settled r.drained r.drains).grows)
-        r.returns.keeps.grows
+        prefix_trans begun.seen r.ends.drained.pass.seen pass'.seen
+        (prefix_trans begun.seen r.settled.pass.seen r.ends.drained.pass.seen (round_on r.begun v kept r.settled retired r.drains_one).grows r.ends.drains.on.grows)
+        r.ends.returns.keeps.on.grows
 
     told : IsTold begun.seen v kept
     told = told_at (λ a. maker a.0 == begun.id) (start begun.name) begun.seen (events_by pass) [] _ Done v kept (inl (refl, refl)) r.begins.begins.made

@@ -38,7 +38,7 @@ use Rattle.seize_parts.specs.Reservations.{place_label}
 use Rattle.seize_parts.specs.declared.alone.place.Place.{Place}
 use Rattle.seize_alone.proofs.Nothing.{had_with, put_nothing}
 use Rattle.seize_parts.proofs.Going.{parts_append, range_append, waits_as, waits_none}
-use Rattle.seize_parts.proofs.Lying.{slot_there}
+use Rattle.seize_parts.proofs.Lying.{sound_set, slot_there}
 use Rattle.seize_parts.proofs.Stilled.{same_pass}
 use Rattle.seize_parts.proofs.Turning.{guarded_slot, leave_same, leave_step, less_size}
 
@@ -181,7 +181,7 @@ free_lies_so n s slot free = ap (λ (b : Bool). if b then None else Some (lying_
 
 -- nothing lies in the place of a slot that is not in use
 pub free_none : {T : Type 0} (n : Name) (st : State T ℕ) (places : List (Option (Place T))) → ArePlaces n st places → (s : ℕ) → get_or places s None ≡ None → is_free (slot_at st s).kind ≡ true
-free_none n st places are s none = go _ (is_free (slot_at st s).kind) (sym (ap (λ (o : _). option_map lies_in o) none) ∙ are s)
+free_none n st places are s none = go _ (is_free (slot_at st s).kind) (sym (ap (λ (o : _). option_map lies_in o) none) ∙ are.lie s)
   where
     go : (x : Lies) (free : Bool) → None ≡ (if free then None else Some x) → free ≡ true
     go x true e = refl
@@ -189,7 +189,7 @@ free_none n st places are s none = go _ (is_free (slot_at st s).kind) (sym (ap (
 
 -- and one lies in that of a slot in use
 pub used_some : {T : Type 0} (n : Name) (st : State T ℕ) (places : List (Option (Place T))) → ArePlaces n st places → (s : ℕ) (place : Place T) → get_or places s None ≡ Some place → is_free (slot_at st s).kind ≡ false
-used_some n st places are s place some = go (lies_in place) _ (is_free (slot_at st s).kind) (sym (ap (λ (o : _). option_map lies_in o) some) ∙ are s)
+used_some n st places are s place some = go (lies_in place) _ (is_free (slot_at st s).kind) (sym (ap (λ (o : _). option_map lies_in o) some) ∙ are.lie s)
   where
     go : (x y : Lies) (free : Bool) → Some x ≡ (if free then None else Some y) → free ≡ false
     go x y true e = absurd (cc)
@@ -197,7 +197,7 @@ used_some n st places are s place some = go (lies_in place) _ (is_free (slot_at 
 
 -- after a slot parted, nothing lies in its place
 pub places_parted : {T : Type 0} (n : Name) (st : State T ℕ) (places : List (Option (Place T))) (s : ℕ) → ArePlaces n st places → s < length places → ArePlaces n (part_in_turn st s).0 (slice_set places s None)
-places_parted {T} n st places s are below t = go (is_free (slot_at st s).kind) refl (ℕ_discrete t s)
+places_parted {T} n st places s are below = record { lie = λ t. go t (is_free (slot_at st s).kind) refl (ℕ_discrete t s); sound = sound_set places s None are.sound (λ x none. absurd (cc)) }
   where
     left : State T ℕ
     left = (last_guard_left st s).0
@@ -205,18 +205,18 @@ places_parted {T} n st places s are below t = go (is_free (slot_at st s).kind) r
     freed : WaitingSlot T ℕ
     freed = record (slot_at (last_guard_left st s).0 s) { kind = Free; guards = 0 }
 
-    go : (free : Bool) → is_free (slot_at st s).kind ≡ free → Dec (t ≡ s)
+    go : (t : ℕ) (free : Bool) → is_free (slot_at st s).kind ≡ free → Dec (t ≡ s)
         → option_map lies_in (get_or (slice_set places s None) t None) ≡ lies_for n (slot_at (if free then (st, []) else with_number_free_if true s (last_guard_left st s)).0 t) t
-    go true free (yes e) =
+    go t true free (yes e) =
         subst (λ (k : ℕ). option_map lies_in (get_or (slice_set places s None) k None) ≡ lies_for n (slot_at st k) k) (sym e)
         (ap (λ (o : Option (Place T)). option_map lies_in o) (get_or-set_same places s None None below) ∙ sym (free_lies_so n s (slot_at st s) free))
-    go true free (no differs) = ap (λ (o : Option (Place T)). option_map lies_in o) (get_or-set_other places s t None None differs) ∙ are t
-    go false used (yes e) =
+    go t true free (no differs) = ap (λ (o : Option (Place T)). option_map lies_in o) (get_or-set_other places s t None None differs) ∙ are.lie t
+    go t false used (yes e) =
         let there : s < length left.slots = (let long = left_long st s in let inside = slot_there st s used in omega (arith, long, inside)) in
         subst (λ (k : ℕ). option_map lies_in (get_or (slice_set places s None) k None) ≡ lies_for n (slot_at (with_number_free left s) k) k) (sym e)
         (ap (λ (o : Option (Place T)). option_map lies_in o) (get_or-set_same places s None None below) ∙ sym (ap (λ (x : WaitingSlot T ℕ). lies_for n x s) (get_or-set_same left.slots s freed no_slot there)))
-    go false used (no differs) =
-        ap (λ (o : Option (Place T)). option_map lies_in o) (get_or-set_other places s t None None differs) ∙ are t
+    go t false used (no differs) =
+        ap (λ (o : Option (Place T)). option_map lies_in o) (get_or-set_other places s t None None differs) ∙ are.lie t
         ∙ sym (ap (λ (x : WaitingSlot T ℕ). lies_for n x t) (set_other left s t freed differs) ∙ lies_same n t (slot_at left t) (slot_at st t) (left_other st s t differs))
 
 -- Beyond the places, and beyond the slots, nothing is done.

@@ -83,7 +83,7 @@ at_kept slot slot' rest zero may within at = may at
 at_kept slot slot' rest (suc n) may within at = within at
 
 -- a slot that is inactive still may enter with the same activation
-pub may_still : {T : Type 0} (slot slot' : Slot T) (rest : Activation) → (slot_book slot'.key ≡ slot_book slot.key) × (slot_number slot'.key ≡ slot_number slot.key) → active_of slot'.key ≡ active_of slot.key
+pub may_still : {T : Type 0} (slot slot' : Slot T) (rest : Activation) → (slot_book slot'.holder.key ≡ slot_book slot.holder.key) × (slot_number slot'.holder.key ≡ slot_number slot.holder.key) → active_of slot'.holder.key ≡ active_of slot.holder.key
     → MayEnterWith slot rest → MayEnterWith slot' rest
 may_still slot slot' rest its active may = (active ∙ may.0, (may.1.0 ∙ sym its.0, may.1.1 ∙ sym its.1, may.1.2))
 

@@ -55,8 +55,8 @@ looked_idle pass pass' looks sole t was =
 -- A slot whose number just went back is idle, as its key says.
 pub given_idle : {T : Type 0} (words : Words T) (slot : Slot T) (pass : Pass) (slot' : Slot T) (pass' : Pass) (n : ℕ) → IsSole pass.id → (e : SlotGives slot pass slot' pass') → IsFreeSlotOf words slot' → its_number slot ≡ n → IsIdle pass' n
 given_idle words slot pass slot' pass' n sole e free at =
-    let moves = e.0.does.2.1 in let later = given_later slot pass slot' pass' sole e in let number : slot_number slot.key ≡ n = slot.together.numbered ∙ at in
-    let is : slot_at (state_seen pass') n ≡ slot_of slot'.key = (λ j. slot_at (later j) (sym number j)) ∙ sym moves.is in record {
+    let moves = e.0.does.2.1 in let later = given_later slot pass slot' pass' sole e in let number : slot_number slot.holder.key ≡ n = slot.together.numbered ∙ at in
+    let is : slot_at (state_seen pass') n ≡ slot_of slot'.holder.key = (λ j. slot_at (later j) (sym number j)) ∙ sym moves.is in record {
       call = ap (λ (z : Record). z.call) is ∙ slot'.together.call;
       off = (λ j. is_active (head_at (later j) (sym number j))) ∙ sym moves.is_now_active ∙ free.2;
     }

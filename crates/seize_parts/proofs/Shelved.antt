@@ -42,7 +42,7 @@ owned_is true is = refl
 owned_is false is = absurd (cc)
 
 module _ {T : Type 0} (words : Words T) (slot slot' : Slot T) (p p' : Pass) (for : IsPassFor words p) (of : IsSlotOf words slot) (of' : IsSlotOf words slot') (looks : SlotLooks slot p slot' p') where
-  pub used_left : (most guards : ℕ) → guards ≤ most → active_of slot'.key ≡ not (guards == 0) → IsUsedAs (state_seen p') (its_number slot) (kind_of (most == 1), guards)
+  pub used_left : (most guards : ℕ) → guards ≤ most → active_of slot'.holder.key ≡ not (guards == 0) → IsUsedAs (state_seen p') (its_number slot) (kind_of (most == 1), guards)
   used_left most guards fits active = let so = shown slot slot' p p' looks (of.0.book ∙ for.0) in record {
     used = ap (λ (r : machine.Slot). r.used) so.0 ∙ of'.1 ∙ in_use (most == 1);
     idle = ap (λ (r : machine.Slot). r.call) so.0 ∙ so.2;

@@ -109,7 +109,7 @@ module _ {T : Type 0} (c : Coded T) (words : Words T) (n : ℕ) where
   leave_step {slot} {slot'} {pass} {pass'} {st} {names} {kinds} k had put e =
       let legal = legal_then words slot slot' pass pass' _ e k.of k.for e.does.rests.same in let a = alone_so k had put (leave_same e).0 legal in
       subst (λ (m : ℕ). is_free (slot_at st m).kind ≡ false → (slot_at st m).guards ≡ 1 → Left (one_guard_less st m) m) (slot.together.numbered ∙ k.at)
-      (λ used one. let m = slot_number slot.key in subst (λ (o : StateAndGone T ℕ). Left o m) (nothing_further (λ (x : T). 1) m (one_guard_less st m)) (slot_parts c st names kinds slot slot' pass pass' nothing (λ (x : T). 1) nothing_lighter had a e used one))
+      (λ used one. let m = slot_number slot.holder.key in subst (λ (o : StateAndGone T ℕ). Left o m) (nothing_further (λ (x : T). 1) m (one_guard_less st m)) (slot_parts c st names kinds slot slot' pass pass' nothing (λ (x : T). 1) nothing_lighter had a e used one))
     where
       Left : StateAndGone T ℕ → ℕ → Type 0
       Left o m = HoldsThen c.code o had pass' × (is_free (slot_at o.0 m).kind ≡ false) × (has_guard (slot_at o.0 m) ≡ false)

@@ -106,32 +106,32 @@ module _ (IsPut : Pass → ℕ → List ℕ → Type 0) (pass' : Pass) (gives : 
         rests.same rests.grows legal own
 
     drained : (a b : CallState) → Drains a b → Returns b key' pass' values' had' → Goes gives a b
-    drained a b drains returns = goes_drained gives a b drains (subst (AllHad gives) returns.had_none all) returns.keeps.grows
+    drained a b drains returns = goes_drained gives a b drains (subst (AllHad gives) returns.had_none all) returns.keeps.on.grows
 
     -- what goes on from where the call began
     goes_on : (job : Job) (kepts : List ℕ) (a b : CallState) → BeginsSo key pass job kepts values had a → Goes gives a b → Returns b key' pass' values' had' → Rests key pass key' pass' values' → Whole IsPut active s job pass pass'
     goes_on job kepts a b begins goes returns rests =
-        let its = begins.begins.keeps.its.1 in
-        returned active job b (opened_then (began job kepts a begins) (subst (λ (t : Bool × ℕ). Runs gives t.0 t.1 a.pass b.pass) (λ j. (begins.begins.keeps.active j, its j)) goes.runs)) (goes.its ∙ its) returns rests
+        let its = begins.begins.keeps.on.its.1 in
+        returned active job b (opened_then (began job kepts a begins) (subst (λ (t : Bool × ℕ). Runs gives t.0 t.1 a.pass b.pass) (λ j. (begins.begins.keeps.on.active j, its j)) goes.runs)) (goes.its ∙ its) returns rests
 
     pub key_retires : (v kept : ℕ) (retired : Bool) → RetiresOne key pass v kept values had key' pass' values' had' retired → Whole IsPut active s (Retire v) pass pass'
     key_retires v kept retired r =
-        let drains = drained r.settled r.drained r.drains r.returns in let known = prefix_trans r.settled.pass.seen r.drained.pass.seen pass'.seen drains.grows r.returns.keeps.grows in
-        goes_on (Retire v) (kept ∷ []) r.begun r.drained r.begins (goes_then gives (goes_round gives r.begun v kept r.settled retired r.drains_one drains.before known) drains) r.returns r.rests
+        let drains = drained r.settled r.ends.drained r.ends.drains.drains r.ends.returns in let known = prefix_trans r.settled.pass.seen r.ends.drained.pass.seen pass'.seen drains.grows r.ends.returns.keeps.on.grows in
+        goes_on (Retire v) (kept ∷ []) r.begun r.ends.drained r.begins (goes_then gives (goes_round gives r.begun v kept r.settled retired r.drains_one drains.before known) drains) r.ends.returns r.rests
 
     pub key_flushes : (retired : Bool) → Flushes key pass values had key' pass' values' had' retired → Whole IsPut active s Flush pass pass'
     key_flushes retired r =
-        let drains = drained r.settled r.drained r.drains r.returns in let known = prefix_trans r.settled.pass.seen r.drained.pass.seen pass'.seen drains.grows r.returns.keeps.grows in
-        goes_on Flush [] r.begun r.drained r.begins (goes_then gives (goes_settled gives 1 r.begun r.settled retired r.settles drains.before known) drains) r.returns r.rests
+        let drains = drained r.settled r.ends.drained r.ends.drains.drains r.ends.returns in let known = prefix_trans r.settled.pass.seen r.ends.drained.pass.seen pass'.seen drains.grows r.ends.returns.keeps.on.grows in
+        goes_on Flush [] r.begun r.ends.drained r.begins (goes_then gives (goes_settled gives 1 r.begun r.settled retired r.settles drains.before known) drains) r.ends.returns r.rests
 
     pub key_leaves : (job : Job) (stays : Bool) (swap : Deed) → swap.event ≡ SwapOut s → Leaves job stays swap key pass values had key' pass' values' had' → MakesCall IsPut s job pass pass'
-    key_leaves job stays swap swaps r = (returned false job r.drained (opened_then opened (subst (λ (k : ℕ). Runs gives false k r.behind.pass r.drained.pass) behind (any_slot drains.runs))) its r.returns r.rests).0
+    key_leaves job stays swap swaps r = (returned false job r.ends.drained (opened_then opened (subst (λ (k : ℕ). Runs gives false k r.behind.pass r.ends.drained.pass) behind (any_slot drains.runs))) its r.ends.returns r.rests).0
       where
-        drains : Goes gives r.behind r.drained
-        drains = drained r.behind r.drained r.drains r.returns
+        drains : Goes gives r.behind r.ends.drained
+        drains = drained r.behind r.ends.drained r.ends.drains.drains r.ends.returns
 
-        its : slot_number r.drained.key ≡ s
-        its = sym r.returns.keeps.its.1 ∙ r.rests.its.1
+        its : slot_number r.ends.drained.key ≡ s
+        its = sym r.ends.returns.keeps.on.its.1 ∙ r.rests.its.1
 
         behind : slot_number r.behind.key ≡ s
         behind = sym drains.its ∙ its
@@ -144,7 +144,7 @@ module _ (IsPut : Pass → ℕ → List ℕ → Type 0) (pass' : Pass) (gives : 
 
         handed : HandSo (IsPut pass') (handed_in r.walked) × AllHad gives had
         handed = had_so gives r.behind.pass.seen (handed_in r.walked) r.kepts had r.behind.had r.has_had drains.before
-            (prefix_trans r.behind.pass.seen r.drained.pass.seen pass'.seen drains.grows r.returns.keeps.grows) r.told (walk_said r.behind.pass pass s ((events_by pass ++ begin) ++ (swap, Done) ∷ []) r.walked (left_made r))
+            (prefix_trans r.behind.pass.seen r.ends.drained.pass.seen pass'.seen drains.grows r.ends.returns.keeps.on.grows) r.told (walk_said r.behind.pass pass s ((events_by pass ++ begin) ++ (swap, Done) ∷ []) r.walked (left_made r))
 
         opened : Opened false s job pass r.behind.pass
         opened = record {
@@ -164,37 +164,37 @@ module _ (IsPut : Pass → ℕ → List ℕ → Type 0) (pass' : Pass) (gives : 
         subst (λ (t : Name × List Entry). IsLegalList (start t.0) t.1) (λ j. ((of.book ∙ for.0 ∙ sym calls.prepares.same.0 ∙ sym same.0) j, calls.seen j)) of.knows.legal
 
     -- what the slot made with the pass is all that it made
-    made_all : (Does : Pass → Type 0) (calls : CallsWith slot pass slot' pass' Does) → Rests slot.key calls.ready slot'.key pass' (keys_in slot'.batch) → MadeAll (slot_number slot.key) calls.ready pass'
+    made_all : (Does : Pass → Type 0) (calls : CallsWith slot pass slot' pass' Does) → Rests slot.holder.key calls.ready slot'.holder.key pass' (keys_in slot'.holder.batch) → MadeAll (slot_number slot.holder.key) calls.ready pass'
     made_all Does calls rests =
-        own_undivided slot.key slot'.key calls.ready pass' rests.same
+        own_undivided slot.holder.key slot'.holder.key calls.ready pass' rests.same
         calls.prepares.legal (seen_legal Does calls rests.same) calls.knew rests.grows rests.sees rests.its rests.own
 
-    whole : (active : Bool) (job : Job) (Does : Pass → Type 0) (calls : CallsWith slot pass slot' pass' Does) → Whole IsPut active (slot_number slot.key) job calls.ready pass' → Whole IsPut active (its_number slot) job pass pass'
+    whole : (active : Bool) (job : Job) (Does : Pass → Type 0) (calls : CallsWith slot pass slot' pass' Does) → Whole IsPut active (slot_number slot.holder.key) job calls.ready pass' → Whole IsPut active (its_number slot) job pass pass'
     whole active job Does calls makes =
         let call = makes.0 in let none = none_prepared slot pass calls.ready calls.prepares in
         subst (λ (k : ℕ). Whole IsPut active k job pass pass') slot.together.numbered (record { steps = call.steps; its = call.its; made = none_then none call.made; undivided = undivided_after none call.undivided }, makes.1)
 
     module _ (had : Had) (had' : Had) (all : AllHad gives had') where
-      pub slot_retires : (loose : Loose) (kept : ℕ) (retired : Bool) → SlotRetires slot pass loose kept had slot' pass' had' retired → Whole IsPut (active_of slot.key) (its_number slot) (Retire (its_value loose)) pass pass'
+      pub slot_retires : (loose : Loose) (kept : ℕ) (retired : Bool) → SlotRetires slot pass loose kept had slot' pass' had' retired → Whole IsPut (active_of slot.holder.key) (its_number slot) (Retire (its_value loose)) pass pass'
       slot_retires loose kept retired calls =
-          whole (active_of slot.key) (Retire (its_value loose)) _ calls
-          (key_retires slot.key calls.ready (keys_in slot.batch) had slot'.key (keys_in slot'.batch) had' all (seen_legal _ calls calls.does.rests.same) (made_all _ calls calls.does.rests) (its_value loose) kept retired calls.does)
+          whole (active_of slot.holder.key) (Retire (its_value loose)) _ calls
+          (key_retires slot.holder.key calls.ready (keys_in slot.holder.batch) had slot'.holder.key (keys_in slot'.holder.batch) had' all (seen_legal _ calls calls.does.rests.same) (made_all _ calls calls.does.rests) (its_value loose) kept retired calls.does)
 
-      pub slot_flushes : (retired : Bool) → SlotFlushes slot pass had slot' pass' had' retired → Whole IsPut (active_of slot.key) (its_number slot) Flush pass pass'
+      pub slot_flushes : (retired : Bool) → SlotFlushes slot pass had slot' pass' had' retired → Whole IsPut (active_of slot.holder.key) (its_number slot) Flush pass pass'
       slot_flushes retired calls =
-          whole (active_of slot.key) Flush _ calls (key_flushes slot.key calls.ready (keys_in slot.batch) had slot'.key (keys_in slot'.batch) had' all (seen_legal _ calls calls.does.rests.same) (made_all _ calls calls.does.rests) retired calls.does)
+          whole (active_of slot.holder.key) Flush _ calls (key_flushes slot.holder.key calls.ready (keys_in slot.holder.batch) had slot'.holder.key (keys_in slot'.holder.batch) had' all (seen_legal _ calls calls.does.rests.same) (made_all _ calls calls.does.rests) retired calls.does)
 
       pub slot_leaves : SlotLeaves slot pass had slot' pass' had' → MakesCall IsPut (its_number slot) Leave pass pass'
       slot_leaves calls =
           (whole false Leave _ calls
-          (any_call (key_leaves slot.key calls.ready (keys_in slot.batch) had slot'.key (keys_in slot'.batch) had' all (seen_legal _ calls calls.does.rests.same) (made_all _ calls calls.does.rests) Leave false
-          (private calls.ready (SwapOut (slot_number slot.key))) refl calls.does))).0
+          (any_call (key_leaves slot.holder.key calls.ready (keys_in slot.holder.batch) had slot'.holder.key (keys_in slot'.holder.batch) had' all (seen_legal _ calls calls.does.rests.same) (made_all _ calls calls.does.rests) Leave false
+          (private calls.ready (SwapOut (slot_number slot.holder.key))) refl calls.does))).0
 
       pub slot_refreshes : (a : Activation) → SlotRefreshes slot pass a had slot' pass' had' → MakesCall IsPut (its_number slot) Refresh pass pass'
       slot_refreshes a calls =
           (whole false Refresh _ calls
-          (any_call (key_leaves slot.key calls.ready (keys_in slot.batch) had slot'.key (keys_in slot'.batch) had' all (seen_legal _ calls calls.does.rests.same) (made_all _ calls calls.does.rests) Refresh true
-          (beginning calls.ready a.life (SwapOut (slot_number slot.key))) refl calls.does))).0
+          (any_call (key_leaves slot.holder.key calls.ready (keys_in slot.holder.batch) had slot'.holder.key (keys_in slot'.holder.batch) had' all (seen_legal _ calls calls.does.rests.same) (made_all _ calls calls.does.rests) Refresh true
+          (beginning calls.ready a.life (SwapOut (slot_number slot.holder.key))) refl calls.does))).0
 
 -- A call in which nothing was handed.
 pub held_whole : {IsPut : Pass → ℕ → List ℕ → Type 0} {active : Bool} {s : ℕ} {job : Job} {p q : Pass} → Whole IsPut active s job p q → active ≡ true → Defers s job p q

@@ -36,7 +36,8 @@ use Rattle.seize_calls.specs.declared.further.Further.{Further}
 use Rattle.seize_alone.specs.Events.{MakesAlone}
 use Rattle.seize_alone.specs.Gone.{AreNamesOf, PutAs}
 use Rattle.seize_alone.specs.Holding.{Holds, HoldsThen}
-use Rattle.seize_parts.specs.Placing.{ArePlaces, lies_in, lying_in}
+use Rattle.seize_parts.specs.Places.{LiesThen}
+use Rattle.seize_parts.specs.Placing.{ArePlaces, lying_in}
 use Rattle.seize_parts.specs.Told.{HasTold, told_of}
 use Rattle.seize_parts.specs.declared.alone.aside.Aside.{Aside}
 use Rattle.seize_parts.specs.declared.alone.place.Place.{Place}
@@ -83,7 +84,7 @@ abbrev pub MayGo : {T : Type 0} → Pass → List (Option (Place T)) → State T
 MayGo pass places st = Fits pass st × ArePlaces pass.name st places
 
 abbrev pub IsIn : {T : Type 0} → Pass → ℕ → Place T → State T ℕ → Type 0
-IsIn pass s place st = Fits pass st × (is_free (slot_at st s).kind ≡ false) × (lies_in place ≡ lying_in pass.name (slot_at st s) s)
+IsIn pass s place st = Fits pass st × (is_free (slot_at st s).kind ≡ false) × LiesThen place (lying_in pass.name (slot_at st s) s)
 
 abbrev pub IsSomeHeld : {T : Type 0} → (T → Gv) → Pass → (State T ℕ → Type 0) → Type 0
 IsSomeHeld {T} code pass May =

@@ -18,6 +18,7 @@ pub mod resting;
 pub mod sweeping;
 pub mod turning;
 
+use crate::reservation::Reservation;
 use crate::shelf::{Shelf, Shelves};
 use seize_calls::slot::Slot;
 use seize_cells::LockWork;
@@ -86,8 +87,12 @@ impl<T: Drop> Numbers<T> {
         None
     }
 
-    // The slot of the least number that is not in use, one that was made before or a new one, and its shelf.
-    fn take(
+    /// The slot of the least number that is not in use, one that was made before or a new one, and its shelf.
+    ///
+    /// # Errors
+    ///
+    /// `NoMemory` where the allocator refuses.
+    pub fn take(
         &mut self,
         words: &Words<T>,
         alloc: Global,
@@ -162,10 +167,16 @@ impl<T: Drop> Numbers<T> {
 }
 
 impl<T: Drop> Numbers<T> {
-    ghost use Rattle.std.specs.Prelude.{IfSome};
-    ghost use Rattle.seize_parts.specs.Numbers.{AreNumbers, IsLockFor, KnowsLeast};
+    ghost use Rattle.std.specs.Prelude.{IfSome, false};
+    ghost use Rattle.seize_alone.specs.Events.{MakesAlone};
+    ghost use Rattle.seize_book.specs.Homesteads.{state_seen};
     ghost use Rattle.seize_book.specs.Passes.{IsSamePass};
+    ghost use Rattle.seize_book.specs.Tokens.{IsSole};
     ghost use Rattle.seize_calls.specs.Slots.{IsInactive, IsSlotOf};
+    ghost use Rattle.seize_machine.specs.Machine.State.{head_at, is_active};
+    ghost use Rattle.seize_machine.specs.declared.machine.event.Answer.{Answer};
+    ghost use Rattle.seize_parts.specs.Numbers.{AreNumbers, IsLockFor, KnowsLeast, MayEnd};
+    ghost use Rattle.seize_parts.specs.Reservations.{IsReservation, IsReservationOf};
 
     /// The slot of the least number that is not in use, where there is one: the number is taken again. No slot is made.
     ///
@@ -180,6 +191,38 @@ impl<T: Drop> Numbers<T> {
         self.book.agree(&words.blocks.book);
         let n = self.first()?;
         Some(self.again(words, n, pass))
+    }
+
+    // The number of the slot goes back.
+    fn end(&mut self, words: &Words<T>, slot: Slot<T>, pass: &mut Pass)
+        requires numbers { AreNumbers self.old × (self.old.book.name ≡ words_book words.now) × KnowsLeast self.old }
+        requires pass { IsPassFor words.now pass.old }
+        requires slot { MayEnd words.now slot }
+        ensures numbers { AreNumbers self.new × (self.new.book ≡ self.old.book) × KnowsLeast self.new }
+        ensures gives { MakesOne pass.old pass.new (Give (its_number slot)) Done }
+        ensures alone { IsSole pass.old.id → (answer : Answer) × MakesAlone pass.old pass.new (Give (its_number slot)) answer }
+    {
+        let mut slot = slot;
+        slot.give(words, &mut self.key, pass);
+        let n = slot.number();
+        self.slots[n] = Some(slot);
+        self.least = lower(self.least, n);
+    }
+
+    /// The number of the slot in this reservation goes back, by a pass that is alone. The slot is inactive, as the pass has seen. It takes
+    /// no memory and waits for nobody.
+    pub fn free(&mut self, words: &Words<T>, r: Reservation<T>, pass: &mut Pass)
+        requires numbers { AreNumbers self.old × (self.old.book.name ≡ words_book words.now) × KnowsLeast self.old }
+        requires pass { IsPassFor words.now pass.old × IsSole pass.old.id }
+        requires r { IsReservation r × IsReservationOf words.now r }
+        requires off { is_active (head_at (state_seen pass.old) (its_number r.slot)) ≡ false }
+        ensures numbers { AreNumbers self.new × (self.new.book ≡ self.old.book) × KnowsLeast self.new }
+        ensures gives { (answer : Answer) × MakesAlone pass.old pass.new (Give (its_number r.slot)) answer }
+    {
+        let Reservation { mut slot, .. } = r;
+        slot.seen().agree(&words.blocks.book);
+        slot.look(words, pass);
+        self.end(words, slot, pass);
     }
 }
 
@@ -241,11 +284,8 @@ impl<'a, 'p, T: Drop> LockWork<Numbers<T>, Pass<'p>, ()> for Ending<'a, T> {
         × (IsSole pass.id → (answer : Answer) × MakesAlone pass pass' (Give (its_number work.slot)) answer) };
 
     fn work(self, numbers: &mut Numbers<T>, pass: &mut Pass<'p>) {
-        let Ending { words, mut slot } = self;
+        let Ending { words, slot } = self;
         numbers.book.agree(&words.blocks.book);
-        slot.give(words, &mut numbers.key, pass);
-        let n = slot.number();
-        numbers.slots[n] = Some(slot);
-        numbers.least = lower(numbers.least, n);
+        numbers.end(words, slot, pass);
     }
 }

@@ -67,6 +67,7 @@ impl<T: Drop> Reservation<T> {
     }
 
     /// The slot enters with its first guard. It gives the guard's unit, and what was seen then.
+    #[inline(always)]
     pub fn enter(&mut self, words: &Words<T>, head: &Head, pass: &mut Pass) -> (Activation, Seen)
         requires of { IsReservation self.old × IsReservationOf words.now self.old × IsPassFor words.now pass.old }
         requires head { IsHeadFor (words_book words.now) (its_number self.old.slot) head.now }
@@ -84,6 +85,7 @@ impl<T: Drop> Reservation<T> {
     }
 
     /// One guard more beside others. No event is made; the pass learns that the slot is active.
+    #[inline(always)]
     pub(crate) fn enter_beside(&mut self, words: &Words<T>, pass: &mut Pass) -> (Activation, Seen)
         requires of { IsReservation self.old × IsReservationOf words.now self.old × IsPassFor words.now pass.old }
         requires beside { (0 < self.old.guards) × (self.old.guards < self.old.most) }
@@ -98,6 +100,7 @@ impl<T: Drop> Reservation<T> {
     }
 
     /// The slot has a guard, so the pass learns that it is active. No event is made, and nothing is done when the program runs.
+    #[inline(always)]
     pub fn look(&mut self, words: &Words<T>, pass: &mut Pass)
         requires of { IsReservation self.old × IsReservationOf words.now self.old × IsPassFor words.now pass.old }
         requires some { 0 < self.old.guards }
@@ -112,6 +115,7 @@ impl<T: Drop> Reservation<T> {
     }
 
     /// The slot is active, as a guard's unit says. The pass learns that, and no event is made. It does nothing when the program runs.
+    #[inline(always)]
     pub fn current(&mut self, words: &Words<T>, unit: &Activation, seen: &Seen, pass: &mut Pass)
         requires of { IsReservation self.old × IsReservationOf words.now self.old × IsPassFor words.now pass.old }
         requires unit { IsUnit (words_book words.now) (its_number self.old.slot) unit.now seen.now }

@@ -44,6 +44,7 @@ impl<'a, 'p, T: Drop> LockWork<Reservation<T>, Pass<'p>, Result<(Activation, See
         IfOk result (λ made. Enters s pass pass' × IsUnit (words_book work.words.now) s made.0 made.1)
         × IfErr result (λ refusal. (refusal ≡ too_many_guards) × (r.guards ≡ r.most) × (pass' ≡ pass)) };
 
+    #[inline(always)]
     fn work(
         self,
         r: &mut Reservation<T>,
@@ -79,6 +80,7 @@ impl<'a, 'p, T: Drop> LockWork<
         × IfOk result (λ made. IsBlockIn work.words.now.blocks work.value made.0 made.1)
         × IfErr result (λ refused. (refused.0 ≡ no_memory) × (refused.1 ≡ work.value)) };
 
+    #[inline(always)]
     fn work(
         self,
         r: &mut Reservation<T>,
@@ -113,6 +115,7 @@ impl<'a, 'p, T: Drop, R: Reclaim<T>, W: Wait> LockWork<Reservation<T>, Pass<'p>,
         (Retire (its_value work.loose)) pass pass'
         × IsOfKind (its_value work.loose) work.kind pass' };
 
+    #[inline(always)]
     fn work(self, r: &mut Reservation<T>, pass: &mut Pass<'p>) {
         let Retiring {
             words,
@@ -160,6 +163,7 @@ impl<'a, 'p, T: Drop, R: Reclaim<T>, W: Wait> LockWork<Reservation<T>, Pass<'p>,
     ghost gives = { λ work r r' pass pass' _. Defers (its_number r.slot) (Retire (its_value work.loose)) pass pass'
         × IsOfKind (its_value work.loose) work.kind pass' };
 
+    #[inline(always)]
     fn work(self, r: &mut Reservation<T>, pass: &mut Pass<'p>) {
         let Deferring {
             words,
@@ -205,6 +209,7 @@ impl<'a, 'p, T: Drop, R: Reclaim<T>, W: Wait> LockWork<Reservation<T>, Pass<'p>,
 
     ghost gives = { λ work r r' pass pass' _. Defers (its_number r.slot) Flush pass pass' };
 
+    #[inline(always)]
     fn work(self, r: &mut Reservation<T>, pass: &mut Pass<'p>) {
         let Flushing {
             words,
@@ -228,6 +233,7 @@ impl<'p, T: Drop> LockWork<Reservation<T>, Pass<'p>, Activation> for Sparing {
 
     ghost gives = { λ _ _ _ pass pass' _. pass' ≡ pass };
 
+    #[inline(always)]
     fn work(self, r: &mut Reservation<T>, _pass: &mut Pass<'p>) -> Activation {
         r.slot.activation()
     }
@@ -263,6 +269,7 @@ impl<'a, 'p, T: Drop, R: Reclaim<T>, W: Wait> LockWork<Reservation<T>, Pass<'p>,
         (((r.guards ≡ 1) × MakesCall IsPut s Refresh pass pass') ⊎ ((1 < r.guards) × (StaysActive s pass pass' × (result.0 ≡ work.unit))))
         × IsUnit (words_book work.words.now) s result.0 result.1 };
 
+    #[inline(always)]
     fn work(self, r: &mut Reservation<T>, pass: &mut Pass<'p>) -> (Activation, Seen) {
         let Refreshing {
             words,
@@ -319,6 +326,7 @@ impl<'a, 'p, T: Drop, R: Reclaim<T>, W: Wait> LockWork<Reservation<T>, Pass<'p>,
         (((r.guards ≡ 1) × MakesCall IsPut s Leave pass pass') ⊎ ((1 < r.guards) × StaysActive s pass pass'))
         × (r'.guards + 1 ≡ r.guards) };
 
+    #[inline(always)]
     fn work(self, r: &mut Reservation<T>, pass: &mut Pass<'p>) {
         let Leaving {
             words,

@@ -3,8 +3,8 @@ ghost use Rattle.std.specs.Prelude.{◌≡◌, ◌<◌, IfOk, IfSome};
 ghost use Rattle.seize.specs.Collectors.{IsBlockOf, IsPassOf, its_links};
 ghost use Rattle.seize.specs.Guards.{guard_collector};
 
-use seize::{Collector, IdSource, LocalGuard, Owned, Pass, Refusal};
-use seize_threads_rows::values::{Counted, ended};
+use seize::{Collector, Guard, IdSource, LocalGuard, Owned, Pass, Refusal};
+use seize_test_kit::values::{Counted, ended};
 use std::alloc::Global;
 use std::process::Abort;
 use std::sync::Wait;

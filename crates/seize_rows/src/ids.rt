@@ -1,6 +1,6 @@
 //! What collectors, registrations and guards say of themselves: ids, numbers and texts.
-use seize::{Collector, IdSource, Refusal, Unlinked};
-use seize_threads_rows::values::{Counted, ended};
+use seize::{Collector, Guard, IdSource, Refusal, Unlinked};
+use seize_test_kit::values::{Counted, ended};
 use std::alloc::{AllocError, Global};
 use std::fmt::Debug;
 use std::process::Abort;

@@ -24,8 +24,6 @@ mod passed_on;
 mod places;
 #[cfg(test)]
 mod refused;
-pub mod sign;
-pub mod telling;
 mod threads;
 #[cfg(test)]
 mod worked;

@@ -4,7 +4,7 @@ ghost use Rattle.seize.specs.Collectors.{IsPassOf, its_links};
 ghost use Rattle.seize.specs.Guards.{guard_collector};
 ghost use Rattle.seize.specs.Registrations.{registered_in};
 
-use seize::{Collector, IdSource, LocalGuard, Pass, Refusal, Registration};
+use seize::{Collector, Guard, IdSource, LocalGuard, Pass, Refusal, Registration};
 use std::alloc::Global;
 use std::sync::Wait;
 use std::test::*;

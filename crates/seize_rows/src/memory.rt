@@ -5,9 +5,9 @@ ghost use Rattle.seize.specs.Collectors.{IsBlockOf, IsPassOf, its_links};
 ghost use Rattle.seize.specs.Guards.{guard_collector};
 ghost use Rattle.seize.specs.Registrations.{registered_in};
 
-use crate::sign::give_sign;
-use seize::{Collector, IdSource, LocalGuard, Owned, Pass, Refusal, Registration};
-use seize_threads_rows::values::{Counted, ended};
+use seize::{Collector, Guard, IdSource, LocalGuard, Owned, Pass, Refusal, Registration};
+use seize_test_kit::sign::give_sign;
+use seize_test_kit::values::{Counted, ended};
 use std::alloc::Global;
 use std::sync::Wait;
 use std::sync::atomic::AtomicU64;

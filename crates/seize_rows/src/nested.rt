@@ -3,8 +3,8 @@ ghost use Rattle.std.specs.Prelude.{◌≡◌, ◌<◌, IfOk};
 ghost use Rattle.seize.specs.Collectors.{IsPassOf, its_links};
 ghost use Rattle.seize.specs.Guards.{guard_collector};
 
-use seize::{Collector, IdSource, LocalGuard, Pass, Refusal};
-use seize_threads_rows::values::{Counted, ended};
+use seize::{Collector, Guard, IdSource, LocalGuard, Pass, Refusal};
+use seize_test_kit::values::{Counted, ended};
 use std::alloc::Global;
 use std::process::Abort;
 use std::sync::Wait;

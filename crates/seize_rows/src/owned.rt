@@ -1,11 +1,11 @@
 //! Owned guards, which threads share and which go from one thread to another.
 ghost use Rattle.std.specs.Prelude.{◌≡◌};
-ghost use Rattle.seize.specs.OwnedGuards.{owned_collector};
+ghost use Rattle.seize.specs.Guards.{owned_collector};
 
 use crate::guards::collector as linked;
 use crate::worked::retire_elsewhere;
-use seize::{Collector, IdSource, OwnedGuard, Refusal, Unlinked};
-use seize_threads_rows::values::{Counted, ended};
+use seize::{Collector, Guard, IdSource, OwnedGuard, Refusal, Unlinked};
+use seize_test_kit::values::{Counted, ended};
 use std::alloc::Global;
 use std::sync::Wait;
 use std::sync::atomic::AtomicU64;

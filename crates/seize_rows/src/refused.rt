@@ -2,13 +2,13 @@
 //! nothing; `rt try --test --fail-alloc N` refuses the request of this number, and `tools/memory` all from a first sign on to a second one.
 ghost use Rattle.std.specs.Prelude.{◌≡◌};
 ghost use Rattle.seize.specs.Collectors.{IsPassOf};
-ghost use Rattle.seize.specs.OwnedGuards.{owned_collector};
+ghost use Rattle.seize.specs.Guards.{owned_collector};
 ghost use Rattle.seize.specs.Registrations.{registered_in};
 
-use crate::sign::give_sign;
-use crate::telling::{Telling, telling};
 use seize::{Alone, Collector, IdSource, Owned, OwnedGuard, Pass, Refusal, Registration, Unlinked};
-use seize_threads_rows::values::Digit;
+use seize_test_kit::sign::give_sign;
+use seize_test_kit::telling::{Telling, telling};
+use seize_test_kit::values::Digit;
 use std::alloc::Global;
 use std::process::Abort;
 use std::sync::Wait;

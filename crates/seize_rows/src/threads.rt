@@ -1,6 +1,8 @@
 //! What threads share, and what goes from one to another: each function here is proved where its types allow that. None of them is called.
 
-use seize::{Collector, Owned, OwnedGuard, Pass, Reclaim, Registration, Shared, Unlinked};
+use seize::{
+    Collector, GuardCore, Owned, OwnedGuard, Pass, Reclaim, Registration, Shared, Unlinked,
+};
 
 fn is_sent<T: Send>(value: T) -> T {
     value
@@ -50,6 +52,12 @@ fn owned_guard_shares<'g, 'c, T: Drop + Send + Sync, R: Reclaim<T> + Send + Sync
     guard: &'g OwnedGuard<'c, T, R>,
 ) -> &'g OwnedGuard<'c, T, R> {
     is_shared(guard)
+}
+
+fn core_shares<'g, 'c, T: Drop + Send + Sync, R: Reclaim<T> + Send + Sync>(
+    core: &'g GuardCore<'c, T, R>,
+) -> &'g GuardCore<'c, T, R> {
+    is_shared(core)
 }
 
 fn pass_sends(pass: Pass<'_>) -> Pass<'_> {

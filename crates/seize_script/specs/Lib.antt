@@ -1,5 +1,4 @@
 pub mod Ranges
-pub mod Readers
 pub mod Statuses
 pub mod Values
 pub mod Weights

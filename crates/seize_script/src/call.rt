@@ -1,14 +1,13 @@
 //! The grammar of one line: a call, and the values in it, whose blocks are made as they are read.
 ghost use Rattle.std.specs.Prelude.{All, ◌≡◌, ◌≤◌, ◌<◌, length, IfOk};
 ghost use Rattle.seize.specs.Blocks.{Belongs};
-ghost use Rattle.seize_script.specs.Ranges.{IsCallFor, range_of};
-ghost use Rattle.seize_script.specs.Readers.{read_for};
+ghost use Rattle.seize_script.specs.Ranges.{IsCallFor};
 ghost use Rattle.seize_script.specs.Values.{owners_of};
 
 use crate::line::{Line, LineError};
 use crate::name::Name;
 use crate::value::{PutInside, Value};
-use seize::{Call, Collector, Owned};
+use seize::{Alone, Call, Owned};
 use std::alloc::Global;
 
 /// How deep values may stand in one another's brackets; one without brackets is 1 deep.
@@ -16,33 +15,37 @@ const DEEPEST: usize = 64;
 
 /// Reads the calls of a script.
 #[derive(Drop)]
-pub struct CallReader<'c> {
+pub struct CallReader {
     alloc: Global,
-    collector: &'c Collector<Value, PutInside>,
+    // has the blocks of the calls that are read
+    alone: Alone<Value, PutInside>,
+    // how many values it has read
     values: usize,
 }
 
-impl<'c> CallReader<'c> {
+impl CallReader {
     /// Reads calls on this collector.
-    pub fn new(alloc: Global, collector: &'c Collector<Value, PutInside>) -> CallReader<'c>
-        ensures { read_for result ≡ range_of collector.now }
+    pub fn new(alloc: Global, alone: Alone<Value, PutInside>) -> CallReader
+        ensures { result.alone ≡ alone }
     {
         CallReader {
             alloc,
-            collector,
+            alone,
             values: 0,
         }
     }
 
-    /// How many values it has read.
-    pub fn values(&self) -> usize {
-        self.values
+    /// The collector, and how many values were read.
+    pub fn finish(self) -> (Alone<Value, PutInside>, usize)
+        ensures { result ≡ (self.alone, self.values) }
+    {
+        (self.alone, self.values)
     }
 
-    /// A call that begins with this word.
+    /// A call that begins with this word, with the blocks that it brings. Nothing else is done on the collector.
     pub fn call(&mut self, word: &[u8], line: &mut Line<'_>) -> Result<Call<Value>, LineError>
-        ensures call { IfOk result (IsCallFor (read_for self.old)) }
-        ensures same { read_for self.new ≡ read_for self.old }
+        ensures call { IfOk result (IsCallFor self.old.alone) }
+        ensures same { self.new.alone ≡ self.old.alone }
     {
         match word {
             b"register" => Ok(Call::Register),
@@ -60,8 +63,8 @@ impl<'c> CallReader<'c> {
     }
 
     fn retire(&mut self, line: &mut Line<'_>) -> Result<Call<Value>, LineError>
-        ensures call { IfOk result (IsCallFor (read_for self.old)) }
-        ensures same { read_for self.new ≡ read_for self.old }
+        ensures call { IfOk result (IsCallFor self.old.alone) }
+        ensures same { self.new.alone ≡ self.old.alone }
     {
         let slot = line.number()?;
         line.expect(b" ")?;
@@ -70,8 +73,8 @@ impl<'c> CallReader<'c> {
     }
 
     fn swap(&mut self, line: &mut Line<'_>) -> Result<Call<Value>, LineError>
-        ensures call { IfOk result (IsCallFor (read_for self.old)) }
-        ensures same { read_for self.new ≡ read_for self.old }
+        ensures call { IfOk result (IsCallFor self.old.alone) }
+        ensures same { self.new.alone ≡ self.old.alone }
     {
         let slot = line.number()?;
         let link = self.link(line)?;
@@ -85,10 +88,10 @@ impl<'c> CallReader<'c> {
     }
 
     fn link(&self, line: &mut Line<'_>) -> Result<usize, LineError>
-        ensures { IfOk result (λ link. link < (read_for self.now).1) }
+        ensures { IfOk result (λ link. link < self.now.alone.links) }
     {
         let link = line.number()?;
-        if link < self.collector.links() {
+        if link < self.alone.links() {
             Ok(link)
         } else {
             Err(LineError::Bad)
@@ -97,8 +100,8 @@ impl<'c> CallReader<'c> {
 
     /// A value in a block, at most this deep.
     fn block(&mut self, line: &mut Line<'_>, deepest: usize) -> Result<Owned<Value>, LineError>
-        ensures own { IfOk result (Belongs owners_of (read_for self.old).0) }
-        ensures same { read_for self.new ≡ read_for self.old }
+        ensures own { IfOk result (Belongs owners_of self.old.alone.book.store) }
+        ensures same { self.new.alone ≡ self.old.alone }
         ensures shorter { length line.new ≤ length line.old }
     {
         let Some(deeper) = deepest.checked_sub(1) else {
@@ -118,11 +121,12 @@ impl<'c> CallReader<'c> {
     }
 
     /// A block with the value of this name that has these blocks of the collector in its brackets.
-    fn nest(&self, name: Name, inside: Vec<Owned<Value>>) -> Result<Owned<Value>, LineError>
-        requires { All (Belongs owners_of (read_for self.now).0) inside.items }
-        ensures { IfOk result (Belongs owners_of (read_for self.now).0) }
+    fn nest(&mut self, name: Name, inside: Vec<Owned<Value>>) -> Result<Owned<Value>, LineError>
+        requires { All (Belongs owners_of self.old.alone.book.store) inside.items }
+        ensures own { IfOk result (Belongs owners_of self.old.alone.book.store) }
+        ensures same { self.new.alone ≡ self.old.alone }
     {
-        match self.collector.owned(Value { name, inside }) {
+        match self.alone.owned(Value { name, inside }) {
             Ok(block) => Ok(block),
             Err(_) => Err(LineError::NoMemory),
         }

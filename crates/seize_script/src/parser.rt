@@ -1,14 +1,13 @@
 //! The grammar of scripts: their lines and groups. A script is read and checked whole before anything of it runs.
-ghost use Rattle.std.specs.Prelude.{◌≡◌, length, IfOk, OnOk};
-ghost use Rattle.seize_script.specs.Ranges.{AreGroupsFor, IsReady, IsWhole, range_of};
-ghost use Rattle.seize_script.specs.Readers.{parsed_for};
+ghost use Rattle.std.specs.Prelude.{◌≡◌, IfOk, OnOk};
+ghost use Rattle.seize_script.specs.Ranges.{IsNew, IsReady, IsWhole};
 
 use crate::call::CallReader;
 use crate::failure::Failure;
 use crate::line::{Line, LineError};
 use crate::script::{Calls, Group, GroupEnd, Script};
 use crate::value::{PutInside, Value};
-use seize::{Call, Collector, IdSource};
+use seize::{Alone, Call, IdSource};
 use std::alloc::{AllocError, Global};
 use std::collections::VecDeque;
 use std::mem;
@@ -16,24 +15,18 @@ use std::mem;
 /// How many links a script may ask for.
 const MOST_LINKS: usize = 1024;
 
-/// Reads a script.
+/// Reads a script. Its collector has no event yet.
 ///
 /// # Errors
 ///
 /// `BadLine` with the first line that breaks the grammar, `NoMemory` where the allocator refuses.
 pub fn parse<'a>(alloc: Global, text: &[u8], reclaim: PutInside) -> Result<Script, Failure<'a>>
-    ensures { IfOk result IsWhole }
+    ensures whole { IfOk result IsWhole }
+    ensures untouched { IfOk result (λ script. IsNew script.alone) }
 {
     let Header { size, links, line } = first_line(text)?;
-    let collector = Collector::with_reclaimer(
-        alloc,
-        &mut IdSource::new(),
-        1,
-        links,
-        reclaim,
-    )?.batch_size(size);
-    let calls = later_lines(alloc, text, line, &collector)?;
-    Ok(Script { collector, calls })
+    let alone = Alone::with_reclaimer(alloc, &mut IdSource::new(), 1, links, reclaim)?;
+    later_lines(alloc, text, line, alone.batch_size(size))
 }
 
 /// What a script's first line asks for.
@@ -56,16 +49,17 @@ fn first_line<'a>(text: &[u8]) -> Result<Header, Failure<'a>> {
     Err(Failure::BadLine(1))
 }
 
-/// Reads the lines behind the first so many.
+/// Reads the lines behind the first so many, which call this collector.
 fn later_lines<'a>(
     alloc: Global,
     text: &[u8],
     first: usize,
-    collector: &Collector<Value, PutInside>,
-) -> Result<Calls, Failure<'a>>
-    ensures { IfOk result (AreGroupsFor (range_of collector.now)) }
+    alone: Alone<Value, PutInside>,
+) -> Result<Script, Failure<'a>>
+    ensures whole { IfOk result IsWhole }
+    ensures same { IfOk result (λ script. script.alone ≡ alone) }
 {
-    let mut parser = Parser::new(alloc, collector);
+    let mut parser = Parser::new(alloc, alone);
     let mut number = first;
     for bytes in text.split(is_line_feed).skip(first) {
         number = number.saturating_add(1);
@@ -76,9 +70,11 @@ fn later_lines<'a>(
         }
     }
     parser.end_group(GroupEnd::Script)?;
-    Ok(Calls {
-        groups: parser.groups,
-        values: parser.reader.values(),
+    let Parser { reader, groups, .. } = parser;
+    let (alone, values) = reader.finish();
+    Ok(Script {
+        alone,
+        calls: Calls { groups, values },
     })
 }
 
@@ -106,21 +102,21 @@ fn read_header(bytes: &[u8], number: usize) -> Result<Header, LineError> {
 
 /// Reads the lines behind the first, one after another.
 #[derive(Drop)]
-struct Parser<'c> {
-    reader: CallReader<'c>,
+struct Parser {
+    reader: CallReader,
     // the groups that are ended
     groups: Vec<Group>,
     // the calls of the group that is not
     calls: VecDeque<Call<Value>>,
 }
 
-impl<'c> Parser<'c> {
-    fn new(alloc: Global, collector: &'c Collector<Value, PutInside>) -> Parser<'c>
+impl Parser {
+    fn new(alloc: Global, alone: Alone<Value, PutInside>) -> Parser
         ensures ready { IsReady result }
-        ensures same { parsed_for result ≡ range_of collector.now }
+        ensures same { result.reader.alone ≡ alone }
     {
         Parser {
-            reader: CallReader::new(alloc, collector),
+            reader: CallReader::new(alloc, alone),
             groups: Vec::new(alloc),
             calls: VecDeque::new(alloc),
         }
@@ -130,7 +126,7 @@ impl<'c> Parser<'c> {
     fn line(&mut self, bytes: &[u8]) -> Result<(), LineError>
         requires { IsReady self.old }
         ensures ready { OnOk result (IsReady self.new) }
-        ensures same { parsed_for self.new ≡ parsed_for self.old }
+        ensures same { self.new.reader.alone ≡ self.old.reader.alone }
     {
         let mut line = Line::new(bytes);
         let word = line.word();
@@ -148,7 +144,7 @@ impl<'c> Parser<'c> {
     fn end_group(&mut self, end: GroupEnd) -> Result<(), AllocError>
         requires { IsReady self.old }
         ensures ready { OnOk result (IsReady self.new) }
-        ensures same { parsed_for self.new ≡ parsed_for self.old }
+        ensures same { self.new.reader.alone ≡ self.old.reader.alone }
     {
         let alloc = *self.calls.allocator();
         let calls = mem::replace(&mut self.calls, VecDeque::new(alloc));

@@ -1,7 +1,7 @@
 //! The program between its arguments and its status: which script it runs, and what it prints. It is over any reader and writers.
 ghost use Rattle.std.specs.Prelude.{◌≡◌, ◌≤◌};
 ghost use Rattle.seize.specs.Alones.{IsSame};
-ghost use Rattle.seize_script.specs.Ranges.{AreCallsFor, IsGroupFor, IsWhole, range_in};
+ghost use Rattle.seize_script.specs.Ranges.{AreCallsFor, IsGroupFor, IsNew, IsWhole};
 ghost use Rattle.seize_script.specs.Statuses.{status_of};
 
 use crate::failure::Failure;
@@ -93,17 +93,14 @@ fn run_script<'a, O: Write>(
     script: Script,
     output: &mut O,
 ) -> Result<(), Failure<'a>>
-    requires { IsWhole script }
+    requires whole { IsWhole script }
+    requires untouched { IsNew script.alone }
 {
     let Script {
-        collector,
+        mut alone,
         calls: Calls { groups, values },
     } = script;
     let mut names = Names::with_room(alloc, values)?;
-    // never refused, since no number of the collector is in use yet
-    let Ok(mut alone) = collector.alone() else {
-        return Err(Failure::NoMemory);
-    };
     for group in groups {
         run_group(alloc, &mut alone, group, &mut names, output)?;
     }
@@ -117,7 +114,7 @@ fn run_group<'a, O: Write>(
     names: &mut Names,
     output: &mut O,
 ) -> Result<(), Failure<'a>>
-    requires { IsGroupFor (range_in alone.old) group }
+    requires { IsGroupFor alone.old group }
     ensures { IsSame alone.old alone.new }
 {
     let Group { calls, end } = group;
@@ -137,7 +134,7 @@ fn run_calls<'a, O: Write>(
     names: &mut Names,
     output: &mut O,
 ) -> Result<(), Failure<'a>>
-    requires { AreCallsFor (range_in alone.old) calls.items }
+    requires { AreCallsFor alone.old calls.items }
     ensures { IsSame alone.old alone.new }
 {
     let mut replies = Vec::new(alloc);

@@ -1,12 +1,12 @@
 //! A script that was read whole: the collector that its first line asks for, and the calls on it.
 use crate::value::{PutInside, Value};
-use seize::{Call, Collector};
+use seize::{Alone, Call};
 use std::collections::VecDeque;
 
 /// What a script asks for.
 #[derive(Drop)]
 pub struct Script {
-    pub collector: Collector<Value, PutInside>,
+    pub alone: Alone<Value, PutInside>,
     pub calls: Calls,
 }
 

@@ -1,11 +1,13 @@
 //! Code over guards of any kind, run with a guard of each: both do the same.
-ghost use Rattle.std.specs.Prelude.{◌≡◌, ◌<◌, Option, IfOk};
+ghost use Rattle.std.specs.Prelude.{◌≡◌, ◌<◌, Option, IfOk, IfSome};
 ghost use Rattle.seize.specs.Blocks.{HoldsOnly};
 ghost use Rattle.seize.specs.Collectors.{IsPassOf, its_links, its_store};
-ghost use Rattle.seize_threads_rows.specs.declared.marked.Marked.{Marked};
+ghost use Rattle.seize.specs.Guards.{core_collector};
+ghost use Rattle.seize.specs.Links.{IsUnlinkedOf};
+ghost use Rattle.seize_test_kit.specs.declared.marked.Marked.{Marked};
 
-use crate::marked::{Marked, ended, ends_of};
-use seize::{Collector, Guard, IdSource, Pass, Refusal};
+use seize::{Collector, Guard, GuardCore, IdSource, Pass, Reclaim, Refusal, Unlinked};
+use seize_test_kit::marked::{Marked, ended, ends_of};
 use std::alloc::Global;
 use std::process::Abort;
 use std::sync::Wait;
@@ -35,60 +37,70 @@ fn collector<'a>(alloc: Global) -> Result<Collector<Marked<'a>>, Refusal>
 
 // Swaps this value into the link, and retires what came out.
 fn put<'a, G: Guard<Marked<'a>>, W: Wait>(guard: &G, value: Marked<'a>, rt: &W, pass: &mut Pass)
-    requires of { IsPassOf (G.guarded guard.now) pass.old × (0 < its_links (G.guarded guard.now)) }
-    requires fits { (x : Marked) → HoldsOnly G.Reclaimer.owners (its_store (G.guarded guard.now)) x }
+    requires of { IsPassOf (core_collector (G.its_core guard.now)) pass.old × (0 < its_links (core_collector (G.its_core guard.now))) }
+    requires fits { (x : Marked) → HoldsOnly G.Reclaimer.owners (its_store (core_collector (G.its_core guard.now))) x }
     requires rule { (x y : Option Marked) → G.Reclaimer.keeps 0 x y }
-    ensures { IsPassOf (G.guarded guard.now) pass.new }
+    ensures { IsPassOf (core_collector (G.its_core guard.now)) pass.new }
 {
     if let Ok(block) = guard.owned(value) {
-        if let Some(old) = guard.swap(0, Some(block), pass) {
+        if let Some(old) = guard.core().swap(0, Some(block), pass) {
             guard.defer_retire(rt, pass, old);
         }
     }
 }
 
 // The number that the link holds.
-fn read<'a, G: Guard<Marked<'a>>>(guard: &G, pass: &mut Pass) -> Option<u64>
-    requires of { IsPassOf (G.guarded guard.now) pass.old × (0 < its_links (G.guarded guard.now)) }
-    ensures { IsPassOf (G.guarded guard.now) pass.new }
+fn read<'a, R: Reclaim<Marked<'a>>>(
+    core: &GuardCore<'_, Marked<'a>, R>,
+    pass: &mut Pass,
+) -> Option<u64>
+    requires of { IsPassOf (core_collector core.now) pass.old × (0 < its_links (core_collector core.now)) }
+    ensures { IsPassOf (core_collector core.now) pass.new }
 {
-    guard.protect(0, pass).map(|shared| shared.value)
+    core.protect(0, pass).map(|shared| shared.value)
 }
 
-// An exchange that compares with an empty link is lost. The next compares with what was found, and is won: it says the number of the
-// value that came out, which is retired.
-fn exchange<'a, G: Guard<Marked<'a>>, W: Wait>(
+// An exchange that compares with an empty link is lost. The next compares with what was found, and is won: it gives what came out.
+fn exchange<'a, 'c, R: Reclaim<Marked<'a>>>(
+    core: &GuardCore<'c, Marked<'a>, R>,
+    value: Marked<'a>,
+    pass: &mut Pass,
+) -> Option<Unlinked<'c, Marked<'a>>>
+    requires of { IsPassOf (core_collector core.now) pass.old × (0 < its_links (core_collector core.now)) }
+    requires fits { (x : Marked) → HoldsOnly R.owners (its_store (core_collector core.now)) x }
+    requires rule { (x y : Option Marked) → R.keeps 0 x y }
+    ensures pass { IsPassOf (core_collector core.now) pass.new }
+    ensures of { IfSome result (IsUnlinkedOf (core_collector core.now)) }
+{
+    let new = core.owned(value).ok()?;
+    match core.compare_exchange(0, None, Some(new), pass) {
+        Ok(old) => old,
+        Err(failed) => {
+            let new = failed.new?;
+            match core.compare_exchange_weak(0, failed.found.as_ref(), Some(new), pass) {
+                Ok(old) => old,
+                Err(_) => None,
+            }
+        }
+    }
+}
+
+// The same, and retires what came out: it gives the number of that.
+fn exchange_and_retire<'a, G: Guard<Marked<'a>>, W: Wait>(
     guard: &G,
     value: Marked<'a>,
     rt: &W,
     pass: &mut Pass,
 ) -> Option<u64>
-    requires of { IsPassOf (G.guarded guard.now) pass.old × (0 < its_links (G.guarded guard.now)) }
-    requires fits { (x : Marked) → HoldsOnly G.Reclaimer.owners (its_store (G.guarded guard.now)) x }
+    requires of { IsPassOf (core_collector (G.its_core guard.now)) pass.old × (0 < its_links (core_collector (G.its_core guard.now))) }
+    requires fits { (x : Marked) → HoldsOnly G.Reclaimer.owners (its_store (core_collector (G.its_core guard.now))) x }
     requires rule { (x y : Option Marked) → G.Reclaimer.keeps 0 x y }
-    ensures { IsPassOf (G.guarded guard.now) pass.new }
+    ensures { IsPassOf (core_collector (G.its_core guard.now)) pass.new }
 {
-    let new = guard.owned(value).ok()?;
-    match guard.compare_exchange(0, None, Some(new), pass) {
-        Ok(Some(old)) => {
-            guard.defer_retire(rt, pass, old);
-            None
-        }
-        Ok(None) => None,
-        Err(failed) => {
-            let found = failed.found?;
-            let new = failed.new?;
-            match guard.compare_exchange_weak(0, Some(&found), Some(new), pass) {
-                Ok(Some(old)) => {
-                    let out = old.value;
-                    guard.defer_retire(rt, pass, old);
-                    Some(out)
-                }
-                Ok(None) => None,
-                Err(_) => None,
-            }
-        }
-    }
+    let old = exchange(guard.core(), value, pass)?;
+    let out = old.value;
+    guard.defer_retire(rt, pass, old);
+    Some(out)
 }
 
 // Puts the number 0 into the link, exchanges it for 1, flushes and refreshes.
@@ -98,19 +110,20 @@ fn make_calls<'a, G: Guard<Marked<'a>>, W: Wait>(
     rt: &W,
     pass: &mut Pass,
 ) -> Came
-    requires of { IsPassOf (G.guarded guard.old) pass.old × (0 < its_links (G.guarded guard.old)) }
-    requires fits { (x : Marked) → HoldsOnly G.Reclaimer.owners (its_store (G.guarded guard.old)) x }
+    requires of { IsPassOf (core_collector (G.its_core guard.old)) pass.old × (0 < its_links (core_collector (G.its_core guard.old))) }
+    requires fits { (x : Marked) → HoldsOnly G.Reclaimer.owners (its_store (core_collector (G.its_core guard.old))) x }
     requires rule { (x y : Option Marked) → G.Reclaimer.keeps 0 x y }
-    ensures { IsPassOf (G.guarded guard.new) pass.new × (G.guarded guard.new ≡ G.guarded guard.old) }
+    ensures pass { IsPassOf (core_collector (G.its_core guard.new)) pass.new }
+    ensures same { core_collector (G.its_core guard.new) ≡ core_collector (G.its_core guard.old) }
 {
     put(guard, Marked { value: 0, marks }, rt, pass);
-    let read_first = read(guard, pass);
-    let out = exchange(guard, Marked { value: 1, marks }, rt, pass);
+    let read_first = read(guard.core(), pass);
+    let out = exchange_and_retire(guard, Marked { value: 1, marks }, rt, pass);
     guard.flush(rt, pass);
     let flushed = ends_of(marks, 0);
     guard.refresh(rt, pass);
     let refreshed = ends_of(marks, 0);
-    let last = read(guard, pass);
+    let last = read(guard.core(), pass);
     Came {
         read: read_first,
         out,

@@ -4,9 +4,9 @@ ghost use Rattle.seize.specs.Collectors.{IsBlockOf, IsPassOf, its_links};
 ghost use Rattle.seize.specs.Guards.{guard_collector};
 ghost use Rattle.seize.specs.Registrations.{registered_in};
 
-use crate::marked::{Marked, ended, marks};
 use crate::sums::{Sum, Tried, collector, put, read};
-use seize::{Collector, LocalGuard, Owned, Pass, Refusal, Registration};
+use seize::{Collector, Guard, LocalGuard, Owned, Pass, Refusal, Registration};
+use seize_test_kit::marked::{Marked, ended, marks};
 use std::sync::Wait;
 use std::sync::atomic::AtomicU64;
 use std::test::*;
@@ -32,13 +32,14 @@ fn exchange<'a>(
     ensures back { IfSome result.1 (λ owned. IsBlockOf (guard_collector guard.now) owned) }
 {
     let mut block = block;
-    let Some(found) = guard.protect(0, pass) else {
+    let core = guard.core();
+    let Some(found) = core.protect(0, pass) else {
         return (Tried::odd(), None);
     };
     let (number, mark) = (found.number, block.mark.value);
     let next = number.wrapping_add(1);
     block.number = next;
-    match guard.compare_exchange(0, Some(&found), Some(block), pass) {
+    match core.compare_exchange(0, Some(&found), Some(block), pass) {
         Ok(Some(old)) => {
             let same = old.number == number;
             guard.defer_retire(rt, pass, old);

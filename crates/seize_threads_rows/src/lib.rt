@@ -6,7 +6,6 @@
 mod any;
 #[cfg(test)]
 mod exchanging;
-pub mod marked;
 #[cfg(test)]
 mod own_guards;
 #[cfg(test)]
@@ -25,7 +24,7 @@ mod sums;
 mod swapping;
 #[cfg(test)]
 mod turned;
-pub mod turns;
-pub mod values;
+#[cfg(test)]
+mod turns;
 #[cfg(test)]
 mod winning;

@@ -1,10 +1,10 @@
 //! Threads that make an owned guard of their own for every turn.
 ghost use Rattle.std.specs.Prelude.{◌≡◌, ◌<◌, IfOk};
 ghost use Rattle.seize.specs.Collectors.{IsPassOf, its_links};
-ghost use Rattle.seize.specs.OwnedGuards.{owned_collector};
+ghost use Rattle.seize.specs.Guards.{owned_collector};
 
-use crate::marked::{Marked, ended, ends_of, marks};
-use seize::{Collector, IdSource, OwnedGuard, Pass, Refusal};
+use seize::{Collector, Guard, IdSource, OwnedGuard, Pass, Refusal};
+use seize_test_kit::marked::{Marked, ended, ends_of, marks};
 use std::alloc::Global;
 use std::cmp::max;
 use std::sync::Wait;

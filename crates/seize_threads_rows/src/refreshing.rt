@@ -4,10 +4,10 @@ ghost use Rattle.seize.specs.Collectors.{IsPassOf, its_links};
 ghost use Rattle.seize.specs.Guards.{guard_collector};
 ghost use Rattle.seize.specs.Registrations.{registered_in};
 
-use crate::marked::{Marked, ended, ends_of, marks};
 use crate::signs::{set, wait_for};
 use crate::turns::replace;
-use seize::{Collector, IdSource, LocalGuard, Pass, Refusal, Registration, Shared};
+use seize::{Collector, Guard, IdSource, LocalGuard, Pass, Refusal, Registration, Shared};
+use seize_test_kit::marked::{Marked, ended, ends_of, marks};
 use std::alloc::Global;
 use std::sync::Wait;
 use std::sync::atomic::{AtomicU64, Ordering};

@@ -1,11 +1,11 @@
 //! Threads that share one owned guard, and add to one number by exchanges with it.
 ghost use Rattle.std.specs.Prelude.{◌≡◌, ◌<◌, IfSome};
 ghost use Rattle.seize.specs.Collectors.{IsBlockOf, IsPassOf, its_links};
-ghost use Rattle.seize.specs.OwnedGuards.{owned_collector};
+ghost use Rattle.seize.specs.Guards.{owned_collector};
 
-use crate::marked::{Marked, ended, marks};
 use crate::sums::{Sum, Tried, collector, put};
-use seize::{Owned, OwnedGuard, Pass, Refusal};
+use seize::{Guard, Owned, OwnedGuard, Pass, Refusal};
+use seize_test_kit::marked::{Marked, ended, marks};
 use std::sync::Wait;
 use std::sync::atomic::AtomicU64;
 use std::test::*;
@@ -31,12 +31,13 @@ fn exchange<'a>(
     ensures back { IfSome result.1 (λ owned. IsBlockOf (owned_collector guard.now) owned) }
 {
     let mut block = block;
-    let Some(found) = guard.protect(0, pass) else {
+    let core = guard.core();
+    let Some(found) = core.protect(0, pass) else {
         return (Tried::odd(), None);
     };
     let number = found.number;
     block.number = number.wrapping_add(1);
-    match guard.compare_exchange(0, Some(&found), Some(block), pass) {
+    match core.compare_exchange(0, Some(&found), Some(block), pass) {
         Ok(Some(old)) => {
             let same = old.number == number;
             guard.defer_retire(rt, pass, old);

@@ -2,9 +2,9 @@
 ghost use Rattle.std.specs.Prelude.{◌≡◌, ◌<◌, IfOk};
 ghost use Rattle.seize.specs.Collectors.{its_links};
 
-use crate::marked::{Marked, ended, marks};
 use crate::turns::{Seen, work};
 use seize::{Collector, IdSource, Refusal};
+use seize_test_kit::marked::{Marked, ended, marks};
 use std::alloc::Global;
 use std::sync::Wait;
 use std::sync::atomic::AtomicU64;

@@ -4,9 +4,9 @@ ghost use Rattle.seize.specs.Collectors.{IsPassOf, its_links};
 ghost use Rattle.seize.specs.Guards.{guard_collector};
 ghost use Rattle.seize.specs.Registrations.{registered_in};
 
-use crate::marked::{Marked, ended, ends_of, marks};
 use crate::turns::{Seen, replace, work};
 use seize::{Collector, IdSource, LocalGuard, Pass, Refusal, Registration};
+use seize_test_kit::marked::{Marked, ended, ends_of, marks};
 use std::alloc::Global;
 use std::sync::Wait;
 use std::sync::atomic::AtomicU64;

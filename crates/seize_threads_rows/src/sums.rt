@@ -2,8 +2,8 @@
 ghost use Rattle.std.specs.Prelude.{◌≡◌, ◌<◌, IfOk};
 ghost use Rattle.seize.specs.Collectors.{its_links};
 
-use crate::marked::Marked;
-use seize::{Collector, IdSource, Refusal};
+use seize::{Collector, Guard, IdSource, Refusal};
+use seize_test_kit::marked::Marked;
 use std::alloc::Global;
 use std::sync::Wait;
 use std::sync::atomic::AtomicU64;

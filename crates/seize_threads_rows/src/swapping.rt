@@ -2,9 +2,9 @@
 ghost use Rattle.std.specs.Prelude.{◌<◌};
 ghost use Rattle.seize.specs.Collectors.{IsPassOf, its_links};
 
-use crate::marked::{Marked, ended, ends_of, marks};
 use crate::own_guards::{collector, replace};
 use seize::{Collector, Pass, Refusal};
+use seize_test_kit::marked::{Marked, ended, ends_of, marks};
 use std::sync::Wait;
 use std::sync::atomic::AtomicU64;
 use std::test::*;

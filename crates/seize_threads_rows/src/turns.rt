@@ -4,8 +4,8 @@ ghost use Rattle.seize.specs.Collectors.{IsPassOf, its_links};
 ghost use Rattle.seize.specs.Guards.{guard_collector};
 ghost use Rattle.seize.specs.Registrations.{registered_in};
 
-use crate::marked::{Marked, ends_of};
-use seize::{Collector, LocalGuard, Pass, Refusal, Registration};
+use seize::{Collector, Guard, LocalGuard, Pass, Refusal, Registration};
+use seize_test_kit::marked::{Marked, ends_of};
 use std::sync::Wait;
 use std::sync::atomic::AtomicU64;
 

@@ -4,10 +4,10 @@ ghost use Rattle.seize.specs.Collectors.{IsPassOf, its_links};
 ghost use Rattle.seize.specs.Guards.{guard_collector};
 ghost use Rattle.seize.specs.Registrations.{registered_in};
 
-use crate::marked::{Marked, ended, marks};
 use crate::signs::{set, wait_for};
 use crate::sums::{Sum, Tried, collector, put, read};
-use seize::{Collector, LocalGuard, Pass, Refusal, Registration};
+use seize::{Collector, Guard, LocalGuard, Pass, Refusal, Registration};
+use seize_test_kit::marked::{Marked, ended, marks};
 use std::sync::Wait;
 use std::sync::atomic::AtomicU64;
 use std::test::*;

@@ -3,7 +3,7 @@
 --                               all that came before the collector was shared, since when the rule holds
 use Rattle.std.specs.Prelude.{ℕ, Some}
 use mathlib.Core.List.{IsPrefix}
-use Rattle.seize_book.specs.Homesteads.{state_seen}
+use Rattle.seize.specs.Homesteads.{state_seen}
 use Rattle.seize_book.specs.declared.book.pass.Pass.{Pass}
 use Rattle.seize.specs.Collectors.{seen_by}
 use Rattle.seize.specs.Machine.State.{link_at}

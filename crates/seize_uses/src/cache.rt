@@ -2,13 +2,13 @@
 ghost use Rattle.std.specs.Prelude.{◌≡◌, ◌<◌, ℕ, IfSome};
 ghost use Rattle.seize.specs.Blocks.{HasContent};
 ghost use Rattle.seize.specs.Collectors.{IsPassOf, its_links};
-ghost use Rattle.seize.specs.Guards.{guard_collector, guard_slot};
+ghost use Rattle.seize.specs.Guards.{core_collector, core_slot, guard_collector};
 ghost use Rattle.seize.specs.Laws.{moments_seen};
 ghost use Rattle.seize.specs.Machine.History.{Found};
 ghost use Rattle.seize_uses.specs.contracts.cache.Entry.{the_row};
 ghost use Rattle.seize_uses.specs.declared.cache.Entry.{Entry};
 
-use seize::{LocalGuard, Pass, Refusal};
+use seize::{Guard, GuardCore, LocalGuard, Pass, Refusal};
 use std::sync::Wait;
 
 /// A value under its key.
@@ -21,22 +21,22 @@ pub struct Entry {
 }
 
 // The place of a key.
-fn place(guard: &LocalGuard<'_, '_, Entry>, key: u64) -> usize
-    requires { 0 < its_links (guard_collector guard.now) }
-    ensures { result < its_links (guard_collector guard.now) }
+fn place(core: &GuardCore<'_, Entry>, key: u64) -> usize
+    requires { 0 < its_links (core_collector core.now) }
+    ensures { result < its_links (core_collector core.now) }
 {
-    key as usize % guard.collector().links()
+    key as usize % core.collector().links()
 }
 
-/// The value under this key, if its place holds one. Then the list says that this guard's slot found it: an entry with the key and the
+/// The value under this key, if its place holds one. Then the list says that the guard's slot found it: an entry with the key and the
 /// value.
-pub fn get(guard: &LocalGuard<'_, '_, Entry>, key: u64, pass: &mut Pass) -> Option<u64>
-    requires of { IsPassOf (guard_collector guard.now) pass.old × (0 < its_links (guard_collector guard.now)) }
-    ensures pass { IsPassOf (guard_collector guard.now) pass.new }
+pub fn get(core: &GuardCore<'_, Entry>, key: u64, pass: &mut Pass) -> Option<u64>
+    requires of { IsPassOf (core_collector core.now) pass.old × (0 < its_links (core_collector core.now)) }
+    ensures pass { IsPassOf (core_collector core.now) pass.new }
     ensures found { IfSome result (λ value. (v : ℕ) × (e : Entry) × HasContent the_row.coded.code v e × (e.key ≡ key) × (e.value ≡ value)
-        × ((q : ℕ) × Found (moments_seen pass.new) (guard_slot guard.now) v q)) }
+        × ((q : ℕ) × Found (moments_seen pass.new) (core_slot core.now) v q)) }
 {
-    let entry = *guard.protect(place(guard, key), pass)?;
+    let entry = *core.protect(place(core, key), pass)?;
     if entry.key == key {
         Some(entry.value)
     } else {

@@ -2,29 +2,29 @@
 ghost use Rattle.std.specs.Prelude.{◌≡◌, ◌⊎◌, ◌<◌, ℕ, List, Option, IfOk, IfSome};
 ghost use Rattle.seize.specs.Blocks.{content};
 ghost use Rattle.seize.specs.Collectors.{IsBlockOf, IsPassOf, its_links};
-ghost use Rattle.seize.specs.Guards.{guard_collector, guard_slot};
+ghost use Rattle.seize.specs.Guards.{core_collector, core_slot, guard_collector};
 ghost use Rattle.seize.specs.Links.{IsUnlinkedOf};
 ghost use Rattle.seize.specs.Machine.Event.{Event, ReadLink};
 ghost use Rattle.seize.specs.Makes.{Makes, MakesOne};
 ghost use Rattle.seize.specs.Rules.{Says};
-ghost use Rattle.seize_machine.specs.declared.machine.event.Answer.{Answer};
-ghost use Rattle.seize_machine.specs.declared.machine.event.Answer.TheVariants.{Link};
+ghost use Rattle.seize.specs.Answer.{Answer};
+ghost use Rattle.seize.specs.Answer.TheVariants.{Link};
 
-use seize::{LocalGuard, Owned, Pass, Reclaim, Refusal, Unlinked};
+use seize::{Guard, GuardCore, LocalGuard, Owned, Pass, Reclaim, Refusal, Unlinked};
 use std::sync::Wait;
 
 /// A copy of what a link holds. It outlives the guard.
 pub fn content_at<T: Copy + Drop, R: Reclaim<T>>(
-    guard: &LocalGuard<'_, '_, T, R>,
+    core: &GuardCore<'_, T, R>,
     link: usize,
     pass: &mut Pass,
 ) -> Option<T>
-    requires of { IsPassOf (guard_collector guard.now) pass.old × (link < its_links (guard_collector guard.now)) }
-    ensures pass { IsPassOf (guard_collector guard.now) pass.new }
-    ensures read { (held : Option ℕ) × MakesOne pass.old pass.new (ReadLink (guard_slot guard.now) link) (Link held)
+    requires of { IsPassOf (core_collector core.now) pass.old × (link < its_links (core_collector core.now)) }
+    ensures pass { IsPassOf (core_collector core.now) pass.new }
+    ensures read { (held : Option ℕ) × MakesOne pass.old pass.new (ReadLink (core_slot core.now) link) (Link held)
         × Says T.row.coded.code held result }
 {
-    guard.protect(link, pass).map(|found| *found)
+    core.protect(link, pass).map(|found| *found)
 }
 
 /// A block of this value. The value ends where none could be made.

@@ -5,14 +5,14 @@ ghost use Rattle.std.proofs.Common.{lit<};
 ghost use Rattle.std.specs.Prelude.{◌≡◌, ◌<◌, ◌↔◌, Option, IsTrue};
 ghost use Rattle.seize.specs.Collectors.{IsPassOf, its_links};
 ghost use Rattle.seize.specs.Exchanges.{current_value};
-ghost use Rattle.seize.specs.Guards.{guard_collector};
+ghost use Rattle.seize.specs.Guards.{core_collector, guard_collector};
 ghost use Rattle.seize.specs.Machine.History.{Moment};
 ghost use Rattle.seize.specs.Moments.{StandsSince};
 ghost use Rattle.seize_uses.specs.Places.{IsMoved, StaysMoved, number_in};
 ghost use Rattle.seize_uses.specs.Shown.{ShowsNumber};
 
 use crate::links::{block_of, content_at, retire_any};
-use seize::{Further, LocalGuard, Pass, Puts, Reclaim, Refusal, Shared};
+use seize::{Further, GuardCore, LocalGuard, Pass, Puts, Reclaim, Refusal, Shared};
 use std::sync::Wait;
 
 /// A number, or the mark that it moved to another link.
@@ -40,22 +40,22 @@ impl Reclaim<Place> for Staying {
 
 /// The number in the old link, or where that is marked, the number in the new one: as it is at one moment of the call.
 pub fn find(
-    guard: &LocalGuard<'_, '_, Place, Staying>,
+    core: &GuardCore<'_, Place, Staying>,
     old: usize,
     new: usize,
     pass: &mut Pass,
 ) -> Option<u64>
-    requires of { IsPassOf (guard_collector guard.now) pass.old × (old < its_links (guard_collector guard.now))
-        × (new < its_links (guard_collector guard.now)) }
-    ensures pass { IsPassOf (guard_collector guard.now) pass.new }
+    requires of { IsPassOf (core_collector core.now) pass.old × (old < its_links (core_collector core.now))
+        × (new < its_links (core_collector core.now)) }
+    ensures pass { IsPassOf (core_collector core.now) pass.new }
     ensures found { (m : Moment) × StandsSince pass.old pass.new m × ShowsNumber old new m.before result }
 {
-    let collector = guard.collector();
+    let collector = core.collector();
     collector.laws(pass);
-    let first = content_at(guard, old, pass);
+    let first = content_at(core, old, pass);
     match first {
         Some(Place::Moved) => {
-            let second = content_at(guard, new, pass);
+            let second = content_at(core, new, pass);
             collector.laws(pass);
             number(second)
         }

@@ -1,11 +1,11 @@
 //! A caller who has a collector alone: what is put into a link is found there, and the block that came out is retired.
 ghost use Rattle.std.specs.Prelude.{◌≡◌, ◌<◌, IfOk, IfSome, Some, option_map, true};
-ghost use Rattle.seize_model.specs.Waiting.Calls as calls;
+ghost use Rattle.seize.specs.Waiting.Calls as calls;
 ghost use Rattle.seize.specs.Alones.{moments_in, opening_in};
 ghost use Rattle.seize.specs.Blocks.{content, store_name};
 ghost use Rattle.seize.specs.Machine.Laws.{After, AtMostOnce};
 
-use seize::{Alone, Collector, IdSource, Owned, Refusal};
+use seize::{Alone, IdSource, Owned, Refusal};
 use std::alloc::Global;
 
 /// Puts a number into the one link of a new collector, reads it there, takes it out and retires it. What was read is that number.
@@ -16,11 +16,7 @@ use std::alloc::Global;
 pub fn read_and_retire(alloc: Global, number: u64) -> Result<Option<u64>, Refusal>
     ensures { IfOk result (λ read. read ≡ Some number) }
 {
-    let collector: Collector<u64> = Collector::new(alloc, &mut IdSource::new(), 1, 1)?;
-    // It is refused only where a number is in use. A new collector has none, but no clause says that its list is still empty here.
-    let Ok(mut alone) = collector.alone() else {
-        return Err(Refusal::NoMemory);
-    };
+    let mut alone = Alone::new(alloc, &mut IdSource::new(), 1, 1)?;
     let slot = alone.register()?;
     alone.enter(slot)?;
     let block = alone.owned(number).map_err(|(refusal, _)| refusal)?;

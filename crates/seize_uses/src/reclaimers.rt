@@ -7,7 +7,7 @@ ghost use Rattle.seize.specs.Laws.{moments_seen};
 ghost use Rattle.seize.specs.Machine.History.{Retired};
 ghost use Rattle.seize.specs.Makes.{IsOfKind};
 
-use seize::{Collector, Further, IdSource, LocalGuard, Owned, Pass, Puts, Reclaim, Refusal};
+use seize::{Collector, Further, Guard, IdSource, LocalGuard, Owned, Pass, Puts, Reclaim, Refusal};
 use std::alloc::Global;
 use std::sync::Wait;
 use std::sync::atomic::{AtomicU64, Ordering};

@@ -4,36 +4,36 @@ ghost use Rattle.std.specs.Prelude.{◌≡◌, ◌<◌, ℕ, Option, None, Some,
 ghost use Rattle.seize.specs.Blocks.{HasContent, IsNamed, content};
 ghost use Rattle.seize.specs.Links.{IsUnlinkedOf, unlinked_name};
 ghost use Rattle.seize.specs.Collectors.{BelongsTo, IsBlockOf, IsPassOf, its_links};
-ghost use Rattle.seize.specs.Guards.{guard_collector};
+ghost use Rattle.seize.specs.Guards.{core_collector, core_slot};
 ghost use Rattle.seize.specs.Machine.Event.{ExchangeLink, ReadLink};
 ghost use Rattle.seize.specs.Makes.{Makes, MakesOne};
 ghost use Rattle.seize.specs.Registrations.{registered_in};
-ghost use Rattle.seize_machine.specs.declared.machine.event.Answer.TheVariants.{Link};
-ghost use Rattle.seize_machine.specs.declared.machine.event.Exchange.TheVariants.{Compare};
+ghost use Rattle.seize.specs.Answer.TheVariants.{Link};
+ghost use Rattle.seize.specs.Exchange.TheVariants.{Compare};
 
-use seize::{Failed, Guard, LocalGuard, Owned, Pass, Refusal, Registration, Unlinked};
+use seize::{Failed, Guard, GuardCore, Owned, Pass, Reclaim, Refusal, Registration, Unlinked};
 use std::sync::Wait;
 
 /// Puts the block into link 0 in the place of the one that is there, by a guard of either kind. Where the link is empty, or another thread
 /// is faster, the block comes back. The value that comes out is the one that was read, and no other value of the same block, since that is
 /// not used again while the guard stands.
-pub fn replace_read<'g, G: Guard<u64>>(
-    guard: &'g G,
+pub fn replace_read<'c, R: Reclaim<u64>>(
+    core: &GuardCore<'c, u64, R>,
     new: Owned<u64>,
     pass: &mut Pass,
-) -> Result<Option<Unlinked<'g, u64>>, Option<Owned<u64>>>
-    requires of { IsPassOf (G.guarded guard.now) pass.old × (0 < its_links (G.guarded guard.now)) }
-    requires value { BelongsTo G.Reclaimer.owners (G.guarded guard.now) new }
-    requires rule { (x : ℕ) → G.Reclaimer.keeps 0 (Some x) (Some (content new)) }
-    ensures pass { IsPassOf (G.guarded guard.now) pass.new }
-    ensures of { IfOk result (λ out. IfSome out (IsUnlinkedOf (G.guarded guard.now))) }
+) -> Result<Option<Unlinked<'c, u64>>, Option<Owned<u64>>>
+    requires of { IsPassOf (core_collector core.now) pass.old × (0 < its_links (core_collector core.now)) }
+    requires value { BelongsTo R.owners (core_collector core.now) new }
+    requires rule { (x : ℕ) → R.keeps 0 (Some x) (Some (content new)) }
+    ensures pass { IsPassOf (core_collector core.now) pass.new }
+    ensures of { IfOk result (λ out. IfSome out (IsUnlinkedOf (core_collector core.now))) }
     ensures took { IfOk result (λ _. (held : Option ℕ) × (v : Option ℕ) × IsNamed gnum (Some new) v × Makes pass.old pass.new
-        ((ReadLink (G.number guard.now) 0, Link held) ∷ (ExchangeLink (G.number guard.now) 0 (Compare held v), Link held) ∷ [])) }
+        ((ReadLink (core_slot core.now) 0, Link held) ∷ (ExchangeLink (core_slot core.now) 0 (Compare held v), Link held) ∷ [])) }
 {
-    let Some(found) = guard.protect(0, pass) else {
+    let Some(found) = core.protect(0, pass) else {
         return Err(Some(new));
     };
-    match guard.compare_exchange(0, Some(&found), Some(new), pass) {
+    match core.compare_exchange(0, Some(&found), Some(new), pass) {
         Ok(old) => Ok(old),
         Err(failed) => Err(failed.new),
     }
@@ -41,20 +41,20 @@ pub fn replace_read<'g, G: Guard<u64>>(
 
 /// Takes out of link 0 by one guard what another guard of the collector found there, if the link holds that still. The number that was
 /// found comes with what came out. The passes need not have met: what came out is the very value that was found, as that stands until then.
-pub fn take_found<'g, G: Guard<u64>>(
-    finder: &G,
-    taker: &'g G,
+pub fn take_found<'c, R: Reclaim<u64>>(
+    finder: &GuardCore<'c, u64, R>,
+    taker: &GuardCore<'c, u64, R>,
     seen: &mut Pass,
     pass: &mut Pass,
-) -> Option<(u64, Unlinked<'g, u64>)>
-    requires finder { IsPassOf (G.guarded finder.now) seen.old × (0 < its_links (G.guarded finder.now)) }
-    requires taker { IsPassOf (G.guarded taker.now) pass.old × (G.guarded taker.now ≡ G.guarded finder.now) }
-    requires rule { (x : ℕ) → G.Reclaimer.keeps 0 (Some x) None }
-    ensures passes { IsPassOf (G.guarded finder.now) seen.new × IsPassOf (G.guarded taker.now) pass.new }
-    ensures of { IfSome result (λ taken. IsUnlinkedOf (G.guarded taker.now) taken.1) }
+) -> Option<(u64, Unlinked<'c, u64>)>
+    requires finder { IsPassOf (core_collector finder.now) seen.old × (0 < its_links (core_collector finder.now)) }
+    requires taker { IsPassOf (core_collector taker.now) pass.old × (core_collector taker.now ≡ core_collector finder.now) }
+    requires rule { (x : ℕ) → R.keeps 0 (Some x) None }
+    ensures passes { IsPassOf (core_collector finder.now) seen.new × IsPassOf (core_collector taker.now) pass.new }
+    ensures of { IfSome result (λ taken. IsUnlinkedOf (core_collector taker.now) taken.1) }
     ensures took { IfSome result (λ taken. let v = unlinked_name taken.1 in HasContent gnum v taken.0
-        × MakesOne seen.old seen.new (ReadLink (G.number finder.now) 0) (Link (Some v))
-        × MakesOne pass.old pass.new (ExchangeLink (G.number taker.now) 0 (Compare (Some v) None)) (Link (Some v))) }
+        × MakesOne seen.old seen.new (ReadLink (core_slot finder.now) 0) (Link (Some v))
+        × MakesOne pass.old pass.new (ExchangeLink (core_slot taker.now) 0 (Compare (Some v) None)) (Link (Some v))) }
 {
     let found = finder.protect(0, seen)?;
     match taker.compare_exchange(0, Some(&found), None, pass) {
@@ -107,44 +107,41 @@ pub fn add<W: Wait>(
 {
     let block = registration.owned(more).map_err(|(refusal, _)| refusal)?;
     let guard = registration.enter(pass)?;
-    let added = add_under(&guard, more, attempts, block, rt, pass);
+    let added = match add_under(&guard, more, attempts, block, pass) {
+        Some(old) => {
+            guard.defer_retire(rt, pass, old);
+            true
+        }
+        None => false,
+    };
     guard.leave(rt, pass);
     Ok(added)
 }
 
-// The same under this guard, with this block.
-fn add_under<W: Wait>(
-    guard: &LocalGuard<'_, '_, u64>,
+// Adds under this guard, with this block. It gives what came out, where a try was won.
+fn add_under<'c>(
+    core: &GuardCore<'c, u64>,
     more: u64,
     attempts: usize,
     block: Owned<u64>,
-    rt: &W,
     pass: &mut Pass,
-) -> bool
-    requires of { IsPassOf (guard_collector guard.now) pass.old × (0 < its_links (guard_collector guard.now)) }
-    requires block { IsBlockOf (guard_collector guard.now) block }
-    ensures pass { IsPassOf (guard_collector guard.now) pass.new }
+) -> Option<Unlinked<'c, u64>>
+    requires of { IsPassOf (core_collector core.now) pass.old × (0 < its_links (core_collector core.now)) }
+    requires block { IsBlockOf (core_collector core.now) block }
+    ensures pass { IsPassOf (core_collector core.now) pass.new }
+    ensures of { IfSome result (IsUnlinkedOf (core_collector core.now)) }
 {
-    let (mut found, mut block) = (guard.protect(0, pass), block);
+    let (mut found, mut block) = (core.protect(0, pass), block);
     for _ in 0..attempts {
-        let Some(shared) = found else {
-            return false;
-        };
+        let shared = found?;
         *block = shared.wrapping_add(more);
-        match guard.compare_exchange(0, Some(&shared), Some(block), pass) {
-            Ok(Some(old)) => {
-                guard.defer_retire(rt, pass, old);
-                return true;
-            }
-            Ok(None) => return true,
+        match core.compare_exchange(0, Some(&shared), Some(block), pass) {
+            Ok(old) => return old,
             Err(Failed { found: other, new }) => {
-                let Some(back) = new else {
-                    return false;
-                };
                 found = other;
-                block = back;
+                block = new?;
             }
         }
     }
-    false
+    None
 }

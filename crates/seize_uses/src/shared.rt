@@ -4,14 +4,16 @@ ghost use Rattle.std.specs.Prelude.{◌≡◌, ◌<◌, ◌≤◌, ℕ, length, 
 ghost use Rattle.seize.specs.Blocks.{HasContent};
 ghost use Rattle.seize.specs.Links.{IsUnlinkedOf, unlinked_name};
 ghost use Rattle.seize.specs.Collectors.{IsPassOf, its_links};
-ghost use Rattle.seize.specs.Guards.{guard_collector, guard_slot};
+ghost use Rattle.seize.specs.Guards.{core_collector, core_slot, guard_collector};
 ghost use Rattle.seize.specs.Laws.{moments_seen, opening_of};
 ghost use Rattle.seize.specs.Makes.{MakesNone};
 ghost use Rattle.seize.specs.Registrations.{registered_in};
 ghost use Rattle.seize.specs.Machine.History.{Found, HasParted, IsActiveAt, Reclaimed, Retired};
 ghost use Rattle.seize.specs.Machine.Laws.{After};
 
-use seize::{Collector, IdSource, LocalGuard, Pass, Refusal, Registration, Unlinked};
+use seize::{
+    Collector, Guard, GuardCore, IdSource, LocalGuard, Pass, Refusal, Registration, Unlinked,
+};
 use std::alloc::Global;
 use std::sync::Wait;
 
@@ -76,14 +78,14 @@ pub fn audit(registration: &Registration<'_, u64>, pass: &mut Pass)
 
 /// The number in link 0, which the guard found, after a look at the list. The read stands there, after all that the pass had seen before;
 /// and while the guard stands, the number is not reclaimed in what the pass sees.
-pub fn read_and_audit(guard: &LocalGuard<'_, '_, u64>, pass: &mut Pass) -> Option<u64>
-    requires of { IsPassOf (guard_collector guard.now) pass.old × (0 < its_links (guard_collector guard.now)) }
-    ensures pass { IsPassOf (guard_collector guard.now) pass.new }
+pub fn read_and_audit(core: &GuardCore<'_, u64>, pass: &mut Pass) -> Option<u64>
+    requires of { IsPassOf (core_collector core.now) pass.old × (0 < its_links (core_collector core.now)) }
+    ensures pass { IsPassOf (core_collector core.now) pass.new }
     ensures found { let ms = moments_seen pass.new in IfSome result (λ n. (v : ℕ) × HasContent gnum v n
-        × ((e : ℕ) × (length (moments_seen pass.old) ≤ e) × Found ms (guard_slot guard.now) v e) × ((k : ℕ) → ¬ (Reclaimed ms v k))) }
+        × ((e : ℕ) × (length (moments_seen pass.old) ≤ e) × Found ms (core_slot core.now) v e) × ((k : ℕ) → ¬ (Reclaimed ms v k))) }
 {
-    let found = guard.protect(0, pass)?;
-    guard.protected(pass);
+    let found = core.protect(0, pass)?;
+    core.protected(pass);
     Some(*found)
 }
 

@@ -5,18 +5,18 @@ ghost use Rattle.std.proofs.Common.{lit<};
 ghost use Rattle.std.specs.Prelude.{◌≡◌, ◌<◌, ◌≤◌, ◌↔◌, ℕ, Option, Some, [], ◌∷◌, IfOk, IfSome, IsTrue, true};
 ghost use Rattle.seize.specs.Collectors.{IsPassOf, its_links};
 ghost use Rattle.seize.specs.Exchanges.{current_value};
-ghost use Rattle.seize.specs.Guards.{guard_collector, guard_slot};
+ghost use Rattle.seize.specs.Guards.{core_collector, core_slot, guard_collector};
 ghost use Rattle.seize.specs.Machine.Event.{ReadLink};
 ghost use Rattle.seize.specs.Makes.{Makes, MakesOne};
 ghost use Rattle.seize.specs.Rules.{Says};
-ghost use Rattle.seize_machine.specs.declared.machine.event.Answer.TheVariants.{Link};
+ghost use Rattle.seize.specs.Answer.TheVariants.{Link};
 ghost use Rattle.seize_uses.specs.contracts.versions.Version.{the_row};
 ghost use Rattle.seize_uses.specs.declared.versions.Version.{Version};
 ghost use Rattle.seize_uses.specs.Reached.{HasReached};
 ghost use Rattle.seize_uses.specs.Versions.{GrowsTo};
 
 use crate::links::{block_of, content_at, retire_any};
-use seize::{Further, LocalGuard, Pass, Puts, Reclaim, Refusal, Shared};
+use seize::{Further, GuardCore, LocalGuard, Pass, Puts, Reclaim, Refusal, Shared};
 use std::sync::Wait;
 
 /// A version, by its number.
@@ -42,37 +42,37 @@ impl Reclaim<Version> for Growing {
 
 /// The version that a link holds. It is no less than each that the link had reached as the pass knew, and the pass knows of this one then.
 pub fn newest(
-    guard: &LocalGuard<'_, '_, Version, Growing>,
+    core: &GuardCore<'_, Version, Growing>,
     link: usize,
     pass: &mut Pass,
 ) -> Option<Version>
-    requires of { IsPassOf (guard_collector guard.now) pass.old × (link < its_links (guard_collector guard.now)) }
-    ensures pass { IsPassOf (guard_collector guard.now) pass.new }
+    requires of { IsPassOf (core_collector core.now) pass.old × (link < its_links (core_collector core.now)) }
+    ensures pass { IsPassOf (core_collector core.now) pass.new }
     ensures read { (held : Option ℕ) × Says the_row.coded.code held result
-        × MakesOne pass.old pass.new (ReadLink (guard_slot guard.now) link) (Link held) }
-    ensures no_less { (version : Version) → HasReached (guard_collector guard.now) link version pass.old → GrowsTo (Some version) result }
-    ensures reached { IfSome result (λ version. HasReached (guard_collector guard.now) link version pass.new) }
+        × MakesOne pass.old pass.new (ReadLink (core_slot core.now) link) (Link held) }
+    ensures no_less { (version : Version) → HasReached (core_collector core.now) link version pass.old → GrowsTo (Some version) result }
+    ensures reached { IfSome result (λ version. HasReached (core_collector core.now) link version pass.new) }
 {
-    let collector = guard.collector();
+    let collector = core.collector();
     collector.laws(pass);
-    let version = content_at(guard, link, pass);
+    let version = content_at(core, link, pass);
     collector.laws(pass);
     version
 }
 
 /// Reads a link twice, by two guards, which may have entered at different times. The second version is no less than the first.
 pub fn read_twice(
-    first: &LocalGuard<'_, '_, Version, Growing>,
-    second: &LocalGuard<'_, '_, Version, Growing>,
+    first: &GuardCore<'_, Version, Growing>,
+    second: &GuardCore<'_, Version, Growing>,
     link: usize,
     pass: &mut Pass,
 ) -> (Option<Version>, Option<Version>)
-    requires of { IsPassOf (guard_collector first.now) pass.old × (link < its_links (guard_collector first.now)) }
-    requires same { guard_collector second.now ≡ guard_collector first.now }
-    ensures pass { IsPassOf (guard_collector first.now) pass.new }
+    requires of { IsPassOf (core_collector first.now) pass.old × (link < its_links (core_collector first.now)) }
+    requires same { core_collector second.now ≡ core_collector first.now }
+    ensures pass { IsPassOf (core_collector first.now) pass.new }
     ensures read { (one : Option ℕ) × (other : Option ℕ) × Says the_row.coded.code one result.0
         × Says the_row.coded.code other result.1 × Makes pass.old pass.new
-        ((ReadLink (guard_slot first.now) link, Link one) ∷ (ReadLink (guard_slot second.now) link, Link other) ∷ []) }
+        ((ReadLink (core_slot first.now) link, Link one) ∷ (ReadLink (core_slot second.now) link, Link other) ∷ []) }
     ensures grows { GrowsTo result.0 result.1 }
 {
     let one = newest(first, link, pass);

@@ -2,8 +2,8 @@
 ghost use base.Stored.{coded_ℕ, gnum};
 ghost use Rattle.std.specs.Coded.{coded_option};
 ghost use Rattle.std.specs.Prelude.{◌≡◌, true, None};
-ghost use Rattle.seize_model.specs.Waiting.Calls.{unused};
-ghost use Rattle.seize_model.specs.Waiting.State.{has_guard, slot_at};
+ghost use Rattle.seize.specs.Waiting.Calls.{unused};
+ghost use Rattle.seize.specs.Waiting.State.{has_guard, slot_at};
 ghost use Rattle.seize.specs.Links.{IsTakenOf};
 
 use seize::waiting::batches;

@@ -4,7 +4,7 @@ ghost use Rattle.seize.specs.Collectors.{BelongsTo, its_links};
 ghost use Rattle.seize_uses.specs.Nests.{owners_of};
 ghost use base.Stored.{coded_unit};
 
-use seize::{Collector, IdSource, Owned, Refusal, Unlinked, Watch};
+use seize::{Collector, Guard, IdSource, Owned, Refusal, Unlinked, Watch};
 use seize_uses::nest::{Nest, PutInside, around};
 use std::alloc::{AllocError, Global};
 use std::sync::Wait;

@@ -1,11 +1,10 @@
 //! Links with a rule: versions that grow, and a mark that stays. And a number that one guard found and another takes out.
 ghost use Rattle.std.specs.Prelude.{◌≡◌, ◌<◌};
 ghost use Rattle.seize.specs.Collectors.{IsPassOf, its_links};
-ghost use Rattle.seize.specs.Guards.{guard_collector};
-ghost use Rattle.seize.specs.OwnedGuards.{owned_collector};
+ghost use Rattle.seize.specs.Guards.{guard_collector, owned_collector};
 ghost use Rattle.seize.specs.Registrations.{registered_in};
 
-use seize::{Collector, IdSource, LocalGuard, OwnedGuard, Pass, Refusal, Registration};
+use seize::{Collector, Guard, IdSource, LocalGuard, OwnedGuard, Pass, Refusal, Registration};
 use seize_uses::moved::{Place, Staying, find, mark, put};
 use seize_uses::replacing::take_found;
 use seize_uses::versions::{Growing, Version, advance, newest, read_twice};

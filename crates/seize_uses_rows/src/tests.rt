@@ -5,7 +5,7 @@ ghost use Rattle.seize.specs.Registrations.{registered_in};
 
 use seize::thread_id::{Numbers, Thread};
 use seize::tls::ThreadLocal;
-use seize::{Alone, Collector, IdSource, Pass, Refusal, Registration};
+use seize::{Alone, Collector, Guard, IdSource, Pass, Refusal, Registration};
 use seize_uses::cache::{self, Entry};
 use seize_uses::machine::with_active_slot;
 use seize_uses::one_caller::{self, read_and_retire};

@@ -143,6 +143,7 @@ impl<T: Drop> Blocks<T> {
     /// the code that the value's name says. The number is that of the link's word, less 1. The pass looks at the list.
     ///
     /// It takes no memory: three loads, each of which waits for the one before, with that of what is read in the value.
+    #[inline(always)]
     pub fn see<'g>(&'g self, number: u64, glimpse: Glimpse<'g>, pass: &mut Pass) -> &'g T
         requires book { blocks_book self.now ≡ pass.old.name }
         requires found { IsFoundAt glimpse.value number pass.old }
@@ -258,6 +259,7 @@ impl<T: Drop> Blocks<T> {
     /// The header of the block with this number, which is that of a value that was named, as the pass has seen. The pass looks at the list.
     ///
     /// It takes no memory: three loads, each of which waits for the one before, with that of the word that is read in the header.
+    #[inline(always)]
     pub fn header(&self, number: u64, pass: &mut Pass) -> &Header
         requires book { blocks_book self.now ≡ pass.old.name }
         requires named { HasNumber number (state_seen pass.old) }
@@ -275,6 +277,7 @@ impl<T: Drop> Blocks<T> {
     /// was ever named or not. No event is made, and the list is not looked at.
     ///
     /// It takes no memory: two loads, each of which waits for the one before.
+    #[inline(always)]
     pub fn cell(&self, number: u64, key: &ValueKey) -> &TokenCell<Note>
         requires book { book_of key.now ≡ blocks_book self.now }
         requires number { block_number (value_of key.now) ≡ number }

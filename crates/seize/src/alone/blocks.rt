@@ -1,20 +1,17 @@
 //! Blocks and links of a collector in one caller's hands: each call on a link is exactly what the model says.
 ghost use Rattle.std.specs.Prelude.{◌≡◌, IfErr, IfOk, None, Some, get_or, is_some, true};
-ghost use Rattle.seize_words.specs.Joined.{words_book};
 ghost use Rattle.seize_table.specs.declared.refusal.Refusal.TheVariants.{NoMemory as no_memory};
 ghost use Rattle.seize_parts.specs.Blocks.{content, store_name};
 ghost use Rattle.seize_parts.specs.Placing.{held_in};
 
 use crate::alone::hands::Hands;
-use crate::alone::links::{Exchanging, still_at};
+use crate::alone::links::exchange_at;
 use crate::alone::{Alone, Codes};
 use crate::block::{Owned, Shared, Taken};
 use seize_parts::alone::place::{Place, Unit};
 use seize_parts::reclaim::Reclaim;
 use seize_table::Refusal;
-use seize_words::book::{Pass, Stay};
 use seize_words::lasting::Lasting;
-use seize_words::words::Words;
 use std::marker::Brand;
 
 // The unit of the activation of the slot in this place, which has guards.
@@ -34,37 +31,12 @@ fn unit_at<T: Drop>(places: &Vec<Option<Place<T>>>, s: usize) -> &Unit
     unit
 }
 
-// A block is made of a value. No event is made.
-#[derive(Drop)]
-struct Making<'a, T: Drop> {
-    words: &'a Words<T>,
-    // The value. The work takes it.
-    value: Option<T>,
-}
-
-impl<'a, T: Drop> Stay<Result<Owned<T>, (Refusal, T)>> for Making<'a, T> {
-    ghost may = { λ making pass. (words_book making.words.now ≡ pass.name) × ((value : T) × (making.value ≡ Some value)) };
-
-    ghost gives = { λ making _ pass pass' result. (pass' ≡ pass) × ((value : T) → making.value ≡ Some value
-        → IfOk result (λ owned. (store_name owned ≡ (words_book making.words.now).store) × (content owned ≡ value))
-        × IfErr result (λ refused. (refused.0 ≡ no_memory) × (refused.1 ≡ value))) };
-
-    fn stay(&mut self, pass: &mut Pass<'static>) -> Result<Owned<T>, (Refusal, T)> {
-        let Some(value) = self.value.take() else {
-            unreachable!()
-        };
-        let blocks = &self.words.blocks;
-        let (key, block) = blocks.add(value, pass)?;
-        Ok(Owned::of(key, block, &blocks.book))
-    }
-}
-
 impl<T: Drop, R: Reclaim<T>> Alone<T, R> {
     ghost use Rattle.std.specs.Prelude.{◌<◌, IfSome, option_map};
     ghost use Rattle.seize_model.specs.Waiting.Calls as calls;
     ghost use Rattle.seize.specs.Alones.{IsSame, ListGrows, name_at};
     ghost use Rattle.seize_parts.specs.Blocks.{Belongs};
-    ghost use Rattle.seize.specs.Links.{IsTakenOf, name_of, shared_book, shared_value, taken_content};
+    ghost use Rattle.seize.specs.Links.{IsTakenOf, found_name, shared_book, shared_value, taken_content};
     ghost use Rattle.seize.specs.Looks.{with_link};
 
     /// A block of this value. It asks for memory only where the store has no free place.
@@ -77,11 +49,9 @@ impl<T: Drop, R: Reclaim<T>> Alone<T, R> {
         ensures refused { IfErr result (λ refused. (refused.0 ≡ no_memory) × (refused.1 ≡ value)) }
         ensures same { self.new ≡ self.old }
     {
-        let mut making = Making {
-            words: &self.words,
-            value: Some(value),
-        };
-        self.porter.stay(&mut making)
+        let words = &self.words;
+        let (key, block) = words.blocks.add(value, &mut self.pass)?;
+        Ok(Owned::of(key, block, &words.blocks.book))
     }
 
     /// A block that was never in a link, ready to be retired. The block is of this collector, with each block inside it that the
@@ -114,19 +84,16 @@ impl<T: Drop, R: Reclaim<T>> Alone<T, R> {
         ensures same { IsSame self.old self.new }
         ensures grows { ListGrows self.old self.new }
     {
-        self.words.links.stir_at(link);
-        let mut exchanging = Exchanging {
-            words: &self.words,
-            ender: &self.ender,
-            unit: unit_at(&self.places, s),
+        let old = exchange_at(
+            &mut self.words,
+            &self.ender,
+            unit_at(&self.places, s),
             link,
             new,
-        };
-        let old = self.porter.stay(&mut exchanging);
-        drop(exchanging);
+            &mut self.pass,
+        );
         let old = Taken::out(old);
-        still_at(&mut self.words.links, link, &mut self.porter);
-        self.hands = Hands::of::<Brand, usize>(&self.hands, &self.porter, &link);
+        self.hands = Hands::of::<Brand, usize>(&self.hands, &self.pass, &link);
         old
     }
 
@@ -173,7 +140,7 @@ impl<T: Drop, R: Reclaim<T>> Alone<T, R> {
         ensures done { IfOk result (λ shared. (calls.no_guard self.now.state s ≡ None)
             × (option_map shared_value shared ≡ calls.link_at self.now.state link)) }
         ensures own { IfOk result (λ shared. IfSome shared (λ shared. shared_book shared ≡ self.now.book)) }
-        ensures which { IfOk result (λ shared. name_of shared ≡ name_at self.now link) }
+        ensures which { IfOk result (λ shared. found_name shared ≡ name_at self.now link) }
         ensures refused { IfErr result (λ refusal. calls.no_guard self.now.state s ≡ Some refusal) }
     {
         self.guarded(s)?;

@@ -6,7 +6,7 @@ ghost use base.Stored.{coded_list, coded×, coded_ℕ};
 ghost use Rattle.seize_model.specs.Waiting.State.{State};
 ghost use Rattle.seize.specs.States.{state_coded};
 
-use seize_words::book::Porter;
+use seize_words::book::Pass;
 use std::marker::{Brand, Model, PhantomData};
 
 /// What holds of a state, of names, of kinds and of what links hold. A caller passes `Brand`, and its proof picks it, by what `Hands::of`
@@ -48,9 +48,9 @@ unsafe impl<T> Send for Hands<T> {}
 unsafe impl<T> Sync for Hands<T> {}
 
 impl<T> Hands<T> {
-    /// The first ones of a collector, where its porter is at home. What `_said` holds is for the proof that picks. It does nothing when the
+    /// The first ones of a collector, by its pass. What `_said` holds is for the proof that picks. It does nothing when the
     /// program runs.
-    pub(crate) fn first<H: Holding<T>, S>(_porter: &Porter, _said: &S) -> Hands<T>
+    pub(crate) fn first<H: Holding<T>, S>(_pass: &Pass<'static>, _said: &S) -> Hands<T>
         requires { (st : State T ℕ) × (names : List (ℕ × T)) × (kinds : List (ℕ × ℕ)) × (held : List (Option ℕ))
             × H.are st names kinds held }
         ensures { H.are result.state result.names result.kinds result.held }
@@ -61,7 +61,11 @@ impl<T> Hands<T> {
     }
 
     /// There are some, and these are they. What `_said` holds is for the proof that picks. It does nothing when the program runs.
-    pub(crate) fn of<H: Holding<T>, S>(_hands: &Hands<T>, _porter: &Porter, _said: &S) -> Hands<T>
+    pub(crate) fn of<H: Holding<T>, S>(
+        _hands: &Hands<T>,
+        _pass: &Pass<'static>,
+        _said: &S,
+    ) -> Hands<T>
         requires { (st : State T ℕ) × (names : List (ℕ × T)) × (kinds : List (ℕ × ℕ)) × (held : List (Option ℕ))
             × H.are st names kinds held }
         ensures { H.are result.state result.names result.kinds result.held }

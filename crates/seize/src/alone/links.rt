@@ -1,123 +1,76 @@
-//! Links of a collector in one caller's hands. They stand still, so they are read by `&`. An exchange is a work that the porter's first
-//! pass is lent to: for as long as the step lasts the link is one that threads may share. It takes no lock: the unit of the slot's
-//! activation is all that it needs of the slot.
-ghost use Rattle.std.specs.Prelude.{◌≡◌, ◌<◌, ℕ, Option, IfSome, length, true};
-ghost use Rattle.seize_book.specs.Homesteads.{state_seen};
-ghost use Rattle.seize_machine.specs.Machine.State.{link_at};
+//! An exchange of a link of a collector in one caller's hands. Links stand still there, so they are read by `&`; for as long as the step
+//! lasts the link is one that threads may share. The unit of the slot's activation is all that it needs of the slot.
+ghost use Rattle.std.specs.Prelude.{◌≡◌, ◌<◌, ℕ, Option, IfSome, length};
 ghost use Rattle.seize_machine.specs.Machine.Event.{ExchangeLink};
 ghost use Rattle.seize_machine.specs.declared.machine.event.Answer.TheVariants.{Link};
 ghost use Rattle.seize_machine.specs.declared.machine.event.Exchange.TheVariants.{Swap};
 ghost use Rattle.seize_alone.specs.Events.{MakesAlone};
+ghost use Rattle.seize_book.specs.Homesteads.{state_seen};
 ghost use Rattle.seize_book.specs.Tokens.{IsSole};
+ghost use Rattle.seize_machine.specs.Machine.State.{link_at};
 ghost use Rattle.seize_calls.specs.Slots.{IsLooseOf, IsPassFor, IsReadable};
 ghost use Rattle.seize_words.specs.Joined.{words_book};
-ghost use Rattle.seize_words.specs.Named.{link_count, links_name};
-ghost use Rattle.seize_words.specs.Rows.{AllStand, AreShared, IsSameBut, IsSharedAt, StandsAt};
+ghost use Rattle.seize_words.specs.Named.{link_count};
+ghost use Rattle.seize_words.specs.Rows.{IsSameBut, IsSharedAt, StandsAt};
 ghost use Rattle.seize_parts.specs.Blocks.{Belongs, IsNamed, LooseComesOut};
 ghost use Rattle.seize_parts.specs.Enders.{IsEnderOf};
-ghost use Rattle.seize.specs.Stillness.{StaysHome, state_at};
 
 use seize_calls::slot::Loose;
 use seize_parts::alone::place::Unit;
 use seize_parts::block::{Owned, name};
 use seize_parts::ender::Ender;
 use seize_parts::reclaim::Reclaim;
-use seize_words::book::{Pass, Porter, Stay};
-use seize_words::link::Links;
+use seize_words::book::Pass;
 use seize_words::words::Words;
 
-/// A link is exchanged. It gives what came out.
-#[derive(Drop)]
-pub(crate) struct Exchanging<'a, T: Drop, R: Reclaim<T>> {
-    /// The words of the collector.
-    pub(crate) words: &'a Words<T>,
-    /// Its reclaimer.
-    pub(crate) ender: &'a Ender<T, R>,
-    /// The unit of the slot's activation.
-    pub(crate) unit: &'a Unit,
-    /// The number of the link.
-    pub(crate) link: usize,
-    /// The block that goes in, if there is one. The work takes it.
-    pub(crate) new: Option<Owned<T>>,
-}
-
-impl<'a, T: Drop, R: Reclaim<T>> Stay<Option<Loose>> for Exchanging<'a, T, R> {
-    ghost may = { λ work pass. IsPassFor work.words.now pass × IsSole pass.id × (work.unit.now.seen.name ≡ words_book work.words.now)
-        × (work.link < length (words_book work.words.now).links) × IsSharedAt work.words.now.links work.link
-        × IsEnderOf work.words.now work.ender.now
-        × IfSome work.new (λ owned. Belongs R.owners (words_book work.words.now).store owned) };
-
-    ghost gives = { λ work _ pass pass' result. (number : Option ℕ) × (held : Option ℕ)
-        × MakesAlone pass pass' (ExchangeLink work.unit.now.number work.link (Swap number)) (Link held)
-        × IsNamed T.row.coded.code work.new number × LooseComesOut held result
-        × IfSome result (λ loose. IsLooseOf work.words.now loose × IsReadable loose) };
-
-    fn stay(&mut self, pass: &mut Pass<'static>) -> Option<Loose> {
-        let (words, unit) = (self.words, self.unit);
-        pass.learn(&unit.seen);
-        let (new, mut key) = name(self.new.take(), words, self.ender, pass);
-        let permit = pass.no_pairs();
-        let old = words.swap_link(self.link, new, &mut key, &unit.unit, pass, &permit);
-        Loose::of(old, key)
-    }
-}
-
-// All links stand still from then on.
-#[derive(Drop)]
-struct Stilling<'a> {
-    links: &'a mut Links,
-}
-
-impl<'a> Stay<()> for Stilling<'a> {
-    ghost may = { λ work pass. AreShared work.links.now × (links_name work.links.now ≡ pass.name) × IsSole pass.id };
-
-    ghost gives = { λ work work' pass pass' _. (pass' ≡ pass) × AllStand work'.links.now (state_seen pass)
-        × (work'.links.now.book ≡ work.links.now.book) × (work'.links.ghost_name ≡ work.links.ghost_name) };
-
-    fn stay(&mut self, pass: &mut Pass<'static>) {
-        self.links.rest(pass);
-    }
-}
-
-// One of them does.
-#[derive(Drop)]
-struct StillingAt<'a> {
-    links: &'a mut Links,
+// The link, which threads may share, holds this block then, or none. It gives what came out. The slot of this unit is active.
+fn exchange_in<T: Drop, R: Reclaim<T>>(
+    words: &Words<T>,
+    ender: &Ender<T, R>,
+    unit: &Unit,
     link: usize,
-}
-
-impl<'a> Stay<()> for StillingAt<'a> {
-    ghost may = { λ work pass. (work.link < link_count work.links.now) × IsSharedAt work.links.now work.link
-        × (links_name work.links.now ≡ pass.name) × IsSole pass.id };
-
-    ghost gives = { λ work work' pass pass' _. (pass' ≡ pass) × StandsAt work'.links.now work.link (link_at (state_seen pass) work.link)
-        × IsSameBut work.link work.links.now work'.links.now × (work'.links.ghost_name ≡ work.links.ghost_name) };
-
-    fn stay(&mut self, pass: &mut Pass<'static>) {
-        self.links.rest_at(self.link, pass);
-    }
-}
-
-/// All links, which threads shared, stand still from then on, and hold what the porter has seen, which is at home. No event is made.
-pub(crate) fn still(links: &mut Links, porter: &mut Porter)
-    requires shared { AreShared links.old }
-    requires porter { (porter.old.name ≡ links_name links.old) × (porter.old.home ≡ true) }
-    ensures porter { StaysHome porter.old porter.new }
-    ensures stand { AllStand links.new (state_at porter.old) }
-    ensures same { links.new.book ≡ links.old.book }
+    new: Option<Owned<T>>,
+    pass: &mut Pass,
+) -> Option<Loose>
+    requires pass { IsPassFor words.now pass.old × IsSole pass.old.id × (unit.now.seen.name ≡ words_book words.now) }
+    requires link { (link < length (words_book words.now).links) × IsSharedAt words.now.links link }
+    requires ender { IsEnderOf words.now ender.now }
+    requires own { IfSome new (λ owned. Belongs R.owners (words_book words.now).store owned) }
+    ensures makes { (number : Option ℕ) × (held : Option ℕ)
+        × MakesAlone pass.old pass.new (ExchangeLink unit.now.number link (Swap number)) (Link held)
+        × IsNamed T.row.coded.code new number × LooseComesOut held result }
+    ensures loose { IfSome result (λ loose. IsLooseOf words.now loose × IsReadable loose) }
 {
-    let mut stilling = Stilling { links };
-    porter.stay(&mut stilling);
+    pass.learn(&unit.seen);
+    let (new, mut key) = name(new, words, ender, pass);
+    let permit = pass.no_pairs();
+    let old = words.swap_link(link, new, &mut key, &unit.unit, pass, &permit);
+    Loose::of(old, key)
 }
 
-/// So does this one, and the others stay as they are.
-pub(crate) fn still_at(links: &mut Links, link: usize, porter: &mut Porter)
-    requires shared { (link < link_count links.old) × IsSharedAt links.old link }
-    requires porter { (porter.old.name ≡ links_name links.old) × (porter.old.home ≡ true) }
-    ensures porter { StaysHome porter.old porter.new }
-    ensures stands { StandsAt links.new link (link_at (state_at porter.old) link) }
-    ensures same { IsSameBut link links.old links.new }
+/// The same with a link that stands still, before and after.
+pub(crate) fn exchange_at<T: Drop, R: Reclaim<T>>(
+    words: &mut Words<T>,
+    ender: &Ender<T, R>,
+    unit: &Unit,
+    link: usize,
+    new: Option<Owned<T>>,
+    pass: &mut Pass,
+) -> Option<Loose>
+    requires pass { IsPassFor words.old pass.old × IsSole pass.old.id × (unit.now.seen.name ≡ words_book words.old) }
+    requires link { (link < link_count words.old.links) × ((held : Option ℕ) × StandsAt words.old.links link held) }
+    requires ender { IsEnderOf words.old ender.now }
+    requires own { IfSome new (λ owned. Belongs R.owners (words_book words.old).store owned) }
+    ensures makes { (number : Option ℕ) × (held : Option ℕ)
+        × MakesAlone pass.old pass.new (ExchangeLink unit.now.number link (Swap number)) (Link held)
+        × IsNamed T.row.coded.code new number × LooseComesOut held result }
+    ensures loose { IfSome result (λ loose. IsLooseOf words.old loose × IsReadable loose) }
+    ensures words { (words.new.blocks ≡ words.old.blocks) × (words.new.size ≡ words.old.size)
+        × IsSameBut link words.old.links words.new.links }
+    ensures stands { StandsAt words.new.links link (link_at (state_seen pass.new) link) }
 {
-    let mut stilling = StillingAt { links, link };
-    porter.stay(&mut stilling);
+    words.links.stir_at(link);
+    let old = exchange_in(words, ender, unit, link, new, pass);
+    words.links.rest_at(link, pass);
+    old
 }

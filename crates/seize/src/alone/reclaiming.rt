@@ -16,7 +16,7 @@ impl<T: Drop, R: Reclaim<T>> Alone<T, R> {
     ghost use Rattle.seize_model.specs.Waiting.State.{has_guard, slot_at};
     ghost use Rattle.seize.specs.Alones.{IsLinkedSame, ListGrows};
     ghost use Rattle.seize.specs.Links.{IsTakenOf, taken_content};
-    ghost use Rattle.seize_parts.specs.Told.{Answers, only_refusal, told_of};
+    ghost use Rattle.seize_parts.specs.Told.{Answers, Did, only_refusal, told_of};
 
     // The slot leaves with its last guard, and keeps its number.
     fn part<W: Watch<T>>(&mut self, s: usize, watch: &mut W)
@@ -28,8 +28,8 @@ impl<T: Drop, R: Reclaim<T>> Alone<T, R> {
         ensures grows { ListGrows self.old self.new }
         ensures same_reference { watch.exit.ghost_name ≡ watch.entry.ghost_name }
     {
-        held(&mut self.places[s]).leave(&self.words, &self.ender, &mut self.porter, watch);
-        self.hands = Hands::of::<Brand, usize>(&self.hands, &self.porter, &s);
+        held(&mut self.places[s]).leave(&self.words, &self.ender, &mut self.pass, watch);
+        self.hands = Hands::of::<Brand, usize>(&self.hands, &self.pass, &s);
     }
 
     // The slot, which is owned or has one guard, refreshes.
@@ -42,8 +42,8 @@ impl<T: Drop, R: Reclaim<T>> Alone<T, R> {
         ensures grows { ListGrows self.old self.new }
         ensures same_reference { watch.exit.ghost_name ≡ watch.entry.ghost_name }
     {
-        held(&mut self.places[s]).refresh(&self.words, &self.ender, &mut self.porter, watch);
-        self.hands = Hands::of::<Brand, usize>(&self.hands, &self.porter, &s);
+        held(&mut self.places[s]).refresh(&self.words, &self.ender, &mut self.pass, watch);
+        self.hands = Hands::of::<Brand, usize>(&self.hands, &self.pass, &s);
     }
 
     // The value is retired by the slot, which is in use.
@@ -68,11 +68,11 @@ impl<T: Drop, R: Reclaim<T>> Alone<T, R> {
             &self.ender,
             loose,
             kind,
-            &mut self.porter,
+            &mut self.pass,
             watch,
         );
         let said = (s, kind, content);
-        self.hands = Hands::of::<Brand, (usize, u64, Content<T>)>(&self.hands, &self.porter, &said);
+        self.hands = Hands::of::<Brand, (usize, u64, Content<T>)>(&self.hands, &self.pass, &said);
     }
 
     /// Leaves with one guard of the slot. With its last one the slot is inactive; what waited for it alone is gone. An owned slot gives its
@@ -146,8 +146,8 @@ impl<T: Drop, R: Reclaim<T>> Alone<T, R> {
         ensures same_reference { watch.exit.ghost_name ≡ watch.entry.ghost_name }
     {
         self.guarded(s)?;
-        held(&mut self.places[s]).flush(&self.words, &self.ender, &mut self.porter, watch);
-        self.hands = Hands::of::<Brand, usize>(&self.hands, &self.porter, &s);
+        held(&mut self.places[s]).flush(&self.words, &self.ender, &mut self.pass, watch);
+        self.hands = Hands::of::<Brand, usize>(&self.hands, &self.pass, &s);
         Ok(())
     }
 
@@ -180,5 +180,27 @@ impl<T: Drop, R: Reclaim<T>> Alone<T, R> {
         }
         self.retire_in(s, value, kind, watch);
         Ok(())
+    }
+
+    /// Every slot leaves and gives its number back, in order of numbers; then each slot's batch is gone, in order. Then what the reclaimer
+    /// put meanwhile is gone, oldest first; what it puts with these joins the end, until none is left. So every number is free then, every
+    /// batch is empty, and no retired batch is left. The links hold what they held.
+    ///
+    /// The watch is told of each value that is gone, in order. It takes no memory and waits for nobody, but for what watch and reclaimer
+    /// do.
+    pub fn reclaim_all<W: Watch<T>>(&mut self, watch: &mut W)
+        ensures done { Did W.told (calls.reclaim_all R.puts R.weight self.old.state) self.new.state (W.seen watch.old) (W.seen watch.new) }
+        ensures same { IsLinkedSame self.old self.new }
+        ensures grows { ListGrows self.old self.new }
+        ensures same_reference { watch.exit.ghost_name ≡ watch.entry.ghost_name }
+    {
+        self.numbers.clear(
+            &self.words,
+            &self.ender,
+            &mut self.places,
+            &mut self.pass,
+            watch,
+        );
+        self.hands = Hands::of::<Brand, ()>(&self.hands, &self.pass, &());
     }
 }

@@ -1,58 +1,29 @@
 //! From a collector that threads share to one in one caller's hands, and back.
 ghost use Rattle.std.specs.Prelude.{◌≡◌, ℕ, IfErr, IfOk, None, Some, box_value, get_or, length};
 ghost use Rattle.seize.specs.Collectors.{its_book, its_id, its_size, seen_by};
-ghost use Rattle.seize_book.specs.Saying.{AllSay};
-ghost use Rattle.seize_book.specs.Porters.{HadStay};
+ghost use Rattle.seize_book.specs.Tokens.{IsSole};
+ghost use Rattle.seize_calls.specs.Slots.{IsPassFor};
+ghost use Rattle.seize.specs.Alones.{AreNumbersFor};
 ghost use Rattle.seize_words.specs.Joined.{words_book};
 ghost use Rattle.seize_words.specs.Rows.{AreShared};
 ghost use Rattle.seize_parts.specs.Enders.{IsEnderOf};
-ghost use Rattle.seize_parts.specs.Laws.{HaveContents};
 ghost use Rattle.seize_parts.specs.Placing.{MayLay};
-ghost use Rattle.seize_parts.specs.Resting.{ComesToRest};
 ghost use Rattle.seize_parts.specs.declared.alone.place.Place.{Place};
 
 use crate::alone::Alone;
 use crate::alone::hands::Hands;
-use crate::alone::links::still;
 use crate::collector::Collector;
 use seize_cells::Lock;
-use seize_parts::alone::place::{Place, Within};
+use seize_parts::alone::place::Place;
 use seize_parts::alone::shelving::lay_all;
 use seize_parts::ender::Ender;
 use seize_parts::numbers::Numbers;
-use seize_parts::numbers::resting::{Found, Resting};
+use seize_parts::numbers::resting::Found;
 use seize_parts::reclaim::Reclaim;
-use seize_words::book::Porter;
+use seize_words::book::{Pass, Porter};
 use seize_words::words::Words;
 use std::alloc::Global;
 use std::marker::Brand;
-
-// What is found of the slots. The porter is at home afterwards.
-fn rest<T: Drop, R: Reclaim<T>>(
-    words: &Words<T>,
-    ender: &Ender<T, R>,
-    alloc: Global,
-    porter: &mut Porter,
-    numbers: Lock<Numbers<T>>,
-) -> (Found<T>, Lock<Numbers<T>>)
-    requires porter { (porter.old.name ≡ words_book words.now) × (porter.old.size ≡ words.now.size) }
-    requires numbers { numbers ≡ (words_book words.now).family }
-    requires ender { IsEnderOf words.now ender.now }
-    ensures numbers { result.1 ≡ numbers }
-    ensures stay { HadStay (λ lent back. ComesToRest lent back result.0 × HaveContents T.row.coded.code back × AllSay back.seen)
-        porter.old porter.new }
-{
-    let mut resting = Within {
-        lock: numbers,
-        work: Some(Resting {
-            words,
-            ender,
-            alloc,
-        }),
-    };
-    let found = porter.stay(&mut resting);
-    (found, resting.lock)
-}
 
 impl<T: Drop, R: Reclaim<T>> Collector<T, R> {
     ghost use Rattle.seize_book.specs.Porters.{GoesOnTo};
@@ -77,17 +48,17 @@ impl<T: Drop, R: Reclaim<T>> Collector<T, R> {
             × GoesOnTo alone.book (seen_by self) alone.seen) }
         ensures back { IfErr result (FindsInUse self) }
     {
-        let (mut words, mut porter, numbers, ender, id, alloc) = self.into_parts();
-        let (found, numbers) = rest(&words, &ender, alloc, &mut porter, numbers);
+        let (mut words, mut pass, mut numbers, ender, id, alloc) = self.into_parts();
+        let found = numbers.come_to_rest(&words, &ender, alloc, &mut pass);
         let Found { made, places, all } = found;
         if !all {
-            return Err(shared(words, porter, numbers, places, ender, id, alloc));
+            return Err(shared(words, pass, numbers, places, ender, id, alloc));
         }
-        let hands = Hands::first::<Brand, Vec<Option<Place<T>>>>(&porter, &places);
-        still(&mut words.links, &mut porter);
+        let hands = Hands::first::<Brand, Vec<Option<Place<T>>>>(&pass, &places);
+        words.links.rest(&mut pass);
         Ok(Alone {
             words,
-            porter,
+            pass,
             numbers,
             places,
             made,
@@ -102,29 +73,29 @@ impl<T: Drop, R: Reclaim<T>> Collector<T, R> {
 /// The collector of these parts, for threads to share. What lies in the places stays in use, as if its holder had been forgotten.
 pub(super) fn shared<T: Drop, R: Reclaim<T>>(
     words: Words<T>,
-    porter: Porter,
-    numbers: Lock<Numbers<T>>,
+    pass: Pass<'static>,
+    numbers: Numbers<T>,
     places: Vec<Option<Place<T>>>,
     ender: Box<Ender<T, R>>,
     id: u64,
     alloc: Global,
 ) -> Collector<T, R>
-    requires porter { (porter.name ≡ words_book words) × (porter.size ≡ words.size) }
-    requires numbers { numbers ≡ (words_book words).family }
+    requires pass { IsPassFor words pass × IsSole pass.id }
+    requires numbers { AreNumbersFor words numbers }
     requires ender { IsEnderOf words (box_value ender) }
     requires shared { AreShared words.links }
     requires places { (s : ℕ) (place : Place T) → get_or places.items s None ≡ Some place → MayLay (words_book words) place }
     ensures same { (its_book result ≡ words_book words) × (its_size result ≡ words.size) × (its_id result ≡ id)
-        × (seen_by result ≡ porter.seen) }
+        × (seen_by result ≡ pass.entry.seen) }
 {
-    let mut porter = porter;
+    let mut porter = Porter::again(pass);
     let mut places = places;
     porter.leave_home();
     lay_all(&words, &mut places, &porter);
     Collector {
         words,
         porter,
-        numbers,
+        numbers: Lock::new(numbers),
         ender,
         id,
         alloc,
@@ -145,7 +116,7 @@ impl<T: Drop, R: Reclaim<T>> Alone<T, R> {
     {
         let Alone {
             mut words,
-            porter,
+            pass,
             numbers,
             places,
             made: _,
@@ -155,6 +126,6 @@ impl<T: Drop, R: Reclaim<T>> Alone<T, R> {
             hands: _,
         } = self;
         words.links.stir();
-        shared(words, porter, numbers, places, ender, id, alloc)
+        shared(words, pass, numbers, places, ender, id, alloc)
     }
 }

@@ -1,122 +1,209 @@
-//! A local guard as one of any kind.
-ghost use Rattle.std.specs.Prelude.{◌≡◌, ◌<◌, ℕ, Option, IfSome};
-ghost use Rattle.seize_machine.specs.Machine.Event.{ExchangeLink};
-ghost use Rattle.seize_machine.specs.declared.machine.event.Answer.TheVariants.{Link};
-ghost use Rattle.seize_machine.specs.declared.machine.event.Exchange.TheVariants.{Swap};
+//! A guard of a registration. It has the core of a guard; what changes the slot is done in the registration's reservation, which nobody
+//! else has.
+ghost use Rattle.std.specs.Prelude.{◌≡◌};
 ghost use Rattle.seize_machine.specs.declared.machine.event.Job.TheVariants.{Retire};
-ghost use Rattle.seize_parts.specs.Blocks.{IsNamed, content_of};
-ghost use Rattle.seize.specs.Links.{ComesOut, IsSharedOf, IsUnlinkedOf, unlinked_name};
-ghost use Rattle.seize.specs.Collectors.{BelongsTo, IsPassOf, its_links};
-ghost use Rattle.seize.specs.Exchanges.{MakesExchange, current_name, current_value};
-ghost use Rattle.seize.specs.Guards.{guard_activation, guard_collector, guard_slot};
-ghost use Rattle.seize_parts.specs.Makes.{Defers, IsOfKind, MakesOne};
+ghost use Rattle.seize.specs.Links.{IsUnlinkedOf, unlinked_name};
+ghost use Rattle.seize.specs.Collectors.{IsPassOf};
+ghost use Rattle.seize_parts.specs.Makes.{Defers, IsOfKind};
 
-use crate::block::{Failed, Owned, Shared, Unlinked};
-use crate::guard::{Guard, LocalGuard};
-use seize_parts::reclaim::Reclaim;
+use crate::block::{Owned, Unlinked};
+use crate::guard::{Guard, GuardCore};
+use crate::registration::Registration;
+use seize_parts::reclaim::{Boxed, Reclaim};
+use seize_parts::works::{Deferring, Flushing, Leaving, Refreshing, Sparing};
 use seize_table::Refusal;
 use seize_words::book::Pass;
+use std::ops::Deref;
 use std::sync::Wait;
+use std::{fmt, mem};
+
+/// A guard of a registration, for the registration's thread alone. It derefs to its core, which reads and exchanges links; `Guard` has the
+/// calls that retire, flush and refresh.
+///
+/// It has no `Drop`: it is spent by `leave`, or by `forget`, after which the slot stays active until `reclaim_all` or the drop.
+pub struct LocalGuard<'r, 'c, T: Drop, R: Reclaim<T> = Boxed> {
+    registration: &'r Registration<'c, T, R>,
+    core: GuardCore<'c, T, R>,
+    ghost its: { (core.collector ≡ registration.now.collector) × (core.number ≡ registration.now.number) },
+}
+
+impl<'r, 'c, T: Drop, R: Reclaim<T>> LocalGuard<'r, 'c, T, R> {
+    ghost use Rattle.std.specs.Prelude.{◌⊎◌, IfErr, IfOk};
+    ghost use Rattle.seize_machine.specs.declared.machine.event.Job.TheVariants.{Leave};
+    ghost use Rattle.seize_table.specs.declared.refusal.Refusal.TheVariants.{NoMemory as no_memory};
+    ghost use Rattle.seize_parts.specs.Blocks.{content};
+    ghost use Rattle.seize.specs.Collectors.{IsBlockOf};
+    ghost use Rattle.seize.specs.Guards.{IsGuardOf, guard_collector, guard_slot};
+    ghost use Rattle.seize_parts.specs.Puts.{PutBy};
+    ghost use Rattle.seize_parts.specs.Makes.{MakesCall, StaysActive};
+
+    // One of this registration, with this core.
+    #[inline(always)]
+    pub(crate) fn of(
+        registration: &'r Registration<'c, T, R>,
+        core: GuardCore<'c, T, R>,
+    ) -> LocalGuard<'r, 'c, T, R>
+        requires { (core.collector ≡ registration.now.collector) × (core.number ≡ registration.now.number) }
+        ensures { IsGuardOf registration.now result }
+    {
+        LocalGuard { registration, core }
+    }
+
+    /// A block of this value, as `Registration::owned` makes it.
+    ///
+    /// # Errors
+    ///
+    /// `NoMemory` where the store could not grow; the value comes back.
+    #[inline(always)]
+    pub fn owned(&self, value: T) -> Result<Owned<T>, (Refusal, T)>
+        ensures made { IfOk result (λ owned. IsBlockOf (guard_collector self.now) owned × (content owned ≡ value)) }
+        ensures refused { IfErr result (λ refused. (refused.0 ≡ no_memory) × (refused.1 ≡ value)) }
+    {
+        self.registration.owned(value)
+    }
+
+    /// Leaves. The last guard of the slot leaves for it: what waited for the slot is counted down, and what is reclaimed in the call goes
+    /// to the reclaimer there. Beside others it makes no event, and the pass learns that the slot is active.
+    ///
+    /// But for what the reclaimer does, it takes no memory. Within another call of the same registration it waits for ever, and else for
+    /// nobody.
+    #[inline(always)]
+    pub fn leave<W: Wait>(self, rt: &W, pass: &mut Pass)
+        requires of { IsPassOf (guard_collector self) pass.old }
+        ensures { MakesCall (PutBy T.row.coded.code R.puts) (guard_slot self.entry) Leave pass.old pass.new
+            ⊎ StaysActive (guard_slot self.entry) pass.old pass.new }
+    {
+        let LocalGuard { registration, core } = self;
+        let GuardCore {
+            collector,
+            number: _,
+            unit,
+            seen,
+        } = core;
+        let leaving = Leaving {
+            words: &collector.words,
+            ender: collector.ender(),
+            head: registration.head,
+            unit,
+            seen,
+            rt,
+        };
+        registration.reservation.with(rt, leaving, pass);
+    }
+
+    /// Spends the guard without leaving. Its slot stays active until `Collector::reclaim_all`, or the collector's drop, finds it: what is
+    /// retired meanwhile may wait so long, other guards of the registration don't leave or refresh the slot, and `Registration::end`
+    /// answers false.
+    ///
+    /// It takes no memory and waits for nobody.
+    pub fn forget(self) {
+        let LocalGuard { registration, core } = self;
+        let GuardCore {
+            collector,
+            number,
+            unit,
+            seen,
+        } = core;
+        registration
+            .shelf
+            .forget(number, unit, seen, &mut collector.pass());
+    }
+}
+
+impl<'c, T: Drop, R: Reclaim<T>> Deref for LocalGuard<'_, 'c, T, R> {
+    ghost use Rattle.seize.specs.Guards.{guard_core};
+
+    type Target = GuardCore<'c, T, R>;
+
+    ghost deref_gives = { λ guard core. core ≡ guard_core guard };
+
+    #[inline(always)]
+    fn deref(&self) -> &GuardCore<'c, T, R> {
+        &self.core
+    }
+}
 
 impl<T: Drop, R: Reclaim<T>> Guard<T> for LocalGuard<'_, '_, T, R> {
+    ghost use Rattle.seize.specs.Guards.{core_collector, core_slot, guard_core};
+
     type Reclaimer = R;
 
-    ghost guarded = { λ guard. guard_collector guard };
+    ghost its_core = { λ guard. guard_core guard };
 
-    ghost number = { λ guard. guard_slot guard };
-
-    ghost activation = { λ guard. guard_activation guard };
-
-    fn collector_id(&self) -> u64 {
-        LocalGuard::collector(self).id()
+    #[inline(always)]
+    fn core(&self) -> &GuardCore<'_, T, R> {
+        &self.core
     }
 
-    fn pass(&self) -> Pass<'_> {
-        LocalGuard::collector(self).pass()
-    }
-
-    fn thread_id(&self) -> usize {
-        LocalGuard::thread_id(self)
-    }
-
+    #[inline(always)]
     fn owned(&self, value: T) -> Result<Owned<T>, (Refusal, T)> {
         LocalGuard::owned(self, value)
     }
 
-    fn protect(&self, link: usize, pass: &mut Pass) -> Option<Shared<'_, T>> {
-        LocalGuard::protect(self, link, pass)
-    }
-
-    fn protected(&self, pass: &mut Pass) {
-        LocalGuard::protected(self, pass);
-    }
-
-    fn swap(&self, link: usize, value: Option<Owned<T>>, pass: &mut Pass) -> Option<Unlinked<'_, T>>
-        requires of { IsPassOf (guard_collector self.now) pass.old × (link < its_links (guard_collector self.now)) }
-        requires value { IfSome value (λ owned. BelongsTo R.owners (guard_collector self.now) owned) }
-        requires rule { (x : Option T) → R.keeps link x (content_of value) }
-        ensures of { IfSome result (IsUnlinkedOf (guard_collector self.now)) }
-        ensures made { (new : Option ℕ) × (held : Option ℕ) × IsNamed T.row.coded.code value new × ComesOut held result
-            × MakesOne pass.old pass.new (ExchangeLink (guard_slot self.now) link (Swap new)) (Link held) }
-    {
-        LocalGuard::swap(self, link, value, pass)
-    }
-
-    fn compare_exchange(
-        &self,
-        link: usize,
-        current: Option<&Shared<'_, T>>,
-        new: Option<Owned<T>>,
-        pass: &mut Pass,
-    ) -> Result<Option<Unlinked<'_, T>>, Failed<'_, T>>
-        requires of { IsPassOf (guard_collector self.now) pass.old × (link < its_links (guard_collector self.now)) }
-        requires value { IfSome new (λ owned. BelongsTo R.owners (guard_collector self.now) owned) }
-        requires current { IfSome current (λ shared. IsSharedOf T.row.coded.code (guard_collector self.now) shared.now) }
-        requires rule { R.keeps link (current_value current) (content_of new) }
-        ensures { MakesExchange T.row.coded.code (guard_collector self.now) (guard_slot self.now) (guard_activation self.now) link
-            (current_name current.entry) new pass.old pass.new result }
-    {
-        LocalGuard::compare_exchange(self, link, current, new, pass)
-    }
-
-    fn compare_exchange_weak(
-        &self,
-        link: usize,
-        current: Option<&Shared<'_, T>>,
-        new: Option<Owned<T>>,
-        pass: &mut Pass,
-    ) -> Result<Option<Unlinked<'_, T>>, Failed<'_, T>>
-        requires of { IsPassOf (guard_collector self.now) pass.old × (link < its_links (guard_collector self.now)) }
-        requires value { IfSome new (λ owned. BelongsTo R.owners (guard_collector self.now) owned) }
-        requires current { IfSome current (λ shared. IsSharedOf T.row.coded.code (guard_collector self.now) shared.now) }
-        requires rule { R.keeps link (current_value current) (content_of new) }
-        ensures { MakesExchange T.row.coded.code (guard_collector self.now) (guard_slot self.now) (guard_activation self.now) link
-            (current_name current.entry) new pass.old pass.new result }
-    {
-        LocalGuard::compare_exchange_weak(self, link, current, new, pass)
-    }
-
+    #[inline(always)]
     fn defer_retire<W: Wait>(&self, rt: &W, pass: &mut Pass, value: Unlinked<'_, T>)
-        requires of { IsPassOf (guard_collector self.now) pass.old × IsUnlinkedOf (guard_collector self.now) value }
-        ensures call { Defers (guard_slot self.now) (Retire (unlinked_name value.entry)) pass.old pass.new }
+        requires of { IsPassOf (core_collector (guard_core self.now)) pass.old × IsUnlinkedOf (core_collector (guard_core self.now)) value }
+        ensures call { Defers (core_slot (guard_core self.now)) (Retire (unlinked_name value.entry)) pass.old pass.new }
         ensures kind { IsOfKind (unlinked_name value.entry) 0 pass.new }
     {
-        LocalGuard::defer_retire(self, rt, pass, value);
+        self.defer_retire_as(rt, pass, value, 0);
     }
 
+    #[inline(always)]
     fn defer_retire_as<W: Wait>(&self, rt: &W, pass: &mut Pass, value: Unlinked<'_, T>, kind: u64)
-        requires of { IsPassOf (guard_collector self.now) pass.old × IsUnlinkedOf (guard_collector self.now) value }
-        ensures call { Defers (guard_slot self.now) (Retire (unlinked_name value.entry)) pass.old pass.new }
+        requires of { IsPassOf (core_collector (guard_core self.now)) pass.old × IsUnlinkedOf (core_collector (guard_core self.now)) value }
+        ensures call { Defers (core_slot (guard_core self.now)) (Retire (unlinked_name value.entry)) pass.old pass.new }
         ensures kind { IsOfKind (unlinked_name value.entry) kind pass.new }
     {
-        LocalGuard::defer_retire_as(self, rt, pass, value, kind);
+        let core = &self.core;
+        let collector = core.collector;
+        let deferring = Deferring {
+            words: &collector.words,
+            ender: collector.ender(),
+            unit: &core.unit,
+            seen: &core.seen,
+            loose: value.into_loose(),
+            kind,
+            rt,
+        };
+        self.registration.reservation.with(rt, deferring, pass);
     }
 
     fn flush<W: Wait>(&self, rt: &W, pass: &mut Pass) {
-        LocalGuard::flush(self, rt, pass);
+        let core = &self.core;
+        let collector = core.collector;
+        let flushing = Flushing {
+            words: &collector.words,
+            ender: collector.ender(),
+            unit: &core.unit,
+            seen: &core.seen,
+            rt,
+        };
+        self.registration.reservation.with(rt, flushing, pass);
     }
 
     fn refresh<W: Wait>(&mut self, rt: &W, pass: &mut Pass) {
-        LocalGuard::refresh(self, rt, pass);
+        let registration = self.registration;
+        let reservation = &registration.reservation;
+        let core = &mut self.core;
+        let spare = reservation.with(rt, Sparing {}, pass);
+        let unit = mem::replace(&mut core.unit, spare);
+        let refreshing = Refreshing {
+            words: &core.collector.words,
+            ender: core.collector.ender(),
+            head: registration.head,
+            unit,
+            seen: &core.seen,
+            rt,
+        };
+        let (unit, seen) = reservation.with(rt, refreshing, pass);
+        core.unit = unit;
+        core.seen = seen;
+    }
+}
+
+impl<T: Drop, R: Reclaim<T>> fmt::Debug for LocalGuard<'_, '_, T, R> {
+    fn fmt<W: fmt::Write>(&self, f: &mut fmt::Formatter<W>) -> fmt::Result {
+        f.write_str("LocalGuard")
     }
 }

@@ -2,11 +2,10 @@
 ghost use Rattle.std.specs.Prelude.{◌≡◌, ◌<◌, ◌≤◌, ◌+◌, ℕ, Option, IfSome};
 ghost use Rattle.seize.specs.Blocks.{content_of};
 ghost use Rattle.seize.specs.Collectors.{BelongsTo, IsPassOf, its_links};
-ghost use Rattle.seize.specs.Guards.{guard_collector};
-ghost use Rattle.seize.specs.OwnedGuards.{owned_collector};
+ghost use Rattle.seize.specs.Guards.{core_collector, owned_collector};
 ghost use Rattle.seize.specs.Registrations.{registered_in};
 
-use seize::{Guard, LocalGuard, Owned, OwnedGuard, Pass, Refusal, Registration, Unlinked};
+use seize::{Guard, GuardCore, Owned, OwnedGuard, Pass, Refusal, Registration, Unlinked};
 use std::sync::Wait;
 
 /// How many links a collector has, but for `Pipe`.
@@ -170,12 +169,12 @@ fn replace<G: Guard<u64>, W: Wait>(
     rt: &W,
     pass: &mut Pass,
 )
-    requires of { IsPassOf (G.guarded guard.now) pass.old × (link < its_links (G.guarded guard.now)) }
-    requires new { IfSome new (λ owned. BelongsTo G.Reclaimer.owners (G.guarded guard.now) owned) }
+    requires of { IsPassOf (core_collector (G.its_core guard.now)) pass.old × (link < its_links (core_collector (G.its_core guard.now))) }
+    requires new { IfSome new (λ owned. BelongsTo G.Reclaimer.owners (core_collector (G.its_core guard.now)) owned) }
     requires rule { (x : Option ℕ) → G.Reclaimer.keeps link x (content_of new) }
-    ensures pass { IsPassOf (G.guarded guard.now) pass.new }
+    ensures pass { IsPassOf (core_collector (G.its_core guard.now)) pass.new }
 {
-    if let Some(old) = guard.swap(link, new, pass) {
+    if let Some(old) = guard.core().swap(link, new, pass) {
         guard.defer_retire(rt, pass, old);
     }
 }
@@ -252,25 +251,13 @@ pub(crate) fn take_from_all<W: Wait>(
 }
 
 // The sum of the values that the links hold.
-fn sum_links(guard: &LocalGuard<'_, '_, u64>, pass: &mut Pass) -> u64
-    requires of { IsPassOf (guard_collector guard.now) pass.old × (its_links (guard_collector guard.now) ≡ 1024) }
-    ensures pass { IsPassOf (guard_collector guard.now) pass.new }
+fn sum_links(core: &GuardCore<'_, u64>, pass: &mut Pass) -> u64
+    requires of { IsPassOf (core_collector core.now) pass.old × (its_links (core_collector core.now) ≡ 1024) }
+    ensures pass { IsPassOf (core_collector core.now) pass.new }
 {
     let mut sum: u64 = 0;
     for link in 0..ROW {
-        sum = sum.wrapping_add(guard.protect(link, pass).map_or(0, |shared| *shared));
-    }
-    sum
-}
-
-// The same, by a guard that threads share.
-fn sum_shared(guard: &OwnedGuard<'_, u64>, pass: &mut Pass) -> u64
-    requires of { IsPassOf (owned_collector guard.now) pass.old × (its_links (owned_collector guard.now) ≡ 1024) }
-    ensures pass { IsPassOf (owned_collector guard.now) pass.new }
-{
-    let mut sum: u64 = 0;
-    for link in 0..ROW {
-        sum = sum.wrapping_add(guard.protect(link, pass).map_or(0, |shared| *shared));
+        sum = sum.wrapping_add(core.protect(link, pass).map_or(0, |shared| *shared));
     }
     sum
 }
@@ -352,7 +339,7 @@ pub(crate) fn see_shared(guard: &OwnedGuard<'_, u64>, turns: u64) -> u64
     let mut pass = guard.collector().pass();
     let mut sum: u64 = 0;
     for _ in 0..turns {
-        sum = sum.wrapping_add(sum_shared(guard, &mut pass));
+        sum = sum.wrapping_add(sum_links(guard, &mut pass));
     }
     sum
 }

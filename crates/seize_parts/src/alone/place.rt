@@ -10,11 +10,9 @@ ghost use Rattle.seize_parts.specs.Reservations.{IsUnitIn};
 
 use crate::reservation::Reservation;
 use crate::shelf::Shelf;
-use seize_cells::{Lock, LockWork};
-use seize_content::Steady;
 use seize_table::Refusal;
 use seize_words::activation::Activation;
-use seize_words::book::{Pass, Seen, Stay};
+use seize_words::book::Seen;
 
 /// The unit of an activation that a slot's guards share.
 #[derive(Drop)]
@@ -37,7 +35,7 @@ pub struct Place<T: Drop> {
     /// How many guards it has.
     pub guards: u64,
     /// The slot, for one guard.
-    pub reservation: Lock<Reservation<T>>,
+    pub reservation: Reservation<T>,
     /// The unit of its activation, where it has guards.
     pub unit: Option<Unit>,
     /// Where it is laid when the collector is shared again.
@@ -76,34 +74,4 @@ pub fn back<T: Drop>(places: &mut Vec<Option<Place<T>>>, s: usize, place: Place<
     ensures { places.new.items ≡ slice_set places.old.items s (Some place) }
 {
     places[s] = Some(place);
-}
-
-/// A work on what lies behind a lock, by a pass that is alone. The lock lies here meanwhile.
-#[derive(Drop)]
-pub struct Within<M: Steady, W> {
-    /// The lock.
-    pub lock: Lock<M>,
-    /// The work, which is done once.
-    pub work: Option<W>,
-}
-
-impl<M: Steady, R, W: LockWork<M, Pass<'static>, R>> Stay<R> for Within<M, W> {
-    ghost use Rattle.std.specs.Prelude.{Some};
-    ghost use Rattle.seize_book.specs.Passes.{IsSamePass};
-    ghost use Rattle.seize_book.specs.declared.book.pass.Pass.{Pass};
-    ghost use Rattle.seize_cells.specs.Locks.{HadLock, MayLock};
-
-    ghost may = { λ within pass. (work : W) × (within.work ≡ Some work) × MayLock M.label M.sound within.lock (λ x. W.may work x pass)
-        × ((x y : M) (pass' : Pass) (result : R) → W.gives work x y pass pass' result → IsSamePass pass pass') };
-
-    ghost gives = { λ within within' pass pass' result. (within'.lock ≡ within.lock)
-        × ((work : W) → within.work ≡ Some work
-        → HadLock M.label M.sound within.lock (λ x y. W.gives work x y pass pass' result)) };
-
-    fn stay(&mut self, pass: &mut Pass<'static>) -> R {
-        let Some(work) = self.work.take() else {
-            unreachable!()
-        };
-        self.lock.with_mut(work, pass)
-    }
 }

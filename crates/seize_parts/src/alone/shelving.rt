@@ -13,7 +13,6 @@ ghost use Rattle.seize_parts.specs.declared.alone.place.Place.{Place};
 use crate::alone::place::{Place, Unit};
 use crate::reservation::Reservation;
 use crate::shelf::{Forgotten, Shelf};
-use seize_cells::Lock;
 use seize_words::book::{Pass, Porter};
 use seize_words::words::Words;
 
@@ -60,7 +59,7 @@ fn without_guard<T: Drop>(
     Place {
         owned: most == 1,
         guards: 0,
-        reservation: Lock::new(reservation),
+        reservation,
         unit: None,
         shelf,
     }
@@ -110,7 +109,7 @@ fn with_guards<T: Drop>(
     Place {
         owned: most == 1,
         guards,
-        reservation: Lock::new(reservation),
+        reservation,
         unit: Some(Unit { number, unit, seen }),
         shelf,
     }
@@ -186,11 +185,10 @@ fn lay<T: Drop>(words: &Words<T>, place: Place<T>, pass: &mut Pass)
     let Place {
         owned,
         guards,
-        reservation,
+        reservation: mut r,
         unit,
         shelf,
     } = place;
-    let mut r = reservation.into_value();
     let forgotten = match unit {
         Some(unit) => Some(units_of(words, &mut r, guards, unit, pass)),
         None => None,

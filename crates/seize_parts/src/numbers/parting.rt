@@ -79,13 +79,10 @@ fn part<T: Drop, R: Reclaim<T>, W: Watch<T>>(
         pass.old pass.new (W.seen aside.old.watch.now) (W.seen aside.new.watch.now) aside.old.queue aside.new.queue }
 {
     let Place {
-        owned: _,
-        guards: _,
-        reservation,
+        reservation: mut r,
         unit,
-        shelf: _,
+        ..
     } = place;
-    let mut r = reservation.into_value();
     let Some(unit) = unit else {
         r.slot.seen().agree(&words.blocks.book);
         r.slot.look(words, pass);

@@ -8,7 +8,7 @@ ghost use Rattle.seize_calls.specs.Slots.{IsPassFor};
 ghost use Rattle.seize_words.specs.Joined.{words_book};
 ghost use Rattle.seize_parts.specs.Enders.{IsEnderOf};
 ghost use Rattle.seize_parts.specs.Laws.{HaveContents};
-ghost use Rattle.seize_parts.specs.Numbers.{AreNumbers, IsLockFor};
+ghost use Rattle.seize_parts.specs.Numbers.{AreNumbers, IsLockFor, KnowsLeast};
 ghost use Rattle.seize_parts.specs.Resting.{AreLeft, ComesToRest, LiesSomewhere};
 
 use crate::alone::place::{Place, room};
@@ -16,7 +16,6 @@ use crate::alone::shelving::found;
 use crate::ender::Ender;
 use crate::numbers::Numbers;
 use crate::reclaim::Reclaim;
-use seize_cells::LockWork;
 use seize_words::book::Pass;
 use seize_words::words::Words;
 use std::alloc::Global;
@@ -34,9 +33,32 @@ pub struct Found<T: Drop> {
 
 impl<T: Drop> Numbers<T> {
     /// What is found of the slots. Each that lies here takes its number again, and the numbers go back, so that the pass sees what the list
-    /// says of each; and what was left of each other one comes into its place. It takes memory for places only where a number is in use,
-    /// and waits for nobody.
-    pub fn rest(&mut self, words: &Words<T>, alloc: Global, pass: &mut Pass) -> Found<T>
+    /// says of each; and what was left of each other one comes into its place. With each value that was named a content is lent. It takes
+    /// memory for places only where a number is in use, and waits for nobody.
+    pub fn come_to_rest<R: Reclaim<T>>(
+        &mut self,
+        words: &Words<T>,
+        ender: &Ender<T, R>,
+        alloc: Global,
+        pass: &mut Pass,
+    ) -> Found<T>
+        requires numbers { AreNumbers self.old × IsLockFor words.now self.old }
+        requires pass { IsPassFor words.now pass.old × IsSole pass.old.id }
+        requires ender { IsEnderOf words.now ender.now }
+        ensures numbers { AreNumbers self.new × (self.new.book.name ≡ words_book words.now) × KnowsLeast self.new }
+        ensures rests { ComesToRest pass.old pass.new result }
+        ensures contents { HaveContents T.row.coded.code pass.new × AllSay pass.new.seen }
+    {
+        self.book.agree(&words.blocks.book);
+        let found = self.rest(words, alloc, pass);
+        self.least = 0;
+        let permit = pass.permit_for_named();
+        ender.permits.check(permit);
+        found
+    }
+
+    // So it is, but that nothing is said of contents.
+    fn rest(&mut self, words: &Words<T>, alloc: Global, pass: &mut Pass) -> Found<T>
         requires numbers { AreNumbers self.old × (self.old.book.name ≡ words_book words.now) }
         requires pass { IsPassFor words.now pass.old × IsSole pass.old.id }
         ensures numbers { AreNumbers self.new × (self.new.book ≡ self.old.book) }
@@ -112,34 +134,5 @@ impl<T: Drop> Numbers<T> {
         };
         places[n] = Some(place);
         true
-    }
-}
-
-/// Each slot is asked: the work of a caller who is to have the collector alone.
-#[derive(Drop)]
-pub struct Resting<'a, T: Drop, R: Reclaim<T>> {
-    /// The words of the collector.
-    pub words: &'a Words<T>,
-    /// Its reclaimer, with the lists of its book.
-    pub ender: &'a Ender<T, R>,
-    /// Where places take their memory.
-    pub alloc: Global,
-}
-
-impl<'a, 'p, T: Drop, R: Reclaim<T>> LockWork<Numbers<T>, Pass<'p>, Found<T>>
-    for Resting<'a, T, R> {
-    ghost may = { λ work numbers pass. IsLockFor work.words.now numbers × IsPassFor work.words.now pass × IsSole pass.id
-        × IsEnderOf work.words.now work.ender.now };
-
-    ghost gives = { λ work numbers numbers' pass pass' result. ComesToRest pass pass' result × HaveContents T.row.coded.code pass'
-        × AllSay pass'.seen };
-
-    fn work(self, numbers: &mut Numbers<T>, pass: &mut Pass<'p>) -> Found<T> {
-        numbers.book.agree(&self.words.blocks.book);
-        let found = numbers.rest(self.words, self.alloc, pass);
-        numbers.least = 0;
-        let permit = pass.permit_for_named();
-        self.ender.permits.check(permit);
-        found
     }
 }

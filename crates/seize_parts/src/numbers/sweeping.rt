@@ -17,7 +17,6 @@ ghost use Rattle.seize_parts.specs.Sweeps.{AreOff, AreOffBelow, LiesHere, IsLedB
 
 use crate::alone::apart::{flush_into, leave_into};
 use crate::alone::aside::Aside;
-use crate::alone::calls::Heard;
 use crate::alone::draining::drain;
 use crate::ender::Ender;
 use crate::numbers::Numbers;
@@ -256,6 +255,15 @@ impl<T: Drop> Numbers<T> {
             self.slots[n] = Some(slot);
         }
     }
+}
+
+/// What is lent beside the numbers where they are swept.
+#[derive(Drop)]
+pub struct Heard<'h, P, W> {
+    /// The pass.
+    pub pass: &'h mut P,
+    /// Who is told.
+    pub watch: &'h mut W,
 }
 
 /// All slots that nobody has are swept: the work of a caller who has the collector alone.

@@ -2,6 +2,7 @@
 //! numbers go back, the last one first. A watch is told of each value that goes, and what the reclaimer puts waits in a queue. That goes
 //! in the end.
 ghost use Rattle.std.specs.Prelude.{◌≡◌, ℕ, None, get_or};
+ghost use mathlib.Core.List.{IsPrefix};
 ghost use Rattle.seize_book.specs.Book.{IsLegalList};
 ghost use Rattle.seize_book.specs.Passes.{IsSamePass};
 ghost use Rattle.seize_book.specs.Tokens.{IsSole, start};
@@ -14,7 +15,7 @@ ghost use Rattle.seize_calls.specs.Slots.{IsPassFor};
 ghost use Rattle.seize_alone.specs.Reclaiming.{in_turn};
 ghost use Rattle.seize_parts.specs.Aparts.{Goes, GoesAll, IsSomeHeld, KeepsAside, MayGo};
 ghost use Rattle.seize_parts.specs.Enders.{IsEnderOf};
-ghost use Rattle.seize_parts.specs.Numbers.{AreNumbers, IsLockFor};
+ghost use Rattle.seize_parts.specs.Numbers.{AreNumbers, KnowsLeast};
 
 use crate::alone::aside::Aside;
 use crate::alone::draining::drain;
@@ -23,7 +24,6 @@ use crate::ender::Ender;
 use crate::numbers::Numbers;
 use crate::reclaim::{Reclaim, Watch};
 use seize_calls::further::Further;
-use seize_cells::LockWork;
 use seize_words::book::Pass;
 use seize_words::words::Words;
 
@@ -78,54 +78,40 @@ impl<T: Drop> Numbers<T> {
         self.reclaim_in_turn(words, ender, places, aside, pass);
         drain(words, ender, &mut aside.queue, aside.watch, pass);
     }
-}
 
-/// What is lent beside the numbers where all is reclaimed.
-#[derive(Drop)]
-pub struct Turns<'h, 'l, 'w, P, T: Drop, W> {
-    /// The pass.
-    pub pass: &'h mut P,
-    /// The places of slots in use.
-    pub places: &'l mut Vec<Option<Place<T>>>,
-    /// Who is told.
-    pub watch: &'w mut W,
-}
-
-/// All is reclaimed: the work of a caller who has the collector alone.
-#[derive(Drop)]
-pub struct Turning<'a, T: Drop, R: Reclaim<T>> {
-    /// The words of the collector.
-    pub words: &'a Words<T>,
-    /// Its reclaimer.
-    pub ender: &'a Ender<T, R>,
-}
-
-impl<'a, 'h, 'l, 'w, 'p, T: Drop, R: Reclaim<T>, W: Watch<T>> LockWork<
-    Numbers<T>,
-    Turns<'h, 'l, 'w, Pass<'p>, T, W>,
-    (),
-> for Turning<'a, T, R> {
-    ghost may = { λ work numbers turns. IsLockFor work.words.now numbers × IsPassFor work.words.now turns.pass.now
-        × IsSole turns.pass.now.id × IsLegalList (start turns.pass.now.name) turns.pass.now.seen
-        × IsSomeHeld T.row.coded.code turns.pass.now (MayGo turns.pass.now turns.places.now.items)
-        × IsEnderOf work.words.now work.ender.now };
-
-    ghost gives = { λ work numbers numbers' turns turns' _. (turns'.pass.ghost_name ≡ turns.pass.ghost_name)
-        × (turns'.places.ghost_name ≡ turns.places.ghost_name) × (turns'.watch.ghost_name ≡ turns.watch.ghost_name)
-        × ((s : ℕ) → get_or turns'.places.now.items s None ≡ None) × IsSamePass turns.pass.now turns'.pass.now
-        × GoesAll T.row.coded.code R.puts R.weight W.told (MayGo turns.pass.now turns.places.now.items)
-        turns.pass.now turns'.pass.now (W.seen turns.watch.now) (W.seen turns'.watch.now) };
-
-    fn work(self, numbers: &mut Numbers<T>, turns: &mut Turns<'h, 'l, 'w, Pass<'p>, T, W>) {
-        let Turning { words, ender } = self;
-        numbers.book.agree(&words.blocks.book);
-        let queue = Further::new(turns.pass);
+    /// All is reclaimed, also what the reclaimer puts, and the watch is told of each value that is gone. Nothing lies in any place then. It
+    /// takes no memory and waits for nobody, but for what watch and reclaimer do.
+    pub fn clear<R: Reclaim<T>, W: Watch<T>>(
+        &mut self,
+        words: &Words<T>,
+        ender: &Ender<T, R>,
+        places: &mut Vec<Option<Place<T>>>,
+        pass: &mut Pass,
+        watch: &mut W,
+    )
+        requires numbers { AreNumbers self.old × (self.old.book.name ≡ words_book words.now) }
+        requires pass { IsPassFor words.now pass.old × IsSole pass.old.id }
+        requires held { IsSomeHeld T.row.coded.code pass.old (MayGo pass.old places.old.items) }
+        requires ender { IsEnderOf words.now ender.now }
+        ensures numbers { AreNumbers self.new × (self.new.book ≡ self.old.book) × KnowsLeast self.new }
+        ensures places { (s : ℕ) → get_or places.new.items s None ≡ None }
+        ensures grows { IsSamePass pass.old pass.new × IsPrefix pass.old.seen pass.new.seen }
+        ensures goes { GoesAll T.row.coded.code R.puts R.weight W.told (MayGo pass.old places.old.items) pass.old pass.new
+            (W.seen watch.old) (W.seen watch.new) }
+        ensures same_reference { watch.exit.ghost_name ≡ watch.entry.ghost_name }
+    {
+        let mut before = self.book.again();
+        before.learn(pass);
+        pass.learn(&before);
+        let queue = Further::new(pass);
         let mut aside = Aside {
             queue,
-            watch: &mut *turns.watch,
+            watch: &mut *watch,
         };
-        numbers.reclaim_all(words, ender, turns.places, &mut aside, turns.pass);
-        numbers.least = 0;
+        self.reclaim_all(words, ender, places, &mut aside, pass);
+        self.least = 0;
+        // The list goes on from what it was.
+        pass.learn(&before);
         // It is taken apart, and so what the watch has seen is known.
         let Aside {
             queue: _queue,

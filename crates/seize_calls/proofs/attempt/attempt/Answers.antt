@@ -4,78 +4,69 @@ use Rattle.seize_book.specs.Adding.{private}
 use Rattle.seize_book.specs.Ledger.{with_list}
 use Rattle.seize_book.specs.Private.{labels_of}
 use Rattle.seize_book.specs.Slots.{slot_number}
-use Rattle.seize_book.proofs.Facts.{same_twice}
 use Rattle.seize_words.proofs.Facts.{knows_noted}
-use Rattle.seize_calls.specs.Batches.{AreRemarked, keys_in, slot_marks_in, without_slots}
+use Rattle.seize_calls.specs.Batches.{keys_in, slot_marks_in, without_slots}
 use Rattle.seize_calls.specs.Numbered.{ends_at, is_count_of, starts_at}
-use Rattle.seize_calls.proofs.Sole.{may_same}
-use Rattle.seize_calls.proofs.Attempts.{adds, book_one, book_three, has_front, inserts, its_last, its_values, retires, same_last, same_one, stays_so, told_three, values_are}
+use Rattle.seize_calls.proofs.Attempts.{Detached, adds, book_three, has_front, inserts, on_one, on_three, retires, stays_so, told_three, values_are}
 use Rattle.seize_calls.proofs.Batches.{remarked_labels, renewed_labels}
+use Rattle.seize_calls.proofs.Holders.{key_on}
+use Rattle.seize_calls.proofs.Sole.{may_same}
 use Rattle.seize_calls.proofs.attempt.attempt.Goals as goal
 
 pub returns-in-TooMany-clause-ends : goal.returns-in-TooMany-clause-ends
 returns-in-TooMany-clause-ends g c = λ at. (stays_so at c.args.pass.now c.mark.new.key c.mark.new.pass (slot_marks_in c.mark.new.batch) (c.in-TooMany.ensures.marks at), c.in-TooMany.ensures.batch)
+
+pub detach-requires-clause-book : goal.detach-requires-clause-book
+detach-requires-clause-book g c = let on = (c.in-Ready.ensures.marks c.requires.begins).on in on.its.0 ∙ c.requires.key.0.its ∙ sym on.same.0
 
 pub detach-requires-clause-next : goal.detach-requires-clause-next
 detach-requires-clause-next g c = (c.in-Ready.ensures.marks c.requires.begins).stands.0
 
 pub insert_each-won-requires : goal.insert_each-won-requires
 insert_each-won-requires g c =
-    let at = c.requires.begins in
-    let key = c.mark.new.key in let pass = c.mark.new.pass in let ready = c.in-Ready in let held = c.mark.new.batch.values.keys.held in let front = c.mark.new.batch.first in
-    let are = remarked_labels held c.args.batch.now.values.keys.held ready.ensures.batch.1 ∙ c.requires.batch.1 in
-    let same = (same_one c.args.key.now at c.args.pass.now key pass held front ready.marked (ready.ensures.marks at) ready.ensures.book.0 ready.ensures.knows ready.ensures.book.1 (ready.ensures.book.0 ∙ ready.ensures.book.1.0 ∙ sym c.requires.book.0, ready.ensures.book.2) are c.mark.new.batch.front c.detach.new.self c.detach.new.pass c.detach.ensures.noted c.detach.ensures.batch).0 in (
+    let at = c.requires.begins in let ready = c.in-Ready in let mark = c.mark.new in let one = c.detach.new in let key = c.args.key.now in let pass = c.args.pass.now in let on = (ready.ensures.marks at).on in
+    let d : Detached at pass mark.key mark.pass mark.batch ready.marked one.self one.pass = record { ends = ready.ensures.marks at; book = on.its.0 ∙ c.requires.key.0.its ∙ sym on.same.0; knows = ready.ensures.knows; are = remarked_labels mark.batch.values.keys.held c.args.batch.now.values.keys.held ready.ensures.batch.1 ∙ c.requires.batch.1; notes = c.detach.ensures.noted; detaches = c.detach.ensures.batch } in
+    let so = on_one d in (
       lit< tt,
       (
-        may_same (g.M.Manner.may c.args.manner.now) c.args.pass.now c.detach.new.pass (same_twice c.args.pass.now pass c.detach.new.pass ready.ensures.book.1 c.detach.ensures.noted.0) c.requires.may,
         (
-          (book_one c.args.key.now at c.args.pass.now key pass held front ready.marked (ready.ensures.marks at) ready.ensures.book.0 ready.ensures.knows ready.ensures.book.1 (ready.ensures.book.0 ∙ ready.ensures.book.1.0 ∙ sym c.requires.book.0, ready.ensures.book.2) are c.mark.new.batch.front c.detach.new.self c.detach.new.pass c.detach.ensures.noted c.detach.ensures.batch, c.requires.book.1 ∙ sym same, c.requires.book.2 ∙ sym same),
-          (
-            knows_noted key c.detach.new.self pass c.detach.new.pass (private pass (Detach (slot_number key))) c.detach.ensures.noted,
-            (
-              (ready.ensures.batch.0 ∙ c.requires.batch.0 ∙ sym same, (ready.ensures.marks at).stands.2),
-              (inserts c.args.key.now at c.args.pass.now key pass held front ready.marked (ready.ensures.marks at) ready.ensures.book.0 ready.ensures.knows ready.ensures.book.1 (ready.ensures.book.0 ∙ ready.ensures.book.1.0 ∙ sym c.requires.book.0, ready.ensures.book.2) are c.mark.new.batch.front c.detach.new.self c.detach.new.pass c.detach.ensures.noted c.detach.ensures.batch, its_values c.args.key.now at c.args.pass.now key pass held front ready.marked (ready.ensures.marks at) ready.ensures.book.0 ready.ensures.knows ready.ensures.book.1 (ready.ensures.book.0 ∙ ready.ensures.book.1.0 ∙ sym c.requires.book.0, ready.ensures.book.2) are c.mark.new.batch.front c.detach.new.self c.detach.new.pass c.detach.ensures.noted c.detach.ensures.batch),
-            ),
-          ),
+          key_on c.args.words.now key one.self pass one.pass c.requires.key.0 so (knows_noted mark.key one.self mark.pass one.pass (private mark.pass (Detach (slot_number mark.key))) c.detach.ensures.noted),
+          may_same (g.M.Manner.may c.args.manner.now) pass one.pass so.same c.requires.key.1,
         ),
+        ((ready.ensures.batch.0 ∙ c.requires.batch.0 ∙ sym so.same.0, (ready.ensures.marks at).stands.2), inserts d),
       ),
     )
 
 pub header-header-requires : goal.header-header-requires
 header-header-requires g c =
-    let at = c.requires.begins in
-    let key = c.mark.new.key in let pass = c.mark.new.pass in let ready = c.in-Ready in let held = c.mark.new.batch.values.keys.held in let front = c.mark.new.batch.first in
-    let are = remarked_labels held c.args.batch.now.values.keys.held ready.ensures.batch.1 ∙ c.requires.batch.1 in
-    let all = (c.insert_each-won.ensures.all (inserts c.args.key.now at c.args.pass.now key pass held front ready.marked (ready.ensures.marks at) ready.ensures.book.0 ready.ensures.knows ready.ensures.book.1 (ready.ensures.book.0 ∙ ready.ensures.book.1.0 ∙ sym c.requires.book.0, ready.ensures.book.2) are c.mark.new.batch.front c.detach.new.self c.detach.new.pass c.detach.ensures.noted c.detach.ensures.batch)) in (
-      lit< tt,
-      (c.requires.book.2 ∙ sym (same_one c.args.key.now at c.args.pass.now key pass held front ready.marked (ready.ensures.marks at) ready.ensures.book.0 ready.ensures.knows ready.ensures.book.1 (ready.ensures.book.0 ∙ ready.ensures.book.1.0 ∙ sym c.requires.book.0, ready.ensures.book.2) are c.mark.new.batch.front c.detach.new.self c.detach.new.pass c.detach.ensures.noted c.detach.ensures.batch).0 ∙ sym all.keeps.same.0, has_front c.args.key.now at c.args.pass.now key pass held front ready.marked (ready.ensures.marks at) ready.ensures.book.0 ready.ensures.knows ready.ensures.book.1 (ready.ensures.book.0 ∙ ready.ensures.book.1.0 ∙ sym c.requires.book.0, ready.ensures.book.2) are c.mark.new.batch.front c.detach.new.self c.detach.new.pass c.detach.ensures.noted c.detach.ensures.batch c.insert_each-won.new.key c.insert_each-won.new.pass c.insert_each-won.result (c.insert_each-won.ensures.all (inserts c.args.key.now at c.args.pass.now key pass held front ready.marked (ready.ensures.marks at) ready.ensures.book.0 ready.ensures.knows ready.ensures.book.1 (ready.ensures.book.0 ∙ ready.ensures.book.1.0 ∙ sym c.requires.book.0, ready.ensures.book.2) are c.mark.new.batch.front c.detach.new.self c.detach.new.pass c.detach.ensures.noted c.detach.ensures.batch)) c.insert_each-won.ensures.knows),
-    )
+    let at = c.requires.begins in let ready = c.in-Ready in let mark = c.mark.new in let one = c.detach.new in let key = c.args.key.now in let pass = c.args.pass.now in let on = (ready.ensures.marks at).on in
+    let d : Detached at pass mark.key mark.pass mark.batch ready.marked one.self one.pass = record { ends = ready.ensures.marks at; book = on.its.0 ∙ c.requires.key.0.its ∙ sym on.same.0; knows = ready.ensures.knows; are = remarked_labels mark.batch.values.keys.held c.args.batch.now.values.keys.held ready.ensures.batch.1 ∙ c.requires.batch.1; notes = c.detach.ensures.noted; detaches = c.detach.ensures.batch } in
+    let two = c.insert_each-won in let all = two.ensures.all (inserts d) in (lit< tt, (c.requires.key.0.of.0 ∙ sym (on_one d).same.0 ∙ sym all.keeps.on.same.0, has_front d all two.ensures.knows))
 
 pub add-requires-clause-book : goal.add-requires-clause-book
 add-requires-clause-book g c =
-    let at = c.requires.begins in
-    let key = c.mark.new.key in let pass = c.mark.new.pass in let ready = c.in-Ready in let held = c.mark.new.batch.values.keys.held in let front = c.mark.new.batch.first in
-    let are = remarked_labels held c.args.batch.now.values.keys.held ready.ensures.batch.1 ∙ c.requires.batch.1 in
-    let all = (c.insert_each-won.ensures.all (inserts c.args.key.now at c.args.pass.now key pass held front ready.marked (ready.ensures.marks at) ready.ensures.book.0 ready.ensures.knows ready.ensures.book.1 (ready.ensures.book.0 ∙ ready.ensures.book.1.0 ∙ sym c.requires.book.0, ready.ensures.book.2) are c.mark.new.batch.front c.detach.new.self c.detach.new.pass c.detach.ensures.noted c.detach.ensures.batch)) in (
-      book_three c.args.key.now at c.args.pass.now key pass held front ready.marked (ready.ensures.marks at) ready.ensures.book.0 ready.ensures.knows ready.ensures.book.1 (ready.ensures.book.0 ∙ ready.ensures.book.1.0 ∙ sym c.requires.book.0, ready.ensures.book.2) are c.mark.new.batch.front c.detach.new.self c.detach.new.pass c.detach.ensures.noted c.detach.ensures.batch c.insert_each-won.new.key c.insert_each-won.new.pass c.insert_each-won.result (c.insert_each-won.ensures.all (inserts c.args.key.now at c.args.pass.now key pass held front ready.marked (ready.ensures.marks at) ready.ensures.book.0 ready.ensures.knows ready.ensures.book.1 (ready.ensures.book.0 ∙ ready.ensures.book.1.0 ∙ sym c.requires.book.0, ready.ensures.book.2) are c.mark.new.batch.front c.detach.new.self c.detach.new.pass c.detach.ensures.noted c.detach.ensures.batch)) c.insert_each-won.ensures.knows c.header-header.new.pass c.header-header.result.now c.header-header.ensures.looks c.header-header.ensures.header,
-      c.header-header.result.now.counted ∙ c.header-header.ensures.header.0,
-      c.insert_each-won.ensures.batch.0 ∙ ready.ensures.batch.0 ∙ c.requires.batch.0 ∙ sym (same_one c.args.key.now at c.args.pass.now key pass held front ready.marked (ready.ensures.marks at) ready.ensures.book.0 ready.ensures.knows ready.ensures.book.1 (ready.ensures.book.0 ∙ ready.ensures.book.1.0 ∙ sym c.requires.book.0, ready.ensures.book.2) are c.mark.new.batch.front c.detach.new.self c.detach.new.pass c.detach.ensures.noted c.detach.ensures.batch).0 ∙ sym all.keeps.same.0 ∙ sym c.header-header.ensures.looks.same.0,
+    let at = c.requires.begins in let ready = c.in-Ready in let mark = c.mark.new in let one = c.detach.new in let key = c.args.key.now in let pass = c.args.pass.now in let on = (ready.ensures.marks at).on in
+    let d : Detached at pass mark.key mark.pass mark.batch ready.marked one.self one.pass = record { ends = ready.ensures.marks at; book = on.its.0 ∙ c.requires.key.0.its ∙ sym on.same.0; knows = ready.ensures.knows; are = remarked_labels mark.batch.values.keys.held c.args.batch.now.values.keys.held ready.ensures.batch.1 ∙ c.requires.batch.1; notes = c.detach.ensures.noted; detaches = c.detach.ensures.batch } in
+    let two = c.insert_each-won in let all = two.ensures.all (inserts d) in let three = c.header-header in
+    let on3 = on_three d all two.ensures.knows three.new.pass three.result.now three.ensures.looks three.ensures.header in (
+      book_three d all two.ensures.knows three.new.pass three.result.now three.ensures.looks three.ensures.header,
+      three.result.now.counted ∙ three.ensures.header.0,
+      two.ensures.batch.0 ∙ ready.ensures.batch.0 ∙ c.requires.batch.0 ∙ sym on3.same.0,
     )
 
 pub add-requires-clause-adds : goal.add-requires-clause-adds
 add-requires-clause-adds g c =
-    let at = c.requires.begins in
-    let key = c.mark.new.key in let pass = c.mark.new.pass in let ready = c.in-Ready in let held = c.mark.new.batch.values.keys.held in let front = c.mark.new.batch.first in
-    let are = remarked_labels held c.args.batch.now.values.keys.held ready.ensures.batch.1 ∙ c.requires.batch.1 in
-    (adds c.args.key.now at c.args.pass.now key pass held front ready.marked (ready.ensures.marks at) ready.ensures.book.0 ready.ensures.knows ready.ensures.book.1 (ready.ensures.book.0 ∙ ready.ensures.book.1.0 ∙ sym c.requires.book.0, ready.ensures.book.2) are c.mark.new.batch.front c.detach.new.self c.detach.new.pass c.detach.ensures.noted c.detach.ensures.batch c.insert_each-won.new.key c.insert_each-won.new.pass c.insert_each-won.result (c.insert_each-won.ensures.all (inserts c.args.key.now at c.args.pass.now key pass held front ready.marked (ready.ensures.marks at) ready.ensures.book.0 ready.ensures.knows ready.ensures.book.1 (ready.ensures.book.0 ∙ ready.ensures.book.1.0 ∙ sym c.requires.book.0, ready.ensures.book.2) are c.mark.new.batch.front c.detach.new.self c.detach.new.pass c.detach.ensures.noted c.detach.ensures.batch)) c.insert_each-won.ensures.knows c.header-header.new.pass c.header-header.result.now c.header-header.ensures.looks c.header-header.ensures.header, ap labels_of c.insert_each-won.ensures.batch.1 ∙ are ∙ sym (values_are c.args.key.now at c.args.pass.now key pass held front ready.marked (ready.ensures.marks at) ready.ensures.book.0 ready.ensures.knows ready.ensures.book.1 (ready.ensures.book.0 ∙ ready.ensures.book.1.0 ∙ sym c.requires.book.0, ready.ensures.book.2) are c.mark.new.batch.front c.detach.new.self c.detach.new.pass c.detach.ensures.noted c.detach.ensures.batch c.insert_each-won.new.key c.insert_each-won.new.pass c.insert_each-won.result (c.insert_each-won.ensures.all (inserts c.args.key.now at c.args.pass.now key pass held front ready.marked (ready.ensures.marks at) ready.ensures.book.0 ready.ensures.knows ready.ensures.book.1 (ready.ensures.book.0 ∙ ready.ensures.book.1.0 ∙ sym c.requires.book.0, ready.ensures.book.2) are c.mark.new.batch.front c.detach.new.self c.detach.new.pass c.detach.ensures.noted c.detach.ensures.batch)) c.insert_each-won.ensures.knows c.header-header.new.pass c.header-header.result.now c.header-header.ensures.looks c.header-header.ensures.header), c.insert_each-won.new.batch.closed)
+    let at = c.requires.begins in let ready = c.in-Ready in let mark = c.mark.new in let one = c.detach.new in let key = c.args.key.now in let pass = c.args.pass.now in let on = (ready.ensures.marks at).on in
+    let d : Detached at pass mark.key mark.pass mark.batch ready.marked one.self one.pass = record { ends = ready.ensures.marks at; book = on.its.0 ∙ c.requires.key.0.its ∙ sym on.same.0; knows = ready.ensures.knows; are = remarked_labels mark.batch.values.keys.held c.args.batch.now.values.keys.held ready.ensures.batch.1 ∙ c.requires.batch.1; notes = c.detach.ensures.noted; detaches = c.detach.ensures.batch } in
+    let two = c.insert_each-won in let all = two.ensures.all (inserts d) in let three = c.header-header in
+    (adds d all two.ensures.knows three.new.pass three.result.now three.ensures.looks three.ensures.header, ap labels_of two.ensures.batch.1 ∙ d.are ∙ sym (values_are d all two.ensures.knows three.new.pass three.result.now three.ensures.looks three.ensures.header), two.new.batch.closed)
 
 pub add-requires-clause-told : goal.add-requires-clause-told
 add-requires-clause-told g c =
-    let at = c.requires.begins in
-    let key = c.mark.new.key in let pass = c.mark.new.pass in let ready = c.in-Ready in let held = c.mark.new.batch.values.keys.held in let front = c.mark.new.batch.first in
-    let are = remarked_labels held c.args.batch.now.values.keys.held ready.ensures.batch.1 ∙ c.requires.batch.1 in
-    let remarked : AreRemarked (keys_in c.args.batch.now) c.insert_each-won.new.batch.values = (c.insert_each-won.ensures.batch.0 ∙ ready.ensures.batch.0, ap without_slots c.insert_each-won.ensures.batch.1 ∙ ready.ensures.batch.1) in
-    told_three c.args.key.now at c.args.pass.now key pass held front ready.marked (ready.ensures.marks at) ready.ensures.book.0 ready.ensures.knows ready.ensures.book.1 (ready.ensures.book.0 ∙ ready.ensures.book.1.0 ∙ sym c.requires.book.0, ready.ensures.book.2) are c.mark.new.batch.front c.detach.new.self c.detach.new.pass c.detach.ensures.noted c.detach.ensures.batch c.insert_each-won.new.key c.insert_each-won.new.pass c.insert_each-won.result (c.insert_each-won.ensures.all (inserts c.args.key.now at c.args.pass.now key pass held front ready.marked (ready.ensures.marks at) ready.ensures.book.0 ready.ensures.knows ready.ensures.book.1 (ready.ensures.book.0 ∙ ready.ensures.book.1.0 ∙ sym c.requires.book.0, ready.ensures.book.2) are c.mark.new.batch.front c.detach.new.self c.detach.new.pass c.detach.ensures.noted c.detach.ensures.batch)) c.insert_each-won.ensures.knows c.header-header.new.pass c.header-header.result.now c.header-header.ensures.looks c.header-header.ensures.header (keys_in c.args.batch.now) c.insert_each-won.new.batch.values remarked c.requires.batch.2
+    let at = c.requires.begins in let ready = c.in-Ready in let mark = c.mark.new in let one = c.detach.new in let key = c.args.key.now in let pass = c.args.pass.now in let on = (ready.ensures.marks at).on in
+    let d : Detached at pass mark.key mark.pass mark.batch ready.marked one.self one.pass = record { ends = ready.ensures.marks at; book = on.its.0 ∙ c.requires.key.0.its ∙ sym on.same.0; knows = ready.ensures.knows; are = remarked_labels mark.batch.values.keys.held c.args.batch.now.values.keys.held ready.ensures.batch.1 ∙ c.requires.batch.1; notes = c.detach.ensures.noted; detaches = c.detach.ensures.batch } in
+    let two = c.insert_each-won in let all = two.ensures.all (inserts d) in let three = c.header-header in
+    told_three d all two.ensures.knows three.new.pass three.result.now three.ensures.looks three.ensures.header (keys_in c.args.batch.now) two.new.batch.values (two.ensures.batch.0 ∙ ready.ensures.batch.0, ap without_slots two.ensures.batch.1 ∙ ready.ensures.batch.1) c.requires.batch.2
 
 -- the same values
 pub invariant_of-batch : goal.invariant_of-batch
@@ -90,15 +81,6 @@ invariant_of-batch g c =
       closed = c.if-add.ensures.keys.3;
     }
 
-pub returns-then-add-clause-book : goal.returns-then-add-clause-book
-returns-then-add-clause-book g c =
-    let at = c.requires.begins in
-    let key = c.mark.new.key in let pass = c.mark.new.pass in let ready = c.in-Ready in let held = c.mark.new.batch.values.keys.held in let front = c.mark.new.batch.first in
-    let are = remarked_labels held c.args.batch.now.values.keys.held ready.ensures.batch.1 ∙ c.requires.batch.1 in
-    let remarked : AreRemarked (keys_in c.args.batch.now) c.insert_each-won.new.batch.values = (c.insert_each-won.ensures.batch.0 ∙ ready.ensures.batch.0, ap without_slots c.insert_each-won.ensures.batch.1 ∙ ready.ensures.batch.1) in
-    let same = same_last c.args.key.now at c.args.pass.now key pass held front ready.marked (ready.ensures.marks at) ready.ensures.book.0 ready.ensures.knows ready.ensures.book.1 (ready.ensures.book.0 ∙ ready.ensures.book.1.0 ∙ sym c.requires.book.0, ready.ensures.book.2) are c.mark.new.batch.front c.detach.new.self c.detach.new.pass c.detach.ensures.noted c.detach.ensures.batch c.insert_each-won.new.key c.insert_each-won.new.pass c.insert_each-won.result (c.insert_each-won.ensures.all (inserts c.args.key.now at c.args.pass.now key pass held front ready.marked (ready.ensures.marks at) ready.ensures.book.0 ready.ensures.knows ready.ensures.book.1 (ready.ensures.book.0 ∙ ready.ensures.book.1.0 ∙ sym c.requires.book.0, ready.ensures.book.2) are c.mark.new.batch.front c.detach.new.self c.detach.new.pass c.detach.ensures.noted c.detach.ensures.batch)) c.insert_each-won.ensures.knows c.header-header.new.pass c.header-header.result.now c.header-header.ensures.looks c.header-header.ensures.header (keys_in c.args.batch.now) c.insert_each-won.new.batch.values remarked c.add.new.values c.add.new.key c.add.new.pass true c.if-add.ensures.counts (c.if-add.ensures.gives (adds c.args.key.now at c.args.pass.now key pass held front ready.marked (ready.ensures.marks at) ready.ensures.book.0 ready.ensures.knows ready.ensures.book.1 (ready.ensures.book.0 ∙ ready.ensures.book.1.0 ∙ sym c.requires.book.0, ready.ensures.book.2) are c.mark.new.batch.front c.detach.new.self c.detach.new.pass c.detach.ensures.noted c.detach.ensures.batch c.insert_each-won.new.key c.insert_each-won.new.pass c.insert_each-won.result (c.insert_each-won.ensures.all (inserts c.args.key.now at c.args.pass.now key pass held front ready.marked (ready.ensures.marks at) ready.ensures.book.0 ready.ensures.knows ready.ensures.book.1 (ready.ensures.book.0 ∙ ready.ensures.book.1.0 ∙ sym c.requires.book.0, ready.ensures.book.2) are c.mark.new.batch.front c.detach.new.self c.detach.new.pass c.detach.ensures.noted c.detach.ensures.batch)) c.insert_each-won.ensures.knows c.header-header.new.pass c.header-header.result.now c.header-header.ensures.looks c.header-header.ensures.header)) c.if-add.ensures.keys in let its = its_last c.args.key.now at c.args.pass.now key pass held front ready.marked (ready.ensures.marks at) ready.ensures.book.0 ready.ensures.knows ready.ensures.book.1 (ready.ensures.book.0 ∙ ready.ensures.book.1.0 ∙ sym c.requires.book.0, ready.ensures.book.2) are c.mark.new.batch.front c.detach.new.self c.detach.new.pass c.detach.ensures.noted c.detach.ensures.batch c.insert_each-won.new.key c.insert_each-won.new.pass c.insert_each-won.result (c.insert_each-won.ensures.all (inserts c.args.key.now at c.args.pass.now key pass held front ready.marked (ready.ensures.marks at) ready.ensures.book.0 ready.ensures.knows ready.ensures.book.1 (ready.ensures.book.0 ∙ ready.ensures.book.1.0 ∙ sym c.requires.book.0, ready.ensures.book.2) are c.mark.new.batch.front c.detach.new.self c.detach.new.pass c.detach.ensures.noted c.detach.ensures.batch)) c.insert_each-won.ensures.knows c.header-header.new.pass c.header-header.result.now c.header-header.ensures.looks c.header-header.ensures.header (keys_in c.args.batch.now) c.insert_each-won.new.batch.values remarked c.add.new.values c.add.new.key c.add.new.pass true c.if-add.ensures.counts (c.if-add.ensures.gives (adds c.args.key.now at c.args.pass.now key pass held front ready.marked (ready.ensures.marks at) ready.ensures.book.0 ready.ensures.knows ready.ensures.book.1 (ready.ensures.book.0 ∙ ready.ensures.book.1.0 ∙ sym c.requires.book.0, ready.ensures.book.2) are c.mark.new.batch.front c.detach.new.self c.detach.new.pass c.detach.ensures.noted c.detach.ensures.batch c.insert_each-won.new.key c.insert_each-won.new.pass c.insert_each-won.result (c.insert_each-won.ensures.all (inserts c.args.key.now at c.args.pass.now key pass held front ready.marked (ready.ensures.marks at) ready.ensures.book.0 ready.ensures.knows ready.ensures.book.1 (ready.ensures.book.0 ∙ ready.ensures.book.1.0 ∙ sym c.requires.book.0, ready.ensures.book.2) are c.mark.new.batch.front c.detach.new.self c.detach.new.pass c.detach.ensures.noted c.detach.ensures.batch)) c.insert_each-won.ensures.knows c.header-header.new.pass c.header-header.result.now c.header-header.ensures.looks c.header-header.ensures.header)) c.if-add.ensures.keys in
-    (its.0 ∙ c.requires.book.0 ∙ sym same.0, same, its.1)
-
 pub returns-then-add-clause-knows : goal.returns-then-add-clause-knows
 returns-then-add-clause-knows g c =
     let key = c.insert_each-won.new.key in
@@ -106,19 +88,11 @@ returns-then-add-clause-knows g c =
 
 pub returns-then-add-clause-ends : goal.returns-then-add-clause-ends
 returns-then-add-clause-ends g c = λ at.
-    let key = c.mark.new.key in let pass = c.mark.new.pass in let ready = c.in-Ready in let held = c.mark.new.batch.values.keys.held in let front = c.mark.new.batch.first in
-    let are = remarked_labels held c.args.batch.now.values.keys.held ready.ensures.batch.1 ∙ c.requires.batch.1 in
-    let remarked : AreRemarked (keys_in c.args.batch.now) c.insert_each-won.new.batch.values = (c.insert_each-won.ensures.batch.0 ∙ ready.ensures.batch.0, ap without_slots c.insert_each-won.ensures.batch.1 ∙ ready.ensures.batch.1) in
-    retires c.args.key.now at c.args.pass.now key pass held front ready.marked (ready.ensures.marks at) ready.ensures.book.0 ready.ensures.knows ready.ensures.book.1 (ready.ensures.book.0 ∙ ready.ensures.book.1.0 ∙ sym c.requires.book.0, ready.ensures.book.2) are c.mark.new.batch.front c.detach.new.self c.detach.new.pass c.detach.ensures.noted c.detach.ensures.batch c.insert_each-won.new.key c.insert_each-won.new.pass c.insert_each-won.result (c.insert_each-won.ensures.all (inserts c.args.key.now at c.args.pass.now key pass held front ready.marked (ready.ensures.marks at) ready.ensures.book.0 ready.ensures.knows ready.ensures.book.1 (ready.ensures.book.0 ∙ ready.ensures.book.1.0 ∙ sym c.requires.book.0, ready.ensures.book.2) are c.mark.new.batch.front c.detach.new.self c.detach.new.pass c.detach.ensures.noted c.detach.ensures.batch)) c.insert_each-won.ensures.knows c.header-header.new.pass c.header-header.result.now c.header-header.ensures.looks c.header-header.ensures.header (keys_in c.args.batch.now) c.insert_each-won.new.batch.values remarked c.add.new.values c.add.new.key c.add.new.pass true c.if-add.ensures.counts (c.if-add.ensures.gives (adds c.args.key.now at c.args.pass.now key pass held front ready.marked (ready.ensures.marks at) ready.ensures.book.0 ready.ensures.knows ready.ensures.book.1 (ready.ensures.book.0 ∙ ready.ensures.book.1.0 ∙ sym c.requires.book.0, ready.ensures.book.2) are c.mark.new.batch.front c.detach.new.self c.detach.new.pass c.detach.ensures.noted c.detach.ensures.batch c.insert_each-won.new.key c.insert_each-won.new.pass c.insert_each-won.result (c.insert_each-won.ensures.all (inserts c.args.key.now at c.args.pass.now key pass held front ready.marked (ready.ensures.marks at) ready.ensures.book.0 ready.ensures.knows ready.ensures.book.1 (ready.ensures.book.0 ∙ ready.ensures.book.1.0 ∙ sym c.requires.book.0, ready.ensures.book.2) are c.mark.new.batch.front c.detach.new.self c.detach.new.pass c.detach.ensures.noted c.detach.ensures.batch)) c.insert_each-won.ensures.knows c.header-header.new.pass c.header-header.result.now c.header-header.ensures.looks c.header-header.ensures.header)) c.if-add.ensures.keys c.if-add.ensures.under_guard
-
-pub returns-else-add-clause-book : goal.returns-else-add-clause-book
-returns-else-add-clause-book g c =
-    let at = c.requires.begins in
-    let key = c.mark.new.key in let pass = c.mark.new.pass in let ready = c.in-Ready in let held = c.mark.new.batch.values.keys.held in let front = c.mark.new.batch.first in
-    let are = remarked_labels held c.args.batch.now.values.keys.held ready.ensures.batch.1 ∙ c.requires.batch.1 in
-    let remarked : AreRemarked (keys_in c.args.batch.now) c.insert_each-won.new.batch.values = (c.insert_each-won.ensures.batch.0 ∙ ready.ensures.batch.0, ap without_slots c.insert_each-won.ensures.batch.1 ∙ ready.ensures.batch.1) in
-    let same = same_last c.args.key.now at c.args.pass.now key pass held front ready.marked (ready.ensures.marks at) ready.ensures.book.0 ready.ensures.knows ready.ensures.book.1 (ready.ensures.book.0 ∙ ready.ensures.book.1.0 ∙ sym c.requires.book.0, ready.ensures.book.2) are c.mark.new.batch.front c.detach.new.self c.detach.new.pass c.detach.ensures.noted c.detach.ensures.batch c.insert_each-won.new.key c.insert_each-won.new.pass c.insert_each-won.result (c.insert_each-won.ensures.all (inserts c.args.key.now at c.args.pass.now key pass held front ready.marked (ready.ensures.marks at) ready.ensures.book.0 ready.ensures.knows ready.ensures.book.1 (ready.ensures.book.0 ∙ ready.ensures.book.1.0 ∙ sym c.requires.book.0, ready.ensures.book.2) are c.mark.new.batch.front c.detach.new.self c.detach.new.pass c.detach.ensures.noted c.detach.ensures.batch)) c.insert_each-won.ensures.knows c.header-header.new.pass c.header-header.result.now c.header-header.ensures.looks c.header-header.ensures.header (keys_in c.args.batch.now) c.insert_each-won.new.batch.values remarked c.add.new.values c.add.new.key c.add.new.pass false c.if-add.ensures.counts (c.if-add.ensures.gives (adds c.args.key.now at c.args.pass.now key pass held front ready.marked (ready.ensures.marks at) ready.ensures.book.0 ready.ensures.knows ready.ensures.book.1 (ready.ensures.book.0 ∙ ready.ensures.book.1.0 ∙ sym c.requires.book.0, ready.ensures.book.2) are c.mark.new.batch.front c.detach.new.self c.detach.new.pass c.detach.ensures.noted c.detach.ensures.batch c.insert_each-won.new.key c.insert_each-won.new.pass c.insert_each-won.result (c.insert_each-won.ensures.all (inserts c.args.key.now at c.args.pass.now key pass held front ready.marked (ready.ensures.marks at) ready.ensures.book.0 ready.ensures.knows ready.ensures.book.1 (ready.ensures.book.0 ∙ ready.ensures.book.1.0 ∙ sym c.requires.book.0, ready.ensures.book.2) are c.mark.new.batch.front c.detach.new.self c.detach.new.pass c.detach.ensures.noted c.detach.ensures.batch)) c.insert_each-won.ensures.knows c.header-header.new.pass c.header-header.result.now c.header-header.ensures.looks c.header-header.ensures.header)) c.if-add.ensures.keys in let its = its_last c.args.key.now at c.args.pass.now key pass held front ready.marked (ready.ensures.marks at) ready.ensures.book.0 ready.ensures.knows ready.ensures.book.1 (ready.ensures.book.0 ∙ ready.ensures.book.1.0 ∙ sym c.requires.book.0, ready.ensures.book.2) are c.mark.new.batch.front c.detach.new.self c.detach.new.pass c.detach.ensures.noted c.detach.ensures.batch c.insert_each-won.new.key c.insert_each-won.new.pass c.insert_each-won.result (c.insert_each-won.ensures.all (inserts c.args.key.now at c.args.pass.now key pass held front ready.marked (ready.ensures.marks at) ready.ensures.book.0 ready.ensures.knows ready.ensures.book.1 (ready.ensures.book.0 ∙ ready.ensures.book.1.0 ∙ sym c.requires.book.0, ready.ensures.book.2) are c.mark.new.batch.front c.detach.new.self c.detach.new.pass c.detach.ensures.noted c.detach.ensures.batch)) c.insert_each-won.ensures.knows c.header-header.new.pass c.header-header.result.now c.header-header.ensures.looks c.header-header.ensures.header (keys_in c.args.batch.now) c.insert_each-won.new.batch.values remarked c.add.new.values c.add.new.key c.add.new.pass false c.if-add.ensures.counts (c.if-add.ensures.gives (adds c.args.key.now at c.args.pass.now key pass held front ready.marked (ready.ensures.marks at) ready.ensures.book.0 ready.ensures.knows ready.ensures.book.1 (ready.ensures.book.0 ∙ ready.ensures.book.1.0 ∙ sym c.requires.book.0, ready.ensures.book.2) are c.mark.new.batch.front c.detach.new.self c.detach.new.pass c.detach.ensures.noted c.detach.ensures.batch c.insert_each-won.new.key c.insert_each-won.new.pass c.insert_each-won.result (c.insert_each-won.ensures.all (inserts c.args.key.now at c.args.pass.now key pass held front ready.marked (ready.ensures.marks at) ready.ensures.book.0 ready.ensures.knows ready.ensures.book.1 (ready.ensures.book.0 ∙ ready.ensures.book.1.0 ∙ sym c.requires.book.0, ready.ensures.book.2) are c.mark.new.batch.front c.detach.new.self c.detach.new.pass c.detach.ensures.noted c.detach.ensures.batch)) c.insert_each-won.ensures.knows c.header-header.new.pass c.header-header.result.now c.header-header.ensures.looks c.header-header.ensures.header)) c.if-add.ensures.keys in
-    (its.0 ∙ c.requires.book.0 ∙ sym same.0, same, its.1)
+    let ready = c.in-Ready in let mark = c.mark.new in let one = c.detach.new in let key = c.args.key.now in let pass = c.args.pass.now in let on = (ready.ensures.marks at).on in
+    let d : Detached at pass mark.key mark.pass mark.batch ready.marked one.self one.pass = record { ends = ready.ensures.marks at; book = on.its.0 ∙ c.requires.key.0.its ∙ sym on.same.0; knows = ready.ensures.knows; are = remarked_labels mark.batch.values.keys.held c.args.batch.now.values.keys.held ready.ensures.batch.1 ∙ c.requires.batch.1; notes = c.detach.ensures.noted; detaches = c.detach.ensures.batch } in
+    let two = c.insert_each-won in let all = two.ensures.all (inserts d) in let three = c.header-header in
+    retires d all two.ensures.knows three.new.pass three.result.now three.ensures.looks three.ensures.header (keys_in c.args.batch.now) two.new.batch.values (two.ensures.batch.0 ∙ ready.ensures.batch.0, ap without_slots two.ensures.batch.1 ∙ ready.ensures.batch.1) c.add.new.values c.add.new.key c.add.new.pass true c.if-add.ensures.counts
+    (c.if-add.ensures.gives (adds d all two.ensures.knows three.new.pass three.result.now three.ensures.looks three.ensures.header)) c.if-add.ensures.keys c.if-add.ensures.under_guard
 
 pub returns-else-add-clause-knows : goal.returns-else-add-clause-knows
 returns-else-add-clause-knows g c =
@@ -127,7 +101,8 @@ returns-else-add-clause-knows g c =
 
 pub returns-else-add-clause-ends : goal.returns-else-add-clause-ends
 returns-else-add-clause-ends g c = λ at.
-    let key = c.mark.new.key in let pass = c.mark.new.pass in let ready = c.in-Ready in let held = c.mark.new.batch.values.keys.held in let front = c.mark.new.batch.first in
-    let are = remarked_labels held c.args.batch.now.values.keys.held ready.ensures.batch.1 ∙ c.requires.batch.1 in
-    let remarked : AreRemarked (keys_in c.args.batch.now) c.insert_each-won.new.batch.values = (c.insert_each-won.ensures.batch.0 ∙ ready.ensures.batch.0, ap without_slots c.insert_each-won.ensures.batch.1 ∙ ready.ensures.batch.1) in
-    retires c.args.key.now at c.args.pass.now key pass held front ready.marked (ready.ensures.marks at) ready.ensures.book.0 ready.ensures.knows ready.ensures.book.1 (ready.ensures.book.0 ∙ ready.ensures.book.1.0 ∙ sym c.requires.book.0, ready.ensures.book.2) are c.mark.new.batch.front c.detach.new.self c.detach.new.pass c.detach.ensures.noted c.detach.ensures.batch c.insert_each-won.new.key c.insert_each-won.new.pass c.insert_each-won.result (c.insert_each-won.ensures.all (inserts c.args.key.now at c.args.pass.now key pass held front ready.marked (ready.ensures.marks at) ready.ensures.book.0 ready.ensures.knows ready.ensures.book.1 (ready.ensures.book.0 ∙ ready.ensures.book.1.0 ∙ sym c.requires.book.0, ready.ensures.book.2) are c.mark.new.batch.front c.detach.new.self c.detach.new.pass c.detach.ensures.noted c.detach.ensures.batch)) c.insert_each-won.ensures.knows c.header-header.new.pass c.header-header.result.now c.header-header.ensures.looks c.header-header.ensures.header (keys_in c.args.batch.now) c.insert_each-won.new.batch.values remarked c.add.new.values c.add.new.key c.add.new.pass false c.if-add.ensures.counts (c.if-add.ensures.gives (adds c.args.key.now at c.args.pass.now key pass held front ready.marked (ready.ensures.marks at) ready.ensures.book.0 ready.ensures.knows ready.ensures.book.1 (ready.ensures.book.0 ∙ ready.ensures.book.1.0 ∙ sym c.requires.book.0, ready.ensures.book.2) are c.mark.new.batch.front c.detach.new.self c.detach.new.pass c.detach.ensures.noted c.detach.ensures.batch c.insert_each-won.new.key c.insert_each-won.new.pass c.insert_each-won.result (c.insert_each-won.ensures.all (inserts c.args.key.now at c.args.pass.now key pass held front ready.marked (ready.ensures.marks at) ready.ensures.book.0 ready.ensures.knows ready.ensures.book.1 (ready.ensures.book.0 ∙ ready.ensures.book.1.0 ∙ sym c.requires.book.0, ready.ensures.book.2) are c.mark.new.batch.front c.detach.new.self c.detach.new.pass c.detach.ensures.noted c.detach.ensures.batch)) c.insert_each-won.ensures.knows c.header-header.new.pass c.header-header.result.now c.header-header.ensures.looks c.header-header.ensures.header)) c.if-add.ensures.keys c.if-add.ensures.under_guard
+    let ready = c.in-Ready in let mark = c.mark.new in let one = c.detach.new in let key = c.args.key.now in let pass = c.args.pass.now in let on = (ready.ensures.marks at).on in
+    let d : Detached at pass mark.key mark.pass mark.batch ready.marked one.self one.pass = record { ends = ready.ensures.marks at; book = on.its.0 ∙ c.requires.key.0.its ∙ sym on.same.0; knows = ready.ensures.knows; are = remarked_labels mark.batch.values.keys.held c.args.batch.now.values.keys.held ready.ensures.batch.1 ∙ c.requires.batch.1; notes = c.detach.ensures.noted; detaches = c.detach.ensures.batch } in
+    let two = c.insert_each-won in let all = two.ensures.all (inserts d) in let three = c.header-header in
+    retires d all two.ensures.knows three.new.pass three.result.now three.ensures.looks three.ensures.header (keys_in c.args.batch.now) two.new.batch.values (two.ensures.batch.0 ∙ ready.ensures.batch.0, ap without_slots two.ensures.batch.1 ∙ ready.ensures.batch.1) c.add.new.values c.add.new.key c.add.new.pass false c.if-add.ensures.counts
+    (c.if-add.ensures.gives (adds d all two.ensures.knows three.new.pass three.result.now three.ensures.looks three.ensures.header)) c.if-add.ensures.keys c.if-add.ensures.under_guard

@@ -1,7 +1,9 @@
-use Rattle.std.proofs.Common.{rules, ◌≡◌, ℕ, ◌+◌, ◌<◌, Bool, if◌then◌else◌, take, lit<, refl, sym, ap, subst, ◌∙◌, arith}
+use Rattle.std.proofs.Common.{rules, ◌≡◌, ℕ, ◌+◌, ◌<◌, Bool, if◌then◌else◌, lit<, refl, sym, ap, subst, ◌∙◌, arith}
 use Rattle.std.proofs.lemmas.List.{length-take-le}
 use Rattle.seize_calls.specs.Batches.{slot_marks_of}
 use Rattle.seize_calls.specs.Rounds.{rest_in}
+use Rattle.seize_calls.proofs.Holders.{key_on}
+use Rattle.seize_calls.proofs.Keeps.{keeps_book}
 use Rattle.seize_calls.proofs.Sole.{may_same}
 use Rattle.seize_calls.proofs.Inserts.{HasTurned, all_turned, none_turned, round_done, round_next, round_turned}
 use Rattle.seize_calls.proofs.inserting.insert_round.Goals.{then-insert_at, else-insert_at}
@@ -9,25 +11,17 @@ use Rattle.seize_calls.proofs.inserting.insert_round.Goals as goal
 
 pub loop-init : goal.loop-init
 loop-init g c =
-    let marks = take c.args.marked (slot_marks_of (rest_in c.args.round.now)) in
-    (λ at. none_turned c.args.key.now c.args.pass.now marks c.args.front at, c.requires.book.0, c.requires.knows, c.requires.round.0, c.requires.round.1, refl)
+    (λ at. none_turned at, c.requires.key.0.its, c.requires.key.0.knows, c.requires.round.0, c.requires.round.1, refl)
 
 pub insert_at-requires : goal.insert_at-requires
 insert_at-requires g c =
     let l = c.loop in let at = c.requires.at in let r = l.invariant.0 at in (
       lit< tt,
       (
-        may_same (g.M.Manner.may c.args.manner.now) c.args.pass.now l.pass r.keeps.same c.requires.may,
+        (key_on c.args.words.now c.args.key.now l.key c.args.pass.now l.pass c.requires.key.0 r.keeps.on l.invariant.2, may_same (g.M.Manner.may c.args.manner.now) c.args.pass.now l.pass r.keeps.on.same c.requires.key.1),
         (
-          (l.invariant.1, c.requires.book.1 ∙ sym r.keeps.same.0, c.requires.book.2 ∙ sym r.keeps.same.0),
-          (
-            l.invariant.3,
-            (
-              l.invariant.2,
-              round_next c.args.key.now c.args.pass.now (rest_in c.args.round.now) c.args.marked c.args.front at (c.requires.values at) c.requires.round.2 l.counter l.won l.key l.pass r c.loop-test.true l.invariant.1 l.invariant.2 l.round
-                  l.invariant.5,
-            ),
-          ),
+          l.invariant.3,
+          round_next (rest_in c.args.round.now) c.args.marked c.requires.round.2 r c.loop-test.true l.invariant.1 l.invariant.2 l.round l.invariant.5,
         ),
       ),
     )
@@ -45,16 +39,14 @@ loop-preserved g c =
       | then-insert_at w ↦ w.won-is ∙ ap (λ (b : Bool). l.won + (if b then 1 else 0)) (sym w.if-insert_at.true)
       | else-insert_at w ↦ w.won-is ∙ (let same : l.won ≡ l.won + 0 = omega arith in same) ∙ ap (λ (b : Bool). l.won + (if b then 1 else 0)) (sym w.if-insert_at.false)
     ] in
-    let next = round_next c.args.key.now c.args.pass.now (rest_in c.args.round.now) c.args.marked c.args.front at0 (c.requires.values at0) c.requires.round.2 l.counter l.won l.key l.pass (l.invariant.0 at0) c.loop-test.true l.invariant.1 l.invariant.2 l.round
-    l.invariant.5 in
-    let past = round_done c.args.key.now c.args.pass.now (rest_in c.args.round.now) c.args.marked c.args.front at0 (c.requires.values at0) c.requires.round.2 l.counter l.won l.key l.pass (l.invariant.0 at0) c.loop-test.true l.invariant.1 l.invariant.2 l.round
-    l.invariant.5 one.new.round (one.ensures.round next) l.invariant.4 in
-    let same = (one.ensures.inserted next).keeps.same.0 in (
+    let held = rest_in c.args.round.now in let r = l.invariant.0 at0 in
+    let next = round_next held c.args.marked c.requires.round.2 r c.loop-test.true l.invariant.1 l.invariant.2 l.round l.invariant.5 in
+    let past = round_done held c.args.marked c.requires.round.2 r c.loop-test.true l.invariant.1 l.invariant.2 l.round l.invariant.5 one.new.round (one.ensures.round next) l.invariant.4 in
+    let same = (one.ensures.inserted next).keeps.on.same.0 in (
       λ at.
           subst (λ (n : ℕ). HasTurned at (l.counter + 1) n one.new.key one.new.pass) (sym won)
-          (round_turned c.args.key.now c.args.pass.now (rest_in c.args.round.now) c.args.marked c.args.front at (c.requires.values at) c.requires.round.2 l.counter l.won l.key l.pass (l.invariant.0 at) c.loop-test.true l.invariant.1 l.invariant.2 l.round
-          l.invariant.5 one.new.key one.new.pass one.result one.ensures.inserted),
-      one.ensures.book,
+          (round_turned held c.args.marked c.requires.round.2 (l.invariant.0 at) c.loop-test.true l.invariant.1 l.invariant.2 l.round l.invariant.5 one.ensures.inserted),
+      keeps_book l.key one.new.key l.pass one.new.pass (one.ensures.inserted next).keeps l.invariant.1,
       one.ensures.knows,
       (one.ensures.round next).0 ∙ l.invariant.3 ∙ sym same,
       past.0,
@@ -64,4 +56,4 @@ loop-preserved g c =
 pub returns-clause-all : goal.returns-clause-all
 returns-clause-all g c = λ at.
     let l = c.loop in let long = length-take-le c.args.marked (slot_marks_of (rest_in c.args.round.now)) c.requires.round.2 in
-    all_turned c.args.key.now c.args.pass.now (take c.args.marked (slot_marks_of (rest_in c.args.round.now))) c.args.front at l.counter l.won l.key l.pass (l.invariant.0 at) (omega (arith, long, c.loop-test.false))
+    all_turned (l.invariant.0 at) (omega (arith, long, c.loop-test.false))

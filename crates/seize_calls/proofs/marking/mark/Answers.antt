@@ -1,15 +1,17 @@
 use Rattle.std.proofs.Common.{rules, ◌≡◌, ℕ, ◌≤◌, ◌<◌, ◌^◌, true, List, lit<, sym, ap, subst, ◌∙◌, arith}
 use Rattle.seize_book.specs.Private.{labels_of}
-use Rattle.seize_words.specs.Reserved.{heads_book, heads_end as end_of}
+use Rattle.seize_words.specs.Reserved.{heads_end as end_of}
 use Rattle.seize_words.specs.Totals.{slots_seen}
-use Rattle.seize_words.specs.Walks.{Knows}
 use Rattle.seize_book.specs.declared.book.pass.Pass.{Pass}
-use Rattle.seize_words.proofs.Facts.{more_seen}
+use Rattle.seize_words.proofs.Facts.{knows_still, more_seen}
 use Rattle.seize_calls.specs.Batches.{SlotMark, slot_marks_of, without_slots}
+use Rattle.seize_calls.specs.Together.{IsKeyFor}
 use Rattle.seize_calls.specs.Marks.{EndsMarks}
 use Rattle.seize_calls.specs.Numbered.{ends_at, is_count_of, starts_at}
+use Rattle.seize_calls.proofs.Alone.{onward_looked}
 use Rattle.seize_calls.proofs.Batches.{remarked_labels}
-use Rattle.seize_calls.proofs.Marks.{ends_before, knows_looked, note_seen_then}
+use Rattle.seize_calls.proofs.Holders.{key_on}
+use Rattle.seize_calls.proofs.Marks.{ends_before, note_seen_then}
 use Rattle.seize_calls.proofs.marking.mark.Goals as goal
 
 pub read_each-marked-requires : goal.read_each-marked-requires
@@ -20,31 +22,37 @@ read_each-marked-requires g c =
     let there : end_of c.heads.result ≤ slots_seen pass = (let more = more_seen count.0 pass count.2 in omega (arith, c.heads.ensures.1, count.3, more)) in (
       lit< tt,
       (
-        subst (λ (p : Pass). (key.keys.name ≡ p.name) × (heads_book c.heads.result ≡ p.name) × (Rattle.seize_words.specs.Chunks.blocks_book c.args.blocks.now ≡ p.name)) same
-            (c.requires.book.0 ∙ sym looks.same.0, c.heads.ensures.2 ∙ c.requires.book.1 ∙ sym looks.same.0, c.requires.book.2 ∙ sym looks.same.0),
+        subst (λ (p : Pass). IsKeyFor c.args.words.now key p) same (key_on c.args.words.now key key c.args.pass.now pass c.requires.key (onward_looked key c.args.pass.now pass looks) (knows_still key c.args.pass.now pass c.requires.key.knows looks)),
         (
-          subst (λ (p : Pass). Knows key p) same (knows_looked key c.args.pass.now pass c.requires.knows looks),
           (
+            c.heads.ensures.2 ∙ c.args.words.now.slotted ∙ c.requires.key.of.0 ∙ sym looks.same.0 ∙ ap (λ (p : Pass). p.name) same,
             c.heads.ensures.0,
+            subst (λ (p : Pass). end_of c.heads.result ≤ slots_seen p) same there,
+            few,
+            (λ at. let noted = note_seen_then key at c.args.pass.now count.0 c.requires.key.its c.requires.key.knows.seen count.1 in omega (arith, c.heads.ensures.1, count.3, noted)),
+          ),
+          (
+            c.requires.begins,
             (
-              subst (λ (p : Pass). end_of c.heads.result ≤ slots_seen p) same there,
-              (
-                few,
-                (
-                  c.requires.begins,
-                  (
-                    (λ at. let noted = note_seen_then key at c.args.pass.now count.0 c.requires.book.0 c.requires.knows count.1 in omega (arith, c.heads.ensures.1, count.3, noted)),
-                    (
-                      (begins.0 ∙ ap (λ (p : Pass). p.name) same, (begins.1.0, ap labels_of begins.1.1 ∙ c.requires.batch.1)),
-                      subst (λ (vs : List ℕ). is_count_of c.args.batch.now.len vs ≡ true) c.requires.batch.1 c.args.batch.now.many,
-                    ),
-                  ),
-                ),
-              ),
+              begins.0 ∙ ap (λ (p : Pass). p.name) same,
+              (begins.1.0, ap labels_of begins.1.1 ∙ c.requires.batch.1),
+              subst (λ (vs : List ℕ). is_count_of c.args.batch.now.len vs ≡ true) c.requires.batch.1 c.args.batch.now.many,
             ),
           ),
         ),
       ),
+    )
+
+pub end-requires : goal.end-requires
+end-requires g c =
+    let begun = c.new-round.ensures in let read = c.read_each-marked.ensures in let here = sym (read.ends c.requires.begins).on.same.0 in
+    record { book = ((begun.none.0 ∙ ap (λ (p : Pass). p.name) (sym begun.pass) ∙ here, begun.none.1), read.round.0 ∙ here) }
+
+pub returns-clause-batch : goal.returns-clause-batch
+returns-clause-batch g c =
+    let begun = c.new-round.ensures in let read = c.read_each-marked.ensures in let all = c.end.ensures.all in (
+      all.0 ∙ (read.ends c.requires.begins).on.same.0 ∙ ap (λ (p : Pass). p.name) begun.pass ∙ c.load-count.ensures.looks.same.0 ∙ sym c.requires.batch.0,
+      ap without_slots all.1 ∙ read.round.1 ∙ ap without_slots begun.begins.1.1,
     )
 
 pub invariant_of-batch : goal.invariant_of-batch

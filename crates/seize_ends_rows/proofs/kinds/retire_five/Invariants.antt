@@ -1,5 +1,5 @@
 use Rattle.seize.specs.Collectors.{IsPassOf}
-use Rattle.seize.specs.OwnedGuards.{owned_collector}
+use Rattle.seize.specs.Guards.{owned_collector}
 use Rattle.std.specs.Prelude.{◌≡◌}
 use Rattle.seize_ends_rows.proofs.kinds.retire_five.Given as goal
 

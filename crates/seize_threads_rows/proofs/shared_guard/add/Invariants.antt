@@ -1,6 +1,6 @@
 use Rattle.std.specs.Prelude.{IfSome}
 use Rattle.seize.specs.Collectors.{IsBlockOf, IsPassOf}
-use Rattle.seize.specs.OwnedGuards.{owned_collector}
+use Rattle.seize.specs.Guards.{owned_collector}
 use Rattle.seize_threads_rows.proofs.shared_guard.add.Given as goal
 
 abbrev pub invariant-loop : goal.invariant-loop

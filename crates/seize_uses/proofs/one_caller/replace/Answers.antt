@@ -1,7 +1,7 @@
 use Rattle.std.proofs.Common.{ℕ, [], None, slice_index_or, ap, ◌∙◌, rules}
-use Rattle.seize_model.specs.Waiting.State.{State}
-use Rattle.seize_model.specs.Waiting.Calls.{link_at}
-use Rattle.seize_alone.proofs.Outlines.{retire_links}
+use Rattle.seize.specs.Waiting.State.{State}
+use Rattle.seize.specs.Waiting.Calls.{link_at}
+use Rattle.seize.proofs.Outlines.{retire_links}
 use Rattle.seize_uses.proofs.one_caller.replace.Goals as goal
 
 pub returns-clause-held : goal.returns-clause-held

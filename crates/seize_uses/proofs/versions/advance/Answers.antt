@@ -1,17 +1,18 @@
-use Rattle.std.proofs.Common.{◌≡◌, ◌⊎◌, ℕ, List, [], Option, Some, ap, arith, inl, inr, subst}
+use Rattle.std.proofs.Common.{◌≡◌, ◌⊎◌, ℕ, List, [], Option, Some, ap, arith, inl, inr, subst, ◌∙◌}
 use base.Growing.{prefix_trans}
 use mathlib.Core.List.{IsPrefix}
 use Rattle.seize.specs.Blocks.{content}
 use Rattle.seize.specs.Collectors.{seen_by}
-use Rattle.seize.specs.Guards.{guard_slot}
+use Rattle.seize.specs.Guards.{core_collector, core_slot}
 use Rattle.seize.specs.Machine.Event.{Event, ExchangeLink}
 use Rattle.seize.specs.Makes.{Makes, MakesNone, MakesOne}
 use Rattle.seize.specs.declared.collector.Collector.{Collector}
+use Rattle.seize.specs.declared.guard.common.GuardCore.{GuardCore}
 use Rattle.seize.proofs.Facts.{named_says, then_none, won_onwards}
 use Rattle.seize_book.specs.declared.book.pass.Pass.{Pass}
-use Rattle.seize_machine.specs.declared.machine.event.Answer.{Answer}
-use Rattle.seize_machine.specs.declared.machine.event.Answer.TheVariants.{Link}
-use Rattle.seize_machine.specs.declared.machine.event.Exchange.TheVariants.{Compare}
+use Rattle.seize.specs.Answer.{Answer}
+use Rattle.seize.specs.Answer.TheVariants.{Link}
+use Rattle.seize.specs.Exchange.TheVariants.{Compare}
 use Rattle.seize_uses.specs.Versions.{GrowsTo}
 use Rattle.seize_uses.specs.contracts.versions.Version.{the_row}
 use Rattle.seize_uses.specs.declared.versions.Growing.{Growing}
@@ -27,7 +28,7 @@ then_look (inr more) none = (more.0, then_none more.1 none)
 -- the link holds the version after the exchange
 pub returns-clause-reached : goal.returns-clause-reached
 returns-clause-reached g c is =
-    let s = guard_slot c.args.guard.now in let link = c.args.link in let version = c.args.version in let block = c.in_ok-block.block in
+    let s = core_slot c.deref-3.result.now in let link = c.args.link in let version = c.args.version in let block = c.in_ok-block.block in
     let rule = c.laws-2.ensures.rule in let from = seen_by c.collector-collector.result.now in
     let p = c.protect-found.new.pass in let q = c.compare_exchange.new.pass in
     let won = c.in-Ok.ensures in let held = won.held in
@@ -35,7 +36,8 @@ returns-clause-reached g c is =
     subst (λ (current : Option ℕ). MakesOne p q (ExchangeLink s link (Compare current won.put)) (Link held)) won.outcome.0 won.made in
     let more = then_look c.retire_any.ensures.made c.laws-2.ensures.none in
     let known = prefix_trans from c.laws.new.pass.seen p.seen c.laws.ensures.rule.goes_on c.protect-found.ensures.1.grows in (
-      subst (λ (collector : Collector Version Growing). IsPrefix (seen_by collector) c.laws-2.new.pass.seen) c.collector-collector.ensures rule.goes_on,
+      subst (λ (collector : Collector Version Growing). IsPrefix (seen_by collector) c.laws-2.new.pass.seen)
+          (c.collector-collector.ensures ∙ ap (λ (core : GuardCore Version Growing). core_collector core) c.deref.ensures) rule.goes_on,
       won_onwards the_row.coded rule link (GrowsTo (Some version)) (grows_on version) s held won.put (Some (content block)) known made more.1
           (named_says the_row.coded.code (Some block) won.put won.named) (omega (arith, ap (λ (v : Version). v.number) c.in_ok-block.ensures.1)),
     )

@@ -8,4 +8,4 @@ use Rattle.seize.proofs.alone.Alone.known.Goals as goal
 pub returns-clause-one : goal.returns-clause-one
 returns-clause-one g c owned =
     let s = c.args.s in let is : is_owned (slot_at c.self.inside.hands.state s).kind ≡ true = ap (λ (v : View g.row.T.Denot). is_owned (slot_at v.state s).kind) c.self.view_is ∙ owned in
-    subst (λ (v : View g.row.T.Denot). (slot_at v.state s).guards ≤ 1) c.self.view_is (owned_one c.self.invariant.holds s is)
+    subst (λ (v : View g.row.T.Denot). (slot_at v.state s).guards ≤ 1) c.self.view_is (owned_one c.self.invariant.knows.holds s is)

@@ -10,4 +10,4 @@ stir-requires g c = record { stand = λ l less. (get_or c.self.inside.hands.held
 pub shared-requires : goal.shared-requires
 shared-requires g c =
     let a = c.self.invariant in let inside = c.self.inside in let n = words_book inside.words in
-    (omega arith, (omega arith, ((a.lends.0, a.lends.1), (a.numbered, (a.ends, (c.stir.ensures.shared, λ s place is. may_lay n n inside.hands.state inside.places.items a.placed (owned_shown a.holds) refl s place is))))))
+    (omega arith, (omega arith, ((a.knows.for, a.knows.sole), (a.numbered, (a.ends, (c.stir.ensures.shared, λ s place is. may_lay n n inside.hands.state inside.places.items a.placed (owned_shown a.knows.holds) refl s place is))))))

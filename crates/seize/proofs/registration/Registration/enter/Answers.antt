@@ -17,8 +17,8 @@ try_with-requires g c =
     let n = its_book self.collector.now in
     λ r keeps. let at = in_place n self.number (2 ^ 64 - 1) r (keeps.0 ∙ self.at) in (at.0, (sym c.requires.pass.0, sym c.requires.pass.1), head_for n self.number (its_number r.slot) self.head.now self.headed at.1)
 
-pub invariant_of-reader : goal.invariant_of-reader
-invariant_of-reader g c =
+pub invariant_of-core : goal.invariant_of-core
+invariant_of-core g c =
     let self = c.args.self.now in let n = its_book self.collector.now in let had = c.in-Ok-Ok.ensures.done in let t = its_number had.before.slot in
     let at = in_place n self.number (2 ^ 64 - 1) had.before (had.was.0 ∙ self.at) in
     let made = subst (λ (e : Result (Activation × Seen) Refusal). IfOk e (λ made. Enters t c.args.pass.now c.try_with.new.with × IsUnit n t made.0 made.1)) c.in-Ok-Ok.field-0-is had.gives.0 in

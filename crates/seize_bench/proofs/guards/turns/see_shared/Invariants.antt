@@ -1,5 +1,5 @@
 use Rattle.seize.specs.Collectors.{IsPassOf}
-use Rattle.seize.specs.OwnedGuards.{owned_collector}
+use Rattle.seize.specs.Guards.{owned_collector}
 use Rattle.seize_bench.proofs.guards.turns.see_shared.Given as goal
 
 abbrev pub invariant-loop : goal.invariant-loop

@@ -2,9 +2,8 @@ use Rattle.std.proofs.Common.{ℕ, refl, sym, ap, subst, ◌∙◌}
 use Rattle.seize_machine.specs.Machine.Event.{Enter}
 use Rattle.seize_machine.specs.Machine.State.{Slot}
 use Rattle.seize_book.specs.Slots.{AddsDeed}
-use Rattle.seize_book.specs.declared.book.pass.Pass.{Pass}
 use Rattle.seize_words.specs.Reservations.{beginning}
-use Rattle.seize_calls.proofs.Slots.{begins_in, holder, idle_in, knew_ready, knows_still, learned, ready_learned, stays_entered, together_still, told_still}
+use Rattle.seize_calls.proofs.Slots.{after_event, begins_in, calls_with, holder, idle_in, of_list, ready_learned, stays_entered, together}
 use Rattle.seize_calls.proofs.slot.Slot.enter.Goals as goal
 
 pub enter-requires : goal.enter-requires
@@ -21,19 +20,15 @@ pub invariant_of-self : goal.invariant_of-self
 invariant_of-self g c =
     let s = c.args.self.now in let pass = c.args.pass.now in let p = c.learn.new.self in let of = c.requires.of in let one = c.enter in let seen = c.learn-2.ensures in
     let ready = ready_learned s.seen pass p (of.0.0.book ∙ of.1.0) c.learn.ensures in let stays = stays_entered s p one.new.key one.new.pass one.new.activation one.ensures.noted of.0.1 c.requires.outside.0 in
-    let call = ap (λ (z : Slot). z.call) stays ∙ s.together.call in let batch = ap (λ (z : Slot). z.batch) stays in
-    record { together = together_still s p ready one.new.key one.new.pass _ one.ensures.noted call batch c.learn-2.new.self seen.0 seen.1 }
+    let after = after_event s p ready of.0.0.told one.new.key one.new.pass (ap (λ (z : Slot). z.call) stays) (ap (λ (z : Slot). z.batch) stays) _ one.ensures.noted in
+    record { together = together s p ready _ one.new.pass after c.learn-2.new.self seen.0 seen.1 }
 
 pub returns-clause-of : goal.returns-clause-of
 returns-clause-of g c =
     let s = c.args.self.now in let pass = c.args.pass.now in let p = c.learn.new.self in let of = c.requires.of in let one = c.enter in let seen = c.learn-2.ensures in
     let ready = ready_learned s.seen pass p (of.0.0.book ∙ of.1.0) c.learn.ensures in let stays = stays_entered s p one.new.key one.new.pass one.new.activation one.ensures.noted of.0.1 c.requires.outside.0 in
-    let call = ap (λ (z : Slot). z.call) stays ∙ s.together.call in let batch = ap (λ (z : Slot). z.batch) stays in (
-      record {
-        book = seen.0 ∙ of.0.0.book;
-        knows = knows_still s p ready one.new.key one.new.pass _ one.ensures.noted call batch c.learn-2.new.self seen.0 seen.1;
-        told = told_still s p ready one.new.key one.new.pass _ one.ensures.noted call batch c.learn-2.new.self seen.0 seen.1 of.0.0.told;
-      },
+    let after = after_event s p ready of.0.0.told one.new.key one.new.pass (ap (λ (z : Slot). z.call) stays) (ap (λ (z : Slot). z.batch) stays) _ one.ensures.noted in (
+      of_list s p ready _ one.new.pass after _ refl seen.0 seen.1 _ of.0.0,
       ap (λ (z : Slot). z.used) stays ∙ of.0.1,
     )
 
@@ -43,12 +38,5 @@ returns-clause-activation g c =
 
 pub returns-clause-enters : goal.returns-clause-enters
 returns-clause-enters g c =
-    let s = c.args.self.now in let pass = c.args.pass.now in let p = c.learn.new.self in let one = c.enter in let seen = c.learn-2.ensures in
-    record {
-      same = (refl, seen.0);
-      ready = p;
-      prepares = learned s pass p (c.requires.of.0.0.book ∙ c.requires.of.1.0) c.learn.ensures;
-      knew = knew_ready s pass p (learned s pass p (c.requires.of.0.0.book ∙ c.requires.of.1.0) c.learn.ensures) c.requires.of.0.0.knows;
-      does = subst (λ (t : Pass × ℕ). AddsDeed s.key p one.new.key t.0 (beginning p one.new.activation.life (Enter t.1))) (λ i. (sym seen.2 i, s.together.numbered i)) one.ensures.noted;
-      seen = seen.1 ∙ sym (ap (λ (q : Pass). q.seen) seen.2);
-    }
+    let s = c.args.self.now in let pass = c.args.pass.now in let p = c.learn.new.self in let of = c.requires.of in let one = c.enter in
+    calls_with s _ pass p of.0.0 of.1.0 c.learn.ensures _ _ one.new.pass refl c.learn-2.ensures (λ q r. AddsDeed s.holder.key q one.new.key r (beginning q one.new.activation.life (Enter s.number))) (subst (λ (k : ℕ). AddsDeed s.holder.key p one.new.key one.new.pass (beginning p one.new.activation.life (Enter k))) s.together.numbered one.ensures.noted)

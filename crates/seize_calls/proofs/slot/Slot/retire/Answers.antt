@@ -1,65 +1,33 @@
-use Rattle.std.proofs.Common.{lit<, refl, sym, ap, subst, ◌∙◌}
+use Rattle.std.proofs.Common.{lit<, refl, sym, ◌∙◌}
 use Rattle.seize_book.specs.Others.{value_of}
-use Rattle.seize_book.specs.Tokens.{Name}
-use Rattle.seize_book.specs.declared.book.pass.Pass.{Pass}
-use Rattle.seize_store.specs.Named.{AreOfStore}
 use Rattle.seize_calls.specs.Batches.{keys_in}
 use Rattle.seize_calls.specs.Calls.{RetiresOne}
 use Rattle.seize_calls.proofs.Laid.{lays_ready}
+use Rattle.seize_calls.proofs.Slots.{after_call, calls_with, holds_ready, idle_in, keeps_in, of_list, ready_learned, together}
 use Rattle.seize_calls.proofs.Sole.{may_same}
-use Rattle.seize_calls.proofs.Slots.{batch_at, grows_in, holder, idle_in, kept_in, knew_ready, knows_in, learned, ready_learned, together, told_in}
 use Rattle.seize_calls.proofs.slot.Slot.retire.Goals as goal
 
 pub retire-retired-requires : goal.retire-retired-requires
 retire-retired-requires g c =
-    let s = c.args.self.now in let pass = c.args.pass.now in let p = c.learn.new.self in let learns = c.learn.ensures in let of = c.requires.of in let words = c.args.words.now in let value = c.requires.value in
-    let ready = ready_learned s.seen pass p (of.0.0.book ∙ of.1.0) learns in let here = of.1.0 ∙ sym learns.0.0 in (
-      lit< tt,
-      (
-        may_same (g.M.Manner.may c.args.manner.now) c.args.pass.now p learns.0 of.2,
-        (
-          ((holder s p ready).0, words.slotted ∙ here, here),
-          (
-            idle_in s of.0.1,
-            (
-              (value.0 ∙ here, value.1, c.args.value.its),
-              (
-                of.1.1 ∙ sym learns.0.2,
-                (batch_at s p ready of.0.0.told, (c.requires.serves, subst (λ (n : Name). AreOfStore s.spots n.store) of.0.0.book s.together.spots_in)),
-              ),
-            ),
-          ),
-        ),
-      ),
-    )
+    let s = c.args.self.now in let pass = c.args.pass.now in let p = c.learn.new.self in let of = c.requires.of in
+    (lit< tt, ((holds_ready c.args.words.now s pass p of.0.0 of.1 c.learn.ensures, idle_in s of.0.1), ((c.requires.value.0 ∙ of.1.0 ∙ sym c.learn.ensures.0.0, c.requires.value.1), (c.requires.serves, may_same (g.M.Manner.may c.args.manner.now) pass p c.learn.ensures.0 of.2))))
 
 pub invariant_of-self : goal.invariant_of-self
 invariant_of-self g c =
-    let s = c.args.self.now in let pass = c.args.pass.now in let p = c.learn.new.self in let of = c.requires.of in let one = c.retire-retired in let seen = c.learn-2.ensures in
-    let q = p in let ready = ready_learned s.seen pass p (of.0.0.book ∙ of.1.0) c.learn.ensures in
-    record { together = together s q ready one.new.key one.new.pass one.new.batch one.new.spots c.learn-2.new.self one.ensures.retires.rests one.ensures.knows seen.0 seen.1 (subst (λ (n : Name). AreOfStore one.new.spots n.store) (sym of.0.0.book) one.ensures.spots) }
+    let s = c.args.self.now in let p = c.learn.new.self in let of = c.requires.of in let one = c.retire-retired in let seen = c.learn-2.ensures in
+    record { together = together s p (ready_learned s.seen c.args.pass.now p (of.0.0.book ∙ of.1.0) c.learn.ensures) one.new.self one.new.pass (after_call c.args.words.now s p one.new.self one.new.pass of.0.0 one.ensures.retires.rests one.ensures.holder.0) c.learn-2.new.self seen.0 seen.1 }
 
 pub returns-clause-of : goal.returns-clause-of
 returns-clause-of g c =
-    let s = c.args.self.now in let pass = c.args.pass.now in let p = c.learn.new.self in let of = c.requires.of in let one = c.retire-retired in let seen = c.learn-2.ensures in
-    let q = p in let ready = ready_learned s.seen pass p (of.0.0.book ∙ of.1.0) c.learn.ensures in
-    let r = one.ensures.retires in (
-      (record { book = seen.0 ∙ of.0.0.book; knows = knows_in s q ready one.new.key one.new.pass one.new.batch one.new.spots c.learn-2.new.self one.ensures.retires.rests one.ensures.knows seen.0 seen.1; told = told_in s q ready one.new.key one.new.pass one.new.batch one.new.spots c.learn-2.new.self one.ensures.retires.rests one.ensures.knows seen.0 seen.1 }, one.ensures.retires.rests.used ∙ of.0.1),
-      kept_in s _ seen.0 refl r.active r.life (grows_in s q ready one.new.key one.new.pass one.new.batch one.new.spots c.learn-2.new.self one.ensures.retires.rests one.ensures.knows seen.0 seen.1),
-    )
+    let s = c.args.self.now in let p = c.learn.new.self in let of = c.requires.of in let one = c.retire-retired in let seen = c.learn-2.ensures in let did = one.ensures.retires in
+    let ready = ready_learned s.seen c.args.pass.now p (of.0.0.book ∙ of.1.0) c.learn.ensures in let after = after_call c.args.words.now s p one.new.self one.new.pass of.0.0 one.ensures.retires.rests one.ensures.holder.0 in
+    ((of_list s p ready one.new.self one.new.pass after _ refl seen.0 seen.1 _ of.0.0, did.rests.used ∙ of.0.1), keeps_in s p ready one.new.self one.new.pass after _ refl seen.0 seen.1 refl did.active did.life)
 
 pub returns-clause-retires : goal.returns-clause-retires
 returns-clause-retires g c =
-    let s = c.args.self.now in let pass = c.args.pass.now in let one = c.retire-retired in let seen = c.learn-2.ensures in let had = g.R.Reclaim.had in
-    record {
-      same = (refl, seen.0);
-      ready = c.learn.new.self;
-      prepares = learned s pass c.learn.new.self (c.requires.of.0.0.book ∙ c.requires.of.1.0) c.learn.ensures;
-      knew = knew_ready s pass c.learn.new.self (learned s pass c.learn.new.self (c.requires.of.0.0.book ∙ c.requires.of.1.0) c.learn.ensures) c.requires.of.0.0.knows;
-      does = subst (λ (q : Pass). RetiresOne s.key c.learn.new.self (value_of c.args.value.value) c.args.kept (keys_in s.batch) (had c.args.reclaimer.now) one.new.key q (keys_in one.new.batch) (had one.new.reclaimer) one.result) (sym seen.2) one.ensures.retires;
-      seen = seen.1 ∙ sym (ap (λ (p : Pass). p.seen) seen.2);
-    }
+    let s = c.args.self.now in let p = c.learn.new.self in let of = c.requires.of in let one = c.retire-retired in
+    calls_with s _ c.args.pass.now p of.0.0 of.1.0 c.learn.ensures _ _ one.new.pass refl c.learn-2.ensures (λ q r. RetiresOne s.holder.key q (value_of c.args.value.value) c.args.kept (keys_in s.holder.batch) (g.R.Reclaim.had c.args.reclaimer.now) one.new.self.key r (keys_in one.new.self.batch) (g.R.Reclaim.had one.new.reclaimer) one.result) one.ensures.retires
 
 pub returns-clause-laid : goal.returns-clause-laid
 returns-clause-laid g c =
-    let one = c.retire-retired in lays_ready c.args.pass.now c.learn.new.self one.new.pass c.learn-2.new.pass c.args.self.now.spots one.new.spots c.learn.ensures.1 one.ensures.laid c.learn-2.ensures.2
+    let one = c.retire-retired in lays_ready c.args.pass.now c.learn.new.self one.new.pass c.learn-2.new.pass c.args.self.now.holder.spots one.new.self.spots c.learn.ensures.1 one.ensures.laid c.learn-2.ensures.2

@@ -6,7 +6,7 @@ use Rattle.seize_book.specs.Others.{FollowsNumbers, use_flags}
 use Rattle.seize_book.specs.Slots.{AddsEvent, slot_number}
 use Rattle.seize_book.specs.declared.book.pass.Pass.{Pass}
 use Rattle.seize_calls.proofs.Numbering.{takes}
-use Rattle.seize_calls.proofs.Slots.{knew_ready, knows_still, learned, ready_learned, there_before, together_still, told_still}
+use Rattle.seize_calls.proofs.Slots.{after_event, calls_with, of_list, ready_learned, there_before, together}
 use Rattle.seize_calls.proofs.slot.Slot.take_again.Goals as goal
 
 pub take_again-requires-clause-book : goal.take_again-requires-clause-book
@@ -19,34 +19,23 @@ take_again-requires-clause-least g c = c.requires.numbers.1
 pub invariant_of-self : goal.invariant_of-self
 invariant_of-self g c =
     let s = c.args.self.now in let pass = c.args.pass.now in let p = c.learn.new.self in let of = c.requires.of in let one = c.take_again in let seen = c.learn-2.ensures in
-    let ready = ready_learned s.seen pass p (of.0.0.book ∙ of.1.0) c.learn.ensures in let so = takes s.key one.new.self p one.new.pass one.ensures.noted (there_before s p one.new.self one.new.pass ready (Take (slot_number s.key)) one.ensures.noted) in
-    let call = ap (λ (z : Slot). z.call) so.0 ∙ s.together.call in let batch = ap (λ (z : Slot). z.batch) so.0 in
-    record { together = together_still s p ready one.new.self one.new.pass _ one.ensures.noted call batch c.learn-2.new.self seen.0 seen.1 }
+    let ready = ready_learned s.seen pass p (of.0.0.book ∙ of.1.0) c.learn.ensures in let so = takes s.holder.key one.new.self p one.new.pass one.ensures.noted (there_before s p one.new.self one.new.pass ready (Take (slot_number s.holder.key)) one.ensures.noted) in
+    let after = after_event s p ready of.0.0.told one.new.self one.new.pass (ap (λ (z : Slot). z.call) so.0) (ap (λ (z : Slot). z.batch) so.0) _ one.ensures.noted in
+    record { together = together s p ready _ one.new.pass after c.learn-2.new.self seen.0 seen.1 }
 
 pub returns-clause-of : goal.returns-clause-of
 returns-clause-of g c =
     let s = c.args.self.now in let pass = c.args.pass.now in let p = c.learn.new.self in let of = c.requires.of in let one = c.take_again in let seen = c.learn-2.ensures in
-    let ready = ready_learned s.seen pass p (of.0.0.book ∙ of.1.0) c.learn.ensures in let so = takes s.key one.new.self p one.new.pass one.ensures.noted (there_before s p one.new.self one.new.pass ready (Take (slot_number s.key)) one.ensures.noted) in
-    let call = ap (λ (z : Slot). z.call) so.0 ∙ s.together.call in let batch = ap (λ (z : Slot). z.batch) so.0 in (
-      record {
-        book = seen.0 ∙ of.0.0.book;
-        knows = knows_still s p ready one.new.self one.new.pass _ one.ensures.noted call batch c.learn-2.new.self seen.0 seen.1;
-        told = told_still s p ready one.new.self one.new.pass _ one.ensures.noted call batch c.learn-2.new.self seen.0 seen.1 of.0.0.told;
-      },
+    let ready = ready_learned s.seen pass p (of.0.0.book ∙ of.1.0) c.learn.ensures in let so = takes s.holder.key one.new.self p one.new.pass one.ensures.noted (there_before s p one.new.self one.new.pass ready (Take (slot_number s.holder.key)) one.ensures.noted) in
+    let after = after_event s p ready of.0.0.told one.new.self one.new.pass (ap (λ (z : Slot). z.call) so.0) (ap (λ (z : Slot). z.batch) so.0) _ one.ensures.noted in (
+      of_list s p ready _ one.new.pass after _ refl seen.0 seen.1 _ of.0.0,
       ap (λ (z : Slot). z.used) so.0,
     )
 
 pub returns-clause-takes : goal.returns-clause-takes
 returns-clause-takes g c =
     let s = c.args.self.now in let pass = c.args.pass.now in let p = c.learn.new.self in let of = c.requires.of in let one = c.take_again in let seen = c.learn-2.ensures in (
-      record {
-        same = (refl, seen.0);
-        ready = p;
-        prepares = learned s pass p (of.0.0.book ∙ of.1.0) c.learn.ensures;
-        knew = knew_ready s pass p (learned s pass p (of.0.0.book ∙ of.1.0) c.learn.ensures) of.0.0.knows;
-        does = subst (λ (t : ℕ × Pass). AddsEvent s.key p one.new.self t.1 (Take t.0)) (λ j. (s.together.numbered j, sym seen.2 j)) one.ensures.noted;
-        seen = seen.1 ∙ sym (ap (λ (q : Pass). q.seen) seen.2);
-      },
+      calls_with s _ pass p of.0.0 of.1.0 c.learn.ensures _ _ one.new.pass refl c.learn-2.ensures (λ q r. AddsEvent s.holder.key q one.new.self r (Take s.number)) (subst (λ (k : ℕ). AddsEvent s.holder.key p one.new.self one.new.pass (Take k)) s.together.numbered one.ensures.noted),
       refl,
     )
 
@@ -61,4 +50,4 @@ pub returns-clause-outside : goal.returns-clause-outside
 returns-clause-outside g c =
     let s = c.args.self.now in let pass = c.args.pass.now in let p = c.learn.new.self in let of = c.requires.of in let one = c.take_again in
     let ready = ready_learned s.seen pass p (of.0.0.book ∙ of.1.0) c.learn.ensures in
-    (takes s.key one.new.self p one.new.pass one.ensures.noted (there_before s p one.new.self one.new.pass ready (Take (slot_number s.key)) one.ensures.noted)).1 ∙ of.0.2
+    (takes s.holder.key one.new.self p one.new.pass one.ensures.noted (there_before s p one.new.self one.new.pass ready (Take (slot_number s.holder.key)) one.ensures.noted)).1 ∙ of.0.2

@@ -11,12 +11,12 @@ use Rattle.seize_parts.proofs.alone.shelving.lay.Goals.{in-Some, in-None, then-o
 
 pub units_of-requires : goal.units_of-requires
 units_of-requires g c =
-    let n = words_book c.args.words.now in let place = c.requires.place in let is = c.into_value-r.ensures in let unit = c.in-Some.unit in
-    let at = in_place n place.slot 1 c.into_value-r.result (is.0 ∙ place.reservation) in
+    let n = words_book c.args.words.now in let place = c.requires.place in let unit = c.in-Some.unit in
+    let at = in_place n place.slot 1 c.args.place.reservation place.reservation in
     let held = held_some unit place.slot n _ (sym (ap (option_map unit_in) c.in-Some.is) ∙ place.unit) in (
       omega arith,
       (
-        (is.1, at.0, at.2),
+        (place.sound, at.0, at.2),
         (
           c.requires.pass,
           (
@@ -29,8 +29,8 @@ units_of-requires g c =
 
 pub put-requires : goal.put-requires
 put-requires g c =
-    let n = words_book c.args.words.now in let place = c.requires.place in let is = c.into_value-r.ensures in let r = c.into_value-r.result in let most = c.if-owned.r in let shelf = c.args.place.shelf in
-    let at = in_place n place.slot 1 r (is.0 ∙ place.reservation) in
+    let n = words_book c.args.words.now in let place = c.requires.place in let r = c.args.place.reservation in let most = c.if-owned.r in let shelf = c.args.place.shelf in
+    let at = in_place n place.slot 1 r place.reservation in
     let room : ((c.args.place.owned ≡ true) × (most ≡ 1)) ⊎ (most ≡ 2 ^ 64 - 1) =
     elim c.if-owned.branch [ then-owned w ↦ inl (w.if-owned.true, w.r-is) | else-owned w ↦ inr w.r-is ] in
     let least : 1 ≤ most = elim room [ inl t ↦ (let one = t.1 in omega (arith, one)) | inr e ↦ omega (arith, e) ] in
@@ -44,7 +44,7 @@ put-requires g c =
       )
       | in-None w ↦ (
         subst (λ (x : Reservation g.row.T.Denot). IsLaidFor shelf (record x { most = most })) (sym w.r-is)
-            (laid_with shelf most r is.1 (at.0 ∙ sym place.shelf) (let small = is.1.fits in let one = at.2 in omega (arith, small, one, least))),
+            (laid_with shelf most r place.sound (at.0 ∙ sym place.shelf) (let small = place.sound.fits in let one = at.2 in omega (arith, small, one, least))),
         subst (λ o. IfSome o (IsForgottenOf shelf)) (sym w.forgotten-is) tt,
       )
     ]

@@ -25,15 +25,6 @@ current-requires g c =
       ),
     )
 
-pub new-requires : goal.new-requires
-new-requires g c =
-    let words = c.args.words.now in let r = c.args.r in let is = c.requires.r.0 in let p0 = c.args.pass.now in let p1 = c.learn.new.self in let a = c.args.forgotten in
-    let learns : Learns p0 a.seen p1 = subst (λ (p : Pass). Learns p a.seen p1) c.agree-2.ensures.0 c.learn.ensures in let current = c.current.ensures in let slot' = c.current.new.self in let p2 = c.current.new.pass in
-    let some : 0 < r.guards = active_some r.slot r.rest r.guards current.within.0 is.at in let within : InActivation slot' r.rest = current.of.1 r.rest (at_some r.slot r.rest r.guards some is.at) in
-    let whole = c.join.new.self in let rest' = c.split-unit.new.self in let split = c.split-unit.ensures in let joined : whole.units ≡ r.rest.units + a.units.units = ap (λ (u : Activation). u.units) c.join.ensures in
-    let within1 : InActivation slot' whole = units_within slot' r.rest whole _ c.join.ensures within in let within2 : InActivation slot' rest' = units_within slot' whole rest' rest'.units split.1 within1 in
-    placed words slot' rest' 1 1 current.of.0 (some_at slot' rest' 1 (omega arith) within2) (let all = is.units in let counted = a.counted in let count = c.requires.forgotten.2 in omega (arith, split.2, joined, counted, count, all)) (omega arith)
-
 pub invariant_of-result : goal.invariant_of-result
 invariant_of-result g c =
     let words = c.args.words.now in let r = c.args.r in let is = c.requires.r.0 in let p0 = c.args.pass.now in let p1 = c.learn.new.self in let a = c.args.forgotten in
@@ -60,7 +51,8 @@ returns-clause-place g c =
     let still = same_pass c.requires.pass.1 (still_then (still_learned a.seen learns) (still_looked r.slot slot' current.looks)) in let on : not (r.guards == 0) ≡ true = some_not r.guards some in record {
       used = subst (λ (q : Pass). IsUsedAs (state_seen q) (its_number r.slot) (kind_of (r.most == 1), r.guards)) still
           (used_left words r.slot slot' p1 p2 for1 of current.of.0 current.looks r.most r.guards is.fits (looked_active _ _ _ _ current.looks.0.does ∙ current.within.0 ∙ sym on));
-      reservation = c.new.ensures ∙ label_left words r.slot slot' p1 p2 for1 of current.of.0 current.looks;
+      sound = placed words slot' rest' 1 1 current.of.0 (some_at slot' rest' 1 (omega arith) within2) (let all = is.units in let counted = a.counted in let count = c.requires.forgotten.2 in omega (arith, split.2, joined, counted, count, all)) (omega arith);
+      reservation = label_left words r.slot slot' p1 p2 for1 of current.of.0 current.looks;
       unit = some_held (its_number r.slot) (words_book words) r.guards a.number c.seen-seen.result.name some c.requires.forgotten.1 (c.seen-seen.ensures.0 ∙ current.of.0.0.book);
       shelf = c.requires.shelf;
     }

@@ -30,7 +30,7 @@ take_again-requires g c =
     let slot = c.in-Some.slot in let its = ended self numbers.0 c.args.n found slot is in (
       omega arith,
       (
-        ((subst (λ n. IsOfList n slot) numbers.1 its.its, not_used (slot_of slot.key).used (its.free (omega arith)), its.inactive), c.requires.pass),
+        ((subst (λ n. IsOfList n slot) numbers.1 its.its, not_used (slot_of slot.holder.key).used (its.free (omega arith)), its.inactive), c.requires.pass),
         (numbers.0.book ∙ numbers.1 ∙ c.requires.pass.0, may_take_first self numbers.0 c.args.n found slot is),
       ),
     )

@@ -26,7 +26,7 @@ pub returns-in-Ok-clause-numbers : goal.returns-in-Ok-clause-numbers
 returns-in-Ok-clause-numbers g c =
     let self = c.args.self.now in let are = c.requires.numbers.0 in let slots = c.push_reserved.ensures.items ∙ ap (λ items. items ++ None ∷ []) c.reserve.ensures.items in
     let made = c.in-Ok.ensures.made in
-    (numbers_made self are c.requires.taken _ c.learn.new.self c.make.new.pass c.in-Ok.slot.key c.in-Some.next c.in-Ok.next made.0 slots refl refl, refl, subst (NoneBelow c.len-self.result) (sym slots) (none_pushed self.slots.items c.len-self.result c.requires.taken))
+    (numbers_made self are c.requires.taken _ c.learn.new.self c.make.new.pass c.in-Ok.slot.holder.key c.in-Some.next c.in-Ok.next made.0 slots refl refl, refl, subst (NoneBelow c.len-self.result) (sym slots) (none_pushed self.slots.items c.len-self.result c.requires.taken))
 
 pub returns-in-Ok-clause-made : goal.returns-in-Ok-clause-made
 returns-in-Ok-clause-made g c =

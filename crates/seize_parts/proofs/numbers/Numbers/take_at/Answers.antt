@@ -20,7 +20,7 @@ take_again-requires g c =
     let at = numbers.0.slots n slot is in (
       omega arith,
       (
-        ((subst (λ name. IsOfList name slot) numbers.1 at.its, not_used (slot_of slot.key).used (at.free (omega arith)), at.inactive), c.requires.pass.0),
+        ((subst (λ name. IsOfList name slot) numbers.1 at.its, not_used (slot_of slot.holder.key).used (at.free (omega arith)), at.inactive), c.requires.pass.0),
         (numbers.0.book ∙ numbers.1 ∙ c.requires.pass.0.0, may_take_next n self numbers.0 slot is),
       ),
     )

@@ -1,6 +1,5 @@
 use Rattle.std.proofs.Common.{◌≡◌, ◌≤◌, length, All}
 use Rattle.seize.specs.Blocks.{Belongs}
-use Rattle.seize_script.specs.Readers.{read_for}
 use Rattle.seize_script.specs.Values.{owners_of}
 use Rattle.seize_script.proofs.call.CallReader.+block.Given as goal
 
@@ -9,8 +8,8 @@ decreases-block l = l.deepest
 
 abbrev pub invariant-loop-inside : goal.invariant-loop-inside
 invariant-loop-inside l = record {
-  own : All (Belongs owners_of (read_for l.fn.self).0) l.inside.items;
-  same : read_for l.self ≡ read_for l.fn.self;
+  own : All (Belongs owners_of l.fn.self.alone.book.store) l.inside.items;
+  same : l.self.alone ≡ l.fn.self.alone;
   shorter : length l.line ≤ length l.fn.line;
 }
 

@@ -6,7 +6,8 @@ use mir.MapTy.{inst_fn}
 use denote.Param.{param, bounded}
 use Rattle.seize_model.specs.Waiting.State.{State}
 use Rattle.seize_book.proofs.Fields.{Token, token, token_made, ends}
-use Rattle.seize_book.specs.contracts.book.porter.Porter as Porter
+use denote.Signature.{static_lft}
+use Rattle.seize_book.specs.contracts.book.pass.Pass as Pass
 use Rattle.seize.specs.contracts.alone.hands.Hands.first.{ended, clauses}
 use Rattle.seize.specs.contracts.alone.hands.Hands.first.Key.{name as #self}
 use Rattle.seize.proofs.alone.hands.Hands.first.Statement.{statement}
@@ -15,10 +16,10 @@ use Rattle.seize.proofs.alone.hands.Hands.first.Code as code
 pub first_spec : {M : Type 1} → statement M
 first_spec 𝓤 𝓛 𝓜 𝓡 wired X Y Z LX LY LZ g dict met =
     let H = 𝓛.H in let 𝓣 = tables 𝓤 H 𝓜 𝓡 𝓡.env in let S : RattleType = param 2 Z in let En = ended X Y Z g dict in let inst = bounded (a_type ∷ a_type ∷ a_type ∷ []) (X, (Y, (Z, tt))) (dcons dict dnil) in let fn = inst_fn inst code.function in let c = clauses X Y Z g dict 𝓛 𝓜.mem 𝓡.returns in
-    let porter = RefOf (0 ∷ []) tt (plain (λ _. Porter.the_row)) (λ _. tt) in let said = RefOf (1 ∷ []) tt (plain (λ _. S)) (λ _. tt) in
-    let hs : Stays En.signature.params En.kept = (stay_dropped porter yes, (stay_dropped said yes, tt)) in
-    proved 𝓛 En hs c 𝓜 𝓡 (Goes-dropped 𝓛 5 porter yes (λ κs x f. refl), (Goes-dropped 𝓛 5 said yes (λ κs x f. refl), tt)) (#self inst) fn (code.unfolded 𝓤 H 𝓜 𝓡 wired (X, (Y, (Z, tt))) dict)
-    (λ κs. (shr_vals, (shr_vals, tt))) (λ κs. (shr_Tells (named 0) κs.0 Porter.the_row, (shr_Tells (named 1) κs.1.0 S, tt))) (λ κs qs bounds a gh are.
+    let pass = RefOf (0 ∷ []) tt (plain (λ _. Pass.the_row static_lft)) (λ _. tt) in let said = RefOf (1 ∷ []) tt (plain (λ _. S)) (λ _. tt) in
+    let hs : Stays En.signature.params En.kept = (stay_dropped pass yes, (stay_dropped said yes, tt)) in
+    proved 𝓛 En hs c 𝓜 𝓡 (Goes-dropped 𝓛 5 pass yes (λ κs x f. refl), (Goes-dropped 𝓛 5 said yes (λ κs x f. refl), tt)) (#self inst) fn (code.unfolded 𝓤 H 𝓜 𝓡 wired (X, (Y, (Z, tt))) dict)
+    (λ κs. (shr_vals, (shr_vals, tt))) (λ κs. (shr_Tells (named 0) κs.0 (Pass.the_row static_lft), (shr_Tells (named 1) κs.1.0 S, tt))) (λ κs qs bounds a gh are.
     let pb : ℕ = a.0.ref_ptr.0 in let po : ℕ = a.0.ref_ptr.1 in let sb : ℕ = a.1.0.ref_ptr.0 in let so : ℕ = a.1.0.ref_ptr.1 in
     let y : (walk_of 𝓛 En hs c).Ghost = ((κs, qs, bounds, a, (vptr pb po ∷ [], (vptr sb so ∷ [], tt))), gh) in let Post : Val → SProp 𝓤 = (walk_of 𝓛 En hs c).post y in
     let toks : Fml = fsep (flft κs.0 qs.0) (fsep (flft κs.1.0 qs.1.0) (fsep (flft κs.1.1.0 qs.1.1.0) (fsep (flft κs.1.1.1.0 qs.1.1.1.0) (fsep (flft κs.1.1.1.1.0 qs.1.1.1.1.0) ftrue)))) in

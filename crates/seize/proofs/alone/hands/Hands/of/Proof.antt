@@ -6,7 +6,8 @@ use mir.MapTy.{inst_fn}
 use denote.Param.{param, bounded}
 use Rattle.seize_model.specs.Waiting.State.{State}
 use Rattle.seize_book.proofs.Fields.{Token, token, token_made, ends}
-use Rattle.seize_book.specs.contracts.book.porter.Porter as Porter
+use denote.Signature.{static_lft}
+use Rattle.seize_book.specs.contracts.book.pass.Pass as Pass
 use Rattle.seize.specs.contracts.alone.hands.Hands as Hands
 use Rattle.seize.specs.contracts.alone.hands.Hands.of.{ended, clauses}
 use Rattle.seize.specs.contracts.alone.hands.Hands.of.Key.{name as #self}
@@ -16,10 +17,10 @@ use Rattle.seize.proofs.alone.hands.Hands.of.Code as code
 pub of_spec : {M : Type 1} → statement M
 of_spec 𝓤 𝓛 𝓜 𝓡 wired X Y Z LX LY LZ g dict met =
     let H = 𝓛.H in let 𝓣 = tables 𝓤 H 𝓜 𝓡 𝓡.env in let T : RattleType = param 0 X in let S : RattleType = param 2 Z in let En = ended X Y Z g dict in let inst = bounded (a_type ∷ a_type ∷ a_type ∷ []) (X, (Y, (Z, tt))) (dcons dict dnil) in let fn = inst_fn inst code.function in let c = clauses X Y Z g dict 𝓛 𝓜.mem 𝓡.returns in
-    let hands = RefOf (0 ∷ []) tt (plain (λ _. Hands.the_row T)) (λ _. tt) in let porter = RefOf (1 ∷ []) tt (plain (λ _. Porter.the_row)) (λ _. tt) in let said = RefOf (2 ∷ []) tt (plain (λ _. S)) (λ _. tt) in
-    let hs : Stays En.signature.params En.kept = (stay_dropped hands yes, (stay_dropped porter yes, (stay_dropped said yes, tt))) in
-    proved 𝓛 En hs c 𝓜 𝓡 (Goes-dropped 𝓛 6 hands yes (λ κs x f. refl), (Goes-dropped 𝓛 6 porter yes (λ κs x f. refl), (Goes-dropped 𝓛 6 said yes (λ κs x f. refl), tt))) (#self inst) fn (code.unfolded 𝓤 H 𝓜 𝓡 wired (X, (Y, (Z, tt))) dict)
-    (λ κs. (shr_vals, (shr_vals, (shr_vals, tt)))) (λ κs. (shr_Tells (named 0) κs.0 (Hands.the_row T), (shr_Tells (named 1) κs.1.0 Porter.the_row, (shr_Tells (named 2) κs.1.1.0 S, tt)))) (λ κs qs bounds a gh are.
+    let hands = RefOf (0 ∷ []) tt (plain (λ _. Hands.the_row T)) (λ _. tt) in let pass = RefOf (1 ∷ []) tt (plain (λ _. Pass.the_row static_lft)) (λ _. tt) in let said = RefOf (2 ∷ []) tt (plain (λ _. S)) (λ _. tt) in
+    let hs : Stays En.signature.params En.kept = (stay_dropped hands yes, (stay_dropped pass yes, (stay_dropped said yes, tt))) in
+    proved 𝓛 En hs c 𝓜 𝓡 (Goes-dropped 𝓛 6 hands yes (λ κs x f. refl), (Goes-dropped 𝓛 6 pass yes (λ κs x f. refl), (Goes-dropped 𝓛 6 said yes (λ κs x f. refl), tt))) (#self inst) fn (code.unfolded 𝓤 H 𝓜 𝓡 wired (X, (Y, (Z, tt))) dict)
+    (λ κs. (shr_vals, (shr_vals, (shr_vals, tt)))) (λ κs. (shr_Tells (named 0) κs.0 (Hands.the_row T), (shr_Tells (named 1) κs.1.0 (Pass.the_row static_lft), (shr_Tells (named 2) κs.1.1.0 S, tt)))) (λ κs qs bounds a gh are.
     let hb : ℕ = a.0.ref_ptr.0 in let ho : ℕ = a.0.ref_ptr.1 in let pb : ℕ = a.1.0.ref_ptr.0 in let po : ℕ = a.1.0.ref_ptr.1 in let sb : ℕ = a.1.1.0.ref_ptr.0 in let so : ℕ = a.1.1.0.ref_ptr.1 in
     let y : (walk_of 𝓛 En hs c).Ghost = ((κs, qs, bounds, a, (vptr hb ho ∷ [], (vptr pb po ∷ [], (vptr sb so ∷ [], tt)))), gh) in let Post : Val → SProp 𝓤 = (walk_of 𝓛 En hs c).post y in
     let toks : Fml = fsep (flft κs.0 qs.0) (fsep (flft κs.1.0 qs.1.0) (fsep (flft κs.1.1.0 qs.1.1.0) (fsep (flft κs.1.1.1.0 qs.1.1.1.0) (fsep (flft κs.1.1.1.1.0 qs.1.1.1.1.0) (fsep (flft κs.1.1.1.1.1.0 qs.1.1.1.1.1.0) ftrue))))) in
