@@ -30,6 +30,7 @@ use Rattle.seize_machine.proofs.Invariants.Kept as kept
 use Rattle.seize_machine.proofs.Invariants.Live as live
 use Rattle.seize_machine.proofs.Invariants.Tried as tried
 use Rattle.seize_machine.proofs.Invariants.Noted as noted
+use Rattle.seize_machine.proofs.Invariants.Unused as unused
 use Rattle.seize_machine.proofs.Invariants.Listed as lists_once
 pub use Rattle.seize_machine.proofs.Invariants.Listed.{IsSettled}
 use Rattle.seize_machine.proofs.Laws.AtMostOnce as at_most_once
@@ -221,6 +222,10 @@ gone_grows = live.gone_grows
 -- a value that came out of a link stays so until a call begins to retire it
 pub loose_stays : (v size : ℕ) (st : State) (event : Event) (d : State × Answer) → Step size st event d → begins_retiring v event ≡ false → has v st.loose ≡ true → has v (d.0).loose ≡ true
 loose_stays = frames.loose_stays
+
+-- a slot whose number is free has no call and is not active
+pub unused_at_rest : (st : State) → IsReached st → (t : ℕ) → (slot_at st t).used ≡ false → ((slot_at st t).call ≡ None) × (is_active (head_at st t) ≡ false)
+unused_at_rest = unused.unused_at_rest
 
 -- Calls in a reached state.
 

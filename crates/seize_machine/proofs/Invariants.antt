@@ -11,3 +11,4 @@ pub mod Live
 pub mod Tried
 pub mod Listed
 pub mod Noted
+pub mod Unused

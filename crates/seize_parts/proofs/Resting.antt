@@ -8,7 +8,7 @@ use base.Stored.{Gv}
 use Rattle.seize_machine.specs.Machine.Frames.{used}
 use Rattle.seize_machine.specs.Machine.State.{Slot as Record, State, are_distinct, head_at, is_active, linked_values, no_slot, slot_at}
 use Rattle.seize_model.specs.declared.kind.Kind.TheVariants.{Free}
-use Rattle.seize_book.specs.Book.{IsLegalList, after}
+use Rattle.seize_book.specs.Book.{after}
 use Rattle.seize_book.specs.Entry.{Entry}
 use Rattle.seize_book.specs.Homes.{IsSound}
 use Rattle.seize_book.specs.Homesteads.{state_seen}
@@ -19,7 +19,9 @@ use Rattle.seize_book.specs.Saying.{AllSay}
 use Rattle.seize_book.specs.Slots.{slot_number, slot_of}
 use Rattle.seize_book.specs.Tokens.{IsSole, Name, start}
 use Rattle.seize_book.specs.declared.book.pass.Pass.{Pass}
-use Rattle.seize_book.proofs.Facts.{same_twice}
+use Rattle.seize_book.proofs.Facts.{reached_after, same_twice}
+use Rattle.seize_machine.proofs.Facts.{unused_at_rest}
+use Rattle.seize_machine.specs.Machine.History.{IsReached}
 use Rattle.seize_words.specs.declared.words.Words.{Words}
 use Rattle.seize_calls.specs.Slots.{IsFreeSlotOf, SlotGives, its_number}
 use Rattle.seize_calls.specs.declared.slot.Slot.{Slot}
@@ -28,38 +30,13 @@ use Rattle.seize_alone.proofs.Begins.{begins_held}
 use Rattle.seize_parts.specs.Laws.{HaveContents}
 use Rattle.seize_parts.specs.Numbers.{flags_of}
 use Rattle.seize_parts.specs.Placing.{IsLeftAt, use_in}
-use Rattle.seize_parts.specs.Resting.{AreIdle, AreLeft, ComesToRest, IsIdle, LiesSomewhere}
+use Rattle.seize_parts.specs.Resting.{AreLeft, ComesToRest, LiesSomewhere}
 use Rattle.seize_parts.specs.Sweeps.{IsLedBy, KeepsOn, LeavesNothing, LiesHere}
 use Rattle.seize_parts.specs.declared.alone.place.Place.{Place}
 use Rattle.seize_parts.specs.declared.numbers.resting.Found.{Found}
 use Rattle.seize_parts.proofs.Cleared.{below_or, here_long, looked_state, past_end, past_nothing, used_at}
 use Rattle.seize_parts.proofs.InUse.{set_or}
 use Rattle.seize_parts.proofs.Swept.{given_later}
-
--- What was done by another slot leaves a slot idle.
-pub kept_idle : (s n t : ℕ) (pass pass' : Pass) → s ≡ n → IsLedBy s pass pass' → ¬ (t ≡ n) → IsIdle pass t → IsIdle pass' t
-kept_idle s n t pass pass' same led differs was =
-    let apart : ¬ (t ≡ s) = λ e. differs (e ∙ same) in let slots = led.leads.slots t apart in record {
-      call = ap (λ (z : Record). z.call) slots ∙ was.call;
-      off = led.leads.active t apart ∙ was.off;
-    }
-
--- So does a look with a pass that is alone.
-pub looked_idle : (pass pass' : Pass) → LooksOn pass pass' → IsSole pass.id → (t : ℕ) → IsIdle pass t → IsIdle pass' t
-looked_idle pass pass' looks sole t was =
-    let same = looked_state pass pass' looks sole in let slot : slot_at (state_seen pass') t ≡ slot_at (state_seen pass) t = ap (λ (st : State). slot_at st t) same in record {
-      call = ap (λ (z : Record). z.call) slot ∙ was.call;
-      off = ap (λ (st : State). is_active (head_at st t)) same ∙ was.off;
-    }
-
--- A slot whose number just went back is idle, as its key says.
-pub given_idle : {T : Type 0} (words : Words T) (slot : Slot T) (pass : Pass) (slot' : Slot T) (pass' : Pass) (n : ℕ) → IsSole pass.id → (e : SlotGives slot pass slot' pass') → IsFreeSlotOf words slot' → its_number slot ≡ n → IsIdle pass' n
-given_idle words slot pass slot' pass' n sole e free at =
-    let moves = e.0.does.2.1 in let later = given_later slot pass slot' pass' sole e in let number : slot_number slot.holder.key ≡ n = slot.together.numbered ∙ at in
-    let is : slot_at (state_seen pass') n ≡ slot_of slot'.holder.key = (λ j. slot_at (later j) (sym number j)) ∙ sym moves.is in record {
-      call = ap (λ (z : Record). z.call) is ∙ slot'.together.call;
-      off = (λ j. is_active (head_at (later j) (sym number j))) ∙ sym moves.is_now_active ∙ free.2;
-    }
 
 here_some : {X : Type 0} (items : List (Option X)) (s : ℕ) → is_some (get_or items s None) ≡ true → LiesHere (flags_of items) s
 here_some [] s is = absurd (cc)
@@ -76,51 +53,29 @@ all_lie items places all s less = inl (go items all s less)
     go (Some x ∷ os) all zero less = refl
     go (Some x ∷ os) all (suc s) less = go os all s (omega (arith, less))
 
-no_call : {A : Type 0} (o : Option A) → is_some o ≡ false → o ≡ None
-no_call None is = refl
-no_call (Some x) is = absurd (let e : true ≡ false = is in cc)
-
--- What leaves nothing is idle.
-pub nothing_idle : (pass : Pass) (t : ℕ) → LeavesNothing pass t → IsIdle pass t
-nothing_idle pass t left = record { call = no_call (slot_at (state_seen pass) t).call left.call; off = left.off }
-
--- After a look with a pass that is alone.
-module _ (p q r : Pass) (keeps : KeepsOn p q) (looks : LooksOn q r) (sole : IsSole q.id) where
-  pub rested_same : IsSamePass p r
-  rested_same = same_twice p q r keeps.0 looks.same
-
+-- After a look.
+module _ (p r : Pass) (looks : LooksOn p r) where
   pub rested_on : GoesOnTo p.name p.seen r.seen
-  rested_on = record {
-    grows = prefix_trans p.seen q.seen r.seen keeps.1 looks.grows;
-    legal = subst (λ (n : Name). IsLegalList (start n) r.seen) keeps.0.0 looks.legal;
-    sound = subst (λ (n : Name). IsSound (after (start n) r.seen)) keeps.0.0 looks.sound;
-    lent = subst (λ (n : Name). AllCarryOne (after (start n) r.seen).named) keeps.0.0 looks.lent;
-    distinct = subst (λ (n : Name). are_distinct (linked_values n.links) ≡ true) keeps.0.0 looks.distinct;
-  }
+  rested_on = record { grows = looks.grows; legal = looks.legal; sound = looks.sound; lent = looks.lent; distinct = looks.distinct }
 
-  module _ {X : Type 0} (items : List (Option X)) (flags : used (state_seen r) ≡ flags_of items) (idle : AreIdle (flags_of items) q) where
-    long : length items ≡ length (state_seen r).slots
-    long = sym (length-map items is_none) ∙ sym (ap (λ (us : List Bool). length us) flags) ∙ length-map (state_seen r).slots (λ slot. slot.used)
-
+  module _ {X : Type 0} (items : List (Option X)) (flags : used (state_seen r) ≡ flags_of items) where
     pub rested_many : length items ≡ length (state_seen r).slots
-    rested_many = long
+    rested_many = sym (length-map items is_none) ∙ sym (ap (λ (us : List Bool). length us) flags) ∙ length-map (state_seen r).slots (λ slot. slot.used)
 
-    free_as : (s : ℕ) → IsIdle r s → (slot_at (state_seen r) s).used ≡ false → IsUsedAs (state_seen r) s (Free, 0)
-    free_as s is unused = record { used = unused; idle = is.call; active = is.off; free = λ _. refl; owned = λ _. omega arith }
+    reached : IsReached (state_seen r)
+    reached = subst (λ (n : Name). IsReached (after (start n) r.seen)) (sym looks.same.0) (reached_after p.name r.seen looks.distinct looks.legal)
 
-    -- a slot that lies there, and one that was never made, are free
+    -- a slot whose number is not in use is free, also one that was never made
+    free_as : (s : ℕ) → (slot_at (state_seen r) s).used ≡ false → IsUsedAs (state_seen r) s (Free, 0)
+    free_as s unused = let rests = unused_at_rest (state_seen r) reached s unused in record { used = unused; idle = rests.0; active = rests.1; free = λ _. refl; owned = λ _. omega arith }
+
     free_here : (s : ℕ) → LiesHere (flags_of items) s → IsUsedAs (state_seen r) s (Free, 0)
     free_here s here =
-        let less = here_long (flags_of items) s here in let many = length-map items is_none in
-        free_as s (looked_idle q r looks sole s (idle s here)) (used_at (state_seen r).slots s (let same = long in omega (arith, less, many, same)) ∙ ap (λ (us : List Bool). get_or us s true) flags ∙ here)
+        let less = here_long (flags_of items) s here in let many = length-map items is_none in let same = rested_many in
+        free_as s (used_at (state_seen r).slots s (omega (arith, less, many, same)) ∙ ap (λ (us : List Bool). get_or us s true) flags ∙ here)
 
     free_past : (s : ℕ) → length items ≤ s → IsUsedAs (state_seen r) s (Free, 0)
-    free_past s past =
-        let legal : IsLegalList (start r.name) r.seen = subst (λ (n : Name). IsLegalList (start n) r.seen) (sym looks.same.0) looks.legal in
-        let distinct : are_distinct (linked_values r.name.links) ≡ true = subst (λ (n : Name). are_distinct (linked_values n.links) ≡ true) (sym looks.same.0) looks.distinct in
-        let many = length-map (state_seen r).slots (λ (slot : Record). slot.used) in
-        free_as s (nothing_idle r s (past_nothing r legal distinct s (let same = long in omega (arith, past, many, same))))
-        (ap (λ (slot : Record). slot.used) (past_end (state_seen r).slots s no_slot (let same = long in omega (arith, past, same))))
+    free_past s past = free_as s (let same = rested_many in ap (λ (slot : Record). slot.used) (past_end (state_seen r).slots s no_slot (omega (arith, past, same))))
 
     -- so each slot is used as what lies in its place says, where each lies here or there
     module _ {T : Type 0} (places : List (Option (Place T))) (left : AreLeft r places) (all : (s : ℕ) → s < length items → LiesSomewhere items places s) where
@@ -151,15 +106,6 @@ left_none {T} pass items none s place is = absurd (nothing (sym (none s) ∙ is)
   where
     nothing : None ≡ Some place → ⊥
     nothing e = cc
-
--- Where the same numbers are in use, each slot is used as it was.
-flag_at : (slots : List Record) (s : ℕ) → (get_or slots s no_slot).used ≡ get_or (map (λ slot. slot.used) slots) s false
-flag_at [] s = refl
-flag_at (x ∷ slots) zero = refl
-flag_at (x ∷ slots) (suc s) = flag_at slots s
-
-pub used_as : (st st' : State) → used st' ≡ used st → (s : ℕ) → (slot_at st' s).used ≡ (slot_at st s).used
-used_as st st' same s = flag_at st'.slots s ∙ ap (λ (us : List Bool). get_or us s false) same ∙ sym (flag_at st.slots s)
 
 -- Another look changes nothing of that.
 pub come_on : {T : Type 0} (p q r : Pass) (found : Found T) → ComesToRest p q found → LooksOn q r → IsSole q.id → ComesToRest p r found

@@ -1,14 +1,10 @@
 -- How a collector that threads shared is found where one caller has it.
---     IsIdle pass s            slot s has no call and is not active, as the pass has seen
---     AreIdle flags pass       so is each slot that lies here
---     AreIdleFrom k flags pass   so is each from k on
---     KeepsIdleBut n pass pass'  each slot but n that is idle stays so
 --     AreLeft pass places      what lies in these places was left there, as the pass has seen
 --     LiesSomewhere slots places s   slot s lies here, or something lies in its place
 --     ComesToRest pass pass' found    it is the same pass, with a list that goes on. So many slots were made, and what lies in the places
 --                              that were found was left there. The same numbers are in use as before. Where all is found each slot is
 --                              used as its place says; where it is not, a number is in use
-use Rattle.std.specs.Prelude.{◌≡◌, ◌≤◌, ◌⊎◌, ℕ, Bool, true, false, List, Option, None, Some, get_or, is_some, length}
+use Rattle.std.specs.Prelude.{◌≡◌, ◌⊎◌, ℕ, true, false, List, Option, None, Some, get_or, is_some, length}
 use Rattle.seize_machine.specs.Machine.State.{slot_at}
 use Rattle.seize_book.specs.Homesteads.{state_seen}
 use Rattle.seize_book.specs.Passes.{IsSamePass}
@@ -16,22 +12,8 @@ use Rattle.seize_book.specs.Porters.{GoesOnTo}
 use Rattle.seize_book.specs.declared.book.pass.Pass.{Pass}
 use Rattle.seize_alone.specs.Begins.{IsUsedAs}
 use Rattle.seize_parts.specs.Placing.{IsLeftAt, use_in}
-use Rattle.seize_parts.specs.Sweeps.{IsOff, LiesHere}
 use Rattle.seize_parts.specs.declared.alone.place.Place.{Place}
 use Rattle.seize_parts.specs.declared.numbers.resting.Found.{Found}
-
-pub record IsIdle (pass : Pass) (s : ℕ) : Type 0 where
-  pub call : (slot_at (state_seen pass) s).call ≡ None
-  pub off : IsOff pass s
-
-abbrev pub AreIdle : List Bool → Pass → Type 0
-AreIdle flags pass = (s : ℕ) → LiesHere flags s → IsIdle pass s
-
-abbrev pub AreIdleFrom : ℕ → List Bool → Pass → Type 0
-AreIdleFrom k flags pass = (s : ℕ) → k ≤ s → LiesHere flags s → IsIdle pass s
-
-abbrev pub KeepsIdleBut : ℕ → Pass → Pass → Type 0
-KeepsIdleBut n pass pass' = (s : ℕ) → ¬ (s ≡ n) → IsIdle pass s → IsIdle pass' s
 
 abbrev pub AreLeft : {T : Type 0} → Pass → List (Option (Place T)) → Type 0
 AreLeft {T} pass places =

@@ -1,6 +1,6 @@
 //! What is asked of the slots of a collector, where one caller is to have it: what the list says of each that nobody has, and what was left
-//! of each that a forgotten holder has. The numbers of the former are taken again and go back, which makes no atomic step. What is in the
-//! batches of slots stays there.
+//! of each that a forgotten holder has. A slot that nobody has has no call and is not active, as the list says, so nothing is done with it:
+//! what is in its batch stays there.
 ghost use Rattle.std.specs.Prelude.{◌≡◌, ◌<◌, ℕ, None, get_or, length, true};
 ghost use Rattle.seize_book.specs.Saying.{AllSay};
 ghost use Rattle.seize_book.specs.Tokens.{IsSole};
@@ -32,9 +32,9 @@ pub struct Found<T: Drop> {
 }
 
 impl<T: Drop> Numbers<T> {
-    /// What is found of the slots. Each that lies here takes its number again, and the numbers go back, so that the pass sees what the list
-    /// says of each; and what was left of each other one comes into its place. With each value that was named a content is lent. It takes
-    /// memory for places only where a number is in use, and waits for nobody.
+    /// What is found of the slots. The pass sees what the list says of each, and what was left of each that is in use comes into its place.
+    /// With each value that was named a content is lent. It takes memory for places only where a number is in use, makes no event, and waits
+    /// for nobody.
     pub fn come_to_rest<R: Reclaim<T>>(
         &mut self,
         words: &Words<T>,
@@ -64,9 +64,6 @@ impl<T: Drop> Numbers<T> {
         ensures numbers { AreNumbers self.new × (self.new.book ≡ self.old.book) }
         ensures rests { ComesToRest pass.old pass.new result }
     {
-        self.key.look(pass);
-        self.take_all(words, pass);
-        self.give_all(words, pass);
         self.key.look(pass);
         let mut places = Vec::new(alloc);
         let all = self.all_here() || self.find_all(words, &mut places, pass);

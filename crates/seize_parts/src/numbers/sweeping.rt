@@ -12,7 +12,6 @@ ghost use Rattle.seize_parts.specs.Aparts.{GivesBack, KeepsAside, MayDrain};
 ghost use Rattle.seize_parts.specs.Enders.{IsEnderOf};
 ghost use Rattle.seize_calls.specs.Slots.{IsInactive, IsPassFor, IsSlotOf, its_number};
 ghost use Rattle.seize_parts.specs.Numbers.{AreNumbers, AreTakenTo, flags_of, IsLockFor, KnowsLeast};
-ghost use Rattle.seize_parts.specs.Resting.{AreIdle, IsIdle, KeepsIdleBut};
 ghost use Rattle.seize_parts.specs.Sweeps.{AreOff, AreOffBelow, LiesHere, IsLedBy, IsOff, KeepsCleared, KeepsClearedBut, KeepsElse, KeepsOff, KeepsOn, KeepsPlaces, AreClearedBelow, LeavesNothing, Sweeps};
 
 use crate::alone::apart::{flush_into, leave_into};
@@ -142,8 +141,8 @@ impl<T: Drop> Numbers<T> {
         self.slots.iter().all(|slot| slot.is_some())
     }
 
-    /// Each slot that lies here takes its number again, and is not active.
-    pub(super) fn take_all(&mut self, words: &Words<T>, pass: &mut Pass)
+    // Each slot that lies here takes its number again, and is not active.
+    fn take_all(&mut self, words: &Words<T>, pass: &mut Pass)
         requires numbers { AreTakenTo 0 self.old × (self.old.book.name ≡ words_book words.now) }
         requires pass { IsPassFor words.now pass.old × IsSole pass.old.id }
         ensures taken { AreTakenTo (length self.new.slots.items) self.new × KeepsPlaces self.old self.new }
@@ -229,7 +228,6 @@ impl<T: Drop> Numbers<T> {
         ensures numbers { AreTakenTo 0 self.new × KeepsPlaces self.old self.new }
         ensures left { KeepsOn pass.old pass.new × KeepsCleared pass.old pass.new }
         ensures others { KeepsElse (flags_of self.new.slots.items) pass.old pass.new }
-        ensures idle { AreIdle (flags_of self.new.slots.items) pass.new }
         ensures gives { list_all is_some self.old.slots.items ≡ true → GivesBack (length self.old.slots.items) pass.old pass.new }
     {
         let many = self.slots.len();
@@ -245,7 +243,6 @@ impl<T: Drop> Numbers<T> {
         ensures taken { AreTakenTo n self.new × KeepsPlaces self.old self.new }
         ensures left { KeepsOn pass.old pass.new × KeepsCleared pass.old pass.new }
         ensures others { KeepsElse (flags_of self.new.slots.items) pass.old pass.new }
-        ensures idle { KeepsIdleBut n pass.old pass.new × (LiesHere (flags_of self.new.slots.items) n → IsIdle pass.new n) }
         ensures gives { is_some (get_or self.old.slots.items n None) ≡ true
             → (answer : Answer) × MakesAlone pass.old pass.new (Give n) answer }
     {

@@ -1,7 +1,4 @@
 use Rattle.std.proofs.Common.{◌≡◌, ◌-◌, ◌+◌, ◌<◌, ◌≤◌, ℕ, suc, Bool, List, Option, length, refl, sym, ap, subst, ◌∙◌, arith}
-use Rattle.std.specs.Option.{is_none}
-use Rattle.std.proofs.lemmas.List.{length-map}
-use native.Mathlib.Decide.{ℕ_discrete}
 use Rattle.seize_book.specs.declared.book.pass.Pass.{Pass}
 use Rattle.seize_machine.specs.Machine.Event.{Give}
 use Rattle.seize_machine.specs.declared.machine.event.Answer.{Answer}
@@ -12,22 +9,7 @@ use Rattle.seize_parts.proofs.Placed.{still_for}
 use Rattle.seize_parts.proofs.Swept.{keeps_none, keeps_then, still_sole, else_more, else_none}
 use Rattle.seize_parts.proofs.InUse.{places_length, taken_as}
 use Rattle.seize_parts.specs.Numbers.{flags_of}
-use Rattle.seize_parts.specs.Resting.{AreIdleFrom, IsIdle, KeepsIdleBut}
-use Rattle.seize_parts.specs.Sweeps.{LiesHere}
-use Rattle.seize_parts.proofs.Cleared.{here_long}
 use Rattle.seize_parts.proofs.numbers.Numbers.give_all.Goals as goal
-
--- from the end on there is none
-none_idle : {X : Type 0} (items : List (Option X)) (pass : Pass) (k : ℕ) → length items ≤ k → AreIdleFrom k (flags_of items) pass
-none_idle items pass k past s from here = absurd (let less = here_long (flags_of items) s here in let long = length-map items is_none in omega (arith, past, from, less, long))
-
--- one more gave its number back
-more_idle : (n k m : ℕ) (flags flags' : List Bool) (pass pass' : Pass) → k ≡ n + 1 → m ≡ n → flags' ≡ flags → KeepsIdleBut n pass pass' → AreIdleFrom k flags pass → (LiesHere flags' n → IsIdle pass' n) → AreIdleFrom m flags' pass'
-more_idle n k m flags flags' pass pass' next this same kept was one t from here = go (ℕ_discrete t n)
-  where
-    go : Dec (t ≡ n) → IsIdle pass' t
-    go (yes e) = subst (IsIdle pass') (sym e) (one (subst (LiesHere flags') e here))
-    go (no differs) = kept t differs (was t (let apart : t ≡ n → ⊥ = differs in omega (arith, from, next, this, apart)) (subst (λ (us : List Bool). LiesHere us t) same here))
 
 nothing_less : (n : ℕ) → n - 0 ≡ n
 nothing_less n = omega arith
@@ -54,7 +36,6 @@ loop-given-init g c =
       keeps_none c.args.pass.now,
       (λ t was. was),
       else_none _ c.args.pass.now,
-      none_idle self.slots.items c.args.pass.now (c.len-many.result - 0) (omega (arith, many)),
       λ all q back. subst (λ (k : ℕ). GivesBack k c.args.pass.now q) (nothing_less c.len-many.result) back,
     )
 
@@ -80,8 +61,7 @@ loop-given-preserved g c =
       keeps_then c.args.pass.now was now i.5 one.left.0,
       λ t left. one.left.1 t (i.6 t left),
       else_more (flags_of c.loop-given.self.slots.items) (flags_of self'.slots.items) c.args.pass.now was now one.taken.1.1 i.7 one.others,
-      more_idle (many - 1 - given) (many - given) (many - (given + 1)) (flags_of c.loop-given.self.slots.items) (flags_of self'.slots.items) was now (omega (arith, less)) (omega (arith, less)) one.taken.1.1 one.idle.0 i.8 one.idle.1,
-      λ all q back. i.9 all q (give_more many given was now q less
+      λ all q back. i.8 all q (give_more many given was now q less
           (one.gives (some_all c.loop-given.self.slots.items (many - 1 - given) (keeps_here c.args.self.now c.loop-given.self i.1 all) (let long = i.2 in omega (arith, less, long)))) back),
     )
 
@@ -90,11 +70,8 @@ returns-clause-numbers g c =
     let i = c.loop-given.invariant in let over = c.loop-given-test.false in
     (taken_as c.loop-given.self 0 (c.len-many.result - c.loop-given.given) (omega (arith, over)) i.0, i.1)
 
-pub returns-clause-idle : goal.returns-clause-idle
-returns-clause-idle g c t here = let over = c.loop-given-test.false in c.loop-given.invariant.8 t (omega (arith, over)) here
-
 pub returns-clause-gives : goal.returns-clause-gives
 returns-clause-gives g c all =
     let over = c.loop-given-test.false in let many = c.len-many.result in let pass = c.loop-given.pass in
     let none : 0 ≡ many - c.loop-given.given = omega (arith, over) in let len = c.len-many.ensures in let long : many ≡ length c.args.self.now.slots.items = omega (arith, len) in
-    subst (λ (k : ℕ). GivesBack k c.args.pass.now pass) long (c.loop-given.invariant.9 all pass (subst (λ (k : ℕ). GivesBack k pass pass) none refl))
+    subst (λ (k : ℕ). GivesBack k c.args.pass.now pass) long (c.loop-given.invariant.8 all pass (subst (λ (k : ℕ). GivesBack k pass pass) none refl))

@@ -11,8 +11,7 @@ use Rattle.seize_alone.proofs.Ready.{entry_alone}
 use Rattle.seize_parts.proofs.Stilled.{alone_from, still_prepared}
 use Rattle.seize_parts.specs.Numbers.{IsTakenAt, flags_to}
 use Rattle.seize_parts.proofs.Swept.{given_left, gives, keeps_none, keeps_on, else_led, else_none}
-use Rattle.seize_parts.proofs.Resting.{given_idle, kept_idle}
-use Rattle.seize_parts.proofs.InUse.{given_none, given_one, made_sets, none_here, none_there, other_given, plus_one, set_twice, some_there, some_flag}
+use Rattle.seize_parts.proofs.InUse.{given_none, given_one, made_sets, none_there, other_given, plus_one, set_twice, some_there, some_flag}
 use Rattle.seize_parts.proofs.numbers.Numbers.give_at.Goals as goal
 
 pub give-requires : goal.give-requires
@@ -68,18 +67,6 @@ returns-in-Some-clause-others g c =
     let is = get_or_default items n None c.index_mut.result.now numbers.2 ∙ sym c.index_mut.ensures.value ∙ sym c.take.ensures.value ∙ c.in-Some.is in
     else_led _ (its_number slot) n c.args.pass.now one.new.pass (numbers.0.slots n slot is).number (some_flag items n c.take.new.self (Some one.new.self) refl numbers.2)
     (gives slot c.args.pass.now one.new.self one.new.pass c.requires.pass.1 one.ensures.gives)
-
-pub returns-in-Some-clause-idle : goal.returns-in-Some-clause-idle
-returns-in-Some-clause-idle g c =
-    let self = c.args.self.now in let n = c.args.n in let items = self.slots.items in let numbers = c.requires.taken in let slot = c.in-Some.slot in let one = c.give in let p = c.args.pass.now in let sole = c.requires.pass.1 in
-    let is = get_or_default items n None c.index_mut.result.now numbers.2 ∙ sym c.index_mut.ensures.value ∙ sym c.take.ensures.value ∙ c.in-Some.is in
-    let number = (numbers.0.slots n slot is).number in (
-      (λ t differs was. kept_idle (its_number slot) n t p one.new.pass number (gives slot p one.new.self one.new.pass sole one.ensures.gives) differs was),
-      λ _. given_idle c.args.words.now slot p one.new.self one.new.pass n sole one.ensures.gives one.ensures.of number,
-    )
-
-pub returns-in_default-clause-idle : goal.returns-in_default-clause-idle
-returns-in_default-clause-idle g c = ((λ t differs was. was), λ here. none_here c.args.self.now.slots.items c.args.n c.take.new.self c.take.ensures.after here)
 
 pub returns-in-Some-clause-gives : goal.returns-in-Some-clause-gives
 returns-in-Some-clause-gives g c _ =
