@@ -3,7 +3,7 @@ use Rattle.std.proofs.Common.{◌≡◌, ℕ, zero, suc, List, [], ◌∷◌, Op
 use Rattle.std.specs.Prelude.{map, replicate}
 use base.Stored.{Gv}
 use Rattle.seize_machine.specs.Machine.State as machine
-use Rattle.seize_model.specs.Waiting.State.{State, new}
+use Rattle.seize_model.specs.Waiting.State.{ModelState, new}
 use Rattle.seize_model.specs.Agreement.Shows.{ShowsReclaimers, ShowsState}
 use Rattle.seize_model.proofs.Simulation.Openings.{new_shown, opened_shown_with}
 use Rattle.seize_book.specs.Tokens.{Name}
@@ -21,8 +21,8 @@ holds_new {T} code n size links none empty =
     let at : machine.opening n.slots n.links ≡ machine.opening 0 (replicate links None) = λ j. machine.opening (none j) (empty j) in record {
       gone = 0;
       all = record {
-        shows = subst (λ (t : State (Option T) (Option ℕ) × machine.State). ShowsState (Option T) (Option ℕ) (found []) t.0 t.1) (λ j. (sym (some_new size links) j, sym at j)) (new_shown (found []) size links);
-        reclaimers = subst (λ (t : State (Option T) (Option ℕ) × machine.State). ShowsReclaimers (Option T) (Option ℕ) (found []) (found []) t.0 t.1) (λ j. (sym (some_new size links) j, sym at j)) (let x = opened_shown_with (found []) (found []) size 0 (replicate links None) in record { batches = x.batches; retired = x.retired });
+        shows = subst (λ (t : ModelState (Option T) (Option ℕ) × machine.State). ShowsState (Option T) (Option ℕ) (found []) t.0 t.1) (λ j. (sym (some_new size links) j, sym at j)) (new_shown (found []) size links);
+        reclaimers = subst (λ (t : ModelState (Option T) (Option ℕ) × machine.State). ShowsReclaimers (Option T) (Option ℕ) (found []) (found []) t.0 t.1) (λ j. (sym (some_new size links) j, sym at j)) (let x = opened_shown_with (found []) (found []) size 0 (replicate links None) in record { batches = x.batches; retired = x.retired });
         lent = tt;
         told = tt;
       };

@@ -9,13 +9,13 @@ use Rattle.seize_table.specs.declared.refusal.Refusal.TheVariants.{NoNumbers}
 use Rattle.seize_machine.proofs.Facts.{eq_true}
 use Rattle.seize_model.specs.declared.kind.Kind.{Kind}
 use Rattle.seize_model.specs.Waiting.Calls.{is_free, is_owned, least_unused, take_number, with_number_in_use}
-use Rattle.seize_model.specs.Waiting.State.{Slot, State, no_slot, slot_at}
+use Rattle.seize_model.specs.Waiting.State.{ModelSlot, ModelState, unmade_slot, model_slot}
 use Rattle.seize_model.proofs.Simulation.Numbers.{slot_taken, taken_if}
 use Rattle.seize_book.proofs.Facts.{equal}
 use Rattle.seize_book.specs.Tokens.{Name}
-use Rattle.seize_parts.specs.Kinds.{kind_of}
+use Rattle.seize_parts.specs.Kinds.{kind_if_owned}
 use Rattle.seize_parts.specs.Places.{LiesThen}
-use Rattle.seize_parts.specs.Placing.{ArePlaces, AreSound, Lies, lies_for, lies_in}
+use Rattle.seize_parts.specs.Placing.{ArePlaces, AreSound, Lies, lies_for, what_lies_in}
 use Rattle.seize_parts.specs.Reservations.{IsReservation, place_label}
 use Rattle.seize_parts.specs.Told.{Grew, Said}
 use Rattle.seize_parts.specs.declared.alone.place.Place.{Place}
@@ -23,11 +23,11 @@ use Rattle.seize_parts.proofs.Lying.{sound_set}
 
 -- Kinds.
 
-pub kind_used : (owned : Bool) → is_free (kind_of owned) ≡ false
+pub kind_used : (owned : Bool) → is_free (kind_if_owned owned) ≡ false
 kind_used true = refl
 kind_used false = refl
 
-pub kind_owned : (owned : Bool) → is_owned (kind_of owned) ≡ owned
+pub kind_owned : (owned : Bool) → is_owned (kind_if_owned owned) ≡ owned
 kind_owned true = refl
 kind_owned false = refl
 
@@ -39,17 +39,17 @@ append_other [] x d (suc t) other = refl
 append_other (y ∷ ys) x d zero other = refl
 append_other (y ∷ ys) x d (suc t) other = append_other ys x d t (λ same. other (ap suc same))
 
-module _ {T : Type 0} (st : State T ℕ) (k : ℕ) (kind : Kind) where
-  abbrev pub grown : State T ℕ
+module _ {T : Type 0} (st : ModelState T ℕ) (k : ℕ) (kind : Kind) where
+  abbrev pub grown : ModelState T ℕ
   grown = with_number_in_use st k kind 0
 
   -- What stays.
 
-  other_if : (b : Bool) (t : ℕ) → (k == length st.slots) ≡ b → ¬ (t ≡ k) → slot_at (taken_if b st k kind 0) t ≡ slot_at st t
-  other_if true t new other = append_other st.slots _ no_slot t (λ same. other (same ∙ sym (eq_true k (length st.slots) new)))
-  other_if false t new other = get_or-set_other st.slots k t _ no_slot other
+  other_if : (b : Bool) (t : ℕ) → (k == length st.slots) ≡ b → ¬ (t ≡ k) → model_slot (taken_if b st k kind 0) t ≡ model_slot st t
+  other_if true t new other = append_other st.slots _ unmade_slot t (λ same. other (same ∙ sym (eq_true k (length st.slots) new)))
+  other_if false t new other = get_or-set_other st.slots k t _ unmade_slot other
 
-  other_slot : (t : ℕ) → ¬ (t ≡ k) → slot_at grown t ≡ slot_at st t
+  other_slot : (t : ℕ) → ¬ (t ≡ k) → model_slot grown t ≡ model_slot st t
   other_slot t other = other_if (k == length st.slots) t refl other
 
   size_if : (b : Bool) → ((taken_if b st k kind 0).size ≡ st.size) × ((taken_if b st k kind 0).links ≡ st.links)
@@ -86,37 +86,37 @@ module _ {T : Type 0} (st : State T ℕ) (k : ℕ) (kind : Kind) where
       one : {x y : Place T} → Some x ≡ Some y → x ≡ y
       one e = cc
 
-      own : (slot_at grown k).kind ≡ kind
+      own : (model_slot grown k).kind ≡ kind
       own = (slot_taken st k kind (k == length st.slots) least refl).0
 
-      none : (slot_at grown k).guards ≡ 0
+      none : (model_slot grown k).guards ≡ 0
       none = (slot_taken st k kind (k == length st.slots) least refl).1
 
       for : Kind × ℕ → Option Lies
       for x = if is_free x.0 then None else Some (is_owned x.0, (x.1, (place_label n k 1, ((if not (x.1 == 0) then Some (k, n) else None), n.family))))
 
-      go : (t : ℕ) (b : Bool) → (k == t) ≡ b → option_map lies_in (get_or back t None) ≡ lies_for n (slot_at grown t) t
+      go : (t : ℕ) (b : Bool) → (k == t) ≡ b → option_map what_lies_in (get_or back t None) ≡ lies_for n (model_slot grown t) t
       go t true e =
-          subst (λ (i : ℕ). option_map lies_in (get_or back i None) ≡ lies_for n (slot_at grown i) i) (eq_true k t e)
-          (ap (λ (l : List (Option (Place T))). option_map lies_in (get_or l k None)) put ∙ ap (λ (o : Option (Place T)). option_map lies_in o) (get_or-set_same room k (Some place) None there) ∙ ap (λ (l : Lies). Some l) is.0
+          subst (λ (i : ℕ). option_map what_lies_in (get_or back i None) ≡ lies_for n (model_slot grown i) i) (eq_true k t e)
+          (ap (λ (l : List (Option (Place T))). option_map what_lies_in (get_or l k None)) put ∙ ap (λ (o : Option (Place T)). option_map what_lies_in o) (get_or-set_same room k (Some place) None there) ∙ ap (λ (l : Lies). Some l) is.0
           ∙ ap (λ (b : Bool). if b then None else Some (is_owned kind, (0, (place_label n k 1, (None, n.family))))) (sym used)
           ∙ ap (λ (x : Kind × ℕ). if is_free x.0 then None else Some (is_owned x.0, (x.1, (place_label n k 1, ((if not (x.1 == 0) then Some (k, n) else None), n.family))))) (λ j. (sym own j, sym none j)))
       go t false e =
           let other : ¬ (t ≡ k) = λ one. false≢true (sym e ∙ equal k t (sym one)) in
-          ap (λ (l : List (Option (Place T))). option_map lies_in (get_or l t None)) put ∙ ap (λ (o : Option (Place T)). option_map lies_in o) (get_or-set_other room k t (Some place) None other ∙ same t) ∙ are.lie t
-          ∙ ap (λ (x : Slot T ℕ). lies_for n x t) (sym (other_slot t other))
+          ap (λ (l : List (Option (Place T))). option_map what_lies_in (get_or l t None)) put ∙ ap (λ (o : Option (Place T)). option_map what_lies_in o) (get_or-set_other room k t (Some place) None other ∙ same t) ∙ are.lie t
+          ∙ ap (λ (x : ModelSlot T ℕ). lies_for n x t) (sym (other_slot t other))
 
 -- where room was made, the same lies in the places
-pub places_same : {T : Type 0} (n : Name) (st : State T ℕ) (items room : List (Option (Place T))) → ((t : ℕ) → get_or room t None ≡ get_or items t None) → ArePlaces n st items → ArePlaces n st room
+pub places_same : {T : Type 0} (n : Name) (st : ModelState T ℕ) (items room : List (Option (Place T))) → ((t : ℕ) → get_or room t None ≡ get_or items t None) → ArePlaces n st items → ArePlaces n st room
 places_same n st items room same are = record {
-  lie = λ t. ap (λ (o : Option (Place _)). option_map lies_in o) (same t) ∙ are.lie t;
+  lie = λ t. ap (λ (o : Option (Place _)). option_map what_lies_in o) (same t) ∙ are.lie t;
   sound = λ t place is. are.sound t place (sym (same t) ∙ is);
 }
 
 -- What the model's call answered where it did so.
 
-module _ {T : Type 0} (st : State T ℕ) (kind : Kind) where
-  pub took : (n : ℕ) (mid : State T ℕ) → Grew (take_number st kind 0) (Ok n) st mid → (n ≡ least_unused st.slots) × ((n == all_numbers) ≡ false) × (mid ≡ with_number_in_use st n kind 0)
+module _ {T : Type 0} (st : ModelState T ℕ) (kind : Kind) where
+  pub took : (n : ℕ) (mid : ModelState T ℕ) → Grew (take_number st kind 0) (Ok n) st mid → (n ≡ least_unused st.slots) × ((n == all_numbers) ≡ false) × (mid ≡ with_number_in_use st n kind 0)
   took n mid (inl refused) = absurd (cc)
   took n mid (inr said) = took_if (least_unused st.slots == all_numbers) refl said
     where

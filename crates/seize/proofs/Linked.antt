@@ -5,9 +5,9 @@ use base.Stored.{Coded, Gv}
 use Rattle.seize_machine.specs.Machine.Event.{ExchangeLink}
 use Rattle.seize_machine.specs.declared.machine.event.Answer.TheVariants.{Link as Held}
 use Rattle.seize_machine.specs.declared.machine.event.Exchange.TheVariants.{Swap}
-use Rattle.seize_machine.specs.Machine.State.{link_at as held_at}
-use Rattle.seize_model.specs.Waiting.Calls.{link_at}
-use Rattle.seize_model.specs.Waiting.State.{State}
+use Rattle.seize_machine.specs.Machine.State.{model_link as held_at}
+use Rattle.seize_model.specs.Waiting.Calls.{model_link}
+use Rattle.seize_model.specs.Waiting.State.{ModelState}
 use Rattle.seize_alone.specs.Events.{IsHeldAs, MakesAlone}
 use Rattle.seize_alone.specs.Holding.{Holds}
 use Rattle.seize_alone.proofs.Ready.{swapped_alone}
@@ -98,10 +98,10 @@ named_value code (Some owned) None named = absurd named
 named_value code None (Some v) named = absurd named
 
 -- Where one list shows two states that differ in what a link holds alone, they are one.
-pub one_link : {T : Type 0} (c : Coded T) (st : State T ℕ) (l : ℕ) → l < length st.links → (x y : Option T) {names names' : List (ℕ × T)} {kinds kinds' : List (ℕ × ℕ)} {n : Name} {seen : List Entry}
+pub one_link : {T : Type 0} (c : Coded T) (st : ModelState T ℕ) (l : ℕ) → l < length st.links → (x y : Option T) {names names' : List (ℕ × T)} {kinds kinds' : List (ℕ × ℕ)} {n : Name} {seen : List Entry}
     → Holds c.code (with_link st l x) names kinds n seen → Holds c.code (with_link st l y) names' kinds' n seen → x ≡ y
 one_link {T} c st l less x y {names} {names'} {kinds} {kinds'} {n} {seen} one other =
     sym (get_or-set_same st.links l x None less)
-    ∙ held_once c (held_at (after (start n) seen) l) (link_at (with_link st l x) l) (link_at (with_link st l y) l)
+    ∙ held_once c (held_at (after (start n) seen) l) (model_link (with_link st l x) l) (model_link (with_link st l y) l)
     (link_held c (with_link st l x) names kinds n seen l one) (link_held c (with_link st l y) names' kinds' n seen l other)
     ∙ get_or-set_same st.links l y None less

@@ -6,7 +6,7 @@ use mathlib.Core.List.{IsPrefix}
 use Rattle.seize_machine.specs.Machine.Event.{Event}
 use Rattle.seize_machine.specs.Machine.State.{are_distinct, linked_values}
 use Rattle.seize_machine.specs.declared.machine.event.Answer.{Answer}
-use Rattle.seize_model.specs.Waiting.State.{State, has_guard, slot_at}
+use Rattle.seize_model.specs.Waiting.State.{ModelState, has_guard, model_slot}
 use Rattle.seize_book.specs.Book.{IsLegalList}
 use Rattle.seize_book.specs.Entry.{Entry, Made}
 use Rattle.seize_book.specs.Passes.{IsSamePass}
@@ -81,13 +81,13 @@ module _ {T R : Type 0} {code : T → Gv} {words : Words T} {pass : Pass} {numbe
   may_go = ((a.knows.size, a.knows.distinct), subst (λ (n : Name). ArePlaces n hands.state places) a.knows.for.0 a.placed)
 
   -- What lies in the place of a slot in use.
-  module _ (s : ℕ) (place : Place T) (is : LiesThen place (lying_in (words_book words) (slot_at hands.state s) s)) where
+  module _ (s : ℕ) (place : Place T) (is : LiesThen place (lying_in (words_book words) (model_slot hands.state s) s)) where
     pub may_call : MayCall words place pass × (its_number place.reservation.slot ≡ s)
     may_call = let there = only_there words s pass place.reservation (ap (λ (t : Lies). t.1.1.0) is.0) a.knows.for a.knows.sole in ((is.1, there.0), there.1)
 
-    pub has_unit : has_guard (slot_at hands.state s) ≡ true → HasUnit words place
+    pub has_unit : has_guard (model_slot hands.state s) ≡ true → HasUnit words place
     has_unit on =
-        let unit = unit_held (words_book words) s place.unit (has_guard (slot_at hands.state s)) (ap (λ (t : Lies). t.1.1.1.0) is.0) on in
+        let unit = unit_held (words_book words) s place.unit (has_guard (model_slot hands.state s)) (ap (λ (t : Lies). t.1.1.1.0) is.0) on in
         (unit.0, unit.1, unit_there (words_book words) s (its_number place.reservation.slot) unit.0 unit.3 unit.2 may_call.1)
 
 -- a list that goes on twice

@@ -5,7 +5,7 @@ use Rattle.std.proofs.lemmas.List.{append_assoc, append-nil, map-append}
 use Rattle.std.proofs.lemmas.List.Sums.{fold-append}
 use Rattle.seize_model.specs.Waiting.Attempt.{StateAndGone, with_gone}
 use Rattle.seize_model.specs.Waiting.Lists.{Call, step, Answered, Replied}
-use Rattle.seize_model.specs.Waiting.State.{State}
+use Rattle.seize_model.specs.Waiting.State.{ModelState}
 use Rattle.seize_model.proofs.WaitingSets.Lists.{replied_more}
 use Rattle.seize.specs.Running.{call_of, reply_of, AreFor, DoesCall}
 use Rattle.seize_parts.specs.Told.{told_of}
@@ -18,7 +18,7 @@ all_pushed P xs ys x all one e = All-same P ys (xs ++ x ∷ []) e (All-append P 
 module _ {T Seen : Type 0} (puts : ℕ → T → List T) (weight : T → ℕ) (told : Seen → T → Seen)
     (owners : T → List (List ℕ)) (store : List ℕ) (links : ℕ) where
   -- what was done so far
-  abbrev pub Made : List (CodeCall T) → List (CodeCall T) → List (CodeReply T) → List (CodeReply T) → State T ℕ → State T ℕ → Seen → Seen → Type 0
+  abbrev pub Made : List (CodeCall T) → List (CodeCall T) → List (CodeReply T) → List (CodeReply T) → ModelState T ℕ → ModelState T ℕ → Seen → Seen → Type 0
   Made calls0 calls replies0 replies old now seen seen' =
       (made : List (Call T ℕ)) × (added : List (CodeReply T)) × (o : StateAndGone T ℕ)
       × Replied puts weight old made (map reply_of added) o
@@ -27,13 +27,13 @@ module _ {T Seen : Type 0} (puts : ℕ → T → List T) (weight : T → ℕ) (t
       × (replies ≡ replies0 ++ added)
       × (now ≡ o.0) × (seen' ≡ told_of told seen o.1)
 
-  pub made_none_yet : (calls : List (CodeCall T)) (replies start : List (CodeReply T)) (now : State T ℕ) (seen : Seen)
+  pub made_none_yet : (calls : List (CodeCall T)) (replies start : List (CodeReply T)) (now : ModelState T ℕ) (seen : Seen)
       → AreFor owners store links calls → start ≡ replies → Made calls calls replies start now now seen seen
   made_none_yet calls replies start now seen h e =
       ([], [], (now, []), Replied.no_call now, refl, h, e ∙ sym (append-nil replies), refl, refl)
 
   -- one call after these
-  one_more : (calls0 calls : List (CodeCall T)) (replies0 replies more : List (CodeReply T)) (old now next : State T ℕ) (seen heard after : Seen)
+  one_more : (calls0 calls : List (CodeCall T)) (replies0 replies more : List (CodeReply T)) (old now next : ModelState T ℕ) (seen heard after : Seen)
       → (call : CodeCall T) (rest : List (CodeCall T)) (reply : CodeReply T) (last : StateAndGone T ℕ)
       → Made calls0 calls replies0 replies old now seen heard
       → calls ≡ call ∷ rest
@@ -56,7 +56,7 @@ module _ {T Seen : Type 0} (puts : ℕ → T → List T) (weight : T → ℕ) (t
   )
 
   -- one turn of the loop
-  pub made_next : (calls0 calls : List (CodeCall T)) (replies0 replies more : List (CodeReply T)) (old now next : State T ℕ) (seen heard after : Seen)
+  pub made_next : (calls0 calls : List (CodeCall T)) (replies0 replies more : List (CodeReply T)) (old now next : ModelState T ℕ) (seen heard after : Seen)
       → (call : CodeCall T) (rest : List (CodeCall T)) (reply : CodeReply T)
       → Made calls0 calls replies0 replies old now seen heard
       → calls ≡ call ∷ rest

@@ -5,9 +5,9 @@ use Rattle.std.proofs.lemmas.List.{get_or-set_other, get_or-set_same}
 use base.Stored.{Coded, Gv}
 use Rattle.seize_machine.proofs.Facts.{eq_true}
 use Rattle.seize_machine.specs.Machine.State as machine
-use Rattle.seize_machine.specs.Machine.State.{are_distinct, linked_values, link_at as held_at}
-use Rattle.seize_model.specs.Waiting.Calls.{link_at}
-use Rattle.seize_model.specs.Waiting.State.{State}
+use Rattle.seize_machine.specs.Machine.State.{are_distinct, linked_values, model_link as held_at}
+use Rattle.seize_model.specs.Waiting.Calls.{model_link}
+use Rattle.seize_model.specs.Waiting.State.{ModelState}
 use Rattle.seize_book.proofs.Facts.{equal}
 use Rattle.seize_book.specs.Homesteads.{state_seen}
 use Rattle.seize_book.specs.Passes.{IsSamePass}
@@ -48,23 +48,23 @@ names_there ms l (suc n) zero less = let same : l ≡ l + 0 = omega arith in ap 
 names_there ms l (suc n) (suc i) less = let same : (l + 1) + i ≡ l + suc i = omega arith in names_there ms (l + 1) n i (omega (arith, less)) ∙ ap (λ (k : ℕ). held_at ms k) same
 
 -- all of them, once they were put to rest
-pub stand_first : {T : Type 0} (c : Coded T) (links : Links) (pass : Pass) (st : State T ℕ) (names : List (ℕ × T)) (kinds : List (ℕ × ℕ)) (held : List (Option ℕ)) → AllStand links (state_seen pass) → Holds c.code st names kinds pass.name pass.seen
+pub stand_first : {T : Type 0} (c : Coded T) (links : Links) (pass : Pass) (st : ModelState T ℕ) (names : List (ℕ × T)) (kinds : List (ℕ × ℕ)) (held : List (Option ℕ)) → AllStand links (state_seen pass) → Holds c.code st names kinds pass.name pass.seen
     → held ≡ names_from (state_seen pass) 0 (link_count links) → LinksHold c.code links held st.links
 stand_first c links pass st names kinds held stand holds are l less =
     let is : held_at (state_seen pass) l ≡ get_or held l None = sym (ap (λ (os : List (Option ℕ)). get_or os l None) are ∙ names_there (state_seen pass) 0 (link_count links) l less ∙ zero_on l) in
-    subst (λ (o : Option ℕ). StandsAt links l o × IsHeldAs c.code o (link_at st l)) is (stand l, link_held c st names kinds pass.name pass.seen l holds)
+    subst (λ (o : Option ℕ). StandsAt links l o × IsHeldAs c.code o (model_link st l)) is (stand l, link_held c st names kinds pass.name pass.seen l holds)
   where
     zero_on : (k : ℕ) → held_at (state_seen pass) (0 + k) ≡ held_at (state_seen pass) k
     zero_on k = let same : 0 + k ≡ k = omega arith in ap (λ (i : ℕ). held_at (state_seen pass) i) same
 
 -- one was exchanged
-module _ {T : Type 0} (code : T → Gv) (links links' : Links) (st : State T ℕ) (names : List (Option ℕ)) (link : ℕ) (new : Option T) (held : Option ℕ) (same : IsSameBut link links links') (stands : StandsAt links' link held)
-    (is : IsHeldAs code held (link_at (with_link st link new) link)) (below : link < length names) (are : LinksHold code links names st.links) where
-  abbrev now : State T ℕ
+module _ {T : Type 0} (code : T → Gv) (links links' : Links) (st : ModelState T ℕ) (names : List (Option ℕ)) (link : ℕ) (new : Option T) (held : Option ℕ) (same : IsSameBut link links links') (stands : StandsAt links' link held)
+    (is : IsHeldAs code held (model_link (with_link st link new) link)) (below : link < length names) (are : LinksHold code links names st.links) where
+  abbrev now : ModelState T ℕ
   now = with_link st link new
 
   abbrev Held : ℕ → Option ℕ → Type 0
-  Held l o = StandsAt links' l o × IsHeldAs code o (link_at now l)
+  Held l o = StandsAt links' l o × IsHeldAs code o (model_link now l)
 
   at : (b : Bool) (l : ℕ) → (l == link) ≡ b → l < link_count links' → Held l (get_or (slice_set names link held) l None)
   at true l e less = subst (λ (k : ℕ). Held k (get_or (slice_set names link held) k None)) (sym (eq_true l link e)) (subst (Held link) (sym (get_or-set_same names link held None below)) (stands, is))

@@ -25,7 +25,7 @@ use Rattle.std.specs.Coded.{code_by, coded_option}
 use Rattle.seize_machine.specs.Machine.History.{Moment}
 use Rattle.seize_machine.specs.Machine.State as machine
 use Rattle.seize_machine.specs.Machine.State.{are_distinct, linked_values}
-use Rattle.seize_model.specs.Waiting.State.{State}
+use Rattle.seize_model.specs.Waiting.State.{ModelState}
 use Rattle.seize_book.specs.Book.{IsLegalList, after, moments}
 use Rattle.seize_book.specs.Entry.{Entry, entry_coded}
 use Rattle.seize_book.specs.Tokens.{IsSole, Name, name_coded, start}
@@ -49,13 +49,13 @@ pub record View (T : Type 0) : Type 0 where
   pub size : ℕ
   pub id : ℕ
   pub links : ℕ
-  pub state : State T ℕ
+  pub state : ModelState T ℕ
   pub held : List (Option ℕ)
   pub seen : List Entry
 
 abbrev pub view_coded : {T : Type 0} → Coded T → Coded (View T)
 view_coded {T} c =
-    code_by (Name × (ℕ × (ℕ × (ℕ × (State T ℕ × (List (Option ℕ) × List Entry))))))
+    code_by (Name × (ℕ × (ℕ × (ℕ × (ModelState T ℕ × (List (Option ℕ) × List Entry))))))
     (coded× name_coded (coded× coded_ℕ (coded× coded_ℕ (coded× coded_ℕ (coded× (state_coded c coded_ℕ)
     (coded× (coded_list (coded_option coded_ℕ)) (coded_list entry_coded)))))))
     (λ a. (a.book, (a.size, (a.id, (a.links, (a.state, (a.held, a.seen)))))))

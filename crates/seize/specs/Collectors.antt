@@ -21,7 +21,7 @@ use Rattle.seize_words.specs.Joined.{words_book}
 use Rattle.seize_words.specs.declared.words.Words.{Words}
 use Rattle.seize_calls.specs.Slots.{IsSlotOf}
 use Rattle.seize_calls.specs.declared.slot.Slot.{Slot}
-use Rattle.seize_parts.specs.Blocks.{Belongs, store_name}
+use Rattle.seize_parts.specs.Blocks.{Belongs, owned_store}
 use Rattle.seize_parts.specs.Makes.{made_with}
 use Rattle.seize_parts.specs.declared.block.owned.Owned.{Owned}
 use Rattle.seize.specs.declared.collector.Collector.{Collector}
@@ -51,7 +51,7 @@ abbrev pub IsPassOf : {T R : Type 0} → Collector T R → Pass → Type 0
 IsPassOf collector pass = (pass.name ≡ its_book collector) × (pass.size ≡ its_size collector)
 
 abbrev pub IsBlockOf : {T R : Type 0} → Collector T R → Owned T → Type 0
-IsBlockOf collector owned = store_name owned ≡ its_store collector
+IsBlockOf collector owned = owned_store owned ≡ its_store collector
 
 abbrev pub BelongsTo : {T R : Type 0} → (T → List (List ℕ)) → Collector T R → Owned T → Type 0
 BelongsTo owners collector owned = Belongs owners (its_store collector) owned

@@ -22,7 +22,7 @@ use Rattle.seize_book.specs.declared.book.pass.Pass.{Pass}
 use Rattle.seize_words.specs.LinkWords.{WasFound}
 use Rattle.seize_words.specs.Lasted.{LearnsFrom}
 use Rattle.seize_words.specs.declared.activation.Activation.{Activation}
-use Rattle.seize_parts.specs.Blocks.{IsNamed, content, store_name}
+use Rattle.seize_parts.specs.Blocks.{IsNamed, content, owned_store}
 use Rattle.seize.specs.Links.{ComesOut, IsUnlinkedOf, Shows, shared_name, shared_value}
 use Rattle.seize_parts.specs.Laws.{moments_seen}
 use Rattle.seize_parts.specs.Makes.{MakesOne}
@@ -41,7 +41,7 @@ current_value (Some shared) = Some (shared_value shared.now)
 current_value None = None
 
 abbrev pub ComesBack : {T : Type 0} → Option (Owned T) → Option (Owned T) → Type 0
-ComesBack (Some new) (Some back) = (content back ≡ content new) × (store_name back ≡ store_name new)
+ComesBack (Some new) (Some back) = (content back ≡ content new) × (owned_store back ≡ owned_store new)
 ComesBack None None = Unit {0}
 ComesBack _ _ = ⊥
 

@@ -12,7 +12,7 @@ use Rattle.std.specs.Prelude.{◌≡◌, ◌⊎◌, ℕ, ◌<◌, true, List, []
 use Rattle.seize_model.specs.Waiting.Attempt.{StateAndGone}
 use Rattle.seize_model.specs.Waiting.Lists.{Call, Register, EnterOwned, Enter, Leave, End, Refresh, Flush, Retire, Protect, Swap}
 use Rattle.seize_model.specs.Waiting.Lists.{Reply, Done, Number, Kept, Found, Refused, Replied, step, takes_number}
-use Rattle.seize_model.specs.Waiting.State.{State}
+use Rattle.seize_model.specs.Waiting.State.{ModelState}
 use Rattle.seize_table.specs.declared.refusal.Refusal.TheVariants.{NoMemory}
 use Rattle.seize_parts.specs.Blocks.{Belongs, content}
 use Rattle.seize_parts.specs.Told.{told_of}
@@ -71,14 +71,14 @@ abbrev pub AreFrom : {T : Type 0} → (T → List (List ℕ)) → List ℕ → L
 AreFrom owners store replies = All (IsFrom owners store) replies
 
 abbrev pub DoesCall : {T Seen : Type 0} → (ℕ → T → List T) → (T → ℕ) → (Seen → T → Seen) → CodeCall T → CodeReply T
-    → State T ℕ → State T ℕ → Seen → Seen → Type 0
+    → ModelState T ℕ → ModelState T ℕ → Seen → Seen → Type 0
 DoesCall puts weight told call reply old new seen seen' =
     let own = step puts weight old (call_of call) in
     ((reply_of reply ≡ own.0) × (new ≡ own.1.0) × (seen' ≡ told_of told seen own.1.1))
     ⊎ ((takes_number (call_of call) ≡ true) × (reply_of reply ≡ Refused NoMemory None) × (new ≡ old) × (seen' ≡ seen))
 
 abbrev pub Ran : {T Seen : Type 0} → (ℕ → T → List T) → (T → ℕ) → (Seen → T → Seen) → List (CodeCall T) → List (CodeReply T)
-    → List (CodeReply T) → State T ℕ → State T ℕ → Seen → Seen → Type 0
+    → List (CodeReply T) → ModelState T ℕ → ModelState T ℕ → Seen → Seen → Type 0
 Ran {T} puts weight told calls replies replies' old new seen seen' =
     (added : List (CodeReply T)) × (o : StateAndGone T ℕ) × Replied puts weight old (map call_of calls) (map reply_of added) o
     × (replies' ≡ replies ++ added) × (new ≡ o.0) × (seen' ≡ told_of told seen o.1)

@@ -79,10 +79,10 @@ fn made_then(made: usize, n: usize) -> usize
 impl<T: Drop, R: Reclaim<T>> Alone<T, R> {
     ghost use Rattle.std.specs.Prelude.{◌≡◌, ◌<◌, ◌≤◌, ◌≢◌, length, true, None, Ok, OnErr, Some, IfErr, IfOk, false, if◌then◌else◌};
     ghost use Rattle.seize_model.specs.Waiting.Calls as calls;
-    ghost use Rattle.seize_model.specs.Waiting.State.{has_guard, slot_at};
+    ghost use Rattle.seize_model.specs.Waiting.State.{has_guard, model_slot};
     ghost use Rattle.seize_model.specs.declared.kind.Kind.TheVariants.{Owned as owned_slot, Registered as registered};
     ghost use Rattle.seize.specs.Alones.{AsListed, IsLinkedSame, ListGrows, moments_in, opening_in};
-    ghost use Rattle.seize_parts.specs.Kinds.{kind_of};
+    ghost use Rattle.seize_parts.specs.Kinds.{kind_if_owned};
     ghost use Rattle.seize_parts.specs.Laws.{LawsOf};
     ghost use Rattle.seize_parts.specs.Told.{Grew, Said};
 
@@ -117,9 +117,9 @@ impl<T: Drop, R: Reclaim<T>> Alone<T, R> {
 
     // Whether the slot is owned, and how many guards it has, where its number is in use. An owned one has one at most.
     fn known(&self, s: usize) -> Option<(bool, u64)>
-        ensures it { let slot = slot_at self.now.state s in
+        ensures it { let slot = model_slot self.now.state s in
             result ≡ (if calls.is_free slot.kind then None else Some (calls.is_owned slot.kind, slot.guards)) }
-        ensures one { let slot = slot_at self.now.state s in (calls.is_owned slot.kind ≡ true) → slot.guards ≤ 1 }
+        ensures one { let slot = model_slot self.now.state s in (calls.is_owned slot.kind ≡ true) → slot.guards ≤ 1 }
     {
         let place = self.places.get(s)?.as_ref()?;
         Some((place.owned, place.guards))
@@ -128,7 +128,7 @@ impl<T: Drop, R: Reclaim<T>> Alone<T, R> {
     // How many guards the registered slot has.
     fn registered(&self, s: usize) -> Result<u64, Refusal>
         ensures it { IfOk result (λ guards. (calls.not_registered self.now.state s ≡ None)
-            × ((slot_at self.now.state s).kind ≡ registered) × ((slot_at self.now.state s).guards ≡ guards)) }
+            × ((model_slot self.now.state s).kind ≡ registered) × ((model_slot self.now.state s).guards ≡ guards)) }
         ensures refused { IfErr result (λ refusal. calls.not_registered self.now.state s ≡ Some refusal) }
     {
         match self.known(s) {
@@ -140,10 +140,10 @@ impl<T: Drop, R: Reclaim<T>> Alone<T, R> {
 
     // Whether the slot is owned, and how many guards it has: one or more.
     fn guarded(&self, s: usize) -> Result<(bool, u64), Refusal>
-        ensures it { IfOk result (λ known. let slot = slot_at self.now.state s in (calls.no_guard self.now.state s ≡ None)
-            × (slot.kind ≡ kind_of known.0) × (slot.guards ≡ known.1) × (0 < known.1)) }
+        ensures it { IfOk result (λ known. let slot = model_slot self.now.state s in (calls.no_guard self.now.state s ≡ None)
+            × (slot.kind ≡ kind_if_owned known.0) × (slot.guards ≡ known.1) × (0 < known.1)) }
         ensures refused { IfErr result (λ refusal. calls.no_guard self.now.state s ≡ Some refusal) }
-        ensures one { let slot = slot_at self.now.state s in (calls.is_owned slot.kind ≡ true) → slot.guards ≤ 1 }
+        ensures one { let slot = model_slot self.now.state s in (calls.is_owned slot.kind ≡ true) → slot.guards ≤ 1 }
     {
         match self.known(s) {
             None => Err(Refusal::NotInUse),
@@ -154,7 +154,7 @@ impl<T: Drop, R: Reclaim<T>> Alone<T, R> {
 
     // The least number that is not in use is taken, for a slot of this kind without a guard.
     fn take(&mut self, owned: bool) -> Result<usize, Refusal>
-        ensures done { Grew (calls.take_number self.old.state (kind_of owned) 0) result self.old.state self.new.state }
+        ensures done { Grew (calls.take_number self.old.state (kind_if_owned owned) 0) result self.old.state self.new.state }
         ensures same { IsLinkedSame self.old self.new }
         ensures grows { ListGrows self.old self.new }
         ensures unchanged { OnErr result (self.new ≡ self.old) }
@@ -178,7 +178,7 @@ impl<T: Drop, R: Reclaim<T>> Alone<T, R> {
 
     // The slot, which is in use, enters with its first guard.
     fn begin(&mut self, s: usize)
-        requires { let slot = slot_at self.old.state s in (calls.is_free slot.kind ≡ false) × (has_guard slot ≡ false) }
+        requires { let slot = model_slot self.old.state s in (calls.is_free slot.kind ≡ false) × (has_guard slot ≡ false) }
         ensures done { self.new.state ≡ calls.set_guards self.old.state s 1 }
         ensures same { IsLinkedSame self.old self.new }
         ensures grows { ListGrows self.old self.new }
@@ -189,7 +189,7 @@ impl<T: Drop, R: Reclaim<T>> Alone<T, R> {
 
     // The registered slot, which has guards, has so many then. No event is made.
     fn count(&mut self, s: usize, guards: u64)
-        requires { let slot = slot_at self.old.state s in (slot.kind ≡ registered) × (has_guard slot ≡ true) × (0 < guards) }
+        requires { let slot = model_slot self.old.state s in (slot.kind ≡ registered) × (has_guard slot ≡ true) × (0 < guards) }
         ensures done { self.new.state ≡ calls.set_guards self.old.state s guards }
         ensures same { IsLinkedSame self.old self.new }
         ensures grows { ListGrows self.old self.new }
@@ -200,7 +200,7 @@ impl<T: Drop, R: Reclaim<T>> Alone<T, R> {
 
     // The number of the slot, which has no guard, goes back.
     fn free(&mut self, s: usize)
-        requires { let slot = slot_at self.old.state s in (calls.is_free slot.kind ≡ false) × (has_guard slot ≡ false) }
+        requires { let slot = model_slot self.old.state s in (calls.is_free slot.kind ≡ false) × (has_guard slot ≡ false) }
         ensures done { self.new.state ≡ calls.with_number_free self.old.state s }
         ensures same { IsLinkedSame self.old self.new }
         ensures grows { ListGrows self.old self.new }

@@ -63,20 +63,20 @@ has_once b order once = go (has b order) refl
     go false is = has_none b order is
 
 module _ {T R : Type 0} (b : ℕ) where
-  listed_in : (slot : waiting.Slot T R) → are_distinct slot.order ≡ true → (waiting.has_guard slot ≡ false → slot.order ≡ []) → occ b (waiting_at (head_of slot)) ≡ (if waiting.waits_for b slot then 1 else 0)
+  listed_in : (slot : waiting.ModelSlot T R) → are_distinct slot.order ≡ true → (waiting.has_guard slot ≡ false → slot.order ≡ []) → occ b (waiting_at (head_of slot)) ≡ (if waiting.waits_for b slot then 1 else 0)
   listed_in slot once off = go (waiting.has_guard slot) refl
     where
       go : (g : Bool) → waiting.has_guard slot ≡ g → occ b (waiting_at (if g then Active slot.order else Inactive)) ≡ (if waiting.waits_for b slot then 1 else 0)
       go true is = has_once b slot.order once
       go false is = ap (λ (order : List ℕ). if has b order then 1 else 0) (sym (off is))
 
-  all_listed : (slots : List (waiting.Slot T R)) → ((s : ℕ) → are_distinct (get_or slots s waiting.no_slot).order ≡ true) → ((s : ℕ) → waiting.has_guard (get_or slots s waiting.no_slot) ≡ false → (get_or slots s waiting.no_slot).order ≡ [])
+  all_listed : (slots : List (waiting.ModelSlot T R)) → ((s : ℕ) → are_distinct (get_or slots s waiting.unmade_slot).order ≡ true) → ((s : ℕ) → waiting.has_guard (get_or slots s waiting.unmade_slot) ≡ false → (get_or slots s waiting.unmade_slot).order ≡ [])
       → sum_by (λ (head : Head). occ b (waiting_at head)) (map head_of slots) ≡ count_by (waiting.waits_for b) slots
   all_listed [] once off = refl
   all_listed (slot ∷ slots) once off =
       sum_by-cons (λ (head : Head). occ b (waiting_at head)) (head_of slot) (map head_of slots)
       ∙ (λ i. listed_in slot (once zero) (off zero) i + all_listed slots (λ s. once (suc s)) (λ s. off (suc s)) i)
-      ∙ sym (sum_by-cons (λ (x : waiting.Slot T R). if waiting.waits_for b x then 1 else 0) slot slots)
+      ∙ sym (sum_by-cons (λ (x : waiting.ModelSlot T R). if waiting.waits_for b x then 1 else 0) slot slots)
 
 -- Names: of all that was named, what is lent with it.
 
@@ -194,7 +194,7 @@ module _ {T R : Type 0} where
 
     -- the state
 
-    abbrev slot_by : Kind × ℕ → machine.Slot → Head → waiting.Slot T R
+    abbrev slot_by : Kind × ℕ → machine.Slot → Head → waiting.ModelSlot T R
     slot_by u slot head = record { kind = u.0; guards = u.1; batch = values_by slot.batch; order = waiting_at head }
 
     abbrev link_by : Option ℕ → Option T
@@ -205,10 +205,10 @@ module _ {T R : Type 0} where
     retired_by batch = values_by batch.values
 
     module _ (uses : ℕ → Kind × ℕ) (size : ℕ) (now : machine.State) where
-      abbrev slot_of : ℕ → waiting.Slot T R
+      abbrev slot_of : ℕ → waiting.ModelSlot T R
       slot_of s = slot_by (uses s) (machine.slot_at now s) (head_at now s)
 
-      abbrev state_by : waiting.State T R
+      abbrev state_by : waiting.ModelState T R
       state_by = record { size = size; slots = map slot_of (range_with_len 0 (length now.slots)); retired = map retired_by now.batches; links = map link_by now.links }
 
       many_by : length state_by.slots ≡ length now.slots
@@ -217,7 +217,7 @@ module _ {T R : Type 0} where
       retired_is : (b : ℕ) → waiting.retired_at state_by b ≡ retired_by (batch_at now b)
       retired_is b = get_map retired_by now.batches b no_batch [] refl
 
-      slot_is : ((s : ℕ) → IsUsedAs now s (uses s)) → length now.heads ≡ length now.slots → (s : ℕ) → waiting.slot_at state_by s ≡ slot_of s
+      slot_is : ((s : ℕ) → IsUsedAs now s (uses s)) → length now.heads ≡ length now.slots → (s : ℕ) → waiting.model_slot state_by s ≡ slot_of s
       slot_is used many s = go (cases_lt s (length now.slots))
         where
           no_use : (u : Kind × ℕ) → false ≡ not (is_free u.0) → (is_free u.0 ≡ true → u.1 ≡ 0) → u ≡ (Free, 0)
@@ -225,13 +225,13 @@ module _ {T R : Type 0} where
           no_use (Registered, guards) is free = absurd (cc)
           no_use (Owned, guards) is free = absurd (cc)
 
-          go : (s < length now.slots) ⊎ (length now.slots ≤ s) → waiting.slot_at state_by s ≡ slot_of s
-          go (inl below) = get_or-map-range_with_len slot_of 0 (length now.slots) s s waiting.no_slot below (omega arith)
+          go : (s < length now.slots) ⊎ (length now.slots ≤ s) → waiting.model_slot state_by s ≡ slot_of s
+          go (inl below) = get_or-map-range_with_len slot_of 0 (length now.slots) s s waiting.unmade_slot below (omega arith)
           go (inr past) =
               let none : machine.slot_at now s ≡ machine.no_slot = get_or_past now.slots s machine.no_slot past in
               let off : head_at now s ≡ Inactive = get_or_past now.heads s Inactive (omega (arith, past, many)) in
               let none_used : uses s ≡ (Free, 0) = no_use (uses s) (sym (ap (λ (slot : machine.Slot). slot.used) none) ∙ (used s).used) (used s).free in
-              get_or_past state_by.slots s waiting.no_slot (omega (arith, past, many_by)) ∙ (λ i. slot_by (sym none_used i) (sym none i) (sym off i))
+              get_or_past state_by.slots s waiting.unmade_slot (omega (arith, past, many_by)) ∙ (λ i. slot_by (sym none_used i) (sym none i) (sym off i))
 
     one_held : (o : Option T) → is_some o ≡ true → Some o ≡ option_map Some o
     one_held None is = absurd (cc)
@@ -267,7 +267,7 @@ module _ {T : Type 0} (code : T → Gv) (n : Name) (seen : List Entry) (size : �
   abbrev kinds : List (ℕ × ℕ)
   kinds = all_said seen
 
-  abbrev begun : waiting.State T ℕ
+  abbrev begun : waiting.ModelState T ℕ
   begun = state_by names kinds uses size now
 
   reached : IsReached now
@@ -292,18 +292,18 @@ module _ {T : Type 0} (code : T → Gv) (n : Name) (seen : List Entry) (size : �
 
   -- the slots
 
-  slot_now : (s : ℕ) → waiting.slot_at begun s ≡ slot_of names kinds uses size now s
+  slot_now : (s : ℕ) → waiting.model_slot begun s ≡ slot_of names kinds uses size now s
   slot_now = slot_is names kinds uses size now used (heads_length now reached)
 
-  some_now : (s : ℕ) → waiting.slot_at (some_state begun) s ≡ some_slot (slot_of names kinds uses size now s)
+  some_now : (s : ℕ) → waiting.model_slot (some_state begun) s ≡ some_slot (slot_of names kinds uses size now s)
   some_now s = slot_same begun s ∙ ap some_slot (slot_now s)
 
   as_many : length (some_state begun).slots ≡ length now.slots
   as_many = length-map begun.slots some_slot ∙ many_by names kinds uses size now
 
-  slot_shown : (s : ℕ) → ShowsSlot (Option T) (Option ℕ) (found names) (waiting.slot_at (some_state begun) s) (machine.slot_at now s)
+  slot_shown : (s : ℕ) → ShowsSlot (Option T) (Option ℕ) (found names) (waiting.model_slot (some_state begun) s) (machine.slot_at now s)
   slot_shown s =
-      subst (λ (slot : waiting.Slot (Option T) (Option ℕ)). ShowsSlot (Option T) (Option ℕ) (found names) slot (machine.slot_at now s)) (sym (some_now s)) (record {
+      subst (λ (slot : waiting.ModelSlot (Option T) (Option ℕ)). ShowsSlot (Option T) (Option ℕ) (found names) slot (machine.slot_at now s)) (sym (some_now s)) (record {
         used = (used s).used;
         idle = (used s).idle;
         batch = all_shown names kinds (batch s) (all_named (batch s) (in_slot s)) (of_kinds (batch s) (in_slot s));
@@ -313,14 +313,14 @@ module _ {T : Type 0} (code : T → Gv) (n : Name) (seen : List Entry) (size : �
         once = listed_once now reached s;
       })
 
-  head_now : (s : ℕ) → head_at now s ≡ head_of (waiting.slot_at (some_state begun) s)
-  head_now s = head_is (head_at now s) _ (used s).active ∙ ap (λ (slot : waiting.Slot (Option T) (Option ℕ)). head_of slot) (sym (some_now s))
+  head_now : (s : ℕ) → head_at now s ≡ head_of (waiting.model_slot (some_state begun) s)
+  head_now s = head_is (head_at now s) _ (used s).active ∙ ap (λ (slot : waiting.ModelSlot (Option T) (Option ℕ)). head_of slot) (sym (some_now s))
 
   heads_now : now.heads ≡ map head_of (some_state begun).slots
   heads_now =
       let many : length now.heads ≡ length (map head_of (some_state begun).slots) = heads_length now reached ∙ sym as_many ∙ sym (length-map (some_state begun).slots head_of) in
       same_lists now.heads (map head_of (some_state begun).slots) many (λ s d below.
-      get_or_default now.heads s d Inactive below ∙ head_now s ∙ sym (get_map head_of (some_state begun).slots s waiting.no_slot Inactive refl)
+      get_or_default now.heads s d Inactive below ∙ head_now s ∙ sym (get_map head_of (some_state begun).slots s waiting.unmade_slot Inactive refl)
       ∙ get_or_default (map head_of (some_state begun).slots) s Inactive d (omega (arith, below, many)))
 
   -- the batches
@@ -349,7 +349,7 @@ module _ {T : Type 0} (code : T → Gv) (n : Name) (seen : List Entry) (size : �
 
   by_kinds : ShowsReclaimers (Option T) (Option ℕ) (found names) (found kinds) (some_state begun) now
   by_kinds = record {
-    batches = λ s. all_stand names kinds (batch s) (all_named (batch s) (in_slot s)) (of_kinds (batch s) (in_slot s)) ∙ ap (λ (slot : waiting.Slot (Option T) (Option ℕ)). slot.batch) (sym (some_now s));
+    batches = λ s. all_stand names kinds (batch s) (all_named (batch s) (in_slot s)) (of_kinds (batch s) (in_slot s)) ∙ ap (λ (slot : waiting.ModelSlot (Option T) (Option ℕ)). slot.batch) (sym (some_now s));
     retired = λ b. all_stand names kinds (values b) (all_named (values b) (in_batch b)) (of_kinds (values b) (in_batch b)) ∙ sym (retired_now b);
   }
 
@@ -360,12 +360,12 @@ module _ {T : Type 0} (code : T → Gv) (n : Name) (seen : List Entry) (size : �
     kinds = kinds;
     holds = record {
       gone = 0;
-      all = subst (λ (st : waiting.State T ℕ). HoldsAll code st names kinds n seen) (sym (none_below begun))
+      all = subst (λ (st : waiting.ModelState T ℕ). HoldsAll code st names kinds n seen) (sym (none_below begun))
           (record { shows = shown; reclaimers = by_kinds; lent = names_lent code now.named lent; told = said_told seen });
     };
     sized = refl;
     links = length-map now.links (link_by names kinds) ∙ links_stay (start n) seen legal;
-    slots = λ s. let is = slot_now s in (ap (λ (slot : waiting.Slot T ℕ). slot.kind) is, ap (λ (slot : waiting.Slot T ℕ). slot.guards) is);
+    slots = λ s. let is = slot_now s in (ap (λ (slot : waiting.ModelSlot T ℕ). slot.kind) is, ap (λ (slot : waiting.ModelSlot T ℕ). slot.guards) is);
   }
 
 pub begins_held : {T : Type 0} (code : T → Gv) → BeginsHeld code

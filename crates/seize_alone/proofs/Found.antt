@@ -141,19 +141,19 @@ links_on {T} names more (l ∷ ls) (v ∷ vs) e = λ i. one l v (ap (head_or Non
     one (Some n) None e = absurd (cc)
     one (Some n) (Some v) e = ap Some (found_on names more n v (ap (or_this None) e))
 
-module _ {T R : Type 0} (names more : List (ℕ × T)) (kinds others : List (ℕ × R)) (st : waiting.State T R) (ms : machine.State) where
+module _ {T R : Type 0} (names more : List (ℕ × T)) (kinds others : List (ℕ × R)) (st : waiting.ModelState T R) (ms : machine.State) where
   pub shows_on : ShowsState (Option T) (Option R) (found names) (some_state st) ms → ShowsState (Option T) (Option R) (found (names ++ more)) (some_state st) ms
   shows_on a = record {
     numbers = a.numbers;
     slots = a.slots;
     slot = λ s.
-        let own : ShowsSlot (Option T) (Option R) (found names) (waiting.slot_at (some_state st) s) (machine.slot_at ms s) = a.slot s in
-        let e = ap (λ (slot : waiting.Slot (Option T) (Option R)). slot.batch) (slot_same st s) in
+        let own : ShowsSlot (Option T) (Option R) (found names) (waiting.model_slot (some_state st) s) (machine.slot_at ms s) = a.slot s in
+        let e = ap (λ (slot : waiting.ModelSlot (Option T) (Option R)). slot.batch) (slot_same st s) in
         record {
           used = own.used;
           idle = own.idle;
           batch = subst (λ (vs : List (Option T × Option R)). ShowsValues (found (names ++ more)) (machine.slot_at ms s).batch vs) (sym e)
-              (shows_values_on names more (machine.slot_at ms s).batch (waiting.slot_at st s).batch (subst (λ (vs : List (Option T × Option R)). ShowsValues (found names) (machine.slot_at ms s).batch vs) e own.batch));
+              (shows_values_on names more (machine.slot_at ms s).batch (waiting.model_slot st s).batch (subst (λ (vs : List (Option T × Option R)). ShowsValues (found names) (machine.slot_at ms s).batch vs) e own.batch));
           free = own.free;
           owned = own.owned;
           inactive = own.inactive;
@@ -171,9 +171,9 @@ module _ {T R : Type 0} (names more : List (ℕ × T)) (kinds others : List (ℕ
   pub reclaimers_on : ShowsReclaimers (Option T) (Option R) (found names) (found kinds) (some_state st) ms → ShowsReclaimers (Option T) (Option R) (found (names ++ more)) (found (kinds ++ others)) (some_state st) ms
   reclaimers_on a = record {
     batches = λ s.
-        let e = ap (λ (slot : waiting.Slot (Option T) (Option R)). slot.batch) (slot_same st s) in
+        let e = ap (λ (slot : waiting.ModelSlot (Option T) (Option R)). slot.batch) (slot_same st s) in
         subst (λ (vs : List (Option T × Option R)). StandFor (found (names ++ more)) (found (kinds ++ others)) (machine.slot_at ms s).batch vs) (sym e)
-        (stand_for_on names more kinds others (machine.slot_at ms s).batch (waiting.slot_at st s).batch (subst (λ (vs : List (Option T × Option R)). StandFor (found names) (found kinds) (machine.slot_at ms s).batch vs) e (a.batches s)));
+        (stand_for_on names more kinds others (machine.slot_at ms s).batch (waiting.model_slot st s).batch (subst (λ (vs : List (Option T × Option R)). StandFor (found names) (found kinds) (machine.slot_at ms s).batch vs) e (a.batches s)));
     retired = λ b.
         subst (λ (vs : List (Option T × Option R)). StandFor (found (names ++ more)) (found (kinds ++ others)) (machine.batch_at ms b).values vs) (sym (retired_same st b))
         (stand_for_on names more kinds others (machine.batch_at ms b).values (waiting.retired_at st b) (subst (λ (vs : List (Option T × Option R)). StandFor (found names) (found kinds) (machine.batch_at ms b).values vs) (retired_same st b) (a.retired b)));

@@ -37,7 +37,7 @@ use Rattle.seize_alone.proofs.Names.{are_had, its_kinds, its_names, kinds_told, 
 use Rattle.seize_alone.proofs.Whole.{Whole, all_made, begin_said, flushed_whole, left_whole, retired_whole, whole_handed, whole_job, whole_played, whole_put, whole_said}
 use Rattle.seize_alone.proofs.Work.{answers_made, events_made}
 
-module _ {T : Type 0} (c : Coded T) (puts : ℕ → T → List T) (st : waiting.State T ℕ) (names : List (ℕ × T)) (kinds : List (ℕ × ℕ)) {pass pass' : Pass} {s : ℕ} {job : Job} {words : List ℕ} {had' : Had}
+module _ {T : Type 0} (c : Coded T) (puts : ℕ → T → List T) (st : waiting.ModelState T ℕ) (names : List (ℕ × T)) (kinds : List (ℕ × ℕ)) {pass pass' : Pass} {s : ℕ} {job : Job} {words : List ℕ} {had' : Had}
     (w : Whole pass pass' s job words [] had') (a : CallsAlone c puts st names kinds pass pass' had') (own : List (ℕ × T)) (own_lent : AreLent c.code own) (own_kinds : List (ℕ × ℕ)) (own_told : AreOfKinds pass'.seen own_kinds) where
   abbrev before : machine.State
   before = after (start pass.name) pass.seen
@@ -80,7 +80,7 @@ module _ {T : Type 0} (c : Coded T) (puts : ℕ → T → List T) (st : waiting.
 
   pub near_before : NearAt (with_reclaimers (found names_then) (found kinds_then)) [] (some_state (with_gone_below a.holds.gone st)) before
   near_before =
-      let whole : waiting.State T ℕ = with_gone_below a.holds.gone st in
+      let whole : waiting.ModelState T ℕ = with_gone_below a.holds.gone st in
       near_with (found names_then) (found kinds_then) (some_state whole) before
       (shows_on names (own ++ its_names c puts w.handed had' a.put) kinds (own_kinds ++ its_kinds w.handed had') whole before a.holds.all.shows)
       (reclaimers_on names (own ++ its_names c puts w.handed had' a.put) kinds (own_kinds ++ its_kinds w.handed had') whole before a.holds.all.reclaimers)
@@ -97,7 +97,7 @@ module _ {T : Type 0} (c : Coded T) (puts : ℕ → T → List T) (st : waiting.
 
   pub held_then : (guards : ℕ) (o : StateAndGone T ℕ) (o' : StateAndGone (Option T) (Option ℕ)) → o' ≡ some_out (below_out a.holds.gone o) → JobEnds (with_reclaimers (found names_then) (found kinds_then)) s guards o' later (answers_made (all_made w)) → HoldsThen c.code o had' pass'
   held_then guards o o' is ends =
-      let whole : waiting.State T ℕ = with_gone_below a.holds.gone o.0 in
+      let whole : waiting.ModelState T ℕ = with_gone_below a.holds.gone o.0 in
       let d : JobEnds (with_reclaimers (found names_then) (found kinds_then)) s guards (some_out (below_out a.holds.gone o)) later (answers_made (all_made w)) =
       subst (λ (x : StateAndGone (Option T) (Option ℕ)). JobEnds (with_reclaimers (found names_then) (found kinds_then)) s guards x later (answers_made (all_made w))) is ends in
       let both : ShowsState (Option T) (Option ℕ) (found names_then) (some_state whole) later × ShowsReclaimers (Option T) (Option ℕ) (found names_then) (found kinds_then) (some_state whole) later =
@@ -110,25 +110,25 @@ module _ {T : Type 0} (c : Coded T) (puts : ℕ → T → List T) (st : waiting.
 
 -- the slot is the same with `Some` of each value
 
-pub some_used : {T : Type 0} (st : waiting.State T ℕ) (s : ℕ) → is_free (waiting.slot_at st s).kind ≡ false → is_free (waiting.slot_at (some_state st) s).kind ≡ false
-some_used {T} st s used = ap (λ (slot : waiting.Slot (Option T) (Option ℕ)). is_free slot.kind) (slot_same st s) ∙ used
+pub some_used : {T : Type 0} (st : waiting.ModelState T ℕ) (s : ℕ) → is_free (waiting.model_slot st s).kind ≡ false → is_free (waiting.model_slot (some_state st) s).kind ≡ false
+some_used {T} st s used = ap (λ (slot : waiting.ModelSlot (Option T) (Option ℕ)). is_free slot.kind) (slot_same st s) ∙ used
 
-pub some_active : {T : Type 0} (st : waiting.State T ℕ) (s : ℕ) → waiting.has_guard (waiting.slot_at st s) ≡ true → waiting.has_guard (waiting.slot_at (some_state st) s) ≡ true
-some_active {T} st s active = ap (λ (slot : waiting.Slot (Option T) (Option ℕ)). waiting.has_guard slot) (slot_same st s) ∙ active
+pub some_active : {T : Type 0} (st : waiting.ModelState T ℕ) (s : ℕ) → waiting.has_guard (waiting.model_slot st s) ≡ true → waiting.has_guard (waiting.model_slot (some_state st) s) ≡ true
+some_active {T} st s active = ap (λ (slot : waiting.ModelSlot (Option T) (Option ℕ)). waiting.has_guard slot) (slot_same st s) ∙ active
 
 -- where a job ended that left no guard, the slot is in use still
 
-abbrev Rested : {T : Type 0} → waiting.State T ℕ → ℕ → Type 0
-Rested st s = (is_free (waiting.slot_at st s).kind ≡ false) × (waiting.has_guard (waiting.slot_at st s) ≡ false)
+abbrev Rested : {T : Type 0} → waiting.ModelState T ℕ → ℕ → Type 0
+Rested st s = (is_free (waiting.model_slot st s).kind ≡ false) × (waiting.has_guard (waiting.model_slot st s) ≡ false)
 
 rested : {T : Type 0} (o : StateAndGone T ℕ) (o' : StateAndGone (Option T) (Option ℕ)) → o' ≡ some_out o → (of : ℕ → Option T) (by : ℕ → Option ℕ) (s : ℕ) (later : machine.State) (answers : List Answer) → JobEnds (with_reclaimers of by) s 0 o' later answers → Rested o.0 s
 rested {T} o o' is of by s later answers ends =
     let d : JobEnds (with_reclaimers of by) s 0 (some_out o) later answers = subst (λ (x : StateAndGone (Option T) (Option ℕ)). JobEnds (with_reclaimers of by) s 0 x later answers) is ends in
-    let slot : waiting.slot_at (some_state o.0) s ≡ some_slot (waiting.slot_at o.0 s) = slot_same o.0 s in
-    let used : true ≡ not (is_free (waiting.slot_at (some_state o.0) s).kind) =
+    let slot : waiting.model_slot (some_state o.0) s ≡ some_slot (waiting.model_slot o.0 s) = slot_same o.0 s in
+    let used : true ≡ not (is_free (waiting.model_slot (some_state o.0) s).kind) =
     sym (ap (λ (k : machine.Slot). k.used) (there d.base s (record { used = true; batch = d.batch; call = None }) d.within)) ∙ (d.near.slot s).used in (
-      not_free (is_free (waiting.slot_at o.0 s).kind) (used ∙ ap (λ (k : waiting.Slot (Option T) (Option ℕ)). not (is_free k.kind)) slot),
-      ap (λ (k : waiting.Slot (Option T) (Option ℕ)). waiting.has_guard k) (sym slot) ∙ ap (λ (n : ℕ). not (n == 0)) d.same_guards,
+      not_free (is_free (waiting.model_slot o.0 s).kind) (used ∙ ap (λ (k : waiting.ModelSlot (Option T) (Option ℕ)). not (is_free k.kind)) slot),
+      ap (λ (k : waiting.ModelSlot (Option T) (Option ℕ)). waiting.has_guard k) (sym slot) ∙ ap (λ (n : ℕ). not (n == 0)) d.same_guards,
     )
   where
     not_free : (b : Bool) → true ≡ not b → b ≡ false
@@ -137,17 +137,17 @@ rested {T} o o' is of by s later answers ends =
 
 -- no such call is refused
 
-pub guarded : {T : Type 0} (st : waiting.State T ℕ) (s : ℕ) → is_free (waiting.slot_at st s).kind ≡ false → waiting.has_guard (waiting.slot_at st s) ≡ true → no_guard st s ≡ None
+pub guarded : {T : Type 0} (st : waiting.ModelState T ℕ) (s : ℕ) → is_free (waiting.model_slot st s).kind ≡ false → waiting.has_guard (waiting.model_slot st s) ≡ true → no_guard st s ≡ None
 guarded st s used active = λ i. first_refusal (if used i then Some NotInUse else None) (if active i then None else Some NotActive)
 
-pub not_refused : {T : Type 0} (st : waiting.State T ℕ) (refusal : Option Refusal) (o : StateAndGone T ℕ) → refusal ≡ None → unless {A = Unit {0}} refusal st (Ok tt, o) ≡ (Ok tt, o)
+pub not_refused : {T : Type 0} (st : waiting.ModelState T ℕ) (refusal : Option Refusal) (o : StateAndGone T ℕ) → refusal ≡ None → unless {A = Unit {0}} refusal st (Ok tt, o) ≡ (Ok tt, o)
 not_refused {T} st refusal o none = ap (λ (r : Option Refusal). unless {A = Unit {0}} r st (Ok tt, o)) none
 
 pub answered : {T : Type 0} (c : Coded T) (had' : Had) (pass' : Pass) (o : StateAndGone T ℕ) (told : Response (Unit {0}) T ℕ) → told ≡ (Ok tt, o) → HoldsThen c.code o had' pass' → (told.0 ≡ Ok tt) × HoldsThen c.code told.1 had' pass'
 answered {T} c had' pass' o told is held = (ap (λ (r : Response (Unit {0}) T ℕ). r.0) is, subst (λ (r : Response (Unit {0}) T ℕ). HoldsThen c.code r.1 had' pass') (sym is) held)
 
-rested_below : {T : Type 0} (n : ℕ) (st : waiting.State T ℕ) (s : ℕ) → Rested (with_gone_below n st) s → Rested st s
-rested_below {T} n st s = subst (λ (slot : waiting.Slot T ℕ). (is_free slot.kind ≡ false) × (waiting.has_guard slot ≡ false)) (slot_below n st s)
+rested_below : {T : Type 0} (n : ℕ) (st : waiting.ModelState T ℕ) (s : ℕ) → Rested (with_gone_below n st) s → Rested st s
+rested_below {T} n st s = subst (λ (slot : waiting.ModelSlot T ℕ). (is_free slot.kind ≡ false) × (waiting.has_guard slot ≡ false)) (slot_below n st s)
 
 module _ {T : Type 0} (c : Coded T) (puts : ℕ → T → List T) (weight : T → ℕ) (lighter : Lighter puts weight) where
   some_lighter_so : Lighter (puts_some puts) (weight_some weight)
@@ -163,7 +163,7 @@ module _ {T : Type 0} (c : Coded T) (puts : ℕ → T → List T) (weight : T �
   pub retires_held : RetiresHeld c puts weight
   retires_held st names kinds v kind x retired key pass keys key' pass' keys' had' r a lent used =
       let s = slot_number key in let w : Whole pass pass' s (RetireJob v) (kind ∷ []) [] had' = retired_whole r in
-      let n = a.holds.gone in let whole : waiting.State T ℕ = with_gone_below a.holds.gone st in
+      let n = a.holds.gone in let whole : waiting.ModelState T ℕ = with_gone_below a.holds.gone st in
       let own : List (ℕ × T) = (v, x) ∷ [] in let own_kinds : List (ℕ × ℕ) = (v, kind) ∷ [] in
       let own_lent : AreLent c.code own = (lent, tt) in let own_told : AreOfKinds pass'.seen own_kinds = (begin_said w v kind (inl (refl, refl)), tt) in
       let named = found_lent c _ (lent_then c puts st names kinds w a own own_lent own_kinds own_told) v x lent (own_there c puts st names kinds w a own own_lent own_kinds own_told v (has_first (v, x) [])) in
@@ -178,7 +178,7 @@ module _ {T : Type 0} (c : Coded T) (puts : ℕ → T → List T) (weight : T �
   pub flushes_held : FlushesHeld c puts weight
   flushes_held st names kinds retired key pass keys key' pass' keys' had' r a used active =
       let s = slot_number key in let w : Whole pass pass' s FlushJob [] [] had' = flushed_whole r in
-      let n = a.holds.gone in let whole : waiting.State T ℕ = with_gone_below a.holds.gone st in
+      let n = a.holds.gone in let whole : waiting.ModelState T ℕ = with_gone_below a.holds.gone st in
       let o = with_further puts weight s (attempt st s) in
       answered c had' pass' o (flush puts weight st s) (not_refused st (no_guard st s) o (guarded st s used active))
       (held_then c puts st names kinds w a [] tt [] tt _ o _
@@ -190,33 +190,33 @@ module _ {T : Type 0} (c : Coded T) (puts : ℕ → T → List T) (weight : T �
   pub parts_held : PartsHeld c puts weight
   parts_held st names kinds key pass keys key' pass' keys' had' r a used guards =
       let s = slot_number key in let w : Whole pass pass' s LeaveJob [] [] had' = left_whole r (refl, refl) in
-      let n = a.holds.gone in let whole : waiting.State T ℕ = with_gone_below a.holds.gone st in
-      let active : waiting.has_guard (waiting.slot_at st s) ≡ true = ap (λ (n : ℕ). not (n == 0)) guards in
+      let n = a.holds.gone in let whole : waiting.ModelState T ℕ = with_gone_below a.holds.gone st in
+      let active : waiting.has_guard (waiting.model_slot st s) ≡ true = ap (λ (n : ℕ). not (n == 0)) guards in
       let o = with_further puts weight s (part (set_guards st s 0) s) in
       let less : one_guard_less st s ≡ part (set_guards st s 0) s = ap (λ (n : ℕ). if n == 1 then part (set_guards st s 0) s else (set_guards st s (n - 1), [])) guards in
       let same : with_further (puts_some puts) (weight_some weight) s (part (set_guards (some_state whole) s 0) s) ≡ some_out (below_out n o) =
-      ap (λ (now : waiting.State (Option T) (Option ℕ)). with_further (puts_some puts) (weight_some weight) s (part now s)) (guards_same whole s 0)
+      ap (λ (now : waiting.ModelState (Option T) (Option ℕ)). with_further (puts_some puts) (weight_some weight) s (part now s)) (guards_same whole s 0)
       ∙ ap (with_further (puts_some puts) (weight_some weight) s) (part_same (set_guards whole s 0) s)
-      ∙ further_so n s (part (set_guards whole s 0) s) (part (set_guards st s 0) s) (ap (λ (now : waiting.State T ℕ). part now s) (guards_below n st s 0) ∙ part_below n (set_guards st s 0) s) in
+      ∙ further_so n s (part (set_guards whole s 0) s) (part (set_guards st s 0) s) (ap (λ (now : waiting.ModelState T ℕ). part now s) (guards_below n st s 0) ∙ part_below n (set_guards st s 0) s) in
       let ends = leave_job_list (puts_some puts) (weight_some weight) some_lighter_so _ _ (some_state whole) _ s (events_made (all_made w)) (answers_made (all_made w)) _
       (near_before c puts st names kinds w a [] tt [] tt) (some_used whole s (used_below n st s used)) (some_active whole s (active_below n st s active)) (whole_job w)
       (legal c puts st names kinds w a [] tt [] tt) (put_so c puts st names kinds w a [] tt [] tt) in
       let rests : Rested o.0 s = rested_below n o.0 s (rested (below_out n o) _ same _ _ s _ _ ends) in
-      subst (λ (now : StateAndGone T ℕ). HoldsThen c.code now had' pass' × (is_free (waiting.slot_at now.0 s).kind ≡ false) × (waiting.has_guard (waiting.slot_at now.0 s) ≡ false)) (ap (with_further puts weight s) (sym less))
+      subst (λ (now : StateAndGone T ℕ). HoldsThen c.code now had' pass' × (is_free (waiting.model_slot now.0 s).kind ≡ false) × (waiting.has_guard (waiting.model_slot now.0 s) ≡ false)) (ap (with_further puts weight s) (sym less))
       (held_then c puts st names kinds w a [] tt [] tt _ o _ same ends, rests.0, rests.1)
 
   pub leaves_held : LeavesHeld c puts weight
   leaves_held st names kinds key pass keys key' pass' keys' had' r a kind guards =
-      let s = slot_number key in let used : is_free (waiting.slot_at st s).kind ≡ false = ap is_free kind in
+      let s = slot_number key in let used : is_free (waiting.model_slot st s).kind ≡ false = ap is_free kind in
       let o = with_further puts weight s (one_guard_less st s) in
       answered c had' pass' o (leave puts weight st s)
-      (not_refused st (no_guard st s) (with_number_free_if (is_owned (waiting.slot_at st s).kind) s o) (guarded st s used (ap (λ (n : ℕ). not (n == 0)) guards)) ∙ ap (λ (k : Kind). (Ok tt, with_number_free_if (is_owned k) s o)) kind)
+      (not_refused st (no_guard st s) (with_number_free_if (is_owned (waiting.model_slot st s).kind) s o) (guarded st s used (ap (λ (n : ℕ). not (n == 0)) guards)) ∙ ap (λ (k : Kind). (Ok tt, with_number_free_if (is_owned k) s o)) kind)
       (parts_held st names kinds key pass keys key' pass' keys' had' r a used guards).0
 
   pub refreshes_held : RefreshesHeld c puts weight
   refreshes_held st names kinds life key pass keys key' pass' keys' had' r a used active parts =
       let s = slot_number key in let w : Whole pass pass' s RefreshJob [] [] had' = left_whole r (refl, refl) in
-      let n = a.holds.gone in let whole : waiting.State T ℕ = with_gone_below a.holds.gone st in
+      let n = a.holds.gone in let whole : waiting.ModelState T ℕ = with_gone_below a.holds.gone st in
       let o = with_further puts weight s (part st s) in
       answered c had' pass' o (refresh puts weight st s)
       (not_refused st (no_guard st s) (with_further puts weight s (part_if_alone st s)) (guarded st s used active) ∙ ap (λ (b : Bool). (Ok tt, with_further puts weight s (if b then part st s else (st, [])))) parts)

@@ -4,9 +4,9 @@ use Rattle.std.specs.List.{fold, list_any}
 use Rattle.std.proofs.lemmas.List.{length-map, map-append}
 use Rattle.seize_model.specs.declared.kind.Kind.{Kind}
 use Rattle.seize_model.specs.declared.kind.Kind.TheVariants.{Free}
-use Rattle.seize_model.specs.Waiting.State.{Slot, State, has_guard, is_kept, no_slot, retired_at, set_slot, slot_at, waits_for}
+use Rattle.seize_model.specs.Waiting.State.{ModelSlot, ModelState, has_guard, is_kept, unmade_slot, retired_at, set_slot, model_slot, waits_for}
 use Rattle.seize_model.specs.Waiting.Attempt.{StateAndGone, active_slots, attempt, gives_up, part, put, release, release_all, wait_if_active, with_batch_retired, with_batch_value, with_gone}
-use Rattle.seize_model.specs.Waiting.Calls.{is_free, least_unused, link_at, set_guards, with_number_free, with_number_in_use}
+use Rattle.seize_model.specs.Waiting.Calls.{is_free, least_unused, model_link, set_guards, with_number_free, with_number_in_use}
 use Rattle.seize_model.specs.Waiting.Further.{afterwards, further, put_by, settle, still_to_come, with_further}
 use Rattle.seize_alone.specs.Holding.{some_slot, some_state, some_value}
 
@@ -39,89 +39,89 @@ module _ {T R : Type 0} where
   abbrev pub some_out : StateAndGone T R → StateAndGone (Option T) (Option R)
   some_out o = (some_state o.0, all_some o.1)
 
-  pub slot_same : (st : State T R) (s : ℕ) → slot_at (some_state st) s ≡ some_slot (slot_at st s)
-  slot_same st s = get_map some_slot st.slots s no_slot no_slot refl
+  pub slot_same : (st : ModelState T R) (s : ℕ) → model_slot (some_state st) s ≡ some_slot (model_slot st s)
+  slot_same st s = get_map some_slot st.slots s unmade_slot unmade_slot refl
 
-  pub retired_same : (st : State T R) (b : ℕ) → retired_at (some_state st) b ≡ all_some (retired_at st b)
+  pub retired_same : (st : ModelState T R) (b : ℕ) → retired_at (some_state st) b ≡ all_some (retired_at st b)
   retired_same st b = get_map all_some st.retired b [] [] refl
 
-  set_same : (st : State T R) (s : ℕ) (slot : Slot T R) → set_slot (some_state st) s (some_slot slot) ≡ some_state (set_slot st s slot)
+  set_same : (st : ModelState T R) (s : ℕ) (slot : ModelSlot T R) → set_slot (some_state st) s (some_slot slot) ≡ some_state (set_slot st s slot)
   set_same st s slot = λ i. record { size = st.size; slots = sym (set_map some_slot st.slots s slot) i; retired = map all_some st.retired; links = map (λ (o : Option T). option_map Some o) st.links }
 
-  kept_same : (st : State T R) (b : ℕ) → is_kept (some_state st) b ≡ is_kept st b
+  kept_same : (st : ModelState T R) (b : ℕ) → is_kept (some_state st) b ≡ is_kept st b
   kept_same st b = any_map (waits_for b) some_slot st.slots
 
-  pub release_same : (st : State T R) (b : ℕ) → release (some_state st) b ≡ some_out (release st b)
+  pub release_same : (st : ModelState T R) (b : ℕ) → release (some_state st) b ≡ some_out (release st b)
   release_same st b = ap (λ (k : Bool). if k then (some_state st, []) else (record (some_state st) { retired = set (map all_some st.retired) b [] }, retired_at (some_state st) b)) (kept_same st b) ∙ by_case (is_kept st b)
     where
       by_case : (k : Bool) → (if k then (some_state st, []) else (record (some_state st) { retired = set (map all_some st.retired) b [] }, retired_at (some_state st) b)) ≡ some_out (if k then (st, []) else (record st { retired = set st.retired b [] }, retired_at st b))
       by_case true = refl
       by_case false = λ i. (record (some_state st) { retired = sym (set_map all_some st.retired b []) i }, retired_same st b i)
 
-  active_same : (st : State T R) → active_slots (some_state st) ≡ active_slots st
-  active_same st = fold_map (λ (n : ℕ) (slot : Slot (Option T) (Option R)). n + cond (has_guard slot) 1 0) some_slot 0 st.slots
+  active_same : (st : ModelState T R) → active_slots (some_state st) ≡ active_slots st
+  active_same st = fold_map (λ (n : ℕ) (slot : ModelSlot (Option T) (Option R)). n + cond (has_guard slot) 1 0) some_slot 0 st.slots
 
-  gives_up_same : (st : State T R) (s : ℕ) → gives_up (some_state st) s ≡ gives_up st s
+  gives_up_same : (st : ModelState T R) (s : ℕ) → gives_up (some_state st) s ≡ gives_up st s
   gives_up_same st s =
-      let long : length (slot_at (some_state st) s).batch ≡ length (slot_at st s).batch = ap (λ (slot : Slot (Option T) (Option R)). length slot.batch) (slot_same st s) ∙ length-map (slot_at st s).batch some_value in
+      let long : length (model_slot (some_state st) s).batch ≡ length (model_slot st s).batch = ap (λ (slot : ModelSlot (Option T) (Option R)). length slot.batch) (slot_same st s) ∙ length-map (model_slot st s).batch some_value in
       λ i. (long i == 0) || nat_lt (long i) (active_same st i)
 
-  wait_same : (b : ℕ) (slot : Slot T R) → wait_if_active b (some_slot slot) ≡ some_slot (wait_if_active b slot)
+  wait_same : (b : ℕ) (slot : ModelSlot T R) → wait_if_active b (some_slot slot) ≡ some_slot (wait_if_active b slot)
   wait_same b slot = by_case (has_guard slot)
     where
       by_case : (k : Bool) → (if k then record (some_slot slot) { order = b ∷ slot.order } else some_slot slot) ≡ some_slot (if k then record slot { order = b ∷ slot.order } else slot)
       by_case true = refl
       by_case false = refl
 
-  batch_retired_same : (st : State T R) (s : ℕ) → with_batch_retired (some_state st) s ≡ some_state (with_batch_retired st s)
+  batch_retired_same : (st : ModelState T R) (s : ℕ) → with_batch_retired (some_state st) s ≡ some_state (with_batch_retired st s)
   batch_retired_same st s =
       let n : length (map all_some st.retired) ≡ length st.retired = length-map st.retired all_some in
-      let emptied : set (map some_slot st.slots) s (record (slot_at (some_state st) s) { batch = [] }) ≡ map some_slot (set st.slots s (record (slot_at st s) { batch = [] })) =
-      ap (λ (slot : Slot (Option T) (Option R)). set (map some_slot st.slots) s (record slot { batch = [] })) (slot_same st s) ∙ sym (set_map some_slot st.slots s (record (slot_at st s) { batch = [] })) in
+      let emptied : set (map some_slot st.slots) s (record (model_slot (some_state st) s) { batch = [] }) ≡ map some_slot (set st.slots s (record (model_slot st s) { batch = [] })) =
+      ap (λ (slot : ModelSlot (Option T) (Option R)). set (map some_slot st.slots) s (record slot { batch = [] })) (slot_same st s) ∙ sym (set_map some_slot st.slots s (record (model_slot st s) { batch = [] })) in
       λ i. record {
         size = st.size;
-        slots = ((λ j. map (wait_if_active (n j)) (emptied j)) ∙ map_map (wait_if_active (length st.retired)) some_slot some_slot (wait_if_active (length st.retired)) (wait_same (length st.retired)) (set st.slots s (record (slot_at st s) { batch = [] }))) i;
-        retired = (ap (λ (slot : Slot (Option T) (Option R)). map all_some st.retired ++ slot.batch ∷ []) (slot_same st s) ∙ sym (map-append all_some st.retired ((slot_at st s).batch ∷ []))) i;
+        slots = ((λ j. map (wait_if_active (n j)) (emptied j)) ∙ map_map (wait_if_active (length st.retired)) some_slot some_slot (wait_if_active (length st.retired)) (wait_same (length st.retired)) (set st.slots s (record (model_slot st s) { batch = [] }))) i;
+        retired = (ap (λ (slot : ModelSlot (Option T) (Option R)). map all_some st.retired ++ slot.batch ∷ []) (slot_same st s) ∙ sym (map-append all_some st.retired ((model_slot st s).batch ∷ []))) i;
         links = map (λ (o : Option T). option_map Some o) st.links;
       }
 
-  pub attempt_same : (st : State T R) (s : ℕ) → attempt (some_state st) s ≡ some_out (attempt st s)
+  pub attempt_same : (st : ModelState T R) (s : ℕ) → attempt (some_state st) s ≡ some_out (attempt st s)
   attempt_same st s = ap (λ (k : Bool). if k then (some_state st, []) else release (with_batch_retired (some_state st) s) (length (map all_some st.retired))) (gives_up_same st s) ∙ by_case (gives_up st s)
     where
       by_case : (k : Bool) → (if k then (some_state st, []) else release (with_batch_retired (some_state st) s) (length (map all_some st.retired))) ≡ some_out (if k then (st, []) else release (with_batch_retired st s) (length st.retired))
       by_case true = refl
       by_case false = (λ i. release (batch_retired_same st s i) (length-map st.retired all_some i)) ∙ release_same (with_batch_retired st s) (length st.retired)
 
-  value_same : (st : State T R) (s : ℕ) (v : T × R) → with_batch_value (some_state st) s (some_value v) ≡ some_state (with_batch_value st s v)
+  value_same : (st : ModelState T R) (s : ℕ) (v : T × R) → with_batch_value (some_state st) s (some_value v) ≡ some_state (with_batch_value st s v)
   value_same st s v =
-      ap (λ (slot : Slot (Option T) (Option R)). set_slot (some_state st) s (record slot { batch = slot.batch ++ some_value v ∷ [] })) (slot_same st s)
-      ∙ ap (λ (batch : List (Option T × Option R)). set_slot (some_state st) s (record (some_slot (slot_at st s)) { batch = batch })) (sym (map-append some_value (slot_at st s).batch (v ∷ [])))
-      ∙ set_same st s (record (slot_at st s) { batch = (slot_at st s).batch ++ v ∷ [] })
+      ap (λ (slot : ModelSlot (Option T) (Option R)). set_slot (some_state st) s (record slot { batch = slot.batch ++ some_value v ∷ [] })) (slot_same st s)
+      ∙ ap (λ (batch : List (Option T × Option R)). set_slot (some_state st) s (record (some_slot (model_slot st s)) { batch = batch })) (sym (map-append some_value (model_slot st s).batch (v ∷ [])))
+      ∙ set_same st s (record (model_slot st s) { batch = (model_slot st s).batch ++ v ∷ [] })
 
-  pub put_same : (st : State T R) (s : ℕ) (v : T × R) → put (some_state st) s (some_value v) ≡ some_out (put st s v)
+  pub put_same : (st : ModelState T R) (s : ℕ) (v : T × R) → put (some_state st) s (some_value v) ≡ some_out (put st s v)
   put_same st s v =
-      (λ i. if nat_le (max 1 st.size) (length (slot_at (value_same st s v i) s).batch) then attempt (value_same st s v i) s else (value_same st s v i, []))
-      ∙ ap (λ (n : ℕ). if nat_le (max 1 st.size) n then attempt (some_state next) s else (some_state next, [])) (ap (λ (slot : Slot (Option T) (Option R)). length slot.batch) (slot_same next s) ∙ length-map (slot_at next s).batch some_value)
-      ∙ by_case (nat_le (max 1 st.size) (length (slot_at next s).batch))
+      (λ i. if nat_le (max 1 st.size) (length (model_slot (value_same st s v i) s).batch) then attempt (value_same st s v i) s else (value_same st s v i, []))
+      ∙ ap (λ (n : ℕ). if nat_le (max 1 st.size) n then attempt (some_state next) s else (some_state next, [])) (ap (λ (slot : ModelSlot (Option T) (Option R)). length slot.batch) (slot_same next s) ∙ length-map (model_slot next s).batch some_value)
+      ∙ by_case (nat_le (max 1 st.size) (length (model_slot next s).batch))
     where
-      next : State T R
+      next : ModelState T R
       next = with_batch_value st s v
 
       by_case : (k : Bool) → (if k then attempt (some_state next) s else (some_state next, [])) ≡ some_out (if k then attempt next s else (next, []))
       by_case true = attempt_same next s
       by_case false = refl
 
-  pub released_same : (st : State T R) (bs : List ℕ) → release_all (some_state st) bs ≡ some_out (release_all st bs)
+  pub released_same : (st : ModelState T R) (bs : List ℕ) → release_all (some_state st) bs ≡ some_out (release_all st bs)
   released_same st [] = refl
   released_same st (b ∷ bs) =
       (λ i. with_gone (release_same st b i).1 (release_all (release_same st b i).0 bs)) ∙ ap (λ (o : StateAndGone (Option T) (Option R)). with_gone (all_some (release st b).1) o) (released_same (release st b).0 bs)
       ∙ (λ i. (some_state (release_all (release st b).0 bs).0, sym (map-append some_value (release st b).1 (release_all (release st b).0 bs).1) i))
 
-  pub part_same : (st : State T R) (s : ℕ) → part (some_state st) s ≡ some_out (part st s)
+  pub part_same : (st : ModelState T R) (s : ℕ) → part (some_state st) s ≡ some_out (part st s)
   part_same st s =
       (λ i. release_all (set_slot (some_state st) s (record (slot_same st s i) { order = [] })) (slot_same st s i).order)
-      ∙ ap (λ (now : State (Option T) (Option R)). release_all now (slot_at st s).order) (set_same st s (record (slot_at st s) { order = [] }))
-      ∙ released_same (set_slot st s (record (slot_at st s) { order = [] })) (slot_at st s).order
+      ∙ ap (λ (now : ModelState (Option T) (Option R)). release_all now (model_slot st s).order) (set_same st s (record (model_slot st s) { order = [] }))
+      ∙ released_same (set_slot st s (record (model_slot st s) { order = [] })) (model_slot st s).order
 
   -- The further values.
 
@@ -133,7 +133,7 @@ module _ {T R : Type 0} where
     further_same [] = refl
     further_same (v ∷ gone) = (λ i. put_by_same v i ++ further_same gone i) ∙ sym (map-append some_value (put_by puts v) (further puts gone))
 
-    settle_same : (n : ℕ) (st : State T R) (s : ℕ) (queue : List (T × R)) → settle puts' n (some_state st) s (all_some queue) ≡ some_out (settle puts n st s queue)
+    settle_same : (n : ℕ) (st : ModelState T R) (s : ℕ) (queue : List (T × R)) → settle puts' n (some_state st) s (all_some queue) ≡ some_out (settle puts n st s queue)
     settle_same zero st s queue = refl
     settle_same (suc n) st s [] = refl
     settle_same (suc n) st s (v ∷ queue) =
@@ -152,10 +152,10 @@ module _ {T R : Type 0} where
       left_same batch queue = λ i.
           sum_same (λ v. 2 * weight' v.0 - 1) (λ v. 2 * weight v.0 - 1) (λ v. ap (λ (n : ℕ). 2 * n - 1) (weighs v.0)) batch 0 i + sum_same (λ v. 2 * weight' v.0) (λ v. 2 * weight v.0) (λ v. ap (λ (n : ℕ). 2 * n) (weighs v.0)) queue 0 i
 
-      pub afterwards_same : (st : State T R) (s : ℕ) (queue : List (T × R)) → afterwards puts' weight' (some_state st) s (all_some queue) ≡ some_out (afterwards puts weight st s queue)
+      pub afterwards_same : (st : ModelState T R) (s : ℕ) (queue : List (T × R)) → afterwards puts' weight' (some_state st) s (all_some queue) ≡ some_out (afterwards puts weight st s queue)
       afterwards_same st s queue =
-          ap (λ (n : ℕ). settle puts' n (some_state st) s (all_some queue)) (ap (λ (slot : Slot (Option T) (Option R)). still_to_come weight' slot.batch (all_some queue)) (slot_same st s) ∙ left_same (slot_at st s).batch queue)
-          ∙ settle_same (still_to_come weight (slot_at st s).batch queue) st s queue
+          ap (λ (n : ℕ). settle puts' n (some_state st) s (all_some queue)) (ap (λ (slot : ModelSlot (Option T) (Option R)). still_to_come weight' slot.batch (all_some queue)) (slot_same st s) ∙ left_same (model_slot st s).batch queue)
+          ∙ settle_same (still_to_come weight (model_slot st s).batch queue) st s queue
 
       pub with_further_same : (s : ℕ) (o : StateAndGone T R) → with_further puts' weight' s (some_out o) ≡ some_out (with_further puts weight s o)
       with_further_same s o =
@@ -165,34 +165,34 @@ module _ {T R : Type 0} where
 
   -- Single steps.
 
-  pub guards_same : (st : State T R) (s n : ℕ) → set_guards (some_state st) s n ≡ some_state (set_guards st s n)
-  guards_same st s n = ap (λ (slot : Slot (Option T) (Option R)). set_slot (some_state st) s (record slot { guards = n })) (slot_same st s) ∙ set_same st s (record (slot_at st s) { guards = n })
+  pub guards_same : (st : ModelState T R) (s n : ℕ) → set_guards (some_state st) s n ≡ some_state (set_guards st s n)
+  guards_same st s n = ap (λ (slot : ModelSlot (Option T) (Option R)). set_slot (some_state st) s (record slot { guards = n })) (slot_same st s) ∙ set_same st s (record (model_slot st s) { guards = n })
 
-  pub free_same : (st : State T R) (s : ℕ) → with_number_free (some_state st) s ≡ some_state (with_number_free st s)
-  free_same st s = ap (λ (slot : Slot (Option T) (Option R)). set_slot (some_state st) s (record slot { kind = Free; guards = 0 })) (slot_same st s) ∙ set_same st s (record (slot_at st s) { kind = Free; guards = 0 })
+  pub free_same : (st : ModelState T R) (s : ℕ) → with_number_free (some_state st) s ≡ some_state (with_number_free st s)
+  free_same st s = ap (λ (slot : ModelSlot (Option T) (Option R)). set_slot (some_state st) s (record slot { kind = Free; guards = 0 })) (slot_same st s) ∙ set_same st s (record (model_slot st s) { kind = Free; guards = 0 })
 
-  pub link_same : (st : State T R) (l : ℕ) → link_at (some_state st) l ≡ option_map Some (link_at st l)
+  pub link_same : (st : ModelState T R) (l : ℕ) → model_link (some_state st) l ≡ option_map Some (model_link st l)
   link_same st l = get_map (λ (o : Option T). option_map Some o) st.links l None None refl
 
-  pub least_same : (slots : List (Slot T R)) → least_unused (map some_slot slots) ≡ least_unused slots
+  pub least_same : (slots : List (ModelSlot T R)) → least_unused (map some_slot slots) ≡ least_unused slots
   least_same [] = refl
   least_same (slot ∷ slots) = ap (λ (n : ℕ). cond (not (is_free slot.kind)) (1 + n) 0) (least_same slots)
 
-  pub use_same : (st : State T R) (n : ℕ) (kind : Kind) (guards : ℕ) → with_number_in_use (some_state st) n kind guards ≡ some_state (with_number_in_use st n kind guards)
+  pub use_same : (st : ModelState T R) (n : ℕ) (kind : Kind) (guards : ℕ) → with_number_in_use (some_state st) n kind guards ≡ some_state (with_number_in_use st n kind guards)
   use_same st n kind guards = ap (λ (long : ℕ). if n == long then grown else changed) (length-map st.slots some_slot) ∙ by_case (n == length st.slots)
     where
-      new : Slot T R
+      new : ModelSlot T R
       new = record { kind = kind; guards = guards; batch = []; order = [] }
 
-      grown : State (Option T) (Option R)
+      grown : ModelState (Option T) (Option R)
       grown = record (some_state st) { slots = map some_slot st.slots ++ record { kind = kind; guards = guards; batch = []; order = [] } ∷ [] }
 
-      changed : State (Option T) (Option R)
-      changed = set_slot (some_state st) n (record (slot_at (some_state st) n) { kind = kind; guards = guards })
+      changed : ModelState (Option T) (Option R)
+      changed = set_slot (some_state st) n (record (model_slot (some_state st) n) { kind = kind; guards = guards })
 
-      by_case : (k : Bool) → (if k then grown else changed) ≡ some_state (if k then record st { slots = st.slots ++ new ∷ [] } else set_slot st n (record (slot_at st n) { kind = kind; guards = guards }))
+      by_case : (k : Bool) → (if k then grown else changed) ≡ some_state (if k then record st { slots = st.slots ++ new ∷ [] } else set_slot st n (record (model_slot st n) { kind = kind; guards = guards }))
       by_case true = λ i. record (some_state st) { slots = sym (map-append some_slot st.slots (new ∷ [])) i }
-      by_case false = ap (λ (slot : Slot (Option T) (Option R)). set_slot (some_state st) n (record slot { kind = kind; guards = guards })) (slot_same st n) ∙ set_same st n (record (slot_at st n) { kind = kind; guards = guards })
+      by_case false = ap (λ (slot : ModelSlot (Option T) (Option R)). set_slot (some_state st) n (record slot { kind = kind; guards = guards })) (slot_same st n) ∙ set_same st n (record (model_slot st n) { kind = kind; guards = guards })
 
-  pub swap_same : (st : State T R) (l : ℕ) (new : Option T) → record (some_state st) { links = set (some_state st).links l (option_map Some new) } ≡ some_state (record st { links = set st.links l new })
+  pub swap_same : (st : ModelState T R) (l : ℕ) (new : Option T) → record (some_state st) { links = set (some_state st).links l (option_map Some new) } ≡ some_state (record st { links = set st.links l new })
   swap_same st l new = λ i. record (some_state st) { links = sym (set_map (λ (o : Option T). option_map Some o) st.links l new) i }

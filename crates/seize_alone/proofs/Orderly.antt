@@ -38,7 +38,7 @@ map_nothing h [] none = refl
 map_nothing h (x ∷ xs) none = absurd (cc)
 
 -- a slot for which a batch does not wait does not list it
-unlisted : {T R : Type 0} (slot : waiting.Slot T R) (b : ℕ) → has b slot.order ≡ false → Contains (waiting_at (head_of slot)) b → ⊥
+unlisted : {T R : Type 0} (slot : waiting.ModelSlot T R) (b : ℕ) → has b slot.order ≡ false → Contains (waiting_at (head_of slot)) b → ⊥
 unlisted slot b none = go (waiting.has_guard slot)
   where
     go : (g : Bool) → Contains (waiting_at (if g then Active slot.order else Inactive)) b → ⊥
@@ -46,14 +46,14 @@ unlisted slot b none = go (waiting.has_guard slot)
     go false c = nothing_in [] b refl c
 
 -- with all retired batches
-module _ {T : Type 0} (code : T → Gv) (st : waiting.State T ℕ) (names : List (ℕ × T)) (kinds : List (ℕ × ℕ)) (n : Name) (seen : List Entry)
+module _ {T : Type 0} (code : T → Gv) (st : waiting.ModelState T ℕ) (names : List (ℕ × T)) (kinds : List (ℕ × ℕ)) (n : Name) (seen : List Entry)
     (legal : IsLegalList (start n) seen) (distinct : are_distinct (linked_values n.links) ≡ true) (holds : HoldsAll code st names kinds n seen) where
   abbrev now : machine.State
   now = after (start n) seen
 
   unheld : (b : ℕ) → waiting.is_kept st b ≡ false → IsHeld (after (start n) seen) b → ⊥
   unheld b none (inl held) =
-      unlisted (some_slot (waiting.slot_at st held.0)) b (none_at (waiting.waits_for b) st.slots held.0 waiting.no_slot refl none)
+      unlisted (some_slot (waiting.model_slot st held.0)) b (none_at (waiting.waits_for b) st.slots held.0 waiting.unmade_slot refl none)
       (subst (λ (h : Head). Contains (waiting_at h) b) (head_all holds held.0) held.1)
   unheld b none (inr (inl held)) = nothing_in _ b (ap walk_of (slot_all holds held.0).idle) held.1
   unheld b none (inr (inr held)) = let is : None ≡ Some b = sym (ap detached_by (slot_all holds held.0).idle) ∙ held.1 in cc
@@ -70,20 +70,20 @@ module _ {T : Type 0} (code : T → Gv) (st : waiting.State T ℕ) (names : List
   }
 
 -- and without those that are gone below
-orderly_above : {T : Type 0} (n : ℕ) (st : waiting.State T ℕ) → IsOrderly (with_gone_below n st) → IsOrderly st
+orderly_above : {T : Type 0} (n : ℕ) (st : waiting.ModelState T ℕ) → IsOrderly (with_gone_below n st) → IsOrderly st
 orderly_above {T} n st o = record {
-  free = λ s. subst (λ (slot : waiting.Slot T ℕ). is_free slot.kind ≡ true → slot.guards ≡ 0) (slot_below n st s) (o.free s);
+  free = λ s. subst (λ (slot : waiting.ModelSlot T ℕ). is_free slot.kind ≡ true → slot.guards ≡ 0) (slot_below n st s) (o.free s);
   inactive = λ s off.
-      map_nothing (λ (b : ℕ). n + b) (waiting.slot_at st s).order
-      (subst (λ (slot : waiting.Slot T ℕ). waiting.has_guard slot ≡ false → slot.order ≡ []) (slot_below n st s) (o.inactive s) off);
+      map_nothing (λ (b : ℕ). n + b) (waiting.model_slot st s).order
+      (subst (λ (slot : waiting.ModelSlot T ℕ). waiting.has_guard slot ≡ false → slot.order ≡ []) (slot_below n st s) (o.inactive s) off);
   gone = λ b none. sym (get_below n (n + b) b st.retired refl) ∙ o.gone (n + b) (kept_below n st b ∙ none);
 }
 
 -- an owned slot has one guard at most
-pub owned_guard : {T : Type 0} (code : T → Gv) (st : waiting.State T ℕ) (names : List (ℕ × T)) (kinds : List (ℕ × ℕ)) (n : Name) (seen : List Entry) (s : ℕ) → Holds code st names kinds n seen
-    → is_owned (waiting.slot_at st s).kind ≡ true → waiting.has_guard (waiting.slot_at st s) ≡ true → set_guards st s 1 ≡ st
+pub owned_guard : {T : Type 0} (code : T → Gv) (st : waiting.ModelState T ℕ) (names : List (ℕ × T)) (kinds : List (ℕ × ℕ)) (n : Name) (seen : List Entry) (s : ℕ) → Holds code st names kinds n seen
+    → is_owned (waiting.model_slot st s).kind ≡ true → waiting.has_guard (waiting.model_slot st s) ≡ true → set_guards st s 1 ≡ st
 owned_guard {T} code st names kinds n seen s holds owned on =
-    ap (λ (k : ℕ). set_guards st s k) (sym (one (waiting.slot_at st s).guards (owned_shown holds s owned) on)) ∙ ap (λ (l : List (waiting.Slot T ℕ)). record st { slots = l }) (set-get_or st.slots s waiting.no_slot)
+    ap (λ (k : ℕ). set_guards st s k) (sym (one (waiting.model_slot st s).guards (owned_shown holds s owned) on)) ∙ ap (λ (l : List (waiting.ModelSlot T ℕ)). record st { slots = l }) (set-get_or st.slots s waiting.unmade_slot)
   where
     one : (k : ℕ) → k ≤ 1 → not (k == 0) ≡ true → k ≡ 1
     one k few some = grind arith

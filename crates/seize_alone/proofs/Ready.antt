@@ -26,7 +26,7 @@ use Rattle.seize_model.specs.declared.kind.Kind.{Kind}
 use Rattle.seize_model.specs.declared.kind.Kind.TheVariants.{Registered}
 use Rattle.seize_model.specs.Waiting.State as waiting
 use Rattle.seize_model.specs.Waiting.Attempt.{StateAndGone, attempt, part, with_gone}
-use Rattle.seize_model.specs.Waiting.Calls.{Response, end_slot, enter, first_refusal, flush, is_free, is_owned, leave, least_unused, link_at, not_registered, one_guard_less, part_if_alone, protect, refresh, set_guards, swap, take_number, unless, with_number_free, with_number_free_if, with_number_in_use}
+use Rattle.seize_model.specs.Waiting.Calls.{Response, end_slot, enter, first_refusal, flush, is_free, is_owned, leave, least_unused, model_link, not_registered, one_guard_less, part_if_alone, protect, refresh, set_guards, swap, take_number, unless, with_number_free, with_number_free_if, with_number_in_use}
 use Rattle.seize_model.specs.Waiting.Further.{Lighter, afterwards, further, put_by, with_further}
 use Rattle.seize_model.proofs.WaitingSets.FurtherValues.{afterwards-nil}
 use Rattle.seize_model.proofs.Simulation.Jobs.{settled_nothing}
@@ -76,31 +76,31 @@ swapped_alone {link} {a} {pass} {pass'} {s} {l} {v} {number} sole t =
 pub ready_sole : {U : Type 0} {slot : Slot U} {pass ready : Pass} → Prepares slot pass ready → IsSole pass.id → IsSole ready.id
 ready_sole prepares sole = subst IsSole (sym prepares.same.1) sole
 
-pub ready_holds : {T U : Type 0} {slot : Slot U} {pass ready : Pass} → Prepares slot pass ready → IsSole pass.id → (c : Coded T) (st : waiting.State T ℕ) (names : List (ℕ × T)) (kinds : List (ℕ × ℕ)) → Holds c.code st names kinds pass.name pass.seen
+pub ready_holds : {T U : Type 0} {slot : Slot U} {pass ready : Pass} → Prepares slot pass ready → IsSole pass.id → (c : Coded T) (st : waiting.ModelState T ℕ) (names : List (ℕ × T)) (kinds : List (ℕ × ℕ)) → Holds c.code st names kinds pass.name pass.seen
     → Holds c.code st names kinds ready.name ready.seen
 ready_holds prepares sole c st names kinds holds = subst (λ (t : Name × List Entry). Holds c.code st names kinds t.0 t.1) (λ i. (sym prepares.same.0 i, sym (prepares.alone sole) i)) holds
 
 -- What the model's calls answer.
 
-module _ {T : Type 0} (st : waiting.State T ℕ) (s : ℕ) where
-  registered : (waiting.slot_at st s).kind ≡ Registered → not_registered st s ≡ None
+module _ {T : Type 0} (st : waiting.ModelState T ℕ) (s : ℕ) where
+  registered : (waiting.model_slot st s).kind ≡ Registered → not_registered st s ≡ None
   registered kind = λ i. first_refusal (if is_free (kind i) then Some NotInUse else None) (if is_owned (kind i) then Some WrongKind else None)
 
-  pub entered : (waiting.slot_at st s).kind ≡ Registered → ((waiting.slot_at st s).guards == 2 ^ 64 - 1) ≡ false → enter st s ≡ (Ok tt, (set_guards st s ((waiting.slot_at st s).guards + 1), []))
-  entered kind few = λ i. unless (first_refusal (registered kind i) (if few i then Some TooManyGuards else None)) st (Ok tt, (set_guards st s ((waiting.slot_at st s).guards + 1), []))
+  pub entered : (waiting.model_slot st s).kind ≡ Registered → ((waiting.model_slot st s).guards == 2 ^ 64 - 1) ≡ false → enter st s ≡ (Ok tt, (set_guards st s ((waiting.model_slot st s).guards + 1), []))
+  entered kind few = λ i. unless (first_refusal (registered kind i) (if few i then Some TooManyGuards else None)) st (Ok tt, (set_guards st s ((waiting.model_slot st s).guards + 1), []))
 
-  pub ended : (waiting.slot_at st s).kind ≡ Registered → waiting.has_guard (waiting.slot_at st s) ≡ false → end_slot st s ≡ (Ok true, (with_number_free st s, []))
+  pub ended : (waiting.model_slot st s).kind ≡ Registered → waiting.has_guard (waiting.model_slot st s) ≡ false → end_slot st s ≡ (Ok true, (with_number_free st s, []))
   ended kind off = λ i. unless (registered kind i) st (if off i then (Ok false, (st, [])) else (Ok true, (with_number_free st s, [])))
 
   -- a guard keeps the number
-  pub kept : (waiting.slot_at st s).kind ≡ Registered → waiting.has_guard (waiting.slot_at st s) ≡ true → end_slot st s ≡ (Ok false, (st, []))
+  pub kept : (waiting.model_slot st s).kind ≡ Registered → waiting.has_guard (waiting.model_slot st s) ≡ true → end_slot st s ≡ (Ok false, (st, []))
   kept kind on = λ i. unless (registered kind i) st (if on i then (Ok false, (st, [])) else (Ok true, (with_number_free st s, [])))
 
-  pub protected : (l : ℕ) → is_free (waiting.slot_at st s).kind ≡ false → waiting.has_guard (waiting.slot_at st s) ≡ true → protect st s l ≡ (Ok (link_at st l), (st, []))
-  protected l used on = ap (λ (r : Option Refusal). unless r st (Ok (link_at st l), (st, []))) (guarded st s used on)
+  pub protected : (l : ℕ) → is_free (waiting.model_slot st s).kind ≡ false → waiting.has_guard (waiting.model_slot st s) ≡ true → protect st s l ≡ (Ok (model_link st l), (st, []))
+  protected l used on = ap (λ (r : Option Refusal). unless r st (Ok (model_link st l), (st, []))) (guarded st s used on)
 
-  pub exchanged : (l : ℕ) (new : Option T) → is_free (waiting.slot_at st s).kind ≡ false → waiting.has_guard (waiting.slot_at st s) ≡ true → swap st s l new ≡ (Ok (link_at st l), (record st { links = set st.links l new }, []))
-  exchanged l new used on = ap (λ (r : Option Refusal). unless r st (Ok (link_at st l), (record st { links = set st.links l new }, []))) (guarded st s used on)
+  pub exchanged : (l : ℕ) (new : Option T) → is_free (waiting.model_slot st s).kind ≡ false → waiting.has_guard (waiting.model_slot st s) ≡ true → swap st s l new ≡ (Ok (model_link st l), (record st { links = set st.links l new }, []))
+  exchanged l new used on = ap (λ (r : Option Refusal). unless r st (Ok (model_link st l), (record st { links = set st.links l new }, []))) (guarded st s used on)
 
   module _ (puts : ℕ → T → List T) (weight : T → ℕ) where
     some_guards : (n : ℕ) → 2 ≤ n → (n == 1) ≡ false
@@ -110,28 +110,28 @@ module _ {T : Type 0} (st : waiting.State T ℕ) (s : ℕ) where
     has_some n many = grind arith
 
     -- with guards besides
-    pub left_beside : (waiting.slot_at st s).kind ≡ Registered → 2 ≤ (waiting.slot_at st s).guards → leave puts weight st s ≡ (Ok tt, (set_guards st s ((waiting.slot_at st s).guards - 1), []))
+    pub left_beside : (waiting.model_slot st s).kind ≡ Registered → 2 ≤ (waiting.model_slot st s).guards → leave puts weight st s ≡ (Ok tt, (set_guards st s ((waiting.model_slot st s).guards - 1), []))
     left_beside kind many =
-        let less : one_guard_less st s ≡ (set_guards st s ((waiting.slot_at st s).guards - 1), []) =
-        ap (λ (b : Bool). if b then part (set_guards st s 0) s else (set_guards st s ((waiting.slot_at st s).guards - 1), [])) (some_guards (waiting.slot_at st s).guards many) in
-        ap (λ (r : Option Refusal). unless r st (Ok tt, with_number_free_if (is_owned (waiting.slot_at st s).kind) s (with_further puts weight s (one_guard_less st s)))) (guarded st s (ap is_free kind) (has_some (waiting.slot_at st s).guards many))
+        let less : one_guard_less st s ≡ (set_guards st s ((waiting.model_slot st s).guards - 1), []) =
+        ap (λ (b : Bool). if b then part (set_guards st s 0) s else (set_guards st s ((waiting.model_slot st s).guards - 1), [])) (some_guards (waiting.model_slot st s).guards many) in
+        ap (λ (r : Option Refusal). unless r st (Ok tt, with_number_free_if (is_owned (waiting.model_slot st s).kind) s (with_further puts weight s (one_guard_less st s)))) (guarded st s (ap is_free kind) (has_some (waiting.model_slot st s).guards many))
         ∙ ap (λ (k : Kind). (Ok tt, with_number_free_if (is_owned k) s (with_further puts weight s (one_guard_less st s)))) kind
-        ∙ ap (λ (o : StateAndGone T ℕ). (Ok tt, with_further puts weight s o)) less ∙ ap (λ (o : StateAndGone T ℕ). (Ok tt, o)) (settled_nothing puts weight (set_guards st s ((waiting.slot_at st s).guards - 1)) s)
+        ∙ ap (λ (o : StateAndGone T ℕ). (Ok tt, with_further puts weight s o)) less ∙ ap (λ (o : StateAndGone T ℕ). (Ok tt, o)) (settled_nothing puts weight (set_guards st s ((waiting.model_slot st s).guards - 1)) s)
 
-    pub refreshed_beside : (waiting.slot_at st s).kind ≡ Registered → 2 ≤ (waiting.slot_at st s).guards → refresh puts weight st s ≡ (Ok tt, (st, []))
+    pub refreshed_beside : (waiting.model_slot st s).kind ≡ Registered → 2 ≤ (waiting.model_slot st s).guards → refresh puts weight st s ≡ (Ok tt, (st, []))
     refreshed_beside kind many =
-        ap (λ (r : Option Refusal). unless r st (Ok tt, with_further puts weight s (part_if_alone st s))) (guarded st s (ap is_free kind) (has_some (waiting.slot_at st s).guards many))
-        ∙ (λ i. (Ok tt, with_further puts weight s (if is_owned (kind i) || some_guards (waiting.slot_at st s).guards many i then part st s else (st, []))))
+        ap (λ (r : Option Refusal). unless r st (Ok tt, with_further puts weight s (part_if_alone st s))) (guarded st s (ap is_free kind) (has_some (waiting.model_slot st s).guards many))
+        ∙ (λ i. (Ok tt, with_further puts weight s (if is_owned (kind i) || some_guards (waiting.model_slot st s).guards many i then part st s else (st, []))))
         ∙ ap (λ (o : StateAndGone T ℕ). (Ok tt, o)) (settled_nothing puts weight st s)
 
-pub taken : {T : Type 0} (st : waiting.State T ℕ) (n : ℕ) (kind : Kind) (guards : ℕ) → n ≡ least_unused st.slots → (n == all_numbers) ≡ false → take_number st kind guards ≡ (Ok n, (with_number_in_use st n kind guards, []))
+pub taken : {T : Type 0} (st : waiting.ModelState T ℕ) (n : ℕ) (kind : Kind) (guards : ℕ) → n ≡ least_unused st.slots → (n == all_numbers) ≡ false → take_number st kind guards ≡ (Ok n, (with_number_in_use st n kind guards, []))
 taken {T} st n kind guards least few =
     let said : ℕ → Bool → Response ℕ T ℕ = λ k b. if b then (Err NoNumbers, (st, [])) else (Ok k, (with_number_in_use st k kind guards, [])) in
     ap (λ (k : ℕ). said k (k == all_numbers)) (sym least) ∙ ap (said n) few
 
 -- the slot whose number was taken, before it enters
-pub taken_slot : {T : Type 0} (st : waiting.State T ℕ) (n : ℕ) (kind : Kind) → n ≡ least_unused st.slots
-    → ((waiting.slot_at (with_number_in_use st n kind 0) n).kind ≡ kind) × (waiting.has_guard (waiting.slot_at (with_number_in_use st n kind 0) n) ≡ false) × (set_guards (with_number_in_use st n kind 0) n 1 ≡ with_number_in_use st n kind 1)
+pub taken_slot : {T : Type 0} (st : waiting.ModelState T ℕ) (n : ℕ) (kind : Kind) → n ≡ least_unused st.slots
+    → ((waiting.model_slot (with_number_in_use st n kind 0) n).kind ≡ kind) × (waiting.has_guard (waiting.model_slot (with_number_in_use st n kind 0) n) ≡ false) × (set_guards (with_number_in_use st n kind 0) n 1 ≡ with_number_in_use st n kind 1)
 taken_slot st n kind least = let own = slot_taken st n kind (n == length st.slots) least refl in (own.0, ap (λ (k : ℕ). not (k == 0)) own.1, own.2)
 
 -- Where a reclaimer puts nothing, nothing is done besides.
@@ -154,12 +154,12 @@ module _ {T R : Type 0} (weight : T → ℕ) where
       ∙ (λ i. (o.0, append-nil o.1 i))
 
 -- a flush is its attempt, where the reclaimer puts nothing
-pub nothing_flushed : {T : Type 0} (st : waiting.State T ℕ) (s : ℕ) (weight : T → ℕ) → is_free (waiting.slot_at st s).kind ≡ false → waiting.has_guard (waiting.slot_at st s) ≡ true → flush nothing weight st s ≡ (Ok tt, attempt st s)
+pub nothing_flushed : {T : Type 0} (st : waiting.ModelState T ℕ) (s : ℕ) (weight : T → ℕ) → is_free (waiting.model_slot st s).kind ≡ false → waiting.has_guard (waiting.model_slot st s) ≡ true → flush nothing weight st s ≡ (Ok tt, attempt st s)
 nothing_flushed {T} st s weight used on =
     ap (λ (r : Option Refusal). unless {A = Unit {0}} r st (Ok tt, with_further nothing weight s (attempt st s))) (guarded st s used on)
     ∙ ap (λ (o : StateAndGone T ℕ). (Ok tt, o)) (nothing_further weight s (attempt st s))
 
 -- The least number that is not in use, where those below are in use.
 
-pub least_is : {T R : Type 0} (slots : List (waiting.Slot T R)) (s : ℕ) → s < length slots → ((i : ℕ) → i < s → is_free (get_or slots i waiting.no_slot).kind ≡ false) → is_free (get_or slots s waiting.no_slot).kind ≡ true → least_unused slots ≡ s
-least_is {T} {R} slots s h used free = position_or_len_is (λ (slot : waiting.Slot T R). is_free slot.kind) slots s waiting.no_slot (omega (arith, h)) used (λ within. free)
+pub least_is : {T R : Type 0} (slots : List (waiting.ModelSlot T R)) (s : ℕ) → s < length slots → ((i : ℕ) → i < s → is_free (get_or slots i waiting.unmade_slot).kind ≡ false) → is_free (get_or slots s waiting.unmade_slot).kind ≡ true → least_unused slots ≡ s
+least_is {T} {R} slots s h used free = position_or_len_is (λ (slot : waiting.ModelSlot T R). is_free slot.kind) slots s waiting.unmade_slot (omega (arith, h)) used (λ within. free)

@@ -14,7 +14,7 @@ use Rattle.std.proofs.lemmas.List.Concat.{flat_map-cons}
 use Rattle.std.proofs.lemmas.Grind.{common_steps}
 use Rattle.seize_model.specs.declared.kind.Kind.{Kind}
 use Rattle.seize_model.specs.declared.kind.Kind.TheVariants.{Free, Owned, Registered}
-use Rattle.seize_model.specs.Waiting.State.{Slot, State, has_guard, is_kept, no_slot, retired_at, set_slot, slot_at, waits_for}
+use Rattle.seize_model.specs.Waiting.State.{ModelSlot, ModelState, has_guard, is_kept, unmade_slot, retired_at, set_slot, model_slot, waits_for}
 use Rattle.seize_model.specs.Waiting.Attempt.{StateAndGone, active_slots, attempt, part, release, release_all, wait_if_active, with_gone}
 use Rattle.seize_model.specs.Waiting.Calls.{is_free, one_guard_less, part_all, set_guards, with_number_free, with_number_free_if, without_batch}
 use Rattle.seize_model.specs.Waiting.Further.{further, gone_from}
@@ -57,7 +57,7 @@ from_end f zero (x ∷ xs) h = absurd (omega (arith, h))
 from_end f (suc k) [] h = refl
 from_end f (suc k) (x ∷ xs) h = ap (λ rest. x ∷ rest) (from_end f k xs (omega (arith, h)))
 
-abbrev pub slot_order : {T R : Type 0} → Slot T R → List ℕ
+abbrev pub slot_order : {T R : Type 0} → ModelSlot T R → List ℕ
 slot_order slot = slot.order
 
 -- The first steps: parting.
@@ -68,16 +68,16 @@ is_free_kind Registered e = absurd (cc)
 is_free_kind Owned e = absurd (cc)
 
 module _ {T R : Type 0} where
-  abbrev pub freed : Slot T R → Slot T R
+  abbrev pub freed : ModelSlot T R → ModelSlot T R
   freed slot = record { kind = Free; guards = 0; batch = slot.batch; order = [] }
 
-  kept_by : (b : ℕ) (xs ys : List (Slot T R)) → map (λ (slot : Slot T R). slot.order) xs ≡ map (λ (slot : Slot T R). slot.order) ys → list_any (waits_for b) xs ≡ list_any (waits_for b) ys
+  kept_by : (b : ℕ) (xs ys : List (ModelSlot T R)) → map (λ (slot : ModelSlot T R). slot.order) xs ≡ map (λ (slot : ModelSlot T R). slot.order) ys → list_any (waits_for b) xs ≡ list_any (waits_for b) ys
   kept_by b xs ys same =
-      sym (any_map (list_any (λ x. x == b)) (λ (slot : Slot T R). slot.order) xs) ∙ ap (list_any (list_any (λ x. x == b))) same
-      ∙ any_map (list_any (λ x. x == b)) (λ (slot : Slot T R). slot.order) ys
+      sym (any_map (list_any (λ x. x == b)) (λ (slot : ModelSlot T R). slot.order) xs) ∙ ap (list_any (list_any (λ x. x == b))) same
+      ∙ any_map (list_any (λ x. x == b)) (λ (slot : ModelSlot T R). slot.order) ys
 
   -- a release with other slots, for which the same batches wait
-  release_with : (st : State T R) (slots : List (Slot T R)) (b : ℕ) → map (λ (slot : Slot T R). slot.order) slots ≡ map (λ (slot : Slot T R). slot.order) st.slots
+  release_with : (st : ModelState T R) (slots : List (ModelSlot T R)) (b : ℕ) → map (λ (slot : ModelSlot T R). slot.order) slots ≡ map (λ (slot : ModelSlot T R). slot.order) st.slots
       → ◌≡◌ {A = StateAndGone T R} (release (record st { slots = slots }) b) (record (release st b).0 { slots = slots }, (release st b).1)
   release_with st slots b same =
       ap (λ (k : Bool). if k then (record st { slots = slots }, []) else (record st { slots = slots; retired = set st.retired b [] }, retired_at st b)) (kept_by b slots st.slots same) ∙ by_case (is_kept st b)
@@ -87,123 +87,123 @@ module _ {T R : Type 0} where
       by_case true = refl
       by_case false = refl
 
-  release_slots : (st : State T R) (bs : List ℕ) → (release_all st bs).0.slots ≡ st.slots
-  release_slots st bs = releases_beside (λ (k : State T R). k.slots) (λ k retired. refl) st bs
+  release_slots : (st : ModelState T R) (bs : List ℕ) → (release_all st bs).0.slots ≡ st.slots
+  release_slots st bs = releases_beside (λ (k : ModelState T R). k.slots) (λ k retired. refl) st bs
 
-  released_with : (bs : List ℕ) (st : State T R) (slots : List (Slot T R)) → map (λ (slot : Slot T R). slot.order) slots ≡ map (λ (slot : Slot T R). slot.order) st.slots
+  released_with : (bs : List ℕ) (st : ModelState T R) (slots : List (ModelSlot T R)) → map (λ (slot : ModelSlot T R). slot.order) slots ≡ map (λ (slot : ModelSlot T R). slot.order) st.slots
       → ◌≡◌ {A = StateAndGone T R} (release_all (record st { slots = slots }) bs) (record (release_all st bs).0 { slots = slots }, (release_all st bs).1)
   released_with [] st slots same = refl
   released_with (b ∷ bs) st slots same =
       ap (λ (o : StateAndGone T R). with_gone o.1 (release_all o.0 bs)) (release_with st slots b same)
-      ∙ ap (with_gone (release st b).1) (released_with bs (release st b).0 slots (same ∙ ap (map (λ (slot : Slot T R). slot.order)) (sym (release_slots st (b ∷ [])))))
+      ∙ ap (with_gone (release st b).1) (released_with bs (release st b).0 slots (same ∙ ap (map (λ (slot : ModelSlot T R). slot.order)) (sym (release_slots st (b ∷ [])))))
 
   -- a number goes back, of a slot just written
-  free_set : (st : State T R) (xs : List (Slot T R)) (s : ℕ) (slot : Slot T R) → s < length xs
+  free_set : (st : ModelState T R) (xs : List (ModelSlot T R)) (s : ℕ) (slot : ModelSlot T R) → s < length xs
       → with_number_free (record st { slots = set xs s slot }) s ≡ record st { slots = set xs s (record slot { kind = Free; guards = 0 }) }
   free_set st xs s slot h =
-      ap (λ (x : Slot T R). record st { slots = set (set xs s slot) s (record x { kind = Free; guards = 0 }) }) (get_or-set_same xs s slot no_slot h)
-      ∙ ap (λ (l : List (Slot T R)). record st { slots = l }) (set-set xs s slot (record slot { kind = Free; guards = 0 }))
+      ap (λ (x : ModelSlot T R). record st { slots = set (set xs s slot) s (record x { kind = Free; guards = 0 }) }) (get_or-set_same xs s slot unmade_slot h)
+      ∙ ap (λ (l : List (ModelSlot T R)). record st { slots = l }) (set-set xs s slot (record slot { kind = Free; guards = 0 }))
 
   -- what is written over what was written
-  set_again : (st : State T R) (s : ℕ) (slot next : Slot T R) → set_slot (set_slot st s slot) s next ≡ set_slot st s next
-  set_again st s slot next = ap (λ (l : List (Slot T R)). record st { slots = l }) (set-set st.slots s slot next)
+  set_again : (st : ModelState T R) (s : ℕ) (slot next : ModelSlot T R) → set_slot (set_slot st s slot) s next ≡ set_slot st s next
+  set_again st s slot next = ap (λ (l : List (ModelSlot T R)). record st { slots = l }) (set-set st.slots s slot next)
 
   -- the last guard of an active slot
-  last_parts : (st : State T R) (s : ℕ) (slot : Slot T R) → s < length st.slots → slot_at st s ≡ slot → slot.guards ≡ 1
+  last_parts : (st : ModelState T R) (s : ℕ) (slot : ModelSlot T R) → s < length st.slots → model_slot st s ≡ slot → slot.guards ≡ 1
       → one_guard_less st s ≡ release_all (set_slot st s (record slot { guards = 0; order = [] })) slot.order
   last_parts st s slot h is one =
-      ap (λ (n : ℕ). if n == 1 then part (set_guards st s 0) s else (set_guards st s (n - 1), [])) (ap (λ (x : Slot T R). x.guards) is ∙ one)
-      ∙ ap (λ (x : Slot T R). part (set_slot st s (record x { guards = 0 })) s) is
-      ∙ ap (λ (x : Slot T R). release_all (set_slot (set_slot st s (record slot { guards = 0 })) s (record x { order = [] })) x.order) (get_or-set_same st.slots s (record slot { guards = 0 }) no_slot h)
-      ∙ ap (λ (k : State T R). release_all k slot.order) (set_again st s (record slot { guards = 0 }) (record slot { guards = 0; order = [] }))
+      ap (λ (n : ℕ). if n == 1 then part (set_guards st s 0) s else (set_guards st s (n - 1), [])) (ap (λ (x : ModelSlot T R). x.guards) is ∙ one)
+      ∙ ap (λ (x : ModelSlot T R). part (set_slot st s (record x { guards = 0 })) s) is
+      ∙ ap (λ (x : ModelSlot T R). release_all (set_slot (set_slot st s (record slot { guards = 0 })) s (record x { order = [] })) x.order) (get_or-set_same st.slots s (record slot { guards = 0 }) unmade_slot h)
+      ∙ ap (λ (k : ModelState T R). release_all k slot.order) (set_again st s (record slot { guards = 0 }) (record slot { guards = 0; order = [] }))
 
-  abbrev pub Parted : State T R → ℕ → StateAndGone T R
+  abbrev pub Parted : ModelState T R → ℕ → StateAndGone T R
   Parted st s = (with_number_free (part st s).0 s, (part st s).1)
 
-  parted_slots : (st : State T R) (s : ℕ) → s < length st.slots → with_number_free (part st s).0 s ≡ record (part st s).0 { slots = set st.slots s (freed (slot_at st s)) }
+  parted_slots : (st : ModelState T R) (s : ℕ) → s < length st.slots → with_number_free (part st s).0 s ≡ record (part st s).0 { slots = set st.slots s (freed (model_slot st s)) }
   parted_slots st s h =
-      ap (λ (l : List (Slot T R)). with_number_free (record (part st s).0 { slots = l }) s) (release_slots (set_slot st s (record (slot_at st s) { order = [] })) (slot_at st s).order)
-      ∙ free_set (part st s).0 st.slots s (record (slot_at st s) { order = [] }) h
+      ap (λ (l : List (ModelSlot T R)). with_number_free (record (part st s).0 { slots = l }) s) (release_slots (set_slot st s (record (model_slot st s) { order = [] })) (model_slot st s).order)
+      ∙ free_set (part st s).0 st.slots s (record (model_slot st s) { order = [] }) h
 
   -- nothing waits for the slot
-  parts_nothing : (st : State T R) (s : ℕ) → (slot_at st s).order ≡ [] → part st s ≡ (st, [])
+  parts_nothing : (st : ModelState T R) (s : ℕ) → (model_slot st s).order ≡ [] → part st s ≡ (st, [])
   parts_nothing st s none =
-      ap (λ (o : List ℕ). release_all (set_slot st s (record (slot_at st s) { order = [] })) o) none
-      ∙ ap (λ (o : List ℕ). (set_slot st s (record (slot_at st s) { order = o }), [])) (sym none)
-      ∙ ap (λ (l : List (Slot T R)). (record st { slots = l }, [])) (set-get_or st.slots s no_slot)
+      ap (λ (o : List ℕ). release_all (set_slot st s (record (model_slot st s) { order = [] })) o) none
+      ∙ ap (λ (o : List ℕ). (set_slot st s (record (model_slot st s) { order = o }), [])) (sym none)
+      ∙ ap (λ (l : List (ModelSlot T R)). (record st { slots = l }, [])) (set-get_or st.slots s unmade_slot)
 
-  frees_nothing : (st : State T R) (s : ℕ) → (slot_at st s).kind ≡ Free → (slot_at st s).guards ≡ 0 → with_number_free st s ≡ st
+  frees_nothing : (st : ModelState T R) (s : ℕ) → (model_slot st s).kind ≡ Free → (model_slot st s).guards ≡ 0 → with_number_free st s ≡ st
   frees_nothing st s kind guards =
-      (λ i. set_slot st s (record (slot_at st s) { kind = sym kind i; guards = sym guards i }))
-      ∙ ap (λ (l : List (Slot T R)). record st { slots = l }) (set-get_or st.slots s no_slot)
+      (λ i. set_slot st s (record (model_slot st s) { kind = sym kind i; guards = sym guards i }))
+      ∙ ap (λ (l : List (ModelSlot T R)). record st { slots = l }) (set-get_or st.slots s unmade_slot)
 
-  active_parts : (st : State T R) (s : ℕ) → s < length st.slots
+  active_parts : (st : ModelState T R) (s : ℕ) → s < length st.slots
       → (with_number_free (one_guard_less (set_guards st s 1) s).0 s, (one_guard_less (set_guards st s 1) s).1) ≡ Parted st s
   active_parts st s h =
       ap (λ (o : StateAndGone T R). (with_number_free o.0 s, o.1)) less ∙ (λ i. (free_set (part st s).0 st.slots s (record slot { guards = 0; order = [] }) h i, (part st s).1))
       ∙ (λ i. (sym (parted_slots st s h) i, (part st s).1))
     where
-      slot : Slot T R
-      slot = slot_at st s
+      slot : ModelSlot T R
+      slot = model_slot st s
 
-      orders : map (λ (x : Slot T R). x.order) (set st.slots s (record (slot_at st s) { guards = 0; order = [] })) ≡ map (λ (x : Slot T R). x.order) (set st.slots s (record (slot_at st s) { order = [] }))
-      orders = set_map (λ (x : Slot T R). x.order) st.slots s (record (slot_at st s) { guards = 0; order = [] }) ∙ sym (set_map (λ (x : Slot T R). x.order) st.slots s (record (slot_at st s) { order = [] }))
+      orders : map (λ (x : ModelSlot T R). x.order) (set st.slots s (record (model_slot st s) { guards = 0; order = [] })) ≡ map (λ (x : ModelSlot T R). x.order) (set st.slots s (record (model_slot st s) { order = [] }))
+      orders = set_map (λ (x : ModelSlot T R). x.order) st.slots s (record (model_slot st s) { guards = 0; order = [] }) ∙ sym (set_map (λ (x : ModelSlot T R). x.order) st.slots s (record (model_slot st s) { order = [] }))
 
-      less : one_guard_less (set_guards st s 1) s ≡ (record (part st s).0 { slots = set st.slots s (record (slot_at st s) { guards = 0; order = [] }) }, (part st s).1)
+      less : one_guard_less (set_guards st s 1) s ≡ (record (part st s).0 { slots = set st.slots s (record (model_slot st s) { guards = 0; order = [] }) }, (part st s).1)
       less =
-          last_parts (set_guards st s 1) s (record (slot_at st s) { guards = 1 }) (rw (length-set st.slots s (record (slot_at st s) { guards = 1 })) h) (get_or-set_same st.slots s (record (slot_at st s) { guards = 1 }) no_slot h) refl
-          ∙ ap (λ (k : State T R). release_all k (slot_at st s).order) (set_again st s (record (slot_at st s) { guards = 1 }) (record (slot_at st s) { guards = 0; order = [] }))
-          ∙ released_with (slot_at st s).order (set_slot st s (record (slot_at st s) { order = [] })) (set st.slots s (record (slot_at st s) { guards = 0; order = [] })) orders
+          last_parts (set_guards st s 1) s (record (model_slot st s) { guards = 1 }) (rw (length-set st.slots s (record (model_slot st s) { guards = 1 })) h) (get_or-set_same st.slots s (record (model_slot st s) { guards = 1 }) unmade_slot h) refl
+          ∙ ap (λ (k : ModelState T R). release_all k (model_slot st s).order) (set_again st s (record (model_slot st s) { guards = 1 }) (record (model_slot st s) { guards = 0; order = [] }))
+          ∙ released_with (model_slot st s).order (set_slot st s (record (model_slot st s) { order = [] })) (set st.slots s (record (model_slot st s) { guards = 0; order = [] })) orders
 
   -- A slot's own step is a parting, after which its number goes back.
 
-  abbrev pub IsSound : Slot T R → Type 0
+  abbrev pub IsSound : ModelSlot T R → Type 0
   IsSound slot = (is_free slot.kind ≡ true → slot.guards ≡ 0) × (has_guard slot ≡ false → slot.order ≡ [])
 
-  abbrev AreSound : List (Slot T R) → Type 0
-  AreSound xs = (s : ℕ) → IsSound (get_or xs s no_slot)
+  abbrev AreSound : List (ModelSlot T R) → Type 0
+  AreSound xs = (s : ℕ) → IsSound (get_or xs s unmade_slot)
 
-  pub turn_parts : (st : State T R) (s : ℕ) → s < length st.slots → IsSound (slot_at st s) → part_in_turn st s ≡ Parted st s
-  turn_parts st s h sound = go (is_free (slot_at st s).kind) refl (has_guard (slot_at st s)) refl
+  pub turn_parts : (st : ModelState T R) (s : ℕ) → s < length st.slots → IsSound (model_slot st s) → part_in_turn st s ≡ Parted st s
+  turn_parts st s h sound = go (is_free (model_slot st s).kind) refl (has_guard (model_slot st s)) refl
     where
-      nothing : (slot_at st s).order ≡ [] → Parted st s ≡ (with_number_free st s, [])
+      nothing : (model_slot st s).order ≡ [] → Parted st s ≡ (with_number_free st s, [])
       nothing none = ap (λ (o : StateAndGone T R). (with_number_free o.0 s, o.1)) (parts_nothing st s none)
 
-      go : (f : Bool) → is_free (slot_at st s).kind ≡ f → (a : Bool) → has_guard (slot_at st s) ≡ a
+      go : (f : Bool) → is_free (model_slot st s).kind ≡ f → (a : Bool) → has_guard (model_slot st s) ≡ a
           → ◌≡◌ {A = StateAndGone T R} (if f then (st, []) else with_number_free_if true s (if a then one_guard_less (set_guards st s 1) s else (st, []))) (Parted st s)
       go true f a e =
           sym (nothing (sound.1 (ap (λ (n : ℕ). not (n == 0)) (sound.0 f)))
-          ∙ ap (λ (k : State T R). (k, [])) (frees_nothing st s (is_free_kind (slot_at st s).kind f) (sound.0 f)))
+          ∙ ap (λ (k : ModelState T R). (k, [])) (frees_nothing st s (is_free_kind (model_slot st s).kind f) (sound.0 f)))
       go false f true e = active_parts st s h
       go false f false e = sym (nothing (sound.1 e))
 
-  pub next_slots : (st : State T R) (s : ℕ) → s < length st.slots → (with_number_free (part st s).0 s).slots ≡ set st.slots s (freed (slot_at st s))
-  next_slots st s h = ap (λ (k : State T R). k.slots) (parted_slots st s h)
+  pub next_slots : (st : ModelState T R) (s : ℕ) → s < length st.slots → (with_number_free (part st s).0 s).slots ≡ set st.slots s (freed (model_slot st s))
+  next_slots st s h = ap (λ (k : ModelState T R). k.slots) (parted_slots st s h)
 
-  sound_next : (st : State T R) (s : ℕ) → s < length st.slots → AreSound st.slots → AreSound (with_number_free (part st s).0 s).slots
+  sound_next : (st : ModelState T R) (s : ℕ) → s < length st.slots → AreSound st.slots → AreSound (with_number_free (part st s).0 s).slots
   sound_next st s h sound =
-      subst (λ (l : List (Slot T R)). AreSound l) (sym (next_slots st s h))
-      (λ j. at_set (λ (x : Slot T R). IsSound x) st.slots s j (freed (slot_at st s)) no_slot (λ same within. (λ e. refl, λ e. refl)) (sound j))
+      subst (λ (l : List (ModelSlot T R)). AreSound l) (sym (next_slots st s h))
+      (λ j. at_set (λ (x : ModelSlot T R). IsSound x) st.slots s j (freed (model_slot st s)) unmade_slot (λ same within. (λ e. refl, λ e. refl)) (sound j))
 
-  parts_are : (n k : ℕ) (st : State T R) → k + n ≡ length st.slots → AreSound st.slots → parts_in_turn st (range_with_len k n) ≡ part_all st (range_with_len k n)
+  parts_are : (n k : ℕ) (st : ModelState T R) → k + n ≡ length st.slots → AreSound st.slots → parts_in_turn st (range_with_len k n) ≡ part_all st (range_with_len k n)
   parts_are zero k st h sound = refl
   parts_are (suc n) k st h sound =
       let within : k < length st.slots = omega (arith, h) in
       let long : k + 1 + n ≡ length (with_number_free (part st k).0 k).slots =
-      omega (arith, h, ap (λ (l : List (Slot T R)). length l) (next_slots st k within), length-set st.slots k (freed (slot_at st k))) in
+      omega (arith, h, ap (λ (l : List (ModelSlot T R)). length l) (next_slots st k within), length-set st.slots k (freed (model_slot st k))) in
       ap (λ (o : StateAndGone T R). with_gone o.1 (parts_in_turn o.0 (range_with_len (k + 1) n))) (turn_parts st k within (sound k))
       ∙ ap (λ (o : StateAndGone T R). with_gone (part st k).1 o) (parts_are n (k + 1) (with_number_free (part st k).0 k) long (sound_next st k within sound))
 
-  parted_are : (n k : ℕ) (st : State T R) → k + n ≡ length st.slots → (part_all st (range_with_len k n)).0.slots ≡ from (λ (slot : Slot T R). freed slot) k st.slots
-  parted_are zero k st h = sym (from_end (λ (slot : Slot T R). freed slot) k st.slots (omega (arith, h)))
+  parted_are : (n k : ℕ) (st : ModelState T R) → k + n ≡ length st.slots → (part_all st (range_with_len k n)).0.slots ≡ from (λ (slot : ModelSlot T R). freed slot) k st.slots
+  parted_are zero k st h = sym (from_end (λ (slot : ModelSlot T R). freed slot) k st.slots (omega (arith, h)))
   parted_are (suc n) k st h =
       let within : k < length st.slots = omega (arith, h) in
       let long : k + 1 + n ≡ length (with_number_free (part st k).0 k).slots =
-      omega (arith, h, ap (λ (l : List (Slot T R)). length l) (next_slots st k within), length-set st.slots k (freed (slot_at st k))) in
+      omega (arith, h, ap (λ (l : List (ModelSlot T R)). length l) (next_slots st k within), length-set st.slots k (freed (model_slot st k))) in
       let one : k + 1 ≡ suc k = omega arith in
       parted_are n (k + 1) (with_number_free (part st k).0 k) long
-      ∙ (λ i. from (λ (slot : Slot T R). freed slot) (one i) (next_slots st k within i))
-      ∙ from_next (λ (slot : Slot T R). freed slot) k st.slots no_slot within
+      ∙ (λ i. from (λ (slot : ModelSlot T R). freed slot) (one i) (next_slots st k within i))
+      ∙ from_next (λ (slot : ModelSlot T R). freed slot) k st.slots unmade_slot within
 
 -- The second steps: the batches.
 
@@ -267,13 +267,13 @@ few n = grind arith
 
 module _ {T R : Type 0} where
   -- no slot is active, and none is waited for
-  abbrev pub AreQuiet : List (Slot T R) → Type 0
-  AreQuiet xs = (s : ℕ) → (has_guard (get_or xs s no_slot) ≡ false) × (slot_order (get_or xs s no_slot) ≡ [])
+  abbrev pub AreQuiet : List (ModelSlot T R) → Type 0
+  AreQuiet xs = (s : ℕ) → (has_guard (get_or xs s unmade_slot) ≡ false) × (slot_order (get_or xs s unmade_slot) ≡ [])
 
-  abbrev pub emptied : Kind → Slot T R
+  abbrev pub emptied : Kind → ModelSlot T R
   emptied kind = record { kind = kind; guards = 0; batch = []; order = [] }
 
-  abbrev holding : Kind → List (T × R) → Slot T R
+  abbrev holding : Kind → List (T × R) → ModelSlot T R
   holding kind batch = record { kind = kind; guards = 1; batch = batch; order = [] }
 
   -- what is left of a retired batch
@@ -281,29 +281,29 @@ module _ {T R : Type 0} where
   left_of [] = []
   left_of (v ∷ vs) = [] ∷ []
 
-  quiet_set : (xs : List (Slot T R)) (s : ℕ) (kind : Kind) → AreQuiet xs → AreQuiet (set xs s (emptied kind))
+  quiet_set : (xs : List (ModelSlot T R)) (s : ℕ) (kind : Kind) → AreQuiet xs → AreQuiet (set xs s (emptied kind))
   quiet_set xs s kind quiet j =
-      at_set (λ (x : Slot T R). (has_guard x ≡ false) × (slot_order x ≡ [])) xs s j (emptied kind) no_slot (λ same within. (refl, refl)) (quiet j)
+      at_set (λ (x : ModelSlot T R). (has_guard x ≡ false) × (slot_order x ≡ [])) xs s j (emptied kind) unmade_slot (λ same within. (refl, refl)) (quiet j)
 
-  waits_nothing : (b : ℕ) (xs : List (Slot T R)) → AreQuiet xs → map (wait_if_active b) xs ≡ xs
+  waits_nothing : (b : ℕ) (xs : List (ModelSlot T R)) → AreQuiet xs → map (wait_if_active b) xs ≡ xs
   waits_nothing b [] quiet = refl
   waits_nothing b (x ∷ xs) quiet =
       λ i. (if (quiet zero).0 i then record x { order = b ∷ x.order } else x) ∷ waits_nothing b xs (λ s. quiet (suc s)) i
 
-  kept_for_none : (b : ℕ) (xs : List (Slot T R)) → AreQuiet xs → list_any (waits_for b) xs ≡ false
-  kept_for_none b xs quiet = any_none (waits_for b) xs no_slot (λ s. ap (λ (o : List ℕ). list_any (λ x. x == b) o) (quiet s).1)
+  kept_for_none : (b : ℕ) (xs : List (ModelSlot T R)) → AreQuiet xs → list_any (waits_for b) xs ≡ false
+  kept_for_none b xs quiet = any_none (waits_for b) xs unmade_slot (λ s. ap (λ (o : List ℕ). list_any (λ x. x == b) o) (quiet s).1)
 
-  module _ (kind : Kind) (st : State T R) (s : ℕ) (h : s < length st.slots) (quiet : AreQuiet st.slots) where
-    abbrev begun : List (T × R) → State T R
+  module _ (kind : Kind) (st : ModelState T R) (s : ℕ) (h : s < length st.slots) (quiet : AreQuiet st.slots) where
+    abbrev begun : List (T × R) → ModelState T R
     begun vs = set_slot st s (holding kind vs)
 
-    enters : entered_as kind st s ≡ begun (slot_at st s).batch
+    enters : entered_as kind st s ≡ begun (model_slot st s).batch
     enters =
-        let made : State T R = record st { slots = st.slots ++ record { kind = kind; guards = 0; batch = []; order = [] } ∷ [] } in
+        let made : ModelState T R = record st { slots = st.slots ++ record { kind = kind; guards = 0; batch = []; order = [] } ∷ [] } in
         let there : (s == length st.slots) ≡ false = grind (arith, h) in
-        let used : Slot T R = record (slot_at st s) { kind = kind; guards = 0 } in
+        let used : ModelSlot T R = record (model_slot st s) { kind = kind; guards = 0 } in
         ap (λ (b : Bool). set_guards (if b then made else set_slot st s used) s 1) there
-        ∙ ap (λ (x : Slot T R). set_slot (set_slot st s used) s (record x { guards = 1 })) (get_or-set_same st.slots s used no_slot h)
+        ∙ ap (λ (x : ModelSlot T R). set_slot (set_slot st s used) s (record x { guards = 1 })) (get_or-set_same st.slots s used unmade_slot h)
         ∙ set_again st s used (record used { guards = 1 })
         ∙ ap (λ (o : List ℕ). set_slot st s (record used { guards = 1; order = o })) (quiet s).1
 
@@ -313,33 +313,33 @@ module _ {T R : Type 0} where
     abbrev tries : List (T × R) → StateAndGone T R
     tries vs = attempt (begun vs) s
 
-    abbrev detached : List (T × R) → State T R
+    abbrev detached : List (T × R) → ModelState T R
     detached vs = record st { slots = map (wait_if_active (length st.retired)) (set (set st.slots s (holding kind vs)) s (holding kind [])); retired = st.retired ++ vs ∷ [] }
 
-    abbrev waited : List (T × R) → State T R
+    abbrev waited : List (T × R) → ModelState T R
     waited vs = record st { slots = set st.slots s (record { kind = kind; guards = 1; batch = []; order = length st.retired ∷ [] }); retired = st.retired ++ vs ∷ [] }
 
-    own : (vs : List (T × R)) → slot_at (begun vs) s ≡ holding kind vs
-    own vs = get_or-set_same st.slots s (holding kind vs) no_slot h
+    own : (vs : List (T × R)) → model_slot (begun vs) s ≡ holding kind vs
+    own vs = get_or-set_same st.slots s (holding kind vs) unmade_slot h
 
     tries_own : (vs : List (T × R)) → tries vs ≡ (if (length vs == 0) || nat_lt (length vs) (active_slots (begun vs)) then (begun vs, []) else release (detached vs) (length st.retired))
     tries_own vs =
-        ap (λ (x : Slot T R). if (length x.batch == 0) || nat_lt (length x.batch) (active_slots (begun vs)) then (begun vs, []) else
+        ap (λ (x : ModelSlot T R). if (length x.batch == 0) || nat_lt (length x.batch) (active_slots (begun vs)) then (begun vs, []) else
         release (record st { slots = map (wait_if_active (length st.retired)) (set (set st.slots s (holding kind vs)) s (record x { batch = [] })); retired = st.retired ++ x.batch ∷ [] }) (length st.retired)) (own vs)
 
     tries_some : (v : T × R) (vs : List (T × R)) → tries (v ∷ vs) ≡ (waited (v ∷ vs), [])
     tries_some v vs =
-        let one : active_slots (begun (v ∷ vs)) ≡ 1 = count_one has_guard st.slots no_slot s (holding kind (v ∷ vs)) h (λ i. (quiet i).0) refl in
+        let one : active_slots (begun (v ∷ vs)) ≡ 1 = count_one has_guard st.slots unmade_slot s (holding kind (v ∷ vs)) h (λ i. (quiet i).0) refl in
         let go : Bool → StateAndGone T R = λ b. if b then (begun (v ∷ vs), []) else release (detached (v ∷ vs)) (length st.retired) in
         let slots : (detached (v ∷ vs)).slots ≡ (waited (v ∷ vs)).slots =
         ap (map (wait_if_active (length st.retired))) (set-set st.slots s (holding kind (v ∷ vs)) (holding kind []))
         ∙ set_map (wait_if_active (length st.retired)) st.slots s (holding kind [])
-        ∙ ap (λ (l : List (Slot T R)). set l s (record { kind = kind; guards = 1; batch = []; order = length st.retired ∷ [] })) (waits_nothing (length st.retired) st.slots quiet) in
+        ∙ ap (λ (l : List (ModelSlot T R)). set l s (record { kind = kind; guards = 1; batch = []; order = length st.retired ∷ [] })) (waits_nothing (length st.retired) st.slots quiet) in
         let same : (length st.retired == length st.retired) ≡ true = grind arith in
         let kept : is_kept (waited (v ∷ vs)) (length st.retired) ≡ true =
         any_set (waits_for (length st.retired)) st.slots s (record { kind = kind; guards = 1; batch = []; order = length st.retired ∷ [] }) h (ap (λ (b : Bool). b || false) same) in
         tries_own (v ∷ vs) ∙ ap (λ (n : ℕ). go ((length (v ∷ vs) == 0) || nat_lt (length (v ∷ vs)) n)) one ∙ ap go (few (length vs))
-        ∙ ap (λ (l : List (Slot T R)). release (record st { slots = l; retired = st.retired ++ (v ∷ vs) ∷ [] }) (length st.retired)) slots
+        ∙ ap (λ (l : List (ModelSlot T R)). release (record st { slots = l; retired = st.retired ++ (v ∷ vs) ∷ [] }) (length st.retired)) slots
         ∙ ap (λ (b : Bool). if b then (waited (v ∷ vs), []) else (record (waited (v ∷ vs)) { retired = set (st.retired ++ (v ∷ vs) ∷ []) (length st.retired) [] }, retired_at (waited (v ∷ vs)) (length st.retired))) kept
 
     abbrev leaves : StateAndGone T R → StateAndGone T R
@@ -348,16 +348,16 @@ module _ {T R : Type 0} where
     leaves_begun : leaves (begun [], []) ≡ ended []
     leaves_begun =
         last_parts (begun []) s (holding kind []) (rw (length-set st.slots s (holding kind [])) h) (own []) refl
-        ∙ ap (λ (k : State T R). (k, [])) (set_again st s (holding kind []) (emptied kind))
+        ∙ ap (λ (k : ModelState T R). (k, [])) (set_again st s (holding kind []) (emptied kind))
         ∙ ap (λ (l : List (List (T × R))). (record st { slots = set st.slots s (emptied kind); retired = l }, [])) (sym (append-nil st.retired))
 
     leaves_waited : (v : T × R) (vs : List (T × R)) → leaves (waited (v ∷ vs), []) ≡ ended (v ∷ vs)
     leaves_waited v vs =
-        let slot : Slot T R = record { kind = kind; guards = 1; batch = []; order = length st.retired ∷ [] } in
-        let empty : State T R = record st { slots = set st.slots s (emptied kind); retired = st.retired ++ (v ∷ vs) ∷ [] } in
+        let slot : ModelSlot T R = record { kind = kind; guards = 1; batch = []; order = length st.retired ∷ [] } in
+        let empty : ModelState T R = record st { slots = set st.slots s (emptied kind); retired = st.retired ++ (v ∷ vs) ∷ [] } in
         let after : Bool → StateAndGone T R = λ b. if b then (empty, []) else (record empty { retired = set empty.retired (length st.retired) [] }, retired_at empty (length st.retired)) in
-        last_parts (waited (v ∷ vs)) s slot (rw (length-set st.slots s slot) h) (get_or-set_same st.slots s slot no_slot h) refl
-        ∙ ap (λ (l : List (Slot T R)). release_all (record st { slots = l; retired = st.retired ++ (v ∷ vs) ∷ [] }) (length st.retired ∷ [])) (set-set st.slots s slot (emptied kind))
+        last_parts (waited (v ∷ vs)) s slot (rw (length-set st.slots s slot) h) (get_or-set_same st.slots s slot unmade_slot h) refl
+        ∙ ap (λ (l : List (ModelSlot T R)). release_all (record st { slots = l; retired = st.retired ++ (v ∷ vs) ∷ [] }) (length st.retired ∷ [])) (set-set st.slots s slot (emptied kind))
         ∙ ap (λ (b : Bool). with_gone (after b).1 (release_all (after b).0 []))
         (kept_for_none (length st.retired) (set st.slots s (emptied kind)) (quiet_set st.slots s kind quiet))
         ∙ (λ i. (record empty { retired = set_seam st.retired (v ∷ vs) [] i }, get_seam st.retired (v ∷ vs) [] i ++ []))
@@ -367,55 +367,55 @@ module _ {T R : Type 0} where
     in_turn_from [] = ap leaves (tries_own []) ∙ leaves_begun
     in_turn_from (v ∷ vs) = ap leaves (tries_some v vs) ∙ leaves_waited v vs
 
-    pub batch_goes : batch_in_turn kind st s ≡ ended (slot_at st s).batch
-    batch_goes = ap (λ (k : State T R). leaves (attempt k s)) enters ∙ in_turn_from (slot_at st s).batch
+    pub batch_goes : batch_in_turn kind st s ≡ ended (model_slot st s).batch
+    batch_goes = ap (λ (k : ModelState T R). leaves (attempt k s)) enters ∙ in_turn_from (model_slot st s).batch
 
-  batches_go : (kind : Kind) (n k : ℕ) (st : State T R) → k + n ≡ length st.slots → AreQuiet st.slots
+  batches_go : (kind : Kind) (n k : ℕ) (st : ModelState T R) → k + n ≡ length st.slots → AreQuiet st.slots
       → batches_in_turn kind st (range_with_len k n)
-      ≡ (record st { slots = from (λ (slot : Slot T R). emptied kind) k st.slots; retired = st.retired ++ flat_from (λ (slot : Slot T R). left_of slot.batch) k st.slots }, flat_from (λ (slot : Slot T R). slot.batch) k st.slots)
+      ≡ (record st { slots = from (λ (slot : ModelSlot T R). emptied kind) k st.slots; retired = st.retired ++ flat_from (λ (slot : ModelSlot T R). left_of slot.batch) k st.slots }, flat_from (λ (slot : ModelSlot T R). slot.batch) k st.slots)
   batches_go kind zero k st h quiet =
       let past : length st.slots ≤ k = omega (arith, h) in
       λ i. (
         record st {
-          slots = sym (from_end (λ (slot : Slot T R). emptied kind) k st.slots past) i;
-          retired = (sym (append-nil st.retired) ∙ ap (λ (l : List (List (T × R))). st.retired ++ l) (sym (flat_end (λ (slot : Slot T R). left_of slot.batch) k st.slots past))) i;
+          slots = sym (from_end (λ (slot : ModelSlot T R). emptied kind) k st.slots past) i;
+          retired = (sym (append-nil st.retired) ∙ ap (λ (l : List (List (T × R))). st.retired ++ l) (sym (flat_end (λ (slot : ModelSlot T R). left_of slot.batch) k st.slots past))) i;
         },
-        sym (flat_end (λ (slot : Slot T R). slot.batch) k st.slots past) i,
+        sym (flat_end (λ (slot : ModelSlot T R). slot.batch) k st.slots past) i,
       )
   batches_go kind (suc n) k st h quiet =
       let within : k < length st.slots = omega (arith, h) in
-      let later : State T R = record st { slots = set st.slots k (emptied kind); retired = st.retired ++ left_of (slot_at st k).batch } in
-      let batch : List (T × R) = (slot_at st k).batch in
+      let later : ModelState T R = record st { slots = set st.slots k (emptied kind); retired = st.retired ++ left_of (model_slot st k).batch } in
+      let batch : List (T × R) = (model_slot st k).batch in
       let long : k + 1 + n ≡ length (set st.slots k (emptied kind)) = omega (arith, h, length-set st.slots k (emptied kind)) in
       let one : k + 1 ≡ suc k = omega arith in
       ap (λ (o : StateAndGone T R). with_gone o.1 (batches_in_turn kind o.0 (range_with_len (k + 1) n))) (batch_goes kind st k within quiet)
       ∙ ap (with_gone batch) (batches_go kind n (k + 1) later long (quiet_set st.slots k kind quiet))
-      ∙ ap (λ (m : ℕ). (record st { slots = from (λ (slot : Slot T R). emptied kind) m later.slots; retired = later.retired ++ flat_from (λ (slot : Slot T R). left_of slot.batch) m later.slots }, batch ++ flat_from (λ (slot : Slot T R). slot.batch) m later.slots)) one
+      ∙ ap (λ (m : ℕ). (record st { slots = from (λ (slot : ModelSlot T R). emptied kind) m later.slots; retired = later.retired ++ flat_from (λ (slot : ModelSlot T R). left_of slot.batch) m later.slots }, batch ++ flat_from (λ (slot : ModelSlot T R). slot.batch) m later.slots)) one
       ∙ (λ i. (
         record st {
-          slots = from_next (λ (slot : Slot T R). emptied kind) k st.slots no_slot within i;
-          retired = (append_assoc st.retired (left_of batch) (flat_from (λ (slot : Slot T R). left_of slot.batch) (suc k) later.slots)
-              ∙ ap (λ (l : List (List (T × R))). st.retired ++ l) (flat_next (λ (slot : Slot T R). left_of slot.batch) k st.slots (emptied kind) no_slot within)) i;
+          slots = from_next (λ (slot : ModelSlot T R). emptied kind) k st.slots unmade_slot within i;
+          retired = (append_assoc st.retired (left_of batch) (flat_from (λ (slot : ModelSlot T R). left_of slot.batch) (suc k) later.slots)
+              ∙ ap (λ (l : List (List (T × R))). st.retired ++ l) (flat_next (λ (slot : ModelSlot T R). left_of slot.batch) k st.slots (emptied kind) unmade_slot within)) i;
         },
-        flat_next (λ (slot : Slot T R). slot.batch) k st.slots (emptied kind) no_slot within i,
+        flat_next (λ (slot : ModelSlot T R). slot.batch) k st.slots (emptied kind) unmade_slot within i,
       ))
 
   -- The third steps: the numbers.
 
-  numbers_append : (st : State T R) (ss ts : List ℕ) → numbers_in_turn st (ss ++ ts) ≡ numbers_in_turn (numbers_in_turn st ss) ts
+  numbers_append : (st : ModelState T R) (ss ts : List ℕ) → numbers_in_turn st (ss ++ ts) ≡ numbers_in_turn (numbers_in_turn st ss) ts
   numbers_append st [] ts = refl
   numbers_append st (s ∷ ss) ts = numbers_append (with_number_free st s) ss ts
 
-  numbers_go : (n k : ℕ) (st : State T R) → k + n ≡ length st.slots → numbers_in_turn st (reverse (range_with_len k n)) ≡ record st { slots = from (λ (slot : Slot T R). record slot { kind = Free; guards = 0 }) k st.slots }
-  numbers_go zero k st h = ap (λ (l : List (Slot T R)). record st { slots = l }) (sym (from_end (λ (slot : Slot T R). record slot { kind = Free; guards = 0 }) k st.slots (omega (arith, h))))
+  numbers_go : (n k : ℕ) (st : ModelState T R) → k + n ≡ length st.slots → numbers_in_turn st (reverse (range_with_len k n)) ≡ record st { slots = from (λ (slot : ModelSlot T R). record slot { kind = Free; guards = 0 }) k st.slots }
+  numbers_go zero k st h = ap (λ (l : List (ModelSlot T R)). record st { slots = l }) (sym (from_end (λ (slot : ModelSlot T R). record slot { kind = Free; guards = 0 }) k st.slots (omega (arith, h))))
   numbers_go (suc n) k st h =
       let within : k < length st.slots = omega (arith, h) in
       let one : k + 1 ≡ suc k = omega arith in
-      let free : Slot T R → Slot T R = λ slot. record slot { kind = Free; guards = 0 } in
+      let free : ModelSlot T R → ModelSlot T R = λ slot. record slot { kind = Free; guards = 0 } in
       ap (numbers_in_turn st) (reverse-cons k (range_with_len (k + 1) n)) ∙ numbers_append st (reverse (range_with_len (k + 1) n)) (k ∷ [])
-      ∙ ap (λ (now : State T R). with_number_free now k) (numbers_go n (k + 1) st (omega (arith, h)))
+      ∙ ap (λ (now : ModelState T R). with_number_free now k) (numbers_go n (k + 1) st (omega (arith, h)))
       ∙ ap (λ (m : ℕ). with_number_free (record st { slots = from free m st.slots }) k) one
-      ∙ ap (λ (l : List (Slot T R)). record st { slots = l }) (from_before free k st.slots no_slot within)
+      ∙ ap (λ (l : List (ModelSlot T R)). record st { slots = l }) (from_before free k st.slots unmade_slot within)
 
 -- Retired batches: those that wait for no slot are gone.
 
@@ -428,10 +428,10 @@ has_rest : (b c : ℕ) (cs : List ℕ) → b ≢ c → has b (c ∷ cs) ≡ true
 has_rest b c cs other t = let no : (c == b) ≡ false = grind arith in sym (ap (λ (u : Bool). u || has b cs) no) ∙ t
 
 module _ {T R : Type 0} where
-  abbrev IsKeptOrGone : State T R → List ℕ → Type 0
+  abbrev IsKeptOrGone : ModelState T R → List ℕ → Type 0
   IsKeptOrGone st bs = (b : ℕ) → is_kept st b ≡ false → (has b bs ≡ true) ⊎ (retired_at st b ≡ [])
 
-  release_rest : (st : State T R) (c : ℕ) (cs : List ℕ) → IsKeptOrGone st (c ∷ cs) → IsKeptOrGone (release st c).0 cs
+  release_rest : (st : ModelState T R) (c : ℕ) (cs : List ℕ) → IsKeptOrGone st (c ∷ cs) → IsKeptOrGone (release st c).0 cs
   release_rest st c cs h = go (is_kept st c) refl
     where
       go : (k : Bool) → is_kept st c ≡ k → (let o : StateAndGone T R = if k then (st, []) else (record st { retired = set st.retired c [] }, retired_at st c) in IsKeptOrGone o.0 cs)
@@ -444,39 +444,39 @@ module _ {T R : Type 0} where
         | inr other ↦ elim (h b e) [ inl t ↦ inl (has_rest b c cs other t) | inr none ↦ inr (get_or-set_other st.retired c b [] [] other ∙ none) ]
       ]
 
-  releases_clean : (bs : List ℕ) (st : State T R) → IsKeptOrGone st bs → IsClean (release_all st bs).0
+  releases_clean : (bs : List ℕ) (st : ModelState T R) → IsKeptOrGone st bs → IsClean (release_all st bs).0
   releases_clean [] st h b e = elim (h b e) [ inl t ↦ absurd (cc) | inr none ↦ none ]
   releases_clean (c ∷ cs) st h b e = releases_clean cs (release st c).0 (release_rest st c cs h) b e
 
-  waits_other : (st : State T R) (s b : ℕ) → (has b (slot_at st s).order ≡ false) → is_kept (set_slot st s (record (slot_at st s) { order = [] })) b ≡ is_kept st b
+  waits_other : (st : ModelState T R) (s b : ℕ) → (has b (model_slot st s).order ≡ false) → is_kept (set_slot st s (record (model_slot st s) { order = [] })) b ≡ is_kept st b
   waits_other st s b none =
-      any_counts (waits_for b) (set st.slots s (record (slot_at st s) { order = [] }))
-      ∙ ap (λ (n : ℕ). not (n == 0)) (count_same (waits_for b) st.slots s (record (slot_at st s) { order = [] }) no_slot (sym none)) ∙ sym (any_counts (waits_for b) st.slots)
+      any_counts (waits_for b) (set st.slots s (record (model_slot st s) { order = [] }))
+      ∙ ap (λ (n : ℕ). not (n == 0)) (count_same (waits_for b) st.slots s (record (model_slot st s) { order = [] }) unmade_slot (sym none)) ∙ sym (any_counts (waits_for b) st.slots)
 
-  part_clean : (st : State T R) (s : ℕ) → IsClean st → IsClean (part st s).0
+  part_clean : (st : ModelState T R) (s : ℕ) → IsClean st → IsClean (part st s).0
   part_clean st s clean =
-      releases_clean (slot_at st s).order (set_slot st s (record (slot_at st s) { order = [] })) (λ b e. go b e (is_true (has b (slot_at st s).order)))
+      releases_clean (model_slot st s).order (set_slot st s (record (model_slot st s) { order = [] })) (λ b e. go b e (is_true (has b (model_slot st s).order)))
     where
-      go : (b : ℕ) → is_kept (set_slot st s (record (slot_at st s) { order = [] })) b ≡ false → (has b (slot_at st s).order ≡ true) ⊎ (has b (slot_at st s).order ≡ false)
-          → (has b (slot_at st s).order ≡ true) ⊎ (retired_at st b ≡ [])
+      go : (b : ℕ) → is_kept (set_slot st s (record (model_slot st s) { order = [] })) b ≡ false → (has b (model_slot st s).order ≡ true) ⊎ (has b (model_slot st s).order ≡ false)
+          → (has b (model_slot st s).order ≡ true) ⊎ (retired_at st b ≡ [])
       go b e (inl t) = inl t
       go b e (inr f) = inr (clean b (sym (waits_other st s b f) ∙ e))
 
-  next_clean : (st : State T R) (s : ℕ) → s < length st.slots → IsClean st → IsClean (with_number_free (part st s).0 s)
+  next_clean : (st : ModelState T R) (s : ℕ) → s < length st.slots → IsClean st → IsClean (with_number_free (part st s).0 s)
   next_clean st s h clean b e =
-      let parted : State T R = (part st s).0 in
-      let orders : map (λ (x : Slot T R). x.order) (with_number_free (part st s).0 s).slots ≡ map (λ (x : Slot T R). x.order) (part st s).0.slots =
-      ap (map (λ (x : Slot T R). x.order)) (next_slots st s h) ∙ set_map (λ (x : Slot T R). x.order) st.slots s (freed (slot_at st s))
-      ∙ sym (set_map (λ (x : Slot T R). x.order) st.slots s (record (slot_at st s) { order = [] }))
-      ∙ ap (map (λ (x : Slot T R). x.order)) (sym (release_slots (set_slot st s (record (slot_at st s) { order = [] })) (slot_at st s).order)) in
+      let parted : ModelState T R = (part st s).0 in
+      let orders : map (λ (x : ModelSlot T R). x.order) (with_number_free (part st s).0 s).slots ≡ map (λ (x : ModelSlot T R). x.order) (part st s).0.slots =
+      ap (map (λ (x : ModelSlot T R). x.order)) (next_slots st s h) ∙ set_map (λ (x : ModelSlot T R). x.order) st.slots s (freed (model_slot st s))
+      ∙ sym (set_map (λ (x : ModelSlot T R). x.order) st.slots s (record (model_slot st s) { order = [] }))
+      ∙ ap (map (λ (x : ModelSlot T R). x.order)) (sym (release_slots (set_slot st s (record (model_slot st s) { order = [] })) (model_slot st s).order)) in
       part_clean st s clean b (sym (kept_by b (with_number_free (part st s).0 s).slots (part st s).0.slots orders) ∙ e)
 
-  parted_clean : (n k : ℕ) (st : State T R) → k + n ≡ length st.slots → IsClean st → IsClean (part_all st (range_with_len k n)).0
+  parted_clean : (n k : ℕ) (st : ModelState T R) → k + n ≡ length st.slots → IsClean st → IsClean (part_all st (range_with_len k n)).0
   parted_clean zero k st h clean = clean
   parted_clean (suc n) k st h clean =
       let within : k < length st.slots = omega (arith, h) in
       let long : k + 1 + n ≡ length (with_number_free (part st k).0 k).slots =
-      omega (arith, h, ap (λ (l : List (Slot T R)). length l) (next_slots st k within), length-set st.slots k (freed (slot_at st k))) in
+      omega (arith, h, ap (λ (l : List (ModelSlot T R)). length l) (next_slots st k within), length-set st.slots k (freed (model_slot st k))) in
       parted_clean n (k + 1) (with_number_free (part st k).0 k) long (next_clean st k within clean)
 
 -- All of it.
@@ -499,32 +499,32 @@ module _ {T R : Type 0} where
   left_gone (v ∷ vs) zero = refl
   left_gone (v ∷ vs) (suc b) = refl
 
-  lefts_gone : (xs : List (Slot T R)) → AllGone (flat_map (λ (slot : Slot T R). left_of slot.batch) xs)
+  lefts_gone : (xs : List (ModelSlot T R)) → AllGone (flat_map (λ (slot : ModelSlot T R). left_of slot.batch) xs)
   lefts_gone [] b = refl
   lefts_gone (x ∷ xs) b =
-      ap (λ (l : List (List (T × R))). get_or l b []) (flat_map-cons (λ (slot : Slot T R). left_of slot.batch) x xs)
-      ∙ append_gone (left_of x.batch) (flat_map (λ (slot : Slot T R). left_of slot.batch) xs) (left_gone x.batch) (lefts_gone xs) b
+      ap (λ (l : List (List (T × R))). get_or l b []) (flat_map-cons (λ (slot : ModelSlot T R). left_of slot.batch) x xs)
+      ∙ append_gone (left_of x.batch) (flat_map (λ (slot : ModelSlot T R). left_of slot.batch) xs) (left_gone x.batch) (lefts_gone xs) b
 
-  all_quiet : (xs : List (Slot T R)) → AreQuiet (map (λ (slot : Slot T R). freed slot) xs)
+  all_quiet : (xs : List (ModelSlot T R)) → AreQuiet (map (λ (slot : ModelSlot T R). freed slot) xs)
   all_quiet [] s = (refl, refl)
   all_quiet (x ∷ xs) zero = (refl, refl)
   all_quiet (x ∷ xs) (suc s) = all_quiet xs s
 
-  slots_end : (kind : Kind) (xs : List (Slot T R))
-      → map (λ (slot : Slot T R). record slot { kind = Free; guards = 0 }) (map (λ (slot : Slot T R). emptied kind) (map (λ (slot : Slot T R). freed slot) xs)) ≡ map without_batch (map (λ (slot : Slot T R). freed slot) xs)
+  slots_end : (kind : Kind) (xs : List (ModelSlot T R))
+      → map (λ (slot : ModelSlot T R). record slot { kind = Free; guards = 0 }) (map (λ (slot : ModelSlot T R). emptied kind) (map (λ (slot : ModelSlot T R). freed slot) xs)) ≡ map without_batch (map (λ (slot : ModelSlot T R). freed slot) xs)
   slots_end kind [] = refl
-  slots_end kind (x ∷ xs) = ap (λ (l : List (Slot T R)). emptied Free ∷ l) (slots_end kind xs)
+  slots_end kind (x ∷ xs) = ap (λ (l : List (ModelSlot T R)). emptied Free ∷ l) (slots_end kind xs)
 
-  same_orders : (n : ℕ) (xs : List (Slot T R)) → map without_batch (map (λ (slot : Slot T R). freed slot) xs) ≡ map (with_order_from n) (map without_batch (map (λ (slot : Slot T R). freed slot) xs))
+  same_orders : (n : ℕ) (xs : List (ModelSlot T R)) → map without_batch (map (λ (slot : ModelSlot T R). freed slot) xs) ≡ map (with_order_from n) (map without_batch (map (λ (slot : ModelSlot T R). freed slot) xs))
   same_orders n [] = refl
-  same_orders n (x ∷ xs) = ap (λ (l : List (Slot T R)). emptied Free ∷ l) (same_orders n xs)
+  same_orders n (x ∷ xs) = ap (λ (l : List (ModelSlot T R)). emptied Free ∷ l) (same_orders n xs)
 
   -- what the slots are after all partings
-  pub parted_all : (st : State T R) → (part_all st (range_with_len 0 (length st.slots))).0.slots ≡ map (λ (slot : Slot T R). freed slot) st.slots
+  pub parted_all : (st : ModelState T R) → (part_all st (range_with_len 0 (length st.slots))).0.slots ≡ map (λ (slot : ModelSlot T R). freed slot) st.slots
   unfolding from
   parted_all st = parted_are (length st.slots) 0 st (omega arith)
 
-  module _ (st : State T R) (kind : Kind) (o : IsOrderly st) where
+  module _ (st : ModelState T R) (kind : Kind) (o : IsOrderly st) where
     abbrev all : List ℕ
     all = range_with_len 0 (length st.slots)
 
@@ -532,7 +532,7 @@ module _ {T R : Type 0} where
     parted = part_all st (range_with_len 0 (length st.slots))
 
     abbrev lefts : List (List (T × R))
-    lefts = (part_all st (range_with_len 0 (length st.slots))).0.retired ++ flat_map (λ (slot : Slot T R). left_of slot.batch) (part_all st (range_with_len 0 (length st.slots))).0.slots
+    lefts = (part_all st (range_with_len 0 (length st.slots))).0.retired ++ flat_map (λ (slot : ModelSlot T R). left_of slot.batch) (part_all st (range_with_len 0 (length st.slots))).0.slots
 
     abbrev reclaimed : StateAndGone T R
     reclaimed = (record parted.0 { slots = map without_batch parted.0.slots; retired = lefts }, parted.1 ++ flat_map (λ slot. slot.batch) parted.0.slots)
@@ -541,13 +541,13 @@ module _ {T R : Type 0} where
     whole = omega arith
 
     pub parted_quiet : AreQuiet (part_all st (range_with_len 0 (length st.slots))).0.slots
-    parted_quiet = subst (λ (l : List (Slot T R)). AreQuiet l) (sym (parted_all st)) (all_quiet st.slots)
+    parted_quiet = subst (λ (l : List (ModelSlot T R)). AreQuiet l) (sym (parted_all st)) (all_quiet st.slots)
 
     parted_many : 0 + length st.slots ≡ length (part_all st (range_with_len 0 (length st.slots))).0.slots
-    parted_many = whole ∙ sym (ap (λ (l : List (Slot T R)). length l) (parted_all st) ∙ length-map st.slots (λ (slot : Slot T R). freed slot))
+    parted_many = whole ∙ sym (ap (λ (l : List (ModelSlot T R)). length l) (parted_all st) ∙ length-map st.slots (λ (slot : ModelSlot T R). freed slot))
 
     abbrev away : StateAndGone T R
-    away = (record parted.0 { slots = map (λ (slot : Slot T R). emptied kind) parted.0.slots; retired = lefts }, flat_map (λ (slot : Slot T R). slot.batch) parted.0.slots)
+    away = (record parted.0 { slots = map (λ (slot : ModelSlot T R). emptied kind) parted.0.slots; retired = lefts }, flat_map (λ (slot : ModelSlot T R). slot.batch) parted.0.slots)
 
     batches_away : batches_in_turn kind parted.0 all ≡ away
     unfolding from flat_from
@@ -556,31 +556,31 @@ module _ {T R : Type 0} where
     numbers_back : numbers_in_turn away.0 (reverse all) ≡ reclaimed.0
     unfolding from
     numbers_back =
-        numbers_go (length st.slots) 0 away.0 (parted_many ∙ sym (length-map parted.0.slots (λ (slot : Slot T R). emptied kind)))
-        ∙ ap (λ (l : List (Slot T R)). record parted.0 { slots = map (λ (slot : Slot T R). record slot { kind = Free; guards = 0 }) (map (λ (slot : Slot T R). emptied kind) l); retired = lefts }) (parted_all st)
-        ∙ ap (λ (l : List (Slot T R)). record parted.0 { slots = l; retired = lefts }) (slots_end kind st.slots)
-        ∙ ap (λ (l : List (Slot T R)). record parted.0 { slots = map without_batch l; retired = lefts }) (sym (parted_all st))
+        numbers_go (length st.slots) 0 away.0 (parted_many ∙ sym (length-map parted.0.slots (λ (slot : ModelSlot T R). emptied kind)))
+        ∙ ap (λ (l : List (ModelSlot T R)). record parted.0 { slots = map (λ (slot : ModelSlot T R). record slot { kind = Free; guards = 0 }) (map (λ (slot : ModelSlot T R). emptied kind) l); retired = lefts }) (parted_all st)
+        ∙ ap (λ (l : List (ModelSlot T R)). record parted.0 { slots = l; retired = lefts }) (slots_end kind st.slots)
+        ∙ ap (λ (l : List (ModelSlot T R)). record parted.0 { slots = map without_batch l; retired = lefts }) (sym (parted_all st))
 
     pub in_turn_is : in_turn kind st ≡ reclaimed
     in_turn_is =
         let ends : StateAndGone T R → StateAndGone T R → StateAndGone T R = λ p b. (numbers_in_turn b.0 (reverse all), p.1 ++ b.1) in
         ap (λ (p : StateAndGone T R). ends p (batches_in_turn kind p.0 all)) (parts_are (length st.slots) 0 st whole (λ s. (o.free s, o.inactive s)))
         ∙ ap (ends parted) batches_away
-        ∙ (λ i. (numbers_back i, parted.1 ++ flat_map (λ (slot : Slot T R). slot.batch) parted.0.slots))
+        ∙ (λ i. (numbers_back i, parted.1 ++ flat_map (λ (slot : ModelSlot T R). slot.batch) parted.0.slots))
 
     lefts_are_gone : AllGone lefts
     lefts_are_gone =
-        append_gone parted.0.retired (flat_map (λ (slot : Slot T R). left_of slot.batch) parted.0.slots)
+        append_gone parted.0.retired (flat_map (λ (slot : ModelSlot T R). left_of slot.batch) parted.0.slots)
         (λ b. parted_clean (length st.slots) 0 st whole o.gone b (kept_for_none b parted.0.slots parted_quiet)) (lefts_gone parted.0.slots)
 
-    abbrev modelled : State T R
+    abbrev modelled : ModelState T R
     modelled = record parted.0 { slots = map without_batch parted.0.slots; retired = [] }
 
     below : reclaimed.0 ≡ with_gone_below (length lefts) modelled
     below =
         let n = length lefts in
         λ i. record parted.0 {
-          slots = (ap (map without_batch) (parted_all st) ∙ same_orders n st.slots ∙ ap (λ (l : List (Slot T R)). map (with_order_from n) (map without_batch l)) (sym (parted_all st))) i;
+          slots = (ap (map without_batch) (parted_all st) ∙ same_orders n st.slots ∙ ap (λ (l : List (ModelSlot T R)). map (with_order_from n) (map without_batch l)) (sym (parted_all st))) i;
           retired = gone_many lefts lefts_are_gone i;
         }
 

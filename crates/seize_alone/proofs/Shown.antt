@@ -20,27 +20,27 @@ use Rattle.seize_alone.specs.Holding.{Holds, HoldsAll, found, some_slot, some_st
 use Rattle.seize_alone.proofs.Below.{slot_below}
 use Rattle.seize_alone.proofs.Mapped.{get_map, slot_same}
 
-module _ {T : Type 0} {code : T → Gv} {st : waiting.State T ℕ} {names : List (ℕ × T)} {kinds : List (ℕ × ℕ)} {n : Name} {seen : List Entry} where
-  pub slot_all : HoldsAll code st names kinds n seen → (s : ℕ) → ShowsSlot (Option T) (Option ℕ) (found names) (some_slot (waiting.slot_at st s)) (machine.slot_at (after (start n) seen) s)
-  slot_all holds s = subst (λ (x : waiting.Slot (Option T) (Option ℕ)). ShowsSlot (Option T) (Option ℕ) (found names) x (machine.slot_at (after (start n) seen) s)) (slot_same st s) (holds.shows.slot s)
+module _ {T : Type 0} {code : T → Gv} {st : waiting.ModelState T ℕ} {names : List (ℕ × T)} {kinds : List (ℕ × ℕ)} {n : Name} {seen : List Entry} where
+  pub slot_all : HoldsAll code st names kinds n seen → (s : ℕ) → ShowsSlot (Option T) (Option ℕ) (found names) (some_slot (waiting.model_slot st s)) (machine.slot_at (after (start n) seen) s)
+  slot_all holds s = subst (λ (x : waiting.ModelSlot (Option T) (Option ℕ)). ShowsSlot (Option T) (Option ℕ) (found names) x (machine.slot_at (after (start n) seen) s)) (slot_same st s) (holds.shows.slot s)
 
-  pub head_all : HoldsAll code st names kinds n seen → (s : ℕ) → head_at (after (start n) seen) s ≡ head_of (some_slot (waiting.slot_at st s))
+  pub head_all : HoldsAll code st names kinds n seen → (s : ℕ) → head_at (after (start n) seen) s ≡ head_of (some_slot (waiting.model_slot st s))
   head_all holds s =
       ap (λ (l : List Head). get_or l s Inactive) holds.shows.heads
-      ∙ get_map head_of (some_state st).slots s waiting.no_slot Inactive refl
-      ∙ ap (λ (x : waiting.Slot (Option T) (Option ℕ)). head_of x) (slot_same st s)
+      ∙ get_map head_of (some_state st).slots s waiting.unmade_slot Inactive refl
+      ∙ ap (λ (x : waiting.ModelSlot (Option T) (Option ℕ)). head_of x) (slot_same st s)
 
-module _ {T : Type 0} {code : T → Gv} {st : waiting.State T ℕ} {names : List (ℕ × T)} {kinds : List (ℕ × ℕ)} {n : Name} {seen : List Entry} (holds : Holds code st names kinds n seen) where
-  pub slot_shown : (s : ℕ) → ShowsSlot (Option T) (Option ℕ) (found names) (some_slot (with_order_from holds.gone (waiting.slot_at st s))) (machine.slot_at (after (start n) seen) s)
+module _ {T : Type 0} {code : T → Gv} {st : waiting.ModelState T ℕ} {names : List (ℕ × T)} {kinds : List (ℕ × ℕ)} {n : Name} {seen : List Entry} (holds : Holds code st names kinds n seen) where
+  pub slot_shown : (s : ℕ) → ShowsSlot (Option T) (Option ℕ) (found names) (some_slot (with_order_from holds.gone (waiting.model_slot st s))) (machine.slot_at (after (start n) seen) s)
   slot_shown s =
-      subst (λ (x : waiting.Slot T ℕ). ShowsSlot (Option T) (Option ℕ) (found names) (some_slot x) (machine.slot_at (after (start n) seen) s)) (slot_below holds.gone st s) (slot_all holds.all s)
+      subst (λ (x : waiting.ModelSlot T ℕ). ShowsSlot (Option T) (Option ℕ) (found names) (some_slot x) (machine.slot_at (after (start n) seen) s)) (slot_below holds.gone st s) (slot_all holds.all s)
 
-  pub active_shown : (s : ℕ) → is_active (head_at (after (start n) seen) s) ≡ waiting.has_guard (waiting.slot_at st s)
+  pub active_shown : (s : ℕ) → is_active (head_at (after (start n) seen) s) ≡ waiting.has_guard (waiting.model_slot st s)
   active_shown s =
-      ap is_active (head_all holds.all s) ∙ head_active (some_slot (waiting.slot_at (with_gone_below holds.gone st) s))
-      ∙ ap (λ (x : waiting.Slot T ℕ). waiting.has_guard x) (slot_below holds.gone st s)
+      ap is_active (head_all holds.all s) ∙ head_active (some_slot (waiting.model_slot (with_gone_below holds.gone st) s))
+      ∙ ap (λ (x : waiting.ModelSlot T ℕ). waiting.has_guard x) (slot_below holds.gone st s)
 
-  pub owned_shown : (s : ℕ) → is_owned (waiting.slot_at st s).kind ≡ true → (waiting.slot_at st s).guards ≤ 1
+  pub owned_shown : (s : ℕ) → is_owned (waiting.model_slot st s).kind ≡ true → (waiting.model_slot st s).guards ≤ 1
   owned_shown s = (slot_shown s).owned
 
   pub many_shown : length (after (start n) seen).slots ≡ length st.slots

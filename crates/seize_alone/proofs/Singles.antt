@@ -11,7 +11,7 @@ use Rattle.seize_machine.specs.declared.machine.event.Answer.TheVariants.{Done, 
 use Rattle.seize_machine.proofs.Facts.{if_some, swapped}
 use Rattle.seize_model.specs.declared.kind.Kind.{Kind}
 use Rattle.seize_model.specs.Waiting.State as waiting
-use Rattle.seize_model.specs.Waiting.Calls.{is_free, is_owned, leave, link_at, one_guard_less, set_guards, with_number_free, with_number_free_if, with_number_in_use}
+use Rattle.seize_model.specs.Waiting.Calls.{is_free, is_owned, leave, model_link, one_guard_less, set_guards, with_number_free, with_number_free_if, with_number_in_use}
 use Rattle.seize_model.specs.Waiting.Further.{Lighter, with_further}
 use Rattle.seize_model.specs.Agreement.Shows.{ShowsReclaimers, ShowsState, held_value}
 use Rattle.seize_model.proofs.Simulation.Coupling.{NearAt}
@@ -50,36 +50,36 @@ module _ {pass pass' : Pass} {event : Event} {answer : Answer} (m : MakesAlone p
   made_grows = (Made m.deed ∷ [], ap (λ (log : List Entry). log ++ Made m.deed ∷ []) (sym (m.noted.alone m.sole)) ∙ sym m.noted.appended)
 
 module _ {T : Type 0} (c : Coded T) where
-  abbrev NearHands : List (ℕ × T) → List (ℕ × ℕ) → waiting.State T ℕ → machine.State → Type 0
+  abbrev NearHands : List (ℕ × T) → List (ℕ × ℕ) → waiting.ModelState T ℕ → machine.State → Type 0
   NearHands names kinds st ms = NearAt (with_reclaimers (found names) (found kinds)) [] (some_state st) ms
 
   -- what the list shows: the state, with the retired batches that the hands have forgotten
-  pub near_of : (st : waiting.State T ℕ) (names : List (ℕ × T)) (kinds : List (ℕ × ℕ)) (n : Name) (seen : List Entry) (holds : Holds c.code st names kinds n seen) → NearHands names kinds (with_gone_below holds.gone st) (after (start n) seen)
+  pub near_of : (st : waiting.ModelState T ℕ) (names : List (ℕ × T)) (kinds : List (ℕ × ℕ)) (n : Name) (seen : List Entry) (holds : Holds c.code st names kinds n seen) → NearHands names kinds (with_gone_below holds.gone st) (after (start n) seen)
   near_of st names kinds n seen holds = near_with (found names) (found kinds) (some_state (with_gone_below holds.gone st)) (after (start n) seen) holds.all.shows holds.all.reclaimers
 
-  pub held_of : (gone : ℕ) (st : waiting.State T ℕ) (names : List (ℕ × T)) (kinds : List (ℕ × ℕ)) (n : Name) (seen : List Entry) → AreLent c.code names → AreOfKinds seen kinds → NearHands names kinds (with_gone_below gone st) (after (start n) seen)
+  pub held_of : (gone : ℕ) (st : waiting.ModelState T ℕ) (names : List (ℕ × T)) (kinds : List (ℕ × ℕ)) (n : Name) (seen : List Entry) → AreLent c.code names → AreOfKinds seen kinds → NearHands names kinds (with_gone_below gone st) (after (start n) seen)
       → Holds c.code st names kinds n seen
   held_of gone st names kinds n seen lent told near =
-      let whole : waiting.State T ℕ = with_gone_below gone st in
+      let whole : waiting.ModelState T ℕ = with_gone_below gone st in
       let both : ShowsState (Option T) (Option ℕ) (found names) (some_state whole) (after (start n) seen) × ShowsReclaimers (Option T) (Option ℕ) (found names) (found kinds) (some_state whole) (after (start n) seen) =
       shows_with (found names) (found kinds) (some_state whole) (after (start n) seen) near in
       record { gone = gone; all = record { shows = both.0; reclaimers = both.1; lent = lent; told = told } }
 
   -- the hands hold another state by the same names and kinds
-  held_made : {pass pass' : Pass} {event : Event} {answer : Answer} (m : MakesAlone pass pass' event answer) (st now : waiting.State T ℕ) (now' : waiting.State (Option T) (Option ℕ)) (names : List (ℕ × T)) (kinds : List (ℕ × ℕ)) (holds : Holds c.code st names kinds pass.name pass.seen)
+  held_made : {pass pass' : Pass} {event : Event} {answer : Answer} (m : MakesAlone pass pass' event answer) (st now : waiting.ModelState T ℕ) (now' : waiting.ModelState (Option T) (Option ℕ)) (names : List (ℕ × T)) (kinds : List (ℕ × ℕ)) (holds : Holds c.code st names kinds pass.name pass.seen)
       → now' ≡ some_state (with_gone_below holds.gone now) → NearAt (with_reclaimers (found names) (found kinds)) [] now' (state_then m) → Holds c.code now names kinds pass'.name pass'.seen
   held_made {pass} {pass'} m st now now' names kinds holds is near =
       held_of holds.gone now names kinds pass'.name pass'.seen holds.all.lent (all_later pass.seen pass'.seen (made_grows m) kinds holds.all.told)
-      (subst (λ (x : waiting.State (Option T) (Option ℕ)). NearAt (with_reclaimers (found names) (found kinds)) [] x (state_then m)) is near)
+      (subst (λ (x : waiting.ModelState (Option T) (Option ℕ)). NearAt (with_reclaimers (found names) (found kinds)) [] x (state_then m)) is near)
 
   -- Enter, give, take.
 
-  some_inactive : (st : waiting.State T ℕ) (s : ℕ) → waiting.has_guard (waiting.slot_at st s) ≡ false → waiting.has_guard (waiting.slot_at (some_state st) s) ≡ false
-  some_inactive st s off = ap (λ (slot : waiting.Slot (Option T) (Option ℕ)). waiting.has_guard slot) (slot_same st s) ∙ off
+  some_inactive : (st : waiting.ModelState T ℕ) (s : ℕ) → waiting.has_guard (waiting.model_slot st s) ≡ false → waiting.has_guard (waiting.model_slot (some_state st) s) ≡ false
+  some_inactive st s off = ap (λ (slot : waiting.ModelSlot (Option T) (Option ℕ)). waiting.has_guard slot) (slot_same st s) ∙ off
 
   pub enters_held : EntersHeld c.code
   enters_held st names kinds s answer pass pass' m holds used off =
-      let n = holds.gone in let whole : waiting.State T ℕ = with_gone_below holds.gone st in
+      let n = holds.gone in let whole : waiting.ModelState T ℕ = with_gone_below holds.gone st in
       let near = near_of st names kinds pass.name pass.seen holds in
       let used_so = some_used whole s (used_below n st s used) in let off_so = some_inactive whole s (off_below n st s off) in
       let ends = both_same (state_then m, answer) (_, Done) (sym (made_next m) ∙ enter_step (with_reclaimers (found names) (found kinds)) m.deed.size (some_state whole) (state_before m) s near used_so off_so) in
@@ -89,7 +89,7 @@ module _ {T : Type 0} (c : Coded T) where
 
   pub gives_held : GivesHeld c.code
   gives_held st names kinds s answer pass pass' m holds used off =
-      let n = holds.gone in let whole : waiting.State T ℕ = with_gone_below holds.gone st in
+      let n = holds.gone in let whole : waiting.ModelState T ℕ = with_gone_below holds.gone st in
       let near = near_of st names kinds pass.name pass.seen holds in
       let used_so = some_used whole s (used_below n st s used) in let off_so = some_inactive whole s (off_below n st s off) in
       let ends = both_same (state_then m, answer) (_, Done) (sym (made_next m) ∙ end_step (with_reclaimers (found names) (found kinds)) (some_state whole) (state_before m) s near used_so off_so) in
@@ -99,7 +99,7 @@ module _ {T : Type 0} (c : Coded T) where
 
   pub takes_held : TakesHeld c.code
   takes_held st names kinds n kind answer pass pass' m holds used =
-      let whole : waiting.State T ℕ = with_gone_below holds.gone st in
+      let whole : waiting.ModelState T ℕ = with_gone_below holds.gone st in
       let near = near_of st names kinds pass.name pass.seen holds in
       let ends = take_ends (with_reclaimers (found names) (found kinds)) m.deed.size (some_state whole) (state_before m) (state_then m) n answer kind near (made_next m) used in (
         ends.0 ∙ least_same whole.slots ∙ least_below holds.gone st.slots,
@@ -111,21 +111,21 @@ module _ {T : Type 0} (c : Coded T) where
 
   pub guards_held : GuardsHeld c.code
   guards_held st names kinds s guards pass holds kind active some =
-      let n = holds.gone in let whole : waiting.State T ℕ = with_gone_below holds.gone st in
-      let owned : is_owned (waiting.slot_at (some_state whole) s).kind ≡ false =
-      ap (λ (slot : waiting.Slot (Option T) (Option ℕ)). is_owned slot.kind) (slot_same whole s) ∙ ap (λ (slot : waiting.Slot T ℕ). is_owned slot.kind) (slot_below n st s) ∙ ap is_owned kind in
+      let n = holds.gone in let whole : waiting.ModelState T ℕ = with_gone_below holds.gone st in
+      let owned : is_owned (waiting.model_slot (some_state whole) s).kind ≡ false =
+      ap (λ (slot : waiting.ModelSlot (Option T) (Option ℕ)). is_owned slot.kind) (slot_same whole s) ∙ ap (λ (slot : waiting.ModelSlot T ℕ). is_owned slot.kind) (slot_below n st s) ∙ ap is_owned kind in
       held_of n (set_guards st s guards) names kinds pass.name pass.seen holds.all.lent holds.all.told
-      (subst (λ (x : waiting.State (Option T) (Option ℕ)). NearAt (with_reclaimers (found names) (found kinds)) [] x (after (start pass.name) pass.seen)) (guards_same whole s guards ∙ ap some_state (guards_below n st s guards))
+      (subst (λ (x : waiting.ModelState (Option T) (Option ℕ)). NearAt (with_reclaimers (found names) (found kinds)) [] x (after (start pass.name) pass.seen)) (guards_same whole s guards ∙ ap some_state (guards_below n st s guards))
       (near_guards (with_reclaimers (found names) (found kinds)) (some_state whole) (after (start pass.name) pass.seen) s guards (near_of st names kinds pass.name pass.seen holds)
       (some_used whole s (used_below n st s (ap is_free kind))) (some_active whole s (active_below n st s active)) some (λ is. absurd (let e : true ≡ false = sym is ∙ owned in cc))))
 
   -- Links.
 
   -- what a link holds on both sides
-  pub link_held : (st : waiting.State T ℕ) (names : List (ℕ × T)) (kinds : List (ℕ × ℕ)) (n : Name) (seen : List Entry) (l : ℕ) → Holds c.code st names kinds n seen → IsHeldAs c.code (machine.link_at (after (start n) seen) l) (link_at st l)
+  pub link_held : (st : waiting.ModelState T ℕ) (names : List (ℕ × T)) (kinds : List (ℕ × ℕ)) (n : Name) (seen : List Entry) (l : ℕ) → Holds c.code st names kinds n seen → IsHeldAs c.code (machine.link_at (after (start n) seen) l) (model_link st l)
   link_held st names kinds n seen l holds =
-      let whole : waiting.State T ℕ = with_gone_below holds.gone st in
-      held_by (machine.link_at (after (start n) seen) l) (link_at st l) (sym (link_same whole l) ∙ same_link (with_reclaimers (found names) (found kinds)) (some_state whole) (after (start n) seen) l (near_of st names kinds n seen holds))
+      let whole : waiting.ModelState T ℕ = with_gone_below holds.gone st in
+      held_by (machine.link_at (after (start n) seen) l) (model_link st l) (sym (link_same whole l) ∙ same_link (with_reclaimers (found names) (found kinds)) (some_state whole) (after (start n) seen) l (near_of st names kinds n seen holds))
     where
       held_by : (o : Option ℕ) (value : Option T) → option_map Some value ≡ held_value (found names) o → IsHeldAs c.code o value
       held_by None None is = tt
@@ -148,7 +148,7 @@ module _ {T : Type 0} (c : Coded T) where
   pub swaps_held : SwapsHeld c.code
   swaps_held st names kinds s l number o new pass pass' m holds held = (
     (names ++ more, record { gone = holds.gone; all = record { shows = both.0; reclaimers = both.1; lent = lent_then; told = all_later pass.seen pass'.seen (made_grows m) kinds holds.all.told } }),
-    subst (λ (x : Option ℕ). IsHeldAs c.code x (link_at st l)) (same_answer (machine.link_at (state_before m) l) o ends.1) (link_held st names kinds pass.name pass.seen l holds),
+    subst (λ (x : Option ℕ). IsHeldAs c.code x (model_link st l)) (same_answer (machine.link_at (state_before m) l) o ends.1) (link_held st names kinds pass.name pass.seen l holds),
   )
     where
       more : List (ℕ × T)
@@ -169,7 +169,7 @@ module _ {T : Type 0} (c : Coded T) where
       named (Some v) None is lent = absurd is
       named (Some v) (Some x) is lent = ap Some (found_lent c (names ++ (v, x) ∷ []) lent v x is (has_right names ((v, x) ∷ []) v (has_first (v, x) [])))
 
-      whole : waiting.State T ℕ
+      whole : waiting.ModelState T ℕ
       whole = with_gone_below holds.gone st
 
       near : NearHands (names ++ more) kinds whole (state_before m)
@@ -180,12 +180,12 @@ module _ {T : Type 0} (c : Coded T) where
       ends = both_same (swapped (state_before m) l number, Link (machine.link_at (state_before m) l)) (state_then m, Link o)
           (ap Some (if_some (can_link (state_before m) s l && is_none_or_fresh (state_before m) number) (swapped (state_before m) l number, Link (machine.link_at (state_before m) l)) (state_then m, Link o) (made_next m)).1)
 
-      then_whole : waiting.State T ℕ
+      then_whole : waiting.ModelState T ℕ
       then_whole = with_gone_below holds.gone (record st { links = set st.links l new })
 
       near_then : NearHands (names ++ more) kinds then_whole (state_then m)
       near_then = subst (λ (k : machine.State). NearHands (names ++ more) kinds then_whole k) ends.0
-          (subst (λ (x : waiting.State (Option T) (Option ℕ)). NearAt (with_reclaimers (found (names ++ more)) (found kinds)) [] x (swapped (state_before m) l number)) (swap_same whole l new)
+          (subst (λ (x : waiting.ModelState (Option T) (Option ℕ)). NearAt (with_reclaimers (found (names ++ more)) (found kinds)) [] x (swapped (state_before m) l number)) (swap_same whole l new)
           (swapped_near (with_reclaimers (found (names ++ more)) (found kinds)) (some_state whole) (state_before m) l number (option_map Some new) near (named number new held lent_then)))
 
       both : ShowsState (Option T) (Option ℕ) (found (names ++ more)) (some_state then_whole) (state_then m) × ShowsReclaimers (Option T) (Option ℕ) (found (names ++ more)) (found kinds) (some_state then_whole) (state_then m)
@@ -205,9 +205,9 @@ module _ {T : Type 0} (c : Coded T) where
 
 pub owned_leaves_held : {T : Type 0} (c : Coded T) (puts : ℕ → T → List T) (weight : T → ℕ) → Lighter puts weight → OwnedLeavesHeld c puts weight
 owned_leaves_held {T} c puts weight lighter st names kinds answer key pass keys key' mid pass' keys' had' r a kind guards m =
-    let s = slot_number key in let used : is_free (waiting.slot_at st s).kind ≡ false = ap is_free kind in
+    let s = slot_number key in let used : is_free (waiting.model_slot st s).kind ≡ false = ap is_free kind in
     let o = with_further puts weight s (one_guard_less st s) in
     let parts = parts_held c puts weight lighter st names kinds key pass keys key' mid keys' had' r a used guards in
     answered c had' pass' (with_number_free o.0 s, o.1) (leave puts weight st s)
-    (not_refused st _ (with_number_free_if (is_owned (waiting.slot_at st s).kind) s o) (guarded st s used (ap (λ (n : ℕ). not (n == 0)) guards)) ∙ ap (λ (k : Kind). (Ok tt, with_number_free_if (is_owned k) s o)) kind)
+    (not_refused st _ (with_number_free_if (is_owned (waiting.model_slot st s).kind) s o) (guarded st s used (ap (λ (n : ℕ). not (n == 0)) guards)) ∙ ap (λ (k : Kind). (Ok tt, with_number_free_if (is_owned k) s o)) kind)
     ((parts.0.0.0, parts.0.0.1, gives_held c o.0 parts.0.0.0 parts.0.0.1 s answer mid pass' m parts.0.0.2 parts.1 parts.2), parts.0.1)

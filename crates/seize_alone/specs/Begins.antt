@@ -13,7 +13,7 @@ use Rattle.seize_machine.specs.Machine.State as machine
 use Rattle.seize_machine.specs.Machine.State.{are_distinct, has, head_at, is_active, linked_values}
 use Rattle.seize_model.specs.declared.kind.Kind.{Kind}
 use Rattle.seize_model.specs.Waiting.Calls.{is_free, is_owned}
-use Rattle.seize_model.specs.Waiting.State.{State, slot_at}
+use Rattle.seize_model.specs.Waiting.State.{ModelState, model_slot}
 use Rattle.seize_book.specs.Book.{IsLegalList, after}
 use Rattle.seize_book.specs.Entry.{Entry}
 use Rattle.seize_book.specs.Saying.{AllSay}
@@ -29,13 +29,13 @@ pub record IsUsedAs (now : machine.State) (s : ℕ) (u : Kind × ℕ) : Type 0 w
   pub owned : is_owned u.0 ≡ true → u.1 ≤ 1
 
 pub record Begun {T : Type 0} (code : T → Gv) (size : ℕ) (n : Name) (seen : List Entry) (uses : ℕ → Kind × ℕ) : Type 0 where
-  pub state : State T ℕ
+  pub state : ModelState T ℕ
   pub names : List (ℕ × T)
   pub kinds : List (ℕ × ℕ)
   pub holds : Holds code state names kinds n seen
   pub sized : state.size ≡ size
   pub links : length state.links ≡ length n.links
-  pub slots : (s : ℕ) → ((slot_at state s).kind ≡ (uses s).0) × ((slot_at state s).guards ≡ (uses s).1)
+  pub slots : (s : ℕ) → ((model_slot state s).kind ≡ (uses s).0) × ((model_slot state s).guards ≡ (uses s).1)
 
 abbrev pub BeginsHeld : {T : Type 0} → (T → Gv) → Type 0
 BeginsHeld {T} code =

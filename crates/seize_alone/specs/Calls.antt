@@ -18,7 +18,7 @@ use Rattle.seize_machine.specs.Machine.Event.{SwapOut}
 use Rattle.seize_machine.specs.Machine.State.{are_distinct, linked_values}
 use Rattle.seize_machine.specs.declared.machine.event.Job.TheVariants.{Leave as LeaveJob, Refresh as RefreshJob}
 use Rattle.seize_model.specs.declared.kind.Kind.TheVariants.{Registered}
-use Rattle.seize_model.specs.Waiting.State.{State, has_guard, slot_at}
+use Rattle.seize_model.specs.Waiting.State.{ModelState, has_guard, model_slot}
 use Rattle.seize_model.specs.Waiting.Calls.{flush, is_free, is_owned, leave, one_guard_less, refresh, retire}
 use Rattle.seize_model.specs.Waiting.Further.{with_further}
 use Rattle.seize_book.specs.Adding.{private}
@@ -35,7 +35,7 @@ use Rattle.seize_calls.specs.Handing.{Had}
 use Rattle.seize_alone.specs.Gone.{PutAs}
 use Rattle.seize_alone.specs.Holding.{Holds, HoldsThen}
 
-pub record CallsAlone {T : Type 0} (c : Coded T) (puts : ℕ → T → List T) (st : State T ℕ) (names : List (ℕ × T)) (kinds : List (ℕ × ℕ))
+pub record CallsAlone {T : Type 0} (c : Coded T) (puts : ℕ → T → List T) (st : ModelState T ℕ) (names : List (ℕ × T)) (kinds : List (ℕ × ℕ))
     (pass pass' : Pass) (had' : Had) : Type 0 where
   pub sole : IsSole pass.id
   pub legal : IsLegalList (start pass'.name) pass'.seen
@@ -46,56 +46,57 @@ pub record CallsAlone {T : Type 0} (c : Coded T) (puts : ℕ → T → List T) (
 
 abbrev pub RetiresHeld : {T : Type 0} → Coded T → (ℕ → T → List T) → (T → ℕ) → Type 0
 RetiresHeld {T} c puts weight =
-    (st : State T ℕ) (names : List (ℕ × T)) (kinds : List (ℕ × ℕ)) (v kind : ℕ) (x : T) (retired : Bool) (key : SlotKey) (pass : Pass)
+    (st : ModelState T ℕ) (names : List (ℕ × T)) (kinds : List (ℕ × ℕ)) (v kind : ℕ) (x : T) (retired : Bool) (key : SlotKey) (pass : Pass)
     (values : ValueKeys) (key' : SlotKey) (pass' : Pass) (values' : ValueKeys) (had' : Had)
     → RetiresOne key pass v kind values [] key' pass' values' had' retired → CallsAlone c puts st names kinds pass pass' had'
-    → IsLentAs v (c.code x) → is_free (slot_at st (slot_number key)).kind ≡ false
+    → IsLentAs v (c.code x) → is_free (model_slot st (slot_number key)).kind ≡ false
     → let told = retire puts weight st (slot_number key) x kind in (told.0 ≡ Ok tt) × HoldsThen c.code told.1 had' pass'
 
 abbrev pub FlushesHeld : {T : Type 0} → Coded T → (ℕ → T → List T) → (T → ℕ) → Type 0
 FlushesHeld {T} c puts weight =
-    (st : State T ℕ) (names : List (ℕ × T)) (kinds : List (ℕ × ℕ)) (retired : Bool) (key : SlotKey) (pass : Pass) (values : ValueKeys)
+    (st : ModelState T ℕ) (names : List (ℕ × T)) (kinds : List (ℕ × ℕ)) (retired : Bool) (key : SlotKey) (pass : Pass) (values : ValueKeys)
     (key' : SlotKey) (pass' : Pass) (values' : ValueKeys) (had' : Had)
     → Flushes key pass values [] key' pass' values' had' retired → CallsAlone c puts st names kinds pass pass' had'
-    → is_free (slot_at st (slot_number key)).kind ≡ false → has_guard (slot_at st (slot_number key)) ≡ true
+    → is_free (model_slot st (slot_number key)).kind ≡ false → has_guard (model_slot st (slot_number key)) ≡ true
     → let told = flush puts weight st (slot_number key) in (told.0 ≡ Ok tt) × HoldsThen c.code told.1 had' pass'
 
 abbrev pub PartsHeld : {T : Type 0} → Coded T → (ℕ → T → List T) → (T → ℕ) → Type 0
 PartsHeld {T} c puts weight =
-    (st : State T ℕ) (names : List (ℕ × T)) (kinds : List (ℕ × ℕ)) (key : SlotKey) (pass : Pass) (values : ValueKeys) (key' : SlotKey)
+    (st : ModelState T ℕ) (names : List (ℕ × T)) (kinds : List (ℕ × ℕ)) (key : SlotKey) (pass : Pass) (values : ValueKeys) (key' : SlotKey)
     (pass' : Pass) (values' : ValueKeys) (had' : Had) → let s = slot_number key in
     Leaves LeaveJob false (private pass (SwapOut s)) key pass values [] key' pass' values' had'
-    → CallsAlone c puts st names kinds pass pass' had' → is_free (slot_at st s).kind ≡ false → (slot_at st s).guards ≡ 1
+    → CallsAlone c puts st names kinds pass pass' had' → is_free (model_slot st s).kind ≡ false → (model_slot st s).guards ≡ 1
     → let now = with_further puts weight s (one_guard_less st s) in
-    HoldsThen c.code now had' pass' × (is_free (slot_at now.0 s).kind ≡ false) × (has_guard (slot_at now.0 s) ≡ false)
+    HoldsThen c.code now had' pass' × (is_free (model_slot now.0 s).kind ≡ false) × (has_guard (model_slot now.0 s) ≡ false)
 
 abbrev pub LeavesHeld : {T : Type 0} → Coded T → (ℕ → T → List T) → (T → ℕ) → Type 0
 LeavesHeld {T} c puts weight =
-    (st : State T ℕ) (names : List (ℕ × T)) (kinds : List (ℕ × ℕ)) (key : SlotKey) (pass : Pass) (values : ValueKeys) (key' : SlotKey)
+    (st : ModelState T ℕ) (names : List (ℕ × T)) (kinds : List (ℕ × ℕ)) (key : SlotKey) (pass : Pass) (values : ValueKeys) (key' : SlotKey)
     (pass' : Pass) (values' : ValueKeys) (had' : Had) → let s = slot_number key in
     Leaves LeaveJob false (private pass (SwapOut s)) key pass values [] key' pass' values' had'
-    → CallsAlone c puts st names kinds pass pass' had' → (slot_at st s).kind ≡ Registered → (slot_at st s).guards ≡ 1
+    → CallsAlone c puts st names kinds pass pass' had' → (model_slot st s).kind ≡ Registered → (model_slot st s).guards ≡ 1
     → let told = leave puts weight st s in (told.0 ≡ Ok tt) × HoldsThen c.code told.1 had' pass'
 
 abbrev pub RefreshesHeld : {T : Type 0} → Coded T → (ℕ → T → List T) → (T → ℕ) → Type 0
 RefreshesHeld {T} c puts weight =
-    (st : State T ℕ) (names : List (ℕ × T)) (kinds : List (ℕ × ℕ)) (life : ℕ) (key : SlotKey) (pass : Pass) (values : ValueKeys)
+    (st : ModelState T ℕ) (names : List (ℕ × T)) (kinds : List (ℕ × ℕ)) (life : ℕ) (key : SlotKey) (pass : Pass) (values : ValueKeys)
     (key' : SlotKey) (pass' : Pass) (values' : ValueKeys) (had' : Had) → let s = slot_number key in
     Leaves RefreshJob true (beginning pass life (SwapOut s)) key pass values [] key' pass' values' had'
-    → CallsAlone c puts st names kinds pass pass' had' → is_free (slot_at st s).kind ≡ false → has_guard (slot_at st s) ≡ true
-    → (is_owned (slot_at st s).kind || ((slot_at st s).guards == 1)) ≡ true
+    → CallsAlone c puts st names kinds pass pass' had' → is_free (model_slot st s).kind ≡ false → has_guard (model_slot st s) ≡ true
+    → (is_owned (model_slot st s).kind || ((model_slot st s).guards == 1)) ≡ true
     → let told = refresh puts weight st s in (told.0 ≡ Ok tt) × HoldsThen c.code told.1 had' pass'
 
 abbrev pub SizeStays : {T : Type 0} → (ℕ → T → List T) → (T → ℕ) → Type 0
 SizeStays {T} puts weight =
-    (st : State T ℕ) (s : ℕ) → ((leave puts weight st s).1.0.size ≡ st.size) × ((refresh puts weight st s).1.0.size ≡ st.size)
+    (st : ModelState T ℕ) (s : ℕ) → ((leave puts weight st s).1.0.size ≡ st.size) × ((refresh puts weight st s).1.0.size ≡ st.size)
     × ((flush puts weight st s).1.0.size ≡ st.size) × ((x : T) (kind : ℕ) → (retire puts weight st s x kind).1.0.size ≡ st.size)
 
-abbrev pub SameOutline : {T : Type 0} → State T ℕ → State T ℕ → Type 0
+abbrev pub SameOutline : {T : Type 0} → ModelState T ℕ → ModelState T ℕ → Type 0
 SameOutline st now =
-    ((t : ℕ) → ((slot_at now t).kind ≡ (slot_at st t).kind) × ((slot_at now t).guards ≡ (slot_at st t).guards)) × (now.links ≡ st.links)
+    ((t : ℕ) → ((model_slot now t).kind ≡ (model_slot st t).kind) × ((model_slot now t).guards ≡ (model_slot st t).guards))
+    × (now.links ≡ st.links)
 
 abbrev pub OutlineStays : {T : Type 0} → (ℕ → T → List T) → (T → ℕ) → Type 0
 OutlineStays {T} puts weight =
-    (st : State T ℕ) (s : ℕ) → SameOutline st (refresh puts weight st s).1.0 × SameOutline st (flush puts weight st s).1.0
+    (st : ModelState T ℕ) (s : ℕ) → SameOutline st (refresh puts weight st s).1.0 × SameOutline st (flush puts weight st s).1.0
     × ((x : T) (kind : ℕ) → SameOutline st (retire puts weight st s x kind).1.0)

@@ -18,8 +18,8 @@ use Rattle.seize_machine.specs.declared.machine.event.Exchange.TheVariants.{Swap
 use Rattle.seize_machine.specs.declared.machine.event.Job.TheVariants.{Leave as LeaveJob}
 use Rattle.seize_model.specs.declared.kind.Kind.{Kind}
 use Rattle.seize_model.specs.declared.kind.Kind.TheVariants.{Owned, Registered}
-use Rattle.seize_model.specs.Waiting.State.{State, has_guard, slot_at}
-use Rattle.seize_model.specs.Waiting.Calls.{is_free, least_unused, leave, link_at, set_guards, with_number_free, with_number_in_use}
+use Rattle.seize_model.specs.Waiting.State.{ModelState, has_guard, model_slot}
+use Rattle.seize_model.specs.Waiting.Calls.{is_free, least_unused, leave, model_link, set_guards, with_number_free, with_number_in_use}
 use Rattle.seize_book.specs.Adding.{private}
 use Rattle.seize_book.specs.Entry.{Deed, Made}
 use Rattle.seize_book.specs.Passes.{IsSamePass}
@@ -49,42 +49,42 @@ IsHeldAs code _ _ = ⊥
 
 abbrev pub EntersHeld : {T : Type 0} → (T → Gv) → Type 0
 EntersHeld {T} code =
-    (st : State T ℕ) (names : List (ℕ × T)) (kinds : List (ℕ × ℕ)) (s : ℕ) (answer : Answer) (pass pass' : Pass)
-    → MakesAlone pass pass' (Enter s) answer → Holds code st names kinds pass.name pass.seen → is_free (slot_at st s).kind ≡ false
-    → has_guard (slot_at st s) ≡ false → Holds code (set_guards st s 1) names kinds pass'.name pass'.seen
+    (st : ModelState T ℕ) (names : List (ℕ × T)) (kinds : List (ℕ × ℕ)) (s : ℕ) (answer : Answer) (pass pass' : Pass)
+    → MakesAlone pass pass' (Enter s) answer → Holds code st names kinds pass.name pass.seen → is_free (model_slot st s).kind ≡ false
+    → has_guard (model_slot st s) ≡ false → Holds code (set_guards st s 1) names kinds pass'.name pass'.seen
 
 abbrev pub GivesHeld : {T : Type 0} → (T → Gv) → Type 0
 GivesHeld {T} code =
-    (st : State T ℕ) (names : List (ℕ × T)) (kinds : List (ℕ × ℕ)) (s : ℕ) (answer : Answer) (pass pass' : Pass)
-    → MakesAlone pass pass' (Give s) answer → Holds code st names kinds pass.name pass.seen → is_free (slot_at st s).kind ≡ false
-    → has_guard (slot_at st s) ≡ false → Holds code (with_number_free st s) names kinds pass'.name pass'.seen
+    (st : ModelState T ℕ) (names : List (ℕ × T)) (kinds : List (ℕ × ℕ)) (s : ℕ) (answer : Answer) (pass pass' : Pass)
+    → MakesAlone pass pass' (Give s) answer → Holds code st names kinds pass.name pass.seen → is_free (model_slot st s).kind ≡ false
+    → has_guard (model_slot st s) ≡ false → Holds code (with_number_free st s) names kinds pass'.name pass'.seen
 
 abbrev pub TakesHeld : {T : Type 0} → (T → Gv) → Type 0
 TakesHeld {T} code =
-    (st : State T ℕ) (names : List (ℕ × T)) (kinds : List (ℕ × ℕ)) (n : ℕ) (kind : Kind) (answer : Answer) (pass pass' : Pass)
+    (st : ModelState T ℕ) (names : List (ℕ × T)) (kinds : List (ℕ × ℕ)) (n : ℕ) (kind : Kind) (answer : Answer) (pass pass' : Pass)
     → MakesAlone pass pass' (Take n) answer → Holds code st names kinds pass.name pass.seen → is_free kind ≡ false
     → (n ≡ least_unused st.slots) × ((n == all_numbers) ≡ false)
     × Holds code (with_number_in_use st n kind 0) names kinds pass'.name pass'.seen
 
 abbrev pub GuardsHeld : {T : Type 0} → (T → Gv) → Type 0
 GuardsHeld {T} code =
-    (st : State T ℕ) (names : List (ℕ × T)) (kinds : List (ℕ × ℕ)) (s guards : ℕ) (pass : Pass)
-    → Holds code st names kinds pass.name pass.seen → (slot_at st s).kind ≡ Registered → has_guard (slot_at st s) ≡ true → 1 ≤ guards
+    (st : ModelState T ℕ) (names : List (ℕ × T)) (kinds : List (ℕ × ℕ)) (s guards : ℕ) (pass : Pass)
+    → Holds code st names kinds pass.name pass.seen → (model_slot st s).kind ≡ Registered → has_guard (model_slot st s) ≡ true → 1 ≤ guards
     → Holds code (set_guards st s guards) names kinds pass.name pass.seen
 
 abbrev pub SwapsHeld : {T : Type 0} → (T → Gv) → Type 0
 SwapsHeld {T} code =
-    (st : State T ℕ) (names : List (ℕ × T)) (kinds : List (ℕ × ℕ)) (s l : ℕ) (number o : Option ℕ) (new : Option T) (pass pass' : Pass)
+    (st : ModelState T ℕ) (names : List (ℕ × T)) (kinds : List (ℕ × ℕ)) (s l : ℕ) (number o : Option ℕ) (new : Option T) (pass pass' : Pass)
     → MakesAlone pass pass' (ExchangeLink s l (Swap number)) (Link o) → Holds code st names kinds pass.name pass.seen
     → IsHeldAs code number new
     → ((names' : List (ℕ × T)) × Holds code (record st { links = slice_set st.links l new }) names' kinds pass'.name pass'.seen)
-    × IsHeldAs code o (link_at st l)
+    × IsHeldAs code o (model_link st l)
 
 abbrev pub OwnedLeavesHeld : {T : Type 0} → Coded T → (ℕ → T → List T) → (T → ℕ) → Type 0
 OwnedLeavesHeld {T} c puts weight =
-    (st : State T ℕ) (names : List (ℕ × T)) (kinds : List (ℕ × ℕ)) (answer : Answer) (key : SlotKey) (pass : Pass) (values : ValueKeys)
+    (st : ModelState T ℕ) (names : List (ℕ × T)) (kinds : List (ℕ × ℕ)) (answer : Answer) (key : SlotKey) (pass : Pass) (values : ValueKeys)
     (key' : SlotKey) (mid pass' : Pass) (values' : ValueKeys) (had' : Had) → let s = slot_number key in
     Leaves LeaveJob false (private pass (SwapOut s)) key pass values [] key' mid values' had'
-    → CallsAlone c puts st names kinds pass mid had' → (slot_at st s).kind ≡ Owned → (slot_at st s).guards ≡ 1
+    → CallsAlone c puts st names kinds pass mid had' → (model_slot st s).kind ≡ Owned → (model_slot st s).guards ≡ 1
     → MakesAlone mid pass' (Give s) answer
     → let told = leave puts weight st s in (told.0 ≡ Ok tt) × HoldsThen c.code told.1 had' pass'

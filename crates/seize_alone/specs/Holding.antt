@@ -13,7 +13,7 @@
 --                            was had are its values gone
 use Rattle.std.specs.Prelude.{◌+◌, ◌==◌, ℕ, if◌then◌else◌, List, [], ◌∷◌, ◌++◌, map, replicate, Option, Some, None, option_map}
 use base.Stored.{Gv}
-use Rattle.seize_model.specs.Waiting.State.{Slot, State}
+use Rattle.seize_model.specs.Waiting.State.{ModelSlot, ModelState}
 use Rattle.seize_model.specs.Waiting.Attempt.{StateAndGone}
 use Rattle.seize_model.specs.Agreement.Shows.{ShowsReclaimers, ShowsState}
 use Rattle.seize_book.specs.Book.{after}
@@ -32,10 +32,10 @@ found (p ∷ ps) n = if p.0 == n then Some p.1 else found ps n
 abbrev pub some_value : {T R : Type 0} → T × R → Option T × Option R
 some_value v = (Some v.0, Some v.1)
 
-abbrev pub some_slot : {T R : Type 0} → Slot T R → Slot (Option T) (Option R)
+abbrev pub some_slot : {T R : Type 0} → ModelSlot T R → ModelSlot (Option T) (Option R)
 some_slot slot = record { kind = slot.kind; guards = slot.guards; batch = map some_value slot.batch; order = slot.order }
 
-abbrev pub some_state : {T R : Type 0} → State T R → State (Option T) (Option R)
+abbrev pub some_state : {T R : Type 0} → ModelState T R → ModelState (Option T) (Option R)
 some_state {T} {R} st = record {
   size = st.size;
   slots = map some_slot st.slots;
@@ -51,23 +51,23 @@ abbrev pub AreOfKinds : List Entry → List (ℕ × ℕ) → Type 0
 AreOfKinds log [] = Unit {0}
 AreOfKinds log (p ∷ ps) = IsTold log p.0 p.1 × AreOfKinds log ps
 
-abbrev pub with_order_from : {T R : Type 0} → ℕ → Slot T R → Slot T R
+abbrev pub with_order_from : {T R : Type 0} → ℕ → ModelSlot T R → ModelSlot T R
 with_order_from n slot = record slot { order = map (λ b. n + b) slot.order }
 
-abbrev pub with_gone_below : {T R : Type 0} → ℕ → State T R → State T R
+abbrev pub with_gone_below : {T R : Type 0} → ℕ → ModelState T R → ModelState T R
 with_gone_below n st = record st {
   slots = map (with_order_from n) st.slots;
   retired = replicate n [] ++ st.retired;
 }
 
-pub record HoldsAll {T : Type 0} (code : T → Gv) (st : State T ℕ) (names : List (ℕ × T)) (kinds : List (ℕ × ℕ)) (n : Name)
+pub record HoldsAll {T : Type 0} (code : T → Gv) (st : ModelState T ℕ) (names : List (ℕ × T)) (kinds : List (ℕ × ℕ)) (n : Name)
     (seen : List Entry) : Type 0 where
   pub shows : ShowsState (Option T) (Option ℕ) (found names) (some_state st) (after (start n) seen)
   pub reclaimers : ShowsReclaimers (Option T) (Option ℕ) (found names) (found kinds) (some_state st) (after (start n) seen)
   pub lent : AreLent code names
   pub told : AreOfKinds seen kinds
 
-pub record Holds {T : Type 0} (code : T → Gv) (st : State T ℕ) (names : List (ℕ × T)) (kinds : List (ℕ × ℕ)) (n : Name)
+pub record Holds {T : Type 0} (code : T → Gv) (st : ModelState T ℕ) (names : List (ℕ × T)) (kinds : List (ℕ × ℕ)) (n : Name)
     (seen : List Entry) : Type 0 where
   pub gone : ℕ
   pub all : HoldsAll code (with_gone_below gone st) names kinds n seen

@@ -23,7 +23,7 @@ use Rattle.std.specs.List.{range_with_len}
 use base.Stored.{Gv}
 use Rattle.seize_machine.specs.Machine.State.{are_distinct, linked_values}
 use Rattle.seize_model.specs.declared.kind.Kind.{Kind}
-use Rattle.seize_model.specs.Waiting.State.{State, has_guard, is_kept, retired_at, slot_at}
+use Rattle.seize_model.specs.Waiting.State.{ModelState, has_guard, is_kept, retired_at, model_slot}
 use Rattle.seize_model.specs.Waiting.Attempt.{StateAndGone, attempt, with_gone}
 use Rattle.seize_model.specs.Waiting.Calls.{is_free, one_guard_less, reclaim_all, set_guards}
 use Rattle.seize_model.specs.Waiting.Calls.{with_number_free, with_number_free_if, with_number_in_use}
@@ -34,69 +34,69 @@ use Rattle.seize_book.specs.Entry.{Entry}
 use Rattle.seize_book.specs.Tokens.{Name, start}
 use Rattle.seize_alone.specs.Holding.{Holds, with_gone_below}
 
-abbrev pub last_guard_left : {T R : Type 0} → State T R → ℕ → StateAndGone T R
-last_guard_left st s = if has_guard (slot_at st s) then one_guard_less (set_guards st s 1) s else (st, [])
+abbrev pub last_guard_left : {T R : Type 0} → ModelState T R → ℕ → StateAndGone T R
+last_guard_left st s = if has_guard (model_slot st s) then one_guard_less (set_guards st s 1) s else (st, [])
 
-abbrev pub part_in_turn : {T R : Type 0} → State T R → ℕ → StateAndGone T R
-part_in_turn st s = if is_free (slot_at st s).kind then (st, []) else with_number_free_if true s (last_guard_left st s)
+abbrev pub part_in_turn : {T R : Type 0} → ModelState T R → ℕ → StateAndGone T R
+part_in_turn st s = if is_free (model_slot st s).kind then (st, []) else with_number_free_if true s (last_guard_left st s)
 
-abbrev pub parts_in_turn : {T R : Type 0} → State T R → List ℕ → StateAndGone T R
+abbrev pub parts_in_turn : {T R : Type 0} → ModelState T R → List ℕ → StateAndGone T R
 parts_in_turn st [] = (st, [])
 parts_in_turn st (s ∷ ss) =
     let o = part_in_turn st s in
     with_gone o.1 (parts_in_turn o.0 ss)
 
-abbrev pub entered_as : {T R : Type 0} → Kind → State T R → ℕ → State T R
+abbrev pub entered_as : {T R : Type 0} → Kind → ModelState T R → ℕ → ModelState T R
 entered_as kind st s = set_guards (with_number_in_use st s kind 0) s 1
 
-abbrev pub batch_in_turn : {T R : Type 0} → Kind → State T R → ℕ → StateAndGone T R
+abbrev pub batch_in_turn : {T R : Type 0} → Kind → ModelState T R → ℕ → StateAndGone T R
 batch_in_turn kind st s =
     let o = attempt (entered_as kind st s) s in
     with_gone o.1 (one_guard_less o.0 s)
 
-abbrev pub batches_in_turn : {T R : Type 0} → Kind → State T R → List ℕ → StateAndGone T R
+abbrev pub batches_in_turn : {T R : Type 0} → Kind → ModelState T R → List ℕ → StateAndGone T R
 batches_in_turn kind st [] = (st, [])
 batches_in_turn kind st (s ∷ ss) =
     let o = batch_in_turn kind st s in
     with_gone o.1 (batches_in_turn kind o.0 ss)
 
-abbrev pub numbers_in_turn : {T R : Type 0} → State T R → List ℕ → State T R
+abbrev pub numbers_in_turn : {T R : Type 0} → ModelState T R → List ℕ → ModelState T R
 numbers_in_turn st [] = st
 numbers_in_turn st (s ∷ ss) = numbers_in_turn (with_number_free st s) ss
 
-abbrev pub in_turn : {T R : Type 0} → Kind → State T R → StateAndGone T R
+abbrev pub in_turn : {T R : Type 0} → Kind → ModelState T R → StateAndGone T R
 in_turn kind st =
     let all = range_with_len 0 (length st.slots) in
     let parted = parts_in_turn st all in
     let emptied = batches_in_turn kind parted.0 all in
     (numbers_in_turn emptied.0 (reverse all), parted.1 ++ emptied.1)
 
-pub record IsOrderly {T R : Type 0} (st : State T R) : Type 0 where
-  pub free : (s : ℕ) → is_free (slot_at st s).kind ≡ true → (slot_at st s).guards ≡ 0
-  pub inactive : (s : ℕ) → has_guard (slot_at st s) ≡ false → (slot_at st s).order ≡ []
+pub record IsOrderly {T R : Type 0} (st : ModelState T R) : Type 0 where
+  pub free : (s : ℕ) → is_free (model_slot st s).kind ≡ true → (model_slot st s).guards ≡ 0
+  pub inactive : (s : ℕ) → has_guard (model_slot st s) ≡ false → (model_slot st s).order ≡ []
   pub gone : (b : ℕ) → is_kept st b ≡ false → retired_at st b ≡ []
 
 abbrev pub ReclaimsInTurn : {T : Type 0} → (ℕ → T → List T) → (T → ℕ) → Type 0
 ReclaimsInTurn {T} puts weight =
-    (st : State T ℕ) (kind : Kind) → IsOrderly st → let now = in_turn kind st in let all = reclaim_all puts weight st in
+    (st : ModelState T ℕ) (kind : Kind) → IsOrderly st → let now = in_turn kind st in let all = reclaim_all puts weight st in
     (now.1 ++ gone_from puts weight (further puts now.1) ≡ all.1) × (record now.0 { retired = [] } ≡ all.0)
     × (now.0 ≡ with_gone_below (length now.0.retired) all.0)
 
 abbrev pub SameBelow : {T : Type 0} → (ℕ → T → List T) → (T → ℕ) → Type 0
 SameBelow {T} puts weight =
-    (n : ℕ) (st : State T ℕ)
+    (n : ℕ) (st : ModelState T ℕ)
     → ((call : Call T ℕ) → let told = step puts weight st call in
     step puts weight (with_gone_below n st) call ≡ (told.0, (with_gone_below n told.1.0, told.1.1)))
     × (reclaim_all puts weight (with_gone_below n st) ≡ reclaim_all puts weight st)
 
 abbrev pub OrderlyHeld : {T : Type 0} → (T → Gv) → Type 0
 OrderlyHeld {T} code =
-    (st : State T ℕ) (names : List (ℕ × T)) (kinds : List (ℕ × ℕ)) (n : Name) (seen : List Entry)
+    (st : ModelState T ℕ) (names : List (ℕ × T)) (kinds : List (ℕ × ℕ)) (n : Name) (seen : List Entry)
     → IsLegalList (start n) seen → are_distinct (linked_values n.links) ≡ true → Holds code st names kinds n seen → IsOrderly st
 
 abbrev pub AllGoneHeld : {T : Type 0} → (T → Gv) → (ℕ → T → List T) → (T → ℕ) → Type 0
 AllGoneHeld {T} code puts weight =
-    (st : State T ℕ) (names names' : List (ℕ × T)) (kinds kinds' : List (ℕ × ℕ)) (kind : Kind) (n : Name) (seen seen' : List Entry)
+    (st : ModelState T ℕ) (names names' : List (ℕ × T)) (kinds kinds' : List (ℕ × ℕ)) (kind : Kind) (n : Name) (seen seen' : List Entry)
     → IsLegalList (start n) seen → are_distinct (linked_values n.links) ≡ true → Holds code st names kinds n seen
     → let now = in_turn kind st in let all = reclaim_all puts weight st in Holds code now.0 names' kinds' n seen'
     → Holds code all.0 names' kinds' n seen' × (now.1 ++ gone_from puts weight (further puts now.1) ≡ all.1)

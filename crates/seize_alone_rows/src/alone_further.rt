@@ -3,7 +3,7 @@
 ghost use Rattle.std.specs.Prelude.{◌≡◌, All, IfOk};
 ghost use Rattle.seize.specs.Alones.{IsSame};
 ghost use Rattle.seize.specs.Blocks.{Belongs, store_name};
-ghost use Rattle.seize_uses.specs.Nests.{owners_of};
+ghost use Rattle.seize_uses.specs.Nests.{nest_owners};
 
 use crate::nests::{
     AloneNests, Block, Ends, Heard, alone_nests, around, leaf, retire, retire_new, round,
@@ -27,9 +27,9 @@ fn around_two(
     first: Block,
     second: Block,
 ) -> Result<Block, Refusal>
-    requires first { Belongs owners_of alone.old.book.store first }
-    requires second { Belongs owners_of alone.old.book.store second }
-    ensures made { IfOk result (Belongs owners_of alone.old.book.store) }
+    requires first { Belongs nest_owners alone.old.book.store first }
+    requires second { Belongs nest_owners alone.old.book.store second }
+    ensures made { IfOk result (Belongs nest_owners alone.old.book.store) }
     ensures same { alone.new ≡ alone.old }
 {
     let mut inside = Vec::new(alloc);
@@ -75,7 +75,7 @@ pub(crate) fn count_up(numbers: &[u64]) -> bool {
 
 // 1 holds 2, which holds 3, and so on.
 fn chain(alloc: Global, alone: &mut AloneNests<'_>) -> Result<Block, Refusal>
-    ensures made { IfOk result (Belongs owners_of alone.old.book.store) }
+    ensures made { IfOk result (Belongs nest_owners alone.old.book.store) }
     ensures same { alone.new ≡ alone.old }
 {
     let mut block = leaf(alloc, alone, MANY)?;
@@ -118,7 +118,7 @@ pub(crate) fn leaves(
     from: u64,
     many: u64,
 ) -> Result<Vec<Block>, Refusal>
-    ensures made { IfOk result (λ blocks. All (Belongs owners_of alone.old.book.store) blocks.items) }
+    ensures made { IfOk result (λ blocks. All (Belongs nest_owners alone.old.book.store) blocks.items) }
     ensures same { alone.new ≡ alone.old }
 {
     let mut inside = Vec::new(alloc);

@@ -3,7 +3,7 @@
 ghost use Rattle.std.specs.Prelude.{◌≡◌, All};
 ghost use Rattle.seize.specs.Alones.{IsSame};
 ghost use Rattle.seize.specs.Blocks.{Belongs};
-ghost use Rattle.seize_uses.specs.Nests.{owners_of};
+ghost use Rattle.seize_uses.specs.Nests.{nest_owners};
 
 use crate::alone_further::leaves;
 use crate::nests::{AloneNests, Block, Ends, Heard, alone_nests, leaf, number_in, retire};
@@ -25,7 +25,7 @@ fn put(
     heard: &mut Heard,
 ) -> Result<(), Refusal>
     requires link { alone.old.links ≡ 1 }
-    requires block { Belongs owners_of alone.old.book.store block }
+    requires block { Belongs nest_owners alone.old.book.store block }
     ensures { IsSame alone.old alone.new }
 {
     let old = match alone.swap(s, 0, Some(block)) {
@@ -47,7 +47,7 @@ fn retire_all(
     blocks: Vec<Block>,
     heard: &mut Heard,
 )
-    requires { All (Belongs owners_of alone.old.book.store) blocks.items }
+    requires { All (Belongs nest_owners alone.old.book.store) blocks.items }
     ensures { IsSame alone.old alone.new }
 {
     for block in blocks {

@@ -1,7 +1,7 @@
 //! Numbers that seem to come by chance, and what lists of calls take of them: slots, links, kinds and blocks.
 ghost use Rattle.std.specs.Prelude.{◌≡◌, ◌<◌, IfOk};
 ghost use Rattle.seize.specs.Blocks.{Belongs};
-ghost use Rattle.seize_uses.specs.Nests.{owners_of};
+ghost use Rattle.seize_uses.specs.Nests.{nest_owners};
 
 use crate::nests::{AloneNests, Block, leaf, round};
 use crate::oracle::Lists;
@@ -58,7 +58,7 @@ pub(crate) fn block(
     lists: &mut Lists,
     chance: &mut Chance,
 ) -> Result<(Block, u64), Refusal>
-    ensures made { IfOk result (λ made. Belongs owners_of alone.old.book.store made.0) }
+    ensures made { IfOk result (λ made. Belongs nest_owners alone.old.book.store made.0) }
     ensures same { alone.new ≡ alone.old }
 {
     let mut number = lists.value(None)?;

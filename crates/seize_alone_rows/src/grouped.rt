@@ -2,7 +2,7 @@
 ghost use Rattle.std.specs.Prelude.{◌≡◌, ℕ, IfOk, List};
 ghost use Rattle.seize.specs.Alones.{IsSame};
 ghost use Rattle.seize.specs.Running.{IsFor};
-ghost use Rattle.seize_uses.specs.Nests.{owners_of};
+ghost use Rattle.seize_uses.specs.Nests.{nest_owners};
 
 use crate::alone_lists::{Answer, answers};
 use crate::chance::{Chance, SLOTS, block};
@@ -69,7 +69,7 @@ fn retirement(
     chance: &mut Chance,
     s: usize,
 ) -> Result<(Call<Nest>, Answer), Refusal>
-    ensures made { IfOk result (λ made. IsFor owners_of alone.old.book.store alone.old.links made.0) }
+    ensures made { IfOk result (λ made. IsFor nest_owners alone.old.book.store alone.old.links made.0) }
     ensures same { alone.new ≡ alone.old }
 {
     let (block, number) = block(alloc, alone, lists, chance)?;
@@ -87,7 +87,7 @@ fn exchange(
     s: usize,
 ) -> Result<(Call<Nest>, Answer), Refusal>
     requires { alone.old.links ≡ 3 }
-    ensures made { IfOk result (λ made. IsFor owners_of alone.old.book.store alone.old.links made.0) }
+    ensures made { IfOk result (λ made. IsFor nest_owners alone.old.book.store alone.old.links made.0) }
     ensures same { alone.new ≡ alone.old }
 {
     let (link, kind) = (chance.link(), chance.kind());
@@ -103,7 +103,7 @@ fn exchange(
 
 // A call that brings no block and names no link.
 fn other(lists: &mut Lists, chance: &mut Chance, s: usize) -> (Call<Nest>, Answer)
-    ensures { (store : List ℕ) (links : ℕ) → IsFor owners_of store links result.0 }
+    ensures { (store : List ℕ) (links : ℕ) → IsFor nest_owners store links result.0 }
 {
     match chance.below(11) {
         0 if lists.has_number(SLOTS) => (Call::Register, number(lists.register())),
@@ -124,7 +124,7 @@ fn call(
     chance: &mut Chance,
 ) -> Result<(Call<Nest>, Answer), Refusal>
     requires { alone.old.links ≡ 3 }
-    ensures made { IfOk result (λ made. IsFor owners_of alone.old.book.store alone.old.links made.0) }
+    ensures made { IfOk result (λ made. IsFor nest_owners alone.old.book.store alone.old.links made.0) }
     ensures same { alone.new ≡ alone.old }
 {
     let s = chance.slot(lists);

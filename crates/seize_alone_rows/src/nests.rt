@@ -4,7 +4,7 @@ ghost use Rattle.std.specs.Prelude.{◌<◌, ◌≡◌, All, IfOk, length};
 ghost use Rattle.seize.specs.Alones.{IsSame};
 ghost use Rattle.seize.specs.Blocks.{Belongs};
 ghost use Rattle.seize.specs.Collectors.{its_links};
-ghost use Rattle.seize_uses.specs.Nests.{inside_of, owners_of, weight_of};
+ghost use Rattle.seize_uses.specs.Nests.{nested_in, nest_owners, nest_weight};
 ghost use Rattle.seize_uses.specs.Weights.{inside_lighter};
 ghost use base.Stored.{coded_unit};
 
@@ -97,11 +97,11 @@ pub(crate) struct Keeping<'a> {
 }
 
 impl Puts<Nest> for Keeping<'_> {
-    ghost weight = { weight_of };
+    ghost weight = { nest_weight };
 
-    ghost owners = { owners_of };
+    ghost owners = { nest_owners };
 
-    ghost puts = { λ _ value. inside_of value };
+    ghost puts = { λ _ value. nested_in value };
 
     ghost lighter = { λ _ value. inside_lighter value };
 }
@@ -174,8 +174,8 @@ pub(crate) fn around(
     number: u64,
     inside: Vec<Block>,
 ) -> Result<Block, Refusal>
-    requires { All (Belongs owners_of alone.old.book.store) inside.items }
-    ensures made { IfOk result (Belongs owners_of alone.old.book.store) }
+    requires { All (Belongs nest_owners alone.old.book.store) inside.items }
+    ensures made { IfOk result (Belongs nest_owners alone.old.book.store) }
     ensures same { alone.new ≡ alone.old }
 {
     match alone.owned(Nest { number, inside }) {
@@ -186,7 +186,7 @@ pub(crate) fn around(
 
 /// A block with nothing inside.
 pub(crate) fn leaf(alloc: Global, alone: &mut AloneNests<'_>, number: u64) -> Result<Block, Refusal>
-    ensures made { IfOk result (Belongs owners_of alone.old.book.store) }
+    ensures made { IfOk result (Belongs nest_owners alone.old.book.store) }
     ensures same { alone.new ≡ alone.old }
 {
     around(alone, number, Vec::new(alloc))
@@ -199,8 +199,8 @@ pub(crate) fn round(
     number: u64,
     block: Block,
 ) -> Result<Block, Refusal>
-    requires { Belongs owners_of alone.old.book.store block }
-    ensures made { IfOk result (Belongs owners_of alone.old.book.store) }
+    requires { Belongs nest_owners alone.old.book.store block }
+    ensures made { IfOk result (Belongs nest_owners alone.old.book.store) }
     ensures same { alone.new ≡ alone.old }
 {
     let mut inside = Vec::new(alloc);
@@ -231,7 +231,7 @@ pub(crate) fn retire(
     block: Block,
     heard: &mut Heard,
 )
-    requires { Belongs owners_of alone.old.book.store block }
+    requires { Belongs nest_owners alone.old.book.store block }
     ensures { IsSame alone.old alone.new }
 {
     let taken = alone.taken(block);

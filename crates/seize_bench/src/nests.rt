@@ -3,7 +3,7 @@ ghost use Rattle.std.specs.Prelude.{◌≡◌, All, IfOk};
 ghost use Rattle.seize.specs.Blocks.{Belongs};
 ghost use Rattle.seize.specs.Collectors.{BelongsTo, IsPassOf, its_store};
 ghost use Rattle.seize.specs.Registrations.{registered_in};
-ghost use Rattle.seize_uses.specs.Nests.{owners_of};
+ghost use Rattle.seize_uses.specs.Nests.{nest_owners};
 
 use crate::clock::{RUNS, Samples, Span};
 use crate::guards::{RETIRED, refused};
@@ -27,8 +27,8 @@ fn around(
     number: u64,
     inside: Vec<Owned<Nest>>,
 ) -> Result<Owned<Nest>, Refusal>
-    requires { All (Belongs owners_of (its_store (registered_in holder.now))) inside.items }
-    ensures { IfOk result (BelongsTo owners_of (registered_in holder.now)) }
+    requires { All (Belongs nest_owners (its_store (registered_in holder.now))) inside.items }
+    ensures { IfOk result (BelongsTo nest_owners (registered_in holder.now)) }
 {
     match holder.owned(Nest { number, inside }) {
         Ok(block) => Ok(block),
@@ -38,7 +38,7 @@ fn around(
 
 // A block with one block inside.
 fn pair(holder: &Holder<'_, '_>, alloc: Global, number: u64) -> Result<Owned<Nest>, Refusal>
-    ensures { IfOk result (BelongsTo owners_of (registered_in holder.now)) }
+    ensures { IfOk result (BelongsTo nest_owners (registered_in holder.now)) }
 {
     let inner = around(holder, number, Vec::new(alloc))?;
     let mut inside = Vec::new(alloc);

@@ -13,7 +13,7 @@ use types.Logic.{Logic, sem}
 use types.Growing.{latest_grows, latest_shows, latest_bounds}
 use types.Kit.{‵, raw, ◌⊛◌, some, given, ◌$◌, ◌∵◌, !, qed, by, move, keep, drop, split, split3, join, fsplit, fsplit3, fjoin, fjoin3, fpick, fpack, pick, learn, show, check, frame, each, assume, suffices, settle, done, use1, use2, use3, rewrite}
 use denote.Steps.{nothing}
-use Rattle.seize_book.specs.Ledger.{HeldKey, logs, roster, rosters, right, rights, reached, first_row, rest, row, Rules, Holds, standing, contents, Beside, WithKinds, with_list, HoldersKnow, Known, Goes, AllBelow, keys_made, more_of, AreNextNumbers, more_by, AllThere}
+use Rattle.seize_book.specs.Ledger.{HeldKey, logs, roster, rosters, right, rights, reached, first_row, rest, row, Rules, HoldsRows, standing, contents, Beside, WithKinds, with_list, HoldersKnow, Known, Goes, AllBelow, keys_made, more_of, AreNextNumbers, more_by, AllThere}
 use Rattle.seize_book.proofs.Roster.{has, sets, mints}
 
 -- the rows, one of them set
@@ -257,7 +257,7 @@ module _ {E : Type 0} (c : Coded E) (rules : Rules E) (extra : List E → Fml) (
   abbrev had : List E → Fml
   had log = reached c η log
 
-  all_kept : (rows : Rows) (log : List E) (held : List (HeldKey E)) → Holds rules rows log → AllHas rows held → HoldersKnow rules held log
+  all_kept : (rows : Rows) (log : List E) (held : List (HeldKey E)) → HoldsRows rules rows log → AllHas rows held → HoldersKnow rules held log
   all_kept rows log [] so has = tt
   all_kept rows log (h ∷ hs) so has = (so.kept h.kind h.key h.own has.0, all_kept rows log hs so has.1)
 
@@ -265,12 +265,12 @@ module _ {E : Type 0} (c : Coded E) (rules : Rules E) (extra : List E → Fml) (
   all_there rows [] h = tt
   all_there rows (g ∷ gs) h = (get_lt (row rows g.kind) g.key g.own h.0, all_there rows gs h.1)
 
-  pub shut : (rows : Rows) (log : List E) → Holds rules rows log → ⟦ rosters c δs rows ⟧ ∗ ⟦ top log ⟧ ∗ ⟦ extra log ⟧ ⊢ ⟦ J ⟧
-  shut rows log so = qed 𝓛 (‵ (rosters c δs rows) ∷ ‵ (top log) ∷ ‵ (extra log) ∷ []) ∵ nothing ! $ fpack ! (Holds rules rows log) (λ _. ftrue) so $ move ! (3 ∷ 0 ∷ []) $ fjoin ! $
+  pub shut : (rows : Rows) (log : List E) → HoldsRows rules rows log → ⟦ rosters c δs rows ⟧ ∗ ⟦ top log ⟧ ∗ ⟦ extra log ⟧ ⊢ ⟦ J ⟧
+  shut rows log so = qed 𝓛 (‵ (rosters c δs rows) ∷ ‵ (top log) ∷ ‵ (extra log) ∷ []) ∵ nothing ! $ fpack ! (HoldsRows rules rows log) (λ _. ftrue) so $ move ! (3 ∷ 0 ∷ []) $ fjoin ! $
       move ! (1 ∷ 2 ∷ 0 ∷ []) $ fjoin3 ! $ fpack ! (Rows × List E) (standing c rules extra η δs) (rows, log) $ done !
 
   abbrev Open : List (HeldKey E) → List E → Rows × List E → Pr
-  Open held seen s = guard 𝓤 (Holds rules s.0 s.1 × Known rules held seen s.1 × AllThere (sizes s.0) held) (⟦ rosters c δs s.0 ⟧ ∗ ⟦ top s.1 ⟧ ∗ ⟦ extra s.1 ⟧ ∗ ⟦ rights c δs held ⟧)
+  Open held seen s = guard 𝓤 (HoldsRows rules s.0 s.1 × Known rules held seen s.1 × AllThere (sizes s.0) held) (⟦ rosters c δs s.0 ⟧ ∗ ⟦ top s.1 ⟧ ∗ ⟦ extra s.1 ⟧ ∗ ⟦ rights c δs held ⟧)
 
   looked : (held : List (HeldKey E)) (seen : List E) → WithKinds (length δs) held → ⟦ J ⟧ ∗ ⟦ rights c δs held ⟧ ∗ ⟦ had seen ⟧ ⊢ ex 𝓤 (Open held seen)
   looked held seen w = qed 𝓛 (‵ J ∷ ‵ (rights c δs held) ∷ ‵ (had seen) ∷ []) ∵ fpick ! (λ s. fsplit3 ! $ move ! (2 ∷ []) $ fsplit ! $ move ! (1 ∷ []) $ fpick ! (λ so. drop ! $
@@ -281,13 +281,13 @@ module _ {E : Type 0} (c : Coded E) (rules : Rules E) (extra : List E → Fml) (
       show ! (Open held seen) s $ check ! (so, (so.legal, p, all_kept s.0 s.1 held so h), all_there s.0 held h) $ keep ! (0 ∷ 2 ∷ 4 ∷ 1 ∷ []) $ done !))))
 
   abbrev seeing : List (HeldKey E) → List E → types.Kit.Item 𝓤
-  seeing held seen = some (λ (s : Rows × List E). given (Holds rules s.0 s.1 × Known rules held seen s.1 × AllThere (sizes s.0) held) (‵ (rosters c δs s.0) ⊛ ‵ (top s.1) ⊛ ‵ (extra s.1) ⊛ ‵ (rights c δs held)))
+  seeing held seen = some (λ (s : Rows × List E). given (HoldsRows rules s.0 s.1 × Known rules held seen s.1 × AllThere (sizes s.0) held) (‵ (rosters c δs s.0) ⊛ ‵ (top s.1) ⊛ ‵ (extra s.1) ⊛ ‵ (rights c δs held)))
 
   abbrev KeptNow : Type 0
   KeptNow = (r k : ℕ) (log : List E) → rules.Knows r k log log
 
-  holds_more : (rows : Rows) (held : List (HeldKey E)) (seen log : List E) (ev : List E → E) (births : List E → List (ℕ × ℕ)) (Told : List E → Type 0) → KeptNow → Goes rules held seen ev births Told → Holds rules rows log → Known rules held seen log → AllThere (sizes rows) held → Told log
-      → Holds rules (grown (puts rows held (log ++ ev log ∷ [])) (births log) (log ++ ev log ∷ [])) (log ++ ev log ∷ [])
+  holds_more : (rows : Rows) (held : List (HeldKey E)) (seen log : List E) (ev : List E → E) (births : List E → List (ℕ × ℕ)) (Told : List E → Type 0) → KeptNow → Goes rules held seen ev births Told → HoldsRows rules rows log → Known rules held seen log → AllThere (sizes rows) held → Told log
+      → HoldsRows rules (grown (puts rows held (log ++ ev log ∷ [])) (births log) (log ++ ev log ∷ [])) (log ++ ev log ∷ [])
   holds_more rows held seen log ev births Told same goes so known there told = let log' : List E = log ++ ev log ∷ [] in let g = goes log known told in let mid : Rows = puts rows held log' in
       record {
         legal = g.0;
@@ -339,7 +339,7 @@ module _ {E : Type 0} (c : Coded E) (rules : Rules E) (extra : List E → Fml) (
       move ! (5 ∷ 2 ∷ 0 ∷ []) $ use3 𝓛 (‵ J) (shut s.0 s.1 so.0) $ show ! (λ log. guard 𝓤 (Known rules held seen log × Told log) (⟦ J ⟧ ∗ ⟦ rights c δs held ⟧ ∗ ⟦ had log ⟧ ∗ Y log)) s.1 $
       check ! (so.1, told) $ move ! (0 ∷ 3 ∷ 2 ∷ 1 ∷ []) $ done !)))
 
-  holds_renewed : (rows : Rows) (held : List (HeldKey E)) (log : List E) → KeptNow → Holds rules rows log → Holds rules (puts rows held log) log
+  holds_renewed : (rows : Rows) (held : List (HeldKey E)) (log : List E) → KeptNow → HoldsRows rules rows log → HoldsRows rules (puts rows held log) log
   holds_renewed rows held log same so = record {
     legal = so.legal;
     kept = λ r k own h. ⊎_elim (λ (e : own ≡ log). subst (λ (x : List E). rules.Knows r k x log) (sym e) (same r k log)) (λ t. so.kept r k own t.1) (has_puts rows held log r k own h);
@@ -376,7 +376,7 @@ module _ {E : Type 0} (c : Coded E) (rules : Rules E) (extra : List E → Fml) (
       no_more : (log : List E) → Known rules held seen log → ⟦ extra log ⟧ ∗ ⟦ ftrue ⟧ ⊢ guard 𝓤 (Unit {0}) (⟦ extra log ⟧ ∗ ⟦ ftrue ⟧)
       no_more log known = qed 𝓛 (‵ (extra log) ∷ ‵ ftrue ∷ []) ∵ check ! tt $ done !
 
-  holds_minted : (rows : Rows) (r : ℕ) (log : List E) → KeptNow → OneMore rules r → Holds rules rows log → Holds rules (one_more rows r log) log
+  holds_minted : (rows : Rows) (r : ℕ) (log : List E) → KeptNow → OneMore rules r → HoldsRows rules rows log → HoldsRows rules (one_more rows r log) log
   holds_minted rows r log same more so = record {
     legal = so.legal;
     kept = λ q k own h. ⊎_elim (λ (i : own ≡ log). subst (λ (x : List E). rules.Knows q k x log) (sym i) (same q k log)) (λ t. so.kept q k own t) (has_more rows r log q k own h);
@@ -389,11 +389,11 @@ module _ {E : Type 0} (c : Coded E) (rules : Rules E) (extra : List E → Fml) (
 
   -- new keys and no event: the rows, and the rights to these
   abbrev Mints : List (ℕ × ℕ) → List E → Rows → Type 1
-  Mints births log rows = (rows' : Rows) × Holds rules rows' log × (⟦ rosters c δs rows ⟧ ⊢ upd 𝓤 (⟦ rosters c δs rows' ⟧ ∗ ⟦ rights c δs (keys_made births log) ⟧))
+  Mints births log rows = (rows' : Rows) × HoldsRows rules rows' log × (⟦ rosters c δs rows ⟧ ⊢ upd 𝓤 (⟦ rosters c δs rows' ⟧ ∗ ⟦ rights c δs (keys_made births log) ⟧))
 
   -- a key, and others after it: nobody holds those of its kind that are made before it
-  fills : (d : ℕ) (b : ℕ × ℕ) (births : List (ℕ × ℕ)) (log : List E) → KeptNow → b.0 < length δs → OneMore rules b.0 → ((rows : Rows) → Holds rules rows log → MayMint rules (length δs) (sizes rows) births → Mints births log rows)
-      → (rows : Rows) → Holds rules rows log → sizes rows b.0 + d ≡ b.1 → MayMint rules (length δs) (up_to b (sizes rows)) births → Mints (b ∷ births) log rows
+  fills : (d : ℕ) (b : ℕ × ℕ) (births : List (ℕ × ℕ)) (log : List E) → KeptNow → b.0 < length δs → OneMore rules b.0 → ((rows : Rows) → HoldsRows rules rows log → MayMint rules (length δs) (sizes rows) births → Mints births log rows)
+      → (rows : Rows) → HoldsRows rules rows log → sizes rows b.0 + d ≡ b.1 → MayMint rules (length δs) (up_to b (sizes rows)) births → Mints (b ∷ births) log rows
   fills zero b births log same below more others rows so is may = let last : sizes rows b.0 ≡ b.1 = omega (arith, is) in
       let made = others (one_more rows b.0 log) (holds_minted rows b.0 log same more so) (subst (λ (many : ℕ → ℕ). MayMint rules (length δs) many births) (up_to_last rows b log last) may) in
       (made.0, made.1, mints_one rows made.0 b births log below last made.2)
@@ -401,7 +401,7 @@ module _ {E : Type 0} (c : Coded E) (rules : Rules E) (extra : List E → Fml) (
       let made = fills d b births log same below more others rows' (holds_minted rows b.0 log same more so) (omega (arith, is, size_more rows b.0 log)) (subst (λ (many : ℕ → ℕ). MayMint rules (length δs) many births) (up_to_more rows b log) may) in
       (made.0, made.1, drops_one rows b.0 log (⟦ rosters c δs made.0 ⟧ ∗ ⟦ rights c δs (keys_made (b ∷ births) log) ⟧) below made.2)
 
-  mints_all : (births : List (ℕ × ℕ)) (log : List E) → KeptNow → (rows : Rows) → Holds rules rows log → MayMint rules (length δs) (sizes rows) births → Mints births log rows
+  mints_all : (births : List (ℕ × ℕ)) (log : List E) → KeptNow → (rows : Rows) → HoldsRows rules rows log → MayMint rules (length δs) (sizes rows) births → Mints births log rows
   mints_all [] log same rows so may = (rows, so, borns rows [] log tt tt)
   mints_all (b ∷ births) log same rows so may = fills (b.1 - sizes rows b.0) b births log same may.0 may.1 (mints_all births log same) rows so (omega (arith, may.2)) may.3
 

@@ -17,7 +17,7 @@ use types.Kit.{‵, raw, ◌⊛◌, some, given, later, ◌$◌, ◌∵◌, !, q
 use types.Tokens.{name_new}
 use denote.Steps.{nothing}
 use Rattle.seize_machine.specs.Machine.State.{State, has, linked_values, are_distinct, opening}
-use Rattle.seize_book.specs.Ledger.{HeldKey, logs, halved, roster, rosters, rights, reached, row, Holds, AllBelow, AreNextNumbers, more_by, more_of, keys_made}
+use Rattle.seize_book.specs.Ledger.{HeldKey, logs, halved, roster, rosters, rights, reached, row, HoldsRows, AllBelow, AreNextNumbers, more_by, more_of, keys_made}
 use Rattle.seize_book.specs.Entry.{Entry, entry_coded}
 use Rattle.seize_book.specs.Book.{HolderKnows, IsKeyCount, mine, kind_of, rules, passes, numbers, slots, heads, links, totals, kinds}
 use Rattle.seize_book.specs.Homes.{IsSound}
@@ -83,7 +83,7 @@ none_lent n v named = absurd (let x : has v [] ≡ true = ap (has v) (sym (none_
 sound_first : (n : ℕ) → IsSound (opening 0 (empty n))
 sound_first n = record { one = λ v w home a b c d. absurd (let x : has v [] ≡ true = ap (has v) (sym (none_linked n)) ∙ a in cc); few = omega arith }
 
-holds_first : (n : ℕ) → Holds (rules (opening 0 (empty n))) (grown [] (firsts n) []) []
+holds_first : (n : ℕ) → HoldsRows (rules (opening 0 (empty n))) (grown [] (firsts n) []) []
 holds_first n = record {
   legal = (refl, sound_first n, chained_opening 0 (empty n) (field_value []), tt);
   kept = λ r k own h. ⊎_elim (λ (e : own ≡ []). subst (λ (x : List Entry). HolderKnows (opening 0 (empty n)) (kind_of r) k x []) (sym e) (kept_now (opening 0 (empty n)) r k []))

@@ -4,7 +4,7 @@ use Rattle.std.specs.List.{Contains}
 use Rattle.std.proofs.lemmas.List.{get_or_past, get_or_append_left, get_or-set_same, get_or-set_other, length-set}
 use Rattle.std.proofs.lemmas.Bool.{cases_lt}
 use native.Mathlib.Decide.{ℕ_discrete}
-use Rattle.seize_machine.specs.Machine.State.{State, Slot, Call, Head, Inactive, Active, Place, Mark, Out, Rest, no_slot, slot_at, head_at, waiting_at, is_active, opening}
+use Rattle.seize_machine.specs.Machine.State.{State, Slot, Progress, Head, Inactive, Active, Place, Mark, Out, Rest, no_slot, slot_at, head_at, waiting_at, is_active, opening}
 use Rattle.seize_machine.specs.Machine.Event.{Event}
 use Rattle.seize_machine.specs.Machine.Next.{look, looked, marked_place}
 use Rattle.seize_machine.specs.Machine.History.{IsReached, first_or_none}
@@ -68,7 +68,7 @@ each_set P xs s x past old new m = go (ℕ_discrete m s)
 
 -- a slot that is added has no call
 added_walk : (P : List ℕ → Type 0) (slots : List Slot) (x : Slot) (m : ℕ) → x.call ≡ Option.None → P (walk_of (get_or slots m no_slot).call) → P (walk_of (get_or (slots ++ x ∷ []) m no_slot).call)
-added_walk P [] x zero none old = subst (λ (o : Option Call). P (walk_of o)) (sym none) old
+added_walk P [] x zero none old = subst (λ (o : Option Progress). P (walk_of o)) (sym none) old
 added_walk P [] x (suc m) none old = old
 added_walk P (y ∷ slots) x zero none old = old
 added_walk P (y ∷ slots) x (suc m) none old = added_walk P slots x m none old
@@ -127,7 +127,7 @@ module _ (size : ℕ) (st : State) (ps : List Plan) (told : ℕ → ℕ) (r : Is
     by_call s x new = each_set (λ m slot. Led ps told m (walk_of slot.call)) st.slots s x no_slot walks new
 
     stood : (s : ℕ) (place : Place) (queue : List ℕ) → Stands st s place queue → Led ps told s (walk_at place)
-    stood s place queue stands = subst (λ (o : Option Call). Led ps told s (walk_of o)) stands (walks s)
+    stood s place queue stands = subst (λ (o : Option Progress). Led ps told s (walk_of o)) stands (walks s)
 
     none : (s : ℕ) (bs : List ℕ) → bs ≡ [] → Led ps told s bs
     none s bs empty = subst (Led ps told s) (sym empty) (tt, tt)

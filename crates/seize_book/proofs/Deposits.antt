@@ -5,7 +5,7 @@ use Rattle.std.proofs.lemmas.List.{get_or_past, get_or-set_same, get_or-set_othe
 use Rattle.std.proofs.lemmas.List.Folds.{list_any_at}
 use Rattle.std.proofs.lemmas.Bool.{cases_lt}
 use native.Mathlib.Decide.{ℕ_discrete}
-use Rattle.seize_machine.specs.Machine.State.{State, Slot, Batch, Call, Head, Inactive, Active, Place, Append, Mark, Add, Out, Rest, no_slot, no_batch, slot_at, head_at, batch_at, is_active, is_idle}
+use Rattle.seize_machine.specs.Machine.State.{State, Slot, Batch, Progress, Head, Inactive, Active, Place, Append, Mark, Add, Out, Rest, no_slot, no_batch, slot_at, head_at, batch_at, is_active, is_idle}
 use Rattle.seize_machine.specs.Machine.Event.{Event, AddCount, SubCount}
 use Rattle.seize_machine.specs.Machine.Next.{next, scheme, of_call, moved, moved_call, walked_on, look, looked, marked_place, adding_at, add_count, walking_at, sub_count, is_zero}
 use Rattle.seize_machine.specs.Machine.History.{IsReached}
@@ -95,7 +95,7 @@ filled_owner n place queue P (inr e) = ap (λ (p : Place). owner p queue) e
 idle_owner : (slot : Slot) → is_idle slot ≡ true → detached_by slot.call ≡ None
 idle_owner slot idle = go slot.call refl
   where
-    go : (o : Option Call) → slot.call ≡ o → detached_by o ≡ None
+    go : (o : Option Progress) → slot.call ≡ o → detached_by o ≡ None
     go None e = refl
     go (Some call) e = absurd (grind arith)
 
@@ -272,7 +272,7 @@ deposit_added size st s b won queue d k r one stands does h =
     let ends : Place → Place = λ place. Rest (if is_zero count then values else []) [] in
     let new : Slot = moved ends (slot_at st s) in
     let is : (counts_to st s b count new, Count count) ≡ d = some_is _ _ (ap (λ o. add_count scheme st s (of_call adding_at o)) (sym stands) ∙ does) in
-    let free : detached_by new.call ≡ None = ap (λ (o : Option Call). detached_by (moved_call ends o)) stands in
+    let free : detached_by new.call ≡ None = ap (λ (o : Option Progress). detached_by (moved_call ends o)) stands in
     let ended = owner_ends st s b new r (called_range st s (Add b won) queue stands) (ap detached_by stands) free in (
       share_alone st r one k b h ∙ share_owned st.slots k b (batch_at st b) (owned_at st s b (Add b won) queue stands (ap detached_by stands)),
       ap (λ (x : State × Answer). deposit x.0 k) (sym is) ∙ counted_in st s b count new k r one h
@@ -301,10 +301,10 @@ deposit_subtracted size st s b walk queue d k r one stands does h = (
 
     -- slot s walks before and after
     same : is_with_call (set st.slots s new) b ≡ is_with_call st.slots b
-    same = owned_set b s st.slots new (ap (is_number b) (ap (λ (o : Option Call). detached_by (moved_call (walked_on given_up) o)) stands ∙ sym (ap detached_by stands)))
+    same = owned_set b s st.slots new (ap (is_number b) (ap (λ (o : Option Progress). detached_by (moved_call (walked_on given_up) o)) stands ∙ sym (ap detached_by stands)))
 
     counts : changes_batch st b (SubCount s) ≡ true
-    counts = ap (λ (o : Option Call). is_that b (of_call walking_at o)) stands ∙ equal b b refl
+    counts = ap (λ (o : Option Progress). is_that b (of_call walking_at o)) stands ∙ equal b b refl
 
     -- where the count comes to 0, nobody has still to add
     none : is_zero count ≡ true → (i : ℕ) → owns b (get_or (set st.slots s new) i no_slot) ≡ false

@@ -3,7 +3,7 @@ use Rattle.std.proofs.Common.{◌≡◌, ℕ, zero, suc, ◌+◌, ◌<◌, ◌==
 use Rattle.std.proofs.lemmas.List.{length-map}
 use Rattle.seize_machine.specs.Machine.State.{State, Slot, slot_at, head_at, is_idle, is_active}
 use Rattle.seize_machine.specs.Machine.Event.{Event, Give, Take}
-use Rattle.seize_machine.specs.Machine.Next.{set_slot, after_take, first_free, next}
+use Rattle.seize_machine.specs.Machine.Next.{slot_set, after_take, first_free, next}
 use Rattle.seize_machine.specs.Machine.Frames.{used, changes_slot, changes_head_of, changes_link}
 use Rattle.seize_machine.specs.declared.machine.event.Answer.{Answer}
 use Rattle.seize_machine.specs.declared.machine.event.Answer.TheVariants.{Done}
@@ -79,7 +79,7 @@ may_give n p size seen a b one one' zero_is idle off =
     may_turn n p seen a b (record { pass = p; size = size; event = Give (key_of a); life = 0; kepts = [] }) one one' zero_is refl (λ k. (refl, refl, refl), λ st k. (refl, refl)) (λ lives. refl) (λ s. refl) (λ st p. refl) goes
   where
     goes : (log : List Entry) → Before n p seen (only slots a ++ only numbers b) log → (d : State × Answer) × Does (start n) log (Made (record { pass = p; size = size; event = Give (key_of a); life = 0; kepts = [] })) d × (makes_slot (after (start n) log) (Give (key_of a)) ≡ false)
-    goes log before = let st : State = after (start n) log in let s : ℕ = key_of a in let slot = before.kept.0.1 in let d : State × Answer = (set_slot st s (record (slot_at st s) { used = false }), Done) in
+    goes log before = let st : State = after (start n) log in let s : ℕ = key_of a in let slot = before.kept.0.1 in let d : State × Answer = (slot_set st s (record (slot_at st s) { used = false }), Done) in
         (d, next_of size st (Give s) d (Step.gave s (ap is_idle (sym slot.1) ∙ idle) (sym slot.2 ∙ off)), refl)
 
 -- which number is the least that is not in use, by which are in use

@@ -3,7 +3,7 @@ use Rattle.std.proofs.Common.{◌≡◌, ℕ, ◌<◌, Bool, true, false, List, 
 use Rattle.std.proofs.lemmas.List.{append_cancel_right, length-map, map-set}
 use Rattle.seize_machine.specs.Machine.State.{State, Slot, slot_at}
 use Rattle.seize_machine.specs.Machine.Event.{Event, Give, Take}
-use Rattle.seize_machine.specs.Machine.Next.{next, set_slot}
+use Rattle.seize_machine.specs.Machine.Next.{next, slot_set}
 use Rattle.seize_machine.specs.Machine.Frames.{used}
 use Rattle.seize_machine.specs.declared.machine.event.Answer.{Answer}
 use Rattle.seize_machine.proofs.Facts.{Step, step_of}
@@ -24,7 +24,7 @@ use Rattle.seize_book.specs.declared.book.slot_key.SlotKey.{SlotKey}
 use Rattle.seize_book.proofs.Gives.{free_by}
 use Rattle.seize_book.proofs.Private.{after_one, only, only_is}
 
-set_used : (st : State) (s : ℕ) (slot : Slot) → used (set_slot st s slot) ≡ slice_set (used st) s slot.used
+set_used : (st : State) (s : ℕ) (slot : Slot) → used (slot_set st s slot) ≡ slice_set (used st) s slot.used
 set_used st s slot = map-set (λ (x : Slot). x.used) st.slots s slot
 
 gives : (size : ℕ) (st : State) (s : ℕ) (d : State × Answer) → Step size st (Give s) d → used d.0 ≡ slice_set (used st) s false

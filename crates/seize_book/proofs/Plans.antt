@@ -4,7 +4,7 @@ use Rattle.std.proofs.lemmas.List.{get_or_past, get_or_append_left, get_or-set_s
 use Rattle.std.proofs.lemmas.Bool.{cases_lt}
 use mathlib.Core.List.{IsPrefix}
 use native.Mathlib.Decide.{ℕ_discrete}
-use Rattle.seize_machine.specs.Machine.State.{State, Slot, Call, Head, Inactive, Active, Mark, Try, Rest, no_batch, no_slot, slot_at, is_active, head_at, batch_at, waiting_at, linked_values, are_distinct, opening}
+use Rattle.seize_machine.specs.Machine.State.{State, Slot, Progress, Head, Inactive, Active, Mark, Try, Rest, no_batch, no_slot, slot_at, is_active, head_at, batch_at, waiting_at, linked_values, are_distinct, opening}
 use Rattle.seize_machine.specs.Machine.Event.{Event, event_slot}
 use Rattle.seize_machine.specs.Machine.Next.{next, look, looked, marked_place}
 use Rattle.seize_machine.specs.Machine.History.{IsReached, Timed, done_by}
@@ -131,7 +131,7 @@ abbrev pub SawThere : State → Type 0
 SawThere st = (s b won m : ℕ) (later saw queue : List ℕ) → Stands st s (Try b won m later saw) queue → AllLess (length st.batches) saw
 
 -- a slot's record after a write, where it has a call
-written : (slots : List Slot) (s : ℕ) (x : Slot) (call : Call) → (get_or (set slots s x) s no_slot).call ≡ Some call → x.call ≡ Some call
+written : (slots : List Slot) (s : ℕ) (x : Slot) (call : Progress) → (get_or (set slots s x) s no_slot).call ≡ Some call → x.call ≡ Some call
 written slots s x call h = go (cases_lt s (length slots))
   where
     go : (s < length slots) ⊎ (length slots ≤ s) → x.call ≡ Some call
@@ -139,7 +139,7 @@ written slots s x call h = go (cases_lt s (length slots))
     go (inr le) = absurd (let none : Option.None ≡ Some call = ap (λ (y : Slot). y.call) (sym (get_or_past (set slots s x) s no_slot (subst (λ (k : ℕ). k ≤ s) (sym (length-set slots s x)) le))) ∙ h in cc)
 
 -- no call under way at a slot that is added
-added_none : (slots : List Slot) (x : Slot) (s : ℕ) (call : Call) → x.call ≡ Option.None → (get_or (slots ++ x ∷ []) s no_slot).call ≡ Some call → (get_or slots s no_slot).call ≡ Some call
+added_none : (slots : List Slot) (x : Slot) (s : ℕ) (call : Progress) → x.call ≡ Option.None → (get_or (slots ++ x ∷ []) s no_slot).call ≡ Some call → (get_or slots s no_slot).call ≡ Some call
 added_none [] x zero call none h = absurd (let e : Option.None ≡ Some call = sym none ∙ h in cc)
 added_none [] x (suc s) call none h = h
 added_none (y ∷ slots) x zero call none h = h
@@ -152,14 +152,14 @@ looked_saw n (Active waiting) b won k later b' won' m' later' saw old e = let is
 
 -- a step on a slot leads to such a place only by a read of a head
 module _ (size : ℕ) (st : State) (waiting : WaitingThere st) (old : SawThere st) (b won m : ℕ) (later saw queue : List ℕ) where
-  abbrev tries : Call
+  abbrev tries : Progress
   tries = record { place = Try b won m later saw; queue = queue }
 
   abbrev Goal : Type 0
   Goal = AllLess (length st.batches) saw
 
-  at_try : (x : Call) → Some x ≡ Some tries → x.place ≡ Try b won m later saw
-  at_try x e = ap (λ (y : Call). y.place) (some_is _ _ e)
+  at_try : (x : Progress) → Some x ≡ Some tries → x.place ≡ Try b won m later saw
+  at_try x e = ap (λ (y : Progress). y.place) (some_is _ _ e)
 
   not_marked : (active : Bool) (k note : ℕ) (marks batch q : List ℕ) → Some (record { place = marked_place active k note marks batch; queue = q }) ≡ Some tries → ⊥
   not_marked false k note marks batch q e = let p = at_try _ e in cc
@@ -191,7 +191,7 @@ module _ (size : ℕ) (st : State) (waiting : WaitingThere st) (old : SawThere s
   saw_step event _ (Step.put s v from before after_ place stands how (inr p) is) h = absurd (let at = at_try _ (written st.slots s _ tries h) in cc)
   saw_step event _ (Step.marked s k x note marks q stands there turn) h = absurd (not_marked (is_active (head_at st k)) k note marks (slot_at st s).batch q (written st.slots s _ tries h))
   saw_step event _ (Step.looked_at s c w k rest q stands) h =
-      let w' = written st.slots s _ tries h in looked_saw (length st.batches) (head_at st k) c w k rest b won m later saw (waiting k) (ap (λ (x : Call). x.place) (some_is _ _ w'))
+      let w' = written st.slots s _ tries h in looked_saw (length st.batches) (head_at st k) c w k rest b won m later saw (waiting k) (ap (λ (x : Progress). x.place) (some_is _ _ w'))
   saw_step event _ (Step.detached s x note marks q stands le) h = absurd (not_looked (length st.batches) 0 marks q (written st.slots s _ tries h))
   saw_step event _ (Step.inserted s k c w rest was q list stands head_is) h = absurd (not_looked c (w + 1) rest q (written st.slots s _ tries h))
   saw_step event _ (Step.lost s k c w rest was q stands other) h = absurd (let at = at_try _ (written st.slots s _ tries h) in cc)

@@ -14,7 +14,7 @@ use Rattle.seize_book.specs.Chains.{field_value}
 use Rattle.seize_book.specs.Entry.{Entry, Made, Deed}
 use Rattle.seize_book.specs.Book.{after, births, makes_slot, TheSlot, TheTotal, HolderKnows, kinds, rules, slots, touches}
 use Rattle.seize_book.specs.Fair.{AddsEntryWith, Before, Covers, Fair, MakesPlaced, EndsNone, StartsNone, MayAdd, pass_key}
-use Rattle.seize_book.specs.Others.{MakesNone}
+use Rattle.seize_book.specs.Others.{BearsNone}
 use Rattle.seize_book.specs.Private.{IsOwn, IsOpen, is_one, key_of, label_of, note_of, own_of}
 use Rattle.seize_book.specs.Tokens.{Name, start}
 use Rattle.seize_book.proofs.Chains.{unled}
@@ -143,7 +143,7 @@ parted [] b seen h = absurd (cc)
 parted (x ∷ y ∷ a) b seen h = absurd (cc)
 parted (x ∷ []) b seen h = record { number = refl; own = refl; others = append-nil (with_list b seen) }
 
-pub held_after : (n : Name) (p : ℕ) (seen seen' : List Entry) (held held' a b : List (HeldKey Entry)) (e : Deed) → held ≡ a ++ b → MakesNone n p seen (a ++ b) e.event
+pub held_after : (n : Name) (p : ℕ) (seen seen' : List Entry) (held held' a b : List (HeldKey Entry)) (e : Deed) → held ≡ a ++ b → BearsNone n p seen (a ++ b) e.event
     → AddsEntryWith n p seen seen' held held' e → held' ≡ all_after a b seen'
 held_after n p seen seen' held held' a b e joined none added =
     let log = added.noted.before in

@@ -7,7 +7,7 @@ use Rattle.std.proofs.lemmas.List.{get_or_past, get_or_append_left, get_or_push,
 use Rattle.std.proofs.lemmas.List.Folds.{list_any_at}
 use Rattle.std.proofs.lemmas.Bool.{cases_lt, true≢false}
 use native.Mathlib.Decide.{ℕ_discrete}
-use Rattle.seize_machine.specs.Machine.State.{State, Slot, Call, Head, Inactive, Active, Place, Mark, Look, Try, Out, Rest, no_slot, slot_at, head_at, batch_at, is_active, waiting_at, has, linked_values, are_distinct, opening}
+use Rattle.seize_machine.specs.Machine.State.{State, Slot, Progress, Head, Inactive, Active, Place, Mark, Look, Try, Out, Rest, no_slot, slot_at, head_at, batch_at, is_active, waiting_at, has, linked_values, are_distinct, opening}
 use Rattle.seize_machine.specs.Machine.Event.{Event}
 use Rattle.seize_machine.specs.Machine.Next.{next, of_call, look, looked, marked_place}
 use Rattle.seize_machine.specs.Machine.History.{IsReached, done_by}
@@ -86,7 +86,7 @@ PlaceMarked ps s (Try b won m later saw) = AtAll ps b (m ∷ later)
 PlaceMarked ps s (Rest gives walk) = AllAt ps s walk
 PlaceMarked ps s _ = Unit {0}
 
-abbrev pub CallMarked : List Plan → ℕ → Option Call → Type 0
+abbrev pub CallMarked : List Plan → ℕ → Option Progress → Type 0
 CallMarked ps s None = Unit {0}
 CallMarked ps s (Some call) = PlaceMarked ps s call.place
 
@@ -112,7 +112,7 @@ walks_marked st ps m b marked h = go (slot_at st m).call (marked.calls m) h
     at (Rest gives walk) queue all h = all b h
     at _ queue all h = absurd (nothing_in b h)
 
-    go : (o : Option Call) → CallMarked ps m o → Contains (walk_of o) b → Contains (slots_in ps b) m
+    go : (o : Option Progress) → CallMarked ps m o → Contains (walk_of o) b → Contains (slots_in ps b) m
     go None all h = absurd (nothing_in b h)
     go (Some call) all h = at call.place call.queue all h
 
@@ -128,7 +128,7 @@ more_in ps qs b m c = go (cases_lt b (length ps))
     go (inl there) = subst (λ (p : Plan). Contains p.slots m) (sym (get_or_append_left ps qs no_plan b there)) c
     go (inr past) = absurd (nothing_in m (subst (λ (p : Plan). Contains p.slots m) (get_or_past ps b no_plan past) c))
 
-more_calls : (ps qs : List Plan) (s : ℕ) (o : Option Call) → CallMarked ps s o → CallMarked (ps ++ qs) s o
+more_calls : (ps qs : List Plan) (s : ℕ) (o : Option Progress) → CallMarked ps s o → CallMarked (ps ++ qs) s o
 more_calls ps qs s None all = tt
 more_calls ps qs s (Some call) all = go call.place all
   where
@@ -225,7 +225,7 @@ module _ (ps : List Plan) where
   slots_step size st event _ (Step.looked_at s b won m later queue e) news waits calls =
       goes_on st s _ (looked_marked s b won m (head_at st m) later (subst (CallMarked ps s) e (calls s))) calls
   slots_step size st event _ (Step.detached s following note marks queue e le) news waits calls =
-      let slots_are : (plan_of (slot_at st s)).slots ≡ marks = ap (λ (o : Option Call). unwrap_or (of_call marked_at o) []) e in
+      let slots_are : (plan_of (slot_at st s)).slots ≡ marks = ap (λ (o : Option Progress). unwrap_or (of_call marked_at o) []) e in
       goes_on st s _ (look_marked s (length st.batches) 0 marks (subst (AtAll ps (length st.batches)) slots_are (news s refl))) calls
   slots_step size st event _ (Step.inserted s m b won later saw queue waiting e head_is) news waits calls =
       let all : AtAll ps b (m ∷ later) = subst (CallMarked ps s) e (calls s) in
@@ -252,7 +252,7 @@ fits_step size st event _ ps r (Step.detached s following note marks queue e le)
     tidy = marks_tidy st s following note marks queue r e
 
     new : IsFitting (plan_of (slot_at st s))
-    new = subst (λ slots. (are_distinct slots ≡ true) × (length slots ≤ length (slot_at st s).batch)) (sym (ap (λ (o : Option Call). unwrap_or (of_call marked_at o) []) e)) (tidy.0, tidy.2)
+    new = subst (λ slots. (are_distinct slots ≡ true) × (length slots ≤ length (slot_at st s).batch)) (sym (ap (λ (o : Option Progress). unwrap_or (of_call marked_at o) []) e)) (tidy.0, tidy.2)
 fits_step size st event d ps r step old = subst (λ (qs : List Plan). (b : ℕ) → IsFitting (get_or qs b no_plan)) (sym (append-nil ps)) old
 
 pub marked_step : (size : ℕ) (st : State) (event : Event) (d : State × Answer) (ps : List Plan) → IsReached st → Step size st event d → Marked st ps → Marked d.0 (ps ++ planned_by st event)

@@ -1,7 +1,7 @@
 -- What is stored in fields: chains stay as entries are added, and so does what was written for an insertion that another slot tries.
 use Rattle.std.proofs.Common.{◌≡◌, ◌≢◌, ℕ, ◌<◌, ◌==◌, Bool, true, false, if◌then◌else◌, List, [], ◌∷◌, ◌++◌, length, Option, Some, None, refl, sym, ◌∙◌, ap, subst, append-nil, ⊎_elim}
 use Rattle.std.proofs.lemmas.List.{get_or_append_left}
-use Rattle.seize_machine.specs.Machine.State.{State, Slot, Call, Place, Try, slot_at, linked_values, are_distinct}
+use Rattle.seize_machine.specs.Machine.State.{State, Slot, Progress, Place, Try, slot_at, linked_values, are_distinct}
 use Rattle.seize_machine.specs.Machine.Next.{of_call}
 use Rattle.seize_machine.specs.Machine.Frames.{changes_slot}
 use Rattle.seize_machine.specs.Machine.History.{IsReached}
@@ -86,7 +86,7 @@ module _ (n : Name) (log : List Entry) (distinct : are_distinct (linked_values n
             λ i. Some (told_other log u (next_field (home_of (insertion_value ps b m))) apart.0 i, told_other log u (first_field (home_of (insertion_value ps b m))) apart.1 i)
         by_place _ queue stands = refl
 
-        by_call : (call : Option Call) → (slot_at now k).call ≡ call → of_call (written_at ps (field_value (log ++ Used u ∷ []))) call ≡ of_call (written_at ps (field_value log)) call
+        by_call : (call : Option Progress) → (slot_at now k).call ≡ call → of_call (written_at ps (field_value (log ++ Used u ∷ []))) call ≡ of_call (written_at ps (field_value log)) call
         by_call None e = refl
         by_call (Some call) e = by_place call.place call.queue e
 
@@ -111,7 +111,7 @@ module _ (n : Name) (log : List Entry) (distinct : are_distinct (linked_values n
           ap (λ (plan : Plan). let home = home_of (plan_value m plan.slots plan.values) in Some (field_value log (next_field home), field_value log (first_field home))) (get_or_append_left ps (planned_by now x.event) no_plan b there)
       by_place _ queue stands = refl
 
-      by_call : (call : Option Call) → (slot_at now k).call ≡ call → of_call (written_at (ps ++ planned_by now x.event) (field_value log)) call ≡ of_call (written_at ps (field_value log)) call
+      by_call : (call : Option Progress) → (slot_at now k).call ≡ call → of_call (written_at (ps ++ planned_by now x.event) (field_value log)) call ≡ of_call (written_at ps (field_value log)) call
       by_call None e = refl
       by_call (Some call) e = by_place call.place call.queue e
 

@@ -3,7 +3,7 @@
 -- holder's, and with all four the key is set anew. Nothing here is of the machine.
 --     HeldKey          a key, with what the list was when its holder last appended
 --     Rules            which lists are legal, what the holder of a key knows of a later list, and how many keys of a kind there are
---     Holds            what the invariant holds of the list and of each key
+--     HoldsRows            what the invariant holds of the list and of each key
 --     contents         what stands in the invariant
 --     right, rights    what a holder has of a key, or of some;  reached   that the list was as long as this
 --     Known            what the holders of some keys and of a beginning of the list know of the list
@@ -79,14 +79,14 @@ pub record Rules (E : Type 0) : Type 1 where
   pub Knows : ℕ → ℕ → List E → List E → Type 0
   pub Sized : ℕ → ℕ → List E → Type 0
 
-pub record Holds {E : Type 0} (rules : Rules E) (rows : List (List (List E))) (log : List E) : Type 0 where
+pub record HoldsRows {E : Type 0} (rules : Rules E) (rows : List (List (List E))) (log : List E) : Type 0 where
   pub legal : rules.Legal log
   pub kept : (r k : ℕ) (own : List E) → slice_get (row rows r) k ≡ Some own → rules.Knows r k own log
   pub sized : (r : ℕ) → rules.Sized r (length (row rows r)) log
 
 module _ {E : Type 0} (c : Coded E) (rules : Rules E) (extra : List E → Fml) (η : ℕ) (δs : List ℕ) where
   abbrev pub standing : List (List (List E)) × List E → Fml
-  standing s = fsep (rosters c δs s.0) (fsep (latest (logs c) full_share η s.1) (fsep (extra s.1) (fact (Holds rules s.0 s.1))))
+  standing s = fsep (rosters c δs s.0) (fsep (latest (logs c) full_share η s.1) (fsep (extra s.1) (fact (HoldsRows rules s.0 s.1))))
 
   abbrev pub contents : Fml
   contents = fex (List (List (List E)) × List E) standing

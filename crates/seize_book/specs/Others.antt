@@ -10,7 +10,7 @@
 --     use_flags numbers                 which numbers are in use, as this key knows;  first_false us     the least that is not
 --     IsOfBook keys pass                they are of one book;  IsValueOf value pass, AreNumbersOf numbers pass     so is this key
 --     state_of keys, value_of value     where the keys' list leads, and which value it is
---     MakesNone n p seen held event     wherever the list is by then, the event makes no keys
+--     BearsNone n p seen held event     wherever the list is by then, the event makes no keys
 --     IsWith key other pass d           the slot's holder may add the event with the other keys
 --     Knew key other pass pass' d       the event was added where this was known of the list, by the slot's and the other keys
 --     IsLastIn v st                     all other values of its block that were ever named were reclaimed;  IsLast value    so it is, as
@@ -95,13 +95,13 @@ abbrev pub first_false : List Bool → ℕ
 first_false us = position_or_len (λ u. not u) us
 
 -- wherever the list is by then, the event makes no keys
-abbrev pub MakesNone : Name → ℕ → List Entry → List (HeldKey Entry) → Event → Type 0
-MakesNone n p seen held event = (log : List Entry) → Before n p seen held log → births (after (start n) log) event ≡ []
+abbrev pub BearsNone : Name → ℕ → List Entry → List (HeldKey Entry) → Event → Type 0
+BearsNone n p seen held event = (log : List Entry) → Before n p seen held log → births (after (start n) log) event ≡ []
 
 -- the event makes no keys, and may be added with the slot's and the other keys
 abbrev pub IsWith : SlotKey → Keys → Pass → Deed → Type 0
 IsWith key other pass d =
-    MakesNone pass.name pass.id pass.seen (key.keys.held ++ other.held) d.event
+    BearsNone pass.name pass.id pass.seen (key.keys.held ++ other.held) d.event
     × MayAdd pass.name pass.id pass.seen (key.keys.held ++ other.held) d
 
 -- it was added where this was known of the list, by these keys too

@@ -1,5 +1,5 @@
 -- The words in which the contracts of porters speak.
---     IsPassOf porter pass      it is of the porter's book, and has its batch size;  IsSamePorter porter porter'     so has the later one
+--     IsPorterPass porter pass      it is of the porter's book, with its batch size;  IsSamePorter porter porter'     so has the later one
 --     GoesOnTo name seen seen'  seen' is a legal list that goes on from seen, and the laws hold of it: it is sound (`IsSound`), with each
 --                               value that was named something is lent, and the links of the opening are distinct
 --     LendsPass porter pass     a new pass of the porter's book, which isn't the first, with which nothing was made, and which has seen a
@@ -36,8 +36,8 @@ use Rattle.seize_book.specs.declared.book.pass.Pass.{Pass}
 use Rattle.seize_book.specs.declared.book.porter.Porter.{Porter}
 use Rattle.seize_book.specs.declared.book.seen.Seen.{Seen}
 
-abbrev pub IsPassOf : Porter → Pass → Type 0
-IsPassOf porter pass = (pass.name ≡ porter.name) × (pass.size ≡ porter.size)
+abbrev pub IsPorterPass : Porter → Pass → Type 0
+IsPorterPass porter pass = (pass.name ≡ porter.name) × (pass.size ≡ porter.size)
 
 pub record GoesOnTo (name : Name) (seen seen' : List Entry) : Type 0 where
   pub grows : IsPrefix seen seen'
@@ -47,7 +47,7 @@ pub record GoesOnTo (name : Name) (seen seen' : List Entry) : Type 0 where
   pub distinct : are_distinct (linked_values name.links) ≡ true
 
 pub record LendsPass (porter : Porter) (pass : Pass) : Type 0 where
-  pub book : IsPassOf porter pass
+  pub book : IsPorterPass porter pass
   pub new : IsNewPass pass
   pub others : ¬ (IsSole pass.id)
   pub goes_on : GoesOnTo porter.name porter.seen pass.seen
@@ -77,7 +77,7 @@ pub record ComesHome (porter porter' : Porter) : Type 0 where
   pub was : WasWhole porter.home porter.seen porter'.seen
 
 pub record Shuts (porter : Porter) (pass : Pass) : Type 0 where
-  pub book : IsPassOf porter pass
+  pub book : IsPorterPass porter pass
   pub alone : IsSole pass.id
   pub goes_on : GoesOnTo porter.name porter.seen pass.seen
   pub none_made : mine (start porter.name) 0 pass.seen ≡ mine (start porter.name) 0 porter.seen
@@ -88,7 +88,7 @@ abbrev pub IsFirst : Seen → Pass → Type 0
 IsFirst book pass = IsSole pass.id × (pass.name ≡ book.name) × (pass.seen ≡ [])
 
 abbrev pub OpensAgain : Pass → Porter → Type 0
-OpensAgain pass porter = IsPassOf porter pass × (porter.seen ≡ pass.seen) × (porter.home ≡ true)
+OpensAgain pass porter = IsPorterPass porter pass × (porter.seen ≡ pass.seen) × (porter.home ≡ true)
 
 abbrev pub MayStay : (Pass → Type 0) → Porter → Type 0
 MayStay may porter = (pass : Pass) → Shuts porter pass → may pass

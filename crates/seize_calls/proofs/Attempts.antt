@@ -3,7 +3,7 @@ use Rattle.std.proofs.Common.{◌≡◌, ℕ, zero, suc, ◌+◌, ◌<◌, ◌�
 use Rattle.std.specs.List.{Contains}
 use Rattle.std.specs.Prelude.{slice_index_or}
 use Rattle.std.proofs.lemmas.List.{get_or-set_same, length_push}
-use Rattle.seize_machine.specs.Machine.State.{Add, Call, Head, Inactive, Mark, Rest, Slot, State, are_distinct, has, is_active, no_slot, slot_at}
+use Rattle.seize_machine.specs.Machine.State.{Add, Progress, Head, Inactive, Mark, Rest, Slot, State, are_distinct, has, is_active, no_slot, slot_at}
 use Rattle.seize_machine.specs.Machine.Event.{AddCount, Detach, Event}
 use Rattle.seize_machine.specs.Machine.History.{first_or_none}
 use Rattle.seize_machine.specs.Machine.Laws.{detached_by}
@@ -121,7 +121,7 @@ after_detach : (size : ℕ) (st : State) (s : ℕ) (d : State × Answer) (next n
     × (length d.0.batches ≡ length st.batches + 1) × (d.1 ≡ Done)
 after_detach size st _ _ next note marks queue (Step.detached s _ _ _ _ e le) is =
     let same = get_or-set_same st.slots s _ no_slot (within st s _ is) in (
-      ap (λ (z : Slot). z.call) same ∙ ap (λ (c : Call). Some (record { place = detached_on (length st.batches) c.place; queue = c.queue })) (some_is _ _ (sym e ∙ is)),
+      ap (λ (z : Slot). z.call) same ∙ ap (λ (c : Progress). Some (record { place = detached_on (length st.batches) c.place; queue = c.queue })) (some_is _ _ (sym e ∙ is)),
       ap (λ (z : Slot). z.batch) same,
       ap (λ (z : Slot). z.used) same,
       refl,
@@ -203,7 +203,7 @@ module _ {key0 : SlotKey} {at : BeginsToMark key0} {pass0 : Pass} {key : SlotKey
   plan_is =
       ap (λ (t : Name × List Logged). slice_index_or (plans (start t.0) t.1) b no_plan) (λ i. (notes.1.0 i, notes.1.2 i))
       ∙ detached.detaches.3
-      ∙ ap (λ (o : Option Call). record { slots = unwrap_or (of_call marked_at o) []; values = (slot_of key).batch }) ends.stands.1
+      ∙ ap (λ (o : Option Progress). record { slots = unwrap_or (of_call marked_at o) []; values = (slot_of key).batch }) ends.stands.1
       ∙ ap (λ (vs : List ℕ). record { slots = marks; values = vs }) ends.batch
 
   pub seen_one : slots_seen pass ≤ slots_seen pass1

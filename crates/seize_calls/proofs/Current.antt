@@ -15,7 +15,7 @@ use Rattle.seize_words.specs.Activations.{IsLasting}
 use Rattle.seize_words.specs.declared.activation.Activation.{Activation}
 use Rattle.seize_words.proofs.Activations.{still}
 use Rattle.seize_calls.specs.Calls.{HasBegun}
-use Rattle.seize_calls.specs.Slots.{InActivation, IsActive, SlotLooks, its_book, its_number}
+use Rattle.seize_calls.specs.Slots.{InActivation, IsActive, SlotLooks, seen_book, its_number}
 use Rattle.seize_calls.specs.Together.{what_saw}
 use Rattle.seize_calls.specs.declared.slot.Slot.{Slot}
 use Rattle.seize_calls.proofs.Slots.{begun_later}
@@ -46,7 +46,7 @@ module _ (key : SlotKey) (p : Pass) (key' : SlotKey) (pass' : Pass) (looks : Loo
   pub looked_life : life_of key' ≡ life_of key
   looked_life = let by = looks.seen_by in (λ j. life (by.1 j) (by.2 j)) ∙ looks.lives
 
-module _ {T : Type 0} (s s' : Slot T) (pass pass' : Pass) (looks : SlotLooks s pass s' pass') (named : its_book s ≡ pass.name) where
+module _ {T : Type 0} (s s' : Slot T) (pass pass' : Pass) (looks : SlotLooks s pass s' pass') (named : seen_book s ≡ pass.name) where
   now_named : s'.seen.name ≡ pass'.name
   now_named = let l = looks.0 in l.same.1 ∙ named ∙ sym l.prepares.same.0 ∙ sym l.does.on.same.0
 

@@ -2,9 +2,9 @@
 use Rattle.std.proofs.Common.{◌≡◌, ℕ, ◌<◌, ◌≤◌, Bool, true, false, List, [], ◌∷◌, ◌++◌, length, get_or, Option, Some, None, refl, sym, ap, ◌∙◌, ◌⊎◌, inl, inr}
 use Rattle.std.proofs.lemmas.List.{get_or-set_same, get_or_past}
 use Rattle.std.proofs.lemmas.Bool.{cases_lt}
-use Rattle.seize_machine.specs.Machine.State.{Append, Call, Head, Inactive, Out, Place, Rest, Slot, State, head_at, is_active, is_idle, no_slot, slot_at}
+use Rattle.seize_machine.specs.Machine.State.{Append, Progress, Head, Inactive, Out, Place, Rest, Slot, State, head_at, is_active, is_idle, no_slot, slot_at}
 use Rattle.seize_machine.specs.Machine.Event.{Begin, Event, Put, Return}
-use Rattle.seize_machine.specs.Machine.Next.{begun_at, flushing_at, set_slot}
+use Rattle.seize_machine.specs.Machine.Next.{begun_at, flushing_at, slot_set}
 use Rattle.seize_machine.specs.declared.machine.event.Answer.{Answer}
 use Rattle.seize_machine.specs.declared.machine.event.Answer.TheVariants.{Done}
 use Rattle.seize_machine.specs.declared.machine.event.Job.{Job}
@@ -61,7 +61,7 @@ there st s idle = go (cases_lt s (length st.slots))
     go (inl less) = less
     go (inr past) = absurd (let none : is_idle no_slot ≡ true = sym (ap is_idle (get_or_past st.slots s no_slot past)) ∙ idle in cc)
 
-abbrev pub Kept : State → ℕ → State × Answer → Call → Type 0
+abbrev pub Kept : State → ℕ → State × Answer → Progress → Type 0
 Kept st s d call =
     ((slot_at d.0 s).call ≡ Some call) × ((slot_at d.0 s).batch ≡ (slot_at st s).batch) × ((slot_at d.0 s).used ≡ (slot_at st s).used) × (d.0.heads ≡ st.heads) × (d.1 ≡ Done)
 
@@ -82,7 +82,7 @@ retire_so size st _ _ _ (Step.begun_retire s v idle may) =
     (ap (λ (z : Slot). z.call) same, ap (λ (z : Slot). z.batch) same, ap (λ (z : Slot). z.used) same, refl, refl)
 retire_so size st _ _ _ (Step.begun_other s (Retire v) place idle which may) = absurd (let none : Option.None ≡ Some place = may.1 in cc)
 
-module _ (key key' : SlotKey) (pass pass' : Pass) (job : Job) (kepts : List ℕ) (notes : AddsDeed key pass key' pass' (deed_with_words pass (Begin (slot_number key) job) kepts)) (call : Call)
+module _ (key key' : SlotKey) (pass pass' : Pass) (job : Job) (kepts : List ℕ) (notes : AddsDeed key pass key' pass' (deed_with_words pass (Begin (slot_number key) job) kepts)) (call : Progress)
     (so : Kept (state_before key key' pass pass' (Begin (slot_number key) job) kepts notes) (slot_number key) (outcome key key' pass pass' (Begin (slot_number key) job) kepts notes) call) where
   pub begins_so : Begins key pass job kepts key' pass'
   begins_so = record {
@@ -100,7 +100,7 @@ module _ (key key' : SlotKey) (pass pass' : Pass) where
   out_so true notes = begun_so pass.size _ (slot_number key) Refresh _ (Out true) (step_noted key key' pass pass' (Begin (slot_number key) Refresh) [] notes) refl
   out_so false notes = begun_so pass.size _ (slot_number key) Leave _ (Out false) (step_noted key key' pass pass' (Begin (slot_number key) Leave) [] notes) refl
 
-  abbrev pub flush_call : (notes : AddsEvent key pass key' pass' (Begin (slot_number key) Flush)) → Call
+  abbrev pub flush_call : (notes : AddsEvent key pass key' pass' (Begin (slot_number key) Flush)) → Progress
   flush_call notes = record { place = flushing_at (length (state_before key key' pass pass' (Begin (slot_number key) Flush) [] notes).slots) (slot_of key).batch; queue = [] }
 
   pub flush_so : (notes : AddsEvent key pass key' pass' (Begin (slot_number key) Flush)) → Kept (state_before key key' pass pass' (Begin (slot_number key) Flush) [] notes) (slot_number key) (outcome key key' pass pass' (Begin (slot_number key) Flush) [] notes) (flush_call notes)
@@ -131,7 +131,7 @@ module _ (key key' : SlotKey) (pass pass' : Pass) (notes : AddsEvent key pass ke
   here : (slot_at put_st (slot_number key)).call ≡ Some (record { place = from; queue = before })
   here = ap (λ (z : Slot). z.call) notes.2.1.was ∙ stands
 
-  is_put : outcome key key' pass pass' put [] notes ≡ (set_slot put_st (slot_number key) new, Done)
+  is_put : outcome key key' pass pass' put [] notes ≡ (slot_set put_st (slot_number key) new, Done)
   is_put = some_is _ _ (sym notes.2.1.legal ∙ next_of pass.size put_st put _ (step_put pass.size put_st (slot_number key) v from before after here turn))
 
   slot_put : slot_of key' ≡ new

@@ -5,7 +5,7 @@ use Rattle.std.proofs.lemmas.Bool.{cases_lt}
 use base.Growing.{prefix_trans}
 use mathlib.Core.List.{IsPrefix}
 use native.Mathlib.Decide.{ℕ_discrete}
-use Rattle.seize_machine.specs.Machine.State.{State, Slot, Call, Head, Inactive, Active, Place, Look, Mark, no_slot, slot_at, head_at, is_active}
+use Rattle.seize_machine.specs.Machine.State.{State, Slot, Progress, Head, Inactive, Active, Place, Look, Mark, no_slot, slot_at, head_at, is_active}
 use Rattle.seize_machine.specs.Machine.Event.{Event, Insert, ReadHead}
 use Rattle.seize_machine.specs.Machine.Next.{looked_on, lost_on, scheme, won_on}
 use Rattle.seize_machine.specs.declared.machine.event.Answer.{Answer}
@@ -28,10 +28,10 @@ use Rattle.seize_calls.proofs.Alone.{alone_noted, onward_event, onward_looked, o
 use Rattle.seize_calls.proofs.Marks.{within}
 
 -- The machine makes an event for a call: it goes on so, and nothing else of its slot changes.
-abbrev pub goes : (Place → Place) → Call → Call
+abbrev pub goes : (Place → Place) → Progress → Progress
 goes on call = record { place = on call.place; queue = call.queue }
 
-pub record Goes (st : State) (s : ℕ) (call : Call) (on : Place → Place) (d : State × Answer) (answer : Answer) : Type 0 where
+pub record Goes (st : State) (s : ℕ) (call : Progress) (on : Place → Place) (d : State × Answer) (answer : Answer) : Type 0 where
   pub stands : (slot_at d.0 s).call ≡ Some (goes on call)
   pub batch : (slot_at d.0 s).batch ≡ (slot_at st s).batch
   pub used : (slot_at d.0 s).used ≡ (slot_at st s).used
@@ -39,7 +39,7 @@ pub record Goes (st : State) (s : ℕ) (call : Call) (on : Place → Place) (d :
   pub told : d.1 ≡ answer
 
 -- its record alone was written
-written : (st later : State) (s : ℕ) (call : Call) (on : Place → Place) (new : Slot) (answer : Answer) → (slot_at st s).call ≡ Some call → later.slots ≡ set st.slots s new
+written : (st later : State) (s : ℕ) (call : Progress) (on : Place → Place) (new : Slot) (answer : Answer) → (slot_at st s).call ≡ Some call → later.slots ≡ set st.slots s new
     → new.call ≡ Some (goes on call) → new.batch ≡ (slot_at st s).batch → new.used ≡ (slot_at st s).used → is_active (head_at later s) ≡ is_active (head_at st s) → Goes st s call on (later, answer) answer
 written st later s call on new answer is slots stands batch used active =
     let same : slot_at later s ≡ new = ap (λ (xs : List Slot). get_or xs s no_slot) slots ∙ get_or-set_same st.slots s new no_slot (within st s call is) in
@@ -55,9 +55,9 @@ written st later s call on new answer is slots stands batch used active =
 pub looked_again : (size : ℕ) (st : State) (s m b won : ℕ) (later queue : List ℕ) (d : State × Answer) → Step size st (ReadHead s m) d → (slot_at st s).call ≡ Some (record { place = Look b won m later; queue = queue })
     → Goes st s (record { place = Look b won m later; queue = queue }) (looked_on scheme (head_at st m)) d (HeadRead (is_active (head_at st m)))
 looked_again size st _ _ b won later queue _ (Step.looked_at s _ _ m _ _ e) is =
-    written st _ s _ _ _ _ is refl (ap (λ (c : Call). Some (goes (looked_on scheme (head_at st m)) c)) (some_is _ _ (sym e ∙ is))) refl refl refl
+    written st _ s _ _ _ _ is refl (ap (λ (c : Progress). Some (goes (looked_on scheme (head_at st m)) c)) (some_is _ _ (sym e ∙ is))) refl refl refl
 looked_again size st _ _ b won later queue _ (Step.marked s m next note marks q e less turn) is =
-    absurd (let other : Mark next note marks ≡ Look b won m later = ap (λ (c : Call). c.place) (some_is _ _ (sym e ∙ is)) in cc)
+    absurd (let other : Mark next note marks ≡ Look b won m later = ap (λ (c : Progress). c.place) (some_is _ _ (sym e ∙ is)) in cc)
 
 -- and the heads stay
 pub heads_read : (size : ℕ) (st : State) (s m : ℕ) (d : State × Answer) → Step size st (ReadHead s m) d → d.0.heads ≡ st.heads
@@ -75,13 +75,13 @@ still_active heads m s b waiting is = go (ℕ_discrete s m) (cases_lt m (length 
     go (yes same) (inr past) = absurd (let none : Inactive ≡ Active waiting = sym (get_or_past heads m Inactive past) ∙ is in cc)
     go (no other) there = ap is_active (get_or-set_other heads m s (Active (b ∷ waiting)) Inactive other)
 
-pub insert_won : (size : ℕ) (st : State) (s m : ℕ) (call : Call) (d : State × Answer) → Step size st (Insert s m Won) d → (slot_at st s).call ≡ Some call → Goes st s call won_on d Done
+pub insert_won : (size : ℕ) (st : State) (s m : ℕ) (call : Progress) (d : State × Answer) → Step size st (Insert s m Won) d → (slot_at st s).call ≡ Some call → Goes st s call won_on d Done
 insert_won size st _ _ call _ (Step.inserted s m b won later saw queue waiting e head_is) is =
-    written st _ s _ _ _ _ is refl (ap (λ (c : Call). Some (goes won_on c)) (some_is _ _ (sym e ∙ is))) refl refl (still_active st.heads m s b waiting head_is)
+    written st _ s _ _ _ _ is refl (ap (λ (c : Progress). Some (goes won_on c)) (some_is _ _ (sym e ∙ is))) refl refl (still_active st.heads m s b waiting head_is)
 
-pub insert_lost : (size : ℕ) (st : State) (s m : ℕ) (call : Call) (d : State × Answer) → Step size st (Insert s m Lost) d → (slot_at st s).call ≡ Some call → Goes st s call lost_on d Done
+pub insert_lost : (size : ℕ) (st : State) (s m : ℕ) (call : Progress) (d : State × Answer) → Step size st (Insert s m Lost) d → (slot_at st s).call ≡ Some call → Goes st s call lost_on d Done
 insert_lost size st _ _ call _ (Step.lost s m b won later saw queue e other) is =
-    written st _ s _ _ _ _ is refl (ap (λ (c : Call). Some (goes lost_on c)) (some_is _ _ (sym e ∙ is))) refl refl refl
+    written st _ s _ _ _ _ is refl (ap (λ (c : Progress). Some (goes lost_on c)) (some_is _ _ (sym e ∙ is))) refl refl refl
 
 -- What the slot's key knows of it.
 module _ (key key' : SlotKey) (pass pass' : Pass) (event : Event) (kepts : List ℕ) (notes : AddsDeed key pass key' pass' (deed_with_words pass event kepts)) where
@@ -94,7 +94,7 @@ module _ (key key' : SlotKey) (pass pass' : Pass) (event : Event) (kepts : List 
   pub step_noted : Step pass.size state_before event outcome
   step_noted = step_of pass.size state_before event outcome notes.2.1.legal
 
-  pub call_before : (call : Call) → (slot_of key).call ≡ Some call → (slot_at state_before (slot_number key)).call ≡ Some call
+  pub call_before : (call : Progress) → (slot_of key).call ≡ Some call → (slot_at state_before (slot_number key)).call ≡ Some call
   call_before call is = ap (λ (z : Slot). z.call) notes.2.1.was ∙ is
 
   pub keeps_from : ((slot_at outcome.0 (slot_number key)).batch ≡ (slot_at state_before (slot_number key)).batch) → ((slot_at outcome.0 (slot_number key)).used ≡ (slot_at state_before (slot_number key)).used)
@@ -112,7 +112,7 @@ module _ (key key' : SlotKey) (pass pass' : Pass) (event : Event) (kepts : List 
   pub own_grows : IsPrefix (own_list key) (own_list key')
   own_grows = subst (IsPrefix (own_list key)) (sym notes.1.2) (prefix_trans (own_list key) notes.2.0.before pass'.seen notes.2.1.knew (Made (deed_with_words pass event kepts) ∷ [], sym notes.2.0.appended))
 
-  module _ (call : Call) (on : Place → Place) (answer : Answer) (goes_so : Goes state_before (slot_number key) call on outcome answer) where
+  module _ (call : Progress) (on : Place → Place) (answer : Answer) (goes_so : Goes state_before (slot_number key) call on outcome answer) where
     pub keeps_noted : starts (slot_number key) event ≡ false → Continues key pass key' pass'
     keeps_noted none = keeps_from goes_so.batch goes_so.used goes_so.active none
 

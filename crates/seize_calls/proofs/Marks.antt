@@ -6,9 +6,9 @@ use base.Growing.{prefix_trans}
 use base.Stored.{Gv}
 use Rattle.std.specs.List.{Contains}
 use mathlib.Core.List.{IsPrefix}
-use Rattle.seize_machine.specs.Machine.State.{State, Slot, Call, Head, Inactive, Active, Place, Mark, Look, Rest, no_slot, slot_at, head_at, is_active, are_distinct, linked_values}
+use Rattle.seize_machine.specs.Machine.State.{State, Slot, Progress, Head, Inactive, Active, Place, Mark, Look, Rest, no_slot, slot_at, head_at, is_active, are_distinct, linked_values}
 use Rattle.seize_machine.specs.Machine.Event.{ReadHead}
-use Rattle.seize_machine.specs.Machine.Next.{can_detach_at, in_turn, marked_place, of_call}
+use Rattle.seize_machine.specs.Machine.Next.{can_detach_at, is_due, marked_place, of_call}
 use Rattle.seize_machine.specs.declared.machine.event.Answer.{Answer}
 use Rattle.seize_machine.specs.declared.machine.event.Answer.TheVariants.{Head as HeadRead}
 use Rattle.seize_machine.proofs.Facts.{Step, Stands, some_is, step_of}
@@ -144,7 +144,7 @@ none_read key at end pass round knows there book is =
     }
 
 -- a slot with a call is there
-pub within : (st : State) (s : ℕ) (call : Call) → (slot_at st s).call ≡ Some call → s < length st.slots
+pub within : (st : State) (s : ℕ) (call : Progress) → (slot_at st s).call ≡ Some call → s < length st.slots
 within st s call is = go (cases_lt s (length st.slots))
   where
     go : (s < length st.slots) ⊎ (length st.slots ≤ s) → s < length st.slots
@@ -152,7 +152,7 @@ within st s call is = go (cases_lt s (length st.slots))
     go (inr past) = absurd (let none : Option.None ≡ Some call = sym (ap (λ (z : Slot). z.call) (get_or_past st.slots s no_slot past)) ∙ is in cc)
 
 -- where a call goes on that marks
-abbrev goes : Bool → ℕ → List ℕ → Call → Call
+abbrev goes : Bool → ℕ → List ℕ → Progress → Progress
 goes active n batch call = record { place = on call.place; queue = call.queue }
   where
     on : Place → Place
@@ -165,14 +165,14 @@ after_read : (size : ℕ) (st : State) (s n : ℕ) (d : State × Answer) (next n
     × (d.0.heads ≡ st.heads) × (d.1 ≡ HeadRead (is_active (head_at st n)))
 after_read size st _ _ _ next note marks queue (Step.marked s n _ _ _ _ e r at) is =
     let same = get_or-set_same st.slots s _ no_slot (within st s _ is) in (
-      ap (λ (z : Slot). z.call) same ∙ ap (λ (c : Call). Some (goes (is_active (head_at st n)) n (slot_at st s).batch c)) (some_is _ _ (sym e ∙ is)),
+      ap (λ (z : Slot). z.call) same ∙ ap (λ (c : Progress). Some (goes (is_active (head_at st n)) n (slot_at st s).batch c)) (some_is _ _ (sym e ∙ is)),
       ap (λ (z : Slot). z.batch) same,
       ap (λ (z : Slot). z.used) same,
       refl,
       refl,
     )
 after_read size st _ _ _ next note marks queue (Step.looked_at s b won m later others e) is =
-    absurd (let other : Look b won m later ≡ Mark next note marks = ap (λ (c : Call). c.place) (some_is _ _ (sym e ∙ is)) in cc)
+    absurd (let other : Look b won m later ≡ Mark next note marks = ap (λ (c : Progress). c.place) (some_is _ _ (sym e ∙ is)) in cc)
 
 -- a head is inactive where its word is 0
 pub word_none : (block : ℕ → ℕ) (h : Head) → word_of block h ≡ 0 → is_active h ≡ false
@@ -195,11 +195,11 @@ module _ {key0 : SlotKey} {at : BeginsToMark key0} {end : ℕ} {pass0 : Pass} {h
 
   pub reads_next : MayRead key head pass
   reads_next = (
-    ap (λ (o : Option Call). unwrap_or (of_call (reads_at (slot head)) o) false) r.stands ∙ ap (in_turn i at.note) head_is.1 ∙ in_turn_now i at.note,
+    ap (λ (o : Option Progress). unwrap_or (of_call (reads_at (slot head)) o) false) r.stands ∙ ap (is_due i at.note) head_is.1 ∙ in_turn_now i at.note,
     subst (λ (n : Name). slot head < length (after (start n) pass.seen).slots) (sym is_head) (subst (λ (m : ℕ). m < slots_seen pass) (sym head_is.1) (omega (arith, less, r.there))),
   )
     where
-      in_turn_now : (i note : ℕ) → in_turn i note i ≡ true
+      in_turn_now : (i note : ℕ) → is_due i note i ≡ true
       in_turn_now i note = grind arith
 
   module _ {key' : SlotKey} {pass' : Pass} {v : ℕ} (noted : AddsEvent key pass key' pass' (ReadHead (slot_number key) (slot head))) (shows : ShowsHead head pass'.seen v) where
@@ -296,7 +296,7 @@ module _ {key0 : SlotKey} {at : BeginsToMark key0} {end : ℕ} {pass0 : Pass} {h
     is_on : v ≢ 0 → is_active (head_at st (slot head)) ≡ true
     is_on some = word_some block (head_at st (slot head)) (λ e. some (word ∙ e))
 
-    abbrev after_test : Bool → Option Call
+    abbrev after_test : Bool → Option Progress
     after_test short = Some (record { place = if short then Mark (i + 1) at.note (actives 0 r.finds ++ i ∷ []) else Rest [] []; queue = at.queue })
 
     one_on : actives 0 (r.finds ++ true ∷ []) ≡ actives 0 r.finds ++ i ∷ []
@@ -381,7 +381,7 @@ all_read {key0} {at} {i} {k} {round} r all le = record {
   made = r.made;
   batch = r.batch;
   stands = (
-    ap (λ (o : Option Call). unwrap_or (of_call can_detach_at o) false) r.stands ∙ is_le at.note i (omega (arith, all, le)),
+    ap (λ (o : Option Progress). unwrap_or (of_call can_detach_at o) false) r.stands ∙ is_le at.note i (omega (arith, all, le)),
     r.stands ∙ ap (λ (n : ℕ). Some (record { place = Mark n at.note (actives 0 r.finds); queue = at.queue })) (sym r.read),
     (let within = done_within (done_in round) (rest_in round) in omega (arith, within, many)),
     ap marked_slots (take_done (done_in round) (rest_in round) k many) ∙ r.slots,

@@ -1,7 +1,7 @@
 -- What stays over the parts of a call.
 use Rattle.std.proofs.Common.{◌≡◌, ℕ, ◌<◌, ◌≤◌, Bool, true, false, if◌then◌else◌, nat_le, List, [], ◌∷◌, ◌++◌, Option, Some, is_some, length, max, refl, sym, ap, subst, ◌∙◌, append-nil, inl, inr, ◌⊎◌, arith}
 use Rattle.std.proofs.lemmas.List.{length_push}
-use Rattle.seize_machine.specs.Machine.State.{Append, Call, Mark, Place, Rest}
+use Rattle.seize_machine.specs.Machine.State.{Append, Progress, Mark, Place, Rest}
 use Rattle.seize_machine.specs.Machine.Event.{Put}
 use Rattle.seize_machine.specs.Machine.Next.{of_call}
 use Rattle.seize_machine.proofs.Facts.{after_put}
@@ -74,9 +74,9 @@ may_put key v queue may = go may.0 may.1 may.2 may.3
   where
     go : (from : Place) (before : List ℕ) → (slot_of key).call ≡ Some (record { place = from; queue = before }) → ((from ≡ Append v) × (before ≡ values_of queue)) ⊎ ((from ≡ Rest [] []) × (before ≡ v ∷ values_of queue))
         → is_some (puts_next (slot_of key)) ≡ true
-    go from before is (inl turn) = ap (λ (o : Option Call). is_some (of_call next_at o)) (is ∙ ap (λ (p : Place). Some (record { place = p; queue = before })) turn.0)
+    go from before is (inl turn) = ap (λ (o : Option Progress). is_some (of_call next_at o)) (is ∙ ap (λ (p : Place). Some (record { place = p; queue = before })) turn.0)
     go from before is (inr turn) =
-        ap (λ (o : Option Call). is_some (of_call next_at o)) (is ∙ (λ i. Some (record { place = turn.0 i; queue = turn.1 i })))
+        ap (λ (o : Option Progress). is_some (of_call next_at o)) (is ∙ (λ i. Some (record { place = turn.0 i; queue = turn.1 i })))
 
 module _ (key key' : SlotKey) (pass pass' : Pass) (v : ℕ) (queue : ValueKeys) (may : MayPut key v queue) (notes : AddsEvent key pass key' pass' (Put (slot_number key))) where
   pub is_put : PutsValue key pass v key' pass'

@@ -3,7 +3,7 @@ use Rattle.std.proofs.Common.{◌≡◌, ℕ, suc, ◌+◌, ◌<◌, ℤ, List, 
 use Rattle.std.specs.List.{Contains}
 use Rattle.std.proofs.lemmas.List.{length_push, length-append}
 use base.Growing.{prefix_trans}
-use Rattle.seize_machine.specs.Machine.State.{Call, Rest}
+use Rattle.seize_machine.specs.Machine.State.{Progress, Rest}
 use Rattle.seize_machine.specs.Machine.Event.{Hand, SubCount}
 use Rattle.seize_machine.specs.Machine.Laws.{walk_of}
 use Rattle.seize_machine.specs.declared.machine.event.Answer.{Answer}
@@ -208,7 +208,7 @@ module _ {key0 : SlotKey} {word : ℕ} {at : IsAtWalk key0 word} {pass0 : Pass} 
               walking = handed.walks_on;
               leads = stop.leads
                   ∙ word_stays key1 key2 pass1 0 given_now.walk given_now.queue book knows handed.goes_on.0.on.its.0 handed.goes_on.0.on.its.1 handed.goes_on.1
-                  (λ b there. subst (λ (o : Option Call). Contains (walk_of o) b) (sym given_now.given_up) there);
+                  (λ b there. subst (λ (o : Option Progress). Contains (walk_of o) b) (sym given_now.given_up) there);
             };
             each =
                 let a = length-append r.walked (plain w.held ++ (stop.zero, vs) ∷ []) in let b = length_push (plain w.held) (stop.zero, vs) in let c = plain_many w.held in let d = stop.each in
@@ -222,7 +222,7 @@ module _ {key0 : SlotKey} {word : ℕ} {at : IsAtWalk key0 word} {pass0 : Pass} 
       -- there is less to walk
       pub shorter : length (walk_of (slot_of key2).call) < length (walk_of (slot_of key).call)
       shorter =
-          let new : length (walk_of (slot_of key2).call) ≡ length given_now.walk = ap (λ (o : Option Call). length (walk_of o)) handed.walks_on in
-          let old : length (walk_of (slot_of key).call) ≡ length r.here.walk = ap (λ (o : Option Call). length (walk_of o)) r.here.walking in
+          let new : length (walk_of (slot_of key2).call) ≡ length given_now.walk = ap (λ (o : Option Progress). length (walk_of o)) handed.walks_on in
+          let old : length (walk_of (slot_of key).call) ≡ length r.here.walk = ap (λ (o : Option Progress). length (walk_of o)) r.here.walking in
           let f = ap (λ (bs : List ℕ). length bs) stop.walked ∙ length-append stop.done given_now.walk in let d = stop.each in let e = length_push w.held stop.zero in
           omega (arith, new, old, f, d, e)

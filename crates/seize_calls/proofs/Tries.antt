@@ -1,6 +1,6 @@
 -- One try of an insertion: what is stored before it, and where the call stands after it.
 use Rattle.std.proofs.Common.{◌≡◌, ℕ, ◌+◌, Bool, true, false, if◌then◌else◌, List, [], ◌∷◌, ◌++◌, Option, Some, unwrap_or, refl, sym, ap, ◌∙◌}
-use Rattle.seize_machine.specs.Machine.State.{Call, Look, Place, Try}
+use Rattle.seize_machine.specs.Machine.State.{Progress, Look, Place, Try}
 use Rattle.seize_machine.specs.Machine.Event.{Event, Insert}
 use Rattle.seize_machine.specs.Machine.History.{first_or_none}
 use Rattle.seize_machine.specs.Machine.Next.{look, lost_on, won_on}
@@ -36,7 +36,7 @@ module _ (key : SlotKey) (pass : Pass) (head : Head) (header : Header) (seen blo
   abbrev m : ℕ
   m = slot head
 
-  abbrev call : Call
+  abbrev call : Progress
   call = record { place = Try t.batch t.won m t.later t.saw; queue = t.queue }
 
   stores : (which : ℕ → ℕ) (f : ℕ) → f ≡ which (home_of (plan_value m (plan_in key t.batch).slots (plan_in key t.batch).values)) → Stores which f key

@@ -1,6 +1,6 @@
 -- A turn of a call at one slot: it looks at the head, and tries to insert its batch there, until it wins or finds the slot inactive.
 use Rattle.std.proofs.Common.{◌≡◌, ◌≢◌, ℕ, zero, suc, ◌+◌, ◌<◌, Bool, true, false, if◌then◌else◌, List, [], ◌∷◌, ◌++◌, length, get_or, Option, Some, refl, sym, ap, subst, ◌∙◌, unwrap_or, append_assoc, append-nil, arith}
-use Rattle.seize_machine.specs.Machine.State.{Active, Call, Head as MachineHead, Inactive, Look, State, head_at, is_active, waiting_at}
+use Rattle.seize_machine.specs.Machine.State.{Active, Progress, Head as MachineHead, Inactive, Look, State, head_at, is_active, waiting_at}
 use Rattle.seize_machine.specs.Machine.Event.{Event, ReadHead}
 use Rattle.seize_machine.specs.Machine.Next.{look, looked, looked_on, of_call, scheme}
 use Rattle.seize_machine.specs.declared.machine.event.Answer.{Answer}
@@ -96,7 +96,7 @@ module _ {key0 : SlotKey} {pass0 : Pass} {head : Head} {header : Header} {block 
   abbrev m : ℕ
   m = slot head
 
-  abbrev call : Call
+  abbrev call : Progress
   call = record { place = Look at.batch at.won m at.later; queue = at.queue }
 
   is_head : head.word.name ≡ pass.name
@@ -107,7 +107,7 @@ module _ {key0 : SlotKey} {pass0 : Pass} {head : Head} {header : Header} {block 
 
   pub reads_again : MayRead key head pass
   reads_again = (
-    ap (λ (o : Option Call). unwrap_or (of_call (reads_at m) o) false) r.looking ∙ equal m m refl,
+    ap (λ (o : Option Progress). unwrap_or (of_call (reads_at m) o) false) r.looking ∙ equal m m refl,
     subst (λ (n : Name). m < length (after (start n) pass.seen).slots) (sym is_head) (let seen = here.seen in let grows = r.keeps.seen in omega (arith, seen, grows)),
   )
 

@@ -2,7 +2,7 @@
 use Rattle.std.proofs.Common.{◌≡◌, ◌≢◌, ℕ, suc, ◌+◌, ◌<◌, ℤ, Bool, true, false, if◌then◌else◌, List, [], ◌∷◌, ◌++◌, length, get_or, Option, Some, refl, sym, ap, ◌∙◌, append_assoc, append-nil, arith}
 use Rattle.std.proofs.lemmas.List.{get_or-set_same, length_push}
 use base.Growing.{prefix_trans}
-use Rattle.seize_machine.specs.Machine.State.{Call, Head, Inactive, Rest, Slot, State, is_active, no_slot, slot_at}
+use Rattle.seize_machine.specs.Machine.State.{Progress, Head, Inactive, Rest, Slot, State, is_active, no_slot, slot_at}
 use Rattle.seize_machine.specs.Machine.Event.{SubCount}
 use Rattle.seize_machine.specs.Machine.History.{first_or_none}
 use Rattle.seize_machine.specs.Machine.Laws.{walk_of}
@@ -113,17 +113,17 @@ module _ {key0 : SlotKey} {word : ℕ} {at : IsAtWalk key0 word} {pass0 : Pass} 
 
   -- where the walk stands, by what the call knows at a batch
   module _ (batch : IsAtBatch key leads) where
-    abbrev call : Call
+    abbrev call : Progress
     call = record { place = Rest [] r.left; queue = at.queue }
 
     same_call : record { place = Rest [] (batch.batch ∷ batch.walk); queue = batch.queue } ≡ call
     same_call = some_is _ _ (sym batch.walking ∙ r.walking)
 
     same_left : batch.batch ∷ batch.walk ≡ r.left
-    same_left = ap (λ (c : Call). walk_of (Some c)) same_call
+    same_left = ap (λ (c : Progress). walk_of (Some c)) same_call
 
     same_queue : batch.queue ≡ at.queue
-    same_queue = ap (λ (c : Call). c.queue) same_call
+    same_queue = ap (λ (c : Progress). c.queue) same_call
 
     module _ {key' : SlotKey} {pass' : Pass} {values' : ValueKeys} {rest : ℕ} {zero : Bool} (down : CountsDown batch pass key' values' pass' rest zero) where
       abbrev count : ℤ
@@ -206,6 +206,6 @@ module _ {key0 : SlotKey} {word : ℕ} {at : IsAtWalk key0 word} {pass0 : Pass} 
       pub less : zero ≡ false → length (walk_of (slot_of key').call) < length (walk_of (slot_of key).call)
       less off =
           let new : length (walk_of (slot_of key').call) ≡ length batch.walk =
-          ap (λ (o : Option Call). length (walk_of o)) (down.gives ∙ ap (λ (z : Bool). Some (record { place = Rest (if z then values_in key batch.batch else []) batch.walk; queue = batch.queue })) off) in
-          let old : length (walk_of (slot_of key).call) ≡ suc (length batch.walk) = ap (λ (o : Option Call). length (walk_of o)) batch.walking in
+          ap (λ (o : Option Progress). length (walk_of o)) (down.gives ∙ ap (λ (z : Bool). Some (record { place = Rest (if z then values_in key batch.batch else []) batch.walk; queue = batch.queue })) off) in
+          let old : length (walk_of (slot_of key).call) ≡ suc (length batch.walk) = ap (λ (o : Option Progress). length (walk_of o)) batch.walking in
           omega (arith, new, old)

@@ -4,7 +4,7 @@
 --     IsInUse slot, IsInactive slot, IsActive slot     its number is in use;  it is inactive, or active: as its key knows
 --     IsSlotOf words slot      it is a slot of these words, in use;  IsFreeSlotOf words slot     its number went back, and it is inactive.
 --                              Both are of the slot's value alone, so no event of others ends them
---     its_number slot, its_book slot, its_key slot, its_batch slot, its_seen slot     its number, its book, its key, the keys of its
+--     its_number slot, seen_book slot, its_key slot, its_batch slot, its_seen slot     its number, its book, its key, the keys of its
 --                              batch, and what its passes have seen
 --     IsItsHead slot head      it is the slot's own head
 --     KeepsCalls slot slot'    all these are the same
@@ -91,8 +91,8 @@ IsFreeSlotOf words slot = IsOfWords words slot × ((slot_of slot.holder.key).use
 abbrev pub its_number : {T : Type 0} → Slot T → ℕ
 its_number slot = slot.number
 
-abbrev pub its_book : {T : Type 0} → Slot T → Name
-its_book slot = slot.seen.name
+abbrev pub seen_book : {T : Type 0} → Slot T → Name
+seen_book slot = slot.seen.name
 
 abbrev pub its_key : {T : Type 0} → Slot T → SlotKey
 its_key slot = slot.holder.key

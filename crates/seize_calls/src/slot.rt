@@ -99,7 +99,7 @@ impl<T: Drop> Slot<T> {
     ghost use Rattle.seize_words.specs.Reserved.{HasNextSlot, IsSameNext};
     ghost use Rattle.seize_words.specs.Totals.{};
     ghost use Rattle.seize_words.specs.Chunks.{IsBlockIn};
-    ghost use Rattle.seize_calls.specs.Slots.{KeepsCalls, MakesOneSlot, Prepares, SetsUse, its_book, its_key, its_number, its_seen};
+    ghost use Rattle.seize_calls.specs.Slots.{KeepsCalls, MakesOneSlot, Prepares, SetsUse, seen_book, its_key, its_number, its_seen};
     ghost use Rattle.seize_calls.specs.Slots.{its_spots};
     ghost use Rattle.seize_calls.specs.Laying.{Lays};
     ghost use Rattle.seize_calls.specs.Calls.{HasBegun};
@@ -161,7 +161,7 @@ impl<T: Drop> Slot<T> {
 
     /// What its passes have seen, by which another pass learns that its activation began (`Pass::learn`).
     pub fn seen(&self) -> Seen
-        ensures { (result.name ≡ its_book self.now) × (result.seen ≡ its_seen self.now) }
+        ensures { (result.name ≡ seen_book self.now) × (result.seen ≡ its_seen self.now) }
     {
         self.seen.again()
     }
@@ -200,7 +200,7 @@ impl<T: Drop> Slot<T> {
 
     /// The pass learns what the slot has seen, such as that its activation began. No event is made with it.
     pub fn teach(&self, pass: &mut Pass)
-        requires { pass.old.name ≡ its_book self.now }
+        requires { pass.old.name ≡ seen_book self.now }
         ensures { Prepares self.now pass.old pass.new }
     {
         pass.learn(&self.seen);

@@ -11,7 +11,7 @@ use Rattle.std.specs.Prelude.{◌↔◌}
 use Rattle.std.specs.List.{Contains, slice_get, sum_by}
 use Rattle.seize_machine.specs.Machine.State.{State, Head, Mark, Look, Try, Add, Out, slot_at, head_at, link_at, batch_at, is_active, waiting_at, has, linked_values, are_distinct, opening, Place, Append, Rest}
 use Rattle.seize_machine.specs.Machine.Event.{Event, Put, SwapOut, event_slot}
-use Rattle.seize_machine.specs.Machine.Next.{next, set_slot, can_link, is_zero}
+use Rattle.seize_machine.specs.Machine.Next.{next, slot_set, can_link, is_zero}
 use Rattle.seize_machine.specs.Machine.History.{Timed, is_legal, Legal, IsReached, handed_value, is_link_event, history}
 use Rattle.seize_machine.specs.Machine.Laws.{HoldsOfAll, AtMostOnce, After, Quiet, Protection, places, Whereabouts, Gone, Holders, NoLaterHolders, UnderGuard, Tries, detached_by, Lists, Walks, IsHeld}
 use Rattle.seize_machine.specs.Machine.Frames.{changes_slot, used, changes_used, changes_head_of, changes_link, changes_batch, changes_value, slots_added, batches_added, begins_retiring}
@@ -58,7 +58,7 @@ next_of = exactness.next_of
 -- a put as it is computed
 pub step_put : (size : ℕ) (st : State) (s v : ℕ) (from : Place) (before after : List ℕ) → Stands st s from before
     → ((from ≡ Append v) × (before ≡ after)) ⊎ ((from ≡ Rest [] []) × (before ≡ v ∷ after))
-    → Step size st (Put s) (set_slot st s (record { used = (slot_at st s).used; batch = (slot_at st s).batch ++ v ∷ []; call = Some (record { place = after_put size (length st.slots) ((slot_at st s).batch ++ v ∷ []); queue = after }) }), Done)
+    → Step size st (Put s) (slot_set st s (record { used = (slot_at st s).used; batch = (slot_at st s).batch ++ v ∷ []; call = Some (record { place = after_put size (length st.slots) ((slot_at st s).batch ++ v ∷ []); queue = after }) }), Done)
 step_put = steps.step_put_from
 
 -- where a call of a slot is under way, its place tells the next event of that slot, links aside

@@ -4,7 +4,7 @@ use Rattle.std.specs.List.{list_all}
 use Rattle.std.proofs.lemmas.List.{get_or_default, take_more, map_push, map-append, append_cancel_left}
 use Rattle.std.proofs.lemmas.List.Sums.{position_or_len_is}
 use lib.Pointwise.{pointwise}
-use Rattle.seize_machine.specs.Machine.State.{State, Slot, Call, Place, Append, Mark, Look, Try, Add, Out, Rest, no_slot, slot_at}
+use Rattle.seize_machine.specs.Machine.State.{State, Slot, Progress, Place, Append, Mark, Look, Try, Add, Out, Rest, no_slot, slot_at}
 use Rattle.seize_machine.specs.Machine.Event.{Event}
 use Rattle.seize_machine.specs.Machine.Next.{same_list, first_free, next, of_call, walking_at}
 use Rattle.seize_machine.specs.Machine.History.{Timed, at_size, Moment, done_by, history, answers_of, end_of, is_legal}
@@ -44,7 +44,7 @@ sub_fits st s b slot fits slot_is e = go (slot_at st s).call (fits.fit s) (ap (�
     at (Add a won) queue f e = absurd (cc)
     at (Out stays) queue f e = absurd (cc)
 
-    go : (o : Option Call) → CallCountsFit st o → of_call walking_at o ≡ Some b → SubFits st b
+    go : (o : Option Progress) → CallCountsFit st o → of_call walking_at o ≡ Some b → SubFits st b
     go None f e = absurd (cc)
     go (Some call) f e = at call.place call.queue f.1 e
 

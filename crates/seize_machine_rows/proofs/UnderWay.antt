@@ -2,7 +2,7 @@
 use Rattle.std.proofs.Common.{◌≡◌, ◌≢◌, ℕ, ◌<◌, ◌≤◌, pos, ◌+ℤ◌, true, false, if◌then◌else◌, nat_lt, ◌+◌, ◌==◌, List, [], ◌∷◌, ◌++◌, length, Some, None, ◌⊎◌, inl, inr, refl, sym, ◌∙◌, arith}
 use Rattle.seize_machine.specs.Machine.State.{State, Active, Add, Append, Try, Out, slot_at, head_at, batch_at, link_at, is_active, is_idle, has, are_distinct}
 use Rattle.seize_machine.specs.Machine.Event.{Event, Begin, Put, Insert, AddCount, ExchangeLink, event_slot}
-use Rattle.seize_machine.specs.Machine.Next.{next, set_slot, can_link, is_none_or_fresh, new_link, is_stored}
+use Rattle.seize_machine.specs.Machine.Next.{next, slot_set, can_link, is_none_or_fresh, new_link, is_stored}
 use Rattle.seize_machine.specs.Machine.History.{is_link_event}
 use Rattle.seize_machine.specs.declared.machine.event.Answer.{Answer}
 use Rattle.seize_machine.specs.declared.machine.event.Answer.TheVariants.{Done, Count, Link}
@@ -31,7 +31,7 @@ leaves size st s idle active =
 puts : (size : ℕ) (st : State) (s v : ℕ) (queue : List ℕ) → Stands st s (Append v) queue → IsLegal size st (Put s) Done
 puts size st s v queue stands =
     let batch : List ℕ = (slot_at st s).batch ++ v ∷ [] in
-    let later : State = set_slot st s (record { used = (slot_at st s).used; batch = batch; call = Some (record { place = after_put size (length st.slots) batch; queue = queue }) }) in
+    let later : State = slot_set st s (record { used = (slot_at st s).used; batch = batch; call = Some (record { place = after_put size (length st.slots) batch; queue = queue }) }) in
     legal size st later (Put s) Done (step_put size st s v (Append v) queue queue stands (inl (refl, refl)))
 
 loses : (size : ℕ) (st : State) (s m b won : ℕ) (later saw queue : List ℕ) → StandsAt st s (Try b won m later saw) queue → head_at st m ≢ Active saw

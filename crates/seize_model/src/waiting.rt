@@ -2,7 +2,7 @@
 //! The contracts of `Alone` are by the same definitions.
 
 ghost use Rattle.std.specs.Prelude.{◌≡◌, ℕ, List, ◌∷◌, []};
-ghost use Rattle.seize_model.specs.Waiting.State.{new, slot_at};
+ghost use Rattle.seize_model.specs.Waiting.State.{new, model_slot};
 ghost use Rattle.seize_model.specs.Waiting.Further.{Lighter, AfterwardsLaws, DrainLaws};
 ghost use Rattle.seize_model.specs.Waiting.Laws.{FlushLaw, RetireLaw, BoundLaw};
 ghost use Rattle.seize_model.specs.Waiting.Lists.{AmpleLaw};
@@ -17,11 +17,11 @@ pub fn calls_in_turn()
     ensures reentrant { runs.tellings (new 5 0) runs.reentrant ≡ runs.reentrant_told }
     ensures refreshes { runs.tellings (new 5 0) runs.refreshes ≡ runs.refreshes_told }
     ensures enough { runs.tellings (new 1 0) runs.enough ≡ runs.enough_told }
-    ensures enough_before_third { (slot_at (runs.state_after (new 1 0) runs.enough_before_third) 0).batch ≡ (1, tt) ∷ (2, tt) ∷ [] }
+    ensures enough_before_third { (model_slot (runs.state_after (new 1 0) runs.enough_before_third) 0).batch ≡ (1, tt) ∷ (2, tt) ∷ [] }
     ensures nobody_active_at_size_0 { runs.tellings (new 0 0) runs.nobody_active ≡ runs.nobody_active_told }
     ensures nobody_active_at_size_1 { runs.tellings (new 1 0) runs.nobody_active ≡ runs.nobody_active_told }
     ensures further_values { runs.tellings (new 2 0) runs.further_values ≡ runs.further_values_told }
-    ensures further_in_batch { (slot_at (runs.state_after (new 2 0) runs.further_in_batch) 0).batch ≡ (15, tt) ∷ [] }
+    ensures further_in_batch { (model_slot (runs.state_after (new 2 0) runs.further_in_batch) 0).batch ≡ (15, tt) ∷ [] }
     ensures reclaims { runs.tellings (new 2 0) runs.reclaims ≡ runs.reclaims_told }
     ensures deep_reclaims { runs.tellings (new 8 0) runs.deep_reclaims ≡ runs.deep_reclaims_told }
     ensures many { runs.tellings (new 20 0) runs.many ≡ runs.many_told }

@@ -29,7 +29,7 @@ use Rattle.seize_calls.specs.Aparts.{without_puts}
 use Rattle.seize_calls.specs.Handing.{AreTheirs, Had, Handings, values_put}
 use Rattle.seize_calls.specs.Marks.{actives, readings}
 use Rattle.seize_calls.specs.Settling.{CallState, Drains, Settles, Stays}
-use Rattle.seize_calls.specs.Slots.{IsActive, IsInactive, IsOfWords, IsPassFor, Prepares, SlotEnters, SlotFlushes, SlotLeaves, SlotLooks, its_book, its_number}
+use Rattle.seize_calls.specs.Slots.{IsActive, IsInactive, IsOfWords, IsPassFor, Prepares, SlotEnters, SlotFlushes, SlotLeaves, SlotLooks, seen_book, its_number}
 use Rattle.seize_calls.specs.declared.slot.Slot.{Slot}
 use Rattle.seize_calls.specs.Walking.{handed_in}
 use Rattle.seize_alone.proofs.Segments.{drained}
@@ -187,7 +187,7 @@ module _ {T : Type 0} (slot : Slot T) (pass : Pass) (slot' : Slot T) (pass' : Pa
       ∙ ap values_of l.batch ∙ slot.together.batch_is.1 ∙ bare
 
 -- A slot that looked at the list, and that has no batch as its key knows, leaves nothing behind.
-pub cleared_by : {T : Type 0} (slot slot' : Slot T) (pass pass' : Pass) → SlotLooks slot pass slot' pass' → its_book slot ≡ pass.name → IsInactive slot → (slot_of slot.holder.key).batch ≡ [] → LeavesNothing pass' (its_number slot)
+pub cleared_by : {T : Type 0} (slot slot' : Slot T) (pass pass' : Pass) → SlotLooks slot pass slot' pass' → seen_book slot ≡ pass.name → IsInactive slot → (slot_of slot.holder.key).batch ≡ [] → LeavesNothing pass' (its_number slot)
 cleared_by slot slot' pass pass' looks book off none =
     let so = shown slot slot' pass pass' looks book in record {
       call = ap (λ (z : Record). is_some z.call) so.0 ∙ ap is_some so.2;

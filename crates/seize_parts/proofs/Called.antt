@@ -11,7 +11,7 @@ use Rattle.seize_book.specs.declared.book.pass.Pass.{Pass}
 use Rattle.seize_words.specs.Joined.{words_book}
 use Rattle.seize_words.specs.declared.words.Words.{Words}
 use Rattle.seize_calls.specs.Handing.{Had}
-use Rattle.seize_calls.specs.Slots.{CallsWith, IsOfWords, IsPassFor, its_book, its_number}
+use Rattle.seize_calls.specs.Slots.{CallsWith, IsOfWords, IsPassFor, seen_book, its_number}
 use Rattle.seize_calls.specs.declared.slot.Slot.{Slot}
 use Rattle.seize_alone.specs.Gone.{PutAs}
 use Rattle.seize_parts.specs.Places.{CallsSlot, IsOnly, IsUnmoved}
@@ -57,7 +57,7 @@ module _ {T Seen : Type 0} (code : T → Gv) (puts : ℕ → T → List T) (told
 
 pub only_there : {T : Type 0} (words : Words T) (s : ℕ) (pass : Pass) (r : Reservation T) → its_label r ≡ place_label (words_book words) s 1 → IsPassFor words pass → IsSole pass.id → IsOnly words r pass × (its_number r.slot ≡ s)
 only_there words s pass r at for sole =
-    let n = its_book r.slot in let m = words_book words in let t = its_number r.slot in ((label_family n m t s r.most 1 at, label_most n m t s r.most 1 at, for, sole), label_number n m t s r.most 1 at)
+    let n = seen_book r.slot in let m = words_book words in let t = its_number r.slot in ((label_family n m t s r.most 1 at, label_most n m t s r.most 1 at, for, sole), label_number n m t s r.most 1 at)
 
 -- and the unit of a place is of the slot that lies there
 pub unit_there : (n : Name) (s t : ℕ) (unit : Unit) → unit.seen.name ≡ n → unit.number ≡ s → t ≡ s → IsUnit n t unit.unit unit.seen

@@ -10,7 +10,7 @@ use Rattle.seize_model.specs.declared.kind.Kind.TheVariants.{Registered}
 use Rattle.seize_model.specs.Waiting.Attempt.{part}
 use Rattle.seize_model.specs.Waiting.Calls.{is_free, part_all, reclaim_all, with_number_free, without_batch}
 use Rattle.seize_model.specs.Waiting.Further.{further, gone_from}
-use Rattle.seize_model.specs.Waiting.State.{Slot, State, no_slot, set_slot, slot_at}
+use Rattle.seize_model.specs.Waiting.State.{ModelSlot, ModelState, unmade_slot, set_slot, model_slot}
 use Rattle.seize_model.proofs.WaitingSets.LinkCounts.{releases_beside}
 use Rattle.seize_book.specs.Book.{IsLegalList}
 use Rattle.seize_book.specs.Entry.{Entry}
@@ -33,10 +33,10 @@ use Rattle.seize_parts.proofs.Aparts.{told_both, told_had, waits_further}
 
 module _ {T Seen : Type 0} (c : Coded T) (puts : ℕ → T → List T) (weight : T → ℕ) (told : Seen → T → Seen) (places : List (Option (Place T))) (pass pass' : Pass) (seen seen' : Seen) (queue queue' : Further)
     (goes : Goes c.code puts told (MayGo pass places) (λ st. in_turn Registered st) pass pass' seen seen' queue queue') (empty : IsEmptyIn pass.name (further_in queue)) where
-  abbrev gone_of : State T ℕ → List (T × ℕ)
+  abbrev gone_of : ModelState T ℕ → List (T × ℕ)
   gone_of st = (in_turn Registered st).1
 
-  waits_of : (st : State T ℕ) (names : List (ℕ × T)) (kinds : List (ℕ × ℕ)) → MayGo pass places st → Holds c.code st names kinds pass.name pass.seen → AreWaiting c.code queue' (further puts (gone_of st))
+  waits_of : (st : ModelState T ℕ) (names : List (ℕ × T)) (kinds : List (ℕ × ℕ)) → MayGo pass places st → Holds c.code st names kinds pass.name pass.seen → AreWaiting c.code queue' (further puts (gone_of st))
   waits_of st names kinds may holds =
       waits_further c puts pass.name goes.had (gone_of st) queue queue' (goes.holds st names kinds may holds).1 goes.put goes.waits (ap (λ (held : List (HeldKey Entry)). labels_of held) empty.1) (ap (λ (held : List (HeldKey Entry)). kepts_in held) empty.1)
 
@@ -58,30 +58,30 @@ module _ {T Seen : Type 0} (c : Coded T) (puts : ℕ → T → List T) (weight :
 -- What the model's reclaim of all leaves.
 
 module _ {T : Type 0} (puts : ℕ → T → List T) (weight : T → ℕ) where
-  parts_size : (st : State T ℕ) (ss : List ℕ) → (part_all st ss).0.size ≡ st.size
+  parts_size : (st : ModelState T ℕ) (ss : List ℕ) → (part_all st ss).0.size ≡ st.size
   parts_size st [] = refl
-  parts_size st (s ∷ ss) = parts_size (with_number_free (part st s).0 s) ss ∙ releases_beside (λ (k : State T ℕ). k.size) (λ k retired. refl) (set_slot st s (record (slot_at st s) { order = [] })) (slot_at st s).order
+  parts_size st (s ∷ ss) = parts_size (with_number_free (part st s).0 s) ss ∙ releases_beside (λ (k : ModelState T ℕ). k.size) (λ k retired. refl) (set_slot st s (record (model_slot st s) { order = [] })) (model_slot st s).order
 
-  parts_links : (st : State T ℕ) (ss : List ℕ) → (part_all st ss).0.links ≡ st.links
+  parts_links : (st : ModelState T ℕ) (ss : List ℕ) → (part_all st ss).0.links ≡ st.links
   parts_links st [] = refl
-  parts_links st (s ∷ ss) = parts_links (with_number_free (part st s).0 s) ss ∙ releases_beside (λ (k : State T ℕ). k.links) (λ k retired. refl) (set_slot st s (record (slot_at st s) { order = [] })) (slot_at st s).order
+  parts_links st (s ∷ ss) = parts_links (with_number_free (part st s).0 s) ss ∙ releases_beside (λ (k : ModelState T ℕ). k.links) (λ k retired. refl) (set_slot st s (record (model_slot st s) { order = [] })) (model_slot st s).order
 
-  pub all_size : (st : State T ℕ) → (reclaim_all puts weight st).0.size ≡ st.size
+  pub all_size : (st : ModelState T ℕ) → (reclaim_all puts weight st).0.size ≡ st.size
   all_size st = parts_size st (range_with_len 0 (length st.slots))
 
-  pub all_links : (st : State T ℕ) → (reclaim_all puts weight st).0.links ≡ st.links
+  pub all_links : (st : ModelState T ℕ) → (reclaim_all puts weight st).0.links ≡ st.links
   all_links st = parts_links st (range_with_len 0 (length st.slots))
 
-  slots_then : (st : State T ℕ) → (reclaim_all puts weight st).0.slots ≡ map without_batch (map freed st.slots)
-  slots_then st = ap (λ (slots : List (Slot T ℕ)). map without_batch slots) (parted_all st)
+  slots_then : (st : ModelState T ℕ) → (reclaim_all puts weight st).0.slots ≡ map without_batch (map freed st.slots)
+  slots_then st = ap (λ (slots : List (ModelSlot T ℕ)). map without_batch slots) (parted_all st)
 
-  pub all_many : (st : State T ℕ) → length (reclaim_all puts weight st).0.slots ≡ length st.slots
-  all_many st = ap (λ (slots : List (Slot T ℕ)). length slots) (slots_then st) ∙ length-map (map freed st.slots) without_batch ∙ length-map st.slots freed
+  pub all_many : (st : ModelState T ℕ) → length (reclaim_all puts weight st).0.slots ≡ length st.slots
+  all_many st = ap (λ (slots : List (ModelSlot T ℕ)). length slots) (slots_then st) ∙ length-map (map freed st.slots) without_batch ∙ length-map st.slots freed
 
-  each_free : (slots : List (Slot T ℕ)) (s : ℕ) → is_free (get_or (map without_batch (map freed slots)) s no_slot).kind ≡ true
+  each_free : (slots : List (ModelSlot T ℕ)) (s : ℕ) → is_free (get_or (map without_batch (map freed slots)) s unmade_slot).kind ≡ true
   each_free [] s = refl
   each_free (x ∷ slots) zero = refl
   each_free (x ∷ slots) (suc s) = each_free slots s
 
-  pub all_free : (st : State T ℕ) (s : ℕ) → is_free (slot_at (reclaim_all puts weight st).0 s).kind ≡ true
-  all_free st s = ap (λ (slots : List (Slot T ℕ)). is_free (get_or slots s no_slot).kind) (slots_then st) ∙ each_free st.slots s
+  pub all_free : (st : ModelState T ℕ) (s : ℕ) → is_free (model_slot (reclaim_all puts weight st).0 s).kind ≡ true
+  all_free st s = ap (λ (slots : List (ModelSlot T ℕ)). is_free (get_or slots s unmade_slot).kind) (slots_then st) ∙ each_free st.slots s

@@ -6,7 +6,7 @@ use base.Stored.{Gv}
 use Rattle.seize_machine.specs.Machine.State.{are_distinct, linked_values}
 use Rattle.seize_model.specs.declared.kind.Kind.{Kind}
 use Rattle.seize_model.specs.Waiting.Attempt.{StateAndGone, with_gone}
-use Rattle.seize_model.specs.Waiting.State.{State}
+use Rattle.seize_model.specs.Waiting.State.{ModelState}
 use Rattle.seize_book.specs.Kept.{kepts_of}
 use Rattle.seize_book.specs.Passes.{IsSamePass}
 use Rattle.seize_book.specs.Tokens.{Name}
@@ -58,7 +58,7 @@ waits_as n m had p q same is = subst (λ (x : Name). WaitsBehind x had p q) (sym
 
 module _ {T Seen : Type 0} (code : T → Gv) (puts : ℕ → T → List T) (told : Seen → T → Seen) where
   -- nothing is done
-  pub goes_none : (May : State T ℕ → Type 0) (pass : Pass) (seen : Seen) (queue : Further) → IsServed (further_in queue) pass.name → Goes code puts told May (λ st. (st, [])) pass pass seen seen queue queue
+  pub goes_none : (May : ModelState T ℕ → Type 0) (pass : Pass) (seen : Seen) (queue : Further) → IsServed (further_in queue) pass.name → Goes code puts told May (λ st. (st, [])) pass pass seen seen queue queue
   goes_none May pass seen queue served = record {
     same = (refl, refl, refl);
     had = [];
@@ -69,7 +69,7 @@ module _ {T Seen : Type 0} (code : T → Gv) (puts : ℕ → T → List T) (told
   }
 
   -- it is said of another state, and the outcome is the same
-  pub goes_as : {May May' : State T ℕ → Type 0} {does does' : State T ℕ → StateAndGone T ℕ} {p q : Pass} {seen seen' : Seen} {queue queue' : Further} → ((st : State T ℕ) → May' st → May st) → ((st : State T ℕ) → May' st → does st ≡ does' st)
+  pub goes_as : {May May' : ModelState T ℕ → Type 0} {does does' : ModelState T ℕ → StateAndGone T ℕ} {p q : Pass} {seen seen' : Seen} {queue queue' : Further} → ((st : ModelState T ℕ) → May' st → May st) → ((st : ModelState T ℕ) → May' st → does st ≡ does' st)
       → Goes code puts told May does p q seen seen' queue queue' → Goes code puts told May' does' p q seen seen' queue queue'
   goes_as {q = q} less same one = record {
     same = one.same;
@@ -81,9 +81,9 @@ module _ {T Seen : Type 0} (code : T → Gv) (puts : ℕ → T → List T) (told
   }
 
   -- one part, and then another
-  pub goes_then : {May May' : State T ℕ → Type 0} {does does' : State T ℕ → StateAndGone T ℕ} {p q r : Pass} {seen seen' seen'' : Seen} {queue queue' queue'' : Further}
+  pub goes_then : {May May' : ModelState T ℕ → Type 0} {does does' : ModelState T ℕ → StateAndGone T ℕ} {p q r : Pass} {seen seen' seen'' : Seen} {queue queue' queue'' : Further}
       → (one : Goes code puts told May does p q seen seen' queue queue') → Goes code puts told May' does' q r seen' seen'' queue' queue''
-      → ((st : State T ℕ) (names : List (ℕ × T)) (kinds : List (ℕ × ℕ)) → May st → Holds code st names kinds p.name p.seen → HoldsThen code (does st) one.had q → May' (does st).0)
+      → ((st : ModelState T ℕ) (names : List (ℕ × T)) (kinds : List (ℕ × ℕ)) → May st → Holds code st names kinds p.name p.seen → HoldsThen code (does st) one.had q → May' (does st).0)
       → Goes code puts told May (λ st. let o = does st in with_gone o.1 (does' o.0)) p r seen seen'' queue queue''
   goes_then {does = does} {does'} {p} {q} {r} {seen} {seen'} {seen''} {queue} {queue'} {queue''} one two may_then = record {
     same = same_twice p q r one.same two.same;
@@ -97,7 +97,7 @@ module _ {T Seen : Type 0} (code : T → Gv) (puts : ℕ → T → List T) (told
   }
 
 -- the same pass fits a state of the same size
-pub fits_then : {T : Type 0} (p q : Pass) (st now : State T ℕ) → IsSamePass p q → now.size ≡ st.size → Fits p st → Fits q now
+pub fits_then : {T : Type 0} (p q : Pass) (st now : ModelState T ℕ) → IsSamePass p q → now.size ≡ st.size → Fits p st → Fits q now
 fits_then p q st now same size fits = (size ∙ fits.0 ∙ sym same.2, ap (λ (n : Name). are_distinct (linked_values n.links)) same.0 ∙ fits.1)
 
 -- Ranges of numbers.
@@ -123,14 +123,14 @@ module _ {T R : Type 0} where
   with_gone_twice : (a b : List (T × R)) (o : StateAndGone T R) → with_gone a (with_gone b o) ≡ with_gone (a ++ b) o
   with_gone_twice a b o = λ j. (o.0, sym (append_assoc a b o.1) j)
 
-  pub parts_append : (st : State T R) (ss ts : List ℕ) → parts_in_turn st (ss ++ ts) ≡ with_gone (parts_in_turn st ss).1 (parts_in_turn (parts_in_turn st ss).0 ts)
+  pub parts_append : (st : ModelState T R) (ss ts : List ℕ) → parts_in_turn st (ss ++ ts) ≡ with_gone (parts_in_turn st ss).1 (parts_in_turn (parts_in_turn st ss).0 ts)
   parts_append st [] ts = refl
   parts_append st (s ∷ ss) ts =
       let o = part_in_turn st s in
       ap (λ (x : StateAndGone T R). with_gone o.1 x) (parts_append o.0 ss ts)
       ∙ with_gone_twice o.1 (parts_in_turn o.0 ss).1 (parts_in_turn (parts_in_turn o.0 ss).0 ts)
 
-  pub batches_append : (kind : Kind) (st : State T R) (ss ts : List ℕ) → batches_in_turn kind st (ss ++ ts) ≡ with_gone (batches_in_turn kind st ss).1 (batches_in_turn kind (batches_in_turn kind st ss).0 ts)
+  pub batches_append : (kind : Kind) (st : ModelState T R) (ss ts : List ℕ) → batches_in_turn kind st (ss ++ ts) ≡ with_gone (batches_in_turn kind st ss).1 (batches_in_turn kind (batches_in_turn kind st ss).0 ts)
   batches_append kind st [] ts = refl
   batches_append kind st (s ∷ ss) ts =
       let o = batch_in_turn kind st s in
@@ -141,7 +141,7 @@ module _ {T R : Type 0} where
   with_none o = λ j. (o.0, append-nil o.1 j)
 
   -- one more, the last one
-  pub part_more : (st : State T R) (n : ℕ) → parts_in_turn st (range_with_len 0 (n + 1)) ≡ with_gone (parts_in_turn st (range_with_len 0 n)).1 (part_in_turn (parts_in_turn st (range_with_len 0 n)).0 n)
+  pub part_more : (st : ModelState T R) (n : ℕ) → parts_in_turn st (range_with_len 0 (n + 1)) ≡ with_gone (parts_in_turn st (range_with_len 0 n)).1 (part_in_turn (parts_in_turn st (range_with_len 0 n)).0 n)
   part_more st n =
       let first = parts_in_turn st (range_with_len 0 n) in let last = part_in_turn first.0 n in
       ap (parts_in_turn st) (range_append n 0 1 ∙ ap (λ (k : ℕ). range_with_len 0 n ++ range_with_len k 1) (zero_more n)) ∙ parts_append st (range_with_len 0 n) (n ∷ [])
@@ -150,7 +150,7 @@ module _ {T R : Type 0} where
       zero_more : (n : ℕ) → 0 + n ≡ n
       zero_more n = omega arith
 
-  pub batch_more : (kind : Kind) (st : State T R) (n : ℕ) → batches_in_turn kind st (range_with_len 0 (n + 1)) ≡ with_gone (batches_in_turn kind st (range_with_len 0 n)).1 (batch_in_turn kind (batches_in_turn kind st (range_with_len 0 n)).0 n)
+  pub batch_more : (kind : Kind) (st : ModelState T R) (n : ℕ) → batches_in_turn kind st (range_with_len 0 (n + 1)) ≡ with_gone (batches_in_turn kind st (range_with_len 0 n)).1 (batch_in_turn kind (batches_in_turn kind st (range_with_len 0 n)).0 n)
   batch_more kind st n =
       let first = batches_in_turn kind st (range_with_len 0 n) in let last = batch_in_turn kind first.0 n in
       ap (batches_in_turn kind st) (range_append n 0 1 ∙ ap (λ (k : ℕ). range_with_len 0 n ++ range_with_len k 1) (zero_more n)) ∙ batches_append kind st (range_with_len 0 n) (n ∷ [])

@@ -1,7 +1,7 @@
 -- Which reservation lies in the place of a registration or of a guard, and what its works tell of it.
 use Rattle.std.proofs.Common.{◌≡◌, ◌⊎◌, ◌<◌, ◌≤◌, ℕ, inl, inr, arith, sym, ◌∙◌}
 use Rattle.seize_book.specs.Tokens.{Name}
-use Rattle.seize_calls.specs.Slots.{its_book as slot_list, its_number}
+use Rattle.seize_calls.specs.Slots.{seen_book as slot_list, its_number}
 use Rattle.seize_words.specs.declared.reservation.Head.{Head}
 use Rattle.seize_calls.specs.Slots.{IsItsHead}
 use Rattle.seize_calls.specs.declared.slot.Slot.{Slot}

@@ -12,12 +12,12 @@ use Rattle.seize_calls.specs.Slots.{IsPassFor, IsSlotOf, SlotLooks, its_number}
 use Rattle.seize_calls.specs.declared.slot.Slot.{Slot}
 use Rattle.seize_calls.proofs.Current.{shown}
 use Rattle.seize_alone.specs.Begins.{IsUsedAs}
-use Rattle.seize_parts.specs.Kinds.{kind_of}
+use Rattle.seize_parts.specs.Kinds.{kind_if_owned}
 use Rattle.seize_book.specs.declared.book.seen.Seen.{Seen}
 use Rattle.seize_words.specs.Activations.{with_units}
 use Rattle.seize_words.specs.declared.activation.Activation.{Activation}
 use mathlib.Core.List.{IsPrefix}
-use Rattle.seize_calls.specs.Slots.{its_book}
+use Rattle.seize_calls.specs.Slots.{seen_book}
 use Rattle.seize_parts.specs.Placing.{unit_in}
 use Rattle.seize_parts.specs.Reservations.{IsReservation, IsUnit, IsUnitIn, place_label}
 use Rattle.seize_parts.specs.Shelves.{IsLaidFor}
@@ -29,20 +29,20 @@ use Rattle.seize_parts.specs.declared.reservation.Reservation.{Reservation}
 one_at_most : (most guards : ℕ) → (most == 1) ≡ true → guards ≤ most → guards ≤ 1
 one_at_most most guards one fits = grind arith
 
-in_use : (b : Bool) → true ≡ not (is_free (kind_of b))
+in_use : (b : Bool) → true ≡ not (is_free (kind_if_owned b))
 in_use true = refl
 in_use false = refl
 
-never_free : (b : Bool) (n : ℕ) → is_free (kind_of b) ≡ true → n ≡ 0
+never_free : (b : Bool) (n : ℕ) → is_free (kind_if_owned b) ≡ true → n ≡ 0
 never_free true n is = absurd (cc)
 never_free false n is = absurd (cc)
 
-owned_is : (b : Bool) → is_owned (kind_of b) ≡ true → b ≡ true
+owned_is : (b : Bool) → is_owned (kind_if_owned b) ≡ true → b ≡ true
 owned_is true is = refl
 owned_is false is = absurd (cc)
 
 module _ {T : Type 0} (words : Words T) (slot slot' : Slot T) (p p' : Pass) (for : IsPassFor words p) (of : IsSlotOf words slot) (of' : IsSlotOf words slot') (looks : SlotLooks slot p slot' p') where
-  pub used_left : (most guards : ℕ) → guards ≤ most → active_of slot'.holder.key ≡ not (guards == 0) → IsUsedAs (state_seen p') (its_number slot) (kind_of (most == 1), guards)
+  pub used_left : (most guards : ℕ) → guards ≤ most → active_of slot'.holder.key ≡ not (guards == 0) → IsUsedAs (state_seen p') (its_number slot) (kind_if_owned (most == 1), guards)
   used_left most guards fits active = let so = shown slot slot' p p' looks (of.0.book ∙ for.0) in record {
     used = ap (λ (r : machine.Slot). r.used) so.0 ∙ of'.1 ∙ in_use (most == 1);
     idle = ap (λ (r : machine.Slot). r.call) so.0 ∙ so.2;
@@ -90,5 +90,5 @@ held_none s n guards some = grind arith
 pub unit_held : (held : Held) (n : Name) (s : ℕ) → held.number ≡ s → held.seen.name ≡ n → IsUnitIn held.seen.name held.number held.unit held.seen → IsPrefix held.unit.since held.seen.seen → IsUnit n s held.unit held.seen
 unit_held held n s number name its known = subst (λ (t : Name × ℕ). IsUnit t.0 t.1 held.unit held.seen) (λ j. (name j, number j)) (its, known)
 
-pub laid_with : {T : Type 0} (f most : ℕ) (r : Reservation T) → IsReservation r → (its_book r.slot).family ≡ f → r.guards ≤ most → IsLaidFor f (record r { most = most })
+pub laid_with : {T : Type 0} (f most : ℕ) (r : Reservation T) → IsReservation r → (seen_book r.slot).family ≡ f → r.guards ≤ most → IsLaidFor f (record r { most = most })
 laid_with f most r is family fits = (record { its = is.its; in_use = is.in_use; at = is.at; units = is.units; fits = fits }, family)

@@ -9,7 +9,7 @@ use Rattle.seize_model.specs.declared.kind.Kind.{Kind}
 use Rattle.seize_model.specs.declared.kind.Kind.TheVariants.{Registered}
 use Rattle.seize_model.specs.Waiting.Attempt.{StateAndGone, attempt}
 use Rattle.seize_model.specs.Waiting.Calls.{is_free, least_unused, one_guard_less, set_guards, with_number_free, with_number_in_use}
-use Rattle.seize_model.specs.Waiting.State.{Slot as WaitingSlot, State, has_guard, no_slot, slot_at}
+use Rattle.seize_model.specs.Waiting.State.{ModelSlot as WaitingSlot, ModelState, has_guard, unmade_slot, model_slot}
 use Rattle.seize_model.proofs.Cases.{either}
 use Rattle.seize_book.specs.Book.{IsLegalList}
 use Rattle.seize_book.specs.Passes.{IsSamePass}
@@ -46,17 +46,17 @@ use Rattle.seize_parts.proofs.Placed.{still_for}
 
 -- Sizes.
 
-pub less_size : {T : Type 0} (st : State T ℕ) (s : ℕ) → (one_guard_less st s).0.size ≡ st.size
+pub less_size : {T : Type 0} (st : ModelState T ℕ) (s : ℕ) → (one_guard_less st s).0.size ≡ st.size
 less_size {T} st s = ap (λ (o : StateAndGone T ℕ). o.0.size) (sym (nothing_further (λ (x : T). 1) s (one_guard_less st s))) ∙ parts_size nothing (λ (x : T). 1) st s
 
-pub use_size : {T R : Type 0} (st : State T R) (n : ℕ) (kind : Kind) (guards : ℕ) → (with_number_in_use st n kind guards).size ≡ st.size
-use_size {T} {R} st n kind guards = either (λ (now : State T R). now.size ≡ st.size) (n == length st.slots) _ _ refl refl
+pub use_size : {T R : Type 0} (st : ModelState T R) (n : ℕ) (kind : Kind) (guards : ℕ) → (with_number_in_use st n kind guards).size ≡ st.size
+use_size {T} {R} st n kind guards = either (λ (now : ModelState T R). now.size ≡ st.size) (n == length st.slots) _ _ refl refl
 
-pub batch_size : {T : Type 0} (kind : Kind) (st : State T ℕ) (n : ℕ) → (batch_in_turn kind st n).0.size ≡ st.size
+pub batch_size : {T : Type 0} (kind : Kind) (st : ModelState T ℕ) (n : ℕ) → (batch_in_turn kind st n).0.size ≡ st.size
 batch_size kind st n =
     let entered = set_guards (with_number_in_use st n kind 0) n 1 in less_size (attempt entered n).0 n ∙ attempt_size entered n ∙ use_size st n kind 0
 
-pub batches_size : {T : Type 0} (kind : Kind) (st : State T ℕ) (ss : List ℕ) → (batches_in_turn kind st ss).0.size ≡ st.size
+pub batches_size : {T : Type 0} (kind : Kind) (st : ModelState T ℕ) (ss : List ℕ) → (batches_in_turn kind st ss).0.size ≡ st.size
 batches_size kind st [] = refl
 batches_size kind st (s ∷ ss) = batches_size kind (batch_in_turn kind st s).0 ss ∙ batch_size kind st s
 
@@ -64,7 +64,7 @@ batches_size kind st (s ∷ ss) = batches_size kind (batch_in_turn kind st s).0 
 
 module _ {T : Type 0} (c : Coded T) (words : Words T) (n : ℕ) where
   -- what is known of a call of the slot
-  pub record Calls (slot slot' : Slot T) (pass pass' : Pass) (st : State T ℕ) (names : List (ℕ × T)) (kinds : List (ℕ × ℕ)) : Type 0 where
+  pub record Calls (slot slot' : Slot T) (pass pass' : Pass) (st : ModelState T ℕ) (names : List (ℕ × T)) (kinds : List (ℕ × ℕ)) : Type 0 where
     pub at : its_number slot ≡ n
     pub sole : IsSole pass.id
     pub for : IsPassFor words pass
@@ -73,7 +73,7 @@ module _ {T : Type 0} (c : Coded T) (words : Words T) (n : ℕ) where
     pub size : st.size ≡ pass.size
     pub holds : Holds c.code st names kinds pass.name pass.seen
 
-  alone_so : {slot slot' : Slot T} {pass pass' : Pass} {st : State T ℕ} {names : List (ℕ × T)} {kinds : List (ℕ × ℕ)} → Calls slot slot' pass pass' st names kinds → (had : Had) → PutAs c.code nothing had → pass'.name ≡ pass.name → IsLegalList (start pass'.name) pass'.seen
+  alone_so : {slot slot' : Slot T} {pass pass' : Pass} {st : ModelState T ℕ} {names : List (ℕ × T)} {kinds : List (ℕ × ℕ)} → Calls slot slot' pass pass' st names kinds → (had : Had) → PutAs c.code nothing had → pass'.name ≡ pass.name → IsLegalList (start pass'.name) pass'.seen
       → CallsAlone c nothing st names kinds pass pass' had
   alone_so k had put same legal = record { sole = k.sole; legal = legal; distinct = ap (λ (m : Name). are_distinct (linked_values m.links)) same ∙ k.distinct; size = k.size; holds = k.holds; put = put }
 
@@ -92,37 +92,37 @@ module _ {T : Type 0} (c : Coded T) (words : Words T) (n : ℕ) where
   pub give_same : {slot slot' : Slot T} {pass pass' : Pass} → SlotGives slot pass slot' pass' → IsSamePass pass pass'
   give_same {pass = pass} {pass'} e = same_twice pass e.0.ready pass' e.0.prepares.same e.0.does.0
 
-  pub flush_step : {slot slot' : Slot T} {pass pass' : Pass} {st : State T ℕ} {names : List (ℕ × T)} {kinds : List (ℕ × ℕ)} → Calls slot slot' pass pass' st names kinds → (had : Had) → PutAs c.code nothing had → (retired : Bool) → SlotFlushes slot pass [] slot' pass' had retired
-      → is_free (slot_at st n).kind ≡ false → has_guard (slot_at st n) ≡ true → HoldsThen c.code (attempt st n) had pass'
+  pub flush_step : {slot slot' : Slot T} {pass pass' : Pass} {st : ModelState T ℕ} {names : List (ℕ × T)} {kinds : List (ℕ × ℕ)} → Calls slot slot' pass pass' st names kinds → (had : Had) → PutAs c.code nothing had → (retired : Bool) → SlotFlushes slot pass [] slot' pass' had retired
+      → is_free (model_slot st n).kind ≡ false → has_guard (model_slot st n) ≡ true → HoldsThen c.code (attempt st n) had pass'
   flush_step {slot} {slot'} {pass} {pass'} {st} {names} {kinds} k had put retired e =
       let legal = legal_then words slot slot' pass pass' _ e k.of k.for e.does.rests.same in let a = alone_so k had put (flush_same e).0 legal in
-      subst (λ (m : ℕ). is_free (slot_at st m).kind ≡ false → has_guard (slot_at st m) ≡ true → HoldsThen c.code (attempt st m) had pass') (slot.together.numbered ∙ k.at)
+      subst (λ (m : ℕ). is_free (model_slot st m).kind ≡ false → has_guard (model_slot st m) ≡ true → HoldsThen c.code (attempt st m) had pass') (slot.together.numbered ∙ k.at)
       (λ used on.
       ap_then (nothing_flushed st _ (λ (x : T). 1) used on) (slot_flushes c st names kinds slot slot' pass pass' nothing (λ (x : T). 1) nothing_lighter had a retired e used on).1)
     where
       ap_then : {A : Type 0} {r s : A × StateAndGone T ℕ} → r ≡ s → HoldsThen c.code r.1 had pass' → HoldsThen c.code s.1 had pass'
       ap_then {A} e x = subst (λ (r : A × StateAndGone T ℕ). HoldsThen c.code r.1 had pass') e x
 
-  pub leave_step : {slot slot' : Slot T} {pass pass' : Pass} {st : State T ℕ} {names : List (ℕ × T)} {kinds : List (ℕ × ℕ)} → Calls slot slot' pass pass' st names kinds → (had : Had) → PutAs c.code nothing had → SlotLeaves slot pass [] slot' pass' had
-      → is_free (slot_at st n).kind ≡ false → (slot_at st n).guards ≡ 1
-      → HoldsThen c.code (one_guard_less st n) had pass' × (is_free (slot_at (one_guard_less st n).0 n).kind ≡ false) × (has_guard (slot_at (one_guard_less st n).0 n) ≡ false)
+  pub leave_step : {slot slot' : Slot T} {pass pass' : Pass} {st : ModelState T ℕ} {names : List (ℕ × T)} {kinds : List (ℕ × ℕ)} → Calls slot slot' pass pass' st names kinds → (had : Had) → PutAs c.code nothing had → SlotLeaves slot pass [] slot' pass' had
+      → is_free (model_slot st n).kind ≡ false → (model_slot st n).guards ≡ 1
+      → HoldsThen c.code (one_guard_less st n) had pass' × (is_free (model_slot (one_guard_less st n).0 n).kind ≡ false) × (has_guard (model_slot (one_guard_less st n).0 n) ≡ false)
   leave_step {slot} {slot'} {pass} {pass'} {st} {names} {kinds} k had put e =
       let legal = legal_then words slot slot' pass pass' _ e k.of k.for e.does.rests.same in let a = alone_so k had put (leave_same e).0 legal in
-      subst (λ (m : ℕ). is_free (slot_at st m).kind ≡ false → (slot_at st m).guards ≡ 1 → Left (one_guard_less st m) m) (slot.together.numbered ∙ k.at)
+      subst (λ (m : ℕ). is_free (model_slot st m).kind ≡ false → (model_slot st m).guards ≡ 1 → Left (one_guard_less st m) m) (slot.together.numbered ∙ k.at)
       (λ used one. let m = slot_number slot.holder.key in subst (λ (o : StateAndGone T ℕ). Left o m) (nothing_further (λ (x : T). 1) m (one_guard_less st m)) (slot_parts c st names kinds slot slot' pass pass' nothing (λ (x : T). 1) nothing_lighter had a e used one))
     where
       Left : StateAndGone T ℕ → ℕ → Type 0
-      Left o m = HoldsThen c.code o had pass' × (is_free (slot_at o.0 m).kind ≡ false) × (has_guard (slot_at o.0 m) ≡ false)
+      Left o m = HoldsThen c.code o had pass' × (is_free (model_slot o.0 m).kind ≡ false) × (has_guard (model_slot o.0 m) ≡ false)
 
-  module _ {slot slot' : Slot T} {pass pass' : Pass} {st : State T ℕ} {names : List (ℕ × T)} {kinds : List (ℕ × ℕ)} (at : its_number slot ≡ n) (sole : IsSole pass.id) (holds : Holds c.code st names kinds pass.name pass.seen) where
-    pub enter_step : (a : Activation) → SlotEnters slot pass a slot' pass' → is_free (slot_at st n).kind ≡ false → has_guard (slot_at st n) ≡ false → Holds c.code (set_guards st n 1) names kinds pass'.name pass'.seen
+  module _ {slot slot' : Slot T} {pass pass' : Pass} {st : ModelState T ℕ} {names : List (ℕ × T)} {kinds : List (ℕ × ℕ)} (at : its_number slot ≡ n) (sole : IsSole pass.id) (holds : Holds c.code st names kinds pass.name pass.seen) where
+    pub enter_step : (a : Activation) → SlotEnters slot pass a slot' pass' → is_free (model_slot st n).kind ≡ false → has_guard (model_slot st n) ≡ false → Holds c.code (set_guards st n 1) names kinds pass'.name pass'.seen
     enter_step a e =
-        subst (λ (m : ℕ). is_free (slot_at st m).kind ≡ false → has_guard (slot_at st m) ≡ false → Holds c.code (set_guards st m 1) names kinds pass'.name pass'.seen) at
+        subst (λ (m : ℕ). is_free (model_slot st m).kind ≡ false → has_guard (model_slot st m) ≡ false → Holds c.code (set_guards st m 1) names kinds pass'.name pass'.seen) at
         (λ used off. slot_enters c st names kinds slot slot' pass pass' sole holds a e used off)
 
-    pub give_step : SlotGives slot pass slot' pass' → is_free (slot_at st n).kind ≡ false → has_guard (slot_at st n) ≡ false → Holds c.code (with_number_free st n) names kinds pass'.name pass'.seen
+    pub give_step : SlotGives slot pass slot' pass' → is_free (model_slot st n).kind ≡ false → has_guard (model_slot st n) ≡ false → Holds c.code (with_number_free st n) names kinds pass'.name pass'.seen
     give_step e =
-        subst (λ (m : ℕ). is_free (slot_at st m).kind ≡ false → has_guard (slot_at st m) ≡ false → Holds c.code (with_number_free st m) names kinds pass'.name pass'.seen) at
+        subst (λ (m : ℕ). is_free (model_slot st m).kind ≡ false → has_guard (model_slot st m) ≡ false → Holds c.code (with_number_free st m) names kinds pass'.name pass'.seen) at
         (λ used off. slot_gives c st names kinds slot slot' pass pass' sole holds e used off)
 
     pub take_step : (kind : Kind) → SlotTakes slot pass slot' pass' → is_free kind ≡ false → (n ≡ least_unused st.slots) × Holds c.code (with_number_in_use st n kind 0) names kinds pass'.name pass'.seen
@@ -135,8 +135,8 @@ pub one_guard : (k : ℕ) → k ≡ 1 → not (k == 0) ≡ true
 one_guard k is = ap (λ (m : ℕ). not (m == 0)) is
 
 -- a slot without a guard that was given one
-pub guarded_slot : {T R : Type 0} (st : State T R) (n : ℕ) → n < length st.slots → slot_at (set_guards st n 1) n ≡ record (slot_at st n) { guards = 1 }
-guarded_slot st n there = get_or-set_same st.slots n (record (slot_at st n) { guards = 1 }) no_slot there
+pub guarded_slot : {T R : Type 0} (st : ModelState T R) (n : ℕ) → n < length st.slots → model_slot (set_guards st n 1) n ≡ record (model_slot st n) { guards = 1 }
+guarded_slot st n there = get_or-set_same st.slots n (record (model_slot st n) { guards = 1 }) unmade_slot there
 
 module _ {T Seen : Type 0} (c : Coded T) (puts : ℕ → T → List T) (told : Seen → T → Seen) (words : Words T) (n : ℕ) where
   module _ (slot0 slot1 slot2 slot3 slot4 : Slot T) (p0 p1 p2 p3 p4 p5 : Pass) (a : Activation) (retired : Bool) (had1 had2 : Had) (at : its_number slot0 ≡ n) (for : IsPassFor words p0) (sole : IsSole p0.id)
@@ -173,20 +173,20 @@ module _ {T Seen : Type 0} (c : Coded T) (puts : ℕ → T → List T) (told : S
     turn_number = leaves.same.0 ∙ at3
 
     module _ (put1 : PutAs c.code puts had1) (put2 : PutAs c.code puts had2) where
-      held : (st : State T ℕ) (names : List (ℕ × T)) (kinds : List (ℕ × ℕ)) → Fits p0 st → Holds c.code st names kinds p0.name p0.seen → HoldsThen c.code (batch_in_turn Registered st n) (had1 ++ had2) p5
+      held : (st : ModelState T ℕ) (names : List (ℕ × T)) (kinds : List (ℕ × ℕ)) → Fits p0 st → Holds c.code st names kinds p0.name p0.seen → HoldsThen c.code (batch_in_turn Registered st n) (had1 ++ had2) p5
       held st names kinds fits holds =
           let took = take_step c words n at sole holds Registered takes refl in
-          let st1 : State T ℕ = with_number_in_use st n Registered 0 in let own = taken_slot st n Registered took.0 in let used1 : is_free (slot_at st1 n).kind ≡ false = ap is_free own.0 in
-          let st2 : State T ℕ = set_guards st1 n 1 in
+          let st1 : ModelState T ℕ = with_number_in_use st n Registered 0 in let own = taken_slot st n Registered took.0 in let used1 : is_free (model_slot st1 n).kind ≡ false = ap is_free own.0 in
+          let st2 : ModelState T ℕ = set_guards st1 n 1 in
           let holds2 = ready_holds prepares (sole_then p1 same1) c st1 names kinds took.1 in
           let holds3 = enter_step c words n at1 (sole_then p2 same2) holds2 a enters used1 own.1 in
           let there = slot_there st1 n used1 in let slot = guarded_slot st1 n there in
-          let used2 : is_free (slot_at st2 n).kind ≡ false = ap (λ (x : WaitingSlot T ℕ). is_free x.kind) slot ∙ used1 in let one2 : (slot_at st2 n).guards ≡ 1 = ap (λ (x : WaitingSlot T ℕ). x.guards) slot in
+          let used2 : is_free (model_slot st2 n).kind ≡ false = ap (λ (x : WaitingSlot T ℕ). is_free x.kind) slot ∙ used1 in let one2 : (model_slot st2 n).guards ≡ 1 = ap (λ (x : WaitingSlot T ℕ). x.guards) slot in
           let size2 : st2.size ≡ p3.size = use_size st n Registered 0 ∙ fits.0 ∙ sym same3.2 in
           let flushed = flush_step c words n (record { at = at2; sole = sole_then p3 same3; for = still_for words p0 p3 for same3; of = of3; distinct = ap (λ (m : Name). are_distinct (linked_values m.links)) same3.0 ∙ fits.1; size = size2; holds = holds3 })
           (without_puts had1) (put_nothing c.code puts had1 put1) retired flushes used2 (one_guard _ one2) in
           let o : StateAndGone T ℕ = attempt st2 n in let outline = ap (λ (f : _). f.0) (attempt_frame st2 n) in
-          let used3 : is_free (slot_at o.0 n).kind ≡ false = ap is_free (kind_in o.0 st2 outline n) ∙ used2 in let one3 : (slot_at o.0 n).guards ≡ 1 = guards_in o.0 st2 outline n ∙ one2 in
+          let used3 : is_free (model_slot o.0 n).kind ≡ false = ap is_free (kind_in o.0 st2 outline n) ∙ used2 in let one3 : (model_slot o.0 n).guards ≡ 1 = guards_in o.0 st2 outline n ∙ one2 in
           let left = leave_step c words n (record { at = at3; sole = sole_then p4 same4; for = still_for words p0 p4 for same4; of = of4; distinct = ap (λ (m : Name). are_distinct (linked_values m.links)) same4.0 ∙ fits.1; size = attempt_size st2 n ∙ use_size st n Registered 0 ∙ fits.0 ∙ sym same4.2; holds = flushed.0.2 })
           (without_puts had2) (put_nothing c.code puts had2 put2) leaves used3 one3 in
           (left.0.0, had_append c.code had1 had2 o.1 (one_guard_less o.0 n).1 (had_with c.code had1 o.1 flushed.1) (had_with c.code had2 (one_guard_less o.0 n).1 left.0.1))

@@ -24,7 +24,7 @@ use Rattle.seize_machine.specs.declared.machine.event.Answer.{Answer}
 use Rattle.seize_machine.specs.Machine.State.{are_distinct, linked_values}
 use Rattle.seize_model.specs.Waiting.Attempt.{StateAndGone}
 use Rattle.seize_model.specs.Waiting.Calls.{is_free, reclaim_all}
-use Rattle.seize_model.specs.Waiting.State.{State, slot_at}
+use Rattle.seize_model.specs.Waiting.State.{ModelState, model_slot}
 use Rattle.seize_book.specs.Kept.{kepts_of}
 use Rattle.seize_book.specs.Passes.{IsSamePass}
 use Rattle.seize_book.specs.Tokens.{Name}
@@ -77,37 +77,37 @@ AreWaiting {T} code queue vs =
 abbrev pub MayDrain : {T : Type 0} → (T → Gv) → Name → Further → Type 0
 MayDrain {T} code n queue = IsServed (further_in queue) n × ((vs : List (T × ℕ)) × AreWaiting code queue vs)
 
-abbrev pub Fits : {T : Type 0} → Pass → State T ℕ → Type 0
+abbrev pub Fits : {T : Type 0} → Pass → ModelState T ℕ → Type 0
 Fits pass st = (st.size ≡ pass.size) × (are_distinct (linked_values pass.name.links) ≡ true)
 
-abbrev pub MayGo : {T : Type 0} → Pass → List (Option (Place T)) → State T ℕ → Type 0
+abbrev pub MayGo : {T : Type 0} → Pass → List (Option (Place T)) → ModelState T ℕ → Type 0
 MayGo pass places st = Fits pass st × ArePlaces pass.name st places
 
-abbrev pub IsIn : {T : Type 0} → Pass → ℕ → Place T → State T ℕ → Type 0
-IsIn pass s place st = Fits pass st × (is_free (slot_at st s).kind ≡ false) × LiesThen place (lying_in pass.name (slot_at st s) s)
+abbrev pub IsIn : {T : Type 0} → Pass → ℕ → Place T → ModelState T ℕ → Type 0
+IsIn pass s place st = Fits pass st × (is_free (model_slot st s).kind ≡ false) × LiesThen place (lying_in pass.name (model_slot st s) s)
 
-abbrev pub IsSomeHeld : {T : Type 0} → (T → Gv) → Pass → (State T ℕ → Type 0) → Type 0
+abbrev pub IsSomeHeld : {T : Type 0} → (T → Gv) → Pass → (ModelState T ℕ → Type 0) → Type 0
 IsSomeHeld {T} code pass May =
-    (st : State T ℕ) × (names : List (ℕ × T)) × (kinds : List (ℕ × ℕ)) × Holds code st names kinds pass.name pass.seen × May st
+    (st : ModelState T ℕ) × (names : List (ℕ × T)) × (kinds : List (ℕ × ℕ)) × Holds code st names kinds pass.name pass.seen × May st
 
 abbrev pub GivesBack : ℕ → Pass → Pass → Type 0
 GivesBack zero pass pass' = pass' ≡ pass
 GivesBack (suc k) pass pass' = (mid : Pass) × (answer : Answer) × MakesAlone pass mid (Give k) answer × GivesBack k mid pass'
 
-pub record Goes {T Seen : Type 0} (code : T → Gv) (puts : ℕ → T → List T) (told : Seen → T → Seen) (May : State T ℕ → Type 0)
-    (does : State T ℕ → StateAndGone T ℕ) (pass pass' : Pass) (seen seen' : Seen) (queue queue' : Further) : Type 0 where
+pub record Goes {T Seen : Type 0} (code : T → Gv) (puts : ℕ → T → List T) (told : Seen → T → Seen) (May : ModelState T ℕ → Type 0)
+    (does : ModelState T ℕ → StateAndGone T ℕ) (pass pass' : Pass) (seen seen' : Seen) (queue queue' : Further) : Type 0 where
   pub same : IsSamePass pass pass'
   pub had : Had
   pub put : PutAs code puts had
   pub tells : HasTold code told seen seen' had
   pub waits : WaitsBehind pass.name had queue queue'
-  pub holds : (st : State T ℕ) (names : List (ℕ × T)) (kinds : List (ℕ × ℕ)) → May st → Holds code st names kinds pass.name pass.seen
+  pub holds : (st : ModelState T ℕ) (names : List (ℕ × T)) (kinds : List (ℕ × ℕ)) → May st → Holds code st names kinds pass.name pass.seen
       → HoldsThen code (does st) had pass'
 
-abbrev pub GoesAll : {T Seen : Type 0} → (T → Gv) → (ℕ → T → List T) → (T → ℕ) → (Seen → T → Seen) → (State T ℕ → Type 0)
+abbrev pub GoesAll : {T Seen : Type 0} → (T → Gv) → (ℕ → T → List T) → (T → ℕ) → (Seen → T → Seen) → (ModelState T ℕ → Type 0)
     → Pass → Pass → Seen → Seen → Type 0
 GoesAll {T} code puts weight told May pass pass' seen seen' =
-    (st : State T ℕ) (names : List (ℕ × T)) (kinds : List (ℕ × ℕ)) → May st → Holds code st names kinds pass.name pass.seen
+    (st : ModelState T ℕ) (names : List (ℕ × T)) (kinds : List (ℕ × ℕ)) → May st → Holds code st names kinds pass.name pass.seen
     → let all = reclaim_all puts weight st in
     ((names' : List (ℕ × T)) × (kinds' : List (ℕ × ℕ)) × Holds code all.0 names' kinds' pass'.name pass'.seen)
     × (seen' ≡ told_of told seen all.1)

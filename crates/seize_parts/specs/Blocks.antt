@@ -1,5 +1,5 @@
 -- What contracts see of blocks in hand. `code` is the code of the collector's element type, by which a name says a value.
---     content owned             the value of a block in hand;  store_name owned     the store where it lies
+--     content owned             the value of a block in hand;  owned_store owned     the store where it lies
 --     content_of block          the value of the block, if there is one
 --     HoldsOnly owners store v  each block inside the value v lies in this store: one that `owners` (of `Puts`) names
 --     Belongs owners store owned     the block lies in this store, with each block inside it
@@ -23,17 +23,17 @@ abbrev pub content_of : {T : Type 0} → Option (Owned T) → Option T
 content_of (Some owned) = Some (content owned)
 content_of None = None
 
-abbrev pub store_name : {T : Type 0} → Owned T → List ℕ
-store_name owned = store.store_of owned.block
+abbrev pub owned_store : {T : Type 0} → Owned T → List ℕ
+owned_store owned = store.store_of owned.block
 
 abbrev pub HoldsOnly : {T : Type 0} → (T → List (List ℕ)) → List ℕ → T → Type 0
 HoldsOnly owners store value = All (λ owner. owner ≡ store) (owners value)
 
 abbrev pub Belongs : {T : Type 0} → (T → List (List ℕ)) → List ℕ → Owned T → Type 0
-Belongs owners store owned = (store_name owned ≡ store) × HoldsOnly owners store (content owned)
+Belongs owners store owned = (owned_store owned ≡ store) × HoldsOnly owners store (content owned)
 
 abbrev pub owners_in : {T : Type 0} → (T → List (List ℕ)) → List (Owned T) → List (List ℕ)
-owners_in owners blocks = flat_map (λ owned. store_name owned ∷ owners (content owned)) blocks
+owners_in owners blocks = flat_map (λ owned. owned_store owned ∷ owners (content owned)) blocks
 
 abbrev pub HasContent : {T : Type 0} → (T → Gv) → ℕ → T → Type 0
 HasContent code v value = IsLentAs v (code value)

@@ -20,7 +20,7 @@ use Rattle.seize_calls.specs.Handing.{Had}
 use Rattle.seize_calls.specs.Slots.{IsPassFor, its_number}
 use Rattle.seize_calls.specs.declared.slot.Slot.{Slot}
 use Rattle.seize_alone.specs.Gone.{PutAs}
-use Rattle.seize_parts.specs.Placing.{Lies, lies_in}
+use Rattle.seize_parts.specs.Placing.{Lies, what_lies_in}
 use Rattle.seize_parts.specs.Reservations.{IsReservation, IsReservationOf, IsUnit}
 use Rattle.seize_parts.specs.Told.{HasTold}
 use Rattle.seize_parts.specs.declared.alone.place.Place.{Place}
@@ -56,4 +56,4 @@ HasUnit words place =
     (unit : Held) × (place.unit ≡ Some unit) × IsUnit (words_book words) (its_number place.reservation.slot) unit.unit unit.seen
 
 abbrev pub LiesThen : {T : Type 0} → Place T → Lies → Type 0
-LiesThen place lies = (lies_in place ≡ lies) × IsReservation place.reservation
+LiesThen place lies = (what_lies_in place ≡ lies) × IsReservation place.reservation

@@ -2,7 +2,8 @@
 --     Lies              whether the slot is owned, how many guards it has, the label of its reservation, the number and the list of the
 --                       unit of its activation, and its shelf
 --     held_in place     the unit of the activation of the slot in this place, where one lies there
---     lies_in place     what lies in this place;  lies_with place guards unit     what lies there with so many guards and this unit
+--     what_lies_in place     what lies in this place
+--     what_lies_with place guards unit     what lies there with so many guards and this unit
 --     lying_in n slot s     what lies in the place of slot s of the list n, which is in use, where the state says this of it
 --     lies_for n slot s     so it is, or nothing lies there where the slot is free
 --     ArePlaces n st places     so it is with each of these places, and each reservation that lies there is one
@@ -15,10 +16,10 @@ use Rattle.seize_machine.specs.Machine.State as machine
 use Rattle.seize_model.specs.declared.kind.Kind.{Kind}
 use Rattle.seize_model.specs.declared.kind.Kind.TheVariants.{Free}
 use Rattle.seize_model.specs.Waiting.Calls.{is_free, is_owned}
-use Rattle.seize_model.specs.Waiting.State.{Slot, State, has_guard, slot_at}
+use Rattle.seize_model.specs.Waiting.State.{ModelSlot, ModelState, has_guard, model_slot}
 use Rattle.seize_book.specs.Tokens.{Name}
 use Rattle.seize_alone.specs.Begins.{IsUsedAs}
-use Rattle.seize_parts.specs.Kinds.{kind_of}
+use Rattle.seize_parts.specs.Kinds.{kind_if_owned}
 use Rattle.seize_parts.specs.Reservations.{IsReservation, its_label, place_label}
 use Rattle.seize_parts.specs.declared.alone.place.Place.{Place}
 use Rattle.seize_parts.specs.declared.alone.place.Unit.{Unit as Held}
@@ -33,28 +34,28 @@ abbrev pub held_in : {T : Type 0} → Option (Place T) → Option Held
 held_in (Some place) = place.unit
 held_in None = None
 
-abbrev pub lies_in : {T : Type 0} → Place T → Lies
-lies_in place = (place.owned, (place.guards, (its_label place.reservation, (option_map unit_in place.unit, place.shelf))))
+abbrev pub what_lies_in : {T : Type 0} → Place T → Lies
+what_lies_in place = (place.owned, (place.guards, (its_label place.reservation, (option_map unit_in place.unit, place.shelf))))
 
-abbrev pub lies_with : {T : Type 0} → Place T → ℕ → Option (ℕ × Name) → Lies
-lies_with place guards unit = (place.owned, (guards, (its_label place.reservation, (unit, place.shelf))))
+abbrev pub what_lies_with : {T : Type 0} → Place T → ℕ → Option (ℕ × Name) → Lies
+what_lies_with place guards unit = (place.owned, (guards, (its_label place.reservation, (unit, place.shelf))))
 
-abbrev pub lying_in : {T : Type 0} → Name → Slot T ℕ → ℕ → Lies
+abbrev pub lying_in : {T : Type 0} → Name → ModelSlot T ℕ → ℕ → Lies
 lying_in n slot s = (is_owned slot.kind, (slot.guards, (place_label n s 1, ((if has_guard slot then Some (s, n) else None), n.family))))
 
-abbrev pub lies_for : {T : Type 0} → Name → Slot T ℕ → ℕ → Option Lies
+abbrev pub lies_for : {T : Type 0} → Name → ModelSlot T ℕ → ℕ → Option Lies
 lies_for n slot s = if is_free slot.kind then None else Some (lying_in n slot s)
 
 abbrev pub AreSound : {T : Type 0} → List (Option (Place T)) → Type 0
 AreSound {T} places = (s : ℕ) (place : Place T) → get_or places s None ≡ Some place → IsReservation place.reservation
 
-pub record ArePlaces {T : Type 0} (n : Name) (st : State T ℕ) (places : List (Option (Place T))) : Type 0 where
-  pub lie : (s : ℕ) → option_map lies_in (get_or places s None) ≡ lies_for n (slot_at st s) s
+pub record ArePlaces {T : Type 0} (n : Name) (st : ModelState T ℕ) (places : List (Option (Place T))) : Type 0 where
+  pub lie : (s : ℕ) → option_map what_lies_in (get_or places s None) ≡ lies_for n (model_slot st s) s
   pub sound : AreSound places
 
 abbrev pub use_in : {T : Type 0} → Option (Place T) → Kind × ℕ
 use_in None = (Free, 0)
-use_in (Some place) = (kind_of place.owned, place.guards)
+use_in (Some place) = (kind_if_owned place.owned, place.guards)
 
 pub record IsLeftAt {T : Type 0} (n : Name) (now : machine.State) (s : ℕ) (place : Place T) : Type 0 where
   pub used : IsUsedAs now s (use_in (Some place))

@@ -24,7 +24,7 @@ use Rattle.seize_words.specs.Units.{all_units}
 use Rattle.seize_words.specs.declared.activation.Activation.{Activation}
 use Rattle.seize_words.specs.declared.reservation.Head.{Head}
 use Rattle.seize_words.specs.declared.words.Words.{Words}
-use Rattle.seize_calls.specs.Slots.{InActivation, IsInUse, IsOfList, MayEnterWith, its_book, its_number}
+use Rattle.seize_calls.specs.Slots.{InActivation, IsInUse, IsOfList, MayEnterWith, seen_book, its_number}
 use Rattle.seize_calls.specs.declared.slot.Slot.{Slot}
 use Rattle.seize_parts.specs.declared.reservation.Reservation.{Reservation}
 
@@ -32,21 +32,21 @@ abbrev pub place_label : Name → ℕ → ℕ → ℕ
 place_label n s m = pair (pair n.family s) m
 
 abbrev pub its_label : {T : Type 0} → Reservation T → ℕ
-its_label r = place_label (its_book r.slot) (its_number r.slot) r.most
+its_label r = place_label (seen_book r.slot) (its_number r.slot) r.most
 
 abbrev pub IsAt : {T : Type 0} → Slot T → Activation → ℕ → Type 0
 IsAt slot rest zero = MayEnterWith slot rest
 IsAt slot rest (suc n) = InActivation slot rest
 
 pub record IsReservation {T : Type 0} (r : Reservation T) : Type 0 where
-  pub its : IsOfList (its_book r.slot) r.slot
+  pub its : IsOfList (seen_book r.slot) r.slot
   pub in_use : IsInUse r.slot
   pub at : IsAt r.slot r.rest r.guards
   pub units : r.rest.units + r.guards ≡ all_units
   pub fits : r.guards ≤ r.most
 
 abbrev pub IsReservationOf : {T : Type 0} → Words T → Reservation T → Type 0
-IsReservationOf words r = (its_book r.slot).family ≡ (words_book words).family
+IsReservationOf words r = (seen_book r.slot).family ≡ (words_book words).family
 
 abbrev pub KeepsPlace : {T : Type 0} → Reservation T → Reservation T → Type 0
 KeepsPlace r r' = (its_label r' ≡ its_label r) × IsReservation r'

@@ -8,13 +8,13 @@ use Rattle.std.specs.Prelude.{◌≡◌, ℕ, List, Option, None, Some, get_or}
 use Rattle.seize_words.specs.Activations.{with_units}
 use Rattle.seize_words.specs.Joined.{words_book}
 use Rattle.seize_words.specs.declared.words.Words.{Words}
-use Rattle.seize_calls.specs.Slots.{its_book, its_number}
+use Rattle.seize_calls.specs.Slots.{seen_book, its_number}
 use Rattle.seize_parts.specs.Reservations.{IsReservation, IsUnit}
 use Rattle.seize_parts.specs.declared.shelf.forgotten.Forgotten.{Forgotten}
 use Rattle.seize_parts.specs.declared.reservation.Reservation.{Reservation}
 
 abbrev pub IsLaidFor : {T : Type 0} → ℕ → Reservation T → Type 0
-IsLaidFor f r = IsReservation r × ((its_book r.slot).family ≡ f)
+IsLaidFor f r = IsReservation r × ((seen_book r.slot).family ≡ f)
 
 abbrev pub IsForgottenOf : ℕ → Forgotten → Type 0
 IsForgottenOf f units = (units.seen.name.family ≡ f) × IsUnit units.seen.name units.number (with_units units.units 1) units.seen

@@ -12,7 +12,7 @@ use Rattle.std.specs.Prelude.{◌≡◌, ◌⊎◌, List, [], ◌∷◌, Result,
 use Rattle.std.specs.List.{fold}
 use base.Stored.{Coded, Gv}
 use Rattle.seize_model.specs.Waiting.Attempt.{StateAndGone}
-use Rattle.seize_model.specs.Waiting.State.{State}
+use Rattle.seize_model.specs.Waiting.State.{ModelState}
 use Rattle.seize_model.specs.Waiting.Calls.{Response}
 use Rattle.seize_table.specs.declared.refusal.Refusal.{Refusal}
 use Rattle.seize_table.specs.declared.refusal.Refusal.TheVariants.{NoMemory}
@@ -36,14 +36,14 @@ abbrev pub only_refusal : {A B : Type 0} → Result A (Refusal × B) → Result 
 only_refusal (Ok a) = Ok a
 only_refusal (Err e) = Err e.0
 
-abbrev pub Said : {A T R : Type 0} → Response A T R → Result A Refusal → State T R → Type 0
+abbrev pub Said : {A T R : Type 0} → Response A T R → Result A Refusal → ModelState T R → Type 0
 Said a result new = (result ≡ a.0) × (new ≡ a.1.0)
 
-abbrev pub Grew : {A T R : Type 0} → Response A T R → Result A Refusal → State T R → State T R → Type 0
+abbrev pub Grew : {A T R : Type 0} → Response A T R → Result A Refusal → ModelState T R → ModelState T R → Type 0
 Grew a result old new = ((result ≡ Err NoMemory) × (new ≡ old)) ⊎ Said a result new
 
-abbrev pub Answers : {A T R Seen : Type 0} → (Seen → T → Seen) → Response A T R → Result A Refusal → State T R → Seen → Seen → Type 0
+abbrev pub Answers : {A T R Seen : Type 0} → (Seen → T → Seen) → Response A T R → Result A Refusal → ModelState T R → Seen → Seen → Type 0
 Answers told a result new seen seen' = Said a result new × (seen' ≡ told_of told seen a.1.1)
 
-abbrev pub Did : {T R Seen : Type 0} → (Seen → T → Seen) → StateAndGone T R → State T R → Seen → Seen → Type 0
+abbrev pub Did : {T R Seen : Type 0} → (Seen → T → Seen) → StateAndGone T R → ModelState T R → Seen → Seen → Type 0
 Did told o new seen seen' = (new ≡ o.0) × (seen' ≡ told_of told seen o.1)

@@ -118,7 +118,7 @@ abbrev pub bare_known : {H P T : Type 0} → Bare H P T → RowToken
 bare_known bare = bare.title.known
 
 abbrev pub bare_content : {H P T : Type 0} → Bare H P T → ℕ
-bare_content bare = titled.content_of bare.title
+bare_content bare = titled.titled_content bare.title
 
 abbrev pub hollow_title : {H P T : Type 0} → Hollow H P T → Title
 hollow_title hollow = hollow.title
@@ -133,7 +133,7 @@ abbrev pub hollow_label : {H P T : Type 0} → Hollow H P T → ℕ
 hollow_label hollow = titled.title_label hollow.title
 
 abbrev pub hollow_content : {H P T : Type 0} → Hollow H P T → ℕ
-hollow_content hollow = titled.content_of hollow.title
+hollow_content hollow = titled.titled_content hollow.title
 
 abbrev pub count_of : {H P T : Type 0} → Spots H P T → ℕ
 count_of spots = vec_len spots.list

@@ -1,6 +1,6 @@
 -- Where the chunk of a title lies, and what a token of a row was made of.
 --     chunk_of t                  the place and the tag that the title t's row has at its entry;  title_place t and title_tag t are the two
---     title_label t, content_of t    the label and the name of the content that the tag is a pair of
+--     title_label t, titled_content t    the label and the name of the content that the tag is a pair of
 --     names_of_rows rows          the store of these rows: its own name, which it alone has, its family, and then the names of its rows
 --     family_of rows              that family
 --     IsRowNote store row chunks n   the note n is of that row's cell in the store, and knows its chunks, which are of the store's family
@@ -28,8 +28,8 @@ title_tag t = (chunk_in t.known.chunks (entry_of t.known.row t.number)).1
 abbrev pub title_label : Title → ℕ
 title_label t = label_in t.known.chunks (entry_of t.known.row t.number)
 
-abbrev pub content_of : Title → ℕ
-content_of t = content_in t.known.chunks (entry_of t.known.row t.number)
+abbrev pub titled_content : Title → ℕ
+titled_content t = content_in t.known.chunks (entry_of t.known.row t.number)
 
 abbrev pub names_of_rows : {H P T : Type 0} {g : Ghosts H} → Rows H P T g → List ℕ
 names_of_rows rows = rows.identity.name ∷ rows.family.number ∷ map (λ c. c.1.1) rows.cells

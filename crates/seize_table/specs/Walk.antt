@@ -3,7 +3,7 @@
 --     table_by w             the name of its table
 --     walk_labels w          the labels of the first entries of its table
 --     IsSameWalk w u         the walks w and u go over the same entries of one table, and stand at one of them
---     Goes w v u             a step of the walk w yields v and leaves u: the next entry's value, or nothing at the end
+--     GivesNext w v u             a step of the walk w yields v and leaves u: the next entry's value, or nothing at the end
 use Rattle.std.specs.Prelude.{◌≡◌, ℕ, ◌+◌, ◌<◌, List, get_or, IfSome, IfNone}
 use Rattle.std.specs.declared.option.Option.{Option}
 use denote.Bor.{Bor}
@@ -26,8 +26,8 @@ abbrev pub IsSameWalk : {T : Type 0} {g : Ghosts T} → First T g → First T g 
 IsSameWalk one other =
     (other.table ≡ one.table) × (other.all ≡ one.all) × (walk_next other ≡ walk_next one) × (walk_end other ≡ walk_end one)
 
-abbrev pub Goes : {T : Type 0} {g : Ghosts T} → First T g → Option (Bor T) → First T g → Type 0
-Goes {g = g} before item after =
+abbrev pub GivesNext : {T : Type 0} {g : Ghosts T} → First T g → Option (Bor T) → First T g → Type 0
+GivesNext {g = g} before item after =
     (walk_labels after ≡ walk_labels before)
     × (walk_end after ≡ walk_end before)
     × IfSome item (λ value. (walk_next before < walk_end before) × (walk_next after ≡ walk_next before + 1)

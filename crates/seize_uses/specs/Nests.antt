@@ -7,19 +7,19 @@ use Rattle.seize_uses.specs.declared.nest.Nest.TheViews.{out-Nest}
 use Rattle.seize_uses.specs.declared.nest.Nest.TheFolds.{fold-Nest}
 
 -- the values inside, in their order
-abbrev pub inside_of : Nest → List Nest
-inside_of value = map content (out-Nest value).inside.items
+abbrev pub nested_in : Nest → List Nest
+nested_in value = map content (out-Nest value).inside.items
 
 -- one value, with the weight of each value inside in its place
-abbrev pub weight_step : Nest-F ℕ → ℕ
-weight_step value = sum (map content value.inside.items) + 1
+abbrev pub nest_weight_step : Nest-F ℕ → ℕ
+nest_weight_step value = sum (map content value.inside.items) + 1
 
-abbrev pub weight_of : Nest → ℕ
-weight_of = fold-Nest ℕ weight_step
+abbrev pub nest_weight : Nest → ℕ
+nest_weight = fold-Nest ℕ nest_weight_step
 
 -- the stores of the blocks inside, however deep
-abbrev pub owners_step : Nest-F (List (List ℕ)) → List (List ℕ)
-owners_step value = owners_in (λ owners. owners) value.inside.items
+abbrev pub nest_owners_step : Nest-F (List (List ℕ)) → List (List ℕ)
+nest_owners_step value = owners_in (λ owners. owners) value.inside.items
 
-abbrev pub owners_of : Nest → List (List ℕ)
-owners_of = fold-Nest (List (List ℕ)) owners_step
+abbrev pub nest_owners : Nest → List (List ℕ)
+nest_owners = fold-Nest (List (List ℕ)) nest_owners_step

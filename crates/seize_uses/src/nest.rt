@@ -3,8 +3,8 @@
 ghost use Rattle.std.specs.Prelude.{All, IfOk};
 ghost use Rattle.seize.specs.Blocks.{Belongs};
 ghost use Rattle.seize.specs.Collectors.{BelongsTo, its_store};
-ghost use Rattle.seize_uses.specs.Nests.{inside_of, owners_of, weight_of};
-ghost use Rattle.seize_uses.specs.Weights.{inside_lighter};
+ghost use Rattle.seize_uses.specs.Nests.{nested_in, nest_owners, nest_weight};
+ghost use Rattle.seize_uses.specs.Weights.{nested_lighter};
 
 use seize::{Collector, Further, Owned, Puts, Reclaim, Refusal};
 use std::sync::atomic::{AtomicU64, Ordering};
@@ -26,13 +26,13 @@ pub struct PutInside<'a> {
 }
 
 impl Puts<Nest> for PutInside<'_> {
-    ghost weight = { weight_of };
+    ghost weight = { nest_weight };
 
-    ghost owners = { owners_of };
+    ghost owners = { nest_owners };
 
-    ghost puts = { λ _ value. inside_of value };
+    ghost puts = { λ _ value. nested_in value };
 
-    ghost lighter = { λ _ value. inside_lighter value };
+    ghost lighter = { λ _ value. nested_lighter value };
 }
 
 impl Reclaim<Nest> for PutInside<'_> {
@@ -56,8 +56,8 @@ pub fn around<'a>(
     number: u64,
     inside: Vec<Owned<Nest>>,
 ) -> Result<Owned<Nest>, Refusal>
-    requires { All (Belongs owners_of (its_store collector.now)) inside.items }
-    ensures { IfOk result (BelongsTo owners_of collector.now) }
+    requires { All (Belongs nest_owners (its_store collector.now)) inside.items }
+    ensures { IfOk result (BelongsTo nest_owners collector.now) }
 {
     match collector.owned(Nest { number, inside }) {
         Ok(block) => Ok(block),

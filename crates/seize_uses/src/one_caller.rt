@@ -54,7 +54,7 @@ pub fn put_and_read(
 pub fn replace(alone: &mut Alone<u64>, slot: usize, new: Option<Owned<u64>>) -> Result<(), Refusal>
     requires link { 0 < alone.old.links }
     requires own { IfSome new (λ owned. store_name owned ≡ alone.old.book.store) }
-    ensures held { IfOk result (λ _. calls.link_at alone.new.state 0 ≡ option_map content new) }
+    ensures held { IfOk result (λ _. calls.model_link alone.new.state 0 ≡ option_map content new) }
     ensures links { alone.new.links ≡ alone.old.links }
 {
     let Some(old) = alone.swap(slot, 0, new).map_err(|(refusal, _)| refusal)? else {
@@ -91,7 +91,7 @@ pub fn found_twice(alone: &Alone<u64>, slot: usize) -> Result<bool, Refusal>
 /// As `replace`.
 pub fn take_out(alone: &mut Alone<u64>, slot: usize) -> Result<Option<u64>, Refusal>
     requires link { 0 < alone.old.links }
-    ensures taken { IfOk result (λ number. number ≡ calls.link_at alone.old.state 0) }
+    ensures taken { IfOk result (λ number. number ≡ calls.model_link alone.old.state 0) }
     ensures links { alone.new.links ≡ alone.old.links }
 {
     let Some(old) = alone.swap(slot, 0, None).map_err(|(refusal, _)| refusal)? else {

@@ -3,7 +3,7 @@ ghost use base.Stored.{coded_ℕ, gnum};
 ghost use Rattle.std.specs.Coded.{coded_option};
 ghost use Rattle.std.specs.Prelude.{◌≡◌, true, None};
 ghost use Rattle.seize.specs.Waiting.Calls.{unused};
-ghost use Rattle.seize.specs.Waiting.State.{has_guard, slot_at};
+ghost use Rattle.seize.specs.Waiting.State.{has_guard, model_slot};
 ghost use Rattle.seize.specs.Links.{IsTakenOf};
 
 use seize::waiting::batches;
@@ -38,7 +38,7 @@ pub fn retire_under_guard(
 )
     requires own { IsTakenOf gnum alone.old.book number }
     requires used { unused alone.old.state slot ≡ None }
-    requires active { has_guard (slot_at alone.old.state slot) ≡ true }
+    requires active { has_guard (model_slot alone.old.state slot) ≡ true }
     ensures { newest.new.0 ≡ newest.old.0 }
 {
     batches::<u64, u64>();

@@ -1,7 +1,7 @@
 //! Blocks inside blocks: how far one call goes, in which order values end, and that each ends once.
 ghost use Rattle.std.specs.Prelude.{◌≡◌, IfOk};
 ghost use Rattle.seize.specs.Collectors.{BelongsTo, its_links};
-ghost use Rattle.seize_uses.specs.Nests.{owners_of};
+ghost use Rattle.seize_uses.specs.Nests.{nest_owners};
 ghost use base.Stored.{coded_unit};
 
 use seize::{Collector, Guard, IdSource, Owned, Refusal, Unlinked, Watch};
@@ -27,15 +27,15 @@ fn collector<'a>(alloc: Global, size: usize, by: PutInside<'a>) -> Result<Nests<
 
 // A block with nothing inside.
 fn leaf(alloc: Global, collector: &Nests<'_>, number: u64) -> Result<Block, Refusal>
-    ensures { IfOk result (BelongsTo owners_of collector.now) }
+    ensures { IfOk result (BelongsTo nest_owners collector.now) }
 {
     around(collector, number, Vec::new(alloc))
 }
 
 // A block with one block inside.
 fn round(alloc: Global, collector: &Nests<'_>, number: u64, block: Block) -> Result<Block, Refusal>
-    requires { BelongsTo owners_of collector.now block }
-    ensures { IfOk result (BelongsTo owners_of collector.now) }
+    requires { BelongsTo nest_owners collector.now block }
+    ensures { IfOk result (BelongsTo nest_owners collector.now) }
 {
     let mut inside = Vec::new(alloc);
     inside.push(block).map_err(AllocError::from)?;
@@ -44,7 +44,7 @@ fn round(alloc: Global, collector: &Nests<'_>, number: u64, block: Block) -> Res
 
 // 1 holds 2, which holds 3, and so on.
 fn chain(alloc: Global, collector: &Nests<'_>) -> Result<Block, Refusal>
-    ensures { IfOk result (BelongsTo owners_of collector.now) }
+    ensures { IfOk result (BelongsTo nest_owners collector.now) }
 {
     let mut block = leaf(alloc, collector, MANY)?;
     for number in (1..MANY).rev() {
@@ -64,7 +64,7 @@ fn places(alloc: Global, count: u64) -> Result<Vec<AtomicU64>, AllocError> {
 
 // A registration retires the block, and ends.
 fn retire<W: Wait>(rt: &W, collector: &Nests<'_>, block: Block) -> Result<(), Refusal>
-    requires { BelongsTo owners_of collector.now block }
+    requires { BelongsTo nest_owners collector.now block }
 {
     let mut pass = collector.pass();
     let registration = collector.register(rt, &mut pass)?;
@@ -271,7 +271,7 @@ fn a_wide_value_ends_in_one_call(rt: HostRuntime) -> Result<(), Fail> {
 
 // 1 holds 2 and the values after it.
 fn wide(alloc: Global, collector: &Nests<'_>) -> Result<Block, Refusal>
-    ensures { IfOk result (BelongsTo owners_of collector.now) }
+    ensures { IfOk result (BelongsTo nest_owners collector.now) }
 {
     let mut inside = Vec::new(alloc);
     for number in 2..MANY + 2 {

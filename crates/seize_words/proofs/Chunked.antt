@@ -21,7 +21,7 @@ use Rattle.seize_book.specs.Tokens.{Name, chunk_label, label_at, start}
 use Rattle.seize_book.specs.declared.book.pass.Pass.{Pass}
 use Rattle.seize_book.specs.declared.book.value_key.ValueKey.{ValueKey}
 use Rattle.seize_store.specs.Named.{bare_title, hollow_title}
-use Rattle.seize_store.specs.Titled.{content_of, title_label}
+use Rattle.seize_store.specs.Titled.{titled_content, title_label}
 use Rattle.seize_store.specs.declared.bare.Bare.{Bare}
 use Rattle.seize_store.specs.declared.hollow.Hollow.{Hollow}
 use Rattle.seize_store.specs.declared.row_token.Title.{Title}
@@ -110,7 +110,7 @@ takes_block Is blocks value key block hollow taken is = let same : bare_title bl
       book = is.book;
       next = subst (λ (t : Title). Is key t.number) same is.next;
       lay = is.lies ∙ ap title_label same;
-      content = is.content ∙ ap content_of same;
+      content = is.content ∙ ap titled_content same;
       free = is.free;
       fits = subst (λ (t : Title). t.number + 2 < 2 ^ 64) same is.fits;
     }

@@ -5,9 +5,9 @@ use Rattle.std.proofs.lemmas.Bool.{cases_lt}
 use mathlib.Core.List.{IsPrefix}
 use base.Growing.{prefix_trans}
 use Rattle.atomic_table.proofs.Lists as kit
-use Rattle.seize_machine.specs.Machine.State.{State, Slot, Call, Place, Head, Inactive, Active, Mark, Look, Try, Out, Rest, no_slot, slot_at, head_at, is_active, is_idle, waiting_at, linked_values, are_distinct}
+use Rattle.seize_machine.specs.Machine.State.{State, Slot, Progress, Place, Head, Inactive, Active, Mark, Look, Try, Out, Rest, no_slot, slot_at, head_at, is_active, is_idle, waiting_at, linked_values, are_distinct}
 use Rattle.seize_machine.specs.Machine.Event.{Event, Enter, Insert, ReadHead, SwapOut}
-use Rattle.seize_machine.specs.Machine.Next.{in_turn, look, next, of_call, set_head}
+use Rattle.seize_machine.specs.Machine.Next.{is_due, look, next, of_call, set_head}
 use Rattle.seize_machine.specs.Machine.History.{IsReached, done_by, first_or_none}
 use Rattle.seize_machine.specs.Machine.Frames.{changes_slot, changes_used, changes_head_of, changes_link, slots_added}
 use Rattle.seize_machine.specs.declared.machine.event.Answer.{Answer}
@@ -139,13 +139,13 @@ module _ (n : Name) (m : ℕ) where
 
   -- A read.
 
-  in_turn_is : (x note k : ℕ) → in_turn x note k ≡ true → (k ≡ x) ⊎ ((note ≤ x) × (x < k))
+  in_turn_is : (x note k : ℕ) → is_due x note k ≡ true → (k ≡ x) ⊎ ((note ≤ x) × (x < k))
   in_turn_is x note k h = go (is_true (k == x)) h
     where
       past : (nat_le note x && nat_lt x k) ≡ true → (note ≤ x) × (x < k)
       past h = let both = and_true _ _ h in let a : nat_le note x ≡ true = both.0 in let b : nat_lt x k ≡ true = both.1 in (grind arith, grind arith)
 
-      go : ((k == x) ≡ true) ⊎ ((k == x) ≡ false) → in_turn x note k ≡ true → (k ≡ x) ⊎ ((note ≤ x) × (x < k))
+      go : ((k == x) ≡ true) ⊎ ((k == x) ≡ false) → is_due x note k ≡ true → (k ≡ x) ⊎ ((note ≤ x) × (x < k))
       go (inl e) h = inl (eq_true k x e)
       go (inr d) h = inr (past (ap (λ (b : Bool). b || (nat_le note x && nat_lt x k)) (sym d) ∙ h))
 
@@ -160,7 +160,7 @@ module _ (n : Name) (m : ℕ) where
           subst (λ (j : ℕ). (d : State × Answer) × (next size now (ReadHead s j) ≡ Some d)) (sym (eq_true m k h)) (_, next_of size now (ReadHead s k) _ (Step.looked_at s b won k later queue stands))
       by_place _ queue stands h = absurd (cc)
 
-      go : (call : Option Call) → (slot_at now s).call ≡ call → unwrap_or (of_call (reads_at m) call) false ≡ true
+      go : (call : Option Progress) → (slot_at now s).call ≡ call → unwrap_or (of_call (reads_at m) call) false ≡ true
           → (d : State × Answer) × (next size now (ReadHead s m) ≡ Some d)
       go None e h = absurd (cc)
       go (Some call) e h = by_place call.place call.queue e h

@@ -8,9 +8,9 @@ use Rattle.std.specs.List.{Contains}
 use Rattle.std.specs.Prelude.{slice_index_or}
 use mathlib.Core.List.{IsPrefix}
 use base.Growing.{prefix_trans}
-use Rattle.seize_machine.specs.Machine.State.{State, Call, Place, Rest, Slot, are_distinct, has, linked_values, no_slot, slot_at}
+use Rattle.seize_machine.specs.Machine.State.{State, Progress, Place, Rest, Slot, are_distinct, has, linked_values, no_slot, slot_at}
 use Rattle.seize_machine.specs.Machine.Event.{Hand}
-use Rattle.seize_machine.specs.Machine.Next.{are_fresh, next, set_slot}
+use Rattle.seize_machine.specs.Machine.Next.{are_fresh, next, slot_set}
 use Rattle.seize_machine.specs.declared.machine.event.Answer.{Answer}
 use Rattle.seize_machine.specs.declared.machine.event.Answer.TheVariants.{Handed}
 use Rattle.seize_machine.proofs.Facts.{Stands, Step, next_of, some_is, step_of}
@@ -134,7 +134,7 @@ module _ (key : SlotKey) (pass : Pass) (book : IsKeyOfBook key pass) (knows : Kn
 -- the next batch of a walk
 module _ (key : SlotKey) (pass : Pass) (word : ℕ) (book : IsKeyOfBook key pass) (knows : Knows key pass) (at : IsAtBatch key word) where
   pub at_walks : Walks (after (start_of key) (own_list key)) (slot_number key) at.batch
-  at_walks = subst (λ (o : Option Call). Contains (walk_of o) at.batch) (sym at.walking) (zero, omega arith, refl)
+  at_walks = subst (λ (o : Option Progress). Contains (walk_of o) at.batch) (sym at.walking) (zero, omega arith, refl)
 
   less : (k : ℕ) → k + 2 - 2 ≡ k
   less k = omega arith
@@ -168,7 +168,7 @@ module _ (key : SlotKey) (pass : Pass) (word : ℕ) (book : IsKeyOfBook key pass
 
   -- the rest of the walk is walked as well
   pub rest_walks : (b : ℕ) → Contains at.walk b → Walks (after (start_of key) (own_list key)) (slot_number key) b
-  rest_walks b there = subst (λ (o : Option Call). Contains (walk_of o) b) (sym at.walking) (suc there.0, omega (arith, there.1), there.2)
+  rest_walks b there = subst (λ (o : Option Progress). Contains (walk_of o) b) (sym at.walking) (suc there.0, omega (arith, there.1), there.2)
 
 -- the word of the rest of a walk is the same by what the key knows later
 pub word_stays : (key key' : SlotKey) (pass : Pass) (batch : ℕ) (walk queue : List ℕ) → IsKeyOfBook key pass → Knows key pass → (key'.keys.name ≡ key.keys.name) → (slot_number key' ≡ slot_number key)
@@ -199,7 +199,7 @@ walk_kept key key' pass pass' e given walk queue book knows notes stands =
     let noted = notes.2.0 in
     let grows : IsPrefix (own_list key) (own_list key') =
     subst (IsPrefix (own_list key)) (sym notes.1.2) (prefix_trans (own_list key) noted.before pass'.seen notes.2.1.knew (Made e ∷ [], sym noted.appended)) in
-    word_stays key key' pass 0 walk queue book knows notes.1.0 notes.1.1 grows (λ b there. subst (λ (o : Option Call). Contains (walk_of o) b) (sym stands) there)
+    word_stays key key' pass 0 walk queue book knows notes.1.0 notes.1.1 grows (λ b there. subst (λ (o : Option Progress). Contains (walk_of o) b) (sym stands) there)
 
 -- a slot with a call is one of those made
 there : (st : State) (s : ℕ) (place : Place) (queue : List ℕ) → Stands st s place queue → s < length st.slots
@@ -220,7 +220,7 @@ hand_leaves key key' pass pass' puts kepts given walk queue v notes stands =
     let here : Stands st s (Rest (v ∷ given) walk) queue = ap (λ (slot : Slot). slot.call) moves.was ∙ stands in
     let fresh = fresh_of pass.size st s puts (noted.later, noted.answer) (step_of _ _ _ _ moves.legal) in
     let slot : Slot = record (slot_at st s) { call = Some (record { place = Rest given walk; queue = queue ++ puts }) } in
-    let d : State × Answer = (record (set_slot st s slot) { gone = st.gone ++ v ∷ []; named = st.named ++ puts }, Handed v) in
+    let d : State × Answer = (record (slot_set st s slot) { gone = st.gone ++ v ∷ []; named = st.named ++ puts }, Handed v) in
     let is : next pass.size st (Hand s puts) ≡ Some d = next_of pass.size st (Hand s puts) d (Step.handed s v puts given walk queue here fresh) in
     ap (λ (z : Slot). z.call)
     (moves.is ∙ ap (λ (x : State × Answer). slot_at x.0 s) (some_is _ _ (sym moves.legal ∙ is)) ∙ get_or-set_same st.slots s slot no_slot (there st s (Rest (v ∷ given) walk) queue here))

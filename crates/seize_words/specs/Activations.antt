@@ -3,7 +3,7 @@
 --     IsActivationFor keys a   it is one of the slot that the keys are of, and whole
 --     BeginsAs a keys a'       it has begun with what the keys know
 --     IsLasting a pass         it has not ended in what the pass has seen
---     Ends a a' lives next     its lifetime is over, and it is another one of the same slot, with the next
+--     EndsLife a a' lives next     its lifetime is over, and it is another one of the same slot, with the next
 --     SplitsUnits a a' n units     so many units were split off: a' and these are the same activation as a
 --     SplitsUnit a a' unit     one was
 --     JoinsUnits a units a'    units came back
@@ -28,8 +28,8 @@ BeginsAs a keys a' =
 abbrev pub IsLasting : Activation → Pass → Type 0
 IsLasting a pass = ¬ (IsAmong (ended_lives pass.seen) a.life)
 
-abbrev pub Ends : Activation → Activation → List ℕ → ℕ → Type 0
-Ends a a' lives next =
+abbrev pub EndsLife : Activation → Activation → List ℕ → ℕ → Type 0
+EndsLife a a' lives next =
     (a'.name ≡ a.name) × (a'.slot ≡ a.slot) × (lives ≡ a.life ∷ []) × (next ≡ a'.life) × HasAllUnits a'
 
 -- the same activation, with so many units

@@ -6,7 +6,7 @@
 --     found_end seen v            whether an insertion is won that found this word
 use Rattle.std.specs.Prelude.{◌≡◌, ℕ, ◌<◌, ◌==◌, Bool, false, if◌then◌else◌, List, length, Option, Some, None, unwrap_or}
 use Rattle.seize_machine.specs.Machine.State.{State, Slot, Place, Mark, Look, Try, slot_at}
-use Rattle.seize_machine.specs.Machine.Next.{of_call, in_turn}
+use Rattle.seize_machine.specs.Machine.Next.{of_call, is_due}
 use Rattle.seize_machine.specs.declared.machine.event.Try.{Try as Insertion}
 use Rattle.seize_machine.specs.declared.machine.event.Try.TheVariants.{Won, Lost}
 use Rattle.seize_book.specs.Blocks.{block_for, list_word}
@@ -19,7 +19,7 @@ abbrev pub IsHead : Site → Type 0
 IsHead word = word.kind ≡ heads
 
 abbrev pub reads_at : ℕ → Place → List ℕ → Option Bool
-reads_at m (Mark n note marks) queue = Some (in_turn n note m)
+reads_at m (Mark n note marks) queue = Some (is_due n note m)
 reads_at m (Look b won k later) queue = Some (m == k)
 reads_at m _ queue = None
 

@@ -52,7 +52,7 @@ impl Model for Ended {
 
 impl Activation {
     ghost use Rattle.std.specs.Prelude.{◌+◌, ◌<◌, ◌≤◌};
-    ghost use Rattle.seize_words.specs.Activations.{BeginsAs, Ends, IsActivationFor, IsLasting, HasAllUnits, JoinsUnits, SplitsUnit, SplitsUnits};
+    ghost use Rattle.seize_words.specs.Activations.{BeginsAs, EndsLife, IsActivationFor, IsLasting, HasAllUnits, JoinsUnits, SplitsUnit, SplitsUnits};
     ghost use Rattle.seize_words.specs.Reservations.{IsOfSlot};
     ghost use Rattle.seize_words.specs.Units.{all_units};
 
@@ -108,10 +108,10 @@ impl Activation {
         ensures { (pass.new ≡ pass.old) × IsLasting self.now pass.new }
     {}
 
-    /// Ends it. It is another one then, which has still to begin.
+    /// EndsLife it. It is another one then, which has still to begin.
     pub(crate) fn end(&mut self) -> Ended
         requires { HasAllUnits self.old }
-        ensures { Ends self.old self.new result.lives result.next }
+        ensures { EndsLife self.old self.new result.lives result.next }
     {
         Ended {
             marker: PhantomData,

@@ -2,7 +2,7 @@
 use Rattle.std.proofs.Common.{◌≡◌, ℕ, Bool, true, false, if◌then◌else◌, List, [], ◌∷◌, ◌++◌, Option, Some, refl, sym, ap, ◌∙◌, subst}
 use Rattle.std.specs.Prelude.{slice_index_or}
 use mathlib.Core.List.{cons≢nil}
-use Rattle.seize_machine.specs.Machine.State.{Call, Place, Rest, State, opening, slot_at, head_at}
+use Rattle.seize_machine.specs.Machine.State.{Progress, Place, Rest, State, opening, slot_at, head_at}
 use Rattle.seize_machine.specs.Machine.Event.{Event}
 use Rattle.seize_machine.specs.Machine.Next.{next}
 use Rattle.seize_machine.specs.Machine.History.{first_or_none}
@@ -212,12 +212,12 @@ pub sees_still : (n : Name) (pass pass' : Pass) (stage : Stage) → pass' ≡ pa
 sees_still n pass pass' stage same sees = subst (λ (p : Pass). Sees n p stage) (sym same) sees
 
 -- a batch whose values are given up came to 0
-abbrev pub rests : List ℕ → List ℕ → List ℕ → Option Call
+abbrev pub rests : List ℕ → List ℕ → List ℕ → Option Progress
 rests given walk queue = Some (record { place = Rest given walk; queue = queue })
 
 pub came_to_zero : (zero : Bool) (values given : List ℕ) (v : ℕ) (walk queue : List ℕ) → rests (if zero then values else []) walk queue ≡ rests (v ∷ given) walk queue → zero ≡ true
 came_to_zero true values given v walk queue e = refl
-came_to_zero false values given v walk queue e = absurd (let none : [] ≡ v ∷ given = ap (λ (call : Call). gives call.place) (some_is _ _ e) in cons≢nil (sym none))
+came_to_zero false values given v walk queue e = absurd (let none : [] ≡ v ∷ given = ap (λ (call : Progress). gives call.place) (some_is _ _ e) in cons≢nil (sym none))
   where
     gives : Place → List ℕ
     gives (Rest given walk) = given

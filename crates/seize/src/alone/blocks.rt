@@ -1,7 +1,7 @@
 //! Blocks and links of a collector in one caller's hands: each call on a link is exactly what the model says.
 ghost use Rattle.std.specs.Prelude.{◌≡◌, IfErr, IfOk, None, Some, get_or, is_some, true};
 ghost use Rattle.seize_table.specs.declared.refusal.Refusal.TheVariants.{NoMemory as no_memory};
-ghost use Rattle.seize_parts.specs.Blocks.{content, store_name};
+ghost use Rattle.seize_parts.specs.Blocks.{content, owned_store};
 ghost use Rattle.seize_parts.specs.Placing.{held_in};
 
 use crate::alone::hands::Hands;
@@ -45,7 +45,7 @@ impl<T: Drop, R: Reclaim<T>> Alone<T, R> {
     ///
     /// `NoMemory` where that growth was refused; the value comes back.
     pub fn owned(&mut self, value: T) -> Result<Owned<T>, (Refusal, T)>
-        ensures made { IfOk result (λ owned. (store_name owned ≡ self.old.book.store) × (content owned ≡ value)) }
+        ensures made { IfOk result (λ owned. (owned_store owned ≡ self.old.book.store) × (content owned ≡ value)) }
         ensures refused { IfErr result (λ refused. (refused.0 ≡ no_memory) × (refused.1 ≡ value)) }
         ensures same { self.new ≡ self.old }
     {
@@ -77,10 +77,10 @@ impl<T: Drop, R: Reclaim<T>> Alone<T, R> {
         requires guard { calls.no_guard self.old.state s ≡ None }
         requires range { link < self.old.links }
         requires own { IfSome new (Belongs R.owners self.old.book.store) }
-        ensures held { option_map taken_content result ≡ calls.link_at self.old.state link }
+        ensures held { option_map taken_content result ≡ calls.model_link self.old.state link }
         ensures own { IfSome result (IsTakenOf T.row.coded.code self.old.book) }
         ensures state { self.new.state ≡ with_link self.old.state link (option_map content new) }
-        ensures holds { calls.link_at self.new.state link ≡ option_map content new }
+        ensures holds { calls.model_link self.new.state link ≡ option_map content new }
         ensures same { IsSame self.old self.new }
         ensures grows { ListGrows self.old self.new }
     {
@@ -112,12 +112,12 @@ impl<T: Drop, R: Reclaim<T>> Alone<T, R> {
         requires range { link < self.old.links }
         requires own { IfSome new (Belongs R.owners self.old.book.store) }
         ensures done { IfOk result (λ old. (calls.no_guard self.old.state s ≡ None)
-            × (option_map taken_content old ≡ calls.link_at self.old.state link)) }
+            × (option_map taken_content old ≡ calls.model_link self.old.state link)) }
         ensures refused { IfErr result (λ refused. (calls.no_guard self.old.state s ≡ Some refused.0) × (refused.1 ≡ new)
             × (self.new ≡ self.old)) }
         ensures own { IfOk result (λ old. IfSome old (IsTakenOf T.row.coded.code self.old.book)) }
         ensures state { self.new.state ≡ (calls.swap self.old.state s link (option_map content new)).1.0 }
-        ensures holds { IfOk result (λ _. calls.link_at self.new.state link ≡ option_map content new) }
+        ensures holds { IfOk result (λ _. calls.model_link self.new.state link ≡ option_map content new) }
         ensures same { IsSame self.old self.new }
         ensures grows { ListGrows self.old self.new }
     {
@@ -138,7 +138,7 @@ impl<T: Drop, R: Reclaim<T>> Alone<T, R> {
     pub fn protect(&self, s: usize, link: usize) -> Result<Option<Shared<'_, T>>, Refusal>
         requires range { link < self.now.links }
         ensures done { IfOk result (λ shared. (calls.no_guard self.now.state s ≡ None)
-            × (option_map shared_value shared ≡ calls.link_at self.now.state link)) }
+            × (option_map shared_value shared ≡ calls.model_link self.now.state link)) }
         ensures own { IfOk result (λ shared. IfSome shared (λ shared. shared_book shared ≡ self.now.book)) }
         ensures which { IfOk result (λ shared. found_name shared ≡ name_at self.now link) }
         ensures refused { IfErr result (λ refusal. calls.no_guard self.now.state s ≡ Some refusal) }

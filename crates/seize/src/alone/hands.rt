@@ -3,7 +3,7 @@ ghost use Rattle.std.specs.Prelude.{ℕ, List, Option};
 ghost use Rattle.std.specs.Coded.{coded_option};
 ghost use base.Fml.{ftrue};
 ghost use base.Stored.{coded_list, coded×, coded_ℕ};
-ghost use Rattle.seize_model.specs.Waiting.State.{State};
+ghost use Rattle.seize_model.specs.Waiting.State.{ModelState};
 ghost use Rattle.seize.specs.States.{state_coded};
 
 use seize_words::book::Pass;
@@ -12,7 +12,7 @@ use std::marker::{Brand, Model, PhantomData};
 /// What holds of a state, of names, of kinds and of what links hold. A caller passes `Brand`, and its proof picks it, by what `Hands::of`
 /// is given.
 pub(crate) trait Holding<T> {
-    ghost are: { State T ℕ → List (ℕ × T) → List (ℕ × ℕ) → List (Option ℕ) → Type 0 };
+    ghost are: { ModelState T ℕ → List (ℕ × T) → List (ℕ × ℕ) → List (Option ℕ) → Type 0 };
 }
 
 impl<T> Holding<T> for Brand {
@@ -23,7 +23,7 @@ impl<T> Holding<T> for Brand {
 pub(crate) struct Hands<T> {
     marker: PhantomData<T>,
     /// The state of waiting sets.
-    pub(crate) ghost state: { State T ℕ } by { state_coded T.code coded_ℕ },
+    pub(crate) ghost state: { ModelState T ℕ } by { state_coded T.code coded_ℕ },
     /// What names stand for.
     pub(crate) ghost names: { List (ℕ × T) } by { coded_list (coded× coded_ℕ T.code) },
     /// Of which kind numbers are.
@@ -51,7 +51,7 @@ impl<T> Hands<T> {
     /// The first ones of a collector, by its pass. What `_said` holds is for the proof that picks. It does nothing when the
     /// program runs.
     pub(crate) fn first<H: Holding<T>, S>(_pass: &Pass<'static>, _said: &S) -> Hands<T>
-        requires { (st : State T ℕ) × (names : List (ℕ × T)) × (kinds : List (ℕ × ℕ)) × (held : List (Option ℕ))
+        requires { (st : ModelState T ℕ) × (names : List (ℕ × T)) × (kinds : List (ℕ × ℕ)) × (held : List (Option ℕ))
             × H.are st names kinds held }
         ensures { H.are result.state result.names result.kinds result.held }
     {
@@ -66,7 +66,7 @@ impl<T> Hands<T> {
         _pass: &Pass<'static>,
         _said: &S,
     ) -> Hands<T>
-        requires { (st : State T ℕ) × (names : List (ℕ × T)) × (kinds : List (ℕ × ℕ)) × (held : List (Option ℕ))
+        requires { (st : ModelState T ℕ) × (names : List (ℕ × T)) × (kinds : List (ℕ × ℕ)) × (held : List (Option ℕ))
             × H.are st names kinds held }
         ensures { H.are result.state result.names result.kinds result.held }
     {

@@ -13,17 +13,17 @@ impl<T: Drop, R: Reclaim<T>> Alone<T, R> {
     ghost use Rattle.std.specs.Prelude.{◌<◌, ◌==◌, ◌||◌, ◌≡◌, IfErr, Ok, OnErr, false, true};
     ghost use Rattle.seize_model.specs.Waiting.Calls as calls;
     ghost use Rattle.seize_model.specs.Waiting.Further.{with_further};
-    ghost use Rattle.seize_model.specs.Waiting.State.{has_guard, slot_at};
+    ghost use Rattle.seize_model.specs.Waiting.State.{has_guard, model_slot};
     ghost use Rattle.seize.specs.Alones.{IsLinkedSame, ListGrows};
     ghost use Rattle.seize.specs.Links.{IsTakenOf, taken_content};
     ghost use Rattle.seize_parts.specs.Told.{Answers, Did, only_refusal, told_of};
 
     // The slot leaves with its last guard, and keeps its number.
     fn part<W: Watch<T>>(&mut self, s: usize, watch: &mut W)
-        requires { let slot = slot_at self.old.state s in (calls.is_free slot.kind ≡ false) × (slot.guards ≡ 1) }
+        requires { let slot = model_slot self.old.state s in (calls.is_free slot.kind ≡ false) × (slot.guards ≡ 1) }
         ensures done { let now = with_further R.puts R.weight s (calls.one_guard_less self.old.state s) in (self.new.state ≡ now.0)
             × (W.seen watch.new ≡ told_of W.told (W.seen watch.old) now.1)
-            × (calls.is_free (slot_at now.0 s).kind ≡ false) × (has_guard (slot_at now.0 s) ≡ false) }
+            × (calls.is_free (model_slot now.0 s).kind ≡ false) × (has_guard (model_slot now.0 s) ≡ false) }
         ensures same { IsLinkedSame self.old self.new }
         ensures grows { ListGrows self.old self.new }
         ensures same_reference { watch.exit.ghost_name ≡ watch.entry.ghost_name }
@@ -34,7 +34,7 @@ impl<T: Drop, R: Reclaim<T>> Alone<T, R> {
 
     // The slot, which is owned or has one guard, refreshes.
     fn renew<W: Watch<T>>(&mut self, s: usize, watch: &mut W)
-        requires { let slot = slot_at self.old.state s in (calls.no_guard self.old.state s ≡ None)
+        requires { let slot = model_slot self.old.state s in (calls.no_guard self.old.state s ≡ None)
             × ((calls.is_owned slot.kind || (slot.guards == 1)) ≡ true) }
         ensures done { Answers W.told (calls.refresh R.puts R.weight self.old.state s) (Ok tt) self.new.state
             (W.seen watch.old) (W.seen watch.new) }
@@ -54,7 +54,7 @@ impl<T: Drop, R: Reclaim<T>> Alone<T, R> {
         kind: u64,
         watch: &mut W,
     )
-        requires used { calls.is_free (slot_at self.old.state s).kind ≡ false }
+        requires used { calls.is_free (model_slot self.old.state s).kind ≡ false }
         requires own { IsTakenOf T.row.coded.code self.old.book value }
         ensures done { Answers W.told (calls.retire R.puts R.weight self.old.state s (taken_content value) kind) (Ok tt) self.new.state
             (W.seen watch.old) (W.seen watch.new) }

@@ -36,7 +36,7 @@ impl<T: Drop, R: Reclaim<T>> Collector<T, R> {
     ///
     /// The state is what the list of events says where it ends (`laws` of the `Alone`), as to slots in use, active slots, batches and
     /// links; how many guards a slot has, and which slot is owned, no clause says. It asks for memory, for places, only where a number is
-    /// in use, and waits for nobody. The list goes on: each number that is not in use is taken and goes back, without an atomic step.
+    /// in use, and waits for nobody. It makes no event.
     ///
     /// # Errors
     ///

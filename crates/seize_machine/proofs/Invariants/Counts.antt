@@ -5,7 +5,7 @@ use Rattle.std.specs.List.{sum_by}
 use Rattle.std.proofs.lemmas.Int.{ints}
 use Rattle.std.proofs.lemmas.List.{get_or-set_same, get_or-set_other, get_or_past, get_or_push, get_or_append_left, set_past, length-set, length_push}
 use Rattle.std.proofs.lemmas.List.Sums.{sum_by-set, sum_by_push, get_or-le-sum_by}
-use Rattle.seize_machine.specs.Machine.State.{no_slot, no_batch, State, Slot, Batch, Call, Head, Inactive, Active, Place, Mark, Look, Try, Add, Rest, slot_at, head_at, batch_at, is_active, waiting_at, is_idle}
+use Rattle.seize_machine.specs.Machine.State.{no_slot, no_batch, State, Slot, Batch, Progress, Head, Inactive, Active, Place, Mark, Look, Try, Add, Rest, slot_at, head_at, batch_at, is_active, waiting_at, is_idle}
 use Rattle.seize_machine.specs.Machine.Event.{Event}
 use Rattle.seize_machine.specs.Machine.Next.{next, look, marked_place, looked, is_zero}
 use Rattle.seize_machine.specs.declared.machine.event.Answer.{Answer}
@@ -29,15 +29,15 @@ place_won b (Add c won) = if c == b then won else 0
 place_won b _ = 0
 
 -- how often b stands in the walk of a call; whether the call has detached b and not yet added; the insertions that it won
-abbrev pub walks : ℕ → Option Call → ℕ
+abbrev pub walks : ℕ → Option Progress → ℕ
 walks b None = 0
 walks b (Some call) = place_walks b call.place
 
-abbrev pub owns : ℕ → Option Call → ℕ
+abbrev pub owns : ℕ → Option Progress → ℕ
 owns b None = 0
 owns b (Some call) = place_owns b call.place
 
-abbrev pub wins : ℕ → Option Call → ℕ
+abbrev pub wins : ℕ → Option Progress → ℕ
 wins b None = 0
 wins b (Some call) = place_won b call.place
 
@@ -59,7 +59,7 @@ abbrev pub CountedIn : ℕ → State → Type 0
 CountedIn b st = Counted b st.slots st.heads st.batches
 
 -- a call in range
-pub in_range : (st : State) (s : ℕ) (call : Call) → (slot_at st s).call ≡ Some call → s < length st.slots
+pub in_range : (st : State) (s : ℕ) (call : Progress) → (slot_at st s).call ≡ Some call → s < length st.slots
 in_range st s call e = grind (arith, get_or_past st.slots s no_slot)
 
 pub idle_range : (st : State) (s : ℕ) → is_idle (slot_at st s) ≡ true → s < length st.slots
@@ -68,11 +68,11 @@ idle_range st s e = grind (arith, get_or_past st.slots s no_slot)
 pub idle_call : (slot : Slot) → is_idle slot ≡ true → slot.call ≡ None
 idle_call slot e = grind arith
 
-pub change : (f : Option Call → ℕ) (st : State) (s : ℕ) (new : Slot) (o : Option Call) → s < length st.slots → (slot_at st s).call ≡ o → of_calls f (set st.slots s new) + f o ≡ of_calls f st.slots + f new.call
+pub change : (f : Option Progress → ℕ) (st : State) (s : ℕ) (new : Slot) (o : Option Progress) → s < length st.slots → (slot_at st s).call ≡ o → of_calls f (set st.slots s new) + f o ≡ of_calls f st.slots + f new.call
 change f st s new o h e = rw (← e) (sum_by-set (λ slot. f slot.call) st.slots s new no_slot h)
 
 -- a change of one slot's record that moves no count
-same_counts : (b : ℕ) (st : State) (s : ℕ) (new : Slot) (o : Option Call) → s < length st.slots → (slot_at st s).call ≡ o
+same_counts : (b : ℕ) (st : State) (s : ℕ) (new : Slot) (o : Option Progress) → s < length st.slots → (slot_at st s).call ≡ o
     → (walks b new.call ≡ walks b o) → (owns b new.call ≡ owns b o) → (wins b new.call ≡ wins b o) → CountedIn b st → Counted b (set st.slots s new) st.heads st.batches
 same_counts b st s new o h e walk own win c =
     let x : _ ≡ _ = change (walks b) st s new o h e in
@@ -103,7 +103,7 @@ pub looked_same : (b : ℕ) (head : Head) (c won m : ℕ) (later : List ℕ) →
 looked_same b Inactive c won m later = (look_walks b c won later, look_owns b c won later, look_wins b c won later)
 looked_same b (Active waiting) c won m later = (refl, refl, refl)
 
-pub owns-wins : (b : ℕ) (call : Option Call) → owns b call ≡ 0 → wins b call ≡ 0
+pub owns-wins : (b : ℕ) (call : Option Progress) → owns b call ≡ 0 → wins b call ≡ 0
 owns-wins b None e = refl
 owns-wins b (Some call) e = go call.place e
   where

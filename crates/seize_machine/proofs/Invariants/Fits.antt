@@ -1,7 +1,7 @@
 -- What bounds the batches of slots, the marks and the insertions.
 use Rattle.std.proofs.Common.{◌≡◌, ℕ, ◌+◌, ◌<◌, ◌≤◌, max, Bool, true, false, if◌then◌else◌, nat_lt, List, [], ◌∷◌, ◌++◌, length, get_or, set, Option, Some, None, refl, sym, subst, ◌⊎◌, inl, inr, arith}
 use Rattle.std.proofs.lemmas.List.{length-set, length_push}
-use Rattle.seize_machine.specs.Machine.State.{no_slot, State, Slot, Call, Head, Inactive, Active, Place, Append, Mark, Look, Try, Add, Out, Rest, slot_at, head_at, is_active}
+use Rattle.seize_machine.specs.Machine.State.{no_slot, State, Slot, Progress, Head, Inactive, Active, Place, Append, Mark, Look, Try, Add, Out, Rest, slot_at, head_at, is_active}
 use Rattle.seize_machine.specs.Machine.Event.{Event}
 use Rattle.seize_machine.specs.Machine.Next.{look, marked_place, looked}
 use Rattle.seize_machine.specs.Machine.Laws.{is_put}
@@ -18,7 +18,7 @@ PlaceFits k n l (Try b won m later saw) = (l < max k n) × (won + 1 + length lat
 PlaceFits k n l (Add b won) = (l < max k n) × (won ≤ n)
 PlaceFits k n l _ = l < max k n
 
-abbrev pub CallFits : ℕ → ℕ → ℕ → Option Call → Type 0
+abbrev pub CallFits : ℕ → ℕ → ℕ → Option Progress → Type 0
 CallFits k n l None = l < max k n
 CallFits k n l (Some call) = PlaceFits k n l call.place
 
@@ -29,7 +29,7 @@ abbrev pub Fits : ℕ → State → Type 0
 Fits k st = (t : ℕ) → SlotFits k (length st.slots) (slot_at st t)
 
 -- with one slot more it still fits
-wider : (k n l : ℕ) (call : Option Call) → CallFits k n l call → CallFits k (n + 1) l call
+wider : (k n l : ℕ) (call : Option Progress) → CallFits k n l call → CallFits k (n + 1) l call
 wider k n l None h = omega arith
 wider k n l (Some call) h = go call.place h
   where

@@ -4,7 +4,7 @@ use Rattle.std.proofs.Common.{◌≡◌, ◌≢◌, ℕ, ◌+◌, ◌<◌, ◌�
 use Rattle.std.proofs.lemmas.Int.{ints}
 use Rattle.std.proofs.lemmas.List.{get_or-set_same, get_or-set_other, get_or_past, get_or_push, get_or_append_left, set_past}
 use Rattle.std.proofs.lemmas.List.Sums.{sum_by_push, get_or-le-sum_by}
-use Rattle.seize_machine.specs.Machine.State.{no_slot, no_batch, State, Slot, Call, Head, Inactive, Active, Place, Append, Mark, Look, Try, Add, Out, Rest, slot_at, head_at, batch_at, is_active, waiting_at}
+use Rattle.seize_machine.specs.Machine.State.{no_slot, no_batch, State, Slot, Progress, Head, Inactive, Active, Place, Append, Mark, Look, Try, Add, Out, Rest, slot_at, head_at, batch_at, is_active, waiting_at}
 use Rattle.seize_machine.specs.Machine.Event.{Event, SwapOut}
 use Rattle.seize_machine.specs.Machine.Next.{look, marked_place, looked, is_zero}
 use Rattle.seize_machine.specs.declared.machine.event.Answer.{Answer}
@@ -33,7 +33,7 @@ pushed P xs j y d new old = go (is_true (length xs == j))
     go (inr t) = let other : length xs ≢ j = grind arith in rw (get_or_push_other xs y d j other) old
 
 -- a change of one slot's record
-keeps : (s v : ℕ) (st : State) (i : ℕ) (new : Slot) (o : Option Call) → i < length st.slots → (slot_at st i).call ≡ o
+keeps : (s v : ℕ) (st : State) (i : ℕ) (new : Slot) (o : Option Progress) → i < length st.slots → (slot_at st i).call ≡ o
     → given v new.call ≡ given v o → (1 ≤ occ v new.batch → Marks s new.call) → ((b : ℕ) → inserts_left b s new.call ≡ inserts_left b s o) → KeptIn s v st → KeepsBack s v (set st.slots i new) st.heads st.batches st.gone
 keeps s v st i new o r e same_given marked same_left c =
     record {
@@ -126,7 +126,7 @@ let_go s v a st c l h =
     at_most_listed (inl t) = omega (arith, get_or-le-sum_by (λ head. occ a (waiting_at head)) st.heads s Inactive (lt_true _ _ t))
     at_most_listed (inr t) = let r : length st.heads ≤ s = grind arith in ap (λ head. occ a (waiting_at head)) (get_or_past st.heads s Inactive r)
 
-owns-left : (b s : ℕ) (call : Option Call) → owns b call ≡ 0 → inserts_left b s call ≡ 0
+owns-left : (b s : ℕ) (call : Option Progress) → owns b call ≡ 0 → inserts_left b s call ≡ 0
 owns-left b s None e = refl
 owns-left b s (Some call) e = go call.place e
   where

@@ -5,7 +5,7 @@ use Rattle.std.specs.List.{Contains}
 use Rattle.std.proofs.lemmas.Int.{ints}
 use Rattle.std.proofs.lemmas.List.{get_or-set_other, get_or_past, get_or_push, get_or_append_left, get_or-replicate, length-set, length_push, length-replicate}
 use Rattle.std.proofs.lemmas.List.Sums.{sum_by-set, sum_by_push, get_or-le-sum_by}
-use Rattle.seize_machine.specs.Machine.State.{no_slot, no_batch, State, Slot, Batch, Call, Head, Inactive, Active, Place, Mark, Try, Add, Rest, slot_at, head_at, batch_at, link_at, is_active, waiting_at, has, opening}
+use Rattle.seize_machine.specs.Machine.State.{no_slot, no_batch, State, Slot, Batch, Progress, Head, Inactive, Active, Place, Mark, Try, Add, Rest, slot_at, head_at, batch_at, link_at, is_active, waiting_at, has, opening}
 use Rattle.seize_machine.specs.Machine.Event.{Event}
 use Rattle.seize_machine.specs.Machine.Next.{look, looked, marked_place, is_zero, flushing_at}
 use Rattle.seize_machine.specs.Machine.History.{IsReached}
@@ -30,7 +30,7 @@ abbrev PlaceFull : ℕ → Place → Type 0
 PlaceFull l (Mark next note marks) = 1 ≤ l
 PlaceFull l _ = Unit {0}
 
-abbrev CallFull : ℕ → Option Call → Type 0
+abbrev CallFull : ℕ → Option Progress → Type 0
 CallFull l None = Unit {0}
 CallFull l (Some call) = PlaceFull l call.place
 
@@ -127,7 +127,7 @@ abbrev FullIn : ℕ → State → Type 0
 FullIn b st = Full b st.slots st.heads st.batches
 
 -- a change of one slot's record that makes no holder
-same_holders : (b : ℕ) (st : State) (s : ℕ) (new : Slot) (o : Option Call) → s < length st.slots → (slot_at st s).call ≡ o
+same_holders : (b : ℕ) (st : State) (s : ℕ) (new : Slot) (o : Option Progress) → s < length st.slots → (slot_at st s).call ≡ o
     → walks b new.call ≤ walks b o → owns b new.call ≤ owns b o → FullIn b st → Full b (set st.slots s new) st.heads st.batches
 same_holders b st s new o r e walk own c = λ h. c (omega (arith, change (walks b) st s new o r e, change (owns b) st s new o r e))
 

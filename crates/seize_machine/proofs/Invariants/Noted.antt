@@ -1,7 +1,7 @@
 -- The note of a call that marks is no greater than the number of slots: it is how many there were, and none is taken away.
 use Rattle.std.proofs.Common.{◌≡◌, ℕ, ◌+◌, ◌≤◌, Bool, true, false, if◌then◌else◌, nat_lt, List, [], ◌∷◌, ◌++◌, length, get_or, set, Option, Some, None, refl, sym, subst, inl, inr, arith}
 use Rattle.std.proofs.lemmas.List.{length-set, length_push}
-use Rattle.seize_machine.specs.Machine.State.{no_slot, State, Slot, Call, Head, Inactive, Active, Place, Append, Mark, Look, Rest, slot_at, head_at, is_active, opening}
+use Rattle.seize_machine.specs.Machine.State.{no_slot, State, Slot, Progress, Head, Inactive, Active, Place, Append, Mark, Look, Rest, slot_at, head_at, is_active, opening}
 use Rattle.seize_machine.specs.Machine.Event.{Event}
 use Rattle.seize_machine.specs.Machine.Next.{look, marked_place, looked}
 use Rattle.seize_machine.specs.Machine.History.{IsReached}
@@ -16,7 +16,7 @@ abbrev place_note : Place → ℕ
 place_note (Mark next note marks) = note
 place_note _ = 0
 
-abbrev note_of : Option Call → ℕ
+abbrev note_of : Option Progress → ℕ
 note_of None = 0
 note_of (Some call) = place_note call.place
 

@@ -4,7 +4,7 @@ use Rattle.std.specs.Prelude.{option_to_list}
 use Rattle.std.specs.List.{sum_by, filter}
 use Rattle.std.proofs.lemmas.List.{get_or_past, set_past}
 use Rattle.std.proofs.lemmas.List.Sums.{sum_by-set, sum_by_push}
-use Rattle.seize_machine.specs.Machine.State.{no_slot, no_batch, State, Slot, Batch, Call, Head, Inactive, Active, Place, Append, Look, Add, Rest, slot_at, head_at, batch_at, link_at, is_active, waiting_at, is_idle, has}
+use Rattle.seize_machine.specs.Machine.State.{no_slot, no_batch, State, Slot, Batch, Progress, Head, Inactive, Active, Place, Append, Look, Add, Rest, slot_at, head_at, batch_at, link_at, is_active, waiting_at, is_idle, has}
 use Rattle.seize_machine.specs.Machine.Event.{Event}
 use Rattle.seize_machine.specs.Machine.Next.{look, marked_place, looked, begun, retiring, is_none_or_fresh}
 use Rattle.seize_machine.specs.declared.machine.event.Answer.{Answer}
@@ -17,7 +17,7 @@ place_has v (Append w) = one (w == v)
 place_has v (Rest given walk) = occ v given
 place_has v _ = 0
 
-abbrev pub call_has : ℕ → Option Call → ℕ
+abbrev pub call_has : ℕ → Option Progress → ℕ
 call_has v None = 0
 call_has v (Some call) = occ v call.queue + place_has v call.place
 
@@ -47,7 +47,7 @@ move v st s new h = sum_by-set (slot_has v) st.slots s new no_slot h
 same_place : (v : ℕ) (st : State) (s : ℕ) (new : Slot) → s < length st.slots → slot_has v new ≡ slot_has v (slot_at st s) → in_slots v (set st.slots s new) ≡ in_slots v st.slots
 same_place v st s new h e = omega (arith, move v st s new h)
 
-had : (v : ℕ) (st : State) (s : ℕ) (o : Option Call) → (slot_at st s).call ≡ o → slot_has v (slot_at st s) ≡ occ v (slot_at st s).batch + call_has v o
+had : (v : ℕ) (st : State) (s : ℕ) (o : Option Progress) → (slot_at st s).call ≡ o → slot_has v (slot_at st s) ≡ occ v (slot_at st s).batch + call_has v o
 had v st s o e = ap (λ o. occ v (slot_at st s).batch + call_has v o) e
 
 look_has : (v c won : ℕ) (marks : List ℕ) → place_has v (look c won marks) ≡ 0

@@ -2,7 +2,7 @@
 use Rattle.std.proofs.Common.{◌≡◌, ℕ, ◌+◌, ◌<◌, ◌≤◌, ℤ, pos, Bool, true, false, ◌==◌, if◌then◌else◌, List, [], ◌∷◌, ◌++◌, length, set, Option, Some, None, refl, ◌∙◌, ap, ◌⊎◌, inr, subst, arith}
 use Rattle.std.specs.List.{sum_by}
 use Rattle.std.proofs.lemmas.List.Sums.{sum_by-set, sum_by_push, sum_by-le-sum_by}
-use Rattle.seize_machine.specs.Machine.State.{no_slot, State, Slot, Call, Place, Append, Mark, Look, Try, Add, Out, Rest, slot_at, head_at, batch_at, is_active, waiting_at}
+use Rattle.seize_machine.specs.Machine.State.{no_slot, State, Slot, Progress, Place, Append, Mark, Look, Try, Add, Out, Rest, slot_at, head_at, batch_at, is_active, waiting_at}
 use Rattle.seize_machine.specs.Machine.Event.{Event}
 use Rattle.seize_machine.specs.Machine.Next.{look, marked_place, looked}
 use Rattle.seize_machine.specs.Machine.History.{retired_value, place_value, call_value}
@@ -30,7 +30,7 @@ is_value v (Some w) = one (w == v)
 move : (v : ℕ) (st : State) (s : ℕ) (new : Slot) → s < length st.slots → kept_in v (set st.slots s new) + slot_keeps v (slot_at st s) ≡ kept_in v st.slots + slot_keeps v new
 move v st s new h = sum_by-set (slot_keeps v) st.slots s new no_slot h
 
-had : (v : ℕ) (st : State) (s : ℕ) (o : Option Call) → (slot_at st s).call ≡ o → slot_keeps v (slot_at st s) ≡ occ v (slot_at st s).batch + given v o
+had : (v : ℕ) (st : State) (s : ℕ) (o : Option Progress) → (slot_at st s).call ≡ o → slot_keeps v (slot_at st s) ≡ occ v (slot_at st s).batch + given v o
 had v st s o e = ap (λ o. occ v (slot_at st s).batch + given v o) e
 
 settles : (v : ℕ) (st : State) (s a : ℕ) (from : Place) (up : Bool) (count : ℤ) (walk queue : List ℕ) → Stands st s from queue → place_given v from ≡ 0
@@ -97,7 +97,7 @@ kept-le-slots v slots = sum_by-le-sum_by (slot_keeps v) (slot_has v) slots le
     at_place (Out stays) = omega arith
     at_place (Rest given walk) = omega arith
 
-    in_call : (call : Option Call) → given v call ≤ Rattle.seize_machine.proofs.Invariants.Once.call_has v call
+    in_call : (call : Option Progress) → given v call ≤ Rattle.seize_machine.proofs.Invariants.Once.call_has v call
     in_call None = omega arith
     in_call (Some call) = omega (arith, at_place call.place)
 

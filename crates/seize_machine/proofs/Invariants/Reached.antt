@@ -3,7 +3,7 @@ use Rattle.std.proofs.Common.{◌≡◌, ℕ, zero, suc, ◌+◌, ◌<◌, ◌�
 use Rattle.std.proofs.lemmas.Int.{ints}
 use Rattle.std.proofs.lemmas.List.{get_or_past}
 use Rattle.std.proofs.lemmas.List.Sums.{get_or-le-sum_by}
-use Rattle.seize_machine.specs.Machine.State.{no_slot, State, Slot, Call, Place, Append, Mark, Look, Try, Add, Out, Rest, slot_at, batch_at, linked_values, are_distinct, opening}
+use Rattle.seize_machine.specs.Machine.State.{no_slot, State, Slot, Progress, Place, Append, Mark, Look, Try, Add, Out, Rest, slot_at, batch_at, linked_values, are_distinct, opening}
 use Rattle.seize_machine.specs.Machine.Next.{Outcome, next}
 use Rattle.seize_machine.specs.Machine.History.{Timed, or_illegal, done_by, end_of, IsReached}
 use Rattle.seize_machine.specs.Machine.Laws.{is_put, PutsWithin}
@@ -65,7 +65,7 @@ owner_wins k b st fits c = go (nat_lt 0 (of_calls (owns b) st.slots)) refl
     slot_fits : (slot : Slot) → SlotFits k (length st.slots) slot → wins b slot.call ≤ length st.slots
     slot_fits slot f = of slot.call f
       where
-        of : (o : Option Call) → CallFits k (length st.slots) (length slot.batch) o → wins b o ≤ length st.slots
+        of : (o : Option Progress) → CallFits k (length st.slots) (length slot.batch) o → wins b o ≤ length st.slots
         of None f = omega arith
         of (Some call) f = place_fits call.place (length slot.batch) f
 
@@ -126,7 +126,7 @@ counts_fit k st fits i = record { fit = λ s. of_call s (slot_at st s).call refl
     at s (Rest [] (b ∷ walk)) queue e = (tt, subtracts k b s walk queue st fits i e)
     at s (Rest (v ∷ given) walk) queue e = (tt, tt)
 
-    of_call : (s : ℕ) (o : Option Call) → (slot_at st s).call ≡ o → CallCountsFit st o
+    of_call : (s : ℕ) (o : Option Progress) → (slot_at st s).call ≡ o → CallCountsFit st o
     of_call s None e = tt
     of_call s (Some call) e = at s call.place call.queue e
 

@@ -3,7 +3,7 @@ use Rattle.std.proofs.Common.{◌≡◌, ◌≢◌, ℕ, ◌+◌, ◌<◌, ◌�
 use Rattle.std.proofs.lemmas.Int.{ints}
 use Rattle.std.proofs.lemmas.List.{get_or-set_same, get_or-set_other, get_or_past, get_or_push, get_or_append_left, get_or-replicate, length-set, length_push, length-replicate}
 use Rattle.std.proofs.lemmas.List.Sums.{get_or-le-sum_by}
-use Rattle.seize_machine.specs.Machine.State.{no_slot, no_batch, State, Slot, Batch, Call, Head, Inactive, Active, Place, Append, Mark, Look, Try, Add, Out, Rest, slot_at, head_at, batch_at, is_active, waiting_at, linked_values, are_distinct, opening}
+use Rattle.seize_machine.specs.Machine.State.{no_slot, no_batch, State, Slot, Batch, Progress, Head, Inactive, Active, Place, Append, Mark, Look, Try, Add, Out, Rest, slot_at, head_at, batch_at, is_active, waiting_at, linked_values, are_distinct, opening}
 use Rattle.seize_machine.specs.Machine.Event.{Event, event_slot}
 use Rattle.seize_machine.specs.Machine.Next.{Outcome, next, of_call, walking_at, look, looked, marked_place, is_zero}
 use Rattle.seize_machine.specs.Machine.Laws.{detached_by, walk_of, Lists, Walks}
@@ -71,7 +71,7 @@ owner_range b s st h = go (is_true (nat_lt s (length st.slots)))
         let none : owns b (slot_at st s).call ≡ 0 = ap (λ (slot : Slot). owns b slot.call) (get_or_past st.slots s no_slot past) in
         absurd (omega arith)
 
-pub owner_is : (b : ℕ) (call : Option Call) → detached_by call ≡ Some b → 1 ≤ owns b call
+pub owner_is : (b : ℕ) (call : Option Progress) → detached_by call ≡ Some b → 1 ≤ owns b call
 owner_is b None e = absurd (cc)
 owner_is b (Some call) e = go call.place e
   where
@@ -151,7 +151,7 @@ PlaceTidy active values batch (Add b won) = won ≤ values b
 PlaceTidy active values batch (Out stays) = active ≡ true
 PlaceTidy active values batch _ = Unit {0}
 
-abbrev CallTidy : Bool → (ℕ → ℕ) → ℕ → Option Call → Type 0
+abbrev CallTidy : Bool → (ℕ → ℕ) → ℕ → Option Progress → Type 0
 CallTidy active values batch None = Unit {0}
 CallTidy active values batch (Some call) = PlaceTidy active values batch call.place
 
@@ -165,7 +165,7 @@ abbrev Tidy : State → Type 0
 Tidy st = (s : ℕ) → SlotTidy st s
 
 -- the same call, where the batches that it owns have the same values
-same_tidy : (active : Bool) (new old : ℕ → ℕ) (batch : ℕ) (call : Option Call) → ((b : ℕ) → 1 ≤ owns b call → new b ≡ old b) → CallTidy active old batch call → CallTidy active new batch call
+same_tidy : (active : Bool) (new old : ℕ → ℕ) (batch : ℕ) (call : Option Progress) → ((b : ℕ) → 1 ≤ owns b call → new b ≡ old b) → CallTidy active old batch call → CallTidy active new batch call
 same_tidy active new old batch None same t = tt
 same_tidy active new old batch (Some call) same t = go call.place same t
   where
@@ -214,7 +214,7 @@ here : (st : State) (heads : List Head) (batches : List Batch) (s : ℕ) (new : 
 here st heads batches s new r t = rw (get_or-set_same st.slots s new no_slot r) t
 
 of_place : (place : Place) (queue : List ℕ) (st : State) (s : ℕ) → Stands st s place queue → SlotTidy st s → PlaceTidy (is_active (head_at st s)) (values_at st) (length (slot_at st s).batch) place
-of_place place queue st s e t = subst (λ (o : Option Call). CallTidy (is_active (head_at st s)) (values_at st) (length (slot_at st s).batch) o) e t
+of_place place queue st s e t = subst (λ (o : Option Progress). CallTidy (is_active (head_at st s)) (values_at st) (length (slot_at st s).batch) o) e t
 
 start_tidy : (active : Bool) (values : ℕ → ℕ) (batch n : ℕ) (place : Place) → active ≡ true → (place ≡ Rest [] []) ⊎ (place ≡ Mark 0 n []) ⊎ (place ≡ Out true) ⊎ (place ≡ Out false) → PlaceTidy active values batch place
 start_tidy active values batch n place on which = starts (PlaceTidy active values batch) n tt (λ v. (omega arith, λ h. absurd (omega arith)), omega arith) on on place which
@@ -230,7 +230,7 @@ tidy_own size st event _ (Step.took_new s e least) t =
 tidy_own size st event _ (Step.took_old s r e least) t = here st st.heads st.batches s (record (slot_at st s) { used = true }) r t
 tidy_own size st event _ (Step.gave s e off) t = here st st.heads st.batches s (record (slot_at st s) { used = false }) (idle_range st s e) t
 tidy_own size st event _ (Step.entered s e off) t =
-    subst (λ (o : Option Call). CallTidy (is_active (get_or (set st.heads s (Active [])) s Inactive)) (values_at st) (length (slot_at st s).batch) o) (sym (idle_call (slot_at st s) e)) tt
+    subst (λ (o : Option Progress). CallTidy (is_active (get_or (set st.heads s (Active [])) s Inactive)) (values_at st) (length (slot_at st s).batch) o) (sym (idle_call (slot_at st s) e)) tt
 tidy_own size st event _ (Step.begun_retire s v e new) t = here st st.heads st.batches s (record (slot_at st s) { call = Some (record { place = Append v; queue = [] }) }) (idle_range st s e) tt
 tidy_own size st event _ (Step.begun_other s job place e which exact) t =
     here st st.heads st.batches s (record (slot_at st s) { call = Some (record { place = place; queue = [] }) }) (idle_range st s e) (start_tidy _ _ _ (length st.slots) place exact.0 which)
@@ -419,7 +419,7 @@ arrives_unheld size st event d b r step none_left at s = all (arrives size st ev
     arrives : (size : ℕ) (st : State) (event : Event) (d : State × Answer) (b : ℕ) → Inv st → Step size st event d → d.1 ≡ Count (pos 0) → changes_batch st b event ≡ true
         → ((batch_at d.0 b).count ≡ pos 0) × (of_calls (owns b) (d.0).slots ≡ 0)
     arrives size st event _ b v (Step.added i a won queue d e h) none_left at =
-        let a_is : a ≡ b = eq_true a b (ap (λ (o : Option Call). is_number b (added_batch o)) (sym e) ∙ at) in
+        let a_is : a ≡ b = eq_true a b (ap (λ (o : Option Progress). is_number b (added_batch o)) (sym e) ∙ at) in
         let z : (batch_at st a).count +ℤ pos won ≡ pos 0 = zero_at _ (ap (λ (x : State × Answer). x.1) (some_is _ _ h) ∙ none_left) in
         let mine : one (b == b) ≡ 1 = grind arith in
         let own : one (a == b) ≡ 1 = rw a_is mine in
@@ -431,7 +431,7 @@ arrives_unheld size st event d b r step none_left at s = all (arrives size st ev
           omega (arith, change (owns b) st i (record (slot_at st i) { call = Some (record { place = Rest (if is_zero ((batch_at st a).count +ℤ pos won) then (batch_at st a).values else []) []; queue = queue }) }) _ (in_range st i _ e) e, (v.sound.counts b).alone),
         )
     arrives size st event _ b v (Step.subtracted i a walk queue d e h) none_left at =
-        let a_is : a ≡ b = eq_true a b (ap (λ (o : Option Call). is_number b (of_call walking_at o)) (sym e) ∙ at) in
+        let a_is : a ≡ b = eq_true a b (ap (λ (o : Option Progress). is_number b (of_call walking_at o)) (sym e) ∙ at) in
         let z : (batch_at st a).count -ℤ pos 1 ≡ pos 0 = zero_at _ (ap (λ (x : State × Answer). x.1) (some_is _ _ h) ∙ none_left) in
         let mine : one (b == b) ≡ 1 = grind arith in
         let own : one (a == b) ≡ 1 = rw a_is mine in

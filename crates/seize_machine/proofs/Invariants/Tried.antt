@@ -3,7 +3,7 @@ use Rattle.std.proofs.Common.{◌≡◌, ℕ, ◌+◌, ◌<◌, ◌≤◌, Bool,
 use Rattle.std.specs.List.{sum_by}
 use Rattle.std.proofs.lemmas.List.{get_or-set_other, get_or_past}
 use Rattle.std.proofs.lemmas.List.Sums.{sum_by_push, get_or-le-sum_by}
-use Rattle.seize_machine.specs.Machine.State.{no_slot, no_batch, State, Slot, Call, Head, Inactive, Active, Place, Mark, Look, Try, Out, Rest, slot_at, head_at, batch_at, is_active, waiting_at, linked_values, are_distinct, opening}
+use Rattle.seize_machine.specs.Machine.State.{no_slot, no_batch, State, Slot, Progress, Head, Inactive, Active, Place, Mark, Look, Try, Out, Rest, slot_at, head_at, batch_at, is_active, waiting_at, linked_values, are_distinct, opening}
 use Rattle.seize_machine.specs.Machine.Event.{Event}
 use Rattle.seize_machine.specs.Machine.Next.{look, looked, marked_place}
 use Rattle.seize_machine.specs.Machine.History.{IsReached}
@@ -54,7 +54,7 @@ marked_left : (b m : ℕ) (active : Bool) (n note : ℕ) (marks batch : List ℕ
 marked_left b m active n note marks batch = grind arith
 
 -- who has still to insert a batch owns it
-owns-left : (b m : ℕ) (call : Option Call) → owns b call ≡ 0 → inserts_left b m call ≡ 0
+owns-left : (b m : ℕ) (call : Option Progress) → owns b call ≡ 0 → inserts_left b m call ≡ 0
 owns-left b m None e = refl
 owns-left b m (Some call) e = go call.place e
   where
@@ -64,7 +64,7 @@ owns-left b m (Some call) e = go call.place e
     go _ e = refl
 
 -- a change of one slot's record that adds neither an insertion nor a walk
-same_unheld : (b m : ℕ) (st : State) (i : ℕ) (new : Slot) (o : Option Call) → i < length st.slots → (slot_at st i).call ≡ o
+same_unheld : (b m : ℕ) (st : State) (i : ℕ) (new : Slot) (o : Option Progress) → i < length st.slots → (slot_at st i).call ≡ o
     → inserts_left b m new.call ≤ inserts_left b m o → walks b new.call ≤ walks b o → UnheldIn b m st → Unheld b m (set st.slots i new) st.heads
 same_unheld b m st i new o r e fewer walk c = λ some.
     let old : (occ b (waiting_at (head_at st m)) ≡ 0) × (walks b (slot_at st m).call ≡ 0) = c (omega (arith, change (inserts_left b m) st i new o r e)) in

@@ -1,7 +1,7 @@
 -- The law of holders: a retired batch that is not given up is listed, walked, or with the call that detached it.
 use Rattle.std.proofs.Common.{◌≡◌, ℕ, ◌<◌, ◌≤◌, Bool, true, false, ◌==◌, nat_lt, List, length, Option, Some, None, refl, inl, inr, arith}
 use Rattle.std.specs.List.{Contains}
-use Rattle.seize_machine.specs.Machine.State.{no_slot, State, Call, Inactive, Place, Append, Mark, Look, Try, Add, Out, Rest, slot_at, head_at, batch_at, waiting_at, linked_values, are_distinct, opening}
+use Rattle.seize_machine.specs.Machine.State.{no_slot, State, Progress, Inactive, Place, Append, Mark, Look, Try, Add, Out, Rest, slot_at, head_at, batch_at, waiting_at, linked_values, are_distinct, opening}
 use Rattle.seize_machine.specs.Machine.Next.{next}
 use Rattle.seize_machine.specs.Machine.History.{Timed, end_of}
 use Rattle.seize_machine.specs.Machine.Laws.{Holders, IsHeld, walk_of, detached_by}
@@ -12,7 +12,7 @@ use Rattle.seize_machine.proofs.Invariants.Always.{Inv, opening_inv}
 use Rattle.seize_machine.proofs.Lists.Histories.{run}
 use Rattle.seize_machine.proofs.Lists.Ends.{end_inv}
 
-in_walk : (b : ℕ) (call : Option Call) → 1 ≤ walks b call → Contains (walk_of call) b
+in_walk : (b : ℕ) (call : Option Progress) → 1 ≤ walks b call → Contains (walk_of call) b
 in_walk b None h = absurd (omega arith)
 in_walk b (Some call) h = go call.place h
   where
@@ -25,7 +25,7 @@ in_walk b (Some call) h = go call.place h
     go (Add c won) h = absurd (omega arith)
     go (Out stays) h = absurd (omega arith)
 
-pub owner_of : (b : ℕ) (call : Option Call) → 1 ≤ owns b call → detached_by call ≡ Some b
+pub owner_of : (b : ℕ) (call : Option Progress) → 1 ≤ owns b call → detached_by call ≡ Some b
 owner_of b None h = absurd (omega arith)
 owner_of b (Some call) h = go call.place h
   where

@@ -3,7 +3,7 @@ use Rattle.std.proofs.Common.{◌≡◌, ℕ, zero, suc, ◌+◌, ◌<◌, ◌�
 use Rattle.std.specs.List.{slice_get}
 use Rattle.std.proofs.lemmas.List.{get_or_past, get_or-set_same, get_or-set_other, set_past, length-set, length_push}
 use Rattle.std.proofs.lemmas.List.Sums.{sum_by_push}
-use Rattle.seize_machine.specs.Machine.State.{no_slot, State, Slot, Batch, Call, Head, Inactive, Active, Place, Append, Mark, Look, Try, Add, Out, Rest, slot_at, head_at, batch_at, waiting_at, is_active, linked_values, are_distinct, opening}
+use Rattle.seize_machine.specs.Machine.State.{no_slot, State, Slot, Batch, Progress, Head, Inactive, Active, Place, Append, Mark, Look, Try, Add, Out, Rest, slot_at, head_at, batch_at, waiting_at, is_active, linked_values, are_distinct, opening}
 use Rattle.seize_machine.specs.Machine.Event.{Event}
 use Rattle.seize_machine.specs.Machine.Next.{Outcome, next, look, is_zero}
 use Rattle.seize_machine.specs.Machine.History.{Timed, Moment, end_of, is_swap_out, HasParted}
@@ -33,7 +33,7 @@ record Settled (b : ℕ) (base st : State) : Type 0 where
   there : b < length st.batches
 
 -- a change of one slot's record that adds no walk and no owner of b
-slot_settled : (b : ℕ) (base st : State) (i : ℕ) (new : Slot) (o : Option Call) → i < length st.slots → (slot_at st i).call ≡ o → walks b new.call ≤ walks b o → owns b new.call ≤ owns b o
+slot_settled : (b : ℕ) (base st : State) (i : ℕ) (new : Slot) (o : Option Progress) → i < length st.slots → (slot_at st i).call ≡ o → walks b new.call ≤ walks b o → owns b new.call ≤ owns b o
     → Settled b base st → ((s : ℕ) → walks b (get_or (set st.slots i new) s no_slot).call ≤ walked b st s) × (of_calls (owns b) (set st.slots i new) ≡ 0)
 slot_settled b base st i new o r e walk own c = (
   λ s. at_set (λ slot. walks b slot.call ≤ walked b st s) st.slots i s new no_slot
@@ -43,7 +43,7 @@ slot_settled b base st i new o r e walk own c = (
 )
 
 -- the same, where no head and no number of batches changes
-same_heads : (b : ℕ) (base st : State) (i : ℕ) (new : Slot) (o : Option Call) (loose gone named : List ℕ) → i < length st.slots → (slot_at st i).call ≡ o → walks b new.call ≤ walks b o → owns b new.call ≤ owns b o
+same_heads : (b : ℕ) (base st : State) (i : ℕ) (new : Slot) (o : Option Progress) (loose gone named : List ℕ) → i < length st.slots → (slot_at st i).call ≡ o → walks b new.call ≤ walks b o → owns b new.call ≤ owns b o
     → Settled b base st → (batches : List Batch) → length st.batches ≤ length batches
     → Settled b base (record st { slots = set st.slots i new; batches = batches; loose = loose; gone = gone; named = named })
 same_heads b base st i new o loose gone named r e walk own c batches more =
@@ -271,7 +271,7 @@ swapped_empty b s size st event _ (Step.swapped_out i stays queue e) own =
         ap (λ (l : List Head). occ b (waiting_at (get_or l i Inactive))) (set_past st.heads i new past) ∙ ap (λ (head : Head). occ b (waiting_at head)) (get_or_past st.heads i Inactive past)
 swapped_empty b s size st event _ _ own = absurd (cc)
 
-pub walk_is : (b : ℕ) (o : Option Call) → occ b (walk_of o) ≡ walks b o
+pub walk_is : (b : ℕ) (o : Option Progress) → occ b (walk_of o) ≡ walks b o
 walk_is b None = refl
 walk_is b (Some call) = go call.place
   where

@@ -2,7 +2,7 @@
 use Rattle.std.proofs.Common.{◌≡◌, ℕ, zero, suc, ◌<◌, ◌≤◌, max, Bool, true, false, not, nat_lt, List, [], ◌∷◌, length, get_or, Option, Some, None, is_some, refl, ap, ◌⊎◌, inl, inr, arith}
 use Rattle.std.specs.List.{list_all}
 use Rattle.std.proofs.lemmas.List.Sums.{sum_by-cons}
-use Rattle.seize_machine.specs.Machine.State.{no_slot, no_batch, State, Slot, Call, Head, Inactive, Active, slot_at, batch_at, is_active, waiting_at, linked_values, are_distinct, opening}
+use Rattle.seize_machine.specs.Machine.State.{no_slot, no_batch, State, Slot, Progress, Head, Inactive, Active, slot_at, batch_at, is_active, waiting_at, linked_values, are_distinct, opening}
 use Rattle.seize_machine.specs.Machine.History.{Timed, end_of, Reclaimed}
 use Rattle.seize_machine.specs.Machine.Laws.{Quiet, bound, IsBatched}
 use Rattle.seize_machine.proofs.Steps.Relation.{and_true}
@@ -23,11 +23,11 @@ NoCalls slots = list_all (λ slot. not (is_some slot.call)) slots ≡ true
 abbrev NoneActive : List Head → Type 0
 NoneActive heads = list_all (λ head. not (is_active head)) heads ≡ true
 
-is_none : (o : Option Call) → not (is_some o) ≡ true → o ≡ None
+is_none : (o : Option Progress) → not (is_some o) ≡ true → o ≡ None
 is_none None e = refl
 is_none (Some c) e = absurd (cc)
 
-no_calls : (f : Option Call → ℕ) (slots : List Slot) → f None ≡ 0 → NoCalls slots → of_calls f slots ≡ 0
+no_calls : (f : Option Progress → ℕ) (slots : List Slot) → f None ≡ 0 → NoCalls slots → of_calls f slots ≡ 0
 no_calls f [] z h = refl
 no_calls f (slot ∷ slots) z h =
     let t : (not (is_some slot.call) ≡ true) × NoCalls slots = and_true _ _ h in

@@ -3,7 +3,7 @@ use Rattle.std.proofs.Common.{◌≡◌, ◌≢◌, ℕ, ◌+◌, ◌<◌, ◌�
 use Rattle.std.specs.List.{count_by}
 use Rattle.std.proofs.lemmas.List.{get_or-set_same, get_or-set_other, get_or_push}
 use Rattle.std.proofs.lemmas.List.Sums.{sum_by-cons, take_while-cons}
-use Rattle.seize_machine.specs.Machine.State.{no_slot, State, Slot, Call, Head, Inactive, Active, Place, Append, Mark, Look, Try, Add, Out, Rest, slot_at, head_at, is_active, waiting_at, linked_values, are_distinct, opening}
+use Rattle.seize_machine.specs.Machine.State.{no_slot, State, Slot, Progress, Head, Inactive, Active, Place, Append, Mark, Look, Try, Add, Out, Rest, slot_at, head_at, is_active, waiting_at, linked_values, are_distinct, opening}
 use Rattle.seize_machine.specs.Machine.Event.{Event, event_slot}
 use Rattle.seize_machine.specs.Machine.Next.{Outcome, next, look, marked_place, looked, same_list}
 use Rattle.seize_machine.specs.Machine.History.{Timed, Moment}
@@ -20,7 +20,7 @@ abbrev place_stale : ℕ → Head → Place → ℕ
 place_stale n head (Try b won m later saw) = if m == n then one (not (same_head head (Active saw))) else 0
 place_stale n head _ = 0
 
-abbrev call_stale : ℕ → Head → Option Call → ℕ
+abbrev call_stale : ℕ → Head → Option Progress → ℕ
 call_stale n head None = 0
 call_stale n head (Some call) = place_stale n head call.place
 
@@ -43,7 +43,7 @@ same_head_true (Active xs) (Active ys) e = ap (λ xs. Active xs) (same_list_true
 same_head_true Inactive (Active ys) e = absurd (cc)
 same_head_true (Active xs) Inactive e = absurd (cc)
 
-stale_small : (n : ℕ) (head : Head) (call : Option Call) → call_stale n head call ≤ 1
+stale_small : (n : ℕ) (head : Head) (call : Option Progress) → call_stale n head call ≤ 1
 stale_small n head None = omega arith
 stale_small n head (Some call) = go call.place
   where
@@ -97,7 +97,7 @@ lost_stale n heads b won m later saw differs = go (m == n) refl (same_head (get_
 now : (n : ℕ) (head : Head) (slots : List Slot) (i : ℕ) (new : Slot) → i < length slots → call_stale n head (get_or (set slots i new) i no_slot).call ≡ call_stale n head new.call
 now n head slots i new r = ap (λ slot. call_stale n head slot.call) (get_or-set_same slots i new no_slot r)
 
-was : (n : ℕ) (head : Head) (st : State) (s : ℕ) (o : Option Call) → (slot_at st s).call ≡ o → call_stale n head (slot_at st s).call ≡ call_stale n head o
+was : (n : ℕ) (head : Head) (st : State) (s : ℕ) (o : Option Progress) → (slot_at st s).call ≡ o → call_stale n head (slot_at st s).call ≡ call_stale n head o
 was n head st s o e = ap (call_stale n head) e
 
 -- an event of the slot itself

@@ -5,7 +5,7 @@ use Rattle.std.specs.List.{slice_get}
 use Rattle.std.proofs.lemmas.Int.{ints}
 use Rattle.std.proofs.lemmas.List.{get_or-set_same, get_or_past}
 use Rattle.std.proofs.lemmas.List.Sums.{get_or-le-sum_by}
-use Rattle.seize_machine.specs.Machine.State.{no_slot, State, Slot, Call, Head, Inactive, Active, Place, Append, Mark, Look, Try, Add, Out, Rest, slot_at, head_at, batch_at, is_active, waiting_at, linked_values, are_distinct, opening}
+use Rattle.seize_machine.specs.Machine.State.{no_slot, State, Slot, Progress, Head, Inactive, Active, Place, Append, Mark, Look, Try, Add, Out, Rest, slot_at, head_at, batch_at, is_active, waiting_at, linked_values, are_distinct, opening}
 use Rattle.seize_machine.specs.Machine.Event.{Event, AddCount}
 use Rattle.seize_machine.specs.Machine.Next.{next, look, marked_place, looked, is_zero}
 use Rattle.seize_machine.specs.Machine.History.{Timed, Moment, IsReached}
@@ -29,7 +29,7 @@ Includes s waiting (Try b won m later saw) = 1 ≤ one (m == s) + occ s later + 
 Includes s waiting (Add b won) = 1 ≤ occ b waiting
 Includes s waiting _ = Unit {0}
 
-abbrev OfCall : ℕ → List ℕ → Option Call → Type 0
+abbrev OfCall : ℕ → List ℕ → Option Progress → Type 0
 OfCall s waiting None = Unit {0}
 OfCall s waiting (Some call) = Includes s waiting call.place
 
@@ -78,7 +78,7 @@ longer s before after (Add b won) more h = omega (arith, more b, h)
 longer s before after (Out stays) more h = tt
 longer s before after (Rest given walk) more h = tt
 
-longer_call : (s : ℕ) (before after : List ℕ) (call : Option Call) → ((b : ℕ) → occ b before ≤ occ b after) → OfCall s before call → OfCall s after call
+longer_call : (s : ℕ) (before after : List ℕ) (call : Option Progress) → ((b : ℕ) → occ b before ≤ occ b after) → OfCall s before call → OfCall s after call
 longer_call s before after None more h = tt
 longer_call s before after (Some call) more h = longer s before after call.place more h
 

@@ -3,7 +3,7 @@ use Rattle.std.proofs.Common.{◌≡◌, ℕ, ◌+◌, ◌≤◌, true, List, []
 use Rattle.std.specs.Prelude.{◌↔◌}
 use Rattle.std.specs.List.{Contains, flat_map}
 use Rattle.std.proofs.lemmas.List.Sums.{sum_by-cons}
-use Rattle.seize_machine.specs.Machine.State.{State, Slot, Call, Place, Append, Mark, Look, Try, Add, Out, Rest, has, linked_values, are_distinct, opening}
+use Rattle.seize_machine.specs.Machine.State.{State, Slot, Progress, Place, Append, Mark, Look, Try, Add, Out, Rest, has, linked_values, are_distinct, opening}
 use Rattle.seize_machine.specs.Machine.History.{Timed, end_of, IsReached, WasNamed, Retired}
 use Rattle.seize_machine.specs.Machine.Laws.{Whereabouts, to_retire, before_retirement, given_up, from_retirement, places as all_places}
 use Rattle.seize_machine.proofs.Counting.Sums.{occ, occ-append, has_some}
@@ -18,7 +18,7 @@ use Rattle.seize_machine.proofs.Lists.Histories.{run}
 use Rattle.seize_machine.proofs.Laws.After.{none_retired}
 use Rattle.seize_machine.proofs.Lists.Ends.{end_inv, named_if, if_named, retired_if, if_retired}
 
-occ-given : (v : ℕ) (call : Option Call) → occ v (given_up call) ≡ given v call
+occ-given : (v : ℕ) (call : Option Progress) → occ v (given_up call) ≡ given v call
 occ-given v None = refl
 occ-given v (Some call) = go call.place
   where
@@ -46,11 +46,11 @@ occ-from v st =
     ∙ ap (λ k. kept_in v st.slots + k + occ v st.gone) (occ-flat_map v (λ batch. batch.values) st.batches)
 
 -- what a call has is what it is to retire and what it is to hand
-occ-call : (v : ℕ) (call : Option Call) → occ v (to_retire call) + given v call ≡ call_has v call
+occ-call : (v : ℕ) (call : Option Progress) → occ v (to_retire call) + given v call ≡ call_has v call
 occ-call v None = refl
 occ-call v (Some call) = go call.place
   where
-    at : Place → Option Call
+    at : Place → Option Progress
     at place = Some (record { place = place; queue = call.queue })
 
     go : (place : Place) → occ v (to_retire (at place)) + given v (at place) ≡ call_has v (at place)

@@ -1,8 +1,8 @@
 -- Each step is a legal event, so the steps are exactly the legal events.
 use Rattle.std.proofs.Common.{◌≡◌, ◌≢◌, ℕ, ◌<◌, ◌≤◌, ℤ, pos, ◌+ℤ◌, ◌-ℤ◌, Bool, true, false, not, ◌&&◌, ◌||◌, ◌==◌, if◌then◌else◌, nat_lt, nat_le, List, [], ◌∷◌, ◌++◌, length, slice_set, unwrap_or, Option, Some, None, refl, sym, ◌∙◌, ap, subst, ◌⊎◌, inl, inr, arith}
-use Rattle.seize_machine.specs.Machine.State.{State, Slot, Call, Head, Inactive, Active, Place, Append, Look, Try, Out, Rest, slot_at, head_at, batch_at, link_at, is_active, waiting_at, has, is_idle}
+use Rattle.seize_machine.specs.Machine.State.{State, Slot, Progress, Head, Inactive, Active, Place, Append, Look, Try, Out, Rest, slot_at, head_at, batch_at, link_at, is_active, waiting_at, has, is_idle}
 use Rattle.seize_machine.specs.Machine.Event.{Event, Begin}
-use Rattle.seize_machine.specs.Machine.Next.{Outcome, scheme, next, of_call, moved_call, own, is_outside, set_slot, set_head, begun, put_at, put_into, mark_at, looking_at, looked_on, slot_read, can_detach_at, detached_on, trying_at, won_on, insert_into, insert, is_changed, can_lose_at, lost_on, same_list, is_zero, adding_at, add_count, walking_at, walked_on, sub_count, leaving_at, swap_out, handing_at, handed_on, hand, return_at, is_none_or_fresh}
+use Rattle.seize_machine.specs.Machine.Next.{Outcome, scheme, next, of_call, moved_call, own, is_outside, slot_set, set_head, begun, put_at, put_into, mark_at, looking_at, looked_on, slot_read, can_detach_at, detached_on, trying_at, won_on, insert_into, insert, is_changed, can_lose_at, lost_on, same_list, is_zero, adding_at, add_count, walking_at, walked_on, sub_count, leaving_at, swap_out, handing_at, handed_on, hand, return_at, is_none_or_fresh}
 use Rattle.seize_machine.specs.declared.machine.event.Job.{Job}
 use Rattle.seize_machine.specs.declared.machine.event.Job.TheVariants.{Retire, Flush, Leave, Refresh}
 use Rattle.seize_machine.specs.declared.machine.event.Answer.{Answer}
@@ -94,25 +94,25 @@ next_of size st event _ (Step.entered s e off) = yes _ _ _ (outside st s e off)
 next_of size st event _ (Step.begun_retire s v e new) = yes _ _ _ (both _ _ e (may st v new))
 next_of size st event _ (Step.begun_other s job place e which exact) = begins size st s job place e exact.0 exact.1
 next_of size st event _ (Step.put s v from before after place e which to after_is) =
-    ap (λ (o : Option Call). own st s Done (of_call (put_at scheme size (length st.slots) (slot_at st s)) o)) e
+    ap (λ (o : Option Progress). own st s Done (of_call (put_at scheme size (length st.slots) (slot_at st s)) o)) e
     ∙ ap (own st s Done) (put_from size (length st.slots) (slot_at st s) v from before after which ∙ put_is size (length st.slots) (slot_at st s) v after)
-    ∙ ap (λ (place : Place). Some (set_slot st s (record { used = (slot_at st s).used; batch = (slot_at st s).batch ++ v ∷ []; call = Some (record { place = place; queue = after }) }), Done)) (sym after_is)
+    ∙ ap (λ (place : Place). Some (slot_set st s (record { used = (slot_at st s).used; batch = (slot_at st s).batch ++ v ∷ []; call = Some (record { place = place; queue = after }) }), Done)) (sym after_is)
 next_of size st event _ (Step.marked s n next note marks queue e r k) =
     let answer : Answer = HeadRead (is_active (head_at st n)) in
     let marking : Place → List ℕ → Option Slot = mark_at scheme (length st.slots) n (is_active (head_at st n)) (slot_at st s) in
-    ap (λ (o : Option Call). own st s answer (slot_read scheme st n (slot_at st s) (of_call looking_at o))) e
-    ∙ ap (λ (o : Option Call). own st s answer (of_call marking o)) e
+    ap (λ (o : Option Progress). own st s answer (slot_read scheme st n (slot_at st s) (of_call looking_at o))) e
+    ∙ ap (λ (o : Option Progress). own st s answer (of_call marking o)) e
     ∙ ap (own st s answer) (yes _ _ _ (both _ _ (below _ _ r) (turn n next note k)))
 next_of size st event _ (Step.looked_at s b won m later queue e) =
     let answer : Answer = HeadRead (is_active (head_at st m)) in
-    ap (λ (o : Option Call). own st s answer (slot_read scheme st m (slot_at st s) (of_call looking_at o))) e
+    ap (λ (o : Option Progress). own st s answer (slot_read scheme st m (slot_at st s) (of_call looking_at o))) e
     ∙ ap (own st s answer) (yes _ _ _ (same m))
-    ∙ ap (λ (slot : Slot). Some (set_slot st s slot, answer)) (moved_to st s (looked_on scheme (head_at st m)) (Look b won m later) queue e)
+    ∙ ap (λ (slot : Slot). Some (slot_set st s slot, answer)) (moved_to st s (looked_on scheme (head_at st m)) (Look b won m later) queue e)
 next_of size st event _ (Step.detached s next note marks queue e le) =
-    yes _ _ _ (ap (λ (o : Option Call). unwrap_or (of_call can_detach_at o) false) e ∙ at_most note next le)
-    ∙ ap (λ (o : Option Call). after o) e
+    yes _ _ _ (ap (λ (o : Option Progress). unwrap_or (of_call can_detach_at o) false) e ∙ at_most note next le)
+    ∙ ap (λ (o : Option Progress). after o) e
   where
-    after : Option Call → Outcome
+    after : Option Progress → Outcome
     after call =
         Some (
           record st {
@@ -122,33 +122,33 @@ next_of size st event _ (Step.detached s next note marks queue e le) =
           Done,
         )
 next_of size st event _ (Step.inserted s m b won later saw queue waiting e head_is) =
-    ap (λ (o : Option Call). insert st s m (of_call trying_at o)) e
+    ap (λ (o : Option Progress). insert st s m (of_call trying_at o)) e
     ∙ yes _ _ _ (same m)
     ∙ ap (λ (head : Head). insert_into st s m b head) head_is
-    ∙ ap (λ (slot : Slot). Some (set_slot (set_head st m (Active (b ∷ waiting))) s slot, Done)) (moved_to st s won_on (Try b won m later saw) queue e)
+    ∙ ap (λ (slot : Slot). Some (slot_set (set_head st m (Active (b ∷ waiting))) s slot, Done)) (moved_to st s won_on (Try b won m later saw) queue e)
 next_of size st event _ (Step.lost s m b won later saw queue e differs) =
-    ap (own st s Done) (yes _ _ _ (ap (λ (o : Option Call). unwrap_or (of_call (can_lose_at scheme m (head_at st m)) o) false) e ∙ both _ _ (same m) (changed (head_at st m) saw differs)))
-    ∙ ap (λ (slot : Slot). Some (set_slot st s slot, Done)) (moved_to st s lost_on (Try b won m later saw) queue e)
+    ap (own st s Done) (yes _ _ _ (ap (λ (o : Option Progress). unwrap_or (of_call (can_lose_at scheme m (head_at st m)) o) false) e ∙ both _ _ (same m) (changed (head_at st m) saw differs)))
+    ∙ ap (λ (slot : Slot). Some (slot_set st s slot, Done)) (moved_to st s lost_on (Try b won m later saw) queue e)
 next_of size st event _ (Step.added s b won queue d e h) =
     let count : ℤ = (batch_at st b).count +ℤ pos won in
     let given : List ℕ = if is_zero count then (batch_at st b).values else [] in
-    ap (λ (o : Option Call). add_count scheme st s (of_call adding_at o)) e
-    ∙ ap (λ (o : Option Call). counted_call st s b count (moved_call (λ place. Rest given []) o)) e ∙ h
+    ap (λ (o : Option Progress). add_count scheme st s (of_call adding_at o)) e
+    ∙ ap (λ (o : Option Progress). counted_call st s b count (moved_call (λ place. Rest given []) o)) e ∙ h
 next_of size st event _ (Step.subtracted s b walk queue d e h) =
     let count : ℤ = (batch_at st b).count -ℤ pos 1 in
     let given : List ℕ = if is_zero count then (batch_at st b).values else [] in
-    ap (λ (o : Option Call). sub_count scheme st s (of_call walking_at o)) e
-    ∙ ap (λ (o : Option Call). counted_call st s b count (moved_call (walked_on given) o)) e ∙ h
+    ap (λ (o : Option Progress). sub_count scheme st s (of_call walking_at o)) e
+    ∙ ap (λ (o : Option Progress). counted_call st s b count (moved_call (walked_on given) o)) e ∙ h
 next_of size st event _ (Step.swapped_out s stays queue e) =
     let walk : List ℕ = waiting_at (head_at st s) in
-    ap (λ (o : Option Call). swap_out scheme st s (of_call leaving_at o)) e
-    ∙ ap (λ (slot : Slot). Some (set_slot (set_head st s (if stays then Active [] else Inactive)) s slot, Done)) (moved_to st s (λ place. Rest [] walk) (Out stays) queue e)
+    ap (λ (o : Option Progress). swap_out scheme st s (of_call leaving_at o)) e
+    ∙ ap (λ (slot : Slot). Some (slot_set (set_head st s (if stays then Active [] else Inactive)) s slot, Done)) (moved_to st s (λ place. Rest [] walk) (Out stays) queue e)
 next_of size st event _ (Step.handed s v puts given walk queue e new) =
-    ap (λ (o : Option Call). hand scheme st s puts (of_call handing_at o)) e
+    ap (λ (o : Option Progress). hand scheme st s puts (of_call handing_at o)) e
     ∙ yes _ _ _ new
-    ∙ ap (λ (o : Option Call). after o) e
+    ∙ ap (λ (o : Option Progress). after o) e
   where
-    after : Option Call → Outcome
+    after : Option Progress → Outcome
     after call =
         Some (
           record st {
@@ -159,10 +159,10 @@ next_of size st event _ (Step.handed s v puts given walk queue e new) =
           Handed v,
         )
       where
-        handed_to : Option Call → Option Call
+        handed_to : Option Progress → Option Progress
         handed_to None = None
         handed_to (Some call) = Some (record { place = handed_on call.place; queue = call.queue ++ puts })
-next_of size st event _ (Step.returned s e) = ap (λ (o : Option Call). own st s Done (of_call (return_at (slot_at st s)) o)) e
+next_of size st event _ (Step.returned s e) = ap (λ (o : Option Progress). own st s Done (of_call (return_at (slot_at st s)) o)) e
 next_of size st event _ (Step.read s l e) = yes _ _ _ e
 next_of size st event _ (Step.exchanged s l exchange new e fresh exact) =
     yes _ _ _ (both _ _ e (subst (λ (new : Option ℕ). is_none_or_fresh st new ≡ true) exact.0 fresh))

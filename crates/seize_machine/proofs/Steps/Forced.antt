@@ -1,7 +1,7 @@
 -- Where a call of a slot is under way, its place tells the next event of that slot, links aside.
 use Rattle.std.proofs.Common.{◌≡◌, ◌≢◌, ℕ, ◌<◌, ◌≤◌, true, false, ◌==◌, List, [], ◌∷◌, length, Option, Some, None, refl, sym, ◌∙◌, ap, subst, ◌⊎◌, inl, inr, arith}
 use Rattle.std.proofs.lemmas.List.{get_or_past}
-use Rattle.seize_machine.specs.Machine.State.{no_slot, State, Slot, Call, Active, Place, Append, Mark, Look, Try, Add, Out, Rest, slot_at, head_at}
+use Rattle.seize_machine.specs.Machine.State.{no_slot, State, Slot, Progress, Active, Place, Append, Mark, Look, Try, Add, Out, Rest, slot_at, head_at}
 use Rattle.seize_machine.specs.Machine.Event.{Event, Put, ReadHead, Detach, Insert, AddCount, SwapOut, SubCount, Hand, Return, event_slot}
 use Rattle.seize_machine.specs.Machine.Next.{are_fresh}
 use Rattle.seize_machine.specs.Machine.History.{is_link_event}
@@ -29,7 +29,7 @@ here : (st : State) (i s : ℕ) (from place : Place) (before queue : List ℕ) (
     → Forced st i from before e → Forced st s place queue e
 here st i s from place before queue e same stands now f =
     let call_is : record { place = from; queue = before } ≡ record { place = place; queue = queue } = some_is _ _ (sym stands ∙ ap (λ (k : ℕ). (slot_at st k).call) same ∙ now) in
-    subst (λ (k : ℕ). Forced st k place queue e) same (subst (λ (call : Call). Forced st i call.place call.queue e) call_is f)
+    subst (λ (k : ℕ). Forced st k place queue e) same (subst (λ (call : Progress). Forced st i call.place call.queue e) call_is f)
 
 -- no call is under way
 none : {A : Type 0} (st : State) (i s : ℕ) (place : Place) (queue : List ℕ) → i ≡ s → (slot_at st i).call ≡ None → Stands st s place queue → A

@@ -1,7 +1,7 @@
 -- What an event leaves as it was.
 use Rattle.std.proofs.Common.{◌≡◌, ℕ, zero, suc, ◌+◌, ◌<◌, Bool, true, false, not, cond, ◌==◌, ◌||◌, if◌then◌else◌, List, [], ◌∷◌, ◌++◌, map, length, get_or, set, option_to_list, Option, Some, None, filter, refl, sym, ◌∙◌, ap, subst, ◌⊎◌, inl, inr, arith}
 use Rattle.std.proofs.lemmas.List.{get_or_past, get_or_append_left, get_or-set_other, length-set, length_push}
-use Rattle.seize_machine.specs.Machine.State.{no_slot, no_batch, State, Slot, Call, Head, Inactive, slot_at, head_at, link_at, batch_at, is_active, has}
+use Rattle.seize_machine.specs.Machine.State.{no_slot, no_batch, State, Slot, Progress, Head, Inactive, slot_at, head_at, link_at, batch_at, is_active, has}
 use Rattle.seize_machine.specs.Machine.Event.{Event}
 use Rattle.seize_machine.specs.Machine.Next.{of_call, walking_at}
 use Rattle.seize_machine.specs.Machine.Laws.{added_batch}
@@ -75,10 +75,10 @@ link_frame l size st event _ _ n = refl
 pub batch_frame : (b size : ℕ) (st : State) (event : Event) (d : State × Answer) → Step size st event d → b < length st.batches → changes_batch st b event ≡ false → batch_at d.0 b ≡ batch_at st b
 batch_frame b size st event _ (Step.detached s next note marks queue e le) r n = get_or_append_left st.batches _ no_batch b r
 batch_frame b size st event _ (Step.added s a won queue d e h) r n =
-    let other : (a == b) ≡ false = ap (λ (o : Option Call). is_number b (added_batch o)) (sym e) ∙ n in
+    let other : (a == b) ≡ false = ap (λ (o : Option Progress). is_number b (added_batch o)) (sym e) ∙ n in
     ap (λ (x : State × Answer). batch_at x.0 b) (sym (some_is _ _ h)) ∙ get_or-set_other st.batches a b _ no_batch (differ a b other)
 batch_frame b size st event _ (Step.subtracted s a walk queue d e h) r n =
-    let other : (a == b) ≡ false = ap (λ (o : Option Call). is_number b (of_call walking_at o)) (sym e) ∙ n in
+    let other : (a == b) ≡ false = ap (λ (o : Option Progress). is_number b (of_call walking_at o)) (sym e) ∙ n in
     ap (λ (x : State × Answer). batch_at x.0 b) (sym (some_is _ _ h)) ∙ get_or-set_other st.batches a b _ no_batch (differ a b other)
 batch_frame b size st event _ _ r n = refl
 

@@ -1,9 +1,9 @@
 -- The steps of the machine: each legal event is one of them, and each of them is a legal event.
 use Rattle.std.proofs.Common.{◌≡◌, ◌≢◌, ℕ, ◌+◌, ◌-◌, ◌^◌, ◌<◌, ◌≤◌, ℤ, pos, ◌+ℤ◌, ◌-ℤ◌, Bool, true, false, not, ◌&&◌, ◌||◌, ◌==◌, if◌then◌else◌, nat_lt, nat_le, max, List, [], ◌∷◌, ◌++◌, length, slice_set, option_to_list, unwrap_or, Option, Some, None, refl, sym, ◌∙◌, ap, subst, ◌⊎◌, inl, inr, arith}
 use Rattle.std.proofs.lemmas.List.Sums.{prefix_len-le-length, passes_at_first}
-use Rattle.seize_machine.specs.Machine.State.{no_slot, State, Slot, Call, Head, Inactive, Active, Place, Append, Mark, Look, Try, Add, Out, Rest, slot_at, head_at, batch_at, link_at, is_active, waiting_at, has, is_idle}
+use Rattle.seize_machine.specs.Machine.State.{no_slot, State, Slot, Progress, Head, Inactive, Active, Place, Append, Mark, Look, Try, Add, Out, Rest, slot_at, head_at, batch_at, link_at, is_active, waiting_at, has, is_idle}
 use Rattle.seize_machine.specs.Machine.Event.{Event, Take, Give, Enter, Begin, Put, ReadHead, Detach, Insert, AddCount, SwapOut, SubCount, Hand, Return, ReadLink, ExchangeLink}
-use Rattle.seize_machine.specs.Machine.Next.{Outcome, scheme, next, of_call, moved, moved_call, own, first_free, is_outside, is_empty, set_slot, set_head, begun, retiring, flushing_at, begin_active, begin, put_into, put_at, slot_put, marking, mark_at, slot_mark, looking_at, looked_on, slot_read, look, marked_place, looked, can_detach_at, can_detach, detached_on, detach, trying_at, won_on, insert_into, insert, is_changed, can_lose_at, lost_on, slot_lost, same_list, is_zero, adding_at, add_count, walking_at, walked_on, sub_count, leaving_at, swap_out, are_fresh, handing_at, handed_on, hand, return_at, slot_return, can_link, is_none_or_fresh, new_link, is_stored, exchange_link}
+use Rattle.seize_machine.specs.Machine.Next.{Outcome, scheme, next, of_call, moved, moved_call, own, first_free, is_outside, is_empty, slot_set, set_head, begun, retiring, flushing_at, begin_active, begin, put_into, put_at, slot_put, marking, mark_at, slot_mark, looking_at, looked_on, slot_read, look, marked_place, looked, can_detach_at, can_detach, detached_on, detach, trying_at, won_on, insert_into, insert, is_changed, can_lose_at, lost_on, slot_lost, same_list, is_zero, adding_at, add_count, walking_at, walked_on, sub_count, leaving_at, swap_out, are_fresh, handing_at, handed_on, hand, return_at, slot_return, can_link, is_none_or_fresh, new_link, is_stored, exchange_link}
 use Rattle.seize_machine.specs.declared.machine.event.Job.{Job}
 use Rattle.seize_machine.specs.declared.machine.event.Job.TheVariants.{Retire, Flush, Leave, Refresh}
 use Rattle.seize_machine.specs.declared.machine.event.Try.TheVariants.{Won, Lost}
@@ -12,8 +12,8 @@ use Rattle.seize_machine.specs.declared.machine.event.Answer.{Answer}
 use Rattle.seize_machine.specs.declared.machine.event.Answer.TheVariants.{Done, Head as HeadRead, Count, Handed, Link}
 
 -- the call of slot s goes on so
-abbrev pub go_on : State → ℕ → Call → State
-go_on st s call = set_slot st s (record (slot_at st s) { call = Some call })
+abbrev pub go_on : State → ℕ → Progress → State
+go_on st s call = slot_set st s (record (slot_at st s) { call = Some call })
 
 -- batch b comes to this count, and at 0 slot s gives its values up and goes on with this walk and this queue
 abbrev pub counted : State → ℕ → ℕ → ℤ → List ℕ → List ℕ → Outcome
@@ -56,9 +56,9 @@ pub data Step (size : ℕ) (st : State) : Event → State × Answer → Type 0 w
   took_new : (s : ℕ) → s ≡ length st.slots → (s ≡ first_free st.slots) × (s < 2 ^ 64 - 32)
       → Step size st (Take s) (record st { slots = st.slots ++ record { used = true; batch = []; call = None } ∷ []; heads = st.heads ++ Inactive ∷ [] }, Done)
   took_old : (s : ℕ) → s < length st.slots → (slot_at st s).used ≡ false → (s ≡ first_free st.slots) × (s < 2 ^ 64 - 32)
-      → Step size st (Take s) (set_slot st s (record (slot_at st s) { used = true }), Done)
+      → Step size st (Take s) (slot_set st s (record (slot_at st s) { used = true }), Done)
   gave : (s : ℕ) → is_idle (slot_at st s) ≡ true → is_active (head_at st s) ≡ false
-      → Step size st (Give s) (set_slot st s (record (slot_at st s) { used = false }), Done)
+      → Step size st (Give s) (slot_set st s (record (slot_at st s) { used = false }), Done)
   entered : (s : ℕ) → is_idle (slot_at st s) ≡ true → is_active (head_at st s) ≡ false
       → Step size st (Enter s) (set_head st s (Active []), Done)
   begun_retire : (s v : ℕ) → is_idle (slot_at st s) ≡ true → (has v st.named ≡ false) ⊎ (has v st.loose ≡ true)
@@ -71,7 +71,7 @@ pub data Step (size : ℕ) (st : State) : Event → State × Answer → Type 0 w
       → ((from ≡ Append v) × (before ≡ after)) ⊎ ((from ≡ Rest [] []) × (before ≡ v ∷ after))
       → ((place ≡ Rest [] []) × (length ((slot_at st s).batch ++ v ∷ []) < max 1 size)) ⊎ (place ≡ Mark 0 (length st.slots) [])
       → place ≡ after_put size (length st.slots) ((slot_at st s).batch ++ v ∷ [])
-      → Step size st (Put s) (set_slot st s (record { used = (slot_at st s).used; batch = (slot_at st s).batch ++ v ∷ []; call = Some (record { place = place; queue = after }) }), Done)
+      → Step size st (Put s) (slot_set st s (record { used = (slot_at st s).used; batch = (slot_at st s).batch ++ v ∷ []; call = Some (record { place = place; queue = after }) }), Done)
   marked : (s n next note : ℕ) (marks queue : List ℕ) → Stands st s (Mark next note marks) queue → n < length st.slots → (n ≡ next) ⊎ ((note ≤ next) × (next < n))
       → Step size st (ReadHead s n) (go_on st s (record { place = marked_place (is_active (head_at st n)) n note marks (slot_at st s).batch; queue = queue }), HeadRead (is_active (head_at st n)))
   looked_at : (s b won m : ℕ) (later queue : List ℕ) → Stands st s (Look b won m later) queue
@@ -104,7 +104,7 @@ pub data Step (size : ℕ) (st : State) : Event → State × Answer → Type 0 w
         Handed v,
       )
   returned : (s : ℕ) → Stands st s (Rest [] []) []
-      → Step size st (Return s) (set_slot st s (record (slot_at st s) { call = None }), Done)
+      → Step size st (Return s) (slot_set st s (record (slot_at st s) { call = None }), Done)
   read : (s l : ℕ) → can_link st s l ≡ true → Step size st (ReadLink s l) (st, Link (link_at st l))
   exchanged : (s l : ℕ) (exchange : Exchange) (new : Option ℕ) → can_link st s l ≡ true → is_none_or_fresh st new ≡ true
       → (new ≡ new_link exchange) × (is_stored (link_at st l) exchange ≡ true)
@@ -157,13 +157,13 @@ called : {A : Type 0} (st : State) (s : ℕ) (f : Place → List ℕ → Option 
     → (place : Place) × (queue : List ℕ) × Stands st s place queue × (f place queue ≡ Some x)
 called {A} st s f x h = go (slot_at st s).call refl h
   where
-    go : (o : Option Call) → (slot_at st s).call ≡ o → of_call f o ≡ Some x → (place : Place) × (queue : List ℕ) × Stands st s place queue × (f place queue ≡ Some x)
+    go : (o : Option Progress) → (slot_at st s).call ≡ o → of_call f o ≡ Some x → (place : Place) × (queue : List ℕ) × Stands st s place queue × (f place queue ≡ Some x)
     go None e h = absurd (cc)
     go (Some call) e h = (call.place, call.queue, e, h)
 
 -- an event that changes its own slot alone
 from_own : (P : State × Answer → Type 0) (st : State) (s : ℕ) (answer : Answer) (o : Option Slot) (d : State × Answer)
-    → own st s answer o ≡ Some d → ((slot : Slot) → o ≡ Some slot → P (set_slot st s slot, answer)) → P d
+    → own st s answer o ≡ Some d → ((slot : Slot) → o ≡ Some slot → P (slot_set st s slot, answer)) → P d
 from_own P st s answer None d h k = absurd (cc)
 from_own P st s answer (Some slot) d h k = subst P (some_is _ _ h) (k slot refl)
 
@@ -175,7 +175,7 @@ from_read P (Some x) f d none h k = k x refl h
 
 pub moved_to : (st : State) (s : ℕ) (f : Place → Place) (place : Place) (queue : List ℕ) → Stands st s place queue
     → moved f (slot_at st s) ≡ record (slot_at st s) { call = Some (record { place = f place; queue = queue }) }
-moved_to st s f place queue e = ap (λ (o : Option Call). record (slot_at st s) { call = moved_call f o }) e
+moved_to st s f place queue e = ap (λ (o : Option Progress). record (slot_at st s) { call = moved_call f o }) e
 
 step_take : (size : ℕ) (st : State) (s : ℕ) (d : State × Answer) → next size st (Take s) ≡ Some d → Step size st (Take s) d
 step_take size st s d h =
@@ -184,7 +184,7 @@ step_take size st s d h =
     subst (λ d. Step size st (Take s) d) w.1 (go (eq_true _ _ t.0) (lt_true _ _ t.1) (s == length st.slots) refl)
   where
     go : s ≡ first_free st.slots → s < 2 ^ 64 - 32 → (b : Bool) → (s == length st.slots) ≡ b
-        → Step size st (Take s) ((if b then record st { slots = st.slots ++ record { used = true; batch = []; call = None } ∷ []; heads = st.heads ++ Inactive ∷ [] } else set_slot st s (record (slot_at st s) { used = true })), Done)
+        → Step size st (Take s) ((if b then record st { slots = st.slots ++ record { used = true; batch = []; call = None } ∷ []; heads = st.heads ++ Inactive ∷ [] } else slot_set st s (record (slot_at st s) { used = true })), Done)
     go s_is few true e = took_new s (eq_true _ _ e) (s_is, few)
     go s_is few false e =
         let below : first_free st.slots ≤ length st.slots = prefix_len-le-length _ st.slots in
@@ -241,61 +241,61 @@ put_is size n slot v queue = go (slot.batch ++ v ∷ []) (nat_le (max 1 size) (l
     go batch true = refl
     go batch false = refl
 
-step_put : (size : ℕ) (st : State) (s : ℕ) (slot : Slot) → slot_put scheme size (length st.slots) (slot_at st s) ≡ Some slot → Step size st (Put s) (set_slot st s slot, Done)
+step_put : (size : ℕ) (st : State) (s : ℕ) (slot : Slot) → slot_put scheme size (length st.slots) (slot_at st s) ≡ Some slot → Step size st (Put s) (slot_set st s slot, Done)
 step_put size st s slot h =
     let c : (place : Place) × (queue : List ℕ) × Stands st s place queue × (put_at scheme size (length st.slots) (slot_at st s) place queue ≡ Some slot) = called st s (put_at scheme size (length st.slots) (slot_at st s)) slot h in
     at c.0 c.1 c.2 c.3
   where
     puts : (v : ℕ) (from : Place) (before after : List ℕ) → Stands st s from before → ((from ≡ Append v) × (before ≡ after)) ⊎ ((from ≡ Rest [] []) × (before ≡ v ∷ after))
-        → put_into scheme size (length st.slots) (slot_at st s) v after ≡ Some slot → Step size st (Put s) (set_slot st s slot, Done)
+        → put_into scheme size (length st.slots) (slot_at st s) v after ≡ Some slot → Step size st (Put s) (slot_set st s slot, Done)
     puts v from before after e which h =
         let slot_is : _ ≡ slot = some_is _ _ (sym (put_is size (length st.slots) (slot_at st s) v after) ∙ h) in
-        subst (λ slot. Step size st (Put s) (set_slot st s slot, Done)) slot_is (put s v from before after _ e which (put_place (max 1 size) (length st.slots) ((slot_at st s).batch ++ v ∷ [])) refl)
+        subst (λ slot. Step size st (Put s) (slot_set st s slot, Done)) slot_is (put s v from before after _ e which (put_place (max 1 size) (length st.slots) ((slot_at st s).batch ++ v ∷ [])) refl)
 
-    at : (place : Place) (queue : List ℕ) → Stands st s place queue → put_at scheme size (length st.slots) (slot_at st s) place queue ≡ Some slot → Step size st (Put s) (set_slot st s slot, Done)
+    at : (place : Place) (queue : List ℕ) → Stands st s place queue → put_at scheme size (length st.slots) (slot_at st s) place queue ≡ Some slot → Step size st (Put s) (slot_set st s slot, Done)
     at (Append v) queue e h = puts v (Append v) queue queue e (inl (refl, refl)) h
     at (Rest [] []) (v ∷ queue) e h = puts v (Rest [] []) (v ∷ queue) queue e (inr (refl, refl)) h
     at _ queue e h = absurd (cc)
 
 -- a put, from the value about to be appended or from the queue
 pub step_put_from : (size : ℕ) (st : State) (s v : ℕ) (from : Place) (before after : List ℕ) → Stands st s from before → ((from ≡ Append v) × (before ≡ after)) ⊎ ((from ≡ Rest [] []) × (before ≡ v ∷ after))
-    → Step size st (Put s) (set_slot st s (record { used = (slot_at st s).used; batch = (slot_at st s).batch ++ v ∷ []; call = Some (record { place = after_put size (length st.slots) ((slot_at st s).batch ++ v ∷ []); queue = after }) }), Done)
+    → Step size st (Put s) (slot_set st s (record { used = (slot_at st s).used; batch = (slot_at st s).batch ++ v ∷ []; call = Some (record { place = after_put size (length st.slots) ((slot_at st s).batch ++ v ∷ []); queue = after }) }), Done)
 step_put_from size st s v from before after e which = put s v from before after _ e which (put_place (max 1 size) (length st.slots) ((slot_at st s).batch ++ v ∷ [])) refl
 
 step_mark : (size : ℕ) (st : State) (s n : ℕ) (slot : Slot) → slot_mark scheme (length st.slots) n (is_active (head_at st n)) (slot_at st s) ≡ Some slot
-    → Step size st (ReadHead s n) (set_slot st s slot, HeadRead (is_active (head_at st n)))
+    → Step size st (ReadHead s n) (slot_set st s slot, HeadRead (is_active (head_at st n)))
 step_mark size st s n slot h =
     let c : (place : Place) × (queue : List ℕ) × Stands st s place queue × (mark_at scheme (length st.slots) n (is_active (head_at st n)) (slot_at st s) place queue ≡ Some slot) = called st s (mark_at scheme (length st.slots) n (is_active (head_at st n)) (slot_at st s)) slot h in
     at c.0 c.1 c.2 c.3
   where
     at : (place : Place) (queue : List ℕ) → Stands st s place queue → mark_at scheme (length st.slots) n (is_active (head_at st n)) (slot_at st s) place queue ≡ Some slot
-        → Step size st (ReadHead s n) (set_slot st s slot, HeadRead (is_active (head_at st n)))
+        → Step size st (ReadHead s n) (slot_set st s slot, HeadRead (is_active (head_at st n)))
     at (Mark next note marks) queue e h =
         let w : (nat_lt n (length st.slots) && ((n == next) || (nat_le note next && nat_lt next n)) ≡ true) × _ = if_some _ _ _ h in
         let t : (nat_lt n (length st.slots) ≡ true) × (((n == next) || (nat_le note next && nat_lt next n)) ≡ true) = and_true _ _ w.0 in
         let o : ((n == next) ≡ true) ⊎ ((nat_le note next && nat_lt next n) ≡ true) = or_true _ _ t.1 in
         let k : (n ≡ next) ⊎ ((note ≤ next) × (next < n)) = grind arith in
-        subst (λ slot. Step size st (ReadHead s n) (set_slot st s slot, HeadRead (is_active (head_at st n)))) w.1 (marked s n next note marks queue e (lt_true _ _ t.0) k)
+        subst (λ slot. Step size st (ReadHead s n) (slot_set st s slot, HeadRead (is_active (head_at st n)))) w.1 (marked s n next note marks queue e (lt_true _ _ t.0) k)
     at _ queue e h = absurd (cc)
 
 step_look : (size : ℕ) (st : State) (s n m : ℕ) (slot : Slot) → of_call looking_at (slot_at st s).call ≡ Some m
     → (if n == m then Some (moved (looked_on scheme (head_at st n)) (slot_at st s)) else None) ≡ Some slot
-    → Step size st (ReadHead s n) (set_slot st s slot, HeadRead (is_active (head_at st n)))
+    → Step size st (ReadHead s n) (slot_set st s slot, HeadRead (is_active (head_at st n)))
 step_look size st s n m slot c h =
     let w : ((n == m) ≡ true) × (moved (looked_on scheme (head_at st n)) (slot_at st s) ≡ slot) = if_some _ _ _ h in
     let k : (place : Place) × (queue : List ℕ) × Stands st s place queue × (looking_at place queue ≡ Some m) = called st s looking_at m c in
     at k.0 k.1 k.2 k.3 (eq_true _ _ w.0) w.1
   where
     at : (place : Place) (queue : List ℕ) → Stands st s place queue → looking_at place queue ≡ Some m → n ≡ m → moved (looked_on scheme (head_at st n)) (slot_at st s) ≡ slot
-        → Step size st (ReadHead s n) (set_slot st s slot, HeadRead (is_active (head_at st n)))
+        → Step size st (ReadHead s n) (slot_set st s slot, HeadRead (is_active (head_at st n)))
     at (Look b won k later) queue e c n_is moves =
         let k_is : k ≡ n = some_is _ _ c ∙ sym n_is in
         let e2 : Stands st s (Look b won n later) queue = subst (λ k. Stands st s (Look b won k later) queue) k_is e in
-        subst (λ slot. Step size st (ReadHead s n) (set_slot st s slot, HeadRead (is_active (head_at st n)))) (sym (moved_to st s (looked_on scheme (head_at st n)) (Look b won n later) queue e2) ∙ moves) (looked_at s b won n later queue e2)
+        subst (λ slot. Step size st (ReadHead s n) (slot_set st s slot, HeadRead (is_active (head_at st n)))) (sym (moved_to st s (looked_on scheme (head_at st n)) (Look b won n later) queue e2) ∙ moves) (looked_at s b won n later queue e2)
     at _ queue e c n_is moves = absurd (cc)
 
 step_read : (size : ℕ) (st : State) (s n : ℕ) (o : Option ℕ) → of_call looking_at (slot_at st s).call ≡ o → (slot : Slot) → slot_read scheme st n (slot_at st s) o ≡ Some slot
-    → Step size st (ReadHead s n) (set_slot st s slot, HeadRead (is_active (head_at st n)))
+    → Step size st (ReadHead s n) (slot_set st s slot, HeadRead (is_active (head_at st n)))
 step_read size st s n None e slot h = step_mark size st s n slot h
 step_read size st s n (Some m) e slot h = step_look size st s n m slot e h
 
@@ -312,7 +312,7 @@ step_detach size st s d h =
     let k : (place : Place) × (queue : List ℕ) × Stands st s place queue × (can_detach_at place queue ≡ Some true) = called st s can_detach_at true (can st s can_detach_at w.0) in
     subst (λ d. Step size st (Detach s) d) w.1 (at k.0 k.1 k.2 k.3)
   where
-    after : Option Call → State × Answer
+    after : Option Progress → State × Answer
     after call = (
       record st {
         slots = slice_set st.slots s (record { used = (slot_at st s).used; batch = []; call = moved_call (detached_on (length st.batches)) call });
@@ -347,27 +347,27 @@ step_won size st s n d at c h =
         let m_is : m ≡ n = ap (λ (x : ℕ × ℕ). x.1) at_is ∙ sym n_is in
         let e2 : Stands st s (Try b won n later saw) queue = subst (λ m. Stands st s (Try b won m later saw) queue) m_is e in
         let ends : insert_into st s n b (Active waiting) ≡ Some d = subst (λ (x : ℕ). insert_into st s n x (Active waiting) ≡ Some d) (sym (ap (λ (x : ℕ × ℕ). x.0) at_is)) h in
-        subst (λ d. Step size st (Insert s n Won) d) (ap (λ (slot : Slot). (set_slot (set_head st n (Active (b ∷ waiting))) s slot, Done)) (sym (moved_to st s won_on (Try b won n later saw) queue e2)) ∙ some_is _ _ ends)
+        subst (λ d. Step size st (Insert s n Won) d) (ap (λ (slot : Slot). (slot_set (set_head st n (Active (b ∷ waiting))) s slot, Done)) (sym (moved_to st s won_on (Try b won n later saw) queue e2)) ∙ some_is _ _ ends)
         (inserted s n b won later saw queue waiting e2 head_is)
     here (Try b won m later saw) queue e c n_is Inactive head_is h = absurd (cc)
     here _ queue e c n_is head head_is h = absurd (cc)
 
-step_lost : (size : ℕ) (st : State) (s n : ℕ) (slot : Slot) → slot_lost scheme n (head_at st n) (slot_at st s) ≡ Some slot → Step size st (Insert s n Lost) (set_slot st s slot, Done)
+step_lost : (size : ℕ) (st : State) (s n : ℕ) (slot : Slot) → slot_lost scheme n (head_at st n) (slot_at st s) ≡ Some slot → Step size st (Insert s n Lost) (slot_set st s slot, Done)
 step_lost size st s n slot h =
     let w : (unwrap_or (of_call (can_lose_at scheme n (head_at st n)) (slot_at st s).call) false ≡ true) × (moved lost_on (slot_at st s) ≡ slot) = if_some _ _ _ h in
     let k : (place : Place) × (queue : List ℕ) × Stands st s place queue × (can_lose_at scheme n (head_at st n) place queue ≡ Some true) = called st s (can_lose_at scheme n (head_at st n)) true (can st s (can_lose_at scheme n (head_at st n)) w.0) in
     at k.0 k.1 k.2 k.3 w.1
   where
-    at : (place : Place) (queue : List ℕ) → Stands st s place queue → can_lose_at scheme n (head_at st n) place queue ≡ Some true → moved lost_on (slot_at st s) ≡ slot → Step size st (Insert s n Lost) (set_slot st s slot, Done)
+    at : (place : Place) (queue : List ℕ) → Stands st s place queue → can_lose_at scheme n (head_at st n) place queue ≡ Some true → moved lost_on (slot_at st s) ≡ slot → Step size st (Insert s n Lost) (slot_set st s slot, Done)
     at (Try b won m later saw) queue e c moves =
         let t : ((n == m) ≡ true) × (is_changed (head_at st n) saw ≡ true) = and_true _ _ (some_is _ _ c) in
         let m_is : m ≡ n = sym (eq_true _ _ t.0) in
         let e2 : Stands st s (Try b won n later saw) queue = subst (λ m. Stands st s (Try b won m later saw) queue) m_is e in
-        subst (λ slot. Step size st (Insert s n Lost) (set_slot st s slot, Done)) (sym (moved_to st s lost_on (Try b won n later saw) queue e2) ∙ moves) (lost s n b won later saw queue e2 (not_seen _ _ t.1))
+        subst (λ slot. Step size st (Insert s n Lost) (slot_set st s slot, Done)) (sym (moved_to st s lost_on (Try b won n later saw) queue e2) ∙ moves) (lost s n b won later saw queue e2 (not_seen _ _ t.1))
     at _ queue e c moves = absurd (cc)
 
 -- a count with the call's place told
-abbrev pub counted_call : State → ℕ → ℕ → ℤ → Option Call → Outcome
+abbrev pub counted_call : State → ℕ → ℕ → ℤ → Option Progress → Outcome
 counted_call st s b count call =
     Some (
       record st {
@@ -388,7 +388,7 @@ step_add size st s d a c h =
         let count : ℤ = (batch_at st b).count +ℤ pos won in
         let given : List ℕ = if is_zero count then (batch_at st b).values else [] in
         let h2 : add_count scheme st s (Some (b, won)) ≡ Some d = subst (λ (a : ℕ × ℕ). add_count scheme st s (Some a) ≡ Some d) a_is h in
-        added s b won queue d e (ap (λ (o : Option Call). counted_call st s b count (moved_call (λ place. Rest given []) o)) (sym e) ∙ h2)
+        added s b won queue d e (ap (λ (o : Option Progress). counted_call st s b count (moved_call (λ place. Rest given []) o)) (sym e) ∙ h2)
     here _ queue e c = absurd (cc)
 
 step_sub : (size : ℕ) (st : State) (s : ℕ) (d : State × Answer) (b : ℕ) → of_call walking_at (slot_at st s).call ≡ Some b → sub_count scheme st s (Some b) ≡ Some d → Step size st (SubCount s) d
@@ -402,7 +402,7 @@ step_sub size st s d b c h =
         let e2 : Stands st s (Rest [] (b ∷ walk)) queue = subst (λ a. Stands st s (Rest [] (a ∷ walk)) queue) a_is e in
         let count : ℤ = (batch_at st b).count -ℤ pos 1 in
         let given : List ℕ = if is_zero count then (batch_at st b).values else [] in
-        subtracted s b walk queue d e2 (ap (λ (o : Option Call). counted_call st s b count (moved_call (walked_on given) o)) (sym e2) ∙ h)
+        subtracted s b walk queue d e2 (ap (λ (o : Option Progress). counted_call st s b count (moved_call (walked_on given) o)) (sym e2) ∙ h)
     here _ queue e c = absurd (cc)
 
 step_swap_out : (size : ℕ) (st : State) (s : ℕ) (d : State × Answer) (stays : Bool) → of_call leaving_at (slot_at st s).call ≡ Some stays → swap_out scheme st s (Some stays) ≡ Some d → Step size st (SwapOut s) d
@@ -415,7 +415,7 @@ step_swap_out size st s d stays c h =
         let e2 : Stands st s (Out stays) queue = subst (λ more. Stands st s (Out more) queue) (some_is _ _ c) e in
         let walk : List ℕ = waiting_at (head_at st s) in
         subst (λ d. Step size st (SwapOut s) d)
-        (ap (λ (slot : Slot). (set_slot (set_head st s (if stays then Active [] else Inactive)) s slot, Done)) (sym (moved_to st s (λ place. Rest [] walk) (Out stays) queue e2)) ∙ some_is _ _ h)
+        (ap (λ (slot : Slot). (slot_set (set_head st s (if stays then Active [] else Inactive)) s slot, Done)) (sym (moved_to st s (λ place. Rest [] walk) (Out stays) queue e2)) ∙ some_is _ _ h)
         (swapped_out s stays queue e2)
     here _ queue e c = absurd (cc)
 
@@ -424,7 +424,7 @@ step_hand size st s puts d v c h =
     let k : (place : Place) × (queue : List ℕ) × Stands st s place queue × (handing_at place queue ≡ Some v) = called st s handing_at v c in
     here k.0 k.1 k.2 k.3 (if_some _ _ _ h)
   where
-    after : Option Call → State × Answer
+    after : Option Progress → State × Answer
     after call = (
       record st {
         slots = slice_set st.slots s (record (slot_at st s) { call = handed_to call });
@@ -434,23 +434,23 @@ step_hand size st s puts d v c h =
       Handed v,
     )
       where
-        handed_to : Option Call → Option Call
+        handed_to : Option Progress → Option Progress
         handed_to None = None
         handed_to (Some call) = Some (record { place = handed_on call.place; queue = call.queue ++ puts })
 
     here : (place : Place) (queue : List ℕ) → Stands st s place queue → handing_at place queue ≡ Some v → (are_fresh st.named puts ≡ true) × (after (slot_at st s).call ≡ d) → Step size st (Hand s puts) d
     here (Rest (u ∷ given) walk) queue e c w =
         let e2 : Stands st s (Rest (v ∷ given) walk) queue = subst (λ u. Stands st s (Rest (u ∷ given) walk) queue) (some_is _ _ c) e in
-        subst (λ d. Step size st (Hand s puts) d) (ap (λ (o : Option Call). after o) (sym e2) ∙ w.1) (handed s v puts given walk queue e2 w.0)
+        subst (λ d. Step size st (Hand s puts) d) (ap (λ (o : Option Progress). after o) (sym e2) ∙ w.1) (handed s v puts given walk queue e2 w.0)
     here _ queue e c w = absurd (cc)
 
-step_return : (size : ℕ) (st : State) (s : ℕ) (slot : Slot) → slot_return (slot_at st s) ≡ Some slot → Step size st (Return s) (set_slot st s slot, Done)
+step_return : (size : ℕ) (st : State) (s : ℕ) (slot : Slot) → slot_return (slot_at st s) ≡ Some slot → Step size st (Return s) (slot_set st s slot, Done)
 step_return size st s slot h =
     let k : (place : Place) × (queue : List ℕ) × Stands st s place queue × (return_at (slot_at st s) place queue ≡ Some slot) = called st s (return_at (slot_at st s)) slot h in
     at k.0 k.1 k.2 k.3
   where
-    at : (place : Place) (queue : List ℕ) → Stands st s place queue → return_at (slot_at st s) place queue ≡ Some slot → Step size st (Return s) (set_slot st s slot, Done)
-    at (Rest [] []) [] e h = subst (λ slot. Step size st (Return s) (set_slot st s slot, Done)) (some_is _ _ h) (returned s e)
+    at : (place : Place) (queue : List ℕ) → Stands st s place queue → return_at (slot_at st s) place queue ≡ Some slot → Step size st (Return s) (slot_set st s slot, Done)
+    at (Rest [] []) [] e h = subst (λ slot. Step size st (Return s) (slot_set st s slot, Done)) (some_is _ _ h) (returned s e)
     at _ queue e h = absurd (cc)
 
 step_link : (size : ℕ) (st : State) (s l : ℕ) (exchange : Exchange) (d : State × Answer) → exchange_link scheme st s l exchange ≡ Some d → Step size st (ExchangeLink s l exchange) d

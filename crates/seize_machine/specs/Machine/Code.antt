@@ -3,7 +3,7 @@ use Rattle.std.specs.Prelude.{◌≡◌, ℕ, ◌+◌, ◌^◌, ◌<◌, ◌≤�
 use Rattle.std.specs.List.{list_all}
 use Rattle.std.specs.declared.collections.VecDeque.{VecDeque}
 use Rattle.std.specs.declared.alloc.Global.{Global}
-use Rattle.seize_machine.specs.Machine.State.{State, Slot, Call, Head, Inactive, Active, Place, Append, Mark, Look, Try, Add, Out, Rest, is_active, waiting_at, batch_at, slot_at}
+use Rattle.seize_machine.specs.Machine.State.{State, Slot, Progress, Head, Inactive, Active, Place, Append, Mark, Look, Try, Add, Out, Rest, is_active, waiting_at, batch_at, slot_at}
 use Rattle.seize_machine.specs.Machine.Event.{Event, Take, Give, Enter, Begin, Put, ReadHead, Detach, Insert, AddCount, SwapOut, SubCount, Hand, Return, ReadLink, ExchangeLink}
 use Rattle.seize_machine.specs.Machine.Next.{Outcome, next}
 use Rattle.seize_machine.specs.Machine.History.{Timed, at_size, done_by, history, end_of, answers_of, is_legal, Legal}
@@ -13,7 +13,7 @@ use Rattle.seize_machine.specs.declared.machine.event.Event.{Event as Written}
 use Rattle.seize_machine.specs.declared.machine.event.Event.TheVariants.{Take as WTake, Give as WGive, Enter as WEnter, Begin as WBegin, Put as WPut, ReadHead as WReadHead, Detach as WDetach, Insert as WInsert, AddCount as WAddCount, SwapOut as WSwapOut, SubCount as WSubCount, Hand as WHand, Return as WReturn, ReadLink as WReadLink, ExchangeLink as WExchangeLink}
 use Rattle.seize_machine.specs.declared.machine.slot.Place.{Place as Stood}
 use Rattle.seize_machine.specs.declared.machine.slot.Place.TheVariants.{Append as SAppend, Mark as SMark, Look as SLook, Try as STry, Add as SAdd, Out as SOut, Rest as SRest}
-use Rattle.seize_machine.specs.declared.machine.slot.Call.{Call as Called}
+use Rattle.seize_machine.specs.declared.machine.slot.Call.{Progress as Called}
 
 -- the event that the code writes
 abbrev pub event_of : Written → Event
@@ -42,7 +42,7 @@ place_view (SAdd b won) = Add b won
 place_view (SOut stays) = Out stays
 place_view (SRest given walk) = Rest given.items walk.items
 
-abbrev pub call_view : Called → Call
+abbrev pub call_view : Called → Progress
 call_view c = record { place = place_view c.place; queue = c.queue.items }
 
 abbrev pub slot_view : Bool → List ℕ → Option Called → Slot
@@ -72,7 +72,7 @@ abbrev pub CanWinAt : Place → Type 0
 CanWinAt (Try b won m later saw) = won + 1 < 2 ^ 64
 CanWinAt _ = Unit {0}
 
-abbrev pub CanWin : Option Call → Type 0
+abbrev pub CanWin : Option Progress → Type 0
 CanWin None = Unit {0}
 CanWin (Some call) = CanWinAt call.place
 
@@ -102,7 +102,7 @@ CountFits st (Add b won) = AddFits st b won
 CountFits st (Rest [] (b ∷ walk)) = SubFits st b
 CountFits st _ = Unit {0}
 
-abbrev pub CallCountsFit : State → Option Call → Type 0
+abbrev pub CallCountsFit : State → Option Progress → Type 0
 CallCountsFit st None = Unit {0}
 CallCountsFit st (Some call) = WinsFit st call.place × CountFits st call.place
 

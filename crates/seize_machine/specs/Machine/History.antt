@@ -1,7 +1,7 @@
 -- Lists of events: what becomes of them, which are legal, and positions in them, counted from 0.
 use Rattle.std.specs.Prelude.{◌≡◌, ℕ, ◌<◌, ◌⊎◌, Bool, true, false, ◌==◌, if◌then◌else◌, List, [], ◌∷◌, map, slice_get, Option, Some, None, option_to_list}
 use Rattle.std.specs.List.{Contains, list_all, flat_map}
-use Rattle.seize_machine.specs.Machine.State.{State, Call, Place, Append, Rest, slot_at, head_at, is_active, linked_values, are_distinct, opening}
+use Rattle.seize_machine.specs.Machine.State.{State, Progress, Place, Append, Rest, slot_at, head_at, is_active, linked_values, are_distinct, opening}
 use Rattle.seize_machine.specs.Machine.Event.{Event, Begin, Put, SwapOut, Hand, ReadLink, ExchangeLink}
 use Rattle.seize_machine.specs.Machine.Next.{Outcome, Transition, next, new_link, is_stored}
 use Rattle.seize_machine.specs.declared.machine.event.Job.TheVariants.{Retire}
@@ -83,7 +83,7 @@ place_value (Append v) queue = Some v
 place_value (Rest given walk) queue = first_or_none queue
 place_value _ queue = None
 
-abbrev pub call_value : Option Call → Option ℕ
+abbrev pub call_value : Option Progress → Option ℕ
 call_value None = None
 call_value (Some call) = place_value call.place call.queue
 

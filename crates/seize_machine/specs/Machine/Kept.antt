@@ -2,7 +2,7 @@
 -- and every event keeps it but the slot's own swap.
 use Rattle.std.specs.Prelude.{◌≡◌, ℕ, ◌+◌, ◌<◌, ◌≤◌, Bool, true, ◌==◌, if◌then◌else◌, List, [], ◌∷◌, get_or, Option, Some, None}
 use Rattle.std.specs.List.{sum_by}
-use Rattle.seize_machine.specs.Machine.State.{no_slot, no_batch, State, Slot, Batch, Call, Head, Inactive, Place, Mark, Look, Try, Rest, is_active, waiting_at}
+use Rattle.seize_machine.specs.Machine.State.{no_slot, no_batch, State, Slot, Batch, Progress, Head, Inactive, Place, Mark, Look, Try, Rest, is_active, waiting_at}
 
 abbrev pub one : Bool → ℕ
 one b = if b then 1 else 0
@@ -13,7 +13,7 @@ occ v [] = 0
 occ v (x ∷ xs) = one (x == v) + occ v xs
 
 -- a number that each call has, summed up
-abbrev pub of_calls : (Option Call → ℕ) → List Slot → ℕ
+abbrev pub of_calls : (Option Progress → ℕ) → List Slot → ℕ
 of_calls f slots = sum_by (λ slot. f slot.call) slots
 
 -- how often v is among the given-up values of a call
@@ -21,7 +21,7 @@ abbrev pub place_given : ℕ → Place → ℕ
 place_given v (Rest given walk) = occ v given
 place_given v _ = 0
 
-abbrev pub given : ℕ → Option Call → ℕ
+abbrev pub given : ℕ → Option Progress → ℕ
 given v None = 0
 given v (Some call) = place_given v call.place
 
@@ -31,7 +31,7 @@ place_left b s (Look c won m later) = if c == b then one (m == s) + occ s later 
 place_left b s (Try c won m later saw) = if c == b then one (m == s) + occ s later else 0
 place_left b s _ = 0
 
-abbrev pub inserts_left : ℕ → ℕ → Option Call → ℕ
+abbrev pub inserts_left : ℕ → ℕ → Option Progress → ℕ
 inserts_left b s None = 0
 inserts_left b s (Some call) = place_left b s call.place
 
@@ -40,7 +40,7 @@ abbrev pub WillMark : ℕ → Place → Type 0
 WillMark s (Mark next note marks) = (s < note) × (s < next → 1 ≤ occ s marks)
 WillMark s _ = Unit {0}
 
-abbrev pub Marks : ℕ → Option Call → Type 0
+abbrev pub Marks : ℕ → Option Progress → Type 0
 Marks s None = Unit {0}
 Marks s (Some call) = WillMark s call.place
 

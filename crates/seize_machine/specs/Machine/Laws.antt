@@ -2,7 +2,7 @@
 -- of a legal list is a legal list, so what a law says of the end of a list, it says before every event.
 use Rattle.std.specs.Prelude.{◌≡◌, ℕ, ◌<◌, ◌≤◌, ◌↔◌, ◌⊎◌, Bool, true, false, not, ◌&&◌, ◌||◌, ◌==◌, nat_le, max, List, [], ◌∷◌, ◌++◌, length, slice_get, Option, Some, None, is_some}
 use Rattle.std.specs.List.{Contains, list_all, flat_map, count_by, take_while}
-use Rattle.seize_machine.specs.Machine.State.{State, Call, Head, Inactive, Active, Append, Look, Try, Add, Rest, slot_at, head_at, batch_at, is_active, waiting_at, linked_values, are_distinct, opening}
+use Rattle.seize_machine.specs.Machine.State.{State, Progress, Head, Inactive, Active, Append, Look, Try, Add, Rest, slot_at, head_at, batch_at, is_active, waiting_at, linked_values, are_distinct, opening}
 use Rattle.seize_machine.specs.Machine.Event.{Event, Begin, Put, Insert, AddCount, Return, event_slot}
 use Rattle.seize_machine.specs.Machine.Next.{Transition, next, same_list}
 use Rattle.seize_machine.specs.Machine.History.{Timed, Moment, history, answers_of, end_of, are_legal, Legal, handed, WasNamed, Retired, Reclaimed, Found, IsActiveAt, HasParted}
@@ -55,14 +55,14 @@ Protection st ms =
 -- **Whereabouts.** Each value that was named is in exactly one place, and no other value is in any. Until it is retired, it is in a
 -- link, out of a link, or with a call that is to retire it. From then on it is in a slot's batch, in a retired batch, given up to a call
 -- that is to hand it to its reclaimer, or reclaimed.
-abbrev pub to_retire : Option Call → List ℕ
+abbrev pub to_retire : Option Progress → List ℕ
 to_retire None = []
 to_retire (Some call) = elim call.place [ Append v ↦ v ∷ call.queue | _ ↦ call.queue ]
 
 abbrev pub before_retirement : State → List ℕ
 before_retirement st = linked_values st.links ++ st.loose ++ flat_map (λ slot. to_retire slot.call) st.slots
 
-abbrev pub given_up : Option Call → List ℕ
+abbrev pub given_up : Option Progress → List ℕ
 given_up None = []
 given_up (Some call) = elim call.place [ Rest given walk ↦ given | _ ↦ [] ]
 
@@ -86,11 +86,11 @@ Gone st ms = (end_of st ms).gone ≡ st.gone ++ handed (answers_of ms)
 
 -- **Holders.** A retired batch that is not given up stands in an active slot's list, in the walk of a call under way, or
 -- with the call that detached it, whose add is still to come.
-abbrev pub walk_of : Option Call → List ℕ
+abbrev pub walk_of : Option Progress → List ℕ
 walk_of None = []
 walk_of (Some call) = elim call.place [ Rest given walk ↦ walk | _ ↦ [] ]
 
-abbrev pub detached_by : Option Call → Option ℕ
+abbrev pub detached_by : Option Progress → Option ℕ
 detached_by None = None
 detached_by (Some call) = elim call.place [ Look b won m later ↦ Some b | Try b won m later saw ↦ Some b | Add b won ↦ Some b | _ ↦ None ]
 
@@ -110,7 +110,7 @@ Holders st ms = (b v : ℕ) → Contains (batch_at (end_of st ms) b).values v �
 -- **No later holders.** Who lists a batch after its add listed it right after the add, and has neither left nor refreshed since; and
 -- who walks it has listed or walked it after every event since. So a slot that becomes active after the add never keeps the batch
 -- back, and one that refreshes does so only until its walk is done.
-abbrev pub added_batch : Option Call → Option ℕ
+abbrev pub added_batch : Option Progress → Option ℕ
 added_batch None = None
 added_batch (Some call) = elim call.place [ Add b won ↦ Some b | _ ↦ None ]
 

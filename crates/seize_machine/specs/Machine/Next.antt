@@ -2,7 +2,7 @@
 use Rattle.std.specs.Prelude.{ℕ, ◌+◌, ℤ, pos, negsuc, ◌+ℤ◌, ◌-ℤ◌, Bool, true, false, not, ◌&&◌, ◌||◌, ◌==◌, if◌then◌else◌, nat_lt, nat_le, max, List, [], ◌∷◌, ◌++◌, length, slice_set, Option, Some, None, option_to_list, unwrap_or}
 use Rattle.std.specs.List.{list_all, position_or_len, filter}
 use Rattle.seize_table.specs.Place.{all_numbers}
-use Rattle.seize_machine.specs.Machine.State.{State, Slot, Call, Head, Inactive, Active, Place, Append, Mark, Look, Try, Add, Out, Rest, slot_at, head_at, batch_at, link_at, is_active, waiting_at, is_idle, has, are_distinct}
+use Rattle.seize_machine.specs.Machine.State.{State, Slot, Progress, Head, Inactive, Active, Place, Append, Mark, Look, Try, Add, Out, Rest, slot_at, head_at, batch_at, link_at, is_active, waiting_at, is_idle, has, are_distinct}
 use Rattle.seize_machine.specs.Machine.Event.{Event, Take, Give, Enter, Begin, Put, ReadHead, Detach, Insert, AddCount, SwapOut, SubCount, Hand, Return, ReadLink, ExchangeLink}
 use Rattle.seize_machine.specs.declared.machine.event.Job.{Job}
 use Rattle.seize_machine.specs.declared.machine.event.Job.TheVariants.{Retire, Flush, Leave, Refresh}
@@ -53,12 +53,12 @@ pub record Scheme : Type 0 where
 -- The call under way of a slot.
 
 -- what it answers by its place and its queue
-abbrev pub of_call : {A : Type 0} → (Place → List ℕ → Option A) → Option Call → Option A
+abbrev pub of_call : {A : Type 0} → (Place → List ℕ → Option A) → Option Progress → Option A
 of_call f None = None
 of_call f (Some call) = f call.place call.queue
 
 -- it goes on at a place that follows from the one where it stood
-abbrev pub moved_call : (Place → Place) → Option Call → Option Call
+abbrev pub moved_call : (Place → Place) → Option Progress → Option Progress
 moved_call f None = None
 moved_call f (Some call) = Some (record { place = f call.place; queue = call.queue })
 
@@ -69,8 +69,8 @@ moved f slot = record { used = slot.used; batch = slot.batch; call = moved_call 
 abbrev pub begun_at : Slot → Place → Slot
 begun_at slot place = record { used = slot.used; batch = slot.batch; call = Some (record { place = place; queue = [] }) }
 
-abbrev pub set_slot : State → ℕ → Slot → State
-set_slot st s slot = record st { slots = slice_set st.slots s slot }
+abbrev pub slot_set : State → ℕ → Slot → State
+slot_set st s slot = record st { slots = slice_set st.slots s slot }
 
 abbrev pub set_head : State → ℕ → Head → State
 set_head st s head = record st { heads = slice_set st.heads s head }
@@ -78,7 +78,7 @@ set_head st s head = record st { heads = slice_set st.heads s head }
 -- an event that changes its own slot alone
 abbrev pub own : State → ℕ → Answer → Option Slot → Outcome
 own st s answer None = None
-own st s answer (Some slot) = Some (set_slot st s slot, answer)
+own st s answer (Some slot) = Some (slot_set st s slot, answer)
 
 -- Take: the least number that is not in use; a new slot is inactive
 
@@ -89,7 +89,7 @@ abbrev pub after_take : State → ℕ → State
 after_take st s =
     if s == length st.slots
     then record st { slots = st.slots ++ record { used = true; batch = []; call = None } ∷ []; heads = st.heads ++ Inactive ∷ [] }
-    else set_slot st s (record (slot_at st s) { used = true })
+    else slot_set st s (record (slot_at st s) { used = true })
 
 -- Give, Enter: a slot in use, with no call under way and not active
 
@@ -103,7 +103,7 @@ is_empty [] = true
 is_empty (x ∷ xs) = false
 
 abbrev pub begun : State → ℕ → Place → State
-begun st s place = set_slot st s (begun_at (slot_at st s) place)
+begun st s place = slot_set st s (begun_at (slot_at st s) place)
 
 abbrev pub with_named : List ℕ → ℕ → List ℕ
 with_named named v = if has v named then named else named ++ v ∷ []
@@ -224,7 +224,7 @@ won_on place = place
 abbrev pub insert_into : State → ℕ → ℕ → ℕ → Head → Outcome
 insert_into st s m b Inactive = None
 insert_into st s m b (Active waiting) =
-    Some (set_slot (set_head st m (Active (b ∷ waiting))) s (moved won_on (slot_at st s)), Done)
+    Some (slot_set (set_head st m (Active (b ∷ waiting))) s (moved won_on (slot_at st s)), Done)
 
 abbrev pub insert : State → ℕ → ℕ → Option (ℕ × ℕ) → Outcome
 insert st s n None = None
@@ -294,7 +294,7 @@ abbrev pub swap_out : Scheme → State → ℕ → Option Bool → Outcome
 swap_out scheme st s None = None
 swap_out scheme st s (Some stays) =
     let left = scheme.left_by (head_at st s) stays in
-    Some (set_slot (set_head st s left.0) s (moved (λ place. Rest [] left.1) (slot_at st s)), Done)
+    Some (slot_set (set_head st s left.0) s (moved (λ place. Rest [] left.1) (slot_at st s)), Done)
 
 -- Hand: the first given-up value is reclaimed, and what its reclaimer puts joins the queue
 
@@ -306,7 +306,7 @@ abbrev pub handed_on : Place → Place
 handed_on (Rest given walk) = Rest (tail given) walk
 handed_on place = place
 
-abbrev pub handed_call : List ℕ → Option Call → Option Call
+abbrev pub handed_call : List ℕ → Option Progress → Option Progress
 handed_call puts None = None
 handed_call puts (Some call) = Some (record { place = handed_on call.place; queue = call.queue ++ puts })
 
@@ -384,7 +384,7 @@ exchange_link scheme st s l exchange =
 
 abbrev pub next_by : Scheme → Transition
 next_by scheme size st (Take s) = if (s == first_free st.slots) && nat_lt s all_numbers then Some (after_take st s, Done) else None
-next_by scheme size st (Give s) = if is_outside st s then Some (set_slot st s (record (slot_at st s) { used = false }), Done) else None
+next_by scheme size st (Give s) = if is_outside st s then Some (slot_set st s (record (slot_at st s) { used = false }), Done) else None
 next_by scheme size st (Enter s) = if is_outside st s then Some (scheme.entered st s, Done) else None
 next_by scheme size st (Begin s job) = begin scheme st s job
 next_by scheme size st (Put s) = own st s Done (slot_put scheme size (length st.slots) (slot_at st s))
@@ -408,8 +408,8 @@ abbrev pub marking : ℕ → List ℕ → List ℕ × Place
 marking slots batch = (batch, Mark 0 slots [])
 
 -- the next number, or from the note on also a later one
-abbrev pub in_turn : (next note n : ℕ) → Bool
-in_turn next note n = (n == next) || (nat_le note next && nat_lt next n)
+abbrev pub is_due : (next note n : ℕ) → Bool
+is_due next note n = (n == next) || (nat_le note next && nat_lt next n)
 
 -- an active slot is marked while there are values for it, and else the batch stays
 abbrev pub marked_place : Bool → ℕ → ℕ → List ℕ → List ℕ → Place
@@ -451,7 +451,7 @@ scheme =
       retiring_at = λ v. Append v;
       entered = λ st s. set_head st s (Active []);
       filled = marking;
-      may_read = in_turn;
+      may_read = is_due;
       marked = marked_place;
       looked = looked;
       may_lose = is_changed;

@@ -28,14 +28,14 @@ pub data Place : Type 0 where
   Rest : (given walk : List ℕ) → Place
 
 -- a call under way, with the further values that it has still to retire
-pub record Call : Type 0 where
+pub record Progress : Type 0 where
   pub place : Place
   pub queue : List ℕ
 
 pub record Slot : Type 0 where
   pub used : Bool
   pub batch : List ℕ
-  pub call : Option Call
+  pub call : Option Progress
 
 -- a retired batch. Its values, in order of retirement, leave it when it is given up
 pub record Batch : Type 0 where

@@ -5,21 +5,21 @@ use Rattle.std.proofs.Math.ListN.{get_or-map}
 use Rattle.seize_machine.specs.Machine.State as machine
 use Rattle.seize_machine.specs.Machine.State.{State, Slot, Head, Inactive, Active, Append, Mark, Out, Rest, has, is_idle, is_active, head_at, no_slot}
 use Rattle.seize_machine.specs.Machine.Event.{Event, Begin, Give}
-use Rattle.seize_machine.specs.Machine.Next.{next, set_slot, retiring, is_empty}
+use Rattle.seize_machine.specs.Machine.Next.{next, slot_set, retiring, is_empty}
 use Rattle.seize_machine.specs.declared.machine.event.Job.{Job}
 use Rattle.seize_machine.specs.declared.machine.event.Job.TheVariants.{Retire, Flush, Leave, Refresh}
 use Rattle.seize_machine.specs.declared.machine.event.Answer.{Answer}
 use Rattle.seize_machine.specs.declared.machine.event.Answer.TheVariants.{Done}
 use Rattle.seize_table.specs.declared.refusal.Refusal.{Refusal}
 use Rattle.seize_model.specs.Waiting.State as waiting
-use Rattle.seize_model.specs.Waiting.State.{slot_at}
+use Rattle.seize_model.specs.Waiting.State.{model_slot}
 use Rattle.seize_model.specs.Waiting.Attempt.{StateAndGone}
 use Rattle.seize_model.specs.Waiting.Calls.{unless, is_free}
 use Rattle.seize_model.specs.Waiting.Lists.{Call, Reply, Refused, Effect, reply}
 use Rattle.seize_model.specs.Waiting.Lists as calls
 use Rattle.seize_model.specs.Agreement.Shows.{ShowsReclaimers, ShowsState, head_of}
 use Rattle.seize_model.specs.Agreement.Play.{play, with_answer}
-use Rattle.seize_model.specs.Agreement.Events.{IsJob, MakesFor, IsNamed, NamesOwn, ArePutBy}
+use Rattle.seize_model.specs.Agreement.Events.{IsJob, MakesFor, NamesValue, NamesOwn, ArePutBy}
 use Rattle.seize_model.specs.Agreement.Statement.{IsReply, IsOutcome, EachList}
 use Rattle.seize_model.proofs.Simulation.Views.{with_reclaimers, shows_with, stand_of}
 use Rattle.seize_model.proofs.Simulation.Runs.{Leads, Returns, to_return, ArePutFor, put_none}
@@ -34,10 +34,10 @@ use Rattle.seize_machine.specs.Machine.History.{handed_value, handed}
 -- an event of a slot that is in use and between calls, where a test allows it, changes the slot
 change_at_rest : (base : State) (s : ℕ) (batch : List ℕ) (test : Bool) (change : Slot → Slot) → s < length base.slots → test ≡ true
     → (let o : Option (State × Answer) = if is_idle (machine.slot_at (at_rest base s batch) s) && test
-    then Some (set_slot (at_rest base s batch) s (change (machine.slot_at (at_rest base s batch) s)), Done)
-    else None in o ≡ Some (set_slot base s (change (record { used = true; batch = batch; call = None })), Done))
+    then Some (slot_set (at_rest base s batch) s (change (machine.slot_at (at_rest base s batch) s)), Done)
+    else None in o ≡ Some (slot_set base s (change (record { used = true; batch = batch; call = None })), Done))
 change_at_rest base s batch test change h passes =
-    ap {B = Option (State × Answer)} (λ (slot : Slot). if is_idle slot && test then Some (set_slot (at_rest base s batch) s (change slot), Done) else None)
+    ap {B = Option (State × Answer)} (λ (slot : Slot). if is_idle slot && test then Some (slot_set (at_rest base s batch) s (change slot), Done) else None)
     (there base s (record { used = true; batch = batch; call = None }) h)
     ∙ if_yes _ _ _ passes
     ∙ ap (λ (k : State). Some (k, Done)) (twice base s _ _)
@@ -71,40 +71,40 @@ begin_retire size base s v batch h free =
     (λ (slot : Slot). record slot { call = Some (record { place = Append v; queue = [] }) }) h free
 
 pub give_step : (size : ℕ) (base : State) (s : ℕ) (batch : List ℕ) → s < length base.slots → is_active (head_at base s) ≡ false
-    → next size (at_rest base s batch) (Give s) ≡ Some (set_slot base s (record { used = false; batch = batch; call = None }), Done)
+    → next size (at_rest base s batch) (Give s) ≡ Some (slot_set base s (record { used = false; batch = batch; call = None }), Done)
 give_step size base s batch h inactive =
     change_at_rest base s batch (not (is_active (head_at base s))) (λ (slot : Slot). record slot { used = false }) h
     (ap (λ (t : Bool). not t) inactive)
 
 -- A slot in use between calls.
 
-pub in_use : {T R : Type 0} (st : waiting.State T R) (s : ℕ) → is_free (slot_at st s).kind ≡ false → s < length st.slots
+pub in_use : {T R : Type 0} (st : waiting.ModelState T R) (s : ℕ) → is_free (model_slot st s).kind ≡ false → s < length st.slots
 in_use {T} {R} st s used = go (in_or_past s (length st.slots))
   where
     go : (s < length st.slots) ⊎ (length st.slots ≤ s) → s < length st.slots
     go (inl h) = h
-    go (inr h) = absurd (let k : true ≡ false = sym (ap (λ (x : waiting.Slot T R). is_free x.kind) (get_or_past st.slots s waiting.no_slot h)) ∙ used in cc)
+    go (inr h) = absurd (let k : true ≡ false = sym (ap (λ (x : waiting.ModelSlot T R). is_free x.kind) (get_or_past st.slots s waiting.unmade_slot h)) ∙ used in cc)
 
-pub in_machine : {T R X : Type 0} (of : Naming T R X) (st : waiting.State T R) (ms : State) (s : ℕ) → NearAt of [] st ms → s < length st.slots → s < length ms.slots
+pub in_machine : {T R X : Type 0} (of : Naming T R X) (st : waiting.ModelState T R) (ms : State) (s : ℕ) → NearAt of [] st ms → s < length st.slots → s < length ms.slots
 in_machine of st ms s n h = rw n.as_many h
 
-pub is_at_rest : {T R X : Type 0} (of : Naming T R X) (st : waiting.State T R) (ms : State) (s : ℕ) → NearAt of [] st ms → is_free (slot_at st s).kind ≡ false → ms ≡ at_rest ms s (machine.slot_at ms s).batch
+pub is_at_rest : {T R X : Type 0} (of : Naming T R X) (st : waiting.ModelState T R) (ms : State) (s : ℕ) → NearAt of [] st ms → is_free (model_slot st s).kind ≡ false → ms ≡ at_rest ms s (machine.slot_at ms s).batch
 is_at_rest {T} {R} of st ms s n used =
     let slot : Slot = machine.slot_at ms s in
-    let shown : CoupledSlot of (slot_at st s) (machine.slot_at ms s) = n.slot s in
+    let shown : CoupledSlot of (model_slot st s) (machine.slot_at ms s) = n.slot s in
     let yes_used : (machine.slot_at ms s).used ≡ true = shown.used ∙ ap (λ (t : Bool). not t) used in
     let same : machine.slot_at ms s ≡ record { used = true; batch = (machine.slot_at ms s).batch; call = None }
     = ap (λ (u : Bool). record { used = u; batch = (machine.slot_at ms s).batch; call = (machine.slot_at ms s).call }) yes_used
-    ∙ ap (λ (c : Option machine.Call). record { used = true; batch = (machine.slot_at ms s).batch; call = c }) shown.idle in
-    sym (ap (λ (l : List Slot). record ms { slots = l }) (set-get_or ms.slots s no_slot)) ∙ ap (λ (x : Slot). set_slot ms s x) same
+    ∙ ap (λ (c : Option machine.Progress). record { used = true; batch = (machine.slot_at ms s).batch; call = c }) shown.idle in
+    sym (ap (λ (l : List Slot). record ms { slots = l }) (set-get_or ms.slots s no_slot)) ∙ ap (λ (x : Slot). slot_set ms s x) same
 
-pub near_at_rest : {T R X : Type 0} (of : Naming T R X) (st : waiting.State T R) (ms : State) (s : ℕ) → NearAt of [] st ms → is_free (slot_at st s).kind ≡ false → NearAt of [] st (at_rest ms s (machine.slot_at ms s).batch)
+pub near_at_rest : {T R X : Type 0} (of : Naming T R X) (st : waiting.ModelState T R) (ms : State) (s : ℕ) → NearAt of [] st ms → is_free (model_slot st s).kind ≡ false → NearAt of [] st (at_rest ms s (machine.slot_at ms s).batch)
 near_at_rest of st ms s n used = subst (λ (k : State). NearAt of [] st k) (is_at_rest of st ms s n used) n
 
-pub head_is : {T R X : Type 0} (of : Naming T R X) (st : waiting.State T R) (slots : List Slot) (heads : List Head) (batches : List machine.Batch) (links : List (Option ℕ)) (walk : List ℕ) (s : ℕ) → Near of walk st slots heads batches links → get_or heads s Inactive ≡ head_of (slot_at st s)
-head_is of st slots heads batches links walk s n = ap (λ (l : List Head). get_or l s Inactive) n.heads_are ∙ get_or-map head_of st.slots s waiting.no_slot
+pub head_is : {T R X : Type 0} (of : Naming T R X) (st : waiting.ModelState T R) (slots : List Slot) (heads : List Head) (batches : List machine.Batch) (links : List (Option ℕ)) (walk : List ℕ) (s : ℕ) → Near of walk st slots heads batches links → get_or heads s Inactive ≡ head_of (model_slot st s)
+head_is of st slots heads batches links walk s n = ap (λ (l : List Head). get_or l s Inactive) n.heads_are ∙ get_or-map head_of st.slots s waiting.unmade_slot
 
-pub head_active : {T R : Type 0} (slot : waiting.Slot T R) → is_active (head_of slot) ≡ waiting.has_guard slot
+pub head_active : {T R : Type 0} (slot : waiting.ModelSlot T R) → is_active (head_of slot) ≡ waiting.has_guard slot
 head_active {T} {R} slot = go (waiting.has_guard slot)
   where
     go : (t : Bool) → is_active (if t then Active slot.order else Inactive) ≡ t
@@ -121,7 +121,7 @@ pub record JobEnds {T R X : Type 0} (of : Naming T R X) (s guards : ℕ) (o : St
   pub near : NearAt of [] o.0 (at_rest base s batch)
   pub gone : Denote of (handed answers) o.1
   pub within : s < length base.slots
-  pub same_guards : (slot_at o.0 s).guards ≡ guards
+  pub same_guards : (model_slot o.0 s).guards ≡ guards
 
 -- a run of a job
 pub record JobRun {T R X : Type 0} (puts : R → T → List T) (of : Naming T R X) (size s guards : ℕ) (j : Job) (before : State) (o : StateAndGone T R) : Type 0 where
@@ -182,7 +182,7 @@ job_list {T} {R} puts of by size s guards j before start later o events answers 
 -- Calls.
 
 -- a call that names no value at its first event
-pub names_none : {T R : Type 0} (of : ℕ → T) (call : Call T R) (events : List Event) → ((e : Event) → IsNamed of call e) → NamesOwn of call events
+pub names_none : {T R : Type 0} (of : ℕ → T) (call : Call T R) (events : List Event) → ((e : Event) → NamesValue of call e) → NamesOwn of call events
 names_none of call [] h = tt
 names_none of call (e ∷ es) h = h e
 
@@ -197,7 +197,7 @@ StartsFor of (calls.Swap s l new r) (swap ∷ e ∷ es) = RetiresFor of r e
 StartsFor of call events = Unit {0}
 
 -- A run of a call.
-pub record Run {T R X : Type 0} (puts : R → T → List T) (of : Naming T R X) (call : Call T R) (st : waiting.State T R) (before : State) (told : Effect T R) : Type 0 where
+pub record Run {T R X : Type 0} (puts : R → T → List T) (of : Naming T R X) (call : Call T R) (st : waiting.ModelState T R) (before : State) (told : Effect T R) : Type 0 where
   pub events : List Event
   pub answers : List Answer
   pub later : State
@@ -210,7 +210,7 @@ pub record Run {T R X : Type 0} (puts : R → T → List T) (of : Naming T R X) 
   pub reply : IsReply call events answers told.0
   pub put : ArePutFor puts of events answers
 
-pub run_of : {T R X : Type 0} (puts : R → T → List T) (of : Naming T R X) (call : Call T R) (st : waiting.State T R) (before : State) (size s guards : ℕ) (j : Job) (told : Reply T) (o : StateAndGone T R) → st.size ≡ size
+pub run_of : {T R X : Type 0} (puts : R → T → List T) (of : Naming T R X) (call : Call T R) (st : waiting.ModelState T R) (before : State) (size s guards : ℕ) (j : Job) (told : Reply T) (o : StateAndGone T R) → st.size ≡ size
     → (run : JobRun puts of size s guards j before o) → MakesFor told st before call run.events → NamesOwn of.link call run.events → StartsFor of call run.events → IsReply call run.events run.answers told → Run puts of call st before (told, o)
 run_of puts of call st before size s guards j told o same run makes names starts r = record {
   events = run.events;
@@ -243,7 +243,7 @@ starts_none of (calls.Retire s v r) = tt
 starts_none of (calls.Swap s l new r) = tt
 starts_none of call = tt
 
-pub no_events : {T R X : Type 0} (puts : R → T → List T) (of : Naming T R X) (call : Call T R) (st : waiting.State T R) (before : State) (told : Reply T) (later : waiting.State T R) → NearAt of [] later before → MakesFor told st before call [] → IsReply call [] [] told
+pub no_events : {T R X : Type 0} (puts : R → T → List T) (of : Naming T R X) (call : Call T R) (st : waiting.ModelState T R) (before : State) (told : Reply T) (later : waiting.ModelState T R) → NearAt of [] later before → MakesFor told st before call [] → IsReply call [] [] told
     → Run puts of call st before (told, (later, []))
 no_events puts of call st before told later n makes r = record {
   events = [];
@@ -259,7 +259,7 @@ no_events puts of call st before told later n makes r = record {
   put = tt;
 }
 
-pub no_list : {T R : Type 0} (of : ℕ → T) (by : ℕ → R) (call : Call T R) (size : ℕ) (before : State) (told : Reply T) (st : waiting.State T R) (events : List Event) (answers : List Answer) (later : State) → NearAt (with_reclaimers of by) [] st before
+pub no_list : {T R : Type 0} (of : ℕ → T) (by : ℕ → R) (call : Call T R) (size : ℕ) (before : State) (told : Reply T) (st : waiting.ModelState T R) (events : List Event) (answers : List Answer) (later : State) → NearAt (with_reclaimers of by) [] st before
     → events ≡ [] → play size before events ≡ Some (later, answers) → IsReply call [] [] told → IsOutcome T R of by call (told, (st, [])) events answers later
 no_list {T} {R} of by call size before told st events answers later n none legal r =
     let ends : (later ≡ before) × (answers ≡ []) = play_none size before later answers (ap (λ (l : List Event). play size before l) (sym none) ∙ legal) in
@@ -278,8 +278,8 @@ one_of size before end e answer later answers is legal =
     let none : (later ≡ first.later) × (first.rest ≡ []) = play_none size first.later later first.rest first.legal in
     (none.0 ∙ both.0, first.all ∙ ap (λ (a : Answer). a ∷ first.rest) both.1 ∙ ap (λ (l : List Answer). answer ∷ l) none.1)
 
-pub one_event : {T R X : Type 0} (puts : R → T → List T) (of : Naming T R X) (call : Call T R) (st : waiting.State T R) (before later : State) (e : Event) (answer : Answer) (told : Reply T) (after : waiting.State T R) → next st.size before e ≡ Some (later, answer) → NearAt of [] after later
-    → MakesFor told st before call (e ∷ []) → IsNamed of.link call e → StartsFor of call (e ∷ []) → handed_value answer ≡ None → IsReply call (e ∷ []) (answer ∷ []) told → Run puts of call st before (told, (after, []))
+pub one_event : {T R X : Type 0} (puts : R → T → List T) (of : Naming T R X) (call : Call T R) (st : waiting.ModelState T R) (before later : State) (e : Event) (answer : Answer) (told : Reply T) (after : waiting.ModelState T R) → next st.size before e ≡ Some (later, answer) → NearAt of [] after later
+    → MakesFor told st before call (e ∷ []) → NamesValue of.link call e → StartsFor of call (e ∷ []) → handed_value answer ≡ None → IsReply call (e ∷ []) (answer ∷ []) told → Run puts of call st before (told, (after, []))
 one_event puts of call st before later e answer told after n near makes names starts none r = record {
   events = e ∷ [];
   answers = answer ∷ [];
@@ -294,7 +294,7 @@ one_event puts of call st before later e answer told after n near makes names st
   put = (put_none puts of e answer none, tt);
 }
 
-pub one_list : {T R : Type 0} (of : ℕ → T) (by : ℕ → R) (call : Call T R) (size : ℕ) (before end : State) (e : Event) (answer : Answer) (told : Reply T) (after : waiting.State T R) (events : List Event) (answers : List Answer) (later : State) → next size before e ≡ Some (end, answer)
+pub one_list : {T R : Type 0} (of : ℕ → T) (by : ℕ → R) (call : Call T R) (size : ℕ) (before end : State) (e : Event) (answer : Answer) (told : Reply T) (after : waiting.ModelState T R) (events : List Event) (answers : List Answer) (later : State) → next size before e ≡ Some (end, answer)
     → NearAt (with_reclaimers of by) [] after end → events ≡ e ∷ [] → play size before events ≡ Some (later, answers) → handed (answer ∷ []) ≡ [] → IsReply call (e ∷ []) (answer ∷ []) told
     → IsOutcome T R of by call (told, (after, [])) events answers later
 one_list {T} {R} of by call size before end e answer told after events answers later n near one legal none r =
@@ -305,12 +305,12 @@ one_list {T} {R} of by call size before end e answer told after events answers l
     (ap (λ (hs : List ℕ). map {B = T × R} (λ n. (of n, by n)) hs) none) r))
 
 -- a refused call has no events
-pub run_unless : {A T R X : Type 0} (puts : R → T → List T) (of : Naming T R X) (call : Call T R) (st : waiting.State T R) (before : State) (f : A → Reply T) (back : Option T) (refusal : Option Refusal) (a : A) (o : StateAndGone T R) → NearAt of [] st before
+pub run_unless : {A T R X : Type 0} (puts : R → T → List T) (of : Naming T R X) (call : Call T R) (st : waiting.ModelState T R) (before : State) (f : A → Reply T) (back : Option T) (refusal : Option Refusal) (a : A) (o : StateAndGone T R) → NearAt of [] st before
     → (refusal ≡ None → Run puts of call st before (f a, o)) → Run puts of call st before (reply f back (unless refusal st (Ok a, o)))
 run_unless puts of call st before f back None a o n on = on refl
 run_unless puts of call st before f back (Some r) a o n on = no_events puts of call st before (Refused r back) st n refl refl
 
-pub list_unless : {A T R : Type 0} (puts : R → T → List T) (of : ℕ → T) (by : ℕ → R) (call : Call T R) (st : waiting.State T R) (before : State) (f : A → Reply T) (back : Option T) (refusal : Option Refusal) (a : A) (o : StateAndGone T R) → NearAt (with_reclaimers of by) [] st before
+pub list_unless : {A T R : Type 0} (puts : R → T → List T) (of : ℕ → T) (by : ℕ → R) (call : Call T R) (st : waiting.ModelState T R) (before : State) (f : A → Reply T) (back : Option T) (refusal : Option Refusal) (a : A) (o : StateAndGone T R) → NearAt (with_reclaimers of by) [] st before
     → (refusal ≡ None → EachList puts of by call st before (f a, o)) → EachList puts of by call st before (reply f back (unless refusal st (Ok a, o)))
 list_unless puts of by call st before f back None a o n on = on refl
 list_unless puts of by call st before f back (Some r) a o n on = λ events answers later makes legal names with put.

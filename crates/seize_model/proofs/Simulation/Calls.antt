@@ -7,7 +7,7 @@ use Rattle.seize_machine.specs.declared.machine.event.Job.TheVariants.{Retire as
 use Rattle.seize_machine.specs.declared.machine.event.Answer.{Answer}
 use Rattle.seize_machine.specs.declared.machine.event.Answer.TheVariants.{Handed}
 use Rattle.seize_model.specs.Waiting.State as waiting
-use Rattle.seize_model.specs.Waiting.Calls.{link_at}
+use Rattle.seize_model.specs.Waiting.Calls.{model_link}
 use Rattle.seize_model.specs.Waiting.Further.{put_by, Lighter}
 use Rattle.seize_model.specs.Waiting.Lists.{Call, Register, EnterOwned, Enter, Leave, End, Refresh, Flush, Retire, Protect, Swap, step}
 use Rattle.seize_model.specs.Agreement.Shows.{ShowsState}
@@ -26,9 +26,9 @@ use Rattle.seize_model.proofs.Simulation.Links.{end_run, end_list, protect_run, 
 use Rattle.seize_model.proofs.Simulation.Numbers.{register_run, register_list, owned_run, owned_list}
 
 -- the values that a call retires or puts into a link have the property
-abbrev pub HoldsOwn : {T R : Type 0} → (T × R → Type 0) → waiting.State T R → Call T R → Type 0
+abbrev pub HoldsOwn : {T R : Type 0} → (T × R → Type 0) → waiting.ModelState T R → Call T R → Type 0
 HoldsOwn P st (Retire s v r) = P (v, r)
-HoldsOwn {T} P st (Swap s l new r) = ((v : T) → new ≡ Some v → P (v, r)) × ((v : T) → link_at st l ≡ Some v → P (v, r))
+HoldsOwn {T} P st (Swap s l new r) = ((v : T) → new ≡ Some v → P (v, r)) × ((v : T) → model_link st l ≡ Some v → P (v, r))
 HoldsOwn P st _ = Unit {0}
 
 -- and what a link holds is to be retired as the call says
@@ -37,7 +37,7 @@ HeldFor of before (Swap s l new r) = links.IsHeldFor of r (machine.link_at befor
 HeldFor of before call = Unit {0}
 
 -- where the values with a property have names, and those of the state and the call have it
-runs_where : {T R X : Type 0} (puts : R → T → List T) (weight : T → ℕ) (of : Naming T R X) (P : T × R → Type 0) → Lighter puts weight → Names puts of P → (st : waiting.State T R) (before : machine.State) (call : Call T R) → HasLink st call
+runs_where : {T R X : Type 0} (puts : R → T → List T) (weight : T → ℕ) (of : Naming T R X) (P : T × R → Type 0) → Lighter puts weight → Names puts of P → (st : waiting.ModelState T R) (before : machine.State) (call : Call T R) → HasLink st call
     → Holds T R P st → HoldsOwn P st call → HeldFor of before call → NearAt of [] st before → Run puts of call st before (step puts weight st call)
 runs_where puts weight of P lighter names st before Register link holds own for near = register_run puts weight of st before near
 runs_where puts weight of P lighter names st before EnterOwned link holds own for near = owned_run puts weight of st before near
@@ -60,7 +60,7 @@ held_for {T} {R} of before (Swap s l new r) = go (machine.link_at before l)
     go (Some n) = refl
 held_for of before call = tt
 
-pub agrees_where : {T R : Type 0} (puts : R → T → List T) (weight : T → ℕ) (of : ℕ → T) (P : T × R → Type 0) → Lighter puts weight → Names puts (contents of) P → (st : waiting.State T R) (before : machine.State) (call : Call T R) → HasLink st call
+pub agrees_where : {T R : Type 0} (puts : R → T → List T) (weight : T → ℕ) (of : ℕ → T) (P : T × R → Type 0) → Lighter puts weight → Names puts (contents of) P → (st : waiting.ModelState T R) (before : machine.State) (call : Call T R) → HasLink st call
     → Holds T R P st → HoldsOwn P st call → ShowsState T R of st before → IsRun T R of call st before (step puts weight st call)
 agrees_where puts weight of P lighter names st before call link holds own shows =
     let run : Run puts (contents of) call st before (step puts weight st call) = runs_where puts weight (contents of) P lighter names st before call link holds own (held_for of before call) (near_of of st before shows) in
@@ -76,7 +76,7 @@ agrees_where puts weight of P lighter names st before call link holds own shows 
       reply = run.reply;
     }
 
-own_always : {T R : Type 0} (st : waiting.State T R) (call : Call T R) → HoldsOwn Always st call
+own_always : {T R : Type 0} (st : waiting.ModelState T R) (call : Call T R) → HoldsOwn Always st call
 own_always st (Swap s l new r) = (λ v e. tt, λ v e. tt)
 own_always st call = tt
 
@@ -145,7 +145,7 @@ agrees_with {T} {R} puts weight of by lighter names st before call link held sho
     }
 
 -- each list of events goes as the call
-lists_agree : {T R : Type 0} (puts : R → T → List T) (weight : T → ℕ) → Lighter puts weight → (of : ℕ → T) (by : ℕ → R) (st : waiting.State T R) (before : machine.State) (call : Call T R) → HasLink st call → NearAt (with_reclaimers of by) [] st before
+lists_agree : {T R : Type 0} (puts : R → T → List T) (weight : T → ℕ) → Lighter puts weight → (of : ℕ → T) (by : ℕ → R) (st : waiting.ModelState T R) (before : machine.State) (call : Call T R) → HasLink st call → NearAt (with_reclaimers of by) [] st before
     → EachList puts of by call st before (step puts weight st call)
 lists_agree puts weight lighter of by st before Register link n = register_list puts weight of by st before n
 lists_agree puts weight lighter of by st before EnterOwned link n = owned_list puts weight of by st before n

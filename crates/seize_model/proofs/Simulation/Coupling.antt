@@ -25,7 +25,7 @@ abbrev pub Denote : {T R X : Type 0} → Naming T R X → List ℕ → List (T �
 Denote of numbers values = map of.name numbers ≡ map of.view values
 
 -- the two sides of one slot
-pub record CoupledSlot {T R X : Type 0} (of : Naming T R X) (slot : waiting.Slot T R) (shown : machine.Slot) : Type 0 where
+pub record CoupledSlot {T R X : Type 0} (of : Naming T R X) (slot : waiting.ModelSlot T R) (shown : machine.Slot) : Type 0 where
   pub used : shown.used ≡ not (is_free slot.kind)
   pub idle : shown.call ≡ None
   pub batch : Denote of shown.batch slot.batch
@@ -34,55 +34,55 @@ pub record CoupledSlot {T R X : Type 0} (of : Naming T R X) (slot : waiting.Slot
   pub inactive : waiting.has_guard slot ≡ false → slot.order ≡ []
   pub once : machine.are_distinct slot.order ≡ true
 
-pub record Near {T R X : Type 0} (of : Naming T R X) (walk : List ℕ) (st : waiting.State T R) (slots : List machine.Slot) (heads : List Head) (batches : List Batch) (links : List (Option ℕ)) : Type 0 where
+pub record Near {T R X : Type 0} (of : Naming T R X) (walk : List ℕ) (st : waiting.ModelState T R) (slots : List machine.Slot) (heads : List Head) (batches : List Batch) (links : List (Option ℕ)) : Type 0 where
   pub numbers : length st.slots ≤ 2 ^ 64 - 32
   pub as_many : length slots ≡ length st.slots
-  pub slot : (s : ℕ) → CoupledSlot of (waiting.slot_at st s) (get_or slots s machine.no_slot)
+  pub slot : (s : ℕ) → CoupledSlot of (waiting.model_slot st s) (get_or slots s machine.no_slot)
   pub heads_are : heads ≡ map head_of st.slots
   pub retired : length batches ≡ length st.retired
   pub values : (b : ℕ) → Denote of (get_or batches b no_batch).values (retired_at st b)
   pub counts : (b : ℕ) → (get_or batches b no_batch).count ≡ pos (count_by (waits_for b) st.slots + occ b walk)
   pub links_are : map (held_value of.link) links ≡ st.links
 
-abbrev pub NearAt : {T R X : Type 0} → Naming T R X → List ℕ → waiting.State T R → machine.State → Type 0
+abbrev pub NearAt : {T R X : Type 0} → Naming T R X → List ℕ → waiting.ModelState T R → machine.State → Type 0
 NearAt of walk st ms = Near of walk st ms.slots ms.heads ms.batches ms.links
 
 -- One slot changes on both sides.
 
-slots_change : {T R X : Type 0} (of : Naming T R X) (xs : List (waiting.Slot T R)) (ys : List machine.Slot) (s : ℕ) (new : waiting.Slot T R) (shown : machine.Slot) → s < length xs → length ys ≡ length xs
-    → ((i : ℕ) → CoupledSlot of (get_or xs i waiting.no_slot) (get_or ys i machine.no_slot)) → CoupledSlot of new shown
-    → (i : ℕ) → CoupledSlot of (get_or (set xs s new) i waiting.no_slot) (get_or (set ys s shown) i machine.no_slot)
+slots_change : {T R X : Type 0} (of : Naming T R X) (xs : List (waiting.ModelSlot T R)) (ys : List machine.Slot) (s : ℕ) (new : waiting.ModelSlot T R) (shown : machine.Slot) → s < length xs → length ys ≡ length xs
+    → ((i : ℕ) → CoupledSlot of (get_or xs i waiting.unmade_slot) (get_or ys i machine.no_slot)) → CoupledSlot of new shown
+    → (i : ℕ) → CoupledSlot of (get_or (set xs s new) i waiting.unmade_slot) (get_or (set ys s shown) i machine.no_slot)
 slots_change {T} {R} of xs ys s new shown h e old now i = go (or_same i s)
   where
-    go : (i ≡ s) ⊎ (i ≢ s) → CoupledSlot of (get_or (set xs s new) i waiting.no_slot) (get_or (set ys s shown) i machine.no_slot)
+    go : (i ≡ s) ⊎ (i ≢ s) → CoupledSlot of (get_or (set xs s new) i waiting.unmade_slot) (get_or (set ys s shown) i machine.no_slot)
     go (inl is) =
-        let a : get_or (set xs s new) i waiting.no_slot ≡ new = rw is (get_or-set_same xs s new waiting.no_slot h) in
+        let a : get_or (set xs s new) i waiting.unmade_slot ≡ new = rw is (get_or-set_same xs s new waiting.unmade_slot h) in
         let b : get_or (set ys s shown) i machine.no_slot ≡ shown = rw is (get_or-set_same ys s shown machine.no_slot (rw e h)) in
-        subst (λ y. CoupledSlot of (get_or (set xs s new) i waiting.no_slot) y) (sym b) (subst (λ x. CoupledSlot of x shown) (sym a) now)
+        subst (λ y. CoupledSlot of (get_or (set xs s new) i waiting.unmade_slot) y) (sym b) (subst (λ x. CoupledSlot of x shown) (sym a) now)
     go (inr not) =
-        let a : get_or (set xs s new) i waiting.no_slot ≡ get_or xs i waiting.no_slot = get_or-set_other xs s i new waiting.no_slot not in
+        let a : get_or (set xs s new) i waiting.unmade_slot ≡ get_or xs i waiting.unmade_slot = get_or-set_other xs s i new waiting.unmade_slot not in
         let b : get_or (set ys s shown) i machine.no_slot ≡ get_or ys i machine.no_slot = get_or-set_other ys s i shown machine.no_slot not in
-        subst (λ y. CoupledSlot of (get_or (set xs s new) i waiting.no_slot) y) (sym b) (subst (λ x. CoupledSlot of x (get_or ys i machine.no_slot)) (sym a) (old i))
+        subst (λ y. CoupledSlot of (get_or (set xs s new) i waiting.unmade_slot) y) (sym b) (subst (λ x. CoupledSlot of x (get_or ys i machine.no_slot)) (sym a) (old i))
 
 -- a change of a slot that leaves its head
-pub near_set : {T R X : Type 0} (of : Naming T R X) (walk : List ℕ) (st : waiting.State T R) (slots : List machine.Slot) (heads : List Head) (batches : List Batch) (links : List (Option ℕ)) (s : ℕ) (new : waiting.Slot T R) (shown : machine.Slot)
-    → Near of walk st slots heads batches links → s < length st.slots → CoupledSlot of new shown → head_of new ≡ head_of (waiting.slot_at st s) → new.order ≡ (waiting.slot_at st s).order
+pub near_set : {T R X : Type 0} (of : Naming T R X) (walk : List ℕ) (st : waiting.ModelState T R) (slots : List machine.Slot) (heads : List Head) (batches : List Batch) (links : List (Option ℕ)) (s : ℕ) (new : waiting.ModelSlot T R) (shown : machine.Slot)
+    → Near of walk st slots heads batches links → s < length st.slots → CoupledSlot of new shown → head_of new ≡ head_of (waiting.model_slot st s) → new.order ≡ (waiting.model_slot st s).order
     → Near of walk (waiting.set_slot st s new) (set slots s shown) heads batches links
 near_set of walk st slots heads batches links s new shown n h now head order = record {
   numbers = rw (length-set st.slots s new) n.numbers;
   as_many = length-set slots s shown ∙ n.as_many ∙ sym (length-set st.slots s new);
   slot = slots_change of st.slots slots s new shown h n.as_many n.slot now;
-  heads_are = n.heads_are ∙ sym (map-set_same head_of st.slots s new waiting.no_slot head);
+  heads_are = n.heads_are ∙ sym (map-set_same head_of st.slots s new waiting.unmade_slot head);
   retired = n.retired;
   values = n.values;
-  counts = λ b. n.counts b ∙ ap (λ (k : ℕ). pos (k + occ b walk)) (sym (count_same (waits_for b) st.slots s new waiting.no_slot (ap (λ (l : List ℕ). list_any (λ x. x == b) l) order)));
+  counts = λ b. n.counts b ∙ ap (λ (k : ℕ). pos (k + occ b walk)) (sym (count_same (waits_for b) st.slots s new waiting.unmade_slot (ap (λ (l : List ℕ). list_any (λ x. x == b) l) order)));
   links_are = n.links_are;
 }
 
 -- a change of a slot's head that leaves no batch in its order: the batches that were there are walked
-pub near_out : {T R X : Type 0} (of : Naming T R X) (st : waiting.State T R) (slots : List machine.Slot) (heads : List Head) (batches : List Batch) (links : List (Option ℕ)) (s : ℕ) (new : waiting.Slot T R) (shown : machine.Slot)
+pub near_out : {T R X : Type 0} (of : Naming T R X) (st : waiting.ModelState T R) (slots : List machine.Slot) (heads : List Head) (batches : List Batch) (links : List (Option ℕ)) (s : ℕ) (new : waiting.ModelSlot T R) (shown : machine.Slot)
     → Near of [] st slots heads batches links → s < length st.slots → CoupledSlot of new shown → new.order ≡ []
-    → Near of (waiting.slot_at st s).order (waiting.set_slot st s new) (set slots s shown) (set heads s (head_of new)) batches links
+    → Near of (waiting.model_slot st s).order (waiting.set_slot st s new) (set slots s shown) (set heads s (head_of new)) batches links
 near_out of st slots heads batches links s new shown n h now order = record {
   numbers = rw (length-set st.slots s new) n.numbers;
   as_many = length-set slots s shown ∙ n.as_many ∙ sym (length-set st.slots s new);
@@ -92,9 +92,9 @@ near_out of st slots heads batches links s new shown n h now order = record {
   values = n.values;
   counts = λ b.
       let none : waits_for b new ≡ false = ap (λ (l : List ℕ). list_any (λ x. x == b) l) order in
-      let less : count_by (waits_for b) (set st.slots s new) + one (waits_for b (waiting.slot_at st s)) ≡ count_by (waits_for b) st.slots = count_less (waits_for b) st.slots s new waiting.no_slot h none in
-      let own : occ b (waiting.slot_at st s).order ≡ one (waits_for b (waiting.slot_at st s)) = once_counts b (waiting.slot_at st s).order (n.slot s).once in
-      let all : count_by (waits_for b) st.slots + occ b [] ≡ count_by (waits_for b) (set st.slots s new) + occ b (waiting.slot_at st s).order = omega arith in
+      let less : count_by (waits_for b) (set st.slots s new) + one (waits_for b (waiting.model_slot st s)) ≡ count_by (waits_for b) st.slots = count_less (waits_for b) st.slots s new waiting.unmade_slot h none in
+      let own : occ b (waiting.model_slot st s).order ≡ one (waits_for b (waiting.model_slot st s)) = once_counts b (waiting.model_slot st s).order (n.slot s).once in
+      let all : count_by (waits_for b) st.slots + occ b [] ≡ count_by (waits_for b) (set st.slots s new) + occ b (waiting.model_slot st s).order = omega arith in
       n.counts b ∙ ap (λ (k : ℕ). pos k) all;
   links_are = n.links_are;
 }

@@ -9,7 +9,7 @@ use Rattle.std.proofs.Math.Seq.{get_or-append_seam}
 use Rattle.seize_machine.specs.Machine.State as machine
 use Rattle.seize_machine.specs.Machine.State.{Head, Inactive, Active, Batch, no_batch, are_distinct}
 use Rattle.seize_model.specs.Waiting.State as waiting
-use Rattle.seize_model.specs.Waiting.State.{slot_at, waits_for}
+use Rattle.seize_model.specs.Waiting.State.{model_slot, waits_for}
 use Rattle.seize_model.specs.Waiting.Attempt.{wait_if_active}
 use Rattle.seize_model.specs.Agreement.Shows.{head_of}
 use Rattle.seize_model.proofs.Simulation.Attempts.{actives, with_front}
@@ -18,14 +18,14 @@ use Rattle.seize_model.proofs.Counts.{none_passes, beside}
 use Rattle.seize_model.proofs.Cases.{or_same}
 use Rattle.seize_model.proofs.WaitingSets.Orders.{by_active, new_count, old_count}
 
-waits_head : {T R : Type 0} (b : ℕ) (slot : waiting.Slot T R) → head_of (wait_if_active b slot) ≡ with_front b (head_of slot)
+waits_head : {T R : Type 0} (b : ℕ) (slot : waiting.ModelSlot T R) → head_of (wait_if_active b slot) ≡ with_front b (head_of slot)
 waits_head {T} {R} b slot = go (waiting.has_guard slot) refl
   where
     go : (t : Bool) → waiting.has_guard slot ≡ t → head_of (if t then record slot { order = b ∷ slot.order } else slot) ≡ with_front b (head_of slot)
     go true e = ap (λ (t : Bool). if t then Active (b ∷ slot.order) else Inactive) e ∙ sym (ap (λ (t : Bool). with_front b (if t then Active slot.order else Inactive)) e)
     go false e = ap (λ (t : Bool). if t then Active slot.order else Inactive) e ∙ sym (ap (λ (t : Bool). with_front b (if t then Active slot.order else Inactive)) e)
 
-pub actives_count : {T R : Type 0} (n : ℕ) (xs : List (waiting.Slot T R)) → length (actives n (map head_of xs)) ≡ count_by waiting.has_guard xs
+pub actives_count : {T R : Type 0} (n : ℕ) (xs : List (waiting.ModelSlot T R)) → length (actives n (map head_of xs)) ≡ count_by waiting.has_guard xs
 actives_count n [] = refl
 actives_count {T} {R} n (x ∷ xs) = go (waiting.has_guard x) refl (actives_count (n + 1) xs)
   where
@@ -34,11 +34,11 @@ actives_count {T} {R} n (x ∷ xs) = go (waiting.has_guard x) refl (actives_coun
     go true e more = grind (arith, common_steps)
     go false e more = grind (arith, common_steps)
 
-heads_wait : {T R : Type 0} (b : ℕ) (xs : List (waiting.Slot T R)) → map (with_front b) (map head_of xs) ≡ map head_of (map (wait_if_active b) xs)
+heads_wait : {T R : Type 0} (b : ℕ) (xs : List (waiting.ModelSlot T R)) → map (with_front b) (map head_of xs) ≡ map head_of (map (wait_if_active b) xs)
 heads_wait b [] = refl
 heads_wait b (x ∷ xs) = ap (λ (h : Head). h ∷ map (with_front b) (map head_of xs)) (sym (waits_head b x)) ∙ ap (λ (hs : List Head). head_of (wait_if_active b x) ∷ hs) (heads_wait b xs)
 
-slot_waits : {T R X : Type 0} (of : Naming T R X) (b : ℕ) (slot : waiting.Slot T R) (shown : machine.Slot) → waits_for b slot ≡ false → CoupledSlot of slot shown → CoupledSlot of (wait_if_active b slot) shown
+slot_waits : {T R X : Type 0} (of : Naming T R X) (b : ℕ) (slot : waiting.ModelSlot T R) (shown : machine.Slot) → waits_for b slot ≡ false → CoupledSlot of slot shown → CoupledSlot of (wait_if_active b slot) shown
 slot_waits {T} {R} of b slot shown none h =
     by_active (λ x t. CoupledSlot of x shown) b slot (λ e. record {
       used = h.used;
@@ -51,18 +51,18 @@ slot_waits {T} {R} of b slot shown none h =
     }) (λ e. h)
 
 -- with one retired batch more, which waits for all active slots
-abbrev pub waiting_more : {T R : Type 0} → waiting.State T R → List (T × R) → waiting.State T R
+abbrev pub waiting_more : {T R : Type 0} → waiting.ModelState T R → List (T × R) → waiting.ModelState T R
 waiting_more st values = record st { slots = map (wait_if_active (length st.retired)) st.slots; retired = st.retired ++ values ∷ [] }
 
 -- no batch that was never retired waits for a slot
-unmade : {T R X : Type 0} (of : Naming T R X) (st : waiting.State T R) (slots : List machine.Slot) (heads : List Head) (batches : List Batch) (links : List (Option ℕ)) → Near of [] st slots heads batches links
+unmade : {T R X : Type 0} (of : Naming T R X) (st : waiting.ModelState T R) (slots : List machine.Slot) (heads : List Head) (batches : List Batch) (links : List (Option ℕ)) → Near of [] st slots heads batches links
     → count_by (waits_for (length st.retired)) st.slots ≡ 0
 unmade of st slots heads batches links n =
     let past : get_or batches (length st.retired) no_batch ≡ no_batch = get_or_past batches (length st.retired) no_batch (omega (arith, n.retired)) in
     let zero_is : pos 0 ≡ pos (count_by (waits_for (length st.retired)) st.slots + 0) = sym (ap (λ (k : Batch). k.count) past) ∙ n.counts (length st.retired) in
     omega (arith, ints)
 
-pub near_waits : {T R X : Type 0} (of : Naming T R X) (numbers : List ℕ) (values : List (T × R)) (st : waiting.State T R) (slots : List machine.Slot) (heads : List Head) (batches : List Batch) (links : List (Option ℕ))
+pub near_waits : {T R X : Type 0} (of : Naming T R X) (numbers : List ℕ) (values : List (T × R)) (st : waiting.ModelState T R) (slots : List machine.Slot) (heads : List Head) (batches : List Batch) (links : List (Option ℕ))
     → Near of [] st slots heads batches links → Denote of numbers values
     → (count_by (waits_for (length st.retired)) (waiting_more st values).slots ≡ length (actives 0 heads))
     × Near of [] (waiting_more st values) slots (map (with_front (length st.retired)) heads) (batches ++ record { values = numbers; count = pos (length (actives 0 heads)) } ∷ []) links
@@ -71,8 +71,8 @@ near_waits {T} {R} of numbers values st slots heads batches links n stand = (
   record {
     numbers = rw (length-map st.slots (wait_if_active b)) n.numbers;
     as_many = n.as_many ∙ sym (length-map st.slots (wait_if_active b));
-    slot = λ s. subst (λ x. CoupledSlot of x (get_or slots s machine.no_slot)) (sym (get_or-map (wait_if_active b) st.slots s waiting.no_slot))
-        (slot_waits of b (slot_at st s) (get_or slots s machine.no_slot) (none_passes (waits_for b) st.slots s waiting.no_slot none refl) (n.slot s));
+    slot = λ s. subst (λ x. CoupledSlot of x (get_or slots s machine.no_slot)) (sym (get_or-map (wait_if_active b) st.slots s waiting.unmade_slot))
+        (slot_waits of b (model_slot st s) (get_or slots s machine.no_slot) (none_passes (waits_for b) st.slots s waiting.unmade_slot none refl) (n.slot s));
     heads_are = ap (λ (l : List Head). map (with_front b) l) n.heads_are ∙ heads_wait b st.slots;
     retired = length-append batches (new ∷ []) ∙ ap (λ (k : ℕ). k + 1) n.retired ∙ sym (length-append st.retired (values ∷ []));
     values = λ i. values_at i (or_same i b);

@@ -3,7 +3,7 @@ use Rattle.std.proofs.Common.{◌≡◌, ℕ, zero, suc, ◌+◌, ◌<◌, ◌�
 use Rattle.std.proofs.lemmas.List.{get_or-set_same, length-set}
 use Rattle.seize_machine.specs.Machine.State.{State, Slot, Inactive, Active, Place, Append, Mark, Look, Try, Add, Out, Rest, slot_at, head_at, batch_at, is_active, waiting_at, no_slot}
 use Rattle.seize_machine.specs.Machine.Event.{Put, ReadHead, Detach, Insert, AddCount, SwapOut, SubCount, Hand, Return}
-use Rattle.seize_machine.specs.Machine.Next.{Outcome, next, set_slot, set_head, look, marked_place, looked, is_zero, are_fresh}
+use Rattle.seize_machine.specs.Machine.Next.{Outcome, next, slot_set, set_head, look, marked_place, looked, is_zero, are_fresh}
 use Rattle.seize_machine.specs.declared.machine.event.Try.TheVariants.{Won}
 use Rattle.seize_machine.specs.declared.machine.event.Answer.{Answer}
 use Rattle.seize_machine.specs.declared.machine.event.Answer.TheVariants.{Done, Head as HeadRead, Count, Handed}
@@ -14,11 +14,11 @@ abbrev pub busy_slot : List ℕ → Place → List ℕ → Slot
 busy_slot batch place queue = record { used = true; batch = batch; call = Some (record { place = place; queue = queue }) }
 
 abbrev pub busy : State → ℕ → List ℕ → Place → List ℕ → State
-busy base s batch place queue = set_slot base s (busy_slot batch place queue)
+busy base s batch place queue = slot_set base s (busy_slot batch place queue)
 
 -- the same with no call under way
 abbrev pub at_rest : State → ℕ → List ℕ → State
-at_rest base s batch = set_slot base s (record { used = true; batch = batch; call = None })
+at_rest base s batch = slot_set base s (record { used = true; batch = batch; call = None })
 
 pub set_twice : {X : Type 0} (xs : List X) (i : ℕ) (a b : X) → set (set xs i a) i b ≡ set xs i b
 set_twice [] i a b = refl
@@ -39,10 +39,10 @@ same n = grind arith
 pub lt_yes : (a b : ℕ) → a < b → nat_lt a b ≡ true
 lt_yes a b h = grind arith
 
-pub there : (base : State) (s : ℕ) (slot : Slot) → s < length base.slots → slot_at (set_slot base s slot) s ≡ slot
+pub there : (base : State) (s : ℕ) (slot : Slot) → s < length base.slots → slot_at (slot_set base s slot) s ≡ slot
 there base s slot h = get_or-set_same base.slots s slot no_slot h
 
-pub twice : (base : State) (s : ℕ) (a b : Slot) → set_slot (set_slot base s a) s b ≡ set_slot base s b
+pub twice : (base : State) (s : ℕ) (a b : Slot) → slot_set (slot_set base s a) s b ≡ slot_set base s b
 twice base s a b = ap (λ (l : List Slot). record base { slots = l }) (set_twice base.slots s a b)
 
 pub stands : (base : State) (s : ℕ) (batch : List ℕ) (place : Place) (queue : List ℕ) → s < length base.slots → Stands (busy base s batch place queue) s place queue
@@ -53,10 +53,10 @@ abbrev outcome : State → Answer → Outcome
 outcome st answer = Some (st, answer)
 
 goes : (base now : State) (s : ℕ) (batch : List ℕ) (place : Place) (queue : List ℕ) (answer : Answer) (new : Slot → Slot) → s < length base.slots
-    → outcome (set_slot (record now { slots = (busy base s batch place queue).slots }) s (new (slot_at (busy base s batch place queue) s))) answer
+    → outcome (slot_set (record now { slots = (busy base s batch place queue).slots }) s (new (slot_at (busy base s batch place queue) s))) answer
     ≡ outcome (record now { slots = set base.slots s (new (busy_slot batch place queue)) }) answer
 goes base now s batch place queue answer new h =
-    ap (λ (slot : Slot). Some (set_slot (record now { slots = (busy base s batch place queue).slots }) s (new slot), answer)) (there base s (busy_slot batch place queue) h)
+    ap (λ (slot : Slot). Some (slot_set (record now { slots = (busy base s batch place queue).slots }) s (new slot), answer)) (there base s (busy_slot batch place queue) h)
     ∙ ap (λ (l : List Slot). Some (record now { slots = l }, answer)) (set_twice base.slots s (busy_slot batch place queue) (new (busy_slot batch place queue)))
 
 -- a call that goes on
@@ -70,7 +70,7 @@ puts size base s v batch place before after h which =
     let st : State = busy base s batch place before in
     next_of size st (Put s) _ (put_of size st s v place before after (stands base s batch place before h) which)
     ∙ goes base base s batch place before Done (λ slot. record { used = slot.used; batch = slot.batch ++ v ∷ []; call = Some (record { place = after_put size (length st.slots) (slot.batch ++ v ∷ []); queue = after }) }) h
-    ∙ ap (λ (n : ℕ). Some (set_slot base s (busy_slot (batch ++ v ∷ []) (after_put size n (batch ++ v ∷ [])) after), Done)) (length-set base.slots s (busy_slot batch place before))
+    ∙ ap (λ (n : ℕ). Some (slot_set base s (busy_slot (batch ++ v ∷ []) (after_put size n (batch ++ v ∷ [])) after), Done)) (length-set base.slots s (busy_slot batch place before))
 
 pub put_step : (size : ℕ) (base : State) (s v : ℕ) (batch queue : List ℕ) → s < length base.slots
     → next size (busy base s batch (Append v) queue) (Put s) ≡ Some (busy base s (batch ++ v ∷ []) (after_put size (length base.slots) (batch ++ v ∷ [])) queue, Done)

@@ -12,7 +12,7 @@ use Rattle.seize_machine.specs.declared.machine.event.Answer.TheVariants.{Link}
 use Rattle.seize_machine.proofs.Facts.{swapped as link_swapped, if_some, and_true}
 use Rattle.seize_model.specs.Waiting.State as waiting
 use Rattle.seize_model.specs.Waiting.Calls as calls
-use Rattle.seize_model.specs.Waiting.Calls.{no_guard, unless, link_at}
+use Rattle.seize_model.specs.Waiting.Calls.{no_guard, unless, model_link}
 use Rattle.seize_model.specs.Agreement.Shows.{held_value, ShowsState, ShowsReclaimers}
 use Rattle.seize_model.specs.Agreement.Play.{play}
 use Rattle.seize_model.specs.Agreement.Statement.{HasNames}
@@ -25,17 +25,17 @@ use Rattle.seize_model.proofs.Simulation.Jobs.{guard_of}
 use Rattle.seize_model.proofs.Simulation.Links.{reads, swaps, swapped_near, same_link}
 
 -- what the exchange answers
-abbrev pub exchange_answer : {T R : Type 0} → waiting.State T R → ℕ → Option T → Option Refusal → calls.Response (Option T) T R
-exchange_answer st l new refusal = unless refusal st (Ok (link_at st l), (record st { links = set st.links l new }, []))
+abbrev pub exchange_answer : {T R : Type 0} → waiting.ModelState T R → ℕ → Option T → Option Refusal → calls.Response (Option T) T R
+exchange_answer st l new refusal = unless refusal st (Ok (model_link st l), (record st { links = set st.links l new }, []))
 
-found_link : {T R X : Type 0} (of : Naming T R X) (st : waiting.State T R) (before : State) (l : ℕ) → NearAt of [] st before → held_value of.link (machine.link_at before l) ≡ link_at st l
+found_link : {T R X : Type 0} (of : Naming T R X) (st : waiting.ModelState T R) (before : State) (l : ℕ) → NearAt of [] st before → held_value of.link (machine.link_at before l) ≡ model_link st l
 found_link of st before l n = sym (same_link of st before l n)
 
 pub each_read : {T : Type 0} (R : Type 0) (of : ℕ → T) → ReadAgreement R of
 each_read {T} R of st before s l h shows = go (no_guard st s) refl
   where
     go : (refusal : Option Refusal) → no_guard st s ≡ refusal
-        → (let told = unless {A = Option T} {T = T} {R = R} refusal st (Ok (link_at st l), (st, [])) in (answers : List Answer) × (play st.size before (read_events told.0 s l) ≡ Some (before, answers)) × IsFoundInLink of told.0 answers)
+        → (let told = unless {A = Option T} {T = T} {R = R} refusal st (Ok (model_link st l), (st, [])) in (answers : List Answer) × (play st.size before (read_events told.0 s l) ≡ Some (before, answers)) × IsFoundInLink of told.0 answers)
     go None e =
         let n : NearAt (contents of) [] st before = near_of of st before shows in (
           Link (machine.link_at before l) ∷ [],

@@ -11,7 +11,7 @@ use Rattle.seize_machine.specs.declared.machine.event.Job as job
 use Rattle.seize_machine.specs.declared.machine.event.Answer.TheVariants.{Done as DoneEvent}
 use Rattle.seize_table.specs.declared.refusal.Refusal.TheVariants.{NotInUse, NotActive}
 use Rattle.seize_model.specs.Waiting.State as waiting
-use Rattle.seize_model.specs.Waiting.State.{slot_at, set_slot}
+use Rattle.seize_model.specs.Waiting.State.{model_slot, set_slot}
 use Rattle.seize_model.specs.Waiting.Attempt.{with_gone, attempt, gives_up, active_slots, release_all, part, put}
 use Rattle.seize_model.specs.Waiting.Further.{with_further, Lighter}
 use Rattle.seize_model.proofs.WaitingSets.FurtherValues.{afterwards-nil}
@@ -37,39 +37,39 @@ use Rattle.seize_model.proofs.Simulation.Beginnings.{begin_flush, begin_refresh,
 use Rattle.seize_model.proofs.Simulation.Plays.{First, first_of}
 
 -- a call that isn't refused has its slot in use, and a guard
-pub used_of : {T R : Type 0} (st : waiting.State T R) (s : ℕ) → unused st s ≡ None → is_free (slot_at st s).kind ≡ false
-used_of st s e = go (is_free (slot_at st s).kind) e
+pub used_of : {T R : Type 0} (st : waiting.ModelState T R) (s : ℕ) → unused st s ≡ None → is_free (model_slot st s).kind ≡ false
+used_of st s e = go (is_free (model_slot st s).kind) e
   where
     go : (a : Bool) → (if a then Some NotInUse else None) ≡ None → a ≡ false
     go true e = absurd (cc)
     go false e = refl
 
-pub guard_of : {T R : Type 0} (st : waiting.State T R) (s : ℕ) → no_guard st s ≡ None → (is_free (slot_at st s).kind ≡ false) × (waiting.has_guard (slot_at st s) ≡ true)
-guard_of st s e = go (is_free (slot_at st s).kind) (waiting.has_guard (slot_at st s)) e
+pub guard_of : {T R : Type 0} (st : waiting.ModelState T R) (s : ℕ) → no_guard st s ≡ None → (is_free (model_slot st s).kind ≡ false) × (waiting.has_guard (model_slot st s) ≡ true)
+guard_of st s e = go (is_free (model_slot st s).kind) (waiting.has_guard (model_slot st s)) e
   where
     go : (a b : Bool) → first_refusal (if a then Some NotInUse else None) (if b then None else Some NotActive) ≡ None → (a ≡ false) × (b ≡ true)
     go true b e = absurd (cc)
     go false true e = (refl, refl)
     go false false e = absurd (cc)
 
-pub active_head : {T R X : Type 0} (of : Naming T R X) (st : waiting.State T R) (ms : State) (s : ℕ) (t : Bool) → NearAt of [] st ms → waiting.has_guard (slot_at st s) ≡ t → is_active (head_at ms s) ≡ t
-active_head of st ms s t n e = ap is_active (head_is of st ms.slots ms.heads ms.batches ms.links [] s n) ∙ head_active (slot_at st s) ∙ e
+pub active_head : {T R X : Type 0} (of : Naming T R X) (st : waiting.ModelState T R) (ms : State) (s : ℕ) (t : Bool) → NearAt of [] st ms → waiting.has_guard (model_slot st s) ≡ t → is_active (head_at ms s) ≡ t
+active_head of st ms s t n e = ap is_active (head_is of st ms.slots ms.heads ms.batches ms.links [] s n) ∙ head_active (model_slot st s) ∙ e
 
 -- an event at a slot that is idle, in use
-pub at_idle : {T R X : Type 0} (of : Naming T R X) (st : waiting.State T R) (ms : State) (size s : ℕ) (e : Event) (d : State × Answer) → NearAt of [] st ms → is_free (slot_at st s).kind ≡ false
+pub at_idle : {T R X : Type 0} (of : Naming T R X) (st : waiting.ModelState T R) (ms : State) (size s : ℕ) (e : Event) (d : State × Answer) → NearAt of [] st ms → is_free (model_slot st s).kind ≡ false
     → next size (at_rest ms s (machine.slot_at ms s).batch) e ≡ Some d → next size ms e ≡ Some d
 at_idle of st ms size s e d n used legal = ap (λ (k : State). next size k e) (is_at_rest of st ms s n used) ∙ legal
 
 -- Flush.
 
-flush_does : {T R X : Type 0} (puts : R → T → List T) (of : Naming T R X) (P : T × R → Type 0) (K : State → List ℕ → Type 0) (st : waiting.State T R) (base : State) (s : ℕ) (batch : List ℕ) → Carried puts of P s st.size K
+flush_does : {T R X : Type 0} (puts : R → T → List T) (of : Naming T R X) (P : T × R → Type 0) (K : State → List ℕ → Type 0) (st : waiting.ModelState T R) (base : State) (s : ℕ) (batch : List ℕ) → Carried puts of P s st.size K
     → Holds T R P st → NearAt of [] st (at_rest base s batch) → s < length base.slots
-    → K (busy base s batch (if is_empty batch then Rest [] [] else Mark 0 (length base.slots) []) []) [] → Does puts of K st.size s (slot_at st s).guards [] [] (attempt st s)
+    → K (busy base s batch (if is_empty batch then Rest [] [] else Mark 0 (length base.slots) []) []) [] → Does puts of K st.size s (model_slot st s).guards [] [] (attempt st s)
 flush_does {T} {R} puts of P K st base s [] carried holds n h now =
-    let own : CoupledSlot of (slot_at st s) (record { used = true; batch = []; call = None }) = own_slot of st base s [] n h in
-    let none : length (slot_at st s).batch ≡ 0 = empty_values (slot_at st s).batch own.batch in
-    let gives : gives_up st s ≡ true = gives_none (length (slot_at st s).batch) (active_slots st) none in
-    subst (λ o. Does puts of K st.size s (slot_at st s).guards [] [] o) (sym (if_yes (gives_up st s) _ _ gives))
+    let own : CoupledSlot of (model_slot st s) (record { used = true; batch = []; call = None }) = own_slot of st base s [] n h in
+    let none : length (model_slot st s).batch ≡ 0 = empty_values (model_slot st s).batch own.batch in
+    let gives : gives_up st s ≡ true = gives_none (length (model_slot st s).batch) (active_slots st) none in
+    subst (λ o. Does puts of K st.size s (model_slot st s).guards [] [] o) (sym (if_yes (gives_up st s) _ _ gives))
     (nothing_done puts of K st base s [] [] [] n h now)
   where
     empty_values : (values : List (T × R)) → Denote of [] values → length values ≡ 0
@@ -80,86 +80,86 @@ flush_does {T} {R} puts of P K st base s [] carried holds n h now =
     gives_none a b e = grind arith
 flush_does puts of P K st base s (v ∷ batch) carried holds n h now = attempt_does puts of P K st base s (v ∷ batch) [] [] carried holds n h (omega arith) now
 
-flush_ends : {T R X : Type 0} (puts : R → T → List T) (weight : T → ℕ) → Lighter puts weight → (of : Naming T R X) (P : T × R → Type 0) (K : State → List ℕ → Type 0) (st : waiting.State T R) (base : State) (s : ℕ) (batch : List ℕ) → Carried puts of P s st.size K
+flush_ends : {T R X : Type 0} (puts : R → T → List T) (weight : T → ℕ) → Lighter puts weight → (of : Naming T R X) (P : T × R → Type 0) (K : State → List ℕ → Type 0) (st : waiting.ModelState T R) (base : State) (s : ℕ) (batch : List ℕ) → Carried puts of P s st.size K
     → Holds T R P st → NearAt of [] st (at_rest base s batch) → s < length base.slots
-    → K (busy base s batch (if is_empty batch then Rest [] [] else Mark 0 (length base.slots) []) []) [] → Ends of K st.size s (slot_at st s).guards [] (with_further puts weight s (attempt st s))
+    → K (busy base s batch (if is_empty batch then Rest [] [] else Mark 0 (length base.slots) []) []) [] → Ends of K st.size s (model_slot st s).guards [] (with_further puts weight s (attempt st s))
 flush_ends puts weight lighter of P K st base s batch carried holds n h now =
-    settled_ends puts weight lighter of P K st.size s (slot_at st s).guards [] (attempt st s) carried (holds_attempt P st s holds) (flush_does puts of P K st base s batch carried holds n h now)
+    settled_ends puts weight lighter of P K st.size s (model_slot st s).guards [] (attempt st s) carried (holds_attempt P st s holds) (flush_does puts of P K st base s batch carried holds n h now)
 
 -- the flush begins
-begins_flush : {T R X : Type 0} (of : Naming T R X) (st : waiting.State T R) (before : State) (s : ℕ) → NearAt of [] st before → is_free (slot_at st s).kind ≡ false → waiting.has_guard (slot_at st s) ≡ true
+begins_flush : {T R X : Type 0} (of : Naming T R X) (st : waiting.ModelState T R) (before : State) (s : ℕ) → NearAt of [] st before → is_free (model_slot st s).kind ≡ false → waiting.has_guard (model_slot st s) ≡ true
     → next st.size before (Begin s job.TheVariants.Flush) ≡ Some (busy before s (machine.slot_at before s).batch (if is_empty (machine.slot_at before s).batch then Rest [] [] else Mark 0 (length before.slots) []) [], DoneEvent)
 begins_flush of st before s n used active =
     at_idle of st before st.size s (Begin s job.TheVariants.Flush) _ n used (begin_flush st.size before s _ (in_machine of st before s n (in_use st s used)) (active_head of st before s true n active))
 
-pub flush_run : {T R X : Type 0} (puts : R → T → List T) (weight : T → ℕ) → Lighter puts weight → (of : Naming T R X) (P : T × R → Type 0) → Names puts of P → (st : waiting.State T R) (before : State) (s : ℕ) → Holds T R P st → NearAt of [] st before
+pub flush_run : {T R X : Type 0} (puts : R → T → List T) (weight : T → ℕ) → Lighter puts weight → (of : Naming T R X) (P : T × R → Type 0) → Names puts of P → (st : waiting.ModelState T R) (before : State) (s : ℕ) → Holds T R P st → NearAt of [] st before
     → Run puts of (Flush s) st before (step puts weight st (Flush s))
 flush_run {T} {R} puts weight lighter of P names st before s holds near =
     run_unless puts of (Flush s) st before done_reply None (no_guard st s) tt (with_further puts weight s (attempt st s)) near (λ e.
     let n : NearAt of [] st before = near in
-    let g : (is_free (slot_at st s).kind ≡ false) × (waiting.has_guard (slot_at st s) ≡ true) = guard_of st s e in
-    let run : JobRun puts of st.size s (slot_at st s).guards job.TheVariants.Flush before (with_further puts weight s (attempt st s))
-    = job_run puts of st.size s (slot_at st s).guards job.TheVariants.Flush before _ (with_further puts weight s (attempt st s)) (begins_flush of st before s n g.0 g.1)
+    let g : (is_free (model_slot st s).kind ≡ false) × (waiting.has_guard (model_slot st s) ≡ true) = guard_of st s e in
+    let run : JobRun puts of st.size s (model_slot st s).guards job.TheVariants.Flush before (with_further puts weight s (attempt st s))
+    = job_run puts of st.size s (model_slot st s).guards job.TheVariants.Flush before _ (with_further puts weight s (attempt st s)) (begins_flush of st before s n g.0 g.1)
     (flush_ends puts weight lighter of P _ st before s _ (run_carried puts of P names st.size s _) holds (near_at_rest of st before s n g.0) (in_machine of st before s n (in_use st s g.0)) (Leads.stays _)) in
-    run_of puts of (Flush s) st before st.size s (slot_at st s).guards job.TheVariants.Flush Done (with_further puts weight s (attempt st s)) refl run run.makes (names_none {R = R} of.link (Flush s) run.events (λ e. tt)) tt refl)
+    run_of puts of (Flush s) st before st.size s (model_slot st s).guards job.TheVariants.Flush Done (with_further puts weight s (attempt st s)) refl run run.makes (names_none {R = R} of.link (Flush s) run.events (λ e. tt)) tt refl)
 
 -- each list of the job
-pub flush_job_list : {T R : Type 0} (puts : R → T → List T) (weight : T → ℕ) → Lighter puts weight → (of : ℕ → T) (by : ℕ → R) (st : waiting.State T R) (before : State) (s : ℕ) (events : List Event) (answers : List Answer) (later : State) → NearAt (with_reclaimers of by) [] st before
-    → is_free (slot_at st s).kind ≡ false → waiting.has_guard (slot_at st s) ≡ true → IsJob s job.TheVariants.Flush events → play st.size before events ≡ Some (later, answers) → ArePutBy puts of by events answers
-    → JobEnds (with_reclaimers of by) s (slot_at st s).guards (with_further puts weight s (attempt st s)) later answers
+pub flush_job_list : {T R : Type 0} (puts : R → T → List T) (weight : T → ℕ) → Lighter puts weight → (of : ℕ → T) (by : ℕ → R) (st : waiting.ModelState T R) (before : State) (s : ℕ) (events : List Event) (answers : List Answer) (later : State) → NearAt (with_reclaimers of by) [] st before
+    → is_free (model_slot st s).kind ≡ false → waiting.has_guard (model_slot st s) ≡ true → IsJob s job.TheVariants.Flush events → play st.size before events ≡ Some (later, answers) → ArePutBy puts of by events answers
+    → JobEnds (with_reclaimers of by) s (model_slot st s).guards (with_further puts weight s (attempt st s)) later answers
 flush_job_list puts weight lighter of by st before s events answers later n used active makes legal put =
-    job_list puts of by st.size s (slot_at st s).guards job.TheVariants.Flush before _ later (with_further puts weight s (attempt st s)) events answers (begins_flush (with_reclaimers of by) st before s n used active) makes legal put (λ now.
+    job_list puts of by st.size s (model_slot st s).guards job.TheVariants.Flush before _ later (with_further puts weight s (attempt st s)) events answers (begins_flush (with_reclaimers of by) st before s n used active) makes legal put (λ now.
     flush_ends puts weight lighter (with_reclaimers of by) Always _ st before s _ (left_carried puts of by st.size s later (handed answers)) (holds_always st) (near_at_rest (with_reclaimers of by) st before s n used) (in_machine (with_reclaimers of by) st before s n (in_use st s used)) now)
 
-pub flush_list : {T R : Type 0} (puts : R → T → List T) (weight : T → ℕ) → Lighter puts weight → (of : ℕ → T) (by : ℕ → R) (st : waiting.State T R) (before : State) (s : ℕ) → NearAt (with_reclaimers of by) [] st before
+pub flush_list : {T R : Type 0} (puts : R → T → List T) (weight : T → ℕ) → Lighter puts weight → (of : ℕ → T) (by : ℕ → R) (st : waiting.ModelState T R) (before : State) (s : ℕ) → NearAt (with_reclaimers of by) [] st before
     → EachList puts of by (Flush s) st before (step puts weight st (Flush s))
 flush_list {T} {R} puts weight lighter of by st before s n =
     list_unless puts of by (Flush s) st before done_reply None (no_guard st s) tt (with_further puts weight s (attempt st s)) n (λ e events answers later makes legal names with put.
-    let g : (is_free (slot_at st s).kind ≡ false) × (waiting.has_guard (slot_at st s) ≡ true) = guard_of st s e in
-    job_outcome of by (Flush s) s (slot_at st s).guards Done (with_further puts weight s (attempt st s)) events answers later
+    let g : (is_free (model_slot st s).kind ≡ false) × (waiting.has_guard (model_slot st s) ≡ true) = guard_of st s e in
+    job_outcome of by (Flush s) s (model_slot st s).guards Done (with_further puts weight s (attempt st s)) events answers later
     (flush_job_list puts weight lighter of by st before s events answers later n g.0 g.1 makes legal put)
     refl)
 
 -- Retire.
 
-retire_ends : {T R X : Type 0} (puts : R → T → List T) (weight : T → ℕ) → Lighter puts weight → (of : Naming T R X) (P : T × R → Type 0) (K : State → List ℕ → Type 0) (st : waiting.State T R) (base : State) (s n : ℕ) (v : T × R) (batch : List ℕ) → Carried puts of P s st.size K
+retire_ends : {T R X : Type 0} (puts : R → T → List T) (weight : T → ℕ) → Lighter puts weight → (of : Naming T R X) (P : T × R → Type 0) (K : State → List ℕ → Type 0) (st : waiting.ModelState T R) (base : State) (s n : ℕ) (v : T × R) (batch : List ℕ) → Carried puts of P s st.size K
     → Holds T R P st → P v → NearAt of [] st (at_rest base s batch) → s < length base.slots → of.name n ≡ of.view v
-    → K (busy (retiring base n) s batch (Append n) []) [] → Ends of K st.size s (slot_at st s).guards [] (with_further puts weight s (put st s v))
+    → K (busy (retiring base n) s batch (Append n) []) [] → Ends of K st.size s (model_slot st s).guards [] (with_further puts weight s (put st s v))
 retire_ends puts weight lighter of P K st base s n v batch carried holds own near h stands now =
-    settled_ends puts weight lighter of P K st.size s (slot_at st s).guards [] (put st s v) carried (holds_put P st s v holds own)
+    settled_ends puts weight lighter of P K st.size s (model_slot st s).guards [] (put st s v) carried (holds_put P st s v holds own)
     (after_put puts of P K st (retiring base n) s n v batch [] [] carried holds own near h stands
     (carried.forced _ _ (Put s) _ [] (put_step st.size (retiring base n) s n batch [] h) refl (refl, refl, refl) (only_append st.size (retiring base n) s n batch [] h) now))
 
-begins_retire : {T R X : Type 0} (of : Naming T R X) (st : waiting.State T R) (before : State) (s n : ℕ) → NearAt of [] st before → is_free (slot_at st s).kind ≡ false → (not (has n before.named) || has n before.loose) ≡ true
+begins_retire : {T R X : Type 0} (of : Naming T R X) (st : waiting.ModelState T R) (before : State) (s n : ℕ) → NearAt of [] st before → is_free (model_slot st s).kind ≡ false → (not (has n before.named) || has n before.loose) ≡ true
     → next st.size before (Begin s (job.TheVariants.Retire n)) ≡ Some (busy (retiring before n) s (machine.slot_at before s).batch (Append n) [], DoneEvent)
 begins_retire of st before s n near used free =
     at_idle of st before st.size s (Begin s (job.TheVariants.Retire n)) _ near used (begin_retire st.size before s n _ (in_machine of st before s near (in_use st s used)) free)
 
-pub retire_job : {T R X : Type 0} (puts : R → T → List T) (weight : T → ℕ) → Lighter puts weight → (of : Naming T R X) (P : T × R → Type 0) → Names puts of P → (st : waiting.State T R) (before : State) (s n : ℕ) (v : T × R) → Holds T R P st → P v → NearAt of [] st before → is_free (slot_at st s).kind ≡ false
+pub retire_job : {T R X : Type 0} (puts : R → T → List T) (weight : T → ℕ) → Lighter puts weight → (of : Naming T R X) (P : T × R → Type 0) → Names puts of P → (st : waiting.ModelState T R) (before : State) (s n : ℕ) (v : T × R) → Holds T R P st → P v → NearAt of [] st before → is_free (model_slot st s).kind ≡ false
     → (not (has n before.named) || has n before.loose) ≡ true → of.name n ≡ of.view v
-    → JobRun puts of st.size s (slot_at st s).guards (job.TheVariants.Retire n) before (with_further puts weight s (put st s v))
+    → JobRun puts of st.size s (model_slot st s).guards (job.TheVariants.Retire n) before (with_further puts weight s (put st s v))
 retire_job puts weight lighter of P names st before s n v holds own near used free stands =
-    job_run puts of st.size s (slot_at st s).guards (job.TheVariants.Retire n) before _ (with_further puts weight s (put st s v)) (begins_retire of st before s n near used free)
+    job_run puts of st.size s (model_slot st s).guards (job.TheVariants.Retire n) before _ (with_further puts weight s (put st s v)) (begins_retire of st before s n near used free)
     (retire_ends puts weight lighter of P _ st before s n v _ (run_carried puts of P names st.size s _) holds own (near_at_rest of st before s near used) (in_machine of st before s near (in_use st s used)) stands (Leads.stays _))
 
-pub retire_run : {T R X : Type 0} (puts : R → T → List T) (weight : T → ℕ) → Lighter puts weight → (of : Naming T R X) (P : T × R → Type 0) → Names puts of P → (st : waiting.State T R) (before : State) (s : ℕ) (v : T) (r : R) → Holds T R P st → P (v, r) → NearAt of [] st before
+pub retire_run : {T R X : Type 0} (puts : R → T → List T) (weight : T → ℕ) → Lighter puts weight → (of : Naming T R X) (P : T × R → Type 0) → Names puts of P → (st : waiting.ModelState T R) (before : State) (s : ℕ) (v : T) (r : R) → Holds T R P st → P (v, r) → NearAt of [] st before
     → Run puts of (Retire s v r) st before (step puts weight st (Retire s v r))
 retire_run {T} {R} puts weight lighter of P names st before s v r holds own near =
     run_unless puts of (Retire s v r) st before done_reply (Some v) (unused st s) tt (with_further puts weight s (put st s (v, r))) near (λ e.
     let name : (n : ℕ) × (has n before.named ≡ false) × (of.name n ≡ of.view (v, r)) = names.number (v, r) own before.named in
     let held : of.link name.0 ≡ v = names.link name.0 (v, r) name.2 in
-    let run : JobRun puts of st.size s (slot_at st s).guards (job.TheVariants.Retire name.0) before (with_further puts weight s (put st s (v, r)))
+    let run : JobRun puts of st.size s (model_slot st s).guards (job.TheVariants.Retire name.0) before (with_further puts weight s (put st s (v, r)))
     = retire_job puts weight lighter of P names st before s name.0 (v, r) holds own near (used_of st s e) (ap (λ (t : Bool). not t || has name.0 before.loose) name.1) name.2 in
-    run_of puts of (Retire s v r) st before st.size s (slot_at st s).guards (job.TheVariants.Retire name.0) Done (with_further puts weight s (put st s (v, r))) refl run (name.0, run.makes)
+    run_of puts of (Retire s v r) st before st.size s (model_slot st s).guards (job.TheVariants.Retire name.0) Done (with_further puts weight s (put st s (v, r))) refl run (name.0, run.makes)
     (subst (λ (l : List Event). NamesOwn of.link (Retire s v r) l) (sym run.makes.1) held)
     (subst (λ (l : List Event). StartsFor of (Retire s v r) l) (sym run.makes.1) (name.2 ∙ ap (λ (x : T). of.view (x, r)) (sym held))) refl)
 
 -- each list of the job that retires number n
-pub retire_job_list : {T R : Type 0} (puts : R → T → List T) (weight : T → ℕ) → Lighter puts weight → (of : ℕ → T) (by : ℕ → R) (st : waiting.State T R) (before : State) (s n : ℕ) (v : T) (r : R) (events : List Event) (answers : List Answer) (later : State) → NearAt (with_reclaimers of by) [] st before
-    → is_free (slot_at st s).kind ≡ false → of n ≡ v → IsJob s (job.TheVariants.Retire n) events → play st.size before events ≡ Some (later, answers) → by n ≡ r → ArePutBy puts of by events answers
-    → JobEnds (with_reclaimers of by) s (slot_at st s).guards (with_further puts weight s (put st s (v, r))) later answers
+pub retire_job_list : {T R : Type 0} (puts : R → T → List T) (weight : T → ℕ) → Lighter puts weight → (of : ℕ → T) (by : ℕ → R) (st : waiting.ModelState T R) (before : State) (s n : ℕ) (v : T) (r : R) (events : List Event) (answers : List Answer) (later : State) → NearAt (with_reclaimers of by) [] st before
+    → is_free (model_slot st s).kind ≡ false → of n ≡ v → IsJob s (job.TheVariants.Retire n) events → play st.size before events ≡ Some (later, answers) → by n ≡ r → ArePutBy puts of by events answers
+    → JobEnds (with_reclaimers of by) s (model_slot st s).guards (with_further puts weight s (put st s (v, r))) later answers
 retire_job_list {T} {R} puts weight lighter of by st before s n v r events answers later near used stands makes legal with puts_all =
-    job_list puts of by st.size s (slot_at st s).guards (job.TheVariants.Retire n) before _ later (with_further puts weight s (put st s (v, r))) events answers (begins_retire (with_reclaimers of by) st before s n near used free) makes legal puts_all (λ now.
+    job_list puts of by st.size s (model_slot st s).guards (job.TheVariants.Retire n) before _ later (with_further puts weight s (put st s (v, r))) events answers (begins_retire (with_reclaimers of by) st before s n near used free) makes legal puts_all (λ now.
     retire_ends puts weight lighter (with_reclaimers of by) Always _ st before s n (v, r) _ (left_carried puts of by st.size s later (handed answers)) (holds_always st) tt (near_at_rest (with_reclaimers of by) st before s near used) (in_machine (with_reclaimers of by) st before s near (in_use st s used)) pair now)
   where
     begun : First st.size before (Begin s (job.TheVariants.Retire n)) makes.0 later answers
@@ -171,91 +171,91 @@ retire_job_list {T} {R} puts weight lighter of by st before s n v r events answe
     pair : ◌≡◌ {A = T × R} (of n, by n) (v, r)
     pair = ap (λ (x : T). (x, by n)) stands ∙ ap (λ (x : R). (v, x)) with
 
-pub retire_list : {T R : Type 0} (puts : R → T → List T) (weight : T → ℕ) → Lighter puts weight → (of : ℕ → T) (by : ℕ → R) (st : waiting.State T R) (before : State) (s : ℕ) (v : T) (r : R) → NearAt (with_reclaimers of by) [] st before
+pub retire_list : {T R : Type 0} (puts : R → T → List T) (weight : T → ℕ) → Lighter puts weight → (of : ℕ → T) (by : ℕ → R) (st : waiting.ModelState T R) (before : State) (s : ℕ) (v : T) (r : R) → NearAt (with_reclaimers of by) [] st before
     → EachList puts of by (Retire s v r) st before (step puts weight st (Retire s v r))
 retire_list {T} {R} puts weight lighter of by st before s v r n =
     list_unless puts of by (Retire s v r) st before done_reply (Some v) (unused st s) tt (with_further puts weight s (put st s (v, r))) n (λ e events answers later makes legal names with puts_all.
-    job_outcome of by (Retire s v r) s (slot_at st s).guards Done (with_further puts weight s (put st s (v, r))) events answers later
+    job_outcome of by (Retire s v r) s (model_slot st s).guards Done (with_further puts weight s (put st s (v, r))) events answers later
     (retire_job_list puts weight lighter of by st before s makes.0 v r events answers later n (used_of st s e) (subst (λ (l : List Event). NamesOwn of (Retire s v r) l) makes.1.1 names) makes.1 legal (subst (λ (l : List Event). RetiresWith by (Retire s v r) l) makes.1.1 with) puts_all)
     refl)
 
 -- Refresh and leave: the slot parts.
 
-pub out_does : {T R X : Type 0} (puts : R → T → List T) (of : Naming T R X) (P : T × R → Type 0) (K : State → List ℕ → Type 0) (st : waiting.State T R) (base : State) (s : ℕ) (stays : Bool) (batch : List ℕ) (new : waiting.Slot T R) → Carried puts of P s st.size K
-    → Holds T R P st → new.batch ≡ (slot_at st s).batch → NearAt of [] st (at_rest base s batch) → s < length base.slots
-    → waiting.has_guard (slot_at st s) ≡ true → new.order ≡ [] → head_of new ≡ (if stays then Active [] else Inactive) → CoupledSlot of new (record { used = true; batch = batch; call = None })
-    → K (busy base s batch (Out stays) []) [] → Does puts of K st.size s new.guards [] [] (release_all (set_slot st s new) (slot_at st s).order)
+pub out_does : {T R X : Type 0} (puts : R → T → List T) (of : Naming T R X) (P : T × R → Type 0) (K : State → List ℕ → Type 0) (st : waiting.ModelState T R) (base : State) (s : ℕ) (stays : Bool) (batch : List ℕ) (new : waiting.ModelSlot T R) → Carried puts of P s st.size K
+    → Holds T R P st → new.batch ≡ (model_slot st s).batch → NearAt of [] st (at_rest base s batch) → s < length base.slots
+    → waiting.has_guard (model_slot st s) ≡ true → new.order ≡ [] → head_of new ≡ (if stays then Active [] else Inactive) → CoupledSlot of new (record { used = true; batch = batch; call = None })
+    → K (busy base s batch (Out stays) []) [] → Does puts of K st.size s new.guards [] [] (release_all (set_slot st s new) (model_slot st s).order)
 out_does {T} {R} puts of P K st base s stays batch new carried holds as_before n h active order head shown now =
     let within : s < length st.slots = rw (← in_slots of st base s batch n) h in
-    let out : Near of (slot_at st s).order (set_slot st s new) (set (at_rest base s batch).slots s (record { used = true; batch = batch; call = None })) (set base.heads s (head_of new)) base.batches base.links
+    let out : Near of (model_slot st s).order (set_slot st s new) (set (at_rest base s batch).slots s (record { used = true; batch = batch; call = None })) (set base.heads s (head_of new)) base.batches base.links
     = near_out of st (at_rest base s batch).slots base.heads base.batches base.links s new (record { used = true; batch = batch; call = None }) n within shown order in
-    let near : NearAt of (slot_at st s).order (set_slot st s new) (at_rest (set_head base s (if stays then Active [] else Inactive)) s batch)
-    = subst (λ (x : Head). Near of (slot_at st s).order (set_slot st s new) (at_rest base s batch).slots (set base.heads s x) base.batches base.links) head
-    (subst (λ (l : List Slot). Near of (slot_at st s).order (set_slot st s new) l (set base.heads s (head_of new)) base.batches base.links) (set_twice base.slots s _ _) out) in
-    let walk : waiting_at (head_at base s) ≡ (slot_at st s).order
-    = ap waiting_at (head_is of st (at_rest base s batch).slots base.heads base.batches base.links [] s n) ∙ ap (λ (t : Bool). waiting_at (if t then Active (slot_at st s).order else Inactive)) active in
-    let own : slot_at (set_slot st s new) s ≡ new = get_or-set_same st.slots s new waiting.no_slot within in
+    let near : NearAt of (model_slot st s).order (set_slot st s new) (at_rest (set_head base s (if stays then Active [] else Inactive)) s batch)
+    = subst (λ (x : Head). Near of (model_slot st s).order (set_slot st s new) (at_rest base s batch).slots (set base.heads s x) base.batches base.links) head
+    (subst (λ (l : List Slot). Near of (model_slot st s).order (set_slot st s new) l (set base.heads s (head_of new)) base.batches base.links) (set_twice base.slots s _ _) out) in
+    let walk : waiting_at (head_at base s) ≡ (model_slot st s).order
+    = ap waiting_at (head_is of st (at_rest base s batch).slots base.heads base.batches base.links [] s n) ∙ ap (λ (t : Bool). waiting_at (if t then Active (model_slot st s).order else Inactive)) active in
+    let own : model_slot (set_slot st s new) s ≡ new = get_or-set_same st.slots s new waiting.unmade_slot within in
     let swapped : K (busy (set_head base s (if stays then Active [] else Inactive)) s batch (Rest [] (waiting_at (head_at base s))) []) []
     = carried.forced _ _ (SwapOut s) _ [] (out_step st.size base s stays batch [] h) refl (refl, refl, refl) (only_out st.size base s stays batch [] h) now in
-    walk_does puts of P K st.size new.guards (set_slot st s new) (set_head base s (if stays then Active [] else Inactive)) s batch (slot_at st s).order [] [] carried (holds_same P st s new as_before holds) near h (n.slot s).once refl (ap (λ (x : waiting.Slot T R). x.guards) own)
+    walk_does puts of P K st.size new.guards (set_slot st s new) (set_head base s (if stays then Active [] else Inactive)) s batch (model_slot st s).order [] [] carried (holds_same P st s new as_before holds) near h (n.slot s).once refl (ap (λ (x : waiting.ModelSlot T R). x.guards) own)
     (subst (λ (w : List ℕ). K (busy (set_head base s (if stays then Active [] else Inactive)) s batch (Rest [] w) []) []) walk swapped)
 
-pub settled_nothing : {T R : Type 0} (puts : R → T → List T) (weight : T → ℕ) (st : waiting.State T R) (s : ℕ) → with_further puts weight s (st, []) ≡ (st, [])
+pub settled_nothing : {T R : Type 0} (puts : R → T → List T) (weight : T → ℕ) (st : waiting.ModelState T R) (s : ℕ) → with_further puts weight s (st, []) ≡ (st, [])
 settled_nothing puts weight st s = ap (with_gone []) (afterwards-nil puts weight st s)
 
-refresh_ends : {T R X : Type 0} (puts : R → T → List T) (weight : T → ℕ) → Lighter puts weight → (of : Naming T R X) (P : T × R → Type 0) (K : State → List ℕ → Type 0) (st : waiting.State T R) (base : State) (s : ℕ) (batch : List ℕ) → Carried puts of P s st.size K
-    → Holds T R P st → NearAt of [] st (at_rest base s batch) → s < length base.slots → waiting.has_guard (slot_at st s) ≡ true
-    → K (busy base s batch (Out true) []) [] → Ends of K st.size s (slot_at st s).guards [] (with_further puts weight s (part st s))
+refresh_ends : {T R X : Type 0} (puts : R → T → List T) (weight : T → ℕ) → Lighter puts weight → (of : Naming T R X) (P : T × R → Type 0) (K : State → List ℕ → Type 0) (st : waiting.ModelState T R) (base : State) (s : ℕ) (batch : List ℕ) → Carried puts of P s st.size K
+    → Holds T R P st → NearAt of [] st (at_rest base s batch) → s < length base.slots → waiting.has_guard (model_slot st s) ≡ true
+    → K (busy base s batch (Out true) []) [] → Ends of K st.size s (model_slot st s).guards [] (with_further puts weight s (part st s))
 refresh_ends puts weight lighter of P K st base s batch carried holds rest h active now =
-    let own : CoupledSlot of (slot_at st s) (record { used = true; batch = batch; call = None }) = own_slot of st base s batch rest h in
-    settled_ends puts weight lighter of P K st.size s (slot_at st s).guards [] (part st s) carried (holds_part P st s holds)
-    (out_does puts of P K st base s true batch (record (slot_at st s) { order = [] }) carried holds refl rest h active refl (ap (λ (t : Bool). if t then Active [] else Inactive) active)
+    let own : CoupledSlot of (model_slot st s) (record { used = true; batch = batch; call = None }) = own_slot of st base s batch rest h in
+    settled_ends puts weight lighter of P K st.size s (model_slot st s).guards [] (part st s) carried (holds_part P st s holds)
+    (out_does puts of P K st base s true batch (record (model_slot st s) { order = [] }) carried holds refl rest h active refl (ap (λ (t : Bool). if t then Active [] else Inactive) active)
     (record { used = own.used; idle = refl; batch = own.batch; free = own.free; owned = own.owned; inactive = λ e. refl; once = refl }) now)
 
-begins_refresh : {T R X : Type 0} (of : Naming T R X) (st : waiting.State T R) (before : State) (s : ℕ) → NearAt of [] st before → is_free (slot_at st s).kind ≡ false → waiting.has_guard (slot_at st s) ≡ true
+begins_refresh : {T R X : Type 0} (of : Naming T R X) (st : waiting.ModelState T R) (before : State) (s : ℕ) → NearAt of [] st before → is_free (model_slot st s).kind ≡ false → waiting.has_guard (model_slot st s) ≡ true
     → next st.size before (Begin s job.TheVariants.Refresh) ≡ Some (busy before s (machine.slot_at before s).batch (Out true) [], DoneEvent)
 begins_refresh of st before s n used active =
     at_idle of st before st.size s (Begin s job.TheVariants.Refresh) _ n used (begin_refresh st.size before s _ (in_machine of st before s n (in_use st s used)) (active_head of st before s true n active))
 
-pub refresh_run : {T R X : Type 0} (puts : R → T → List T) (weight : T → ℕ) → Lighter puts weight → (of : Naming T R X) (P : T × R → Type 0) → Names puts of P → (st : waiting.State T R) (before : State) (s : ℕ) → Holds T R P st → NearAt of [] st before
+pub refresh_run : {T R X : Type 0} (puts : R → T → List T) (weight : T → ℕ) → Lighter puts weight → (of : Naming T R X) (P : T × R → Type 0) → Names puts of P → (st : waiting.ModelState T R) (before : State) (s : ℕ) → Holds T R P st → NearAt of [] st before
     → Run puts of (Refresh s) st before (step puts weight st (Refresh s))
 refresh_run {T} {R} puts weight lighter of P names st before s holds near =
-    run_unless puts of (Refresh s) st before done_reply None (no_guard st s) tt (with_further puts weight s (part_if_alone st s)) near (λ e. go (is_owned (slot_at st s).kind || ((slot_at st s).guards == 1)) refl (guard_of st s e))
+    run_unless puts of (Refresh s) st before done_reply None (no_guard st s) tt (with_further puts weight s (part_if_alone st s)) near (λ e. go (is_owned (model_slot st s).kind || ((model_slot st s).guards == 1)) refl (guard_of st s e))
   where
     n : NearAt of [] st before
     n = near
 
-    parts : (is_free (slot_at st s).kind ≡ false) × (waiting.has_guard (slot_at st s) ≡ true) → JobRun puts of st.size s (slot_at st s).guards job.TheVariants.Refresh before (with_further puts weight s (part st s))
+    parts : (is_free (model_slot st s).kind ≡ false) × (waiting.has_guard (model_slot st s) ≡ true) → JobRun puts of st.size s (model_slot st s).guards job.TheVariants.Refresh before (with_further puts weight s (part st s))
     parts g =
-        job_run puts of st.size s (slot_at st s).guards job.TheVariants.Refresh before _ (with_further puts weight s (part st s)) (begins_refresh of st before s (near) g.0 g.1)
+        job_run puts of st.size s (model_slot st s).guards job.TheVariants.Refresh before _ (with_further puts weight s (part st s)) (begins_refresh of st before s (near) g.0 g.1)
         (refresh_ends puts weight lighter of P _ st before s _ (run_carried puts of P names st.size s _) holds (near_at_rest of st before s (near) g.0) (in_machine of st before s (near) (in_use st s g.0)) g.1 (Leads.stays _))
 
-    go : (t : Bool) → (is_owned (slot_at st s).kind || ((slot_at st s).guards == 1)) ≡ t → (is_free (slot_at st s).kind ≡ false) × (waiting.has_guard (slot_at st s) ≡ true) → Run puts of (Refresh s) st before (Done, with_further puts weight s (if t then part st s else (st, [])))
+    go : (t : Bool) → (is_owned (model_slot st s).kind || ((model_slot st s).guards == 1)) ≡ t → (is_free (model_slot st s).kind ≡ false) × (waiting.has_guard (model_slot st s) ≡ true) → Run puts of (Refresh s) st before (Done, with_further puts weight s (if t then part st s else (st, [])))
     go true is g =
-        let run : JobRun puts of st.size s (slot_at st s).guards job.TheVariants.Refresh before (with_further puts weight s (part st s)) = parts g in
-        run_of puts of (Refresh s) st before st.size s (slot_at st s).guards job.TheVariants.Refresh Done (with_further puts weight s (part st s)) refl run
+        let run : JobRun puts of st.size s (model_slot st s).guards job.TheVariants.Refresh before (with_further puts weight s (part st s)) = parts g in
+        run_of puts of (Refresh s) st before st.size s (model_slot st s).guards job.TheVariants.Refresh Done (with_further puts weight s (part st s)) refl run
         (subst (λ (b : Bool). Where b (IsJob s job.TheVariants.Refresh) run.events) (sym is) run.makes) (names_none {R = R} of.link (Refresh s) run.events (λ e. tt)) tt refl
     go false is g = subst (λ o. Run puts of (Refresh s) st before (Done, o)) (sym (settled_nothing puts weight st s))
         (no_events puts of (Refresh s) st before Done st (near) (subst (λ (b : Bool). Where b (IsJob s job.TheVariants.Refresh) []) (sym is) refl) refl)
 
 -- each list of the job
-pub refresh_job_list : {T R : Type 0} (puts : R → T → List T) (weight : T → ℕ) → Lighter puts weight → (of : ℕ → T) (by : ℕ → R) (st : waiting.State T R) (before : State) (s : ℕ) (events : List Event) (answers : List Answer) (later : State) → NearAt (with_reclaimers of by) [] st before
-    → is_free (slot_at st s).kind ≡ false → waiting.has_guard (slot_at st s) ≡ true → IsJob s job.TheVariants.Refresh events → play st.size before events ≡ Some (later, answers) → ArePutBy puts of by events answers
-    → JobEnds (with_reclaimers of by) s (slot_at st s).guards (with_further puts weight s (part st s)) later answers
+pub refresh_job_list : {T R : Type 0} (puts : R → T → List T) (weight : T → ℕ) → Lighter puts weight → (of : ℕ → T) (by : ℕ → R) (st : waiting.ModelState T R) (before : State) (s : ℕ) (events : List Event) (answers : List Answer) (later : State) → NearAt (with_reclaimers of by) [] st before
+    → is_free (model_slot st s).kind ≡ false → waiting.has_guard (model_slot st s) ≡ true → IsJob s job.TheVariants.Refresh events → play st.size before events ≡ Some (later, answers) → ArePutBy puts of by events answers
+    → JobEnds (with_reclaimers of by) s (model_slot st s).guards (with_further puts weight s (part st s)) later answers
 refresh_job_list puts weight lighter of by st before s events answers later n used active makes legal put =
-    job_list puts of by st.size s (slot_at st s).guards job.TheVariants.Refresh before _ later (with_further puts weight s (part st s)) events answers (begins_refresh (with_reclaimers of by) st before s n used active) makes legal put (λ now.
+    job_list puts of by st.size s (model_slot st s).guards job.TheVariants.Refresh before _ later (with_further puts weight s (part st s)) events answers (begins_refresh (with_reclaimers of by) st before s n used active) makes legal put (λ now.
     refresh_ends puts weight lighter (with_reclaimers of by) Always _ st before s _ (left_carried puts of by st.size s later (handed answers)) (holds_always st) (near_at_rest (with_reclaimers of by) st before s n used) (in_machine (with_reclaimers of by) st before s n (in_use st s used)) active now)
 
-pub refresh_list : {T R : Type 0} (puts : R → T → List T) (weight : T → ℕ) → Lighter puts weight → (of : ℕ → T) (by : ℕ → R) (st : waiting.State T R) (before : State) (s : ℕ) → NearAt (with_reclaimers of by) [] st before
+pub refresh_list : {T R : Type 0} (puts : R → T → List T) (weight : T → ℕ) → Lighter puts weight → (of : ℕ → T) (by : ℕ → R) (st : waiting.ModelState T R) (before : State) (s : ℕ) → NearAt (with_reclaimers of by) [] st before
     → EachList puts of by (Refresh s) st before (step puts weight st (Refresh s))
 refresh_list {T} {R} puts weight lighter of by st before s n =
     list_unless puts of by (Refresh s) st before done_reply None (no_guard st s) tt (with_further puts weight s (part_if_alone st s)) n (λ e events answers later makes legal names with put.
-    go (is_owned (slot_at st s).kind || ((slot_at st s).guards == 1)) (guard_of st s e) events answers later makes legal put)
+    go (is_owned (model_slot st s).kind || ((model_slot st s).guards == 1)) (guard_of st s e) events answers later makes legal put)
   where
-    go : (t : Bool) → (is_free (slot_at st s).kind ≡ false) × (waiting.has_guard (slot_at st s) ≡ true) → (events : List Event) (answers : List Answer) (later : State) → Where t (IsJob s job.TheVariants.Refresh) events
+    go : (t : Bool) → (is_free (model_slot st s).kind ≡ false) × (waiting.has_guard (model_slot st s) ≡ true) → (events : List Event) (answers : List Answer) (later : State) → Where t (IsJob s job.TheVariants.Refresh) events
         → play st.size before events ≡ Some (later, answers) → ArePutBy puts of by events answers → IsOutcome T R of by (Refresh s) (Done, with_further puts weight s (if t then part st s else (st, []))) events answers later
     go true g events answers later makes legal put =
-        job_outcome of by (Refresh s) s (slot_at st s).guards Done (with_further puts weight s (part st s)) events answers later
+        job_outcome of by (Refresh s) s (model_slot st s).guards Done (with_further puts weight s (part st s)) events answers later
         (refresh_job_list puts weight lighter of by st before s events answers later n g.0 g.1 makes legal put)
         refl
     go false g events answers later makes legal put =

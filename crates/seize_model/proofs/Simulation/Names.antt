@@ -4,7 +4,7 @@ use Rattle.std.specs.List.{AllByRecursion}
 use Rattle.std.proofs.lemmas.List.Concat.{flat_map-cons}
 use Rattle.std.proofs.Math.ListN.{get_or-map}
 use Rattle.seize_machine.specs.Machine.State.{has}
-use Rattle.seize_model.specs.Waiting.State.{Slot, State, slot_at, retired_at, set_slot, no_slot, is_kept}
+use Rattle.seize_model.specs.Waiting.State.{ModelSlot, ModelState, model_slot, retired_at, set_slot, unmade_slot, is_kept}
 use Rattle.seize_model.specs.Waiting.Attempt.{StateAndGone, release, release_all, wait_if_active, with_batch_retired, gives_up, attempt, with_batch_value, put, part}
 use Rattle.seize_model.specs.Waiting.Further.{put_by, further}
 use Rattle.seize_model.proofs.Cases.{either}
@@ -19,8 +19,8 @@ pub record Names {T R X : Type 0} (puts : R → T → List T) (of : Naming T R X
   pub link : (n : ℕ) (v : T × R) → of.name n ≡ of.view v → of.link n ≡ v.0
 
 -- each value of the state has the property
-pub record Holds (T R : Type 0) (P : T × R → Type 0) (st : State T R) : Type 0 where
-  pub batches : (s : ℕ) → AllByRecursion P (slot_at st s).batch
+pub record Holds (T R : Type 0) (P : T × R → Type 0) (st : ModelState T R) : Type 0 where
+  pub batches : (s : ℕ) → AllByRecursion P (model_slot st s).batch
   pub retired : (b : ℕ) → AllByRecursion P (retired_at st b)
 
 -- and so has each value gone
@@ -35,8 +35,8 @@ pub all_always : {X : Type 0} (xs : List X) → AllByRecursion Always xs
 all_always [] = tt
 all_always (x ∷ xs) = (tt, all_always xs)
 
-pub holds_always : {T R : Type 0} (st : State T R) → Holds T R Always st
-holds_always st = record { batches = λ s. all_always (slot_at st s).batch; retired = λ b. all_always (retired_at st b) }
+pub holds_always : {T R : Type 0} (st : ModelState T R) → Holds T R Always st
+holds_always st = record { batches = λ s. all_always (model_slot st s).batch; retired = λ b. all_always (retired_at st b) }
 
 -- Lists.
 
@@ -66,43 +66,43 @@ at_last Q (x ∷ xs) y (suc i) d h n k = at_last Q xs y i d h n k
 
 -- The parts of a call.
 
-pub holds_set : {T R : Type 0} (P : T × R → Type 0) (st : State T R) (s : ℕ) (slot : Slot T R) → Holds T R P st → AllByRecursion P slot.batch → Holds T R P (set_slot st s slot)
+pub holds_set : {T R : Type 0} (P : T × R → Type 0) (st : ModelState T R) (s : ℕ) (slot : ModelSlot T R) → Holds T R P st → AllByRecursion P slot.batch → Holds T R P (set_slot st s slot)
 holds_set {T} {R} P st s slot h k = record {
-  batches = λ i. at_set (λ (x : Slot T R). AllByRecursion P x.batch) st.slots s slot i no_slot k (h.batches i);
+  batches = λ i. at_set (λ (x : ModelSlot T R). AllByRecursion P x.batch) st.slots s slot i unmade_slot k (h.batches i);
   retired = h.retired;
 }
 
-pub holds_release : {T R : Type 0} (P : T × R → Type 0) (st : State T R) (b : ℕ) → Holds T R P st → HoldsAfter P (release st b)
+pub holds_release : {T R : Type 0} (P : T × R → Type 0) (st : ModelState T R) (b : ℕ) → Holds T R P st → HoldsAfter P (release st b)
 holds_release {T} {R} P st b h =
     either (λ (o : StateAndGone T R). HoldsAfter P o) (is_kept st b) _ _ (h, tt)
     (record { batches = h.batches; retired = λ i. at_set (λ (l : List (T × R)). AllByRecursion P l) st.retired b [] i [] tt (h.retired i) }, h.retired b)
 
 -- a batch that was detached, and one that was detached and released
-holds_detached : {T R : Type 0} (P : T × R → Type 0) (st : State T R) (s : ℕ) → Holds T R P st → Holds T R P (with_batch_retired st s)
+holds_detached : {T R : Type 0} (P : T × R → Type 0) (st : ModelState T R) (s : ℕ) → Holds T R P st → Holds T R P (with_batch_retired st s)
 holds_detached {T} {R} P st s h =
-    let emptied : Holds T R P (set_slot st s (record (slot_at st s) { batch = [] })) = holds_set P st s (record (slot_at st s) { batch = [] }) h tt in
+    let emptied : Holds T R P (set_slot st s (record (model_slot st s) { batch = [] })) = holds_set P st s (record (model_slot st s) { batch = [] }) h tt in
     record {
-      batches = λ i. subst (λ (x : Slot T R). AllByRecursion P x.batch) (sym (get_or-map (wait_if_active (length st.retired)) (set st.slots s (record (slot_at st s) { batch = [] })) i no_slot))
+      batches = λ i. subst (λ (x : ModelSlot T R). AllByRecursion P x.batch) (sym (get_or-map (wait_if_active (length st.retired)) (set st.slots s (record (model_slot st s) { batch = [] })) i unmade_slot))
           (subst (λ l. AllByRecursion P l) (sym (waits_batch (length st.retired) _)) (emptied.batches i));
-      retired = λ i. at_last (λ (l : List (T × R)). AllByRecursion P l) st.retired (slot_at st s).batch i [] (h.batches s) tt (h.retired i);
+      retired = λ i. at_last (λ (l : List (T × R)). AllByRecursion P l) st.retired (model_slot st s).batch i [] (h.batches s) tt (h.retired i);
     }
 
-pub holds_attempt : {T R : Type 0} (P : T × R → Type 0) (st : State T R) (s : ℕ) → Holds T R P st → HoldsAfter P (attempt st s)
+pub holds_attempt : {T R : Type 0} (P : T × R → Type 0) (st : ModelState T R) (s : ℕ) → Holds T R P st → HoldsAfter P (attempt st s)
 holds_attempt {T} {R} P st s h =
     either (λ (o : StateAndGone T R). HoldsAfter P o) (gives_up st s) _ _ (h, tt) (holds_release P (with_batch_retired st s) (length st.retired) (holds_detached P st s h))
 
-pub holds_detach : {T R : Type 0} (P : T × R → Type 0) (st : State T R) (s : ℕ) → Holds T R P st → HoldsAfter P (release (with_batch_retired st s) (length st.retired))
+pub holds_detach : {T R : Type 0} (P : T × R → Type 0) (st : ModelState T R) (s : ℕ) → Holds T R P st → HoldsAfter P (release (with_batch_retired st s) (length st.retired))
 holds_detach P st s h = holds_release P (with_batch_retired st s) (length st.retired) (holds_detached P st s h)
 
-pub holds_appended : {T R : Type 0} (P : T × R → Type 0) (st : State T R) (s : ℕ) (v : T × R) → Holds T R P st → P v → Holds T R P (with_batch_value st s v)
-holds_appended P st s v h k = holds_set P st s _ h (all_append P (slot_at st s).batch (v ∷ []) (h.batches s) (k, tt))
+pub holds_appended : {T R : Type 0} (P : T × R → Type 0) (st : ModelState T R) (s : ℕ) (v : T × R) → Holds T R P st → P v → Holds T R P (with_batch_value st s v)
+holds_appended P st s v h k = holds_set P st s _ h (all_append P (model_slot st s).batch (v ∷ []) (h.batches s) (k, tt))
 
-pub holds_put : {T R : Type 0} (P : T × R → Type 0) (st : State T R) (s : ℕ) (v : T × R) → Holds T R P st → P v → HoldsAfter P (put st s v)
+pub holds_put : {T R : Type 0} (P : T × R → Type 0) (st : ModelState T R) (s : ℕ) (v : T × R) → Holds T R P st → P v → HoldsAfter P (put st s v)
 holds_put {T} {R} P st s v h k =
     let next : Holds T R P (with_batch_value st s v) = holds_appended P st s v h k in
     either (λ (o : StateAndGone T R). HoldsAfter P o) _ _ _ (holds_attempt P (with_batch_value st s v) s next) (next, tt)
 
-pub holds_release_all : {T R : Type 0} (P : T × R → Type 0) (st : State T R) (bs : List ℕ) → Holds T R P st → HoldsAfter P (release_all st bs)
+pub holds_release_all : {T R : Type 0} (P : T × R → Type 0) (st : ModelState T R) (bs : List ℕ) → Holds T R P st → HoldsAfter P (release_all st bs)
 holds_release_all P st [] h = (h, tt)
 holds_release_all {T} {R} P st (b ∷ bs) h =
     let one : HoldsAfter P (release st b) = holds_release P st b h in
@@ -110,8 +110,8 @@ holds_release_all {T} {R} P st (b ∷ bs) h =
     (rest.0, all_append P (release st b).1 (release_all (release st b).0 bs).1 one.1 rest.1)
 
 -- a slot whose batch is as before
-pub holds_same : {T R : Type 0} (P : T × R → Type 0) (st : State T R) (s : ℕ) (slot : Slot T R) → slot.batch ≡ (slot_at st s).batch → Holds T R P st → Holds T R P (set_slot st s slot)
+pub holds_same : {T R : Type 0} (P : T × R → Type 0) (st : ModelState T R) (s : ℕ) (slot : ModelSlot T R) → slot.batch ≡ (model_slot st s).batch → Holds T R P st → Holds T R P (set_slot st s slot)
 holds_same P st s slot e h = holds_set P st s slot h (subst (λ l. AllByRecursion P l) (sym e) (h.batches s))
 
-pub holds_part : {T R : Type 0} (P : T × R → Type 0) (st : State T R) (s : ℕ) → Holds T R P st → HoldsAfter P (part st s)
-holds_part P st s h = holds_release_all P (set_slot st s (record (slot_at st s) { order = [] })) (slot_at st s).order (holds_same P st s _ refl h)
+pub holds_part : {T R : Type 0} (P : T × R → Type 0) (st : ModelState T R) (s : ℕ) → Holds T R P st → HoldsAfter P (part st s)
+holds_part P st s h = holds_release_all P (set_slot st s (record (model_slot st s) { order = [] })) (model_slot st s).order (holds_same P st s _ refl h)

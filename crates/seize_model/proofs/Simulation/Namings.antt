@@ -7,8 +7,8 @@ use Rattle.seize_machine.specs.declared.machine.event.Job.TheVariants.{Retire as
 use Rattle.seize_machine.specs.declared.machine.event.Exchange.TheVariants.{Swap as SwapLink}
 use Rattle.seize_model.specs.Agreement.Events.{NamesOwn}
 use Rattle.seize_model.specs.Waiting.State as waiting
-use Rattle.seize_model.specs.Waiting.State.{slot_at, retired_at}
-use Rattle.seize_model.specs.Waiting.Calls.{link_at}
+use Rattle.seize_model.specs.Waiting.State.{model_slot, retired_at}
+use Rattle.seize_model.specs.Waiting.Calls.{model_link}
 use Rattle.seize_model.specs.Waiting.Lists.{Call, Retire, Protect, Swap, step}
 use Rattle.seize_model.specs.Agreement.Shows.{ShowsState}
 use Rattle.seize_machine.specs.Machine.History.{handed}
@@ -29,42 +29,42 @@ with_reclaimer r None = []
 with_reclaimer r (Some v) = (v, r) ∷ []
 
 -- what a call retires or puts into a link, or takes out of one
-abbrev pub own_values : {T R : Type 0} → waiting.State T R → Call T R → List (T × R)
+abbrev pub own_values : {T R : Type 0} → waiting.ModelState T R → Call T R → List (T × R)
 own_values st (Retire s v r) = (v, r) ∷ []
-own_values st (Swap s l new r) = with_reclaimer r new ++ with_reclaimer r (link_at st l)
+own_values st (Swap s l new r) = with_reclaimer r new ++ with_reclaimer r (model_link st l)
 own_values st _ = []
 
 -- the roots of three kinds: the call's own, those of a slot's batch and those of a retired batch
-abbrev pub root_of : {T R : Type 0} → waiting.State T R → List (T × R) → ℕ → ℕ → Option (T × R)
+abbrev pub root_of : {T R : Type 0} → waiting.ModelState T R → List (T × R) → ℕ → ℕ → Option (T × R)
 root_of st own zero i = slice_get own i
-root_of st own (suc zero) i = slice_get (slot_at st (pair_of i).0).batch (pair_of i).1
+root_of st own (suc zero) i = slice_get (model_slot st (pair_of i).0).batch (pair_of i).1
 root_of st own (suc (suc kind)) i = slice_get (retired_at st (pair_of i).0) (pair_of i).1
 
-abbrev pub roots : {T R : Type 0} → waiting.State T R → List (T × R) → ℕ → Option (T × R)
+abbrev pub roots : {T R : Type 0} → waiting.ModelState T R → List (T × R) → ℕ → Option (T × R)
 roots st own n = root_of st own (pair_of n).0 (pair_of n).1
 
-root_comes : {T R : Type 0} (puts : R → T → List T) (st : waiting.State T R) (own : List (T × R)) (kind i : ℕ) (v : T × R) → root_of st own kind i ≡ Some v → Comes puts (roots st own) v
+root_comes : {T R : Type 0} (puts : R → T → List T) (st : waiting.ModelState T R) (own : List (T × R)) (kind i : ℕ) (v : T × R) → root_of st own kind i ≡ Some v → Comes puts (roots st own) v
 root_comes puts st own kind i v e = (0, (number_of kind i).0, ap (λ (p : ℕ × ℕ). root_of st own p.0 p.1) (number_of kind i).1 ∙ e)
 
-roots_hold : {T R : Type 0} (puts : R → T → List T) (st : waiting.State T R) (own : List (T × R)) → Holds T R (Comes puts (roots st own)) st
+roots_hold : {T R : Type 0} (puts : R → T → List T) (st : waiting.ModelState T R) (own : List (T × R)) → Holds T R (Comes puts (roots st own)) st
 roots_hold {T} {R} puts st own = record {
-  batches = λ s. all_at (Comes puts (roots st own)) (slot_at st s).batch (λ i v e. root_comes puts st own 1 (number_of s i).0 v (ap (λ (p : ℕ × ℕ). slice_get (slot_at st p.0).batch p.1) (number_of s i).1 ∙ e));
+  batches = λ s. all_at (Comes puts (roots st own)) (model_slot st s).batch (λ i v e. root_comes puts st own 1 (number_of s i).0 v (ap (λ (p : ℕ × ℕ). slice_get (model_slot st p.0).batch p.1) (number_of s i).1 ∙ e));
   retired = λ b. all_at (Comes puts (roots st own)) (retired_at st b) (λ i v e. root_comes puts st own 2 (number_of b i).0 v (ap (λ (p : ℕ × ℕ). slice_get (retired_at st p.0) p.1) (number_of b i).1 ∙ e));
 }
 
-own_holds : {T R : Type 0} (puts : R → T → List T) (st : waiting.State T R) (call : Call T R) → HoldsOwn (Comes puts (roots st (own_values st call))) st call
+own_holds : {T R : Type 0} (puts : R → T → List T) (st : waiting.ModelState T R) (call : Call T R) → HoldsOwn (Comes puts (roots st (own_values st call))) st call
 own_holds puts st (Retire s v r) = root_comes puts st ((v, r) ∷ []) 0 0 (v, r) refl
 own_holds {T} {R} puts st (Swap s l new r) = (
-  λ v e. root_comes puts st (with_reclaimer r new ++ with_reclaimer r (link_at st l)) 0 0 (v, r) (first new v e),
-  λ v e. root_comes puts st (with_reclaimer r new ++ with_reclaimer r (link_at st l)) 0 (place new) (v, r) (second new (link_at st l) v e),
+  λ v e. root_comes puts st (with_reclaimer r new ++ with_reclaimer r (model_link st l)) 0 0 (v, r) (first new v e),
+  λ v e. root_comes puts st (with_reclaimer r new ++ with_reclaimer r (model_link st l)) 0 (place new) (v, r) (second new (model_link st l) v e),
 )
   where
     place : Option T → ℕ
     place None = 0
     place (Some x) = 1
 
-    first : (x : Option T) (v : T) → x ≡ Some v → slice_get (with_reclaimer r x ++ with_reclaimer r (link_at st l)) 0 ≡ Some (v, r)
-    first x v e = ap (λ (y : Option T). slice_get (with_reclaimer r y ++ with_reclaimer r (link_at st l)) 0) e
+    first : (x : Option T) (v : T) → x ≡ Some v → slice_get (with_reclaimer r x ++ with_reclaimer r (model_link st l)) 0 ≡ Some (v, r)
+    first x v e = ap (λ (y : Option T). slice_get (with_reclaimer r y ++ with_reclaimer r (model_link st l)) 0) e
 
     second : (x y : Option T) (v : T) → y ≡ Some v → slice_get (with_reclaimer r x ++ with_reclaimer r y) (place x) ≡ Some (v, r)
     second None y v e = ap (λ (z : Option T). slice_get (with_reclaimer r z) 0) e
@@ -72,7 +72,7 @@ own_holds {T} {R} puts st (Swap s l new r) = (
 own_holds puts st call = tt
 
 -- one call is a run under a naming that is as before below a bound
-pub call_anew : {T R : Type 0} (puts : R → T → List T) (weight : T → ℕ) → Lighter puts weight → (bound : ℕ) (of : ℕ → T) (st : waiting.State T R) (before : machine.State) (call : Call T R) → HasLink st call → ShowsState T R of st before → past_state before ≤ bound
+pub call_anew : {T R : Type 0} (puts : R → T → List T) (weight : T → ℕ) → Lighter puts weight → (bound : ℕ) (of : ℕ → T) (st : waiting.ModelState T R) (before : machine.State) (call : Call T R) → HasLink st call → ShowsState T R of st before → past_state before ≤ bound
     → (other : ℕ → T) × AgreeBelow bound of other × IsRun T R other call st before (step puts weight st call)
 call_anew {T} {R} puts weight lighter bound of st before call link shows h =
     let same : AgreeBelow bound of (new_naming puts (roots st (own_values st call)) bound of) = new_naming_below puts (roots st (own_values st call)) bound of in (
@@ -83,7 +83,7 @@ call_anew {T} {R} puts weight lighter bound of st before call link shows h =
     )
 
 -- a link that is there stays there
-still_linked : {T R : Type 0} (st later : waiting.State T R) (call : Call T R) → length later.links ≡ length st.links → HasLink st call → HasLink later call
+still_linked : {T R : Type 0} (st later : waiting.ModelState T R) (call : Call T R) → length later.links ≡ length st.links → HasLink st call → HasLink later call
 still_linked st later (Protect s l) e h = omega arith
 still_linked st later (Swap s l new r) e h = omega arith
 still_linked st later call e h = tt
@@ -108,7 +108,7 @@ names_same bound of other call (e ∷ es) same h names = names
 
 -- Each call of a list is a run, all under one naming: a later naming is as before on the numbers that stand in the state at which a
 -- call was made and on those that it handed.
-pub calls_anew : {T R : Type 0} (puts : R → T → List T) (weight : T → ℕ) → Lighter puts weight → (bound : ℕ) (of : ℕ → T) (st : waiting.State T R) (before : machine.State) (calls : List (Call T R)) → All (HasLink st) calls → ShowsState T R of st before
+pub calls_anew : {T R : Type 0} (puts : R → T → List T) (weight : T → ℕ) → Lighter puts weight → (bound : ℕ) (of : ℕ → T) (st : waiting.ModelState T R) (before : machine.State) (calls : List (Call T R)) → All (HasLink st) calls → ShowsState T R of st before
     → (other : ℕ → T) × AgreeBelow bound of other × ShowsState T R other st before × AreRuns puts weight other st before calls
 calls_anew puts weight lighter bound of st before [] links shows = (of, λ n h. refl, shows, tt)
 calls_anew {T} {R} puts weight lighter bound of st before (call ∷ calls) links shows =

@@ -17,7 +17,7 @@ use Rattle.seize_model.specs.declared.kind.Kind.{Kind}
 use Rattle.seize_model.specs.declared.kind.Kind.TheVariants.{Registered, Owned}
 use Rattle.seize_table.specs.declared.refusal.Refusal.TheVariants.{NoNumbers}
 use Rattle.seize_model.specs.Waiting.State as waiting
-use Rattle.seize_model.specs.Waiting.State.{slot_at, set_slot, waits_for}
+use Rattle.seize_model.specs.Waiting.State.{model_slot, set_slot, waits_for}
 use Rattle.seize_model.specs.Waiting.Calls.{least_unused, with_number_in_use, is_free, set_guards}
 use Rattle.seize_model.specs.Waiting.Lists.{Register, EnterOwned, Number, Refused, reply, step}
 use Rattle.seize_model.specs.Agreement.Shows.{head_of}
@@ -47,35 +47,35 @@ count_push_no : {X : Type 0} (p : X → Bool) (xs : List X) (y : X) → p y ≡ 
 count_push_no p [] y e = grind (arith, common_steps)
 count_push_no p (x ∷ xs) y e = grind (arith, common_steps, count_push_no p xs y e)
 
-same_first : {T R X : Type 0} (of : Naming T R X) (st : waiting.State T R) (ms : State) → NearAt of [] st ms → first_free ms.slots ≡ least_unused st.slots
-same_first of st ms n = same_position (λ slot. not slot.used) (λ slot. is_free slot.kind) ms.slots st.slots machine.no_slot waiting.no_slot n.as_many (λ i. ap (λ (t : Bool). not t) (n.slot i).used ∙ not_not (is_free (slot_at st i).kind))
+same_first : {T R X : Type 0} (of : Naming T R X) (st : waiting.ModelState T R) (ms : State) → NearAt of [] st ms → first_free ms.slots ≡ least_unused st.slots
+same_first of st ms n = same_position (λ slot. not slot.used) (λ slot. is_free slot.kind) ms.slots st.slots machine.no_slot waiting.unmade_slot n.as_many (λ i. ap (λ (t : Bool). not t) (n.slot i).used ∙ not_not (is_free (model_slot st i).kind))
   where
     not_not : (t : Bool) → not (not t) ≡ t
     not_not true = refl
     not_not false = refl
 
 -- both sides once number n is taken, where t says whether it is a new slot
-abbrev pub taken_if : {T R : Type 0} → Bool → waiting.State T R → ℕ → Kind → ℕ → waiting.State T R
+abbrev pub taken_if : {T R : Type 0} → Bool → waiting.ModelState T R → ℕ → Kind → ℕ → waiting.ModelState T R
 taken_if t st n kind guards =
     if t
     then record st { slots = st.slots ++ record { kind = kind; guards = guards; batch = []; order = [] } ∷ [] }
-    else set_slot st n (record (slot_at st n) { kind = kind; guards = guards })
+    else set_slot st n (record (model_slot st n) { kind = kind; guards = guards })
 
 abbrev pub shown_if : Bool → State → ℕ → State
 shown_if t ms n =
     if t
     then record ms { slots = ms.slots ++ record { used = true; batch = []; call = None } ∷ []; heads = ms.heads ++ Inactive ∷ [] }
-    else machine_next.set_slot ms n (record (machine.slot_at ms n) { used = true })
+    else machine_next.slot_set ms n (record (machine.slot_at ms n) { used = true })
 
-near_taken : {T R X : Type 0} (of : Naming T R X) (st : waiting.State T R) (ms : State) (n : ℕ) (kind : Kind) (t : Bool) → NearAt of [] st ms → is_free kind ≡ false → n ≡ least_unused st.slots → (n == 2 ^ 64 - 32) ≡ false → (n == length st.slots) ≡ t
+near_taken : {T R X : Type 0} (of : Naming T R X) (st : waiting.ModelState T R) (ms : State) (n : ℕ) (kind : Kind) (t : Bool) → NearAt of [] st ms → is_free kind ≡ false → n ≡ least_unused st.slots → (n == 2 ^ 64 - 32) ≡ false → (n == length st.slots) ≡ t
     → NearAt of [] (taken_if t st n kind 0) (shown_if t ms n)
 near_taken {T} {R} of st ms n kind false near used is few t_is =
     let below : n ≤ length st.slots = rw is (prefix_len-le-length _ st.slots) in
     let within : n < length st.slots = grind arith in
-    let free : is_free (slot_at st n).kind ≡ true = rw (← is) at (passes_at_first (λ slot. is_free slot.kind) st.slots waiting.no_slot (rw is at within)) in
-    let shown : CoupledSlot of (slot_at st n) (machine.slot_at ms n) = near.slot n in
-    let off : waiting.has_guard (slot_at st n) ≡ false = ap (λ (k : ℕ). not (k == 0)) (shown.free free) in
-    near_set of [] st ms.slots ms.heads ms.batches ms.links n (record (slot_at st n) { kind = kind; guards = 0 }) (record (machine.slot_at ms n) { used = true }) near within
+    let free : is_free (model_slot st n).kind ≡ true = rw (← is) at (passes_at_first (λ slot. is_free slot.kind) st.slots waiting.unmade_slot (rw is at within)) in
+    let shown : CoupledSlot of (model_slot st n) (machine.slot_at ms n) = near.slot n in
+    let off : waiting.has_guard (model_slot st n) ≡ false = ap (λ (k : ℕ). not (k == 0)) (shown.free free) in
+    near_set of [] st ms.slots ms.heads ms.batches ms.links n (record (model_slot st n) { kind = kind; guards = 0 }) (record (machine.slot_at ms n) { used = true }) near within
     (record {
       used = sym (ap (λ (t : Bool). not t) used);
       idle = shown.idle;
@@ -85,7 +85,7 @@ near_taken {T} {R} of st ms n kind false near used is few t_is =
       inactive = λ e. shown.inactive off;
       once = shown.once;
     })
-    (sym (ap (λ (t : Bool). if t then Active (slot_at st n).order else Inactive) off))
+    (sym (ap (λ (t : Bool). if t then Active (model_slot st n).order else Inactive) off))
     refl
 near_taken {T} {R} of st ms n kind true near used is few t_is =
     record {
@@ -99,7 +99,7 @@ near_taken {T} {R} of st ms n kind true near used is few t_is =
       links_are = near.links_are;
     }
   where
-    new : waiting.Slot T R
+    new : waiting.ModelSlot T R
     new = record { kind = kind; guards = 0; batch = []; order = [] }
 
     shown : Slot
@@ -109,42 +109,42 @@ near_taken {T} {R} of st ms n kind true near used is few t_is =
     room a k n h e f = grind arith
 
     at : (s : ℕ) → (s ≡ length st.slots) ⊎ (s ≢ length st.slots)
-        → CoupledSlot of (get_or (st.slots ++ record { kind = kind; guards = 0; batch = []; order = [] } ∷ []) s waiting.no_slot) (get_or (ms.slots ++ record { used = true; batch = []; call = None } ∷ []) s machine.no_slot)
+        → CoupledSlot of (get_or (st.slots ++ record { kind = kind; guards = 0; batch = []; order = [] } ∷ []) s waiting.unmade_slot) (get_or (ms.slots ++ record { used = true; batch = []; call = None } ∷ []) s machine.no_slot)
     at s (inl e) =
-        let x : get_or (st.slots ++ record { kind = kind; guards = 0; batch = []; order = [] } ∷ []) s waiting.no_slot ≡ record { kind = kind; guards = 0; batch = []; order = [] } = rw e (get_or-append_seam st.slots _ [] waiting.no_slot) in
+        let x : get_or (st.slots ++ record { kind = kind; guards = 0; batch = []; order = [] } ∷ []) s waiting.unmade_slot ≡ record { kind = kind; guards = 0; batch = []; order = [] } = rw e (get_or-append_seam st.slots _ [] waiting.unmade_slot) in
         let y : get_or (ms.slots ++ record { used = true; batch = []; call = None } ∷ []) s machine.no_slot ≡ record { used = true; batch = []; call = None } = rw (e, ← near.as_many) (get_or-append_seam ms.slots _ [] machine.no_slot) in
-        subst (λ k. CoupledSlot of (get_or (st.slots ++ record { kind = kind; guards = 0; batch = []; order = [] } ∷ []) s waiting.no_slot) k) (sym y)
+        subst (λ k. CoupledSlot of (get_or (st.slots ++ record { kind = kind; guards = 0; batch = []; order = [] } ∷ []) s waiting.unmade_slot) k) (sym y)
         (subst (λ k. CoupledSlot of k (record { used = true; batch = []; call = None })) (sym x)
         (record { used = sym (ap (λ (t : Bool). not t) used); idle = refl; batch = refl; free = λ e. refl; owned = λ e. omega arith; inactive = λ e. refl; once = refl }))
     at s (inr other) =
-        let x : get_or (st.slots ++ record { kind = kind; guards = 0; batch = []; order = [] } ∷ []) s waiting.no_slot ≡ get_or st.slots s waiting.no_slot = beside st.slots _ waiting.no_slot s other in
+        let x : get_or (st.slots ++ record { kind = kind; guards = 0; batch = []; order = [] } ∷ []) s waiting.unmade_slot ≡ get_or st.slots s waiting.unmade_slot = beside st.slots _ waiting.unmade_slot s other in
         let y : get_or (ms.slots ++ record { used = true; batch = []; call = None } ∷ []) s machine.no_slot ≡ get_or ms.slots s machine.no_slot = beside ms.slots _ machine.no_slot s (rw near.as_many other) in
-        subst (λ k. CoupledSlot of (get_or (st.slots ++ record { kind = kind; guards = 0; batch = []; order = [] } ∷ []) s waiting.no_slot) k) (sym y)
+        subst (λ k. CoupledSlot of (get_or (st.slots ++ record { kind = kind; guards = 0; batch = []; order = [] } ∷ []) s waiting.unmade_slot) k) (sym y)
         (subst (λ k. CoupledSlot of k (get_or ms.slots s machine.no_slot)) (sym x) (near.slot s))
 
 -- the slot that was taken
-pub slot_taken : {T R : Type 0} (st : waiting.State T R) (n : ℕ) (kind : Kind) (t : Bool) → n ≡ least_unused st.slots → (n == length st.slots) ≡ t
-    → ((slot_at (taken_if t st n kind 0) n).kind ≡ kind) × ((slot_at (taken_if t st n kind 0) n).guards ≡ 0) × (set_guards (taken_if t st n kind 0) n 1 ≡ taken_if t st n kind 1)
+pub slot_taken : {T R : Type 0} (st : waiting.ModelState T R) (n : ℕ) (kind : Kind) (t : Bool) → n ≡ least_unused st.slots → (n == length st.slots) ≡ t
+    → ((model_slot (taken_if t st n kind 0) n).kind ≡ kind) × ((model_slot (taken_if t st n kind 0) n).guards ≡ 0) × (set_guards (taken_if t st n kind 0) n 1 ≡ taken_if t st n kind 1)
 slot_taken {T} {R} st n kind true is t_is =
     let e : n ≡ length st.slots = grind arith in
-    let own : get_or (st.slots ++ record { kind = kind; guards = 0; batch = []; order = [] } ∷ []) n waiting.no_slot ≡ record { kind = kind; guards = 0; batch = []; order = [] } = rw e (get_or-append_seam st.slots _ [] waiting.no_slot) in (
-      ap (λ (x : waiting.Slot T R). x.kind) own,
-      ap (λ (x : waiting.Slot T R). x.guards) own,
-      ap (λ (x : waiting.Slot T R). record st { slots = set (st.slots ++ record { kind = kind; guards = 0; batch = []; order = [] } ∷ []) n (record x { guards = 1 }) }) own
+    let own : get_or (st.slots ++ record { kind = kind; guards = 0; batch = []; order = [] } ∷ []) n waiting.unmade_slot ≡ record { kind = kind; guards = 0; batch = []; order = [] } = rw e (get_or-append_seam st.slots _ [] waiting.unmade_slot) in (
+      ap (λ (x : waiting.ModelSlot T R). x.kind) own,
+      ap (λ (x : waiting.ModelSlot T R). x.guards) own,
+      ap (λ (x : waiting.ModelSlot T R). record st { slots = set (st.slots ++ record { kind = kind; guards = 0; batch = []; order = [] } ∷ []) n (record x { guards = 1 }) }) own
           ∙ ap (λ (k : ℕ). record st { slots = set (st.slots ++ record { kind = kind; guards = 0; batch = []; order = [] } ∷ []) k (record { kind = kind; guards = 1; batch = []; order = [] }) }) e
-          ∙ ap (λ (l : List (waiting.Slot T R)). record st { slots = l }) (set_seam st.slots _ _ []),
+          ∙ ap (λ (l : List (waiting.ModelSlot T R)). record st { slots = l }) (set_seam st.slots _ _ []),
     )
 slot_taken {T} {R} st n kind false is t_is =
     let below : n ≤ length st.slots = rw is (prefix_len-le-length _ st.slots) in
     let within : n < length st.slots = grind arith in
-    let own : slot_at (set_slot st n (record (slot_at st n) { kind = kind; guards = 0 })) n ≡ record (slot_at st n) { kind = kind; guards = 0 } = get_or-set_same st.slots n _ waiting.no_slot within in (
-      ap (λ (x : waiting.Slot T R). x.kind) own,
-      ap (λ (x : waiting.Slot T R). x.guards) own,
-      ap (λ (x : waiting.Slot T R). set_slot (set_slot st n (record (slot_at st n) { kind = kind; guards = 0 })) n (record x { guards = 1 })) own
-          ∙ ap (λ (l : List (waiting.Slot T R)). record st { slots = l }) (set_twice st.slots n _ _),
+    let own : model_slot (set_slot st n (record (model_slot st n) { kind = kind; guards = 0 })) n ≡ record (model_slot st n) { kind = kind; guards = 0 } = get_or-set_same st.slots n _ waiting.unmade_slot within in (
+      ap (λ (x : waiting.ModelSlot T R). x.kind) own,
+      ap (λ (x : waiting.ModelSlot T R). x.guards) own,
+      ap (λ (x : waiting.ModelSlot T R). set_slot (set_slot st n (record (model_slot st n) { kind = kind; guards = 0 })) n (record x { guards = 1 })) own
+          ∙ ap (λ (l : List (waiting.ModelSlot T R)). record st { slots = l }) (set_twice st.slots n _ _),
     )
 
-take_step : {T R X : Type 0} (of : Naming T R X) (size : ℕ) (st : waiting.State T R) (ms : State) → NearAt of [] st ms → length st.slots ≤ 2 ^ 64 - 32 → (least_unused st.slots == 2 ^ 64 - 32) ≡ false
+take_step : {T R X : Type 0} (of : Naming T R X) (size : ℕ) (st : waiting.ModelState T R) (ms : State) → NearAt of [] st ms → length st.slots ≤ 2 ^ 64 - 32 → (least_unused st.slots == 2 ^ 64 - 32) ≡ false
     → next size ms (Take (least_unused st.slots)) ≡ Some (shown_if (least_unused st.slots == length st.slots) ms (least_unused st.slots), DoneEvent)
 take_step of size st ms n many few =
     let k : ℕ = least_unused st.slots in
@@ -169,7 +169,7 @@ taken_is_below size ms later n answer h =
     below a k h = grind arith
 
 -- where a number was taken: which one, and what the two sides show each other then, where it is in use for this kind of slot
-pub take_ends : {T R X : Type 0} (of : Naming T R X) (size : ℕ) (st : waiting.State T R) (before later : State) (n : ℕ) (answer : Answer) (kind : Kind) → NearAt of [] st before → next size before (Take n) ≡ Some (later, answer) → is_free kind ≡ false
+pub take_ends : {T R X : Type 0} (of : Naming T R X) (size : ℕ) (st : waiting.ModelState T R) (before later : State) (n : ℕ) (answer : Answer) (kind : Kind) → NearAt of [] st before → next size before (Take n) ≡ Some (later, answer) → is_free kind ≡ false
     → (n ≡ least_unused st.slots) × ((n == 2 ^ 64 - 32) ≡ false) × NearAt of [] (with_number_in_use st n kind 0) later
 take_ends of size st before later n answer kind near h used =
     let least : n ≡ least_unused st.slots = taken_is_first size before later n answer h ∙ same_first of st before near in
@@ -183,7 +183,7 @@ take_ends of size st before later n answer kind near h used =
       subst (λ (k : State). NearAt of [] (with_number_in_use st n kind 0) k) (sym ends.0) (near_taken of st before n kind (n == length st.slots) near used least few refl),
     )
 
-pub register_run : {T R X : Type 0} (puts : R → T → List T) (weight : T → ℕ) (of : Naming T R X) (st : waiting.State T R) (before : State) → NearAt of [] st before
+pub register_run : {T R X : Type 0} (puts : R → T → List T) (weight : T → ℕ) (of : Naming T R X) (st : waiting.ModelState T R) (before : State) → NearAt of [] st before
     → Run puts of Register st before (step puts weight st Register)
 register_run {T} {R} puts weight of st before near = go (least_unused st.slots == 2 ^ 64 - 32) refl
   where
@@ -195,7 +195,7 @@ register_run {T} {R} puts weight of st before near = go (least_unused st.slots =
         one_event puts of Register st before _ (Take (least_unused st.slots)) DoneEvent (Number (least_unused st.slots)) (with_number_in_use st (least_unused st.slots) Registered 0) (take_step of st.size st before n n.numbers e)
         (near_taken of st before (least_unused st.slots) Registered (least_unused st.slots == length st.slots) n refl refl e refl) (least_unused st.slots, refl) tt tt refl refl
 
-pub register_list : {T R : Type 0} (puts : R → T → List T) (weight : T → ℕ) (of : ℕ → T) (by : ℕ → R) (st : waiting.State T R) (before : State) → NearAt (with_reclaimers of by) [] st before
+pub register_list : {T R : Type 0} (puts : R → T → List T) (weight : T → ℕ) (of : ℕ → T) (by : ℕ → R) (st : waiting.ModelState T R) (before : State) → NearAt (with_reclaimers of by) [] st before
     → EachList puts of by Register st before (step puts weight st Register)
 register_list {T} {R} puts weight of by st before n = go (least_unused st.slots == 2 ^ 64 - 32) refl
   where
@@ -210,30 +210,30 @@ register_list {T} {R} puts weight of by st before n = go (least_unused st.slots 
         (makes.1 ∙ ap (λ (k : ℕ). Take k ∷ []) least) legal refl refl
 
 -- the entry of an owned guard: the number is taken, and its slot becomes active
-taken_near : {T R X : Type 0} (of : Naming T R X) (st : waiting.State T R) (before : State) → NearAt of [] st before → (least_unused st.slots == 2 ^ 64 - 32) ≡ false
+taken_near : {T R X : Type 0} (of : Naming T R X) (st : waiting.ModelState T R) (before : State) → NearAt of [] st before → (least_unused st.slots == 2 ^ 64 - 32) ≡ false
     → NearAt of [] (with_number_in_use st (least_unused st.slots) Owned 0) (shown_if (least_unused st.slots == length st.slots) before (least_unused st.slots))
 taken_near of st before n e = near_taken of st before (least_unused st.slots) Owned (least_unused st.slots == length st.slots) n refl refl e refl
 
-owned_step : {T R X : Type 0} (of : Naming T R X) (st : waiting.State T R) (before : State) → NearAt of [] st before → (least_unused st.slots == 2 ^ 64 - 32) ≡ false
+owned_step : {T R X : Type 0} (of : Naming T R X) (st : waiting.ModelState T R) (before : State) → NearAt of [] st before → (least_unused st.slots == 2 ^ 64 - 32) ≡ false
     → next st.size (shown_if (least_unused st.slots == length st.slots) before (least_unused st.slots)) (EnterHead (least_unused st.slots))
     ≡ Some (set_head (shown_if (least_unused st.slots == length st.slots) before (least_unused st.slots)) (least_unused st.slots) (Active []), DoneEvent)
 owned_step {T} {R} of st before n e =
     let own : _ × _ × _ = slot_taken st (least_unused st.slots) Owned (least_unused st.slots == length st.slots) refl refl in
-    let used : is_free (slot_at (with_number_in_use st (least_unused st.slots) Owned 0) (least_unused st.slots)).kind ≡ false = ap is_free own.0 in
-    let off : waiting.has_guard (slot_at (with_number_in_use st (least_unused st.slots) Owned 0) (least_unused st.slots)) ≡ false = ap (λ (g : ℕ). not (g == 0)) own.1 in
+    let used : is_free (model_slot (with_number_in_use st (least_unused st.slots) Owned 0) (least_unused st.slots)).kind ≡ false = ap is_free own.0 in
+    let off : waiting.has_guard (model_slot (with_number_in_use st (least_unused st.slots) Owned 0) (least_unused st.slots)) ≡ false = ap (λ (g : ℕ). not (g == 0)) own.1 in
     enter_step of st.size (with_number_in_use st (least_unused st.slots) Owned 0) _ (least_unused st.slots) (taken_near of st before n e) used off
 
-owned_near : {T R X : Type 0} (of : Naming T R X) (st : waiting.State T R) (before : State) → NearAt of [] st before → (least_unused st.slots == 2 ^ 64 - 32) ≡ false
+owned_near : {T R X : Type 0} (of : Naming T R X) (st : waiting.ModelState T R) (before : State) → NearAt of [] st before → (least_unused st.slots == 2 ^ 64 - 32) ≡ false
     → NearAt of [] (with_number_in_use st (least_unused st.slots) Owned 1) (set_head (shown_if (least_unused st.slots == length st.slots) before (least_unused st.slots)) (least_unused st.slots) (Active []))
 owned_near {T} {R} of st before n e =
     let own : _ × _ × _ = slot_taken st (least_unused st.slots) Owned (least_unused st.slots == length st.slots) refl refl in
-    let used : is_free (slot_at (with_number_in_use st (least_unused st.slots) Owned 0) (least_unused st.slots)).kind ≡ false = ap is_free own.0 in
-    let off : waiting.has_guard (slot_at (with_number_in_use st (least_unused st.slots) Owned 0) (least_unused st.slots)) ≡ false = ap (λ (g : ℕ). not (g == 0)) own.1 in
+    let used : is_free (model_slot (with_number_in_use st (least_unused st.slots) Owned 0) (least_unused st.slots)).kind ≡ false = ap is_free own.0 in
+    let off : waiting.has_guard (model_slot (with_number_in_use st (least_unused st.slots) Owned 0) (least_unused st.slots)) ≡ false = ap (λ (g : ℕ). not (g == 0)) own.1 in
     let later : State = set_head (shown_if (least_unused st.slots == length st.slots) before (least_unused st.slots)) (least_unused st.slots) (Active []) in
-    subst (λ (x : waiting.State T R). NearAt of [] x later) own.2
+    subst (λ (x : waiting.ModelState T R). NearAt of [] x later) own.2
     (near_entered of (with_number_in_use st (least_unused st.slots) Owned 0) (shown_if (least_unused st.slots == length st.slots) before (least_unused st.slots)) (least_unused st.slots) 1 (taken_near of st before n e) used off (omega arith) (λ f. omega arith))
 
-pub owned_run : {T R X : Type 0} (puts : R → T → List T) (weight : T → ℕ) (of : Naming T R X) (st : waiting.State T R) (before : State) → NearAt of [] st before
+pub owned_run : {T R X : Type 0} (puts : R → T → List T) (weight : T → ℕ) (of : Naming T R X) (st : waiting.ModelState T R) (before : State) → NearAt of [] st before
     → Run puts of EnterOwned st before (step puts weight st EnterOwned)
 owned_run {T} {R} puts weight of st before near = go (least_unused st.slots == 2 ^ 64 - 32) refl
   where
@@ -259,7 +259,7 @@ owned_run {T} {R} puts weight of st before near = go (least_unused st.slots == 2
           put = (tt, (tt, tt));
         }
 
-pub owned_list : {T R : Type 0} (puts : R → T → List T) (weight : T → ℕ) (of : ℕ → T) (by : ℕ → R) (st : waiting.State T R) (before : State) → NearAt (with_reclaimers of by) [] st before
+pub owned_list : {T R : Type 0} (puts : R → T → List T) (weight : T → ℕ) (of : ℕ → T) (by : ℕ → R) (st : waiting.ModelState T R) (before : State) → NearAt (with_reclaimers of by) [] st before
     → EachList puts of by EnterOwned st before (step puts weight st EnterOwned)
 owned_list {T} {R} puts weight of by st before n = go (least_unused st.slots == 2 ^ 64 - 32) refl
   where

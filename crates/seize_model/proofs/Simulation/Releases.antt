@@ -52,7 +52,7 @@ is_made batches b n e = go (in_or_past b (length batches))
         absurd (omega (arith, ints))
 
 -- The first batch of the walk is counted down.
-pub near_less : {T R X : Type 0} (of : Naming T R X) (b : ℕ) (walk : List ℕ) (st : waiting.State T R) (slots : List machine.Slot) (heads : List Head) (batches : List Batch) (links : List (Option ℕ))
+pub near_less : {T R X : Type 0} (of : Naming T R X) (b : ℕ) (walk : List ℕ) (st : waiting.ModelState T R) (slots : List machine.Slot) (heads : List Head) (batches : List Batch) (links : List (Option ℕ))
     → Near of (b ∷ walk) st slots heads batches links → has b walk ≡ false
     → (b < length batches) × ((get_or batches b no_batch).count -ℤ pos 1 ≡ pos (count_by (waits_for b) st.slots))
     × Near of walk st slots heads (batch_with batches b false (pos (count_by (waits_for b) st.slots))) links
@@ -100,7 +100,7 @@ BothGone {T} {R} of b walk slots heads batches links k z o =
     Near of walk o.0 slots heads (batch_with batches b z (pos k)) links × Denote of (if z then (get_or batches b no_batch).values else []) o.1
 
 -- A batch that nothing walks is gone if its count is 0.
-pub near_release : {T R X : Type 0} (of : Naming T R X) (b : ℕ) (walk : List ℕ) (st : waiting.State T R) (slots : List machine.Slot) (heads : List Head) (batches : List Batch) (links : List (Option ℕ))
+pub near_release : {T R X : Type 0} (of : Naming T R X) (b : ℕ) (walk : List ℕ) (st : waiting.ModelState T R) (slots : List machine.Slot) (heads : List Head) (batches : List Batch) (links : List (Option ℕ))
     → Near of walk st slots heads batches links → b < length batches → has b walk ≡ false
     → BothGone of b walk slots heads batches links (count_by (waits_for b) st.slots) (count_by (waits_for b) st.slots == 0) (release st b)
 near_release {T} {R} of b walk st slots heads batches links n there first =

@@ -43,15 +43,15 @@ held_same bound of other (None ∷ links) same h = ap (λ l. None ∷ l) (held_s
 held_same bound of other (Some n ∷ links) same h =
     ap (λ x. Some x ∷ map (held_value other) links) (same n (omega arith)) ∙ ap (λ l. Some (of n) ∷ l) (held_same bound of other links same (omega arith))
 
-pub shows_same : {T R : Type 0} (bound : ℕ) (of other : ℕ → T) (st : waiting.State T R) (ms : machine.State) → AgreeBelow bound of other → past_state ms ≤ bound → ShowsState T R of st ms → ShowsState T R other st ms
+pub shows_same : {T R : Type 0} (bound : ℕ) (of other : ℕ → T) (st : waiting.ModelState T R) (ms : machine.State) → AgreeBelow bound of other → past_state ms ≤ bound → ShowsState T R of st ms → ShowsState T R other st ms
 shows_same {T} {R} bound of other st ms same h shows =
     shows_by other (contents of) st ms (near_of of st ms shows) batches values (held_same bound of other ms.links same (omega arith) ∙ shows.links)
   where
-    batches : (s : ℕ) → ShowsValues other (machine.slot_at ms s).batch (waiting.slot_at st s).batch
+    batches : (s : ℕ) → ShowsValues other (machine.slot_at ms s).batch (waiting.model_slot st s).batch
     batches s =
         let low : past (machine.slot_at ms s).batch ≤ past_by (λ (slot : machine.Slot). slot.batch) ms.slots
         = past_at (λ (slot : machine.Slot). slot.batch) ms.slots s machine.no_slot refl in
-        stand_same bound of other (machine.slot_at ms s).batch (waiting.slot_at st s).batch same (omega arith) (shows.slot s).batch
+        stand_same bound of other (machine.slot_at ms s).batch (waiting.model_slot st s).batch same (omega arith) (shows.slot s).batch
 
     values : (b : ℕ) → ShowsValues other (machine.batch_at ms b).values (waiting.retired_at st b)
     values b =

@@ -5,7 +5,7 @@ use Rattle.std.proofs.lemmas.List.{length-append}
 use Rattle.std.proofs.Math.Seq.{get_or-append_seam}
 use Rattle.seize_machine.specs.Machine.State.{opening}
 use Rattle.seize_model.specs.declared.kind.Kind.TheVariants.{Free}
-use Rattle.seize_model.specs.Waiting.State.{Slot, State, slot_at, set_slot, no_slot}
+use Rattle.seize_model.specs.Waiting.State.{ModelSlot, ModelState, model_slot, set_slot, unmade_slot}
 use Rattle.seize_model.specs.Waiting.Attempt.{part}
 use Rattle.seize_model.specs.Waiting.Calls.{with_number_free, part_all, without_batch, reclaim_all}
 use Rattle.seize_model.specs.Agreement.Shows.{ShowsReclaimers, ShowsState}
@@ -17,38 +17,38 @@ use Rattle.seize_model.proofs.Simulation.Openings.{free_slots, opened_shown, ope
 -- The slots: each stays, but for its own change.
 
 -- a slot that parted and gave its number back
-abbrev pub idle_slot : {T R : Type 0} → Slot T R → Slot T R
+abbrev pub idle_slot : {T R : Type 0} → ModelSlot T R → ModelSlot T R
 idle_slot slot = record { kind = Free; guards = 0; batch = slot.batch; order = [] }
 
-part_slots : {T R : Type 0} (st : State T R) (s : ℕ) (pre rest : List (Slot T R)) (x : Slot T R)
+part_slots : {T R : Type 0} (st : ModelState T R) (s : ℕ) (pre rest : List (ModelSlot T R)) (x : ModelSlot T R)
     → st.slots ≡ pre ++ x ∷ rest → s ≡ length pre → (with_number_free (part st s).0 s).slots ≡ pre ++ idle_slot x ∷ rest
 part_slots {T} {R} st s pre rest x e is =
-    ap (λ (k : Slot T R). set (part st s).0.slots s (record k { kind = Free; guards = 0 })) after
-    ∙ ap (λ (l : List (Slot T R)). set l s (idle_slot x)) slots
+    ap (λ (k : ModelSlot T R). set (part st s).0.slots s (record k { kind = Free; guards = 0 })) after
+    ∙ ap (λ (l : List (ModelSlot T R)). set l s (idle_slot x)) slots
     ∙ ap (λ k. set (pre ++ record x { order = [] } ∷ rest) k (idle_slot x)) is
     ∙ set_seam pre (record x { order = [] }) (idle_slot x) rest
   where
-    own : slot_at st s ≡ x
+    own : model_slot st s ≡ x
     own =
-        ap (λ l. get_or l s no_slot) e
-        ∙ ap (λ k. get_or (pre ++ x ∷ rest) k no_slot) is
-        ∙ get_or-append_seam pre x rest no_slot
+        ap (λ l. get_or l s unmade_slot) e
+        ∙ ap (λ k. get_or (pre ++ x ∷ rest) k unmade_slot) is
+        ∙ get_or-append_seam pre x rest unmade_slot
 
     slots : (part st s).0.slots ≡ pre ++ record x { order = [] } ∷ rest
     slots =
-        releases_beside (λ (k : State T R). k.slots) (λ k retired. refl) (set_slot st s (record (slot_at st s) { order = [] })) (slot_at st s).order
-        ∙ ap (λ (k : Slot T R). set st.slots s (record k { order = [] })) own
-        ∙ ap (λ (l : List (Slot T R)). set l s (record x { order = [] })) e
+        releases_beside (λ (k : ModelState T R). k.slots) (λ k retired. refl) (set_slot st s (record (model_slot st s) { order = [] })) (model_slot st s).order
+        ∙ ap (λ (k : ModelSlot T R). set st.slots s (record k { order = [] })) own
+        ∙ ap (λ (l : List (ModelSlot T R)). set l s (record x { order = [] })) e
         ∙ ap (λ k. set (pre ++ x ∷ rest) k (record x { order = [] })) is
         ∙ set_seam pre x (record x { order = [] }) rest
 
-    after : slot_at (part st s).0 s ≡ record x { order = [] }
+    after : model_slot (part st s).0 s ≡ record x { order = [] }
     after =
-        ap (λ l. get_or l s no_slot) slots
-        ∙ ap (λ k. get_or (pre ++ record x { order = [] } ∷ rest) k no_slot) is
-        ∙ get_or-append_seam pre (record x { order = [] }) rest no_slot
+        ap (λ l. get_or l s unmade_slot) slots
+        ∙ ap (λ k. get_or (pre ++ record x { order = [] } ∷ rest) k unmade_slot) is
+        ∙ get_or-append_seam pre (record x { order = [] }) rest unmade_slot
 
-quiets_slots : {T R : Type 0} (st : State T R) (s : ℕ) (pre rest : List (Slot T R)) → st.slots ≡ pre ++ rest → s ≡ length pre
+quiets_slots : {T R : Type 0} (st : ModelState T R) (s : ℕ) (pre rest : List (ModelSlot T R)) → st.slots ≡ pre ++ rest → s ≡ length pre
     → (part_all st (range_with_len s (length rest))).0.slots ≡ pre ++ map idle_slot rest
 quiets_slots st s pre [] e is = e
 quiets_slots st s pre (x ∷ rest) e is =
@@ -57,17 +57,17 @@ quiets_slots st s pre (x ∷ rest) e is =
     (part_slots st s pre rest x e is ∙ sym (append_assoc pre (idle_slot x ∷ []) rest)) (omega arith)
     ∙ append_assoc pre (idle_slot x ∷ []) (map idle_slot rest)
 
-all_free : {T R : Type 0} (xs : List (Slot T R)) → map without_batch (map idle_slot xs) ≡ replicate (length xs) no_slot
+all_free : {T R : Type 0} (xs : List (ModelSlot T R)) → map without_batch (map idle_slot xs) ≡ replicate (length xs) unmade_slot
 all_free [] = refl
-all_free (x ∷ xs) = ap (λ l. no_slot ∷ l) (all_free xs)
+all_free (x ∷ xs) = ap (λ l. unmade_slot ∷ l) (all_free xs)
 
-slots_after : {T R : Type 0} (puts : R → T → List T) (weight : T → ℕ) (st : State T R)
-    → (reclaim_all puts weight st).0.slots ≡ replicate (length st.slots) no_slot
+slots_after : {T R : Type 0} (puts : R → T → List T) (weight : T → ℕ) (st : ModelState T R)
+    → (reclaim_all puts weight st).0.slots ≡ replicate (length st.slots) unmade_slot
 slots_after puts weight st = ap (map without_batch) (quiets_slots st 0 [] st.slots refl refl) ∙ all_free st.slots
 
 -- The links stay.
 
-quiets_links : {T R : Type 0} (st : State T R) (ss : List ℕ) → (part_all st ss).0.links ≡ st.links
+quiets_links : {T R : Type 0} (st : ModelState T R) (ss : List ℕ) → (part_all st ss).0.links ≡ st.links
 quiets_links st [] = refl
 quiets_links st (s ∷ ss) =
     quiets_links (with_number_free (part st s).0 s) ss
@@ -81,11 +81,11 @@ reopens {T} {R} puts weight of by st before shows = (
       (opened_shown_with of by later.size (length st.slots) before.links),
 )
   where
-    later : State T R
+    later : ModelState T R
     later = (reclaim_all puts weight st).0
 
     same : (reclaim_all puts weight st).0 ≡ free_slots of (reclaim_all puts weight st).0.size (length st.slots) before.links
     same =
-        ap (λ (l : List (Slot T R)). record (reclaim_all puts weight st).0 { slots = l }) (slots_after puts weight st)
+        ap (λ (l : List (ModelSlot T R)). record (reclaim_all puts weight st).0 { slots = l }) (slots_after puts weight st)
         ∙ ap (λ l. record (free_slots of (reclaim_all puts weight st).0.size (length st.slots) before.links) { links = l })
         (quiets_links st (range_with_len 0 (length st.slots)) ∙ sym shows.links)

@@ -11,15 +11,15 @@ abbrev pub contents : {T R : Type 0} → (ℕ → T) → Naming T R T
 contents of = record { link = of; name = of; view = λ v. v.0 }
 
 -- the one from the other, where numbers stand in each of its ways for what waits and what is retired
-near_by : {T R X : Type 0} (of : ℕ → T) (name : Naming T R X) (st : waiting.State T R) (ms : machine.State) → ShowsState T R of st ms
-    → ((s : ℕ) → Denote name (machine.slot_at ms s).batch (waiting.slot_at st s).batch)
+near_by : {T R X : Type 0} (of : ℕ → T) (name : Naming T R X) (st : waiting.ModelState T R) (ms : machine.State) → ShowsState T R of st ms
+    → ((s : ℕ) → Denote name (machine.slot_at ms s).batch (waiting.model_slot st s).batch)
     → ((b : ℕ) → Denote name (machine.batch_at ms b).values (waiting.retired_at st b))
     → map (held_value name.link) ms.links ≡ st.links → NearAt name [] st ms
 near_by of name st ms h batches values links = record {
   numbers = h.numbers;
   as_many = h.slots;
   slot = λ s.
-      let own : ShowsSlot _ _ of (waiting.slot_at st s) (machine.slot_at ms s) = h.slot s in
+      let own : ShowsSlot _ _ of (waiting.model_slot st s) (machine.slot_at ms s) = h.slot s in
       record { used = own.used; idle = own.idle; batch = batches s; free = own.free; owned = own.owned; inactive = own.inactive; once = own.once };
   heads_are = h.heads;
   retired = h.retired;
@@ -28,15 +28,15 @@ near_by of name st ms h batches values links = record {
   links_are = links;
 }
 
-pub shows_by : {T R X : Type 0} (of : ℕ → T) (name : Naming T R X) (st : waiting.State T R) (ms : machine.State) → NearAt name [] st ms
-    → ((s : ℕ) → ShowsValues of (machine.slot_at ms s).batch (waiting.slot_at st s).batch)
+pub shows_by : {T R X : Type 0} (of : ℕ → T) (name : Naming T R X) (st : waiting.ModelState T R) (ms : machine.State) → NearAt name [] st ms
+    → ((s : ℕ) → ShowsValues of (machine.slot_at ms s).batch (waiting.model_slot st s).batch)
     → ((b : ℕ) → ShowsValues of (machine.batch_at ms b).values (waiting.retired_at st b))
     → map (held_value of) ms.links ≡ st.links → ShowsState T R of st ms
 shows_by of name st ms h batches values links = record {
   numbers = h.numbers;
   slots = h.as_many;
   slot = λ s.
-      let own : CoupledSlot name (waiting.slot_at st s) (machine.slot_at ms s) = h.slot s in
+      let own : CoupledSlot name (waiting.model_slot st s) (machine.slot_at ms s) = h.slot s in
       record { used = own.used; idle = own.idle; batch = batches s; free = own.free; owned = own.owned; inactive = own.inactive; once = own.once };
   heads = h.heads_are;
   retired = h.retired;
@@ -45,10 +45,10 @@ shows_by of name st ms h batches values links = record {
   links = links;
 }
 
-pub near_of : {T R : Type 0} (of : ℕ → T) (st : waiting.State T R) (ms : machine.State) → ShowsState T R of st ms → NearAt (contents of) [] st ms
+pub near_of : {T R : Type 0} (of : ℕ → T) (st : waiting.ModelState T R) (ms : machine.State) → ShowsState T R of st ms → NearAt (contents of) [] st ms
 near_of of st ms h = near_by of (contents of) st ms h (λ s. (h.slot s).batch) h.values h.links
 
-pub shows_of : {T R : Type 0} (of : ℕ → T) (st : waiting.State T R) (ms : machine.State) → NearAt (contents of) [] st ms → ShowsState T R of st ms
+pub shows_of : {T R : Type 0} (of : ℕ → T) (st : waiting.ModelState T R) (ms : machine.State) → NearAt (contents of) [] st ms → ShowsState T R of st ms
 shows_of of st ms h = shows_by of (contents of) st ms h (λ s. (h.slot s).batch) h.values h.links_are
 
 -- numbers stand for values with their reclaimers
@@ -70,13 +70,13 @@ stand_of {T} {R} of by (n ∷ numbers) (v ∷ values) e =
     let rest : Denote (with_reclaimers of by) numbers values = cc in
     ap (λ (x : T × R). x.0 ∷ map of numbers) first ∙ ap (λ l. v.0 ∷ l) (stand_of of by numbers values rest)
 
-pub near_with : {T R : Type 0} (of : ℕ → T) (by : ℕ → R) (st : waiting.State T R) (ms : machine.State)
+pub near_with : {T R : Type 0} (of : ℕ → T) (by : ℕ → R) (st : waiting.ModelState T R) (ms : machine.State)
     → ShowsState T R of st ms → ShowsReclaimers T R of by st ms → NearAt (with_reclaimers of by) [] st ms
 near_with of by st ms h r =
     near_by of (with_reclaimers of by) st ms h
     (λ s. denote_for of by _ _ (r.batches s)) (λ b. denote_for of by _ _ (r.retired b)) h.links
 
-pub shows_with : {T R : Type 0} (of : ℕ → T) (by : ℕ → R) (st : waiting.State T R) (ms : machine.State)
+pub shows_with : {T R : Type 0} (of : ℕ → T) (by : ℕ → R) (st : waiting.ModelState T R) (ms : machine.State)
     → NearAt (with_reclaimers of by) [] st ms → ShowsState T R of st ms × ShowsReclaimers T R of by st ms
 shows_with of by st ms h = (
   shows_by of (with_reclaimers of by) st ms h

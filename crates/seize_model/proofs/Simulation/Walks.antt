@@ -7,7 +7,7 @@ use Rattle.seize_machine.specs.Machine.State as machine
 use Rattle.seize_machine.specs.Machine.State.{State, Batch, Mark, Rest, has, are_distinct, no_batch}
 use Rattle.seize_machine.specs.Machine.Event.{SubCount}
 use Rattle.seize_model.specs.Waiting.State as waiting
-use Rattle.seize_model.specs.Waiting.State.{slot_at, waits_for, is_kept}
+use Rattle.seize_model.specs.Waiting.State.{model_slot, waits_for, is_kept}
 use Rattle.seize_model.specs.Waiting.Attempt.{StateAndGone, with_gone, release, release_all, attempt, put, with_batch_value}
 use Rattle.seize_model.specs.Waiting.Further.{further, put_by}
 use Rattle.seize_machine.proofs.Facts.{and_true, not_true}
@@ -47,9 +47,9 @@ does_after puts of K size s guards queue more hs given gone o e f d = record {
   same_guards = d.same_guards;
 }
 
-pub walk_does : {T R X : Type 0} (puts : R → T → List T) (of : Naming T R X) (P : T × R → Type 0) (K : State → List ℕ → Type 0) (size guards : ℕ) (st : waiting.State T R) (base : State) (s : ℕ) (batch walk queue hs : List ℕ) → Carried puts of P s size K
+pub walk_does : {T R X : Type 0} (puts : R → T → List T) (of : Naming T R X) (P : T × R → Type 0) (K : State → List ℕ → Type 0) (size guards : ℕ) (st : waiting.ModelState T R) (base : State) (s : ℕ) (batch walk queue hs : List ℕ) → Carried puts of P s size K
     → Holds T R P st → NearAt of walk st (at_rest base s batch) → s < length base.slots
-    → are_distinct walk ≡ true → st.size ≡ size → (slot_at st s).guards ≡ guards
+    → are_distinct walk ≡ true → st.size ≡ size → (model_slot st s).guards ≡ guards
     → K (busy base s batch (Rest [] walk) queue) hs → Does puts of K size s guards queue hs (release_all st walk)
 walk_does {T} {R} puts of P K size guards st base s batch [] queue hs carried holds n h distinct e g now =
     subst (λ k. Does puts of K k s guards queue hs (st, [])) e
@@ -83,45 +83,45 @@ walk_does {T} {R} puts of P K size guards st base s batch (b ∷ walk) queue hs 
     let rest : Does puts of K size s guards (queue ++ handing.more) (hs ++ given) (release_all (release st b).0 walk)
     = walk_does puts of P K size guards (release st b).0 later s batch walk (queue ++ handing.more) (hs ++ given) carried held.0 near h d.1
     (either (λ (o : StateAndGone T R). o.0.size ≡ size) (is_kept st b) _ _ e e)
-    (either (λ (o : StateAndGone T R). (slot_at o.0 s).guards ≡ guards) (is_kept st b) _ _ g g)
+    (either (λ (o : StateAndGone T R). (model_slot o.0 s).guards ≡ guards) (is_kept st b) _ _ g g)
     handing.comes in
     does_after puts of K size s guards queue handing.more hs given (release st b).1 (release_all (release st b).0 walk) stand handing.stand rest
 
 -- Retirements.
 
-pub after_put : {T R X : Type 0} (puts : R → T → List T) (of : Naming T R X) (P : T × R → Type 0) (K : State → List ℕ → Type 0) (st : waiting.State T R) (base : State) (s n : ℕ) (v : T × R) (batch queue hs : List ℕ) → Carried puts of P s st.size K
+pub after_put : {T R X : Type 0} (puts : R → T → List T) (of : Naming T R X) (P : T × R → Type 0) (K : State → List ℕ → Type 0) (st : waiting.ModelState T R) (base : State) (s n : ℕ) (v : T × R) (batch queue hs : List ℕ) → Carried puts of P s st.size K
     → Holds T R P st → P v → NearAt of [] st (at_rest base s batch) → s < length base.slots → of.name n ≡ of.view v
-    → K (busy base s (batch ++ n ∷ []) (put_place st.size (length base.slots) (batch ++ n ∷ [])) queue) hs → Does puts of K st.size s (slot_at st s).guards queue hs (put st s v)
+    → K (busy base s (batch ++ n ∷ []) (put_place st.size (length base.slots) (batch ++ n ∷ [])) queue) hs → Does puts of K st.size s (model_slot st s).guards queue hs (put st s v)
 after_put {T} {R} puts of P K st base s n v batch queue hs carried holds own_holds near h stands now =
-    go (nat_le (max 1 st.size) (length (slot_at (with_batch_value st s v) s).batch)) refl
+    go (nat_le (max 1 st.size) (length (model_slot (with_batch_value st s v) s).batch)) refl
     (subst (λ k. K (busy base s (batch ++ n ∷ []) (if nat_le (max 1 st.size) k then Mark 0 (length base.slots) [] else Rest [] []) queue) hs) long now)
   where
-    own : CoupledSlot of (slot_at st s) (record { used = true; batch = batch; call = None })
+    own : CoupledSlot of (model_slot st s) (record { used = true; batch = batch; call = None })
     own = own_slot of st base s batch near h
 
     within : s < length st.slots
     within = rw (← in_slots of st base s batch near) h
 
-    both : Denote of (batch ++ n ∷ []) ((slot_at st s).batch ++ v ∷ [])
-    both = denote_append of batch (n ∷ []) (slot_at st s).batch (v ∷ []) own.batch (ap (λ x. x ∷ []) stands)
+    both : Denote of (batch ++ n ∷ []) ((model_slot st s).batch ++ v ∷ [])
+    both = denote_append of batch (n ∷ []) (model_slot st s).batch (v ∷ []) own.batch (ap (λ x. x ∷ []) stands)
 
     next_near : NearAt of [] (with_batch_value st s v) (at_rest base s (batch ++ n ∷ []))
     next_near = subst (λ (l : List machine.Slot). Near of [] (with_batch_value st s v) l base.heads base.batches base.links) (set_twice base.slots s _ _)
-        (near_set of [] st (at_rest base s batch).slots base.heads base.batches base.links s (record (slot_at st s) { batch = (slot_at st s).batch ++ v ∷ [] }) (record { used = true; batch = batch ++ n ∷ []; call = None }) near within
+        (near_set of [] st (at_rest base s batch).slots base.heads base.batches base.links s (record (model_slot st s) { batch = (model_slot st s).batch ++ v ∷ [] }) (record { used = true; batch = batch ++ n ∷ []; call = None }) near within
         (record { used = own.used; idle = refl; batch = both; free = own.free; owned = own.owned; inactive = own.inactive; once = own.once }) refl refl)
 
-    next_own : CoupledSlot of (slot_at (with_batch_value st s v) s) (record { used = true; batch = batch ++ n ∷ []; call = None })
+    next_own : CoupledSlot of (model_slot (with_batch_value st s v) s) (record { used = true; batch = batch ++ n ∷ []; call = None })
     next_own = own_slot of (with_batch_value st s v) base s (batch ++ n ∷ []) next_near h
 
-    long : length (batch ++ n ∷ []) ≡ length (slot_at (with_batch_value st s v) s).batch
-    long = sym (length-map (batch ++ n ∷ []) of.name) ∙ ap length next_own.batch ∙ length-map (slot_at (with_batch_value st s v) s).batch of.view
+    long : length (batch ++ n ∷ []) ≡ length (model_slot (with_batch_value st s v) s).batch
+    long = sym (length-map (batch ++ n ∷ []) of.name) ∙ ap length next_own.batch ∙ length-map (model_slot (with_batch_value st s v) s).batch of.view
 
-    guards : (slot_at (with_batch_value st s v) s).guards ≡ (slot_at st s).guards
-    guards = ap (λ (x : waiting.Slot T R). x.guards) (get_or-set_same st.slots s (record (slot_at st s) { batch = (slot_at st s).batch ++ v ∷ [] }) waiting.no_slot within)
+    guards : (model_slot (with_batch_value st s v) s).guards ≡ (model_slot st s).guards
+    guards = ap (λ (x : waiting.ModelSlot T R). x.guards) (get_or-set_same st.slots s (record (model_slot st s) { batch = (model_slot st s).batch ++ v ∷ [] }) waiting.unmade_slot within)
 
-    go : (t : Bool) → nat_le (max 1 st.size) (length (slot_at (with_batch_value st s v) s).batch) ≡ t
+    go : (t : Bool) → nat_le (max 1 st.size) (length (model_slot (with_batch_value st s v) s).batch) ≡ t
         → K (busy base s (batch ++ n ∷ []) (if t then Mark 0 (length base.slots) [] else Rest [] []) queue) hs
-        → Does puts of K st.size s (slot_at st s).guards queue hs (if t then attempt (with_batch_value st s v) s else (with_batch_value st s v, []))
+        → Does puts of K st.size s (model_slot st s).guards queue hs (if t then attempt (with_batch_value st s v) s else (with_batch_value st s v, []))
     go true e k =
         let some : 1 ≤ length (batch ++ n ∷ []) = omega (arith, length-append batch (n ∷ [])) in
         subst (λ g. Does puts of K st.size s g queue hs (attempt (with_batch_value st s v) s)) guards

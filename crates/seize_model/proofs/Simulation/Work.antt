@@ -8,7 +8,7 @@ use Rattle.std.proofs.Math.Seq.{get_or-append_seam}
 use Rattle.seize_machine.specs.Machine.State as machine
 use Rattle.seize_machine.specs.Machine.State.{State, Head, Batch, Mark, Rest, has, are_distinct, no_batch}
 use Rattle.seize_model.specs.Waiting.State as waiting
-use Rattle.seize_model.specs.Waiting.State.{slot_at, waits_for}
+use Rattle.seize_model.specs.Waiting.State.{model_slot, waits_for}
 use Rattle.seize_model.specs.Waiting.Attempt.{StateAndGone, release, wait_if_active, attempt, gives_up, with_batch_retired, active_slots}
 use Rattle.seize_model.specs.Waiting.Further.{further, put_by}
 use Rattle.seize_model.specs.Agreement.Shows.{head_of}
@@ -75,10 +75,10 @@ pub record Does {T R X : Type 0} (puts : R → T → List T) (of : Naming T R X)
   pub further_stand : Denote of more (further puts o.1)
   pub within : s < length base.slots
   pub same_size : o.0.size ≡ size
-  pub same_guards : (slot_at o.0 s).guards ≡ guards
+  pub same_guards : (model_slot o.0 s).guards ≡ guards
 
-pub nothing_done : {T R X : Type 0} (puts : R → T → List T) (of : Naming T R X) (K : State → List ℕ → Type 0) (st : waiting.State T R) (base : State) (s : ℕ) (batch queue hs : List ℕ) → NearAt of [] st (at_rest base s batch) → s < length base.slots
-    → K (busy base s batch (Rest [] []) queue) hs → Does puts of K st.size s (slot_at st s).guards queue hs (st, [])
+pub nothing_done : {T R X : Type 0} (puts : R → T → List T) (of : Naming T R X) (K : State → List ℕ → Type 0) (st : waiting.ModelState T R) (base : State) (s : ℕ) (batch queue hs : List ℕ) → NearAt of [] st (at_rest base s batch) → s < length base.slots
+    → K (busy base s batch (Rest [] []) queue) hs → Does puts of K st.size s (model_slot st s).guards queue hs (st, [])
 nothing_done puts of K st base s batch queue hs n h k = record {
   base = base;
   batch = batch;
@@ -95,40 +95,40 @@ nothing_done puts of K st base s batch queue hs n h k = record {
 
 -- Attempts.
 
-pub in_slots : {T R X : Type 0} (of : Naming T R X) (st : waiting.State T R) (base : State) (s : ℕ) (batch : List ℕ) → NearAt of [] st (at_rest base s batch) → length base.slots ≡ length st.slots
+pub in_slots : {T R X : Type 0} (of : Naming T R X) (st : waiting.ModelState T R) (base : State) (s : ℕ) (batch : List ℕ) → NearAt of [] st (at_rest base s batch) → length base.slots ≡ length st.slots
 in_slots of st base s batch n = sym (length-set base.slots s _) ∙ n.as_many
 
-pub in_heads : {T R X : Type 0} (of : Naming T R X) (st : waiting.State T R) (base : State) (s : ℕ) (batch : List ℕ) → NearAt of [] st (at_rest base s batch) → length base.heads ≡ length base.slots
+pub in_heads : {T R X : Type 0} (of : Naming T R X) (st : waiting.ModelState T R) (base : State) (s : ℕ) (batch : List ℕ) → NearAt of [] st (at_rest base s batch) → length base.heads ≡ length base.slots
 in_heads of st base s batch n = ap length n.heads_are ∙ length-map st.slots head_of ∙ sym (in_slots of st base s batch n)
 
 -- the slot of the call, between its pieces of work
-pub own_slot : {T R X : Type 0} (of : Naming T R X) (st : waiting.State T R) (base : State) (s : ℕ) (batch : List ℕ) → NearAt of [] st (at_rest base s batch) → s < length base.slots
-    → CoupledSlot of (slot_at st s) (record { used = true; batch = batch; call = None })
-own_slot {T} {R} of st base s batch n h = subst (λ x. CoupledSlot of (slot_at st s) x) (get_or-set_same base.slots s _ machine.no_slot h) (n.slot s)
+pub own_slot : {T R X : Type 0} (of : Naming T R X) (st : waiting.ModelState T R) (base : State) (s : ℕ) (batch : List ℕ) → NearAt of [] st (at_rest base s batch) → s < length base.slots
+    → CoupledSlot of (model_slot st s) (record { used = true; batch = batch; call = None })
+own_slot {T} {R} of st base s batch n h = subst (λ x. CoupledSlot of (model_slot st s) x) (get_or-set_same base.slots s _ machine.no_slot h) (n.slot s)
 
-waits_guards : {T R : Type 0} (b : ℕ) (slot : waiting.Slot T R) → (wait_if_active b slot).guards ≡ slot.guards
+waits_guards : {T R : Type 0} (b : ℕ) (slot : waiting.ModelSlot T R) → (wait_if_active b slot).guards ≡ slot.guards
 waits_guards b slot = by_active (λ x t. x.guards ≡ slot.guards) b slot (λ e. refl) (λ e. refl)
 
-detached_guards : {T R : Type 0} (st : waiting.State T R) (s : ℕ) → s < length st.slots → (slot_at (with_batch_retired st s) s).guards ≡ (slot_at st s).guards
+detached_guards : {T R : Type 0} (st : waiting.ModelState T R) (s : ℕ) → s < length st.slots → (model_slot (with_batch_retired st s) s).guards ≡ (model_slot st s).guards
 detached_guards {T} {R} st s h =
-    ap (λ (x : waiting.Slot T R). x.guards) (get_or-map (wait_if_active (length st.retired)) (set st.slots s (record (slot_at st s) { batch = [] })) s waiting.no_slot)
+    ap (λ (x : waiting.ModelSlot T R). x.guards) (get_or-map (wait_if_active (length st.retired)) (set st.slots s (record (model_slot st s) { batch = [] })) s waiting.unmade_slot)
     ∙ waits_guards (length st.retired) _
-    ∙ ap (λ (x : waiting.Slot T R). x.guards) (get_or-set_same st.slots s (record (slot_at st s) { batch = [] }) waiting.no_slot h)
+    ∙ ap (λ (x : waiting.ModelSlot T R). x.guards) (get_or-set_same st.slots s (record (model_slot st s) { batch = [] }) waiting.unmade_slot h)
 
-pub attempt_does : {T R X : Type 0} (puts : R → T → List T) (of : Naming T R X) (P : T × R → Type 0) (K : State → List ℕ → Type 0) (st : waiting.State T R) (base : State) (s : ℕ) (batch queue hs : List ℕ) → Carried puts of P s st.size K
+pub attempt_does : {T R X : Type 0} (puts : R → T → List T) (of : Naming T R X) (P : T × R → Type 0) (K : State → List ℕ → Type 0) (st : waiting.ModelState T R) (base : State) (s : ℕ) (batch queue hs : List ℕ) → Carried puts of P s st.size K
     → Holds T R P st → NearAt of [] st (at_rest base s batch) → s < length base.slots → 1 ≤ length batch
-    → K (busy base s batch (Mark 0 (length base.slots) []) queue) hs → Does puts of K st.size s (slot_at st s).guards queue hs (attempt st s)
+    → K (busy base s batch (Mark 0 (length base.slots) []) queue) hs → Does puts of K st.size s (model_slot st s).guards queue hs (attempt st s)
 attempt_does {T} {R} puts of P K st base s batch queue hs carried holds n h some k =
     go (gives_up st s) refl
   where
-    own : CoupledSlot of (slot_at st s) (record { used = true; batch = batch; call = None })
+    own : CoupledSlot of (model_slot st s) (record { used = true; batch = batch; call = None })
     own = own_slot of st base s batch n h
 
     all : length base.heads ≡ length base.slots
     all = in_heads of st base s batch n
 
-    long : length batch ≡ length (slot_at st s).batch
-    long = sym (length-map batch of.name) ∙ ap length own.batch ∙ length-map (slot_at st s).batch of.view
+    long : length batch ≡ length (model_slot st s).batch
+    long = sym (length-map batch of.name) ∙ ap length own.batch ∙ length-map (model_slot st s).batch of.view
 
     active : length (actives 0 base.heads) ≡ active_slots st
     active = ap (λ (l : List Head). length (actives 0 l)) n.heads_are ∙ actives_count 0 st.slots
@@ -142,21 +142,21 @@ attempt_does {T} {R} puts of P K st base s batch queue hs carried holds n h some
     within : s < length st.slots
     within = rw (← in_slots of st base s batch n) h
 
-    emptied : waiting.State T R
-    emptied = waiting.set_slot st s (record (slot_at st s) { batch = [] })
+    emptied : waiting.ModelState T R
+    emptied = waiting.set_slot st s (record (model_slot st s) { batch = [] })
 
-    on : gives_up st s ≡ false → Does puts of K st.size s (slot_at st s).guards queue hs (release (with_batch_retired st s) (length st.retired))
+    on : gives_up st s ≡ false → Does puts of K st.size s (model_slot st s).guards queue hs (release (with_batch_retired st s) (length st.retired))
     on e =
         let b : ℕ = length st.retired in
         let won : ℕ = length (actives 0 base.heads) in
         let fresh : Batch = record { values = batch; count = pos won } in
-        let kept : Near of [] (waiting.set_slot st s (record (slot_at st s) { batch = [] })) (set (at_rest base s batch).slots s (record { used = true; batch = []; call = None })) base.heads base.batches base.links
-        = near_set of [] st (at_rest base s batch).slots base.heads base.batches base.links s (record (slot_at st s) { batch = [] }) (record { used = true; batch = []; call = None }) n within
+        let kept : Near of [] (waiting.set_slot st s (record (model_slot st s) { batch = [] })) (set (at_rest base s batch).slots s (record { used = true; batch = []; call = None })) base.heads base.batches base.links
+        = near_set of [] st (at_rest base s batch).slots base.heads base.batches base.links s (record (model_slot st s) { batch = [] }) (record { used = true; batch = []; call = None }) n within
         (record { used = own.used; idle = refl; batch = refl; free = own.free; owned = own.owned; inactive = own.inactive; once = own.once }) refl refl in
-        let kept_in : Near of [] (waiting.set_slot st s (record (slot_at st s) { batch = [] })) (at_rest base s []).slots base.heads base.batches base.links
-        = subst (λ (l : List machine.Slot). Near of [] (waiting.set_slot st s (record (slot_at st s) { batch = [] })) l base.heads base.batches base.links) (set_twice base.slots s _ _) kept in
+        let kept_in : Near of [] (waiting.set_slot st s (record (model_slot st s) { batch = [] })) (at_rest base s []).slots base.heads base.batches base.links
+        = subst (λ (l : List machine.Slot). Near of [] (waiting.set_slot st s (record (model_slot st s) { batch = [] })) l base.heads base.batches base.links) (set_twice base.slots s _ _) kept in
         let waits : (count_by (waits_for b) (with_batch_retired st s).slots ≡ won) × Near of [] (with_batch_retired st s) (at_rest base s []).slots (map (with_front b) base.heads) (base.batches ++ fresh ∷ []) base.links
-        = near_waits of batch (slot_at st s).batch (waiting.set_slot st s (record (slot_at st s) { batch = [] })) (at_rest base s []).slots base.heads base.batches base.links kept_in own.batch in
+        = near_waits of batch (model_slot st s).batch (waiting.set_slot st s (record (model_slot st s) { batch = [] })) (at_rest base s []).slots base.heads base.batches base.links kept_in own.batch in
         let last : b < length (base.batches ++ fresh ∷ []) = omega (arith, length-append base.batches (fresh ∷ []), n.retired) in
         let gone : BothGone of b [] (at_rest base s []).slots (map (with_front b) base.heads) (base.batches ++ fresh ∷ []) base.links won (won == 0) (release (with_batch_retired st s) b)
         = subst (λ (k : ℕ). BothGone of b [] (at_rest base s []).slots (map (with_front b) base.heads) (base.batches ++ fresh ∷ []) base.links k (k == 0) (release (with_batch_retired st s) b)) waits.0
@@ -187,9 +187,9 @@ attempt_does {T} {R} puts of P K st base s batch queue hs carried holds n h some
           further_stand = handing.stand;
           within = h;
           same_size = either (λ (o : StateAndGone T R). o.0.size ≡ st.size) (waiting.is_kept (with_batch_retired st s) b) _ _ refl refl;
-          same_guards = either (λ (o : StateAndGone T R). (slot_at o.0 s).guards ≡ (slot_at st s).guards) (waiting.is_kept (with_batch_retired st s) b) _ _ (detached_guards st s within) (detached_guards st s within);
+          same_guards = either (λ (o : StateAndGone T R). (model_slot o.0 s).guards ≡ (model_slot st s).guards) (waiting.is_kept (with_batch_retired st s) b) _ _ (detached_guards st s within) (detached_guards st s within);
         }
 
-    go : (t : Bool) → gives_up st s ≡ t → Does puts of K st.size s (slot_at st s).guards queue hs (if t then (st, []) else release (with_batch_retired st s) (length st.retired))
+    go : (t : Bool) → gives_up st s ≡ t → Does puts of K st.size s (model_slot st s).guards queue hs (if t then (st, []) else release (with_batch_retired st s) (length st.retired))
     go true e = nothing_done puts of K st base s batch queue hs n h (along puts of P s st.size K carried _ _ hs (attempts_stop st.size base s batch queue h all (gives _ _ _ _ some long active e)) k)
     go false e = on e

@@ -2,40 +2,40 @@
 -- many as there were.
 use Rattle.std.proofs.Common.{◌≡◌, ℕ, nat_le, max, List, [], ◌∷◌, length, set, refl, ◌∙◌, ap}
 use Rattle.std.proofs.lemmas.List.{length-set}
-use Rattle.seize_model.specs.Waiting.State.{State, slot_at, set_slot, is_kept}
+use Rattle.seize_model.specs.Waiting.State.{ModelState, model_slot, set_slot, is_kept}
 use Rattle.seize_model.specs.Waiting.Attempt.{StateAndGone, release, attempt, gives_up, with_batch_retired, put, with_batch_value, release_all, part}
 use Rattle.seize_model.specs.Waiting.Lists.{Call, step}
 use Rattle.seize_model.proofs.Cases.{either}
 use Rattle.seize_model.proofs.WaitingSets.Invariants.{Invariant, step_keeps}
 
 -- a release changes nothing beside the retired batches
-release_beside : {T R X : Type 0} (f : State T R → X)
-    → ((k : State T R) (retired : List (List (T × R))) → f (record k { retired = retired }) ≡ f k)
-    → (st : State T R) (b : ℕ) → f (release st b).0 ≡ f st
+release_beside : {T R X : Type 0} (f : ModelState T R → X)
+    → ((k : ModelState T R) (retired : List (List (T × R))) → f (record k { retired = retired }) ≡ f k)
+    → (st : ModelState T R) (b : ℕ) → f (release st b).0 ≡ f st
 release_beside {T} {R} f same st b = either (λ (o : StateAndGone T R). f o.0 ≡ f st) (is_kept st b) _ _ refl (same st (set st.retired b []))
 
-pub releases_beside : {T R X : Type 0} (f : State T R → X)
-    → ((k : State T R) (retired : List (List (T × R))) → f (record k { retired = retired }) ≡ f k)
-    → (st : State T R) (bs : List ℕ) → f (release_all st bs).0 ≡ f st
+pub releases_beside : {T R X : Type 0} (f : ModelState T R → X)
+    → ((k : ModelState T R) (retired : List (List (T × R))) → f (record k { retired = retired }) ≡ f k)
+    → (st : ModelState T R) (bs : List ℕ) → f (release_all st bs).0 ≡ f st
 releases_beside f same st [] = refl
 releases_beside f same st (b ∷ bs) = releases_beside f same (release st b).0 bs ∙ release_beside f same st b
 
-pub part_links : {T R : Type 0} (st : State T R) (s : ℕ) → (part st s).0.links ≡ st.links
+pub part_links : {T R : Type 0} (st : ModelState T R) (s : ℕ) → (part st s).0.links ≡ st.links
 part_links {T} {R} st s =
-    releases_beside (λ (k : State T R). k.links) (λ k retired. refl)
-    (set_slot st s (record (slot_at st s) { order = [] })) (slot_at st s).order
+    releases_beside (λ (k : ModelState T R). k.links) (λ k retired. refl)
+    (set_slot st s (record (model_slot st s) { order = [] })) (model_slot st s).order
 
-attempt_links : {T R : Type 0} (st : State T R) (s : ℕ) → (attempt st s).0.links ≡ st.links
+attempt_links : {T R : Type 0} (st : ModelState T R) (s : ℕ) → (attempt st s).0.links ≡ st.links
 attempt_links {T} {R} st s =
     either (λ (o : StateAndGone T R). o.0.links ≡ st.links) (gives_up st s) _ _ refl
-    (release_beside (λ (k : State T R). k.links) (λ k retired. refl) (with_batch_retired st s) (length st.retired))
+    (release_beside (λ (k : ModelState T R). k.links) (λ k retired. refl) (with_batch_retired st s) (length st.retired))
 
-put_links : {T R : Type 0} (st : State T R) (s : ℕ) (v : T × R) → (put st s v).0.links ≡ st.links
+put_links : {T R : Type 0} (st : ModelState T R) (s : ℕ) (v : T × R) → (put st s v).0.links ≡ st.links
 put_links {T} {R} st s v =
-    either (λ (o : StateAndGone T R). o.0.links ≡ st.links) (nat_le (max 1 st.size) (length (slot_at (with_batch_value st s v) s).batch)) _ _
+    either (λ (o : StateAndGone T R). o.0.links ≡ st.links) (nat_le (max 1 st.size) (length (model_slot (with_batch_value st s v) s).batch)) _ _
     (attempt_links (with_batch_value st s v) s) refl
 
-as_many : {T R : Type 0} (n : ℕ) → Invariant (λ (st : State T R). length st.links ≡ n)
+as_many : {T R : Type 0} (n : ℕ) → Invariant (λ (st : ModelState T R). length st.links ≡ n)
 as_many n = record {
   new_slot = λ st kind guards e. e;
   slot_use = λ st s kind guards e. e;
@@ -45,7 +45,7 @@ as_many n = record {
   link_change = λ st link new e. length-set st.links link new ∙ e;
 }
 
-pub step_links : {T R : Type 0} (puts : R → T → List T) (weight : T → ℕ) (st : State T R) (call : Call T R)
+pub step_links : {T R : Type 0} (puts : R → T → List T) (weight : T → ℕ) (st : ModelState T R) (call : Call T R)
     → length (step puts weight st call).1.0.links ≡ length st.links
 step_links {T} {R} puts weight st call =
-    step_keeps (λ (k : State T R). length k.links ≡ length st.links) (as_many (length st.links)) puts weight st call refl
+    step_keeps (λ (k : ModelState T R). length k.links ≡ length st.links) (as_many (length st.links)) puts weight st call refl

@@ -2,13 +2,13 @@
 use Rattle.std.proofs.Common.{◌≡◌, ℕ, true≢false, List, [], ◌∷◌, ◌++◌, inl, inr, refl, sym, ◌∙◌, ap, subst}
 use Rattle.std.specs.List.{list_any}
 use Rattle.std.proofs.lemmas.List.{append_assoc, append-nil}
-use Rattle.seize_model.specs.Waiting.State.{State}
+use Rattle.seize_model.specs.Waiting.State.{ModelState}
 use Rattle.seize_model.specs.Waiting.Attempt.{StateAndGone, with_gone}
 use Rattle.seize_model.specs.Waiting.Lists.{Call, Reply, step, run, Answered, Replied, wants_memory, AmpleLaw}
 use Rattle.seize_model.proofs.Cases.{or_false}
 
 -- a call more at the end
-pub replied_more : {T R : Type 0} (puts : R → T → List T) (weight : T → ℕ) (st : State T R) (calls : List (Call T R)) (answers : List (Reply T)) (o : StateAndGone T R) (call : Call T R) (answer : Reply T) (last : StateAndGone T R)
+pub replied_more : {T R : Type 0} (puts : R → T → List T) (weight : T → ℕ) (st : ModelState T R) (calls : List (Call T R)) (answers : List (Reply T)) (o : StateAndGone T R) (call : Call T R) (answer : Reply T) (last : StateAndGone T R)
     → Replied puts weight st calls answers o
     → Answered puts weight o.0 call answer last
     → Replied puts weight st (calls ++ call ∷ []) (answers ++ answer ∷ []) (with_gone o.1 last)

@@ -8,7 +8,7 @@ use Rattle.seize_model.specs.Waiting.Attempt.{wait_if_active}
 use Rattle.seize_model.proofs.Counts.{none_passes, counts_cons}
 
 -- what holds of a slot with the batch in front where it is active, and without where it isn't
-pub by_active : {T R : Type 0} (P : waiting.Slot T R → Bool → Type 0) (b : ℕ) (slot : waiting.Slot T R) → (waiting.has_guard slot ≡ true → P (record slot { order = b ∷ slot.order }) true) → (waiting.has_guard slot ≡ false → P slot false)
+pub by_active : {T R : Type 0} (P : waiting.ModelSlot T R → Bool → Type 0) (b : ℕ) (slot : waiting.ModelSlot T R) → (waiting.has_guard slot ≡ true → P (record slot { order = b ∷ slot.order }) true) → (waiting.has_guard slot ≡ false → P slot false)
     → P (wait_if_active b slot) (waiting.has_guard slot)
 by_active {T} {R} P b slot on off = go (waiting.has_guard slot) refl
   where
@@ -16,13 +16,13 @@ by_active {T} {R} P b slot on off = go (waiting.has_guard slot) refl
     go true e = on e
     go false e = off e
 
-waits_new : {T R : Type 0} (b : ℕ) (slot : waiting.Slot T R) → waits_for b slot ≡ false → waits_for b (wait_if_active b slot) ≡ waiting.has_guard slot
+waits_new : {T R : Type 0} (b : ℕ) (slot : waiting.ModelSlot T R) → waits_for b slot ≡ false → waits_for b (wait_if_active b slot) ≡ waiting.has_guard slot
 waits_new b slot none = by_active (λ x t. waits_for b x ≡ t) b slot (λ e. let own : (b == b) ≡ true = grind arith in ap (λ (t : Bool). t || list_any (λ x. x == b) slot.order) own) (λ e. none)
 
-waits_other : {T R : Type 0} (b i : ℕ) (slot : waiting.Slot T R) → i ≢ b → waits_for i (wait_if_active b slot) ≡ waits_for i slot
+waits_other : {T R : Type 0} (b i : ℕ) (slot : waiting.ModelSlot T R) → i ≢ b → waits_for i (wait_if_active b slot) ≡ waits_for i slot
 waits_other b i slot other = by_active (λ x t. waits_for i x ≡ waits_for i slot) b slot (λ e. let own : (b == i) ≡ false = grind arith in ap (λ (t : Bool). t || list_any (λ x. x == i) slot.order) own) (λ e. refl)
 
-pub new_count : {T R : Type 0} (b : ℕ) (xs : List (waiting.Slot T R)) → count_by (waits_for b) xs ≡ 0 → count_by (waits_for b) (map (wait_if_active b) xs) ≡ count_by waiting.has_guard xs
+pub new_count : {T R : Type 0} (b : ℕ) (xs : List (waiting.ModelSlot T R)) → count_by (waits_for b) xs ≡ 0 → count_by (waits_for b) (map (wait_if_active b) xs) ≡ count_by waiting.has_guard xs
 new_count b [] e = refl
 new_count b (x ∷ xs) e =
     let none : waits_for b x ≡ false = none_passes (waits_for b) (x ∷ xs) 0 x e (none_first b x xs e) in
@@ -31,12 +31,12 @@ new_count b (x ∷ xs) e =
     let more : count_by (waits_for b) (map (wait_if_active b) xs) ≡ count_by waiting.has_guard xs = new_count b xs rest in
     counts_cons (waits_for b) waiting.has_guard (wait_if_active b x) x (map (wait_if_active b) xs) xs own more
   where
-    none_first : {T R : Type 0} (b : ℕ) (x : waiting.Slot T R) (xs : List (waiting.Slot T R)) → count_by (waits_for b) (x ∷ xs) ≡ 0 → waits_for b x ≡ false
+    none_first : {T R : Type 0} (b : ℕ) (x : waiting.ModelSlot T R) (xs : List (waiting.ModelSlot T R)) → count_by (waits_for b) (x ∷ xs) ≡ 0 → waits_for b x ≡ false
     none_first b x xs e = grind (arith, common_steps)
 
-    none_rest : {T R : Type 0} (b : ℕ) (x : waiting.Slot T R) (xs : List (waiting.Slot T R)) → count_by (waits_for b) (x ∷ xs) ≡ 0 → count_by (waits_for b) xs ≡ 0
+    none_rest : {T R : Type 0} (b : ℕ) (x : waiting.ModelSlot T R) (xs : List (waiting.ModelSlot T R)) → count_by (waits_for b) (x ∷ xs) ≡ 0 → count_by (waits_for b) xs ≡ 0
     none_rest b x xs e = grind (arith, common_steps)
 
-pub old_count : {T R : Type 0} (b i : ℕ) (xs : List (waiting.Slot T R)) → i ≢ b → count_by (waits_for i) (map (wait_if_active b) xs) ≡ count_by (waits_for i) xs
+pub old_count : {T R : Type 0} (b i : ℕ) (xs : List (waiting.ModelSlot T R)) → i ≢ b → count_by (waits_for i) (map (wait_if_active b) xs) ≡ count_by (waits_for i) xs
 old_count b i [] other = refl
 old_count b i (x ∷ xs) other = counts_cons (waits_for i) (waits_for i) (wait_if_active b x) x (map (wait_if_active b) xs) xs (waits_other b i x other) (old_count b i xs other)

@@ -46,17 +46,17 @@ job puts n size st s j =
     elim (next size st (Begin s j)) [ None ↦ Begin s j ∷ [] | Some d ↦ Begin s j ∷ rest_of_call puts n size d.0 s ]
 
 -- the events of a call that is not refused
-abbrev pub call_events : {R : Type 0} → Puts → ℕ → waiting.State ℕ R → machine.State → Call ℕ R → List Event
+abbrev pub call_events : {R : Type 0} → Puts → ℕ → waiting.ModelState ℕ R → machine.State → Call ℕ R → List Event
 call_events puts n st shown Register = Take (least_unused st.slots) ∷ []
 call_events puts n st shown EnterOwned = Take (least_unused st.slots) ∷ EnterHead (least_unused st.slots) ∷ []
-call_events puts n st shown (Enter s) = if waiting.has_guard (waiting.slot_at st s) then [] else EnterHead s ∷ []
+call_events puts n st shown (Enter s) = if waiting.has_guard (waiting.model_slot st s) then [] else EnterHead s ∷ []
 call_events puts n st shown (Leave s) =
-    if (waiting.slot_at st s).guards == 1
-    then job puts n st.size shown s LeaveJob ++ (if is_owned (waiting.slot_at st s).kind then Give s ∷ [] else [])
+    if (waiting.model_slot st s).guards == 1
+    then job puts n st.size shown s LeaveJob ++ (if is_owned (waiting.model_slot st s).kind then Give s ∷ [] else [])
     else []
-call_events puts n st shown (End s) = if waiting.has_guard (waiting.slot_at st s) then [] else Give s ∷ []
+call_events puts n st shown (End s) = if waiting.has_guard (waiting.model_slot st s) then [] else Give s ∷ []
 call_events puts n st shown (Refresh s) =
-    if is_owned (waiting.slot_at st s).kind || ((waiting.slot_at st s).guards == 1)
+    if is_owned (waiting.model_slot st s).kind || ((waiting.model_slot st s).guards == 1)
     then job puts n st.size shown s RefreshJob
     else []
 call_events puts n st shown (Flush s) = job puts n st.size shown s FlushJob
@@ -75,7 +75,7 @@ unless_refused (Refused r back) events = []
 unless_refused _ events = events
 
 -- the state of the machine after these calls and the values handed, where a value is its number, or none where an event is illegal
-abbrev pub machine_after : {R : Type 0} → (R → ℕ → List ℕ) → (ℕ → ℕ) → Puts → waiting.State ℕ R → machine.State → List (Call ℕ R)
+abbrev pub machine_after : {R : Type 0} → (R → ℕ → List ℕ) → (ℕ → ℕ) → Puts → waiting.ModelState ℕ R → machine.State → List (Call ℕ R)
     → Option (machine.State × List ℕ)
 machine_after by weight puts st shown [] = Some (shown, [])
 machine_after by weight puts st shown (c ∷ cs) =

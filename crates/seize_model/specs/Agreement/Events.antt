@@ -43,35 +43,35 @@ Where true made events = made events
 Where false made events = events ≡ []
 
 -- the events of a call that is not refused, from two states that show each other
-abbrev pub Makes : {T R : Type 0} → waiting.State T R → machine.State → Call T R → List Event → Type 0
-Makes st shown Register events = (n : ℕ) × (events ≡ Take n ∷ [])
-Makes st shown EnterOwned events = (n : ℕ) × (events ≡ Take n ∷ EnterHead n ∷ [])
-Makes st shown (Enter s) events = events ≡ (if waiting.has_guard (waiting.slot_at st s) then [] else EnterHead s ∷ [])
-Makes st shown (Leave s) events =
-    Where ((waiting.slot_at st s).guards == 1) (IsLeft s (is_owned (waiting.slot_at st s).kind)) events
-Makes st shown (End s) events = events ≡ (if waiting.has_guard (waiting.slot_at st s) then [] else Give s ∷ [])
-Makes st shown (Refresh s) events =
-    Where (is_owned (waiting.slot_at st s).kind || ((waiting.slot_at st s).guards == 1)) (IsJob s RefreshJob) events
-Makes st shown (Flush s) events = IsJob s FlushJob events
-Makes st shown (Retire s v r) events = (n : ℕ) × IsJob s (RetireJob n) events
-Makes st shown (Protect s l) events = events ≡ ReadLink s l ∷ []
-Makes st shown (Swap s l new r) events =
+abbrev pub AreEventsOf : {T R : Type 0} → waiting.ModelState T R → machine.State → Call T R → List Event → Type 0
+AreEventsOf st shown Register events = (n : ℕ) × (events ≡ Take n ∷ [])
+AreEventsOf st shown EnterOwned events = (n : ℕ) × (events ≡ Take n ∷ EnterHead n ∷ [])
+AreEventsOf st shown (Enter s) events = events ≡ (if waiting.has_guard (waiting.model_slot st s) then [] else EnterHead s ∷ [])
+AreEventsOf st shown (Leave s) events =
+    Where ((waiting.model_slot st s).guards == 1) (IsLeft s (is_owned (waiting.model_slot st s).kind)) events
+AreEventsOf st shown (End s) events = events ≡ (if waiting.has_guard (waiting.model_slot st s) then [] else Give s ∷ [])
+AreEventsOf st shown (Refresh s) events =
+    Where (is_owned (waiting.model_slot st s).kind || ((waiting.model_slot st s).guards == 1)) (IsJob s RefreshJob) events
+AreEventsOf st shown (Flush s) events = IsJob s FlushJob events
+AreEventsOf st shown (Retire s v r) events = (n : ℕ) × IsJob s (RetireJob n) events
+AreEventsOf st shown (Protect s l) events = events ≡ ReadLink s l ∷ []
+AreEventsOf st shown (Swap s l new r) events =
     (n : Option ℕ) × (es : List Event) × (events ≡ ExchangeLink s l (SwapLink n) ∷ es) × IsRetiredFrom s (machine.link_at shown l) es
 
 -- the same of a call with this reply; one that is refused has no events
-abbrev pub MakesFor : {T R : Type 0} → Reply T → waiting.State T R → machine.State → Call T R → List Event → Type 0
+abbrev pub MakesFor : {T R : Type 0} → Reply T → waiting.ModelState T R → machine.State → Call T R → List Event → Type 0
 MakesFor (Refused r back) st shown call events = events ≡ []
-MakesFor _ st shown call events = Makes st shown call events
+MakesFor _ st shown call events = AreEventsOf st shown call events
 
 -- the number with which the call begins stands for the value that it names
-abbrev pub IsNamed : {T R : Type 0} → (ℕ → T) → Call T R → Event → Type 0
-IsNamed of (Retire s v r) (Begin i (RetireJob n)) = of n ≡ v
-IsNamed of (Swap s l new r) (ExchangeLink i k (SwapLink n)) = held_value of n ≡ new
-IsNamed of call e = Unit {0}
+abbrev pub NamesValue : {T R : Type 0} → (ℕ → T) → Call T R → Event → Type 0
+NamesValue of (Retire s v r) (Begin i (RetireJob n)) = of n ≡ v
+NamesValue of (Swap s l new r) (ExchangeLink i k (SwapLink n)) = held_value of n ≡ new
+NamesValue of call e = Unit {0}
 
 abbrev pub NamesOwn : {T R : Type 0} → (ℕ → T) → Call T R → List Event → Type 0
 NamesOwn of call [] = Unit {0}
-NamesOwn of call (e ∷ es) = IsNamed of call e
+NamesOwn of call (e ∷ es) = NamesValue of call e
 
 -- the number that the call retires has the reclaimer that the call names
 abbrev pub IsRetiredWith : {R : Type 0} → (ℕ → R) → R → Event → Type 0

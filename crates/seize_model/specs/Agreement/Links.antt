@@ -24,7 +24,7 @@ read_events (Err r) s l = []
 -- **The models agree on reads.** A read is legal, changes nothing, and finds the number of what the link holds.
 abbrev pub ReadAgreement : {T : Type 0} → (R : Type 0) → (ℕ → T) → Type 0
 ReadAgreement {T} R of =
-    (st : waiting.State T R) (before : machine.State) (s l : ℕ) → l < length st.links → ShowsState T R of st before
+    (st : waiting.ModelState T R) (before : machine.State) (s l : ℕ) → l < length st.links → ShowsState T R of st before
     → (answers : List Answer) × (play st.size before (read_events (calls.protect st s l).0 s l) ≡ Some (before, answers))
     × IsFoundInLink of (calls.protect st s l).0 answers
 
@@ -40,7 +40,7 @@ pub record IsExchanged (T R : Type 0) (of : ℕ → T) (told : calls.Response (O
   pub found : IsFoundInLink of told.0 answers
 
 -- an exchange for number n
-pub record IsExchange (T R : Type 0) (of : ℕ → T) (st : waiting.State T R) (before : machine.State)
+pub record IsExchange (T R : Type 0) (of : ℕ → T) (st : waiting.ModelState T R) (before : machine.State)
     (s l : ℕ) (new : Option T) : Type 0 where
   pub number : Option ℕ
   pub answers : List Answer
@@ -52,13 +52,13 @@ pub record IsExchange (T R : Type 0) (of : ℕ → T) (st : waiting.State T R) (
 -- **The models agree on exchanges.** There is such an exchange, where there is always a fresh number for a value,
 abbrev pub ExchangeAgreement : {T : Type 0} → (R : Type 0) → (ℕ → T) → Type 0
 ExchangeAgreement {T} R of =
-    (st : waiting.State T R) (before : machine.State) (s l : ℕ) (new : Option T) → l < length st.links → ShowsState T R of st before
+    (st : waiting.ModelState T R) (before : machine.State) (s l : ℕ) (new : Option T) → l < length st.links → ShowsState T R of st before
     → IsExchange T R of st before s l new
 
 -- and each that is legal does what the exchange does
 abbrev pub ExchangeOnLists : (T R : Type 0) → Type 0
 ExchangeOnLists T R =
-    (of : ℕ → T) (by : ℕ → R) (st : waiting.State T R) (before later : machine.State) (s l : ℕ) (new : Option T) (n : Option ℕ)
+    (of : ℕ → T) (by : ℕ → R) (st : waiting.ModelState T R) (before later : machine.State) (s l : ℕ) (new : Option T) (n : Option ℕ)
     (answers : List Answer) → l < length st.links → ShowsState T R of st before → ShowsReclaimers T R of by st before
     → held_value of n ≡ new
     → play st.size before (exchange_events (calls.swap st s l new).0 s l n) ≡ Some (later, answers)

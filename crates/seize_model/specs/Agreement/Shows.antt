@@ -21,12 +21,12 @@ held_value of None = None
 held_value of (Some n) = Some (of n)
 
 -- a slot's head lists the batches that wait for the slot
-abbrev pub head_of : {T R : Type 0} → waiting.Slot T R → machine.Head
+abbrev pub head_of : {T R : Type 0} → waiting.ModelSlot T R → machine.Head
 head_of slot = if waiting.has_guard slot then Active slot.order else Inactive
 
 -- The two sides of one slot. A slot whose number is free has no guard, an owned one has one at most, and no batch waits for a slot
 -- without a guard, nor twice for one slot.
-pub record ShowsSlot (T R : Type 0) (of : ℕ → T) (slot : waiting.Slot T R) (shown : machine.Slot) : Type 0 where
+pub record ShowsSlot (T R : Type 0) (of : ℕ → T) (slot : waiting.ModelSlot T R) (shown : machine.Slot) : Type 0 where
   pub used : shown.used ≡ not (is_free slot.kind)
   pub idle : shown.call ≡ None
   pub batch : ShowsValues of shown.batch slot.batch
@@ -36,10 +36,10 @@ pub record ShowsSlot (T R : Type 0) (of : ℕ → T) (slot : waiting.Slot T R) (
   pub once : machine.are_distinct slot.order ≡ true
 
 -- The two sides of a state. The count of a retired batch is the size of its waiting set.
-pub record ShowsState (T R : Type 0) (of : ℕ → T) (st : waiting.State T R) (shown : machine.State) : Type 0 where
+pub record ShowsState (T R : Type 0) (of : ℕ → T) (st : waiting.ModelState T R) (shown : machine.State) : Type 0 where
   pub numbers : length st.slots ≤ all_numbers
   pub slots : length shown.slots ≡ length st.slots
-  pub slot : (s : ℕ) → ShowsSlot T R of (waiting.slot_at st s) (machine.slot_at shown s)
+  pub slot : (s : ℕ) → ShowsSlot T R of (waiting.model_slot st s) (machine.slot_at shown s)
   pub heads : shown.heads ≡ map head_of st.slots
   pub retired : length shown.batches ≡ length st.retired
   pub values : (b : ℕ) → ShowsValues of (machine.batch_at shown b).values (waiting.retired_at st b)
@@ -47,6 +47,6 @@ pub record ShowsState (T R : Type 0) (of : ℕ → T) (st : waiting.State T R) (
   pub links : map (held_value of) shown.links ≡ st.links
 
 -- Besides, where each number has a reclaimer too: the values that wait or are retired are to be reclaimed by those of their numbers.
-pub record ShowsReclaimers (T R : Type 0) (of : ℕ → T) (by : ℕ → R) (st : waiting.State T R) (shown : machine.State) : Type 0 where
-  pub batches : (s : ℕ) → StandFor of by (machine.slot_at shown s).batch (waiting.slot_at st s).batch
+pub record ShowsReclaimers (T R : Type 0) (of : ℕ → T) (by : ℕ → R) (st : waiting.ModelState T R) (shown : machine.State) : Type 0 where
+  pub batches : (s : ℕ) → StandFor of by (machine.slot_at shown s).batch (waiting.model_slot st s).batch
   pub retired : (b : ℕ) → StandFor of by (machine.batch_at shown b).values (waiting.retired_at st b)

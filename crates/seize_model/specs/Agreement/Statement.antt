@@ -17,7 +17,7 @@ abbrev pub HasNames : {T : Type 0} → (ℕ → T) → Type 0
 HasNames {T} of = (v : T) (named : List ℕ) → (n : ℕ) × (has n named ≡ false) × (of n ≡ v)
 
 -- a call of links is for one that is there
-abbrev pub HasLink : {T R : Type 0} → waiting.State T R → Call T R → Type 0
+abbrev pub HasLink : {T R : Type 0} → waiting.ModelState T R → Call T R → Type 0
 HasLink st (Protect s l) = l < length st.links
 HasLink st (Swap s l new r) = l < length st.links
 HasLink st _ = Unit {0}
@@ -29,7 +29,7 @@ IsReply call events answers reply = reply ≡ reply_by call events answers
 
 -- A call is such a list of events: it is one that the call makes alone, its first number stands for the value that the call names, each
 -- event is legal, the state after them shows the new state, the values handed are those gone, in order, and the reply is as told.
-pub record IsRun (T R : Type 0) (of : ℕ → T) (call : Call T R) (st : waiting.State T R) (before : machine.State) (told : Effect T R)
+pub record IsRun (T R : Type 0) (of : ℕ → T) (call : Call T R) (st : waiting.ModelState T R) (before : machine.State) (told : Effect T R)
     : Type 0 where
   pub events : List Event
   pub answers : List Answer
@@ -44,7 +44,7 @@ pub record IsRun (T R : Type 0) (of : ℕ → T) (call : Call T R) (st : waiting
 -- **The two models agree.** From each two states that show each other, each call is a list of events.
 abbrev pub Agreement : {T R : Type 0} → (R → T → List T) → (T → ℕ) → (ℕ → T) → Type 0
 Agreement {T} {R} puts weight of =
-    (st : waiting.State T R) (before : machine.State) (call : Call T R) → HasLink st call → ShowsState T R of st before
+    (st : waiting.ModelState T R) (before : machine.State) (call : Call T R) → HasLink st call → ShowsState T R of st before
     → IsRun T R of call st before (step puts weight st call)
 
 -- Each value with its reclaimer gets a number that was never named before.
@@ -61,7 +61,7 @@ HoldsFor by shown (Swap s l new r) = IsHeldFor by r (machine.link_at shown l)
 HoldsFor by shown call = Unit {0}
 
 -- such a list of events, in which each value handed puts what its reclaimer puts
-pub record IsRunWith (T R : Type 0) (puts : R → T → List T) (of : ℕ → T) (by : ℕ → R) (call : Call T R) (st : waiting.State T R)
+pub record IsRunWith (T R : Type 0) (puts : R → T → List T) (of : ℕ → T) (by : ℕ → R) (call : Call T R) (st : waiting.ModelState T R)
     (before : machine.State) (told : Effect T R) : Type 0 where
   pub run : IsRun T R of call st before told
   pub retires : RetiresWith by call run.events
@@ -70,7 +70,7 @@ pub record IsRunWith (T R : Type 0) (puts : R → T → List T) (of : ℕ → T)
 -- **The two models agree, with reclaimers.** From each two states that show each other, with the reclaimers, each call is such a list.
 abbrev pub AgreementWith : {T R : Type 0} → (R → T → List T) → (T → ℕ) → (ℕ → T) → (ℕ → R) → Type 0
 AgreementWith {T} {R} puts weight of by =
-    (st : waiting.State T R) (before : machine.State) (call : Call T R) → HasLink st call → HoldsFor by before call
+    (st : waiting.ModelState T R) (before : machine.State) (call : Call T R) → HasLink st call → HoldsFor by before call
     → ShowsState T R of st before → ShowsReclaimers T R of by st before → IsRunWith T R puts of by call st before (step puts weight st call)
 
 -- These events, with these answers and this state after them, do what the call does.
@@ -82,7 +82,7 @@ pub record IsOutcome (T R : Type 0) (of : ℕ → T) (by : ℕ → R) (call : Ca
   pub reply : IsReply call events answers told.0
 
 -- each legal list of events that the call makes alone, and in which each value handed puts what its reclaimer puts, does so
-abbrev pub EachList : {T R : Type 0} → (R → T → List T) → (ℕ → T) → (ℕ → R) → Call T R → waiting.State T R → machine.State
+abbrev pub EachList : {T R : Type 0} → (R → T → List T) → (ℕ → T) → (ℕ → R) → Call T R → waiting.ModelState T R → machine.State
     → Effect T R → Type 0
 EachList {T} {R} puts of by call st before told =
     (events : List Event) (answers : List Answer) (later : machine.State) → MakesFor told.0 st before call events
@@ -94,11 +94,12 @@ EachList {T} {R} puts of by call st before told =
 -- that a call makes alone does what the call does, under whatever fresh numbers.
 abbrev pub AgreementOnLists : {T R : Type 0} → (R → T → List T) → (T → ℕ) → Type 0
 AgreementOnLists {T} {R} puts weight =
-    (of : ℕ → T) (by : ℕ → R) (st : waiting.State T R) (before : machine.State) (call : Call T R) → HasLink st call
+    (of : ℕ → T) (by : ℕ → R) (st : waiting.ModelState T R) (before : machine.State) (call : Call T R) → HasLink st call
     → ShowsState T R of st before → ShowsReclaimers T R of by st before → EachList puts of by call st before (step puts weight st call)
 
 -- each call is such a list of events, from where those of the call before it ended, and one naming serves them all
-abbrev pub AreRuns : {T R : Type 0} → (R → T → List T) → (T → ℕ) → (ℕ → T) → waiting.State T R → machine.State → List (Call T R) → Type 0
+abbrev pub AreRuns : {T R : Type 0} → (R → T → List T) → (T → ℕ) → (ℕ → T) → waiting.ModelState T R → machine.State → List (Call T R)
+    → Type 0
 AreRuns puts weight of st before [] = Unit {0}
 AreRuns {T} {R} puts weight of st before (call ∷ calls) =
     (first : IsRun T R of call st before (step puts weight st call))
@@ -110,6 +111,6 @@ AreRuns {T} {R} puts weight of st before (call ∷ calls) =
 -- that were ever named.
 abbrev pub AgreementAnew : {T R : Type 0} → (R → T → List T) → (T → ℕ) → Type 0
 AgreementAnew {T} {R} puts weight =
-    (of : ℕ → T) (kept : List ℕ) (st : waiting.State T R) (before : machine.State) (calls : List (Call T R))
+    (of : ℕ → T) (kept : List ℕ) (st : waiting.ModelState T R) (before : machine.State) (calls : List (Call T R))
     → All (HasLink st) calls → ShowsState T R of st before
     → (other : ℕ → T) × (map other kept ≡ map of kept) × ShowsState T R other st before × AreRuns puts weight other st before calls

@@ -6,7 +6,7 @@ use Rattle.seize_model.specs.declared.kind.Kind.TheVariants.{Free, Registered, O
 use Rattle.seize_table.specs.Place.{all_numbers}
 use Rattle.seize_table.specs.declared.refusal.Refusal.{Refusal}
 use Rattle.seize_table.specs.declared.refusal.Refusal.TheVariants.{NoNumbers, TooManyGuards, NotInUse, NotActive, WrongKind}
-use Rattle.seize_model.specs.Waiting.State.{Slot, State, slot_at, set_slot, has_guard}
+use Rattle.seize_model.specs.Waiting.State.{ModelSlot, ModelState, model_slot, set_slot, has_guard}
 use Rattle.seize_model.specs.Waiting.Attempt.{StateAndGone, with_gone, attempt, put, part}
 use Rattle.seize_model.specs.Waiting.Further.{further, with_further, gone_from}
 
@@ -15,7 +15,7 @@ abbrev pub Response : (A T R : Type 0) → Type 0
 Response A T R = Result A Refusal × StateAndGone T R
 
 -- the answer, unless the call is refused
-abbrev pub unless : {A T R : Type 0} → Option Refusal → State T R → Response A T R → Response A T R
+abbrev pub unless : {A T R : Type 0} → Option Refusal → ModelState T R → Response A T R → Response A T R
 unless None st a = a
 unless (Some r) st a = (Err r, (st, []))
 
@@ -35,36 +35,36 @@ is_owned Registered = false
 is_owned Owned = true
 
 -- a call that needs a number in use
-abbrev pub unused : {T R : Type 0} → State T R → ℕ → Option Refusal
-unused st s = if is_free (slot_at st s).kind then Some NotInUse else None
+abbrev pub unused : {T R : Type 0} → ModelState T R → ℕ → Option Refusal
+unused st s = if is_free (model_slot st s).kind then Some NotInUse else None
 
 -- a call that needs a registered slot
-abbrev pub not_registered : {T R : Type 0} → State T R → ℕ → Option Refusal
-not_registered st s = first_refusal (unused st s) (if is_owned (slot_at st s).kind then Some WrongKind else None)
+abbrev pub not_registered : {T R : Type 0} → ModelState T R → ℕ → Option Refusal
+not_registered st s = first_refusal (unused st s) (if is_owned (model_slot st s).kind then Some WrongKind else None)
 
 -- a call that needs a guard of the slot
-abbrev pub no_guard : {T R : Type 0} → State T R → ℕ → Option Refusal
-no_guard st s = first_refusal (unused st s) (if has_guard (slot_at st s) then None else Some NotActive)
+abbrev pub no_guard : {T R : Type 0} → ModelState T R → ℕ → Option Refusal
+no_guard st s = first_refusal (unused st s) (if has_guard (model_slot st s) then None else Some NotActive)
 
 -- a call that needs room for one guard more
-abbrev pub too_many : {T R : Type 0} → State T R → ℕ → Option Refusal
-too_many st s = if (slot_at st s).guards == 2 ^ 64 - 1 then Some TooManyGuards else None
+abbrev pub too_many : {T R : Type 0} → ModelState T R → ℕ → Option Refusal
+too_many st s = if (model_slot st s).guards == 2 ^ 64 - 1 then Some TooManyGuards else None
 
 -- Taking a number.
 
 -- the least number not in use
-abbrev pub least_unused : {T R : Type 0} → List (Slot T R) → ℕ
+abbrev pub least_unused : {T R : Type 0} → List (ModelSlot T R) → ℕ
 least_unused slots = position_or_len (λ slot. is_free slot.kind) slots
 
 -- number n is in use. A slot made before keeps its batch
-abbrev pub with_number_in_use : {T R : Type 0} → State T R → ℕ → Kind → ℕ → State T R
+abbrev pub with_number_in_use : {T R : Type 0} → ModelState T R → ℕ → Kind → ℕ → ModelState T R
 with_number_in_use st n kind guards =
     if n == length st.slots
     then record st { slots = st.slots ++ record { kind = kind; guards = guards; batch = []; order = [] } ∷ [] }
-    else set_slot st n (record (slot_at st n) { kind = kind; guards = guards })
+    else set_slot st n (record (model_slot st n) { kind = kind; guards = guards })
 
 -- **Register** is this with `Registered` and no guard, and **enter owned** with `Owned` and one guard. There are 2^64 - 32 numbers.
-abbrev pub take_number : {T R : Type 0} → State T R → Kind → ℕ → Response ℕ T R
+abbrev pub take_number : {T R : Type 0} → ModelState T R → Kind → ℕ → Response ℕ T R
 take_number st kind guards =
     let n = least_unused st.slots in
     if n == all_numbers
@@ -73,93 +73,93 @@ take_number st kind guards =
 
 -- Guards.
 
-abbrev pub set_guards : {T R : Type 0} → State T R → ℕ → ℕ → State T R
-set_guards st s n = set_slot st s (record (slot_at st s) { guards = n })
+abbrev pub set_guards : {T R : Type 0} → ModelState T R → ℕ → ℕ → ModelState T R
+set_guards st s n = set_slot st s (record (model_slot st s) { guards = n })
 
 -- **Enter.** The slot has one guard more.
-abbrev pub enter : {T R : Type 0} → State T R → ℕ → Response (Unit {0}) T R
+abbrev pub enter : {T R : Type 0} → ModelState T R → ℕ → Response (Unit {0}) T R
 enter st s =
     unless (first_refusal (not_registered st s) (too_many st s)) st
-    (Ok tt, (set_guards st s ((slot_at st s).guards + 1), []))
+    (Ok tt, (set_guards st s ((model_slot st s).guards + 1), []))
 
 -- the number is not in use
-abbrev pub with_number_free : {T R : Type 0} → State T R → ℕ → State T R
-with_number_free st s = set_slot st s (record (slot_at st s) { kind = Free; guards = 0 })
+abbrev pub with_number_free : {T R : Type 0} → ModelState T R → ℕ → ModelState T R
+with_number_free st s = set_slot st s (record (model_slot st s) { kind = Free; guards = 0 })
 
 -- **End.** The number is given back, and the answer says whether it was: a forgotten guard keeps it.
-abbrev pub end_slot : {T R : Type 0} → State T R → ℕ → Response Bool T R
+abbrev pub end_slot : {T R : Type 0} → ModelState T R → ℕ → Response Bool T R
 end_slot st s =
     unless (not_registered st s) st
-    (if has_guard (slot_at st s) then (Ok false, (st, [])) else (Ok true, (with_number_free st s, [])))
+    (if has_guard (model_slot st s) then (Ok false, (st, [])) else (Ok true, (with_number_free st s, [])))
 
 -- the slot has one guard less, and parts if it was the last one
-abbrev pub one_guard_less : {T R : Type 0} → State T R → ℕ → StateAndGone T R
+abbrev pub one_guard_less : {T R : Type 0} → ModelState T R → ℕ → StateAndGone T R
 one_guard_less st s =
-    if (slot_at st s).guards == 1
+    if (model_slot st s).guards == 1
     then part (set_guards st s 0) s
-    else (set_guards st s ((slot_at st s).guards - 1), [])
+    else (set_guards st s ((model_slot st s).guards - 1), [])
 
 -- the number of an owned slot is given back at the end
 abbrev pub with_number_free_if : {T R : Type 0} → Bool → ℕ → StateAndGone T R → StateAndGone T R
 with_number_free_if owned s o = ((if owned then with_number_free o.0 s else o.0), o.1)
 
 -- **Leave.**
-abbrev pub leave : {T R : Type 0} → (R → T → List T) → (T → ℕ) → State T R → ℕ → Response (Unit {0}) T R
+abbrev pub leave : {T R : Type 0} → (R → T → List T) → (T → ℕ) → ModelState T R → ℕ → Response (Unit {0}) T R
 leave puts weight st s =
     unless (no_guard st s) st
-    (Ok tt, with_number_free_if (is_owned (slot_at st s).kind) s (with_further puts weight s (one_guard_less st s)))
+    (Ok tt, with_number_free_if (is_owned (model_slot st s).kind) s (with_further puts weight s (one_guard_less st s)))
 
 -- the slot parts if it is owned or has one guard, and stays active
-abbrev pub part_if_alone : {T R : Type 0} → State T R → ℕ → StateAndGone T R
+abbrev pub part_if_alone : {T R : Type 0} → ModelState T R → ℕ → StateAndGone T R
 part_if_alone st s =
-    if is_owned (slot_at st s).kind || ((slot_at st s).guards == 1)
+    if is_owned (model_slot st s).kind || ((model_slot st s).guards == 1)
     then part st s
     else (st, [])
 
 -- **Refresh.**
-abbrev pub refresh : {T R : Type 0} → (R → T → List T) → (T → ℕ) → State T R → ℕ → Response (Unit {0}) T R
+abbrev pub refresh : {T R : Type 0} → (R → T → List T) → (T → ℕ) → ModelState T R → ℕ → Response (Unit {0}) T R
 refresh puts weight st s =
     unless (no_guard st s) st (Ok tt, with_further puts weight s (part_if_alone st s))
 
 -- **Flush.** An attempt at any length.
-abbrev pub flush : {T R : Type 0} → (R → T → List T) → (T → ℕ) → State T R → ℕ → Response (Unit {0}) T R
+abbrev pub flush : {T R : Type 0} → (R → T → List T) → (T → ℕ) → ModelState T R → ℕ → Response (Unit {0}) T R
 flush puts weight st s =
     unless (no_guard st s) st (Ok tt, with_further puts weight s (attempt st s))
 
 -- **Retire.**
-abbrev pub retire : {T R : Type 0} → (R → T → List T) → (T → ℕ) → State T R → ℕ → T → R → Response (Unit {0}) T R
+abbrev pub retire : {T R : Type 0} → (R → T → List T) → (T → ℕ) → ModelState T R → ℕ → T → R → Response (Unit {0}) T R
 retire puts weight st s value reclaim =
     unless (unused st s) st (Ok tt, with_further puts weight s (put st s (value, reclaim)))
 
 -- Links.
 
-abbrev pub link_at : {T R : Type 0} → State T R → ℕ → Option T
-link_at st link = slice_index_or st.links link None
+abbrev pub model_link : {T R : Type 0} → ModelState T R → ℕ → Option T
+model_link st link = slice_index_or st.links link None
 
 -- **Protect.** What the link holds.
-abbrev pub protect : {T R : Type 0} → State T R → ℕ → ℕ → Response (Option T) T R
-protect st s link = unless (no_guard st s) st (Ok (link_at st link), (st, []))
+abbrev pub protect : {T R : Type 0} → ModelState T R → ℕ → ℕ → Response (Option T) T R
+protect st s link = unless (no_guard st s) st (Ok (model_link st link), (st, []))
 
 -- **Swap.** The link holds this, and the answer is what it held.
-abbrev pub swap : {T R : Type 0} → State T R → ℕ → ℕ → Option T → Response (Option T) T R
+abbrev pub swap : {T R : Type 0} → ModelState T R → ℕ → ℕ → Option T → Response (Option T) T R
 swap st s link new =
-    unless (no_guard st s) st (Ok (link_at st link), (record st { links = slice_set st.links link new }, []))
+    unless (no_guard st s) st (Ok (model_link st link), (record st { links = slice_set st.links link new }, []))
 
 -- Reclaim all.
 
 -- each of these slots parts, becomes inactive, and gives its number back
-abbrev pub part_all : {T R : Type 0} → State T R → List ℕ → StateAndGone T R
+abbrev pub part_all : {T R : Type 0} → ModelState T R → List ℕ → StateAndGone T R
 part_all st [] = (st, [])
 part_all st (s ∷ ss) =
     let o = part st s in
     with_gone o.1 (part_all (with_number_free o.0 s) ss)
 
-abbrev pub without_batch : {T R : Type 0} → Slot T R → Slot T R
+abbrev pub without_batch : {T R : Type 0} → ModelSlot T R → ModelSlot T R
 without_batch slot = record slot { batch = [] }
 
 -- **Reclaim all.** Every slot parts, in order of numbers; then each slot's batch is gone, in order of numbers; then what all those
 -- values put, until nothing is queued. No retired batch is left. Links stay as they are.
-abbrev pub reclaim_all : {T R : Type 0} → (R → T → List T) → (T → ℕ) → State T R → StateAndGone T R
+abbrev pub reclaim_all : {T R : Type 0} → (R → T → List T) → (T → ℕ) → ModelState T R → StateAndGone T R
 reclaim_all puts weight st =
     let o = part_all st (range_with_len 0 (length st.slots)) in
     let gone = o.1 ++ flat_map (λ slot. slot.batch) o.0.slots in

@@ -1,7 +1,7 @@
 -- The further values: each value gone puts some, they are queued, first put first, and each of the queue is retired in turn.
 use Rattle.std.specs.Prelude.{ℕ, zero, suc, ◌≡◌, ◌<◌, ◌+◌, ◌-◌, ◌*◌, List, [], ◌∷◌, ◌++◌, map, sum}
 use Rattle.std.specs.List.{sum_by, flat_map}
-use Rattle.seize_model.specs.Waiting.State.{State, slot_at}
+use Rattle.seize_model.specs.Waiting.State.{ModelState, model_slot}
 use Rattle.seize_model.specs.Waiting.Attempt.{StateAndGone, put, with_gone}
 
 -- what the reclaimer of a value puts, to be reclaimed as that value was
@@ -17,7 +17,7 @@ abbrev pub further : {T R : Type 0} → (R → T → List T) → List (T × R) �
 further puts gone = flat_map (put_by puts) gone
 
 -- the queue is retired by s from its front, for at most this many retirements
-abbrev pub settle : {T R : Type 0} → (R → T → List T) → ℕ → State T R → ℕ → List (T × R) → StateAndGone T R
+abbrev pub settle : {T R : Type 0} → (R → T → List T) → ℕ → ModelState T R → ℕ → List (T × R) → StateAndGone T R
 settle puts zero st s queue = (st, [])
 settle puts (suc n) st s [] = (st, [])
 settle puts (suc n) st s (v ∷ queue) =
@@ -31,8 +31,8 @@ still_to_come weight batch queue = sum_by (λ v. 2 * weight v.0 - 1) batch + sum
 
 -- **Afterwards.** The queue is taken from its front, and each value is retired by s, until the queue is empty. `AfterwardsLaws`
 -- says the same without a number of retirements.
-abbrev pub afterwards : {T R : Type 0} → (R → T → List T) → (T → ℕ) → State T R → ℕ → List (T × R) → StateAndGone T R
-afterwards puts weight st s queue = settle puts (still_to_come weight (slot_at st s).batch queue) st s queue
+abbrev pub afterwards : {T R : Type 0} → (R → T → List T) → (T → ℕ) → ModelState T R → ℕ → List (T × R) → StateAndGone T R
+afterwards puts weight st s queue = settle puts (still_to_come weight (model_slot st s).batch queue) st s queue
 
 -- a call's own work, and then what the values gone put
 abbrev pub with_further : {T R : Type 0} → (R → T → List T) → (T → ℕ) → ℕ → StateAndGone T R → StateAndGone T R
@@ -54,8 +54,8 @@ gone_from puts weight queue = drain puts (sum_by (λ v. weight v.0) queue) queue
 -- behind it
 abbrev pub AfterwardsLaws : {T R : Type 0} → (R → T → List T) → (T → ℕ) → Type 0
 AfterwardsLaws {T} {R} puts weight =
-    ((st : State T R) (s : ℕ) → afterwards puts weight st s [] ≡ (st, []))
-    × ((st : State T R) (s : ℕ) (v : T × R) (queue : List (T × R)) →
+    ((st : ModelState T R) (s : ℕ) → afterwards puts weight st s [] ≡ (st, []))
+    × ((st : ModelState T R) (s : ℕ) (v : T × R) (queue : List (T × R)) →
     afterwards puts weight st s (v ∷ queue)
     ≡ with_gone (put st s v).1 (afterwards puts weight (put st s v).0 s (queue ++ further puts (put st s v).1)))
 

@@ -4,7 +4,7 @@ use Rattle.std.specs.List.{list_any}
 use Rattle.seize_model.specs.declared.kind.Kind.TheVariants.{Registered, Owned}
 use Rattle.seize_table.specs.declared.refusal.Refusal.{Refusal}
 use Rattle.seize_table.specs.declared.refusal.Refusal.TheVariants.{NoMemory}
-use Rattle.seize_model.specs.Waiting.State.{State}
+use Rattle.seize_model.specs.Waiting.State.{ModelState}
 use Rattle.seize_model.specs.Waiting.Attempt.{StateAndGone, with_gone}
 use Rattle.seize_model.specs.Waiting.Calls.{Response, take_number, enter, leave, end_slot, refresh, flush, retire, protect, swap}
 
@@ -59,7 +59,7 @@ retire_old puts weight s new reclaim (Ok None) o = (Done, o)
 retire_old puts weight s new reclaim (Ok (Some v)) o = reply done_reply (Some v) (retire puts weight o.0 s v reclaim)
 
 -- **One call.**
-abbrev pub step : {T R : Type 0} → (R → T → List T) → (T → ℕ) → State T R → Call T R → Effect T R
+abbrev pub step : {T R : Type 0} → (R → T → List T) → (T → ℕ) → ModelState T R → Call T R → Effect T R
 step puts weight st Register = reply Number None (take_number st Registered 0)
 step puts weight st EnterOwned = reply Number None (take_number st Owned 1)
 step puts weight st (Enter s) = reply done_reply None (enter st s)
@@ -72,7 +72,7 @@ step puts weight st (Protect s l) = reply (λ found. Found (is_some found)) None
 step puts weight st (Swap s l new r) = let a = swap st s l new in retire_old puts weight s new r a.0 a.1
 
 -- **A list of calls.**
-abbrev pub run : {T R : Type 0} → (R → T → List T) → (T → ℕ) → State T R → List (Call T R) → List (Reply T) × StateAndGone T R
+abbrev pub run : {T R : Type 0} → (R → T → List T) → (T → ℕ) → ModelState T R → List (Call T R) → List (Reply T) × StateAndGone T R
 run puts weight st [] = ([], (st, []))
 run puts weight st (c ∷ cs) =
     let a = step puts weight st c in
@@ -86,16 +86,16 @@ takes_number EnterOwned = true
 takes_number _ = false
 
 -- one call where memory may be refused: a call that takes a number then does nothing
-abbrev pub Answered : {T R : Type 0} → (R → T → List T) → (T → ℕ) → State T R → Call T R → Reply T → StateAndGone T R → Type 0
+abbrev pub Answered : {T R : Type 0} → (R → T → List T) → (T → ℕ) → ModelState T R → Call T R → Reply T → StateAndGone T R → Type 0
 Answered puts weight st call answer o =
     ((answer ≡ (step puts weight st call).0) × (o ≡ (step puts weight st call).1))
     ⊎ ((takes_number call ≡ true) × (answer ≡ Refused NoMemory None) × (o ≡ (st, [])))
 
 -- **A list of calls where memory may be refused**: these calls were made one after another, with these replies and this outcome.
 pub data Replied {T R : Type 0} (puts : R → T → List T) (weight : T → ℕ)
-    : State T R → List (Call T R) → List (Reply T) → StateAndGone T R → Type 0 where
-  no_call : (st : State T R) → Replied puts weight st [] [] (st, [])
-  first_call : (st : State T R) (call : Call T R) (answer : Reply T) (o : StateAndGone T R)
+    : ModelState T R → List (Call T R) → List (Reply T) → StateAndGone T R → Type 0 where
+  no_call : (st : ModelState T R) → Replied puts weight st [] [] (st, [])
+  first_call : (st : ModelState T R) (call : Call T R) (answer : Reply T) (o : StateAndGone T R)
       (calls : List (Call T R)) (answers : List (Reply T)) (rest : StateAndGone T R)
       → Answered puts weight st call answer o
       → Replied puts weight o.0 calls answers rest
@@ -109,7 +109,7 @@ wants_memory _ = false
 -- Where no reply is that memory was refused, the calls did what `run` says.
 abbrev pub AmpleLaw : {T R : Type 0} → (R → T → List T) → (T → ℕ) → Type 0
 AmpleLaw {T} {R} puts weight =
-    (st : State T R) (calls : List (Call T R)) (answers : List (Reply T)) (o : StateAndGone T R)
+    (st : ModelState T R) (calls : List (Call T R)) (answers : List (Reply T)) (o : StateAndGone T R)
     → Replied puts weight st calls answers o
     → list_any wants_memory answers ≡ false
     → (answers, o) ≡ run puts weight st calls

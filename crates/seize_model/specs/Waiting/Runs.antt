@@ -3,7 +3,7 @@
 use Rattle.std.specs.Prelude.{ℕ, zero, suc, ◌-◌, ◌==◌, if◌then◌else◌, true, false, List, [], ◌∷◌, ◌++◌, Some, None, map, replicate}
 use Rattle.std.specs.List.{flat_map, range_with_len}
 use Rattle.seize_table.specs.declared.refusal.Refusal.TheVariants.{NotInUse, NotActive, WrongKind}
-use Rattle.seize_model.specs.Waiting.State.{State}
+use Rattle.seize_model.specs.Waiting.State.{ModelState}
 use Rattle.seize_model.specs.Waiting.Calls.{reclaim_all}
 use Rattle.seize_model.specs.Waiting.Lists.{Call, Register, EnterOwned, Enter, Leave, End, Refresh, Flush, Retire, Protect, Swap, Reply, Done, Number, Kept, Found, Refused, run}
 
@@ -23,7 +23,7 @@ pub data Group : Type 0 where
 abbrev pub Telling : Type 0
 Telling = List ℕ × List (Reply ℕ)
 
-abbrev pub tellings : State ℕ (Unit {0}) → List Group → List Telling
+abbrev pub tellings : ModelState ℕ (Unit {0}) → List Group → List Telling
 tellings st [] = []
 tellings st (Calls calls ∷ groups) =
     let r = run puts weight st calls in
@@ -33,7 +33,7 @@ tellings st (All ∷ groups) =
     (map (λ v. v.0) o.1, []) ∷ tellings o.0 groups
 
 -- the state after one list of calls
-abbrev pub state_after : State ℕ (Unit {0}) → List (Call ℕ (Unit {0})) → State ℕ (Unit {0})
+abbrev pub state_after : ModelState ℕ (Unit {0}) → List (Call ℕ (Unit {0})) → ModelState ℕ (Unit {0})
 state_after st calls = (run puts weight st calls).1.0
 
 -- slot s retires this value

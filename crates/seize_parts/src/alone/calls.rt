@@ -17,7 +17,7 @@ ghost use Rattle.seize_words.specs.declared.activation.Activation.{Activation};
 ghost use Rattle.seize_parts.specs.Enders.{IsEnderOf};
 ghost use Rattle.seize_parts.specs.Lends.{lends_place};
 ghost use Rattle.seize_parts.specs.Places.{CallsSlot, HasUnit, IsOnly, LiesThen, MayCall};
-ghost use Rattle.seize_parts.specs.Placing.{lies_in, lies_with};
+ghost use Rattle.seize_parts.specs.Placing.{what_lies_in, what_lies_with};
 ghost use Rattle.seize_parts.specs.Reservations.{IsReservation, IsUnit, KeepsPlace};
 ghost use Rattle.seize_parts.specs.Told.{HasTold};
 
@@ -297,7 +297,7 @@ impl<T: Drop> Place<T> {
     pub fn begin(&mut self, words: &Words<T>, pass: &mut Pass)
         requires place { MayCall words.now self.old pass.old }
         requires off { is_active (head_at (state_seen pass.old) (its_number self.old.reservation.slot)) ≡ false }
-        ensures place { LiesThen self.new (lies_with self.old 1 (Some (its_number self.old.reservation.slot, words_book words.now))) }
+        ensures place { LiesThen self.new (what_lies_with self.old 1 (Some (its_number self.old.reservation.slot, words_book words.now))) }
         ensures enters { (answer : Answer) × MakesAlone pass.old pass.new (Enter (its_number self.old.reservation.slot)) answer }
     {
         let unit = begin_in(words, &mut self.reservation, pass);
@@ -315,7 +315,7 @@ impl<T: Drop> Place<T> {
     )
         requires place { MayCall words.now self.old pass.old × HasUnit words.now self.old }
         requires ender { IsEnderOf words.now ender.now }
-        ensures place { LiesThen self.new (lies_with self.old 0 None) }
+        ensures place { LiesThen self.new (what_lies_with self.old 0 None) }
         ensures calls { CallsSlot T.row.coded.code R.puts W.told self.old.reservation pass.old self.new.reservation pass.new
             (W.seen watch.old) (W.seen watch.new)
             (λ slot ready slot' pass' had. SlotLeaves slot ready [] slot' pass' had) }
@@ -338,7 +338,7 @@ impl<T: Drop> Place<T> {
     )
         requires place { MayCall words.now self.old pass.old × HasUnit words.now self.old }
         requires ender { IsEnderOf words.now ender.now }
-        ensures place { LiesThen self.new (lies_in self.old) }
+        ensures place { LiesThen self.new (what_lies_in self.old) }
         ensures calls { CallsSlot T.row.coded.code R.puts W.told self.old.reservation pass.old self.new.reservation pass.new
             (W.seen watch.old) (W.seen watch.new)
             (λ slot ready slot' pass' had. (a : Activation) × SlotRefreshes slot ready a [] slot' pass' had) }
@@ -361,7 +361,7 @@ impl<T: Drop> Place<T> {
     )
         requires place { MayCall words.now self.old pass.old × HasUnit words.now self.old }
         requires ender { IsEnderOf words.now ender.now }
-        ensures place { LiesThen self.new (lies_in self.old) }
+        ensures place { LiesThen self.new (what_lies_in self.old) }
         ensures calls { CallsSlot T.row.coded.code R.puts W.told self.old.reservation pass.old self.new.reservation pass.new
             (W.seen watch.old) (W.seen watch.new)
             (λ slot ready slot' pass' had. (retired : Bool) × SlotFlushes slot ready [] slot' pass' had retired) }
@@ -386,7 +386,7 @@ impl<T: Drop> Place<T> {
         requires place { MayCall words.now self.old pass.old }
         requires ender { IsEnderOf words.now ender.now }
         requires value { IsLooseOf words.now loose }
-        ensures place { LiesThen self.new (lies_in self.old) }
+        ensures place { LiesThen self.new (what_lies_in self.old) }
         ensures calls { CallsSlot T.row.coded.code R.puts W.told self.old.reservation pass.old self.new.reservation pass.new
             (W.seen watch.old) (W.seen watch.new)
             (λ slot ready slot' pass' had. (retired : Bool) × SlotRetires slot ready loose kind [] slot' pass' had retired) }

@@ -5,7 +5,7 @@ ghost use Rattle.seize_book.specs.Others.{IsVacated, book_of};
 ghost use Rattle.seize_store.specs.Named.{bare_store, bare_value};
 ghost use Rattle.seize_words.specs.Chunks.{IsBlockIn, LendsIn, LiesIn, blocks_book};
 ghost use Rattle.seize_book.specs.Lending.{ArePermitsOf};
-ghost use Rattle.seize_parts.specs.Blocks.{Belongs, content, store_name};
+ghost use Rattle.seize_parts.specs.Blocks.{Belongs, content, owned_store};
 
 use crate::ender::Fit;
 use crate::reclaim::Puts;
@@ -29,7 +29,7 @@ impl<T: Drop> Owned<T> {
     pub fn of(key: ValueKey, block: Bare<Header, Part, T>, book: &Seen) -> Owned<T>
         requires book { book_of key ≡ book.now.name }
         requires key { IsVacated key × LiesIn key block }
-        ensures { (content result ≡ bare_value block) × (store_name result ≡ bare_store block) }
+        ensures { (content result ≡ bare_value block) × (owned_store result ≡ bare_store block) }
     {
         let part = Part {
             key: key.bare(),
@@ -49,7 +49,7 @@ impl<T: Drop> Owned<T> {
 
     // The key of its next value, and the block without it.
     fn open(self, blocks: &Blocks<T>) -> (ValueKey, Bare<Header, Part, T>)
-        requires store { store_name self ≡ (blocks_book blocks.now).store }
+        requires store { owned_store self ≡ (blocks_book blocks.now).store }
         ensures block { IsBlockIn blocks.now (content self) result.0 result.1 }
     {
         let (part, block) = self.block.split();

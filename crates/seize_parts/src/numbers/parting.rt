@@ -7,7 +7,7 @@ ghost use Rattle.seize_words.specs.Joined.{words_book};
 ghost use Rattle.seize_machine.specs.Machine.Event.{Give};
 ghost use Rattle.seize_machine.specs.declared.machine.event.Answer.{Answer};
 ghost use Rattle.seize_model.specs.Waiting.Calls.{is_free, one_guard_less};
-ghost use Rattle.seize_model.specs.Waiting.State.{State, slot_at};
+ghost use Rattle.seize_model.specs.Waiting.State.{ModelState, model_slot};
 ghost use Rattle.seize_calls.specs.Furthers.{further_in};
 ghost use Rattle.seize_calls.specs.Handing.{IsServed};
 ghost use Rattle.seize_calls.specs.Slots.{IsInactive, IsPassFor, IsSlotOf, its_number};
@@ -46,7 +46,7 @@ fn leave_last<T: Drop, R: Reclaim<T>, W: Watch<T>>(
     ensures same { KeepsAside aside.old aside.new }
     ensures slot { IsSlotOf words.now r.new.slot × IsInactive r.new.slot × (its_number r.new.slot ≡ its_number r.old.slot) }
     ensures goes { let s = its_number r.old.slot in Goes T.row.coded.code R.puts W.told
-        (λ st. Fits pass.old st × (is_free (slot_at st s).kind ≡ false) × ((slot_at st s).guards ≡ 1)) (λ st. one_guard_less st s)
+        (λ st. Fits pass.old st × (is_free (model_slot st s).kind ≡ false) × ((model_slot st s).guards ≡ 1)) (λ st. one_guard_less st s)
         pass.old pass.new (W.seen aside.old.watch.now) (W.seen aside.new.watch.now) aside.old.queue aside.new.queue }
 {
     let Unit {
@@ -113,8 +113,8 @@ impl<T: Drop> Numbers<T> {
         ensures same { KeepsAside aside.old aside.new }
         ensures numbers { AreNumbers self.new × (self.new.book ≡ self.old.book) }
         ensures places { (s : ℕ) → get_or places.new.items s None ≡ None }
-        ensures free { (st : State T ℕ) → MayGo pass.old places.old.items st → (s : ℕ)
-            → is_free (slot_at (parts_in_turn st (range_with_len 0 (length st.slots))).0 s).kind ≡ true }
+        ensures free { (st : ModelState T ℕ) → MayGo pass.old places.old.items st → (s : ℕ)
+            → is_free (model_slot (parts_in_turn st (range_with_len 0 (length st.slots))).0 s).kind ≡ true }
         ensures goes { Goes T.row.coded.code R.puts W.told (MayGo pass.old places.old.items)
             (λ st. parts_in_turn st (range_with_len 0 (length st.slots))) pass.old pass.new
             (W.seen aside.old.watch.now) (W.seen aside.new.watch.now) aside.old.queue aside.new.queue }

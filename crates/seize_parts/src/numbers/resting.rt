@@ -33,8 +33,8 @@ pub struct Found<T: Drop> {
 
 impl<T: Drop> Numbers<T> {
     /// What is found of the slots. The pass sees what the list says of each, and what was left of each that is in use comes into its place.
-    /// With each value that was named a content is lent. It takes memory for places only where a number is in use, makes no event, and waits
-    /// for nobody.
+    /// With each value that was named a content is lent. It makes no event, takes memory for places only where a number is in use, and
+    /// waits for nobody.
     pub fn come_to_rest<R: Reclaim<T>>(
         &mut self,
         words: &Words<T>,

@@ -62,11 +62,11 @@ impl<'a, T: Labelled + Drop> First<'a, T> {
 }
 
 impl<'a, T: Labelled + Drop> Iterator for First<'a, T> {
-    ghost use Rattle.seize_table.specs.Walk.{Goes, walk_end, walk_next};
+    ghost use Rattle.seize_table.specs.Walk.{GivesNext, walk_end, walk_next};
 
     type Item = &'a T;
 
-    ghost next_gives = { Goes };
+    ghost next_gives = { GivesNext };
 
     ghost remaining = { λ walk. at_most (walk_end walk - walk_next walk) };
 

@@ -1,5 +1,5 @@
 use Rattle.seize.proofs.Contents.{made_belongs}
-use Rattle.seize_uses.specs.Nests.{owners_of}
+use Rattle.seize_uses.specs.Nests.{nest_owners}
 use Rattle.seize_uses.specs.declared.nest.Nest.TheOpen.{Nest-F}
 use Rattle.seize_uses.specs.declared.nest.Nest.{Nest}
 use Rattle.seize_uses.specs.declared.nest.Nest.TheViews.{roll-Nest}
@@ -9,4 +9,4 @@ use Rattle.seize_alone_rows.proofs.nests.around.Goals as goal
 pub returns-in-Ok-clause-made : goal.returns-in-Ok-clause-made
 returns-in-Ok-clause-made c =
     let store = c.args.alone.now.book.store in let made : Nest-F Nest = record { number = c.args.number; inside = c.args.inside } in
-    made_belongs owners_of store c.in-Ok.block (roll-Nest made) c.in-Ok.ensures.made.0 c.in-Ok.ensures.made.1 (holds_only made store c.requires)
+    made_belongs nest_owners store c.in-Ok.block (roll-Nest made) c.in-Ok.ensures.made.0 c.in-Ok.ensures.made.1 (holds_only made store c.requires)

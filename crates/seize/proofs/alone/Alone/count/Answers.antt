@@ -4,7 +4,7 @@ use base.Growing.{prefix_refl}
 use mathlib.Core.List.{IsPrefix}
 use Rattle.seize_model.specs.declared.kind.Kind.TheVariants.{Registered}
 use Rattle.seize_model.specs.Waiting.Calls.{is_free, set_guards}
-use Rattle.seize_model.specs.Waiting.State.{Slot, State, has_guard, slot_at}
+use Rattle.seize_model.specs.Waiting.State.{ModelSlot, ModelState, has_guard, model_slot}
 use Rattle.seize_words.specs.Joined.{words_book}
 use Rattle.seize_alone.proofs.Singles.{guards_held}
 use Rattle.seize.specs.Alones.{View}
@@ -17,14 +17,14 @@ use Rattle.seize.proofs.alone.Alone.count.Goals as goal
 pub index_mut-requires : goal.index_mut-requires
 index_mut-requires g c =
     let a = c.self.invariant in let inside = c.self.inside in let s = c.args.s in let n = words_book inside.words in let st = inside.hands.state in
-    let used : is_free (slot_at st s).kind ≡ false = ap (λ (v : View g.row.T.Denot). is_free (slot_at v.state s).kind) c.self.view_is ∙ ap is_free c.requires.0 in
+    let used : is_free (model_slot st s).kind ≡ false = ap (λ (v : View g.row.T.Denot). is_free (model_slot v.state s).kind) c.self.view_is ∙ ap is_free c.requires.0 in
     omega (arith, inside.places.ok.0, place_there n st inside.places.items a.placed s used)
 
 pub of-requires : goal.of-requires
 of-requires g c =
     let a = c.self.invariant in let inside = c.self.inside in let s = c.args.s in let st = inside.hands.state in
-    let kind : (slot_at st s).kind ≡ Registered = ap (λ (v : View g.row.T.Denot). (slot_at v.state s).kind) c.self.view_is ∙ c.requires.0 in
-    let on : has_guard (slot_at st s) ≡ true = ap (λ (v : View g.row.T.Denot). has_guard (slot_at v.state s)) c.self.view_is ∙ c.requires.1 in (
+    let kind : (model_slot st s).kind ≡ Registered = ap (λ (v : View g.row.T.Denot). (model_slot v.state s).kind) c.self.view_is ∙ c.requires.0 in
+    let on : has_guard (model_slot st s) ≡ true = ap (λ (v : View g.row.T.Denot). has_guard (model_slot v.state s)) c.self.view_is ∙ c.requires.1 in (
       set_guards st s c.args.guards,
       inside.hands.names,
       inside.hands.kinds,
@@ -39,18 +39,18 @@ of-requires g c =
 pub invariant_of-self : goal.invariant_of-self
 invariant_of-self g c =
     let a = c.self.invariant in let inside = c.self.inside in let s = c.args.s in let n = words_book inside.words in let st = inside.hands.state in
-    let used : is_free (slot_at st s).kind ≡ false = ap (λ (v : View g.row.T.Denot). is_free (slot_at v.state s).kind) c.self.view_is ∙ ap is_free c.requires.0 in
-    let on : has_guard (slot_at st s) ≡ true = ap (λ (v : View g.row.T.Denot). has_guard (slot_at v.state s)) c.self.view_is ∙ c.requires.1 in
+    let used : is_free (model_slot st s).kind ≡ false = ap (λ (v : View g.row.T.Denot). is_free (model_slot v.state s).kind) c.self.view_is ∙ ap is_free c.requires.0 in
+    let on : has_guard (model_slot st s) ≡ true = ap (λ (v : View g.row.T.Denot). has_guard (model_slot v.state s)) c.self.view_is ∙ c.requires.1 in
     let is = held_is n st inside.places.items a.placed s used c.index_mut.result.now c.held.result.now c.index_mut.ensures.value c.held.ensures.value in
-    let there = slot_there st s used in let slot' : Slot g.row.T.Denot ℕ = record (slot_at st s) { guards = c.args.guards } in let items = inside.places.items in
+    let there = slot_there st s used in let slot' : ModelSlot g.row.T.Denot ℕ = record (model_slot st s) { guards = c.args.guards } in let items = inside.places.items in
     let place : Place g.row.T.Denot = record c.held.result.now { guards = c.args.guards } in
     let now : c.of.result.state ≡ set_guards st s c.args.guards = c.of.ensures.0 in
-    let same : has_guard (slot_at st s) ≡ has_guard slot' = on ∙ sym (some_guards c.args.guards c.requires.2) in
+    let same : has_guard (model_slot st s) ≡ has_guard slot' = on ∙ sym (some_guards c.args.guards c.requires.2) in
     let unit = ap (λ (t : Lies). t.1.1.1.0) is.0 ∙ ap (λ (b : Bool). if b then Some (s, n) else None) same in
     alone_again a {pass' = c.self.inside.pass} (refl, refl, refl) a.numbered c.of.result (slice_set items s (Some place)) inside.made
-    (a.counted ∙ sym (ap (λ (x : State g.row.T.Denot ℕ). length x.slots) now ∙ length-set st.slots s slot'))
-    (ap (λ (x : State g.row.T.Denot ℕ). x.size) now) (ap (λ (x : State g.row.T.Denot ℕ). x.links) now)
-    (subst (λ (x : State g.row.T.Denot ℕ). ArePlaces n x (slice_set items s (Some place))) (sym now)
+    (a.counted ∙ sym (ap (λ (x : ModelState g.row.T.Denot ℕ). length x.slots) now ∙ length-set st.slots s slot'))
+    (ap (λ (x : ModelState g.row.T.Denot ℕ). x.size) now) (ap (λ (x : ModelState g.row.T.Denot ℕ). x.links) now)
+    (subst (λ (x : ModelState g.row.T.Denot ℕ). ArePlaces n x (slice_set items s (Some place))) (sym now)
     (laid n st s slot' items place a.placed there (place_there n st items a.placed s used) used
     ((λ j. ((is.0 j).0, (c.args.guards, ((is.0 j).1.1.0, (unit j, (is.0 j).1.1.1.1))))), is.1)))
     c.of.ensures.1 c.of.ensures.2

@@ -3,7 +3,7 @@ use Rattle.std.specs.Prelude.{Err, Ok}
 use Rattle.std.proofs.lemmas.Result.{err_from_is_err_and}
 use Rattle.seize_model.specs.Waiting.Calls.{is_free, one_guard_less, set_guards, with_number_free, with_number_free_if}
 use Rattle.seize_model.specs.Waiting.Further.{with_further}
-use Rattle.seize_model.specs.Waiting.State.{State, has_guard, slot_at}
+use Rattle.seize_model.specs.Waiting.State.{ModelState, has_guard, model_slot}
 use Rattle.seize_alone.proofs.Ready.{left_beside}
 use Rattle.seize.proofs.Reclaimed.{answered_none, answered_so, beside_so, left_last, may_act, refused_none}
 use Rattle.seize.proofs.alone.Alone.leave.Goals as goal
@@ -27,7 +27,7 @@ part-requires g c =
 pub free-requires : goal.free-requires
 free-requires g c =
     let done = c.part.ensures.done in let s = c.args.s in
-    (lit< tt, (ap (λ (x : State g.row.T.Denot ℕ). is_free (slot_at x s).kind) done.0 ∙ done.2, ap (λ (x : State g.row.T.Denot ℕ). has_guard (slot_at x s)) done.0 ∙ done.3))
+    (lit< tt, (ap (λ (x : ModelState g.row.T.Denot ℕ). is_free (model_slot x s).kind) done.0 ∙ done.2, ap (λ (x : ModelState g.row.T.Denot ℕ). has_guard (model_slot x s)) done.0 ∙ done.3))
 
 pub returns-then-guards-gt1-clause-done : goal.returns-then-guards-gt1-clause-done
 returns-then-guards-gt1-clause-done g c =
@@ -41,7 +41,7 @@ returns-then-owned-clause-done g c =
     let it = c.in_ok-owned.ensures.it in let st = c.args.self.now.state in let s = c.args.s in let P = g.R.Puts in let done = c.part.ensures.done in
     answered_so g.W.Watch.told _ _ _ _ _ (Ok tt) _
     (left_last P.puts P.weight st s c.in_ok-owned.owned it.0 it.1 ∙ ap (λ (b : Bool). (Ok tt, with_number_free_if b s (with_further P.puts P.weight s (one_guard_less st s)))) c.if-owned.true)
-    (c.free.ensures.done ∙ ap (λ (x : State g.row.T.Denot ℕ). with_number_free x s) done.0) done.1
+    (c.free.ensures.done ∙ ap (λ (x : ModelState g.row.T.Denot ℕ). with_number_free x s) done.0) done.1
 
 pub returns-else-owned-clause-done : goal.returns-else-owned-clause-done
 returns-else-owned-clause-done g c =

@@ -1,5 +1,5 @@
 use Rattle.std.proofs.Common.{◌≡◌, ℕ, ◌<◌, false, Option, Some, None, IfSome, get_or, length, is_some, refl, sym, ap, subst, ◌∙◌, arith}
-use Rattle.seize_model.specs.Waiting.Calls.{link_at}
+use Rattle.seize_model.specs.Waiting.Calls.{model_link}
 use Rattle.seize_book.specs.Blocks.{link_word}
 use Rattle.seize_book.specs.Tokens.{Name}
 use Rattle.seize_words.specs.Chunks.{IsFoundAs}
@@ -24,8 +24,8 @@ pub returns-in_default-clause-done : goal.returns-in_default-clause-done
 returns-in_default-clause-done g c =
     let link = c.args.link in let inside = c.self.inside in let words = inside.words in let less = subst (λ (m : ℕ). link < m) (ap (λ (v : View g.row.T.Denot). v.links) (sym c.self.view_is)) c.requires.range in
     let held = get_or inside.hands.held link None in let s = c.self.invariant.stand link (subst (λ (n : Name). link < length n.links) (sym words.linked) less) in
-    let told = c.peek_link.ensures.held held s.0 in let st = inside.hands.state in let view = ap (λ (v : View g.row.T.Denot). link_at v.state link) c.self.view_is in
-    (c.in_ok-guarded.ensures.it.0, sym (no_value g.row.T.coded held (link_at st link) s.1 (none_of held (sym told.0 ∙ ap is_some c.in_default.is))) ∙ view)
+    let told = c.peek_link.ensures.held held s.0 in let st = inside.hands.state in let view = ap (λ (v : View g.row.T.Denot). model_link v.state link) c.self.view_is in
+    (c.in_ok-guarded.ensures.it.0, sym (no_value g.row.T.coded held (model_link st link) s.1 (none_of held (sym told.0 ∙ ap is_some c.in_default.is))) ∙ view)
 
 pub sight-requires : goal.sight-requires
 sight-requires g c =
@@ -39,7 +39,7 @@ pub of-requires : goal.of-requires
 of-requires g c =
     let link = c.args.link in let inside = c.self.inside in let words = inside.words in let less = subst (λ (m : ℕ). link < m) (ap (λ (v : View g.row.T.Denot). v.links) (sym c.self.view_is)) c.requires.range in
     let held = get_or inside.hands.held link None in let s = c.self.invariant.stand link (subst (λ (n : Name). link < length n.links) (sym words.linked) less) in
-    let told = c.peek_link.ensures.held held s.0 in let st = inside.hands.state in let view = ap (λ (v : View g.row.T.Denot). link_at v.state link) c.self.view_is in
+    let told = c.peek_link.ensures.held held s.0 in let st = inside.hands.state in let view = ap (λ (v : View g.row.T.Denot). model_link v.state link) c.self.view_is in
     let to = subst (λ o. IfSome o (λ found. (found.0 ≡ link_word held) × (found.1.glimpse.value ≡ held) × IsFoundAs held (g.row.T.coded.code found.1.value.now))) c.in-Some.is told.1 in
     to.0 ∙ ap link_word (sym (ap (λ (x : Glimpse). x.value) c.again.ensures.0 ∙ to.1))
 
@@ -47,9 +47,9 @@ pub returns-clause-done : goal.returns-clause-done
 returns-clause-done g c =
     let link = c.args.link in let inside = c.self.inside in let words = inside.words in let less = subst (λ (m : ℕ). link < m) (ap (λ (v : View g.row.T.Denot). v.links) (sym c.self.view_is)) c.requires.range in
     let held = get_or inside.hands.held link None in let s = c.self.invariant.stand link (subst (λ (n : Name). link < length n.links) (sym words.linked) less) in
-    let told = c.peek_link.ensures.held held s.0 in let st = inside.hands.state in let view = ap (λ (v : View g.row.T.Denot). link_at v.state link) c.self.view_is in
+    let told = c.peek_link.ensures.held held s.0 in let st = inside.hands.state in let view = ap (λ (v : View g.row.T.Denot). model_link v.state link) c.self.view_is in
     let to = subst (λ o. IfSome o (λ found. (found.0 ≡ link_word held) × (found.1.glimpse.value ≡ held) × IsFoundAs held (g.row.T.coded.code found.1.value.now))) c.in-Some.is told.1 in
-    (c.in_ok-guarded.ensures.it.0, ap Some c.of.ensures.1 ∙ sym (one_value g.row.T.coded held (link_at st link) s.1 to.2.0 c.in-Some.found.value.now to.2.1 to.2.2) ∙ view)
+    (c.in_ok-guarded.ensures.it.0, ap Some c.of.ensures.1 ∙ sym (one_value g.row.T.coded held (model_link st link) s.1 to.2.0 c.in-Some.found.value.now to.2.1 to.2.2) ∙ view)
 
 pub returns-in_default-clause-which : goal.returns-in_default-clause-which
 returns-in_default-clause-which g c =

@@ -1,7 +1,7 @@
 use Rattle.std.proofs.Common.{◌≡◌, ◌==◌, ◌||◌, true, ℕ, Some, List, slice_set, refl, sym, ap, subst, ◌∙◌, arith}
 use mathlib.Core.List.{IsPrefix}
 use Rattle.seize_model.specs.Waiting.Calls.{is_owned, no_guard, refresh}
-use Rattle.seize_model.specs.Waiting.State.{State, slot_at}
+use Rattle.seize_model.specs.Waiting.State.{ModelState, model_slot}
 use Rattle.seize_book.specs.Entry.{Entry}
 use Rattle.seize_words.specs.Joined.{words_book}
 use Rattle.seize_alone.proofs.Outlines.{refresh_links, refresh_outline}
@@ -32,7 +32,7 @@ pub of-requires : goal.of-requires
 of-requires g c =
     let a = c.self.invariant in let inside = c.self.inside in let s = c.args.s in let n = words_book inside.words in let st = inside.hands.state in let P = g.R.Puts in
     let may = may_act st s (ap (λ (v : View g.row.T.Denot). no_guard v.state s) c.self.view_is ∙ c.requires.0) in let used = may.0 in
-    let alone : (is_owned (slot_at st s).kind || ((slot_at st s).guards == 1)) ≡ true = ap (λ (v : View g.row.T.Denot). is_owned (slot_at v.state s).kind || ((slot_at v.state s).guards == 1)) c.self.view_is ∙ c.requires.1 in
+    let alone : (is_owned (model_slot st s).kind || ((model_slot st s).guards == 1)) ≡ true = ap (λ (v : View g.row.T.Denot). is_owned (model_slot v.state s).kind || ((model_slot v.state s).guards == 1)) c.self.view_is ∙ c.requires.1 in
     let place = c.held.result.now in let is = held_is n st inside.places.items a.placed s used c.index_mut.result.now place c.index_mut.ensures.value c.held.ensures.value in
     let done = refreshed g.row.T.coded P.puts P.weight P.lighter g.W.Watch.told a.knows place.reservation c.refresh.new.self.reservation c.refresh.new.pass _ _ s (may_call a s place is).1 c.refresh.ensures.calls used may.1 alone in
     ((refresh P.puts P.weight st s).1.0, done.1.names, done.1.kinds, inside.hands.held, (refl, done.1.holds, refl))
@@ -42,7 +42,7 @@ invariant_of-self g c =
     let a = c.self.invariant in let inside = c.self.inside in let s = c.args.s in let n = words_book inside.words in let st = inside.hands.state in let P = g.R.Puts in
     let may = may_act st s (ap (λ (v : View g.row.T.Denot). no_guard v.state s) c.self.view_is ∙ c.requires.0) in let used = may.0 in
     let place = c.held.result.now in let is = held_is n st inside.places.items a.placed s used c.index_mut.result.now place c.index_mut.ensures.value c.held.ensures.value in
-    let later : State g.row.T.Denot ℕ = (refresh P.puts P.weight st s).1.0 in let same = refresh_outline P.puts P.weight st s in let items = inside.places.items in let kept = c.refresh.ensures.place in
+    let later : ModelState g.row.T.Denot ℕ = (refresh P.puts P.weight st s).1.0 in let same = refresh_outline P.puts P.weight st s in let items = inside.places.items in let kept = c.refresh.ensures.place in
     outlined_again a c.refresh.ensures.calls.same later c.of.result (slice_set items s (Some c.refresh.new.self)) c.of.ensures.0 same (refresh_links P.puts P.weight st s) (size_stays P.puts P.weight st s).1
     (laid_again n st later s items c.refresh.new.self same a.placed used (place_there n st items a.placed s used) (kept.0 ∙ is.0, kept.1))
     c.of.ensures.1 c.of.ensures.2
@@ -51,7 +51,7 @@ pub returns-clause-done : goal.returns-clause-done
 returns-clause-done g c =
     let a = c.self.invariant in let inside = c.self.inside in let s = c.args.s in let n = words_book inside.words in let st = inside.hands.state in let P = g.R.Puts in
     let may = may_act st s (ap (λ (v : View g.row.T.Denot). no_guard v.state s) c.self.view_is ∙ c.requires.0) in let used = may.0 in
-    let alone : (is_owned (slot_at st s).kind || ((slot_at st s).guards == 1)) ≡ true = ap (λ (v : View g.row.T.Denot). is_owned (slot_at v.state s).kind || ((slot_at v.state s).guards == 1)) c.self.view_is ∙ c.requires.1 in
+    let alone : (is_owned (model_slot st s).kind || ((model_slot st s).guards == 1)) ≡ true = ap (λ (v : View g.row.T.Denot). is_owned (model_slot v.state s).kind || ((model_slot v.state s).guards == 1)) c.self.view_is ∙ c.requires.1 in
     let place = c.held.result.now in let is = held_is n st inside.places.items a.placed s used c.index_mut.result.now place c.index_mut.ensures.value c.held.ensures.value in
     let done = refreshed g.row.T.coded P.puts P.weight P.lighter g.W.Watch.told a.knows place.reservation c.refresh.new.self.reservation c.refresh.new.pass _ _ s (may_call a s place is).1 c.refresh.ensures.calls used may.1 alone in (
       (

@@ -2,7 +2,7 @@ use Rattle.std.proofs.Common.{◌≡◌, ℕ, None, Ok, List, inr, length, refl,
 use mathlib.Core.List.{IsPrefix}
 use Rattle.seize_machine.specs.Machine.Event.{Take}
 use Rattle.seize_model.specs.Waiting.Calls.{take_number, with_number_in_use}
-use Rattle.seize_model.specs.Waiting.State.{State}
+use Rattle.seize_model.specs.Waiting.State.{ModelState}
 use Rattle.seize_book.specs.Entry.{Entry}
 use Rattle.seize_book.specs.Tokens.{Name}
 use Rattle.seize_words.specs.Joined.{words_book}
@@ -11,7 +11,7 @@ use Rattle.seize_alone.specs.Holding.{Holds}
 use Rattle.seize_alone.proofs.Ready.{taken}
 use Rattle.seize_alone.proofs.Singles.{takes_held}
 use Rattle.seize.specs.Alones.{View}
-use Rattle.seize_parts.specs.Kinds.{kind_of}
+use Rattle.seize_parts.specs.Kinds.{kind_if_owned}
 use Rattle.seize_parts.specs.Placing.{ArePlaces}
 use Rattle.seize_parts.specs.Reservations.{its_label, place_label}
 use Rattle.seize_parts.specs.Told.{Grew}
@@ -21,7 +21,7 @@ use Rattle.seize.proofs.alone.Alone.take.Goals as goal
 
 pub back-requires : goal.back-requires
 back-requires g c =
-    let a = c.self.invariant in let inside = c.self.inside in let words = inside.words in let n = c.number-number.result in let st = inside.hands.state in let kind = kind_of c.args.owned in let pass = inside.pass in let pass' = c.take.new.pass in
+    let a = c.self.invariant in let inside = c.self.inside in let words = inside.words in let n = c.number-number.result in let st = inside.hands.state in let kind = kind_if_owned c.args.owned in let pass = inside.pass in let pass' = c.take.new.pass in
     let made = c.in_ok-slot.ensures.made in let one = made.0.alone a.knows.sole in
     let makes : MakesAlone pass pass' (Take n) one.0 = subst (λ (t : ℕ). MakesAlone pass pass' (Take t) one.0) (sym c.number-number.ensures) one.1 in
     let held = takes_held g.row.T.coded st inside.hands.names inside.hands.kinds n kind one.0 pass pass' makes a.knows.holds (kind_used c.args.owned) in
@@ -29,7 +29,7 @@ back-requires g c =
 
 pub made_then-self-inside-requires : goal.made_then-self-inside-requires
 made_then-self-inside-requires g c =
-    let a = c.self.invariant in let inside = c.self.inside in let words = inside.words in let n = c.number-number.result in let st = inside.hands.state in let kind = kind_of c.args.owned in let pass = inside.pass in let pass' = c.take.new.pass in
+    let a = c.self.invariant in let inside = c.self.inside in let words = inside.words in let n = c.number-number.result in let st = inside.hands.state in let kind = kind_if_owned c.args.owned in let pass = inside.pass in let pass' = c.take.new.pass in
     let made = c.in_ok-slot.ensures.made in let one = made.0.alone a.knows.sole in
     let makes : MakesAlone pass pass' (Take n) one.0 = subst (λ (t : ℕ). MakesAlone pass pass' (Take t) one.0) (sym c.number-number.ensures) one.1 in
     let held = takes_held g.row.T.coded st inside.hands.names inside.hands.kinds n kind one.0 pass pass' makes a.knows.holds (kind_used c.args.owned) in
@@ -37,7 +37,7 @@ made_then-self-inside-requires g c =
 
 pub of-requires : goal.of-requires
 of-requires g c =
-    let a = c.self.invariant in let inside = c.self.inside in let words = inside.words in let n = c.number-number.result in let st = inside.hands.state in let kind = kind_of c.args.owned in let pass = inside.pass in let pass' = c.take.new.pass in
+    let a = c.self.invariant in let inside = c.self.inside in let words = inside.words in let n = c.number-number.result in let st = inside.hands.state in let kind = kind_if_owned c.args.owned in let pass = inside.pass in let pass' = c.take.new.pass in
     let made = c.in_ok-slot.ensures.made in let one = made.0.alone a.knows.sole in
     let makes : MakesAlone pass pass' (Take n) one.0 = subst (λ (t : ℕ). MakesAlone pass pass' (Take t) one.0) (sym c.number-number.ensures) one.1 in
     let held = takes_held g.row.T.coded st inside.hands.names inside.hands.kinds n kind one.0 pass pass' makes a.knows.holds (kind_used c.args.owned) in
@@ -45,7 +45,7 @@ of-requires g c =
 
 pub invariant_of-self-2 : goal.invariant_of-self-2
 invariant_of-self-2 g c =
-    let a = c.self.invariant in let inside = c.self.inside in let words = inside.words in let n = c.number-number.result in let st = inside.hands.state in let kind = kind_of c.args.owned in let pass = inside.pass in let pass' = c.take.new.pass in
+    let a = c.self.invariant in let inside = c.self.inside in let words = inside.words in let n = c.number-number.result in let st = inside.hands.state in let kind = kind_if_owned c.args.owned in let pass = inside.pass in let pass' = c.take.new.pass in
     let made = c.in_ok-slot.ensures.made in let one = made.0.alone a.knows.sole in
     let makes : MakesAlone pass pass' (Take n) one.0 = subst (λ (t : ℕ). MakesAlone pass pass' (Take t) one.0) (sym c.number-number.ensures) one.1 in
     let held = takes_held g.row.T.coded st inside.hands.names inside.hands.kinds n kind one.0 pass pass' makes a.knows.holds (kind_used c.args.owned) in
@@ -53,9 +53,9 @@ invariant_of-self-2 g c =
     let now : result.state ≡ with_number_in_use st n kind 0 = c.of.ensures.0 in
     let label : its_label reservation.result ≡ place_label (words_book words) n 1 = reservation.ensures.1 ∙ ap (λ (t : ℕ). place_label (words_book words) t 1) (sym c.number-number.ensures) in
     alone_again a makes.same (numbers.0, ap (λ b. b.name) numbers.1 ∙ a.numbered.1, numbers.2) result items c.made_then-self-inside.result
-    (c.made_then-self-inside.ensures ∙ many_then st n kind inside.made a.counted ∙ sym (ap (λ (x : State g.row.T.Denot ℕ). length x.slots) now))
-    (ap (λ (x : State g.row.T.Denot ℕ). x.size) now ∙ grown_size st n kind) (ap (λ (x : State g.row.T.Denot ℕ). x.links) now ∙ grown_links st n kind)
-    (subst (λ (x : State g.row.T.Denot ℕ). ArePlaces (words_book words) x items) (sym now)
+    (c.made_then-self-inside.ensures ∙ many_then st n kind inside.made a.counted ∙ sym (ap (λ (x : ModelState g.row.T.Denot ℕ). length x.slots) now))
+    (ap (λ (x : ModelState g.row.T.Denot ℕ). x.size) now ∙ grown_size st n kind) (ap (λ (x : ModelState g.row.T.Denot ℕ). x.links) now ∙ grown_links st n kind)
+    (subst (λ (x : ModelState g.row.T.Denot ℕ). ArePlaces (words_book words) x items) (sym now)
     (grown_places st n kind (words_book words) inside.places.items c.room.new.places.items items _ a.placed c.room.ensures.same
     (within st n kind inside.made (length c.room.new.places.items) held.0 a.counted c.in_ok-room.ensures.room) c.back.ensures held.0 (kind_used c.args.owned)
     ((λ j. (sym (kind_owned c.args.owned) j, (0, (label j, (None, made.1 j))))), reservation.ensures.0)))
@@ -77,12 +77,12 @@ invariant_of-self-in_err-slot g c =
 
 pub returns-clause-done : goal.returns-clause-done
 returns-clause-done g c =
-    let a = c.self.invariant in let inside = c.self.inside in let words = inside.words in let n = c.number-number.result in let st = inside.hands.state in let kind = kind_of c.args.owned in let pass = inside.pass in let pass' = c.take.new.pass in
+    let a = c.self.invariant in let inside = c.self.inside in let words = inside.words in let n = c.number-number.result in let st = inside.hands.state in let kind = kind_if_owned c.args.owned in let pass = inside.pass in let pass' = c.take.new.pass in
     let made = c.in_ok-slot.ensures.made in let one = made.0.alone a.knows.sole in
     let makes : MakesAlone pass pass' (Take n) one.0 = subst (λ (t : ℕ). MakesAlone pass pass' (Take t) one.0) (sym c.number-number.ensures) one.1 in
     let held = takes_held g.row.T.coded st inside.hands.names inside.hands.kinds n kind one.0 pass pass' makes a.knows.holds (kind_used c.args.owned) in
     let told = taken st n kind 0 held.0 held.1 in
-    subst (λ (x : State g.row.T.Denot ℕ). Grew (take_number x kind 0) (Ok n) x c.of.result.state) (ap (λ (v : View g.row.T.Denot). v.state) c.self.view_is)
+    subst (λ (x : ModelState g.row.T.Denot ℕ). Grew (take_number x kind 0) (Ok n) x c.of.result.state) (ap (λ (v : View g.row.T.Denot). v.state) c.self.view_is)
     (inr ((λ j. (sym told j).0), c.of.ensures.0 ∙ (λ j. (sym told j).1.0)))
 
 pub returns-clause-grows : goal.returns-clause-grows

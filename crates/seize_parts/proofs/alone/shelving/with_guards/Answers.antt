@@ -5,7 +5,7 @@ use Rattle.seize_book.specs.declared.book.pass.Pass.{Pass}
 use Rattle.seize_words.specs.Joined.{words_book}
 use Rattle.seize_words.specs.declared.activation.Activation.{Activation}
 use Rattle.seize_alone.specs.Begins.{IsUsedAs}
-use Rattle.seize_parts.specs.Kinds.{kind_of}
+use Rattle.seize_parts.specs.Kinds.{kind_if_owned}
 use Rattle.seize_calls.specs.Slots.{InActivation, its_number}
 use Rattle.seize_calls.proofs.Current.{looked_active}
 use Rattle.seize_parts.proofs.OneLife.{forgotten_begun}
@@ -49,7 +49,7 @@ returns-clause-place g c =
     let within1 : InActivation slot' whole = units_within slot' r.rest whole _ c.join.ensures within in let within2 : InActivation slot' rest' = units_within slot' whole rest' rest'.units split.1 within1 in
     let of = placed_slot words r is (sym c.seen.ensures.0 ∙ c.agree.ensures) in let for1 = still_for words p0 p1 c.requires.pass.0 learns.0 in
     let still = same_pass c.requires.pass.1 (still_then (still_learned a.seen learns) (still_looked r.slot slot' current.looks)) in let on : not (r.guards == 0) ≡ true = some_not r.guards some in record {
-      used = subst (λ (q : Pass). IsUsedAs (state_seen q) (its_number r.slot) (kind_of (r.most == 1), r.guards)) still
+      used = subst (λ (q : Pass). IsUsedAs (state_seen q) (its_number r.slot) (kind_if_owned (r.most == 1), r.guards)) still
           (used_left words r.slot slot' p1 p2 for1 of current.of.0 current.looks r.most r.guards is.fits (looked_active _ _ _ _ current.looks.0.does ∙ current.within.0 ∙ sym on));
       sound = placed words slot' rest' 1 1 current.of.0 (some_at slot' rest' 1 (omega arith) within2) (let all = is.units in let counted = a.counted in let count = c.requires.forgotten.2 in omega (arith, split.2, joined, counted, count, all)) (omega arith);
       reservation = label_left words r.slot slot' p1 p2 for1 of current.of.0 current.looks;

@@ -3,7 +3,7 @@ use Rattle.std.specs.List.{range_with_len}
 use Rattle.std.proofs.lemmas.List.{get_or_past, length-set}
 use Rattle.seize_model.specs.Waiting.Attempt.{StateAndGone}
 use Rattle.seize_model.specs.Waiting.Calls.{is_free}
-use Rattle.seize_model.specs.Waiting.State.{State, slot_at}
+use Rattle.seize_model.specs.Waiting.State.{ModelState, model_slot}
 use Rattle.seize_book.specs.Tokens.{Name}
 use Rattle.seize_calls.specs.Furthers.{further_in}
 use Rattle.seize_calls.specs.Handing.{IsServed}
@@ -56,7 +56,7 @@ loop-n-preserved g c =
       aside ∙ i.5,
       ap (λ (l : List (Option (Place T.Denot))). length l) parted ∙ length-set places n None ∙ i.6,
       none_more n places c.part_at.new.places.items parted below i.7,
-      (λ st placed. subst (λ (t : State T.Denot ℕ × List (Option (Place T.Denot))). ArePlaces first.name t.0 t.1) (λ j. ((sym (part_more st n) j).0, sym parted j)) (places_parted first.name (parts_in_turn st (range_with_len 0 n)).0 places n (i.8 st placed) below)),
+      (λ st placed. subst (λ (t : ModelState T.Denot ℕ × List (Option (Place T.Denot))). ArePlaces first.name t.0 t.1) (λ j. ((sym (part_more st n) j).0, sym parted j)) (places_parted first.name (parts_in_turn st (range_with_len 0 n)).0 places n (i.8 st placed) below)),
       goes_as T.coded.code puts W.told (λ st may. may) (λ st may. sym (part_more st n))
           (goes_then T.coded.code puts W.told i.9 one.goes (λ st names kinds may holds held. (
             fits_then first was st (parts_in_turn st (range_with_len 0 n)).0 i.9.same (parts_size st (range_with_len 0 n)) may.0,
@@ -80,4 +80,4 @@ returns-clause-free g c st may s =
     let i = c.loop-n.invariant in let end = c.loop-n.auto.n-end in let over = c.loop-n-test.false in let many = c.len-n-end.ensures in let long = i.6 in let items = c.loop-n.places.items in let name = c.args.pass.now.name in
     let all : length items ≡ c.loop-n.n = omega (arith, end, over, many, long) in let placed = i.8 st may.1 in
     let none = each_of (λ (t : ℕ). get_or items t None ≡ None) c.loop-n.n i.7 (λ t past. get_or_past items t None (omega (arith, end, over, many, long, past))) s in
-    subst (λ (o : StateAndGone g.row.T.Denot ℕ). is_free (slot_at o.0 s).kind ≡ true) (parts_all st name items c.loop-n.n placed all) (free_none name (parts_in_turn st (range_with_len 0 c.loop-n.n)).0 items placed s none)
+    subst (λ (o : StateAndGone g.row.T.Denot ℕ). is_free (model_slot o.0 s).kind ≡ true) (parts_all st name items c.loop-n.n placed all) (free_none name (parts_in_turn st (range_with_len 0 c.loop-n.n)).0 items placed s none)

@@ -4,7 +4,7 @@ use Rattle.std.specs.Prelude.{Option}
 use mir.Syntax.{a_type, dcons, dnil}
 use mir.MapTy.{inst_fn}
 use denote.Param.{param, bounded}
-use Rattle.seize_model.specs.Waiting.State.{State}
+use Rattle.seize_model.specs.Waiting.State.{ModelState}
 use Rattle.seize_book.proofs.Fields.{Token, token, token_made, ends}
 use denote.Signature.{static_lft}
 use Rattle.seize_book.specs.contracts.book.pass.Pass as Pass
@@ -23,7 +23,7 @@ first_spec 𝓤 𝓛 𝓜 𝓡 wired X Y Z LX LY LZ g dict met =
     let pb : ℕ = a.0.ref_ptr.0 in let po : ℕ = a.0.ref_ptr.1 in let sb : ℕ = a.1.0.ref_ptr.0 in let so : ℕ = a.1.0.ref_ptr.1 in
     let y : (walk_of 𝓛 En hs c).Ghost = ((κs, qs, bounds, a, (vptr pb po ∷ [], (vptr sb so ∷ [], tt))), gh) in let Post : Val → SProp 𝓤 = (walk_of 𝓛 En hs c).post y in
     let toks : Fml = fsep (flft κs.0 qs.0) (fsep (flft κs.1.0 qs.1.0) (fsep (flft κs.1.1.0 qs.1.1.0) (fsep (flft κs.1.1.1.0 qs.1.1.1.0) (fsep (flft κs.1.1.1.1.0 qs.1.1.1.1.0) ftrue)))) in
-    let Asked : Type 0 = (st : State X.Denot ℕ) × (names : List (ℕ × X.Denot)) × (kinds : List (ℕ × ℕ)) × (held : List (Option ℕ)) × g.are st names kinds held in
+    let Asked : Type 0 = (st : ModelState X.Denot ℕ) × (names : List (ℕ × X.Denot)) × (kinds : List (ℕ × ℕ)) × (held : List (Option ℕ)) × g.are st names kinds held in
     qed 𝓛 ((‵ toks ⊛ ‵ (owns (types_at En.signature.params κs) a y.0.4)) ∷ raw (fact 𝓤 _) ∷ raw (fact 𝓤 _) ∷ raw (fact 𝓤 _) ∷ raw (fact 𝓤 Asked) ∷ []) ∵ move ! (4 ∷ 0 ∷ []) $ heard ! Asked (λ asked. split ! $ keep ! (0 ∷ []) $
     enter ! 𝓣.C 𝓣.Λ fn (vptr pb po ∷ vptr sb so ∷ []) Post $ alloc_all ! (λ l. pass_all ! refl ((tt, tt), ((tt, tt), tt)) $
     sets ! (agg ! (no_more !)) refl (tt, tt) $ sets ! (agg ! (and_then ! (get ! refl) (no_more !))) refl (tt, (tt, tt)) $
