@@ -5,7 +5,7 @@ use base.Stored.{Coded, Gv}
 use Rattle.seize_machine.specs.Machine.Event.{ExchangeLink}
 use Rattle.seize_machine.specs.declared.machine.event.Answer.TheVariants.{Link as Held}
 use Rattle.seize_machine.specs.declared.machine.event.Exchange.TheVariants.{Swap}
-use Rattle.seize_machine.specs.Machine.State.{model_link as held_at}
+use Rattle.seize_machine.specs.Machine.State.{link_at as held_at}
 use Rattle.seize_model.specs.Waiting.Calls.{model_link}
 use Rattle.seize_model.specs.Waiting.State.{ModelState}
 use Rattle.seize_alone.specs.Events.{IsHeldAs, MakesAlone}

@@ -5,7 +5,7 @@ use Rattle.std.proofs.lemmas.List.{get_or-set_other, get_or-set_same}
 use base.Stored.{Coded, Gv}
 use Rattle.seize_machine.proofs.Facts.{eq_true}
 use Rattle.seize_machine.specs.Machine.State as machine
-use Rattle.seize_machine.specs.Machine.State.{are_distinct, linked_values, model_link as held_at}
+use Rattle.seize_machine.specs.Machine.State.{are_distinct, linked_values, link_at as held_at}
 use Rattle.seize_model.specs.Waiting.Calls.{model_link}
 use Rattle.seize_model.specs.Waiting.State.{ModelState}
 use Rattle.seize_book.proofs.Facts.{equal}

@@ -1,8 +1,8 @@
 //! The program between its arguments and its status: which script it runs, and what it prints. It is over any reader and writers.
-ghost use Rattle.std.specs.Prelude.{◌≡◌, ◌≤◌};
+ghost use Rattle.std.specs.Prelude.{◌≡◌};
 ghost use Rattle.seize.specs.Alones.{IsSame};
 ghost use Rattle.seize_script.specs.Ranges.{AreCallsFor, IsGroupFor, IsNew, IsWhole};
-ghost use Rattle.seize_script.specs.Statuses.{status_of};
+ghost use Rattle.seize_script.specs.Statuses.{IsStatus, status_of};
 
 use crate::failure::Failure;
 use crate::names::Names;
@@ -28,7 +28,7 @@ pub fn run_program<I: Read + Drop, O: Write + Drop, E: Write + Drop>(
     mut errors: E,
     reclaim: PutInside,
 ) -> u8
-    ensures { result ≤ 5 }
+    ensures { IsStatus result }
 {
     match run(alloc, args, input, &mut output, reclaim) {
         Ok(()) => 0,
@@ -64,15 +64,24 @@ fn run<'a, I: Read + Drop, O: Write>(
     }
 }
 
-/// The whole input, up to the first byte too many.
+/// The whole input, up to the first byte too many. Each fault of the reader is `CannotRead`, also its want of memory; and so are as many
+/// interruptions as a script may have bytes.
 fn read<'a, I: Read + Drop>(alloc: Global, input: I) -> Result<Vec<u8>, Failure<'a>> {
+    let mut input = input.take(LONGEST_SCRIPT as u64 + 1);
     let mut text = Vec::new(alloc);
-    match input.take(LONGEST_SCRIPT as u64 + 1).read_to_end(&mut text) {
-        Err(error) if error.kind() == ErrorKind::OutOfMemory => Err(Failure::NoMemory),
-        Err(_) => Err(Failure::CannotRead),
-        Ok(_) if text.len() > LONGEST_SCRIPT => Err(Failure::TooLong),
-        Ok(_) => Ok(text),
+    let mut buffer = [0; 4096];
+    for _ in 0..LONGEST_SCRIPT * 2 {
+        match input.read(&mut buffer) {
+            Ok(0) => return Ok(text),
+            Ok(many) => text.extend_from_slice(&buffer[..many])?,
+            Err(error) if error.kind() == ErrorKind::Interrupted => {}
+            Err(_) => return Err(Failure::CannotRead),
+        }
+        if text.len() > LONGEST_SCRIPT {
+            return Err(Failure::TooLong);
+        }
     }
+    Err(Failure::CannotRead)
 }
 
 fn run_text<'a, O: Write>(

@@ -13,7 +13,7 @@ use Rattle.seize_machine.specs.declared.machine.event.Event.{Event as Written}
 use Rattle.seize_machine.specs.declared.machine.event.Event.TheVariants.{Take as WTake, Give as WGive, Enter as WEnter, Begin as WBegin, Put as WPut, ReadHead as WReadHead, Detach as WDetach, Insert as WInsert, AddCount as WAddCount, SwapOut as WSwapOut, SubCount as WSubCount, Hand as WHand, Return as WReturn, ReadLink as WReadLink, ExchangeLink as WExchangeLink}
 use Rattle.seize_machine.specs.declared.machine.slot.Place.{Place as Stood}
 use Rattle.seize_machine.specs.declared.machine.slot.Place.TheVariants.{Append as SAppend, Mark as SMark, Look as SLook, Try as STry, Add as SAdd, Out as SOut, Rest as SRest}
-use Rattle.seize_machine.specs.declared.machine.slot.Call.{Progress as Called}
+use Rattle.seize_machine.specs.declared.machine.slot.Call.{Call as Called}
 
 -- the event that the code writes
 abbrev pub event_of : Written → Event

@@ -3,16 +3,17 @@ use super::*;
 use std::io;
 use std::io::{ErrorKind, Read, Write};
 
-/// Gives a script's beginning, and then fails.
+/// Gives a script's beginning, and then fails in this way.
 #[derive(Drop)]
 struct FailingReader {
     left: &'static [u8],
+    kind: ErrorKind,
 }
 
 impl Read for FailingReader {
     fn read(&mut self, buf: &mut [u8]) -> io::Result<usize> {
         if self.left.is_empty() {
-            return Err(io::Error::from(ErrorKind::Other));
+            return Err(io::Error::from(self.kind));
         }
         self.left.read(buf)
     }
@@ -43,23 +44,66 @@ impl Write for FailingWriter<'_> {
     }
 }
 
+/// Whatever its fault, also want of memory of its own.
 #[test]
 fn a_reader_that_fails(rt: HostRuntime) -> Result<(), Fail> {
-    for left in [b"".as_slice(), b"size 1 links 0\nregister\ntick\n", b"?\n"] {
-        let mut output = Vec::new(rt.alloc());
-        let mut errors = Vec::new(rt.alloc());
-        let status = run_program(
-            rt.alloc(),
-            &["script"],
-            FailingReader { left },
-            &mut output,
-            &mut errors,
-            PutInside,
-        );
-        assert_eq!(rt; status, 4);
-        assert_eq!(rt; output.as_slice(), b"".as_slice());
-        assert_eq!(rt; errors.as_slice(), b"cannot read\n".as_slice());
+    for kind in [ErrorKind::Other, ErrorKind::OutOfMemory] {
+        for left in [b"".as_slice(), b"size 1 links 0\nregister\ntick\n", b"?\n"] {
+            let mut output = Vec::new(rt.alloc());
+            let mut errors = Vec::new(rt.alloc());
+            let status = run_program(
+                rt.alloc(),
+                &["script"],
+                FailingReader { left, kind },
+                &mut output,
+                &mut errors,
+                PutInside,
+            );
+            assert_eq!(rt; status, 4);
+            assert_eq!(rt; output.as_slice(), b"".as_slice());
+            assert_eq!(rt; errors.as_slice(), b"cannot read\n".as_slice());
+        }
     }
+    Ok(())
+}
+
+/// Interrupts each second read.
+#[derive(Drop)]
+struct InterruptedReader {
+    left: &'static [u8],
+    interrupts: bool,
+}
+
+impl Read for InterruptedReader {
+    fn read(&mut self, buf: &mut [u8]) -> io::Result<usize> {
+        self.interrupts = !self.interrupts;
+        if self.interrupts {
+            return Err(io::Error::from(ErrorKind::Interrupted));
+        }
+        let most = buf.len().min(1);
+        self.left.read(&mut buf[..most])
+    }
+}
+
+#[test]
+fn a_reader_that_is_interrupted(rt: HostRuntime) -> Result<(), Fail> {
+    let mut output = Vec::new(rt.alloc());
+    let mut errors = Vec::new(rt.alloc());
+    let input = InterruptedReader {
+        left: b"size 1 links 0\nregister\n",
+        interrupts: false,
+    };
+    let status = run_program(
+        rt.alloc(),
+        &["script"],
+        input,
+        &mut output,
+        &mut errors,
+        PutInside,
+    );
+    assert_eq!(rt; status, 0);
+    assert_eq!(rt; output.as_slice(), b"slot 0\n".as_slice());
+    assert_eq!(rt; errors.as_slice(), b"".as_slice());
     Ok(())
 }
 

@@ -1,7 +1,7 @@
 use Rattle.std.proofs.Common.{◌≡◌, ℕ, ◌<◌, List, Option, None, get_or, length, option_map, refl, set, sym, ap, subst, ◌∙◌, IfSome, arith}
 use Rattle.std.proofs.lemmas.List.{get_or-set_same, length-set}
 use mathlib.Core.List.{IsPrefix}
-use Rattle.seize_machine.specs.Machine.State.{model_link as held_at}
+use Rattle.seize_machine.specs.Machine.State.{link_at as held_at}
 use Rattle.seize_model.specs.Waiting.Calls.{model_link, no_guard}
 use Rattle.seize_model.specs.Waiting.State.{ModelState, has_guard, model_slot}
 use Rattle.seize_book.specs.Entry.{Entry}
