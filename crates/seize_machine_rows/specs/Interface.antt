@@ -42,6 +42,7 @@ IsLegal size st event answer = (later : State) × (next size st event ≡ Some (
 -- what holds of calls and counts
 pub record CallsTidy (st : State) : Type 0 where
   pub heads : length st.heads ≡ length st.slots
+  pub free : (t : ℕ) → (slot_at st t).used ≡ false → ((slot_at st t).call ≡ None) × (is_active (head_at st t) ≡ false)
   pub out : (s : ℕ) (stays : Bool) (queue : List ℕ) → StandsAt st s (Out stays) queue → is_active (head_at st s) ≡ true
   pub marks : (s next note : ℕ) (marks queue : List ℕ) → StandsAt st s (Mark next note marks) queue
       → (are_distinct marks ≡ true) × ((v : ℕ) → Contains marks v → v < next) × (length marks ≤ length (slot_at st s).batch)
