@@ -1,5 +1,5 @@
 -- What the tests of the machine's facts say.
-use Rattle.std.specs.Prelude.{◌≡◌, ◌≢◌, ◌⊎◌, ◌↔◌, ℕ, ◌+◌, ◌<◌, ◌≤◌, pos, neg_ℤ, ◌+ℤ◌, ◌≤ℤ◌, Bool, true, false, List, [], ◌∷◌, length, Some, Option}
+use Rattle.std.specs.Prelude.{◌≡◌, ◌≢◌, ◌⊎◌, ◌↔◌, ℕ, ◌+◌, ◌<◌, ◌≤◌, pos, neg_ℤ, ◌+ℤ◌, ◌≤ℤ◌, Bool, true, false, List, [], ◌∷◌, length, Some, None, Option}
 use Rattle.std.specs.List.{Contains}
 use Rattle.seize_machine.specs.Machine.State.{State, Place, Active, Append, Mark, Look, Try, Add, Out, slot_at, is_idle, head_at, link_at, batch_at, is_active, has, are_distinct, opening}
 use Rattle.seize_machine.specs.Machine.Event.{Event, Begin, Put, Insert, AddCount, ExchangeLink, event_slot}
