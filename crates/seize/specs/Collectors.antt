@@ -2,6 +2,7 @@
 --     its_book c        the list of events of the collector, by its name
 --     its_store c       the store where its blocks lie;  its_words c   its words
 --     its_size c, its_links c, its_id c     its batch size, how many links it has, and its id
+--     collector_text size     what `{:?}` writes of a collector of this batch size
 --     seen_by c         what it has seen of its list, as its porter knows: a pass that it gives goes on from there
 --     IsPassOf c pass   it is a pass of the collector, of its batch size
 --     BeginsEmpty c links   its list begins with no slot, and with so many links, which are empty
@@ -10,7 +11,8 @@
 --     IsSlotFor c slot      it is a slot of the collector, in use
 --     IsRefusalFor processors id refusal     a new collector for so many processors, by a source of which this id is the next, may be
 --                       refused so
-use Rattle.std.specs.Prelude.{◌≡◌, ◌⊎◌, ℕ, ◌≤◌, ◌<◌, ◌^◌, List, [], None, length, replicate}
+use Rattle.std.specs.Fmt.{decimal}
+use Rattle.std.specs.Prelude.{◌≡◌, ◌⊎◌, ℕ, ◌≤◌, ◌<◌, ◌^◌, List, [], ◌++◌, None, codes, length, replicate}
 use Rattle.seize_table.specs.declared.refusal.Refusal.{Refusal}
 use Rattle.seize_table.specs.declared.refusal.Refusal.TheVariants.{NoMemory, NoNumbers, TooManyProcessors}
 use Rattle.seize_book.specs.Entry.{Entry}
@@ -43,6 +45,9 @@ its_links collector = length (its_book collector).links
 
 abbrev pub its_id : {T R : Type 0} → Collector T R → ℕ
 its_id collector = collector.id
+
+abbrev pub collector_text : ℕ → List ℕ
+collector_text size = codes "Collector { batch_size: " ++ (decimal size ++ codes " }")
 
 abbrev pub seen_by : {T R : Type 0} → Collector T R → List Entry
 seen_by collector = collector.porter.seen

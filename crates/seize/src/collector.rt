@@ -441,11 +441,16 @@ impl<T: Drop, R: Reclaim<T>> Eq for Collector<T, R> {
     ghost laws = { Prim.search (comparing, rules) };
 }
 
+/// `Collector { batch_size: N }`, on one line.
 impl<T: Drop, R: Reclaim<T>> fmt::Debug for Collector<T, R> {
+    ghost use Rattle.seize.specs.Collectors.{collector_text, its_size};
+    ghost use Rattle.std.specs.Prelude.{Some};
+
+    ghost debug_output = { λ collector. Some (collector_text (its_size collector)) };
+
     fn fmt<W: fmt::Write>(&self, f: &mut fmt::Formatter<W>) -> fmt::Result {
-        f.debug_struct("Collector")
-            .field("batch_size", &self.words.size)
-            .finish()
+        let size = self.words.size;
+        write!(f, "Collector {{ batch_size: {size} }}")
     }
 }
 

@@ -203,6 +203,10 @@ impl<T: Drop, R: Reclaim<T>> Guard<T> for LocalGuard<'_, '_, T, R> {
 }
 
 impl<T: Drop, R: Reclaim<T>> fmt::Debug for LocalGuard<'_, '_, T, R> {
+    ghost use Rattle.std.specs.Prelude.{Some, codes};
+
+    ghost debug_output = { λ _. Some (codes "LocalGuard") };
+
     fn fmt<W: fmt::Write>(&self, f: &mut fmt::Formatter<W>) -> fmt::Result {
         f.write_str("LocalGuard")
     }

@@ -244,6 +244,10 @@ impl<T: Drop, R: Reclaim<T>> Guard<T> for OwnedGuard<'_, T, R> {
 }
 
 impl<T: Drop, R: Reclaim<T>> fmt::Debug for OwnedGuard<'_, T, R> {
+    ghost use Rattle.std.specs.Prelude.{Some, codes};
+
+    ghost debug_output = { λ _. Some (codes "OwnedGuard") };
+
     fn fmt<W: fmt::Write>(&self, f: &mut fmt::Formatter<W>) -> fmt::Result {
         f.write_str("OwnedGuard")
     }
