@@ -6,3 +6,5 @@
 mod interface;
 #[cfg(test)]
 mod machine;
+#[cfg(test)]
+mod refused;

@@ -154,7 +154,7 @@ fn tokens_show_one_value(rt: HostRuntime) -> Result<(), Fail> {
 // What is put into an entry stays there, and what comes after it comes back; where memory is refused the value comes back too.
 #[test]
 fn a_value_that_is_put_stays(rt: HostRuntime) -> Result<(), Fail> {
-    let table = ThreadLocal::<u64>::with_capacity(rt.alloc(), 0)?;
+    let table = table_of(&rt, rt.alloc(), 0)?;
     let thread = at(&rt, 40);
     if let Err(back) = table.put(5, thread) {
         assert_eq!(rt; back, 5);
@@ -288,15 +288,20 @@ fn a_table_is_sent_and_shared(rt: HostRuntime) -> Result<(), Fail> {
 // The tests from here on are run with each of their requests for memory refused in turn. A call that is refused is made again,
 // and then answers what it would have answered first.
 
-#[test]
-fn a_refused_table_is_made_again(rt: HostRuntime) -> Result<(), Fail> {
-    let table: ThreadLocal<u64> = match ThreadLocal::with_capacity(rt.alloc(), 96) {
-        Ok(table) => table,
+// A table of this capacity, made again where it was refused.
+fn table_of(rt: &impl Abort, alloc: Global, capacity: usize) -> Result<ThreadLocal<u64>, Refusal> {
+    match ThreadLocal::with_capacity(alloc, capacity) {
+        Ok(table) => Ok(table),
         Err(refusal) => {
             assert_eq!(rt; refusal, Refusal::NoMemory);
-            ThreadLocal::with_capacity(rt.alloc(), 96)?
+            ThreadLocal::with_capacity(alloc, capacity)
         }
-    };
+    }
+}
+
+#[test]
+fn a_refused_table_is_made_again(rt: HostRuntime) -> Result<(), Fail> {
+    let table = table_of(&rt, rt.alloc(), 96)?;
     assert_eq!(rt; table.buckets(), 3);
     assert_eq!(rt; table.iter().count(), 0);
     Ok(())
@@ -321,7 +326,7 @@ fn fill(
 
 #[test]
 fn a_refused_fill_has_not_called_its_closure(rt: HostRuntime) -> Result<(), Fail> {
-    let table = ThreadLocal::with_capacity(rt.alloc(), 0)?;
+    let table = table_of(&rt, rt.alloc(), 0)?;
     let calls = Cell::new(0);
     for (done, id) in [0, 1, 40, 41, 500].into_iter().enumerate() {
         let thread = at(&rt, id);
@@ -346,7 +351,7 @@ fn a_refused_fill_has_not_called_its_closure(rt: HostRuntime) -> Result<(), Fail
 
 #[test]
 fn a_refused_load_fills_nothing(rt: HostRuntime) -> Result<(), Fail> {
-    let table: ThreadLocal<u64> = ThreadLocal::with_capacity(rt.alloc(), 0)?;
+    let table = table_of(&rt, rt.alloc(), 0)?;
     for (done, id) in [0, 40, 500].into_iter().enumerate() {
         let thread = at(&rt, id);
         if let Err(refusal) = table.load(thread) {

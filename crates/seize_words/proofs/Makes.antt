@@ -65,7 +65,7 @@ unfolding made_by
 does size st s is least few =
     ap (λ (c : Bool). if c && nat_lt s all_numbers then Some (after_take st s, Done) else None) (equal s (first_free st.slots) least)
     ∙ ap (λ (c : Bool). if c then Some (after_take st s, Done) else None) (below s all_numbers few)
-    ∙ ap (λ (c : Bool). Some (if c then (made_by st s).0 else Rattle.seize_machine.specs.Machine.Next.set_slot st s (record (Rattle.seize_machine.specs.Machine.State.slot_at st s) { used = true }), Done)) (equal s (length st.slots) is)
+    ∙ ap (λ (c : Bool). Some (if c then (made_by st s).0 else Rattle.seize_machine.specs.Machine.Next.slot_set st s (record (Rattle.seize_machine.specs.Machine.State.slot_at st s) { used = true }), Done)) (equal s (length st.slots) is)
   where
     below : (x y : ℕ) → x < y → nat_lt x y ≡ true
     below x y l = grind arith
