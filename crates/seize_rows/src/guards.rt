@@ -173,8 +173,9 @@ fn exchange_twice(
     requires of { IsPassOf (guard_collector guard.now) pass.old × (0 < its_links (guard_collector guard.now)) }
     ensures { IsPassOf (guard_collector guard.now) pass.new }
 {
-    let new = guard.collector().owned(3).ok()?;
-    match guard.compare_exchange(0, None, Some(new), pass) {
+    let core = guard.core();
+    let new = core.collector().owned(3).ok()?;
+    match core.compare_exchange(0, None, Some(new), pass) {
         Ok(Some(old)) => {
             guard.defer_retire(rt, pass, old);
             None
@@ -184,7 +185,7 @@ fn exchange_twice(
             let found = failed.found?;
             let new = failed.new?;
             let (held, back) = (*found, *new);
-            match guard.compare_exchange(0, Some(&found), Some(new), pass) {
+            match core.compare_exchange(0, Some(&found), Some(new), pass) {
                 Ok(Some(old)) => {
                     guard.defer_retire(rt, pass, old);
                     Some((held, back, true))

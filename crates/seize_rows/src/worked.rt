@@ -174,9 +174,10 @@ fn lose<'a>(
 {
     let two = guard.owned(Digit { digit: 2, told }).ok()?;
     let three = guard.owned(Digit { digit: 3, told }).ok()?;
-    let held = guard.protect(0, pass)?;
-    let old = guard.swap(0, Some(two), pass)?;
-    let (found, back) = match guard.compare_exchange(0, Some(&held), Some(three), pass) {
+    let core = guard.core();
+    let held = core.protect(0, pass)?;
+    let old = core.swap(0, Some(two), pass)?;
+    let (found, back) = match core.compare_exchange(0, Some(&held), Some(three), pass) {
         Ok(Some(more)) => {
             guard.defer_retire(rt, pass, more);
             (None, None)
@@ -187,7 +188,7 @@ fn lose<'a>(
             failed.new.as_ref().map(|block| block.digit),
         ),
     };
-    let now = guard.protect(0, pass).map(|shared| shared.digit);
+    let now = core.protect(0, pass).map(|shared| shared.digit);
     guard.defer_retire(rt, pass, old);
     Some([found, back, now])
 }
