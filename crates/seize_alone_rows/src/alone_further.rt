@@ -2,7 +2,7 @@
 //! chain or a wide value was made, a sign is given (`sign` of `seize_test_kit`): no call after it asks for memory.
 ghost use Rattle.std.specs.Prelude.{◌≡◌, All, IfOk};
 ghost use Rattle.seize.specs.Alones.{IsSame};
-ghost use Rattle.seize.specs.Blocks.{Belongs, store_name};
+ghost use Rattle.seize.specs.Blocks.{Belongs, owned_store};
 ghost use Rattle.seize_uses.specs.Nests.{nest_owners};
 
 use crate::nests::{
@@ -181,7 +181,7 @@ fn make_tree<'a>(
     ends: &'a AtomicU64,
     below: Option<Owned<Tree<'a>>>,
 ) -> Result<Owned<Tree<'a>>, Refusal>
-    ensures made { IfOk result (λ block. store_name block ≡ alone.old.book.store) }
+    ensures made { IfOk result (λ block. owned_store block ≡ alone.old.book.store) }
     ensures same { alone.new ≡ alone.old }
 {
     let tree = Tree {

@@ -5,7 +5,7 @@ ghost use Rattle.seize.specs.Alones.{IsSame};
 ghost use Rattle.seize.specs.Blocks.{Belongs};
 ghost use Rattle.seize.specs.Collectors.{its_links};
 ghost use Rattle.seize_uses.specs.Nests.{nested_in, nest_owners, nest_weight};
-ghost use Rattle.seize_uses.specs.Weights.{inside_lighter};
+ghost use Rattle.seize_uses.specs.Weights.{nested_lighter};
 ghost use base.Stored.{coded_unit};
 
 use crate::oracle::Value;
@@ -103,7 +103,7 @@ impl Puts<Nest> for Keeping<'_> {
 
     ghost puts = { λ _ value. nested_in value };
 
-    ghost lighter = { λ _ value. inside_lighter value };
+    ghost lighter = { λ _ value. nested_lighter value };
 }
 
 impl Reclaim<Nest> for Keeping<'_> {

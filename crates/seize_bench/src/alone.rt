@@ -1,6 +1,6 @@
 //! A work of one caller, who has a collector alone.
 ghost use Rattle.std.specs.Prelude.{◌≡◌, ◌<◌, IfOk};
-ghost use Rattle.seize.specs.Blocks.{store_name};
+ghost use Rattle.seize.specs.Blocks.{owned_store};
 
 use crate::clock::{RUNS, Samples, Span};
 use crate::guards::{RETIRED, refused};

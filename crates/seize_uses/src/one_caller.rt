@@ -2,7 +2,7 @@
 ghost use Rattle.std.specs.Prelude.{◌≡◌, ◌<◌, IfOk, IfSome, Some, option_map, true};
 ghost use Rattle.seize.specs.Waiting.Calls as calls;
 ghost use Rattle.seize.specs.Alones.{moments_in, opening_in};
-ghost use Rattle.seize.specs.Blocks.{content, store_name};
+ghost use Rattle.seize.specs.Blocks.{content, owned_store};
 ghost use Rattle.seize.specs.Machine.Laws.{After, AtMostOnce};
 
 use seize::{Alone, IdSource, Owned, Refusal};
@@ -53,7 +53,7 @@ pub fn put_and_read(
 /// In this order: `NotInUse`, `NotActive` where the slot has no guard.
 pub fn replace(alone: &mut Alone<u64>, slot: usize, new: Option<Owned<u64>>) -> Result<(), Refusal>
     requires link { 0 < alone.old.links }
-    requires own { IfSome new (λ owned. store_name owned ≡ alone.old.book.store) }
+    requires own { IfSome new (λ owned. owned_store owned ≡ alone.old.book.store) }
     ensures held { IfOk result (λ _. calls.model_link alone.new.state 0 ≡ option_map content new) }
     ensures links { alone.new.links ≡ alone.old.links }
 {
