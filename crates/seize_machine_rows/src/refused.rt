@@ -1,4 +1,4 @@
-//! The machine where memory is refused. `tools/refuse` refuses each request in turn: a refused call changes nothing, and made again it
+//! The machine where memory is refused. `tools/lacking` refuses each request in turn: a refused call changes nothing, and made again it
 //! answers as if nothing had been refused.
 
 use Answer::{Count, Done, Handed, Link};

@@ -19,7 +19,7 @@ use std::io::{ErrorKind, Read, Write};
 /// How many bytes a script has at most.
 pub const LONGEST_SCRIPT: usize = 1_048_576;
 
-/// Does what the arguments say, and answers the status.
+/// Does what the arguments say, and answers the status: 0, or that of a failure.
 pub fn run_program<I: Read + Drop, O: Write + Drop, E: Write + Drop>(
     alloc: Global,
     args: &[&str],
@@ -64,8 +64,8 @@ fn run<'a, I: Read + Drop, O: Write>(
     }
 }
 
-/// The whole input, up to the first byte too many. Each fault of the reader is `CannotRead`, also its want of memory; and so are as many
-/// interruptions as a script may have bytes.
+/// The whole input, up to the first byte too many. Each fault of the reader is `CannotRead`, also its own want of memory; and so are
+/// 2,097,152 reads that don't reach the end, of which more than a million were interrupted then.
 fn read<'a, I: Read + Drop>(alloc: Global, input: I) -> Result<Vec<u8>, Failure<'a>> {
     let mut input = input.take(LONGEST_SCRIPT as u64 + 1);
     let mut text = Vec::new(alloc);

@@ -154,13 +154,9 @@ fn tokens_show_one_value(rt: HostRuntime) -> Result<(), Fail> {
 // What is put into an entry stays there, and what comes after it comes back; where memory is refused the value comes back too.
 #[test]
 fn a_value_that_is_put_stays(rt: HostRuntime) -> Result<(), Fail> {
-    let table = table_of(&rt, rt.alloc(), 0)?;
+    let table: ThreadLocal<u64> = ThreadLocal::with_capacity(rt.alloc(), 0)?;
     let thread = at(&rt, 40);
-    if let Err(back) = table.put(5, thread) {
-        assert_eq!(rt; back, 5);
-        assert!(rt; table.try_load(thread).is_none());
-        assert!(rt; table.put(5, thread).is_ok());
-    }
+    assert!(rt; table.put(5, thread).is_ok());
     assert_eq!(rt; table.try_load(thread).map(|found| *found), Some(5));
     assert_eq!(rt; table.put(6, thread).err(), Some(6));
     assert_eq!(rt; table.try_load(thread).map(|found| *found), Some(5));
@@ -363,6 +359,20 @@ fn a_refused_load_fills_nothing(rt: HostRuntime) -> Result<(), Fail> {
         assert_eq!(rt; table.iter().count(), done.saturating_add(1));
     }
     assert_eq!(rt; table.buckets(), 3);
+    Ok(())
+}
+
+#[test]
+fn a_refused_put_gives_the_value_back(rt: HostRuntime) -> Result<(), Fail> {
+    let table = table_of(&rt, rt.alloc(), 0)?;
+    let thread = at(&rt, 40);
+    if let Err(back) = table.put(5, thread) {
+        assert_eq!(rt; back, 5);
+        assert!(rt; table.try_load(thread).is_none());
+        assert!(rt; table.put(5, thread).is_ok());
+    }
+    assert_eq!(rt; table.try_load(thread).map(|found| *found), Some(5));
+    assert_eq!(rt; table.buckets(), 2);
     Ok(())
 }
 

@@ -67,6 +67,34 @@ fn a_reader_that_fails(rt: HostRuntime) -> Result<(), Fail> {
     Ok(())
 }
 
+/// Interrupts each read.
+#[derive(Drop)]
+struct NoReader {}
+
+impl Read for NoReader {
+    fn read(&mut self, _buf: &mut [u8]) -> io::Result<usize> {
+        Err(io::Error::from(ErrorKind::Interrupted))
+    }
+}
+
+/// One that is interrupted for ever can't be read.
+#[test]
+fn a_reader_that_is_interrupted_for_ever(rt: HostRuntime) -> Result<(), Fail> {
+    let mut output = Vec::new(rt.alloc());
+    let mut errors = Vec::new(rt.alloc());
+    let status = run_program(
+        rt.alloc(),
+        &["script"],
+        NoReader {},
+        &mut output,
+        &mut errors,
+        PutInside,
+    );
+    assert_eq!(rt; status, 4);
+    assert_eq!(rt; errors.as_slice(), b"cannot read\n".as_slice());
+    Ok(())
+}
+
 /// Interrupts each second read.
 #[derive(Drop)]
 struct InterruptedReader {
