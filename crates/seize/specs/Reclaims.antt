@@ -6,8 +6,7 @@
 --     AddsNothing c seen       nothing was made in this list with the collector's own pass, the first one (0), beyond what it had seen
 --     Learns c c' known        the same collector has seen what the `Seen` has, and no less than before, and added nothing
 --     NoneInUse c              no number is in use, as the collector has seen
---     FindsInUse c c'          the same collector has seen a longer list. At the call the list was this: the collector had added nothing to
---                              what it had seen, and some number was in use
+--     FindsInUse c c'          the same collector has seen a longer list, to which it added nothing, and some number is in use
 --     AllReclaimed c           each value that was ever retired is reclaimed, as the collector has seen
 --     ReclaimsAll c c' all     the same collector has seen a longer list. At the call the list was this: the collector had added nothing to
 --                              what it had seen, and all that comes after was made with its own pass. Links are as they were then, and a
@@ -58,11 +57,9 @@ module _ {T R : Type 0} where
 
   pub record FindsInUse (c c' : Collector T R) : Type 0 where
     pub same : IsSameCollector c c'
-    pub at_call : List Entry
-    pub goes_on : GoesOnTo (its_book c) (seen_by c) at_call
-    pub nothing : AddsNothing c at_call
-    pub in_use : ¬ ((s : ℕ) → (slot_at (after (start (its_book c)) at_call) s).used ≡ false)
-    pub grows : GoesOnTo (its_book c) at_call (seen_by c')
+    pub goes_on : GoesOnTo (its_book c) (seen_by c) (seen_by c')
+    pub nothing : AddsNothing c (seen_by c')
+    pub in_use : ¬ (NoneInUse c')
 
   abbrev pub AllReclaimed : Collector T R → Type 0
   AllReclaimed c = (v q : ℕ) → Retired (moments_of c) v q → (k : ℕ) × Reclaimed (moments_of c) v k

@@ -115,7 +115,7 @@ come_on p q r found comes looks sole =
       goes_on = subst (λ (log : List Entry). GoesOnTo p.name p.seen log) (sym (looks.alone sole)) comes.goes_on;
       made = comes.made ∙ ap (λ (st : State). length st.slots) (sym same);
       left = λ s place is. subst (λ (t : Name × State). IsLeftAt t.0 t.1 s place) (λ j. (sym looks.same.0 j, sym same j)) (comes.left s place is);
-      numbers = λ s. ap (λ (st : State). (slot_at st s).used) same ∙ comes.numbers s;
+      still = looks.alone sole ∙ comes.still;
       used = λ all s. subst (λ (st : State). IsUsedAs st s (use_in (get_or found.places.items s None))) (sym same) (comes.used all s);
       kept = λ none unused. comes.kept none (subst (λ (st : State). (s : ℕ) → (slot_at st s).used ≡ false) same unused);
     }

@@ -1,9 +1,9 @@
 -- How a collector that threads shared is found where one caller has it.
 --     AreLeft pass places      what lies in these places was left there, as the pass has seen
 --     LiesSomewhere slots places s   slot s lies here, or something lies in its place
---     ComesToRest pass pass' found    it is the same pass, with a list that goes on. So many slots were made, and what lies in the places
---                              that were found was left there. The same numbers are in use as before. Where all is found each slot is
---                              used as its place says; where it is not, a number is in use
+--     ComesToRest pass pass' found    it is the same pass, with the same list, which is legal. So many slots were made, and what lies in
+--                              the places that were found was left there. Where all is found each slot is used as its place says; where it
+--                              is not, a number is in use
 use Rattle.std.specs.Prelude.{◌≡◌, ◌⊎◌, ℕ, true, false, List, Option, None, Some, get_or, is_some, length}
 use Rattle.seize_machine.specs.Machine.State.{slot_at}
 use Rattle.seize_book.specs.Homesteads.{state_seen}
@@ -27,6 +27,6 @@ pub record ComesToRest {T : Type 0} (pass pass' : Pass) (found : Found T) : Type
   pub goes_on : GoesOnTo pass.name pass.seen pass'.seen
   pub made : found.made ≡ length (state_seen pass').slots
   pub left : AreLeft pass' found.places.items
-  pub numbers : (s : ℕ) → (slot_at (state_seen pass') s).used ≡ (slot_at (state_seen pass) s).used
+  pub still : pass'.seen ≡ pass.seen
   pub used : found.all ≡ true → (s : ℕ) → IsUsedAs (state_seen pass') s (use_in (get_or found.places.items s None))
   pub kept : found.all ≡ false → ¬ ((s : ℕ) → (slot_at (state_seen pass') s).used ≡ false)

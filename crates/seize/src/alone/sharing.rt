@@ -28,7 +28,7 @@ use std::marker::Brand;
 impl<T: Drop, R: Reclaim<T>> Collector<T, R> {
     ghost use Rattle.seize_book.specs.Porters.{GoesOnTo};
     ghost use Rattle.seize.specs.Collectors.{its_links};
-    ghost use Rattle.seize.specs.Reclaims.{FindsInUse};
+    ghost use Rattle.seize.specs.Reclaims.{AddsNothing, FindsInUse};
 
     /// Gives the collector to one caller. It goes by value, so passes, guards and registrations are over. Where these were forgotten, by
     /// their calls of `forget`, their slots stay as they were: a number stays in use, by an owned slot where an owned guard had it, and a
@@ -45,7 +45,7 @@ impl<T: Drop, R: Reclaim<T>> Collector<T, R> {
     pub fn alone(self) -> Result<Alone<T, R>, Collector<T, R>>
         ensures made { IfOk result (λ alone. (alone.book ≡ its_book self) × (alone.size ≡ its_size self) × (alone.id ≡ its_id self)
             × (alone.links ≡ its_links self) × (alone.state.size ≡ alone.size) × (length alone.state.links ≡ its_links self)
-            × GoesOnTo alone.book (seen_by self) alone.seen) }
+            × GoesOnTo alone.book (seen_by self) alone.seen × AddsNothing self alone.seen) }
         ensures back { IfErr result (FindsInUse self) }
     {
         let (mut words, mut pass, mut numbers, ender, id, alloc) = self.into_parts();

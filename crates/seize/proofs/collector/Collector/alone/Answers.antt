@@ -80,17 +80,17 @@ returns-clause-made g c =
       first.1 ∙ comes.same.2 ∙ sym parts.pass.0.1,
       first.2 ∙ ap (λ (n : Name). length n.links) (comes.same.0 ∙ sym parts.pass.0.0 ∙ parts.words.0),
       subst (λ (t : Name × List Entry). GoesOnTo t.0 (seen_by self) t.1) (λ j. (own j, (sym c.rest.ensures.pass j).seen)) (goes_then shut.goes_on (subst (λ (n : Name). GoesOnTo n had.seen pass.seen) shut.book.0 comes.goes_on)),
+      subst (λ (t : Name × List Entry). mine (start t.0) 0 t.1 ≡ mine (start t.0) 0 (seen_by self)) (λ j. (self.lends.0 j, sym (ap (λ (p : Pass). p.seen) c.rest.ensures.pass ∙ comes.still) j)) shut.none_made,
     )
 
 pub returns-then-not-all-clause-back : goal.returns-then-not-all-clause-back
 returns-then-not-all-clause-back g c =
     let self = c.args.self in let parts = c.into_parts-words.ensures in let comes = c.come_to_rest-found.ensures.rests in let shut = parts.pass.1 in let had = c.into_parts-words.result.1 in let name = its_book self in
     let own : self.porter.name ≡ name = self.lends.0 in let had_name : had.name ≡ name = shut.book.0 ∙ own in let same = c.shared.ensures.same in
+    let seen : seen_by c.shared.result ≡ had.seen = same.3 ∙ comes.still in let book : c.come_to_rest-found.new.pass.name ≡ its_book c.shared.result = comes.same.0 ∙ had_name ∙ sym (same.0 ∙ parts.words.0) in
     record {
       same = (same.0 ∙ parts.words.0, same.1 ∙ parts.words.1, same.2 ∙ parts.id);
-      at_call = had.seen;
-      goes_on = subst (λ (n : Name). GoesOnTo n (seen_by self) had.seen) own shut.goes_on;
-      nothing = subst (λ (n : Name). mine (start n) 0 had.seen ≡ mine (start n) 0 (seen_by self)) own shut.none_made;
-      in_use = λ unused. comes.kept c.if-not-all.true (λ s. comes.numbers s ∙ ap (λ (n : Name). (slot_at (after (start n) had.seen) s).used) had_name ∙ unused s);
-      grows = subst (λ (t : Name × List Entry). GoesOnTo t.0 had.seen t.1) (λ j. (had_name j, sym same.3 j)) comes.goes_on;
+      goes_on = subst (λ (t : Name × List Entry). GoesOnTo t.0 (seen_by self) t.1) (λ j. (own j, sym seen j)) shut.goes_on;
+      nothing = subst (λ (t : Name × List Entry). mine (start t.0) 0 t.1 ≡ mine (start t.0) 0 (seen_by self)) (λ j. (own j, sym seen j)) shut.none_made;
+      in_use = λ unused. comes.kept c.if-not-all.true (λ s. (λ j. (slot_at (after (start (book j)) (sym same.3 j)) s).used) ∙ unused s);
     }

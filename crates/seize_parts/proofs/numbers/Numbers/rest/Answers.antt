@@ -9,7 +9,6 @@ use Rattle.seize_parts.specs.Resting.{AreLeft, ComesToRest, LiesSomewhere}
 use Rattle.seize_parts.specs.declared.alone.place.Place.{Place}
 use Rattle.seize_parts.specs.declared.numbers.Numbers.{Numbers}
 use Rattle.seize_parts.specs.declared.numbers.resting.Found.{Found}
-use Rattle.seize_parts.proofs.Cleared.{looked_state}
 use Rattle.seize_parts.proofs.InUse.{AreAllHere, all_unused, here_all, taken_still}
 use Rattle.seize_parts.proofs.Placed.{still_for}
 use Rattle.seize_parts.proofs.Resting.{all_lie, left_none, rested_many, rested_on, rested_used}
@@ -51,7 +50,7 @@ returns-clause-rests g c =
       goes_on = rested_on p q looks;
       made = many ∙ rested_many p q looks items flags;
       left = left;
-      numbers = λ s. ap (λ (st : State). (slot_at st s).used) (looked_state p q looks c.requires.pass.1);
+      still = looks.alone c.requires.pass.1;
       used = λ is. rested_used p q looks items flags found left (lie is);
       kept = kept;
     } in
