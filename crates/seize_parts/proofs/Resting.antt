@@ -3,40 +3,32 @@ use Rattle.std.proofs.Common.{◌≡◌, ◌⊎◌, ◌<◌, ◌≤◌, ℕ, zer
 use Rattle.std.specs.List.{list_all}
 use Rattle.std.specs.Option.{is_none}
 use Rattle.std.proofs.lemmas.List.{length-map}
-use base.Growing.{prefix_trans}
 use base.Stored.{Gv}
 use Rattle.seize_machine.specs.Machine.Frames.{used}
-use Rattle.seize_machine.specs.Machine.State.{Slot as Record, State, are_distinct, head_at, is_active, linked_values, no_slot, slot_at}
+use Rattle.seize_machine.specs.Machine.State.{Slot as Record, State, no_slot, slot_at}
 use Rattle.seize_model.specs.declared.kind.Kind.TheVariants.{Free}
 use Rattle.seize_book.specs.Book.{after}
 use Rattle.seize_book.specs.Entry.{Entry}
-use Rattle.seize_book.specs.Homes.{IsSound}
 use Rattle.seize_book.specs.Homesteads.{state_seen}
-use Rattle.seize_book.specs.Loans.{AllCarryOne}
-use Rattle.seize_book.specs.Passes.{IsSamePass, LooksOn}
+use Rattle.seize_book.specs.Passes.{LooksOn}
 use Rattle.seize_book.specs.Porters.{GoesOnTo}
 use Rattle.seize_book.specs.Saying.{AllSay}
-use Rattle.seize_book.specs.Slots.{slot_number, slot_of}
 use Rattle.seize_book.specs.Tokens.{IsSole, Name, start}
 use Rattle.seize_book.specs.declared.book.pass.Pass.{Pass}
 use Rattle.seize_book.proofs.Facts.{reached_after, same_twice}
 use Rattle.seize_machine.proofs.Facts.{unused_at_rest}
 use Rattle.seize_machine.specs.Machine.History.{IsReached}
-use Rattle.seize_words.specs.declared.words.Words.{Words}
-use Rattle.seize_calls.specs.Slots.{IsFreeSlotOf, SlotGives, its_number}
-use Rattle.seize_calls.specs.declared.slot.Slot.{Slot}
 use Rattle.seize_alone.specs.Begins.{Begun, IsUsedAs}
 use Rattle.seize_alone.proofs.Begins.{begins_held}
 use Rattle.seize_parts.specs.Laws.{HaveContents}
 use Rattle.seize_parts.specs.Numbers.{flags_of}
 use Rattle.seize_parts.specs.Placing.{IsLeftAt, use_in}
 use Rattle.seize_parts.specs.Resting.{AreLeft, ComesToRest, LiesSomewhere}
-use Rattle.seize_parts.specs.Sweeps.{IsLedBy, KeepsOn, LeavesNothing, LiesHere}
+use Rattle.seize_parts.specs.Sweeps.{LiesHere}
 use Rattle.seize_parts.specs.declared.alone.place.Place.{Place}
 use Rattle.seize_parts.specs.declared.numbers.resting.Found.{Found}
-use Rattle.seize_parts.proofs.Cleared.{below_or, here_long, looked_state, past_end, past_nothing, used_at}
+use Rattle.seize_parts.proofs.Cleared.{below_or, here_long, looked_state, past_end, used_at}
 use Rattle.seize_parts.proofs.InUse.{set_or}
-use Rattle.seize_parts.proofs.Swept.{given_later}
 
 here_some : {X : Type 0} (items : List (Option X)) (s : ℕ) → is_some (get_or items s None) ≡ true → LiesHere (flags_of items) s
 here_some [] s is = absurd (cc)

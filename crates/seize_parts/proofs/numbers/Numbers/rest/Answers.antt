@@ -1,8 +1,7 @@
 use Rattle.std.proofs.Common.{◌≡◌, ◌<◌, ℕ, List, [], Option, None, true, false, get_or, length, refl, sym, ap, subst, true≢false, ◌∙◌, arith}
 use Rattle.seize_machine.specs.Machine.Frames.{used}
-use Rattle.seize_machine.specs.Machine.State.{State, slot_at}
+use Rattle.seize_machine.specs.Machine.State.{slot_at}
 use Rattle.seize_book.specs.Homesteads.{state_seen}
-use Rattle.seize_book.specs.Tokens.{IsSole}
 use Rattle.seize_book.specs.declared.book.pass.Pass.{Pass}
 use Rattle.seize_parts.specs.Numbers.{AreNumbers, flags_of}
 use Rattle.seize_parts.specs.Resting.{AreLeft, ComesToRest, LiesSomewhere}
