@@ -30,6 +30,8 @@ pub fn calls_in_turn()
     ensures forgotten_guard { runs.tellings (new 4 0) runs.forgotten_guard ≡ runs.forgotten_guard_told }
     ensures left_behind { runs.tellings (new 3 0) runs.left_behind ≡ runs.left_behind_told }
     ensures inherited_batch { runs.tellings (new 3 0) runs.inherited_batch ≡ runs.inherited_batch_told }
+    ensures rest_gathered { runs.tellings (new 4 0) runs.rest_gathered ≡ runs.rest_gathered_told }
+    ensures rest_taken { runs.tellings (new 2 0) runs.rest_taken ≡ runs.rest_taken_told }
     ensures refusals { runs.tellings (new 1 0) runs.refusals ≡ runs.refusals_told }
     ensures links { runs.tellings (new 1 1) runs.link_runs ≡ runs.link_runs_told }
 {}

@@ -51,14 +51,16 @@ attempt st s =
 abbrev pub with_batch_value : {T R : Type 0} → ModelState T R → ℕ → T × R → ModelState T R
 with_batch_value st s v = set_slot st s (record (model_slot st s) { batch = (model_slot st s).batch ++ v ∷ [] })
 
--- **Retire v by s.** The value joins the batch of s, and an attempt follows if the batch is then long enough. A size of 0
--- serves as 1.
+-- an attempt by s, if its batch is long enough. A size of 0 serves as 1
+abbrev pub attempt_if_full : {T R : Type 0} → ModelState T R → ℕ → StateAndGone T R
+attempt_if_full st s =
+    if nat_le (max 1 st.size) (length (model_slot st s).batch)
+    then attempt st s
+    else (st, [])
+
+-- **Retire v by s.** The value joins the batch of s, and an attempt follows if the batch is then long enough.
 abbrev pub put : {T R : Type 0} → ModelState T R → ℕ → T × R → StateAndGone T R
-put st s v =
-    let next = with_batch_value st s v in
-    if nat_le (max 1 st.size) (length (model_slot next s).batch)
-    then attempt next s
-    else (next, [])
+put st s v = attempt_if_full (with_batch_value st s v) s
 
 -- those of these batches whose waiting set is empty are gone, first to last
 abbrev pub release_all : {T R : Type 0} → ModelState T R → List ℕ → StateAndGone T R
