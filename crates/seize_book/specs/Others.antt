@@ -10,6 +10,7 @@
 --     use_flags numbers                 which numbers are in use, as this key knows;  first_false us     the least that is not
 --     others_used us s                  another number than s is in use
 --     MayGive numbers key, MayGather numbers key     the slot may end, since another one is in use or nothing is left;  or it may gather
+--     numbers_saw numbers               the list at the last event with this key
 --     rest_of numbers                   what slots left in their batches as they ended, in order, as this key knows
 --     IsOfBook keys pass                they are of one book;  IsValueOf value pass, AreNumbersOf numbers pass     so is this key
 --     state_of keys, value_of value     where the keys' list leads, and which value it is
@@ -94,6 +95,9 @@ MayTakeNumber numbers key = IsLeast (key_of key.keys.held) (state_of numbers.key
 -- which numbers are in use, as the key of the numbers knows, and which is the least that is not
 abbrev pub use_flags : NumbersKey → List Bool
 use_flags numbers = used (state_of numbers.keys)
+
+abbrev pub numbers_saw : NumbersKey → List Entry
+numbers_saw numbers = own_of numbers.keys.held
 
 abbrev pub others_used : List Bool → ℕ → Bool
 others_used us s = list_any (λ u. u) (slice_set us s false)

@@ -1,5 +1,6 @@
 //! The key of a slot, and the events that its holder makes of the slot itself. It is `Keys` with one key; they are added with a pass.
 ghost use Rattle.std.specs.Prelude.{◌≡◌, [], ◌∷◌, ◌++◌, length, true, false, slice_set, IfSome, None, Some, is_some};
+ghost use mathlib.Core.List.{IsPrefix};
 ghost use Rattle.seize_machine.specs.Machine.Next.{gathered_slot, taken_slot};
 ghost use Rattle.seize_machine.specs.Machine.State.{is_idle, no_slot};
 ghost use Rattle.seize_machine.specs.Machine.Event.{Begin, Detach, Give, Hand, Put, Return, Take};
@@ -32,7 +33,7 @@ impl SlotKey {
     ghost use Rattle.seize_book.specs.Batches.{CanDetach, Detaches};
     ghost use Rattle.seize_book.specs.Kept.{kepts_of};
     ghost use Rattle.seize_book.specs.Values.{AreLast, AreOfBook, AreNew, AreSpent, FollowsValues, values_of};
-    ghost use Rattle.seize_book.specs.Others.{AreNumbersOf, CannotRetire, Follows, FollowsNumbers, FollowsValue, IsLast, IsOfBook, IsValueOf, IsWith, Knew, MayGather, MayGive, MayRetire, MayTakeNumber, SameKind, rest_of, use_flags, value_of};
+    ghost use Rattle.seize_book.specs.Others.{AreNumbersOf, CannotRetire, Follows, FollowsNumbers, FollowsValue, IsLast, IsOfBook, IsValueOf, IsWith, Knew, MayGather, MayGive, MayRetire, MayTakeNumber, SameKind, numbers_saw, rest_of, use_flags, value_of};
     ghost use Rattle.seize_book.specs.Private.{IsOpen, IsPrivate};
     ghost use Rattle.seize_book.specs.Slots.{HandsOnce, LooksWithSlotKey, AddsEvent, AddsDeed, IsKeyOfBook, active_of, hands_next, slot_number, slot_of, start_of};
     ghost use Rattle.seize_book.specs.Tables.{IsLike, IsPlaced};
@@ -109,7 +110,7 @@ impl SlotKey {
         requires idle { (is_idle (slot_of self.old) ≡ true) × (active_of self.old ≡ false) }
         requires may { MayGive numbers.old self.old }
         ensures noted { AddsEvent self.old pass.old self.new pass.new (Give (slot_number self.old)) × (slot_of self.new ≡ no_slot) }
-        ensures numbers { FollowsNumbers numbers.old pass.new numbers.new }
+        ensures numbers { FollowsNumbers numbers.old pass.new numbers.new × IsPrefix (numbers_saw numbers.old) pass.new.seen }
         ensures used { use_flags numbers.new ≡ slice_set (use_flags numbers.old) (slot_number self.old) false }
         ensures rest { rest_of numbers.new ≡ rest_of numbers.old ++ (slot_of self.old).batch }
     {
@@ -123,7 +124,8 @@ impl SlotKey {
         requires least { MayTakeNumber numbers.old self.old }
         ensures noted { AddsEvent self.old pass.old self.new pass.new (Take (slot_number self.old)) }
         ensures slot { slot_of self.new ≡ taken_slot pass.old.size (length (use_flags numbers.old)) (rest_of numbers.old) }
-        ensures numbers { FollowsNumbers numbers.old pass.new numbers.new × (rest_of numbers.new ≡ []) }
+        ensures numbers { FollowsNumbers numbers.old pass.new numbers.new × IsPrefix (numbers_saw numbers.old) pass.new.seen }
+        ensures rest { rest_of numbers.new ≡ [] }
         ensures used { use_flags numbers.new ≡ slice_set (use_flags numbers.old) (slot_number self.old) true }
     {
         self.add_with::<Brand>(&mut numbers.keys, 0, pass);
@@ -137,7 +139,8 @@ impl SlotKey {
         requires may { MayGather numbers.old self.old }
         ensures noted { AddsEvent self.old pass.old self.new pass.new (Begin (slot_number self.old) Gather) }
         ensures slot { slot_of self.new ≡ gathered_slot (length (use_flags numbers.old)) (rest_of numbers.old ++ (slot_of self.old).batch) }
-        ensures numbers { FollowsNumbers numbers.old pass.new numbers.new × (rest_of numbers.new ≡ []) }
+        ensures numbers { FollowsNumbers numbers.old pass.new numbers.new × IsPrefix (numbers_saw numbers.old) pass.new.seen }
+        ensures rest { rest_of numbers.new ≡ [] }
         ensures used { use_flags numbers.new ≡ use_flags numbers.old }
     {
         self.add_with::<Brand>(&mut numbers.keys, 0, pass);
