@@ -33,7 +33,7 @@
 --     SlotGives, SlotTakes, SlotGathers     its number went back by the event `Give`, or was taken again by `Take`; or it began to gather
 --     SlotResumes              a call that a take or a gathering began went on to its return (Resumes)
 --     SlotLooks slot pass slot' pass'     pass and key looked at the list, where the slot is as its key knew; it keeps its batch
-use Rattle.std.specs.Prelude.{◌≡◌, ℕ, Bool, true, false, if◌then◌else◌, List, Some, slice_set}
+use Rattle.std.specs.Prelude.{◌≡◌, ℕ, Bool, true, false, List, Some, slice_set}
 use mathlib.Core.List.{IsPrefix}
 use Rattle.seize_machine.specs.Machine.Event.{Begin, Enter, Give, SwapOut, Take}
 use Rattle.seize_machine.specs.Machine.State.{is_idle, no_slot}
@@ -103,7 +103,8 @@ abbrev pub IsFreeSlotOf : {T : Type 0} → Words T → Slot T → Type 0
 IsFreeSlotOf words slot = IsOfWords words slot × (slot_of slot.holder.key ≡ no_slot) × IsInactive slot
 
 abbrev pub IsTakenAs : {T : Type 0} → Bool → Words T → Slot T → Type 0
-IsTakenAs begun words slot = IsOfWords words slot × (if begun then IsToAttempt slot else IsInUse slot)
+IsTakenAs true words slot = IsOfWords words slot × IsToAttempt slot
+IsTakenAs false words slot = IsSlotOf words slot
 
 pub record IsRestIn (n : Name) (numbers : NumbersKey) (rest : Batch) : Type 0 where
   pub book : book_in (keys_in rest) ≡ n
