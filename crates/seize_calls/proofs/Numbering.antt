@@ -1,11 +1,9 @@
--- A number goes back or is taken again, or a gathering begins: what this leaves of the slot, and what is known of the rest then.
-use Rattle.std.proofs.Common.{◌≡◌, ℕ, false, List, ap, ◌∙◌, sym, subst}
-use mathlib.Core.List.{IsPrefix}
+-- A number goes back or is taken again, or a gathering begins: what this leaves of the slot.
+use Rattle.std.proofs.Common.{◌≡◌, ℕ, false, [], ap, ◌∙◌}
 use Rattle.seize_machine.specs.Machine.Event.{Event}
 use Rattle.seize_machine.specs.Machine.Frames.{changes_head_of}
 use Rattle.seize_machine.specs.Machine.State.{is_active}
 use Rattle.seize_machine.proofs.Facts.{head_frame}
-use Rattle.seize_book.specs.Entry.{Entry}
 use Rattle.seize_book.specs.Slots.{AddsEvent, active_of, slot_number}
 use Rattle.seize_book.specs.declared.book.pass.Pass.{Pass}
 use Rattle.seize_book.specs.declared.book.slot_key.SlotKey.{SlotKey}

@@ -61,7 +61,7 @@ module _ (n : Name) (numbers numbers' : NumbersKey) (pass' : Pass) (follows : Fo
 -- How a slot stands that a take or a gathering left.
 
 to_attempt : (key : SlotKey) (n : ℕ) (batch : List ℕ) → slot_of key ≡ gathered_slot n batch → ((slot_of key).used ≡ true) × BeginsToAttempt key
-to_attempt key n batch is = (ap (λ (z : Record). z.used) is, record { note = n; queue = []; marking = ap (λ (z : Record). z.call) is }, refl)
+to_attempt key n batch is = (ap (λ (z : Record). z.used) is, (record { note = n; queue = []; marking = ap (λ (z : Record). z.call) is }, refl))
 
 pub gathered_as : {T : Type 0} (words : Words T) (slot : Slot T) (n : ℕ) (batch : List ℕ) → IsOfWords words slot → slot_of slot.holder.key ≡ gathered_slot n batch → IsTakenAs true words slot
 gathered_as words slot n batch of is = (of, to_attempt slot.holder.key n batch is)

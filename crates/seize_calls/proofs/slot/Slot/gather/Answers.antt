@@ -9,6 +9,7 @@ use Rattle.seize_book.specs.Slots.{AddsEvent, slot_of}
 use Rattle.seize_words.proofs.Facts.{all_told_later, seen_grows}
 use Rattle.seize_words.specs.Joined.{words_book}
 use Rattle.seize_calls.specs.Batches.{keys_in}
+use Rattle.seize_calls.specs.Settling.{HasBatch}
 use Rattle.seize_calls.proofs.Numbering.{same_active}
 use Rattle.seize_calls.proofs.Rested.{gathered_as, joins_told, none_told, rest_told}
 use Rattle.seize_calls.proofs.Slots.{after_event, calls_with, of_list, ready_learned}
@@ -21,7 +22,7 @@ returns-clause-of g c =
     let left = rest_told n c.args.numbers.now one.new.numbers one.new.pass one.ensures.numbers.0 one.ensures.numbers.1 rest is in
     let own = all_told_later s.seen.seen one.new.pass.seen (keys_in s.holder.batch).keys.held (prefix_trans s.seen.seen p.seen one.new.pass.seen ready.grows (seen_grows p.name p.id p.seen one.new.pass.seen _ notes.2.0)) of.0.0.told in
     let both = joins_told one.new.pass (keys_in rest) (keys_in s.holder.batch) (keys_in first.new.self) first.ensures.joins left own in
-    let has = (
+    let has : HasBatch one.new.self one.new.pass (keys_in last.new.self) = (
       last.ensures.joins.book ∙ first.ensures.emptied.0 ∙ s.together.batch_is.0 ∙ ready.named ∙ sym notes.0.0,
       last.ensures.joins.all ∙ (λ j. ap labels_of first.ensures.emptied.1 j ++ (first.ensures.joins.all ∙ (λ k. is.values k ++ s.together.batch_is.1 k)) j) ∙ sym (ap (λ (z : Slot). z.batch) one.ensures.slot),
       joins_told one.new.pass (keys_in first.new.other) (keys_in first.new.self) (keys_in last.new.self) last.ensures.joins (none_told one.new.pass (keys_in first.new.other) first.ensures.emptied.1) both,

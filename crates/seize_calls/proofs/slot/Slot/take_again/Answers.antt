@@ -8,6 +8,7 @@ use Rattle.seize_book.specs.Slots.{AddsEvent}
 use Rattle.seize_words.proofs.Facts.{all_told_later, seen_grows}
 use Rattle.seize_words.specs.Joined.{words_book}
 use Rattle.seize_calls.specs.Batches.{keys_in}
+use Rattle.seize_calls.specs.Settling.{HasBatch}
 use Rattle.seize_calls.proofs.Numbering.{same_active}
 use Rattle.seize_calls.proofs.Rested.{joins_told, rest_told, taken_as}
 use Rattle.seize_calls.proofs.Slots.{after_event, calls_with, of_list, ready_learned}
@@ -19,7 +20,7 @@ returns-clause-of g c =
     let ready = ready_learned s.seen c.args.pass.now p (of.0.0.book ∙ of.1.0) c.learn.ensures in let rest = c.args.rest.now in let is = c.requires.numbers.1 in let joins = c.append.ensures.joins in
     let left = rest_told n c.args.numbers.now one.new.numbers one.new.pass one.ensures.numbers.0 one.ensures.numbers.1 rest is in
     let own = all_told_later s.seen.seen one.new.pass.seen (keys_in s.holder.batch).keys.held (prefix_trans s.seen.seen p.seen one.new.pass.seen ready.grows (seen_grows p.name p.id p.seen one.new.pass.seen _ notes.2.0)) of.0.0.told in
-    let has = (
+    let has : HasBatch one.new.self one.new.pass (keys_in c.append.new.self) = (
       joins.book ∙ s.together.batch_is.0 ∙ ready.named ∙ sym notes.0.0,
       joins.all ∙ (λ j. (s.together.batch_is.1 ∙ ap (λ (z : Slot). z.batch) of.0.1) j ++ is.values j) ∙ sym (ap (λ (z : Slot). z.batch) one.ensures.slot),
       joins_told one.new.pass (keys_in s.holder.batch) (keys_in rest) (keys_in c.append.new.self) joins own left,
