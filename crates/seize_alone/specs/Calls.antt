@@ -10,11 +10,12 @@
 --     LeavesHeld          a leave with the last guard of a registered slot
 --     RefreshesHeld       a refresh of an owned slot, or of one with one guard
 --     TakesFullHeld       a number is taken for a slot of this kind, and what was left, which is a full batch, is attempted
---     GathersHeld         a slot in use without a guard gathers, so that what was left and its batch are attempted
+--     GathersHeld         a slot in use without a guard gathers, so that what was left and its batch are attempted: no other slot is in use,
+--                         and this is something
 --     SizeStays           none of them changes the size
 --     SameOutline st now  each slot has the kind and the number of guards that it had, and each link holds what it held
 --     OutlineStays        that is so after a refresh, a flush and a retirement
-use Rattle.std.specs.Prelude.{◌≡◌, ◌||◌, ◌==◌, ℕ, max, nat_le, Bool, true, false, List, [], length, Ok}
+use Rattle.std.specs.Prelude.{◌≡◌, ◌≢◌, ◌||◌, ◌==◌, ℕ, max, nat_le, Bool, true, false, List, [], length, Ok}
 use Rattle.std.specs.Coded.{Coded}
 use Rattle.seize_table.specs.Place.{all_numbers}
 use Rattle.seize_machine.specs.Machine.Event.{Begin, SwapOut, Take}
@@ -23,7 +24,8 @@ use Rattle.seize_machine.specs.declared.machine.event.Job.TheVariants.{Gather, L
 use Rattle.seize_model.specs.declared.kind.Kind.{Kind}
 use Rattle.seize_model.specs.declared.kind.Kind.TheVariants.{Registered}
 use Rattle.seize_model.specs.Waiting.State.{ModelState, has_guard, model_slot}
-use Rattle.seize_model.specs.Waiting.Calls.{flush, is_free, is_owned, least_unused, leave, one_guard_less, refresh, retire, with_number_in_use, with_rest_gathered}
+use Rattle.seize_model.specs.Waiting.Calls.{flush, is_free, is_owned, least_unused, leave, one_guard_less, others_in_use, refresh, rest_and_batch, retire}
+use Rattle.seize_model.specs.Waiting.Calls.{with_number_in_use, with_rest_gathered}
 use Rattle.seize_model.specs.Waiting.Attempt.{attempt}
 use Rattle.seize_model.specs.Waiting.Further.{with_further}
 use Rattle.seize_book.specs.Adding.{private}
@@ -107,6 +109,7 @@ GathersHeld {T} c puts weight =
     AddsEvent key pass begun began (Begin s Gather) → Resumes begun began values [] key' pass' values' had'
     → CallsAlone c puts st names kinds pass pass' had' → is_free (model_slot st s).kind ≡ false → has_guard (model_slot st s) ≡ false
     → HoldsThen c.code (with_further puts weight s (attempt (with_rest_gathered st s) s)) had' pass'
+    × (others_in_use st s ≡ false) × (rest_and_batch st s ≢ [])
 
 abbrev pub SizeStays : {T : Type 0} → (ℕ → T → List T) → (T → ℕ) → Type 0
 SizeStays {T} puts weight =

@@ -1,13 +1,14 @@
 -- Single events of a slot, made where its pass is alone, and what the hands hold then. `code` is the code of values.
---     MakesAlone pass pass' event answer     the pass is alone, and this event was made with it and nothing since; the answer was this
+--     MakesAlone pass pass' event answer     the pass is alone, and this event was made with it, at its size, and nothing since; the answer was
+--                         this
 --     IsHeldAs code o value     what a link holds by number and what it holds by value are one: with the number the code is lent
 --     EntersHeld          an entry of a slot in use without a guard: the first guard
---     GivesHeld           the number of a slot without a guard goes back
+--     GivesHeld           the number of a slot without a guard goes back: another slot is in use, or nothing is left
 --     TakesHeld           a number is taken for a slot of this kind, where less is left than a full batch: it is the least one that is not
 --                         in use
 --     GuardsHeld          no event: an active registered slot has some other number of guards
 --     SwapsHeld           a link is exchanged: so is what it held, and it holds the new value
-use Rattle.std.specs.Prelude.{◌≡◌, ◌==◌, ◌≤◌, ℕ, max, nat_le, true, false, List, length, Option, Some, None, slice_set}
+use Rattle.std.specs.Prelude.{◌≡◌, ◌⊎◌, ◌==◌, ◌≤◌, ℕ, max, nat_le, true, false, List, [], length, Option, Some, None, slice_set}
 use base.Stored.{Gv}
 use Rattle.seize_table.specs.Place.{all_numbers}
 use Rattle.seize_machine.specs.Machine.Event.{Enter, Event, ExchangeLink, Give, Take}
@@ -17,7 +18,7 @@ use Rattle.seize_machine.specs.declared.machine.event.Exchange.TheVariants.{Swap
 use Rattle.seize_model.specs.declared.kind.Kind.{Kind}
 use Rattle.seize_model.specs.declared.kind.Kind.TheVariants.{Registered}
 use Rattle.seize_model.specs.Waiting.State.{ModelState, has_guard, model_slot}
-use Rattle.seize_model.specs.Waiting.Calls.{is_free, least_unused, model_link, set_guards, with_number_free, with_number_in_use}
+use Rattle.seize_model.specs.Waiting.Calls.{is_free, least_unused, model_link, others_in_use, rest_and_batch, set_guards, with_number_free, with_number_in_use}
 use Rattle.seize_book.specs.Entry.{Deed, Made}
 use Rattle.seize_book.specs.Passes.{IsSamePass}
 use Rattle.seize_book.specs.Tokens.{AddsEntry, IsSole}
@@ -30,6 +31,7 @@ pub record MakesAlone (pass pass' : Pass) (event : Event) (answer : Answer) : Ty
   pub same : IsSamePass pass pass'
   pub deed : Deed
   pub is : deed.event ≡ event
+  pub sized : deed.size ≡ pass.size
   pub noted : AddsEntry pass.name pass.id pass.seen pass'.seen (Made deed)
   pub answers : noted.answer ≡ answer
 
@@ -48,7 +50,9 @@ abbrev pub GivesHeld : {T : Type 0} → (T → Gv) → Type 0
 GivesHeld {T} code =
     (st : ModelState T ℕ) (names : List (ℕ × T)) (kinds : List (ℕ × ℕ)) (s : ℕ) (answer : Answer) (pass pass' : Pass)
     → MakesAlone pass pass' (Give s) answer → Holds code st names kinds pass.name pass.seen → is_free (model_slot st s).kind ≡ false
-    → has_guard (model_slot st s) ≡ false → Holds code (with_number_free st s) names kinds pass'.name pass'.seen
+    → has_guard (model_slot st s) ≡ false
+    → Holds code (with_number_free st s) names kinds pass'.name pass'.seen
+    × ((others_in_use st s ≡ true) ⊎ (rest_and_batch st s ≡ []))
 
 abbrev pub TakesHeld : {T : Type 0} → (T → Gv) → Type 0
 TakesHeld {T} code =

@@ -14,6 +14,7 @@
 --     HasGathered words slot pass slot' pass'     the slot began to gather, so that its call is under way, and is inactive
 --     TakesNone pass pass' refusal     no number was taken, for want of memory, and the pass made nothing (IsUnmoved)
 --     IsLockFor words numbers  they are of the list of these words;  MayEnd words slot     the slot is in use, and inactive
+--     MayGiveBack numbers slot     another slot is in use, or nothing is left, as the keys know
 use Rattle.std.specs.Prelude.{◌≡◌, ◌<◌, ℕ, Bool, false, true, map, List, length, Option, Some, None, get_or, is_some}
 use Rattle.std.specs.List.{count_by}
 use Rattle.std.specs.Option.{is_none}
@@ -23,7 +24,7 @@ use Rattle.seize_machine.specs.declared.machine.event.Answer.{Answer}
 use Rattle.seize_machine.specs.declared.machine.event.Answer.TheVariants.{Done}
 use Rattle.seize_table.specs.declared.refusal.Refusal.{Refusal}
 use Rattle.seize_table.specs.declared.refusal.Refusal.TheVariants.{NoMemory}
-use Rattle.seize_book.specs.Others.{use_flags}
+use Rattle.seize_book.specs.Others.{MayGive, use_flags}
 use Rattle.seize_book.specs.Slots.{slot_of}
 use Rattle.seize_book.specs.Tokens.{IsSole, Name}
 use Rattle.seize_book.specs.declared.book.numbers_key.NumbersKey.{NumbersKey}
@@ -104,6 +105,9 @@ TakesNone pass pass' refusal = MakesNone pass pass' × IsUnmoved pass pass' × (
 
 abbrev pub IsLockFor : {T : Type 0} → Words T → Numbers T → Type 0
 IsLockFor words numbers = numbers.book.name.family ≡ (words_book words).family
+
+abbrev pub MayGiveBack : {T : Type 0} → Numbers T → Slot T → Type 0
+MayGiveBack numbers slot = MayGive numbers.key (its_key slot)
 
 abbrev pub MayEnd : {T : Type 0} → Words T → Slot T → Type 0
 MayEnd words slot = IsSlotOf words slot × IsInactive slot

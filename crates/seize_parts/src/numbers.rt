@@ -2,7 +2,7 @@
 //! they ended. They lie behind a lock of the collector.
 ghost use Rattle.std.specs.Prelude.{◌≡◌, ◌≤◌, IfErr, IfNone, IfOk, IfSome, None, Some, is_some};
 ghost use Rattle.std.specs.List.{position};
-ghost use Rattle.seize_calls.specs.Slots.{IsPassFor, its_key, its_number};
+ghost use Rattle.seize_calls.specs.Slots.{IsPassFor, its_number};
 ghost use Rattle.seize_words.specs.Joined.{words_book};
 ghost use Rattle.seize_words.specs.Named.{numbers_book};
 ghost use Rattle.seize_words.specs.Reserved.{HasNextSlot};
@@ -19,8 +19,12 @@ mod recovering;
 pub mod resting;
 pub mod taking;
 
+use crate::ender::Ender;
+use crate::ends::Forwards;
+use crate::reclaim::Reclaim;
 use crate::shelf::{Shelf, Shelves};
 use seize_calls::batch::Batch;
+use seize_calls::manner::Alone;
 use seize_calls::slot::Slot;
 use seize_content::Steady;
 use seize_table::Refusal;
@@ -77,7 +81,7 @@ impl<T: Drop> Numbers<T> {
     ghost use Rattle.std.specs.Prelude.{◌<◌, ◌+◌, false, not, ◌&&◌, [], length, slice_set};
     ghost use Rattle.std.specs.Prelude.{get_or};
     ghost use Rattle.seize_book.specs.Book.{IsLegalList};
-    ghost use Rattle.seize_book.specs.Others.{MayGather, MayGive, numbers_saw, others_used, rest_of, use_flags};
+    ghost use Rattle.seize_book.specs.Others.{others_used, rest_of, use_flags};
     ghost use Rattle.seize_book.specs.Passes.{IsSamePass};
     ghost use Rattle.seize_book.specs.Tokens.{IsSole, start};
     ghost use Rattle.seize_alone.specs.Events.{MakesAlone};
@@ -86,7 +90,7 @@ impl<T: Drop> Numbers<T> {
     ghost use Rattle.seize_words.specs.declared.words.Words.{Words};
     ghost use Rattle.seize_calls.specs.declared.slot.Slot.{Slot};
     ghost use Rattle.seize_machine.specs.declared.machine.event.Answer.{Answer};
-    ghost use Rattle.seize_parts.specs.Numbers.{AreNumbers, AreSlots, HasGathered, HasTaken, KnowsLeast, MayEnd, TakesNone};
+    ghost use Rattle.seize_parts.specs.Numbers.{AreNumbers, AreSlots, HasGathered, HasTaken, IsLockFor, KnowsLeast, MayEnd, MayGiveBack, TakesNone};
 
     /// Those of a new list of events, which has no slot yet.
     pub fn new(alloc: Global, key: NumbersKey, next: NextSlot, book: &Seen, pass: &mut Pass) -> Numbers<T>
@@ -212,20 +216,11 @@ impl<T: Drop> Numbers<T> {
         }
     }
 
-    // Whether the slot has to gather before it ends: no other slot is in use, and something is left.
-    fn is_to_gather(&self, slot: &Slot<T>) -> bool
-        requires { AreSlots self.now × (values_of (keys_in self.now.rest) ≡ rest_of self.now.key) }
-        ensures gathers { result ≡ true → MayGather self.now.key (its_key slot.now) }
-        ensures gives { result ≡ false → MayGive self.now.key (its_key slot.now) }
-    {
-        !self.others(slot.number()) && !slot.leaves_nothing(&self.rest)
-    }
-
     // The number of the slot goes back, and its batch joins the rest.
     fn give(&mut self, words: &Words<T>, slot: Slot<T>, pass: &mut Pass)
         requires numbers { AreSlots self.old × (self.old.book.name ≡ words_book words.now) }
         requires pass { IsPassFor words.now pass.old }
-        requires slot { MayEnd words.now slot × MayGive self.old.key (its_key slot) }
+        requires slot { MayEnd words.now slot × MayGiveBack self.old slot }
         ensures numbers { AreSlots self.new × (self.new.book ≡ self.old.book) × (self.new.kept ≡ self.old.kept) }
         ensures least { KnowsLeast self.old → KnowsLeast self.new }
         ensures place { (s : Slot T) × (self.new.slots.items ≡ slice_set self.old.slots.items (its_number slot) (Some s)) }
@@ -251,12 +246,43 @@ impl<T: Drop> Numbers<T> {
             → (answer : Answer) × MakesAlone pass.old pass.new (Give (its_number slot)) answer) }
         ensures gathers { IfSome result (λ begun. HasGathered words.now slot pass.old begun pass.new) }
     {
-        if !self.is_to_gather(&slot) {
+        if self.others(slot.number()) || slot.leaves_nothing(&self.rest) {
             self.give(words, slot, pass);
             return None;
         }
         let mut slot = slot;
         slot.gather(words, &mut self.key, &mut self.rest, pass);
+        Some(slot)
+    }
+}
+
+impl<T: Drop> Numbers<T> {
+    ghost use Rattle.seize_calls.specs.Slots.{IsInactive, IsSlotOf};
+    ghost use Rattle.seize_parts.specs.Enders.{IsEnderOf};
+
+    /// The slot of the least number that is not in use, where there is one, by a pass that is alone: the number is taken again, and what
+    /// slots left is attempted, where it is enough. No slot is made.
+    ///
+    /// It takes no memory and waits for nobody, but for what the reclaimer does.
+    pub(crate) fn take_free<R: Reclaim<T>>(
+        &mut self,
+        words: &Words<T>,
+        ender: &Ender<T, R>,
+        pass: &mut Pass,
+    ) -> Option<Slot<T>>
+        requires numbers { AreNumbers self.old × IsLockFor words.now self.old × KnowsLeast self.old }
+        requires pass { IsPassFor words.now pass.old × IsSole pass.old.id }
+        requires ender { IsEnderOf words.now ender.now }
+        ensures numbers { AreNumbers self.new × IsLockFor words.now self.new }
+        ensures same { IsSamePass pass.old pass.new }
+        ensures taken { IfSome result (λ slot. IsSlotOf words.now slot × IsInactive slot) }
+    {
+        self.book.agree(&words.blocks.book);
+        let n = self.first()?;
+        let (mut slot, begun) = self.again(words, n, pass);
+        if begun {
+            slot.resume(words, &mut Forwards::new(ender), pass, &Alone {});
+        }
         Some(slot)
     }
 }
