@@ -6,8 +6,9 @@ ghost use Rattle.std.specs.List.{list_all};
 ghost use mathlib.Core.List.{IsPrefix};
 ghost use Rattle.seize_book.specs.Others.{rest_of};
 ghost use Rattle.seize_book.specs.Passes.{IsSamePass};
-ghost use Rattle.seize_book.specs.Tokens.{IsSole};
-ghost use Rattle.seize_book.specs.Values.{values_of};
+ghost use Rattle.seize_book.specs.Book.{IsLegalList};
+ghost use Rattle.seize_book.specs.Tokens.{IsSole, start};
+ghost use Rattle.seize_book.specs.Values.{IsEmptyIn, values_of};
 ghost use Rattle.seize_words.specs.Joined.{words_book};
 ghost use Rattle.seize_calls.specs.Furthers.{further_in};
 ghost use Rattle.seize_calls.specs.Slots.{IsPassFor};
@@ -83,6 +84,27 @@ impl<T: Drop> Numbers<T> {
         self.all_here()
     }
 
+    // And so does what the reclaimer puts. Nothing waits in the queue then.
+    fn sweep_aside<R: Reclaim<T>, W: Watch<T>>(
+        &mut self,
+        words: &Words<T>,
+        ender: &Ender<T, R>,
+        aside: &mut Aside<'_, W>,
+        pass: &mut Pass,
+    ) -> bool
+        requires numbers { AreNumbers self.old × (self.old.book.name ≡ words_book words.now) × KnowsLeast self.old }
+        requires pass { IsPassFor words.now pass.old × IsSole pass.old.id × IsEnderOf words.now ender.now }
+        requires queue { MayDrain T.row.coded.code (words_book words.now) aside.old.queue }
+        ensures same { KeepsAside aside.old aside.new }
+        ensures numbers { AreNumbers self.new × (self.new.book ≡ self.old.book) × KnowsLeast self.new }
+        ensures sweeps { Sweeps pass.old pass.new result }
+        ensures drained { values_of (further_in aside.new.queue) ≡ [] }
+    {
+        let all = self.sweep_in_turn(words, ender, aside, pass);
+        drain(words, ender, &mut aside.queue, aside.watch, pass);
+        all
+    }
+
     /// The slots of holders that were forgotten are found; then all that is not lost is reclaimed, also what the reclaimer puts. It says
     /// whether no number is in use then.
     ///
@@ -107,9 +129,7 @@ impl<T: Drop> Numbers<T> {
             queue,
             watch: &mut *watch,
         };
-        let all = self.sweep_in_turn(words, ender, &mut aside, pass);
-        drain(words, ender, &mut aside.queue, aside.watch, pass);
-        all
+        self.sweep_aside(words, ender, &mut aside, pass)
     }
 
     // What lies in places is reclaimed, and what slots left, but what the reclaimer puts meanwhile. Nothing lies in any place then.
@@ -133,6 +153,29 @@ impl<T: Drop> Numbers<T> {
     {
         self.part_all(words, ender, places, aside, pass);
         self.reclaim_kept(words, ender, aside, pass);
+    }
+
+    // And so is what the reclaimer puts.
+    fn reclaim_all<R: Reclaim<T>, W: Watch<T>>(
+        &mut self,
+        words: &Words<T>,
+        ender: &Ender<T, R>,
+        places: &mut Vec<Option<Place<T>>>,
+        aside: &mut Aside<'_, W>,
+        pass: &mut Pass,
+    )
+        requires numbers { AreNumbers self.old × (self.old.book.name ≡ words_book words.now) × KnowsLeast self.old }
+        requires pass { IsPassFor words.now pass.old × IsSole pass.old.id × IsLegalList (start pass.old.name) pass.old.seen }
+        requires held { IsSomeHeld T.row.coded.code pass.old (MayGo pass.old places.old.items) × IsEnderOf words.now ender.now }
+        requires queue { IsEmptyIn (words_book words.now) (further_in aside.old.queue) }
+        ensures same { KeepsAside aside.old aside.new × IsSamePass pass.old pass.new }
+        ensures numbers { AreNumbers self.new × (self.new.book ≡ self.old.book) × KnowsLeast self.new }
+        ensures places { (s : ℕ) → get_or places.new.items s None ≡ None }
+        ensures goes { GoesAll T.row.coded.code R.puts R.weight W.told (MayGo pass.old places.old.items) pass.old pass.new
+            (W.seen aside.old.watch.now) (W.seen aside.new.watch.now) }
+    {
+        self.reclaim_in_turn(words, ender, places, aside, pass);
+        drain(words, ender, &mut aside.queue, aside.watch, pass);
     }
 
     /// All is reclaimed, also what the reclaimer puts, and the watch is told of each value that is gone. Nothing lies in any place then. It
@@ -164,8 +207,7 @@ impl<T: Drop> Numbers<T> {
             queue,
             watch: &mut *watch,
         };
-        self.reclaim_in_turn(words, ender, places, &mut aside, pass);
-        drain(words, ender, &mut aside.queue, aside.watch, pass);
+        self.reclaim_all(words, ender, places, &mut aside, pass);
         // The list goes on from what it was.
         pass.learn(&before);
         // It is taken apart, and so what the watch has seen is known.
