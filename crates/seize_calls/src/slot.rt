@@ -91,8 +91,8 @@ pub struct Slot<T> {
 }
 
 impl<T: Drop> Slot<T> {
-    ghost use Rattle.std.specs.Prelude.{length, min, ◌-◌, ◌^◌, ◌&&◌};
-    ghost use Rattle.seize_book.specs.Others.{MayGather, MayGive, MayTakeNumber};
+    ghost use Rattle.std.specs.Prelude.{get_or, length, min, ◌-◌, ◌^◌, ◌&&◌};
+    ghost use Rattle.seize_book.specs.Others.{MayGather, MayGive, MayTakeNumber, use_flags};
     ghost use Rattle.seize_book.specs.Slots.{active_of, slot_of};
     ghost use Rattle.seize_book.specs.Values.{values_of};
     ghost use Rattle.seize_calls.specs.Batches.{keys_in};
@@ -250,6 +250,7 @@ impl<T: Drop> Slot<T> {
         requires may { MayGive numbers.old (its_key self.old) }
         ensures of { IsFreeSlotOf words.now self.new }
         ensures gives { SlotGives self.old pass.old self.new pass.new }
+        ensures was { get_or (use_flags numbers.old) (its_number self.old) false ≡ true }
         ensures numbers { SetsUse numbers.old pass.new numbers.new self.old false × IsRestIn (words_book words.now) numbers.new rest.new }
     {
         pass.learn(&self.seen);

@@ -1,5 +1,5 @@
 //! The key of a slot, and the events that its holder makes of the slot itself. It is `Keys` with one key; they are added with a pass.
-ghost use Rattle.std.specs.Prelude.{◌≡◌, [], ◌∷◌, ◌++◌, length, true, false, slice_set, IfSome, None, Some, is_some};
+ghost use Rattle.std.specs.Prelude.{◌≡◌, [], ◌∷◌, ◌++◌, get_or, length, true, false, slice_set, IfSome, None, Some, is_some};
 ghost use mathlib.Core.List.{IsPrefix};
 ghost use Rattle.seize_machine.specs.Machine.Next.{gathered_slot, taken_slot};
 ghost use Rattle.seize_machine.specs.Machine.State.{is_idle, no_slot};
@@ -111,6 +111,7 @@ impl SlotKey {
         requires may { MayGive numbers.old self.old }
         ensures noted { AddsEvent self.old pass.old self.new pass.new (Give (slot_number self.old)) × (slot_of self.new ≡ no_slot) }
         ensures numbers { FollowsNumbers numbers.old pass.new numbers.new × IsPrefix (numbers_saw numbers.old) pass.new.seen }
+        ensures was { get_or (use_flags numbers.old) (slot_number self.old) false ≡ true }
         ensures used { use_flags numbers.new ≡ slice_set (use_flags numbers.old) (slot_number self.old) false }
         ensures rest { rest_of numbers.new ≡ rest_of numbers.old ++ (slot_of self.old).batch }
     {
