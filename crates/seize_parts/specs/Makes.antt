@@ -17,6 +17,7 @@
 --                             stands between its own (`Undivided`);  MakesCall IsPut s job pass pass'     so was one that begins with this job
 --     Defers s job pass pass'     a whole call of slot s, and none of its steps hands a value to its reclaimer
 --     TakesNumber IsPut s pass pass'    the number of slot s was taken: the event `Take` alone, or a whole call that begins with it
+--     TakesAndEnters IsPut s pass pass'    so it was, after which the pass is `taken`, and then the slot entered
 --     GivesNumber IsPut s pass pass'    it went back: as many whole calls of slot s to gather, and then the event `Give`
 --     LeavesAndGives IsPut s pass pass'    a whole call of slot s to leave, after which the pass is `left`, and then its number went back
 --     EndsUse IsPut s pass pass' gave     the use of slot s ended: its number went back; or no event was made, and it is active
@@ -119,6 +120,9 @@ TakesNumber IsPut s pass pass' = MakesOne pass pass' (Take s) Done ⊎ MakesWhol
 pub data GivesNumber (IsPut : Pass → ℕ → List ℕ → Type 0) (s : ℕ) (pass pass' : Pass) : Type 0 where
   gives : MakesOne pass pass' (Give s) Done → GivesNumber IsPut s pass pass'
   gathers : (mid : Pass) → MakesCall IsPut s Gather pass mid → GivesNumber IsPut s mid pass' → GivesNumber IsPut s pass pass'
+
+abbrev pub TakesAndEnters : (Pass → ℕ → List ℕ → Type 0) → ℕ → Pass → Pass → Type 0
+TakesAndEnters IsPut s pass pass' = (taken : Pass) × TakesNumber IsPut s pass taken × MakesOne taken pass' (Enter s) Done
 
 abbrev pub LeavesAndGives : (Pass → ℕ → List ℕ → Type 0) → ℕ → Pass → Pass → Type 0
 LeavesAndGives IsPut s pass pass' = (left : Pass) × MakesCall IsPut s Leave pass left × GivesNumber IsPut s left pass'
