@@ -1,19 +1,22 @@
 -- Which numbers are in use, by the slots that nobody has; and that the numbers behind the lock stay as they are to be.
 use Rattle.std.proofs.Common.{◌≡◌, ◌⊎◌, inl, inr, ℕ, zero, suc, ◌+◌, ◌<◌, ◌≤◌, Bool, true, false, not, cond, nat_lt, List, [], ◌∷◌, ◌++◌, length, Option, Some, None, is_some, get_or, slice_set, refl, sym, ap, subst, ◌∙◌, arith}
-use Rattle.std.specs.List.{position, position_or_len}
+use Rattle.std.specs.List.{count_by, list_any, position, position_or_len}
 use Rattle.std.specs.Option.{is_none}
 use Rattle.std.proofs.lemmas.List.{length-map, length-set, length_push, map-set}
 use Rattle.std.proofs.lemmas.List.Quantifiers.{position-Some}
 use Rattle.std.proofs.lemmas.Bool.{cases_lt}
 use Rattle.std.proofs.lemmas.List.{get_or-set_other, get_or-set_same, get_or_past}
-use Rattle.std.proofs.lemmas.List.Sums.{fails_before_first, position_or_len_is}
+use Rattle.std.proofs.lemmas.List.Sums.{fails_before_first, position_or_len_is, sum_by-append, sum_by-cons, sum_by-set}
 use native.Mathlib.Decide.{ℕ_discrete}
 use Rattle.std.proofs.lemmas.List.Sums.{prefix_len-le-length}
 use Rattle.seize_table.specs.Place.{all_numbers}
 use Rattle.seize_book.specs.Book.{after}
 use Rattle.seize_book.specs.Entry.{Entry}
-use Rattle.seize_book.specs.Others.{FollowsNumbers, MayTakeNumber, first_false, state_of, use_flags}
-use Rattle.seize_book.specs.Private.{own_of}
+use Rattle.seize_book.specs.Others.{FollowsNumbers, MayTakeNumber, first_false, numbers_saw, others_used, rest_of, state_of, use_flags}
+use Rattle.seize_book.specs.Kept.{AreToldIn}
+use Rattle.seize_book.specs.Ledger.{HeldKey}
+use Rattle.seize_book.specs.Private.{labels_of, own_of}
+use Rattle.seize_book.specs.Values.{IsEmptyIn}
 use Rattle.seize_book.specs.Tokens.{Name, start}
 use Rattle.seize_book.specs.declared.book.numbers_key.NumbersKey.{NumbersKey}
 use Rattle.seize_book.specs.declared.book.pass.Pass.{Pass}
@@ -25,10 +28,13 @@ use Rattle.seize_words.specs.Totals.{IsFull, made_of}
 use Rattle.seize_words.specs.declared.slots.next.NextSlot.{NextSlot}
 use Rattle.seize_words.specs.Joined.{words_book}
 use Rattle.seize_words.specs.declared.words.Words.{Words}
-use Rattle.seize_calls.specs.Slots.{IsFreeSlotOf, IsOfList, SetsUse, SlotGives, its_key, its_number}
+use Rattle.seize_calls.specs.Batches.{keys_in}
+use Rattle.seize_calls.specs.Slots.{IsFreeSlotOf, IsOfList, IsRestIn, SetsUse, SlotGives, its_key, its_number}
+use Rattle.seize_calls.specs.declared.batch.Batch.{Batch}
 use Rattle.seize_calls.specs.declared.slot.Slot.{Slot}
+use Rattle.seize_calls.proofs.Chains.{no_keys}
 use Rattle.seize_calls.proofs.Slots.{may_take_slot}
-use Rattle.seize_parts.specs.Numbers.{AreNumbers, AreTaken, IsNextSlotOf, IsTakenAt, NoneBelow, flags_of}
+use Rattle.seize_parts.specs.Numbers.{AreAt, AreSlots, IsFreeAt, IsKeptAt, IsNextSlotOf, NoneBelow, flags_of}
 use Rattle.seize_parts.specs.declared.numbers.Numbers.{Numbers}
 
 -- Places of a list where something may be.
@@ -145,6 +151,91 @@ module _ {X : Type 0} where
   pub none_laid : (slots : List (Option X)) (least lower n : ℕ) (item : Option X) → NoneBelow least slots → lower ≤ least → lower ≤ n → NoneBelow lower (slice_set slots n item)
   none_laid slots least lower n item none below before i less = ap is_some (get_or-set_other slots n i item None (λ same. absurd (omega (arith, less, before, same)))) ∙ none i (omega (arith, less, below))
 
+  -- How many lie there, where one comes or goes.
+
+  at_place : (slots : List (Option X)) (n : ℕ) → is_some (get_or slots n None) ≡ true → n < length slots
+  at_place [] zero some = absurd (cc)
+  at_place [] (suc n) some = absurd (cc)
+  at_place (x ∷ slots) zero some = omega arith
+  at_place (x ∷ slots) (suc n) some = let less = at_place slots n some in omega (arith, less)
+
+  pub count_taken : (slots : List (Option X)) (n : ℕ) → is_some (get_or slots n None) ≡ true → count_by is_some (slice_set slots n None) + 1 ≡ count_by is_some slots
+  count_taken slots n some =
+      omega (arith, sum_by-set one slots n None None (at_place slots n some), ap (λ (b : Bool). cond b 1 0) some)
+    where
+      one : Option X → ℕ
+      one o = cond (is_some o) 1 0
+
+  pub count_laid : (slots : List (Option X)) (n : ℕ) (item : X) → n < length slots → is_some (get_or slots n None) ≡ false → count_by is_some (slice_set slots n (Some item)) ≡ count_by is_some slots + 1
+  count_laid slots n item below none =
+      omega (arith, sum_by-set one slots n (Some item) None below, ap (λ (b : Bool). cond b 1 0) none)
+    where
+      one : Option X → ℕ
+      one o = cond (is_some o) 1 0
+
+  pub count_pushed : (slots : List (Option X)) → count_by is_some (slots ++ None ∷ []) ≡ count_by is_some slots
+  count_pushed slots = omega (arith, sum_by-append (λ (o : Option X). cond (is_some o) 1 0) slots (None ∷ []))
+
+  -- whether another number is in use, by how many lie there
+  abbrev pub own_use : List (Option X) → ℕ → ℕ
+  own_use [] n = 0
+  own_use (o ∷ slots) zero = cond (is_some o) 0 1
+  own_use (o ∷ slots) (suc n) = own_use slots n
+
+  abbrev used_in : List (Option X) → ℕ
+  used_in slots = count_by is_none slots
+
+  used_all : (slots : List (Option X)) → used_in slots + count_by is_some slots ≡ length slots
+  used_all [] = refl
+  used_all (Some x ∷ slots) = omega (arith, used_all slots, sum_by-cons (λ (o : Option X). cond (is_none o) 1 0) (Some x) slots, sum_by-cons (λ (o : Option X). cond (is_some o) 1 0) (Some x) slots)
+  used_all (None ∷ slots) = omega (arith, used_all slots, sum_by-cons (λ (o : Option X). cond (is_none o) 1 0) None slots, sum_by-cons (λ (o : Option X). cond (is_some o) 1 0) None slots)
+
+  any_used : (slots : List (Option X)) → list_any (λ u. u) (flags_of slots) ≡ nat_lt 0 (used_in slots)
+  any_used [] = refl
+  any_used (Some x ∷ slots) = any_used slots ∙ ap (nat_lt 0) (sym (sum_by-cons (λ (o : Option X). cond (is_none o) 1 0) (Some x) slots))
+  any_used (None ∷ slots) = sym (ap (nat_lt 0) (sum_by-cons (λ (o : Option X). cond (is_none o) 1 0) None slots))
+
+  more_used : (slots : List (Option X)) (n : ℕ) → others_used (flags_of slots) n ≡ nat_lt (own_use slots n) (used_in slots)
+  more_used [] n = refl
+  more_used (Some x ∷ slots) zero = any_used slots ∙ ap (nat_lt 0) (sym (sum_by-cons (λ (o : Option X). cond (is_none o) 1 0) (Some x) slots))
+  more_used (None ∷ slots) zero = any_used slots ∙ ap (nat_lt 1) (sym (sum_by-cons (λ (o : Option X). cond (is_none o) 1 0) None slots))
+  more_used (Some x ∷ slots) (suc n) = more_used slots n ∙ ap (nat_lt (own_use slots n)) (sym (sum_by-cons (λ (o : Option X). cond (is_none o) 1 0) (Some x) slots))
+  more_used (None ∷ slots) (suc n) = sym (ap (nat_lt (own_use slots n)) (sum_by-cons (λ (o : Option X). cond (is_none o) 1 0) None slots) ∙ later (own_use slots n) (used_in slots) (own_less slots n))
+    where
+      own_less : (slots : List (Option X)) (n : ℕ) → own_use slots n ≤ used_in slots
+      own_less [] n = omega arith
+      own_less (Some x ∷ slots) zero = omega arith
+      own_less (None ∷ slots) zero = omega (arith, sum_by-cons (λ (o : Option X). cond (is_none o) 1 0) None slots)
+      own_less (Some x ∷ slots) (suc n) = omega (arith, own_less slots n, sum_by-cons (λ (o : Option X). cond (is_none o) 1 0) (Some x) slots)
+      own_less (None ∷ slots) (suc n) = omega (arith, own_less slots n, sum_by-cons (λ (o : Option X). cond (is_none o) 1 0) None slots)
+
+      later : (a b : ℕ) → a ≤ b → nat_lt a (1 + b) ≡ true
+      later a b less = grind arith
+
+  pub others_by_count : (slots : List (Option X)) (n : ℕ) → others_used (flags_of slots) n ≡ nat_lt (own_use slots n) (length slots - count_by is_some slots)
+  others_by_count slots n = more_used slots n ∙ ap (nat_lt (own_use slots n)) (let all = used_all slots in omega (arith, all))
+
+  pub own_is : (slots : List (Option X)) (n : ℕ) (some : Bool) → n < length slots → is_some (get_or slots n None) ≡ some → own_use slots n ≡ cond some 0 1
+  own_is [] n some below is = absurd (omega (arith, below))
+  own_is (o ∷ slots) zero some below is = ap (λ (b : Bool). cond b 0 1) is
+  own_is (o ∷ slots) (suc n) some below is = own_is slots n some (omega (arith, below)) is
+
+  pub own_past : (slots : List (Option X)) (n : ℕ) → length slots ≤ n → own_use slots n ≡ 0
+  own_past [] n past = refl
+  own_past (o ∷ slots) zero past = absurd (omega (arith, past))
+  own_past (o ∷ slots) (suc n) past = own_past slots n (omega (arith, past))
+
+  -- the flag of a place, by what lies there
+  pub flag_at : (slots : List (Option X)) (n : ℕ) → get_or (flags_of slots) n false ≡ true → (n < length slots) × (is_some (get_or slots n None) ≡ false)
+  flag_at [] n on = absurd (no n on)
+    where
+      no : (n : ℕ) → get_or [] n false ≡ true → ⊥
+      no zero on = cc
+      no (suc n) on = cc
+  flag_at (Some x ∷ slots) zero on = absurd (cc)
+  flag_at (None ∷ slots) zero on = (omega arith, refl)
+  flag_at (o ∷ slots) (suc n) on = let rest = flag_at slots n on in (omega (arith, rest.0), rest.1)
+
 -- Lists of which nothing is false are the same where they are as long.
 full_as : (us vs : List Bool) → first_false us ≡ length us → first_false vs ≡ length vs → length us ≡ length vs → us ≡ vs
 full_as [] [] h k l = refl
@@ -156,10 +247,6 @@ full_as (true ∷ us) (false ∷ vs) h k l = absurd (let z : 0 ≡ suc (length v
 
 pub some_same : {X : Type 0} (x y : X) → Some x ≡ Some y → x ≡ y
 some_same x y is = cc
-
-pub not_used : (used : Bool) → ¬ (used ≡ true) → used ≡ false
-not_used true free = absurd (free refl)
-not_used false free = refl
 
 -- What the numbers' key knows.
 
@@ -178,7 +265,7 @@ there_known slot numbers name own =
 pub few : {T : Type 0} (numbers : Numbers T) (n : ℕ) → n ≤ length numbers.slots.items → n < all_numbers
 few numbers n below = let ok = numbers.slots.ok in let small = numbers.slots.small in omega (arith, below, ok.0, ok.1, small)
 
-module _ {T : Type 0} (numbers : Numbers T) (are : AreNumbers numbers) where
+module _ {T : Type 0} (numbers : Numbers T) (are : AreSlots numbers) where
   abbrev items : List (Option (Slot T))
   items = numbers.slots.items
 
@@ -187,7 +274,7 @@ module _ {T : Type 0} (numbers : Numbers T) (are : AreNumbers numbers) where
 
   -- the slot that nobody has and whose number is the least may be taken again
   module _ (n : ℕ) (found : position is_some items ≡ Some n) (slot : Slot T) (is : get_or items n None ≡ Some slot) where
-    pub ended : IsTakenAt numbers.book.name 0 n slot
+    pub ended : IsFreeAt numbers.book.name n slot
     ended = are.slots n slot is
 
     pub may_take_first : MayTakeNumber numbers.key (its_key slot)
@@ -208,7 +295,8 @@ module _ {T : Type 0} (numbers : Numbers T) (are : AreNumbers numbers) where
 
   -- The use of one number is set, and what lies in its place.
   module _ (numbers' : Numbers T) (pass' : Pass) (slot : Slot T) (used : Bool) (sets : SetsUse numbers.key pass' numbers'.key slot used) (n : ℕ) (its : its_number slot ≡ n) (item : Option (Slot T)) (is : is_none item ≡ used)
-      (put : (s : Slot T) → item ≡ Some s → IsTakenAt numbers.book.name 0 n s) (slots : numbers'.slots.items ≡ slice_set items n item) (next : numbers'.next ≡ numbers.next) (book : numbers'.book ≡ numbers.book) where
+      (put : (s : Slot T) → item ≡ Some s → IsFreeAt numbers.book.name n s) (slots : numbers'.slots.items ≡ slice_set items n item) (free : numbers'.free ≡ count_by is_some (slice_set items n item))
+      (kept : numbers'.kept ≡ numbers.kept) (rest : IsRestIn numbers.book.name numbers'.key numbers'.rest) (next : numbers'.next ≡ numbers.next) (book : numbers'.book ≡ numbers.book) where
     flags' : use_flags numbers'.key ≡ flags_of numbers'.slots.items
     flags' =
         sets.1 ∙ (λ i. slice_set (are.flags i) (its i) used) ∙ ap (slice_set (flags_of items) n) (sym is)
@@ -217,14 +305,18 @@ module _ {T : Type 0} (numbers : Numbers T) (are : AreNumbers numbers) where
     made' : made_of numbers'.key ≡ made_of numbers.key
     made' = made_flags numbers'.key ∙ ap (λ (us : List Bool). length us) sets.1 ∙ length-set (use_flags numbers.key) (its_number slot) used ∙ sym (made_flags numbers.key)
 
-    slots' : AreTaken numbers.book.name 0 (slice_set items n item)
-    slots' i s = at_set (λ o. o ≡ Some s → IsTakenAt numbers.book.name 0 i s) items n i item (λ same there. subst (λ (k : ℕ). IsTakenAt numbers.book.name 0 k s) same (put s there)) (are.slots i s)
+    slots' : AreAt (IsFreeAt numbers.book.name) (slice_set items n item)
+    slots' i s = at_set (λ o. o ≡ Some s → IsFreeAt numbers.book.name i s) items n i item (λ same there. subst (λ (k : ℕ). IsFreeAt numbers.book.name k s) same (put s there)) (are.slots i s)
 
-    pub numbers_set : AreNumbers numbers'
-    numbers_set = record {
+    pub slots_set : AreSlots numbers'
+    slots_set = record {
       book = sets.0.0 ∙ are.book ∙ ap (λ seen. seen.name) (sym book);
       flags = flags';
-      slots = subst (λ (t : Name × List (Option (Slot T))). AreTaken t.0 0 t.1) (λ i. ((sym book i).name, sym slots i)) slots';
+      slots = subst (λ (t : Name × List (Option (Slot T))). AreAt (IsFreeAt t.0) t.1) (λ i. ((sym book i).name, sym slots i)) slots';
+      free = free ∙ ap (count_by is_some) (sym slots);
+      kept = subst (λ (t : Name × List (Option (Slot T))). AreAt (IsKeptAt t.0) t.1) (λ i. ((sym book i).name, (sym kept i).items)) are.kept;
+      many = ap (λ (ks : Vec (Option (Slot T))). length ks.items) kept ∙ are.many ∙ sym (length-set items n item) ∙ ap (λ (l : List (Option (Slot T))). length l) (sym slots);
+      rest = subst (λ (m : Name). IsRestIn m numbers'.key numbers'.rest) (λ i. (sym book i).name) rest;
       next = are.next;
       is_there = next ∙ are.is_there;
       comes = (are.comes.0 ∙ sym made', are.comes.1 ∙ sym sets.0.0);
@@ -235,20 +327,26 @@ module _ {T : Type 0} (numbers : Numbers T) (are : AreNumbers numbers) where
   next_is left there = subst (IsNextSlotOf numbers.key) (some_same are.next left (sym are.is_there ∙ there)) are.comes
 
   -- Nothing is changed but where things lie.
-  pub numbers_kept : (numbers' : Numbers T) (left next' : NextSlot) → numbers.next ≡ Some left → IsSameNext left next' → numbers'.key ≡ numbers.key → numbers'.slots.items ≡ items → numbers'.next ≡ Some next' → numbers'.book ≡ numbers.book → AreNumbers numbers'
-  numbers_kept numbers' left next' there same key slots is book =
+  pub slots_still : (numbers' : Numbers T) (left next' : NextSlot) → numbers.next ≡ Some left → IsSameNext left next' → numbers'.key ≡ numbers.key → numbers'.slots.items ≡ items → numbers'.free ≡ numbers.free → numbers'.kept.items ≡ numbers.kept.items
+      → numbers'.rest ≡ numbers.rest → numbers'.next ≡ Some next' → numbers'.book ≡ numbers.book → AreSlots numbers'
+  slots_still numbers' left next' there same key slots free kept rest is book =
       let comes = next_is left there in record {
         book = ap numbers_book key ∙ are.book ∙ ap (λ seen. seen.name) (sym book);
         flags = ap use_flags key ∙ are.flags ∙ ap flags_of (sym slots);
-        slots = subst (λ (t : Name × List (Option (Slot T))). AreTaken t.0 0 t.1) (λ i. ((sym book i).name, sym slots i)) are.slots;
+        slots = subst (λ (t : Name × List (Option (Slot T))). AreAt (IsFreeAt t.0) t.1) (λ i. ((sym book i).name, sym slots i)) are.slots;
+        free = free ∙ are.free ∙ ap (count_by is_some) (sym slots);
+        kept = subst (λ (t : Name × List (Option (Slot T))). AreAt (IsKeptAt t.0) t.1) (λ i. ((sym book i).name, sym kept i)) are.kept;
+        many = ap (λ (l : List (Option (Slot T))). length l) kept ∙ are.many ∙ ap (λ (l : List (Option (Slot T))). length l) (sym slots);
+        rest = subst (λ (t : Name × (NumbersKey × Batch)). IsRestIn t.0 t.1.0 t.1.1) (λ i. ((sym book i).name, (sym key i, sym rest i))) are.rest;
         next = next';
         is_there = is;
         comes = (same.0 ∙ comes.0 ∙ ap made_of (sym key), ap (λ (k : SlotKey). k.keys.name) same.1 ∙ comes.1 ∙ ap numbers_book (sym key));
       }
 
-  -- One slot was made, and has its place.
+  -- One slot was made, and has its place. Nothing was left, and nothing is.
   module _ (none : position is_some items ≡ None) (numbers' : Numbers T) (pass pass' : Pass) (key : SlotKey) (left next' : NextSlot) (makes : MakesNextSlot numbers.key left pass numbers'.key key next' pass')
-      (slots : numbers'.slots.items ≡ items ++ None ∷ []) (is : numbers'.next ≡ Some next') (book : numbers'.book ≡ numbers.book) where
+      (slots : numbers'.slots.items ≡ items ++ None ∷ []) (free : numbers'.free ≡ numbers.free) (kept : numbers'.kept.items ≡ numbers.kept.items ++ None ∷ []) (rest : numbers'.rest ≡ numbers.rest) (is : numbers'.next ≡ Some next')
+      (book : numbers'.book ≡ numbers.book) where
     flags_made : use_flags numbers'.key ≡ flags_of (items ++ None ∷ [])
     flags_made =
         let made = made_flags numbers.key ∙ flags_length in let made' = made_flags numbers'.key in let next = makes.made.next in let more : length (items ++ None ∷ []) ≡ length items + 1 = length_push items None in
@@ -258,22 +356,45 @@ module _ {T : Type 0} (numbers : Numbers T) (are : AreNumbers numbers) where
         (pushed_full items none)
         (omega (arith, made, made', next.0, more, long))
 
-    pub numbers_made : AreNumbers numbers'
-    numbers_made = record {
+    empty : (keys_in numbers.rest).keys.held ≡ []
+    empty = no_keys (keys_in numbers.rest).keys.held (are.rest.values ∙ makes.made.rest.0)
+
+    rest_made : IsRestIn numbers.book.name numbers'.key numbers.rest
+    rest_made = record {
+      book = are.rest.book;
+      values = are.rest.values ∙ makes.made.rest.0 ∙ sym makes.made.rest.1;
+      told = subst (λ (held : List (HeldKey Entry)). AreToldIn (numbers_saw numbers'.key) held) (sym empty) tt;
+    }
+
+    pub slots_made : AreSlots numbers'
+    slots_made = record {
       book = makes.made.follows.0 ∙ are.book ∙ ap (λ seen. seen.name) (sym book);
       flags = flags_made ∙ ap flags_of (sym slots);
-      slots = subst (λ (t : Name × List (Option (Slot T))). AreTaken t.0 0 t.1) (λ i. ((sym book i).name, sym slots i)) (λ i s there. are.slots i s (sym (at_push items i) ∙ there));
+      slots = subst (λ (t : Name × List (Option (Slot T))). AreAt (IsFreeAt t.0) t.1) (λ i. ((sym book i).name, sym slots i)) (λ i s there. are.slots i s (sym (at_push items i) ∙ there));
+      free = free ∙ are.free ∙ sym (count_pushed items) ∙ ap (count_by is_some) (sym slots);
+      kept = subst (λ (t : Name × List (Option (Slot T))). AreAt (IsKeptAt t.0) t.1) (λ i. ((sym book i).name, sym kept i)) (λ i s there. are.kept i s (sym (at_push numbers.kept.items i) ∙ there));
+      many = ap (λ (l : List (Option (Slot T))). length l) kept ∙ length_push numbers.kept.items None ∙ ap (λ (k : ℕ). k + 1) are.many ∙ sym (length_push items None) ∙ ap (λ (l : List (Option (Slot T))). length l) (sym slots);
+      rest = subst (λ (t : Name × Batch). IsRestIn t.0 numbers'.key t.1) (λ i. ((sym book i).name, sym rest i)) rest_made;
       next = next';
       is_there = is;
       comes = makes.comes;
     }
 
 -- A new list has no slot.
-pub numbers_new : {T : Type 0} (numbers : Numbers T) (next : NextSlot) → numbers_book numbers.key ≡ numbers.book.name → made_of numbers.key ≡ 0 → numbers.slots.items ≡ [] → numbers.next ≡ Some next → IsNextSlotOf numbers.key next → AreNumbers numbers
-numbers_new numbers next book none slots is comes = record {
+pub slots_new : {T : Type 0} (numbers : Numbers T) (next : NextSlot) → numbers_book numbers.key ≡ numbers.book.name → made_of numbers.key ≡ 0 → rest_of numbers.key ≡ [] → numbers.slots.items ≡ [] → numbers.free ≡ 0 → numbers.kept.items ≡ []
+    → IsEmptyIn numbers.book.name (keys_in numbers.rest) → numbers.next ≡ Some next → IsNextSlotOf numbers.key next → AreSlots numbers
+slots_new numbers next book none nothing_left slots free kept rest is comes = record {
   book = book;
   flags = no_flags (use_flags numbers.key) (sym (made_flags numbers.key) ∙ none) ∙ ap flags_of (sym slots);
   slots = λ i s there. nothing i s (sym (ap (λ items. get_or items i None) slots) ∙ there);
+  free = free ∙ ap (count_by is_some) (sym slots);
+  kept = λ i s there. nothing i s (sym (ap (λ items. get_or items i None) kept) ∙ there);
+  many = ap (λ items. length items) kept ∙ ap (λ items. length items) (sym slots);
+  rest = record {
+    book = rest.0;
+    values = ap labels_of rest.1 ∙ sym nothing_left;
+    told = subst (λ (held : List (HeldKey Entry)). AreToldIn (numbers_saw numbers.key) held) (sym rest.1) tt;
+  };
   next = next;
   is_there = is;
   comes = comes;
@@ -288,20 +409,16 @@ numbers_new numbers next book none slots is comes = record {
     nothing (suc i) x is = absurd (cc)
 
 -- A slot whose number went back, when it lies in its place.
-module _ {T : Type 0} (numbers : Numbers T) (are : AreNumbers numbers) (words : Words T) (of : numbers.book.name ≡ words_book words) (slot slot' : Slot T) (pass pass' : Pass) (key' : NumbersKey) (free : IsFreeSlotOf words slot')
-    (gives : SlotGives slot pass slot' pass') (sets : SetsUse numbers.key pass' key' slot false) where
-  -- there is a place with its number
-  pub given_below : its_number slot' < length numbers.slots.items
-  given_below =
-      let here = there_known slot' key' (free.0.book ∙ sym (sets.0.0 ∙ are.book ∙ of)) (gives.0.seen ∙ sym (own_followed numbers.key pass' key' sets.0)) in
-      let same : length (use_flags key') ≡ length (use_flags numbers.key) = ap (λ (us : List Bool). length us) sets.1 ∙ length-set (use_flags numbers.key) (its_number slot) false in
-      let long = flags_length numbers are in omega (arith, here, same, long)
+module _ {T : Type 0} (numbers : Numbers T) (are : AreSlots numbers) (slot slot' : Slot T) (pass pass' : Pass) (key' : NumbersKey) (gives : SlotGives slot pass slot' pass') (sets : SetsUse numbers.key pass' key' slot false)
+    (was : get_or (use_flags numbers.key) (its_number slot) false ≡ true) where
+  -- there is a place with its number, where nothing lay
+  pub given_place : (its_number slot < length numbers.slots.items) × (is_some (get_or numbers.slots.items (its_number slot) None) ≡ false)
+  given_place = flag_at numbers.slots.items (its_number slot) (ap (λ (us : List Bool). get_or us (its_number slot) false) (sym are.flags) ∙ was)
 
-  pub given_ended : IsTakenAt numbers.book.name 0 (its_number slot') slot'
-  given_ended = record {
-    its = subst (λ (n : Name). IsOfList n slot') (sym of) free.0;
-    number = refl;
-    inactive = free.2;
-    used = λ less. absurd (omega (arith, less));
-    free = λ _ used. absurd (let no : false ≡ true = sym free.1 ∙ used in cc);
-  }
+pub given_ended : {T : Type 0} (numbers : Numbers T) (words : Words T) (slot' : Slot T) → numbers.book.name ≡ words_book words → IsFreeSlotOf words slot' → IsFreeAt numbers.book.name (its_number slot') slot'
+given_ended numbers words slot' of free = record {
+  its = subst (λ (n : Name). IsOfList n slot') (sym of) free.0;
+  number = refl;
+  inactive = free.2;
+  free = free.1;
+}

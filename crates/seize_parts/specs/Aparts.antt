@@ -20,7 +20,7 @@
 --                            the one that `does` gives of it. What the reclaimer had are the values that are gone then; it put as `puts`
 --                            says, what it put waits, and the watch was told
 --     GoesAll                so it is where all is reclaimed with what is put, and the watch was told of that too
-use Rattle.std.specs.Prelude.{◌≡◌, ℕ, true, false, None, Option, List, [], ◌∷◌, ◌++◌, get_or, map}
+use Rattle.std.specs.Prelude.{◌≡◌, ℕ, true, false, not, ◌&&◌, ◌==◌, None, Option, List, [], ◌∷◌, ◌++◌, get_or, length, map}
 use Rattle.std.specs.Option.{is_none}
 use base.Stored.{Gv}
 use Rattle.seize_machine.specs.Machine.State.{are_distinct, linked_values}
@@ -98,7 +98,9 @@ AreKeptOf kept st =
 
 abbrev pub IsMoved : {T : Type 0} → ℕ → List (Option (Place T)) → List (Option (Slot T)) → List (Option (Slot T)) → Type 0
 IsMoved n places kept kept' =
-    (length kept' ≡ length kept) × ((i : ℕ) → is_none (get_or kept' i None) ≡ (is_none (get_or kept i None) && not ((i == n) && not (is_none (get_or places n None)))))
+    (length kept' ≡ length kept)
+    × ((i : ℕ) → is_none (get_or kept' i None)
+    ≡ (is_none (get_or kept i None) && not ((i == n) && not (is_none (get_or places n None)))))
 
 abbrev pub LeadsTo : {T : Type 0} → (T → Gv) → (ModelState T ℕ → Type 0) → (ModelState T ℕ → ModelState T ℕ) → Pass → Pass → Type 0
 LeadsTo {T} code May does pass pass' =

@@ -117,9 +117,9 @@ Defers s job pass pass' = MakesCall (λ _ _ _. ⊥) s job pass pass'
 abbrev pub TakesNumber : (Pass → ℕ → List ℕ → Type 0) → ℕ → Pass → Pass → Type 0
 TakesNumber IsPut s pass pass' = MakesOne pass pass' (Take s) Done ⊎ MakesWhole IsPut s (Take s) pass pass'
 
-pub data GivesNumber (IsPut : Pass → ℕ → List ℕ → Type 0) (s : ℕ) (pass pass' : Pass) : Type 0 where
-  gives : MakesOne pass pass' (Give s) Done → GivesNumber IsPut s pass pass'
-  gathers : (mid : Pass) → MakesCall IsPut s Gather pass mid → GivesNumber IsPut s mid pass' → GivesNumber IsPut s pass pass'
+pub data GivesNumber (IsPut : Pass → ℕ → List ℕ → Type 0) (s : ℕ) : Pass → Pass → Type 0 where
+  gives : (pass pass' : Pass) → MakesOne pass pass' (Give s) Done → GivesNumber IsPut s pass pass'
+  gathers : (pass mid pass' : Pass) → MakesCall IsPut s Gather pass mid → GivesNumber IsPut s mid pass' → GivesNumber IsPut s pass pass'
 
 abbrev pub TakesAndEnters : (Pass → ℕ → List ℕ → Type 0) → ℕ → Pass → Pass → Type 0
 TakesAndEnters IsPut s pass pass' = (taken : Pass) × TakesNumber IsPut s pass taken × MakesOne taken pass' (Enter s) Done

@@ -78,19 +78,13 @@ impl<T: Drop> Steady for Numbers<T> {
 }
 
 impl<T: Drop> Numbers<T> {
-    ghost use Rattle.std.specs.Prelude.{◌<◌, ◌+◌, false, not, ◌&&◌, [], length, slice_set};
-    ghost use Rattle.std.specs.Prelude.{get_or};
-    ghost use Rattle.seize_book.specs.Book.{IsLegalList};
+    ghost use Rattle.std.specs.Prelude.{[], slice_set};
     ghost use Rattle.seize_book.specs.Others.{others_used, rest_of, use_flags};
-    ghost use Rattle.seize_book.specs.Passes.{IsSamePass};
-    ghost use Rattle.seize_book.specs.Tokens.{IsSole, start};
+    ghost use Rattle.seize_book.specs.Tokens.{IsSole};
     ghost use Rattle.seize_alone.specs.Events.{MakesAlone};
-    ghost use Rattle.seize_book.specs.Values.{values_of};
-    ghost use Rattle.seize_calls.specs.Batches.{keys_in};
-    ghost use Rattle.seize_words.specs.declared.words.Words.{Words};
-    ghost use Rattle.seize_calls.specs.declared.slot.Slot.{Slot};
+    ghost use Rattle.seize_calls.specs.declared.slot.Slot.{Slot as ASlot};
     ghost use Rattle.seize_machine.specs.declared.machine.event.Answer.{Answer};
-    ghost use Rattle.seize_parts.specs.Numbers.{AreNumbers, AreSlots, HasGathered, HasTaken, IsLockFor, KnowsLeast, MayEnd, MayGiveBack, TakesNone};
+    ghost use Rattle.seize_parts.specs.Numbers.{AreNumbers, AreSlots, HasGathered, HasTaken, KnowsLeast, MayEnd, MayGiveBack, TakesNone};
 
     /// Those of a new list of events, which has no slot yet.
     pub fn new(alloc: Global, key: NumbersKey, next: NextSlot, book: &Seen, pass: &mut Pass) -> Numbers<T>
@@ -223,7 +217,7 @@ impl<T: Drop> Numbers<T> {
         requires slot { MayEnd words.now slot × MayGiveBack self.old slot }
         ensures numbers { AreSlots self.new × (self.new.book ≡ self.old.book) × (self.new.kept ≡ self.old.kept) }
         ensures least { KnowsLeast self.old → KnowsLeast self.new }
-        ensures place { (s : Slot T) × (self.new.slots.items ≡ slice_set self.old.slots.items (its_number slot) (Some s)) }
+        ensures place { (s : ASlot T) × (self.new.slots.items ≡ slice_set self.old.slots.items (its_number slot) (Some s)) }
         ensures gives { MakesOne pass.old pass.new (Give (its_number slot)) Done }
         ensures alone { IsSole pass.old.id → (answer : Answer) × MakesAlone pass.old pass.new (Give (its_number slot)) answer }
     {
@@ -257,8 +251,11 @@ impl<T: Drop> Numbers<T> {
 }
 
 impl<T: Drop> Numbers<T> {
+    ghost use Rattle.seize_book.specs.Passes.{IsSamePass};
+    ghost use Rattle.seize_book.specs.Tokens.{IsSole};
     ghost use Rattle.seize_calls.specs.Slots.{IsInactive, IsSlotOf};
     ghost use Rattle.seize_parts.specs.Enders.{IsEnderOf};
+    ghost use Rattle.seize_parts.specs.Numbers.{AreNumbers, IsLockFor, KnowsLeast};
 
     /// The slot of the least number that is not in use, where there is one, by a pass that is alone: the number is taken again, and what
     /// slots left is attempted, where it is enough. No slot is made.
