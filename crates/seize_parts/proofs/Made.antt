@@ -138,7 +138,7 @@ take_done size s st _ (Step.took_new _ _ _) = refl
 take_done size s st _ (Step.took_old _ _ _ _) = refl
 
 give_done : (size s : ℕ) (st : State) (o : State × Answer) → Step size st (Give s) o → o.1 ≡ Done
-give_done size s st _ (Step.gave _ _ _) = refl
+give_done size s st _ (Step.gave _ _ _ _) = refl
 
 enter_done : (size s : ℕ) (st : State) (o : State × Answer) → Step size st (Enter s) o → o.1 ≡ Done
 enter_done size s st _ (Step.entered _ _ _) = refl
@@ -188,9 +188,9 @@ module _ {T : Type 0} (slot : Slot T) (pass : Pass) (slot' : Slot T) (pass' : Pa
   pub slot_gives : SlotGives slot pass slot' pass' → MakesOne pass pass' (Give (its_number slot)) Done
   slot_gives gives =
       makes_ready (λ p. AddsEvent slot.holder.key p slot'.holder.key pass' (Give (its_number slot))) ((Give (its_number slot), Done) ∷ [])
-      (λ ready does. key_gives slot.holder.key ready slot'.holder.key pass' (its_number slot) does) gives.0
+      (λ ready does. key_gives slot.holder.key ready slot'.holder.key pass' (its_number slot) does) gives
 
   pub slot_takes : SlotTakes slot pass slot' pass' → MakesOne pass pass' (Take (its_number slot)) Done
   slot_takes takes =
       makes_ready (λ p. AddsEvent slot.holder.key p slot'.holder.key pass' (Take (its_number slot))) ((Take (its_number slot), Done) ∷ [])
-      (λ ready does. key_takes slot.holder.key ready slot'.holder.key pass' (its_number slot) does) takes.0
+      (λ ready does. key_takes slot.holder.key ready slot'.holder.key pass' (its_number slot) does) takes
