@@ -1,5 +1,5 @@
 -- How many elements of a list pass a test, where one element or all of them change.
-use Rattle.std.proofs.Common.{◌≡◌, ◌≢◌, ℕ, zero, suc, ◌+◌, ◌<◌, Bool, false, not, ◌==◌, List, [], ◌∷◌, ◌++◌, length, get_or, set, refl, arith}
+use Rattle.std.proofs.Common.{◌≡◌, ◌≢◌, ℕ, zero, suc, ◌+◌, ◌<◌, Bool, false, not, ◌==◌, List, [], ◌∷◌, ◌++◌, length, get_or, set, refl, sym, ◌∙◌, arith}
 use Rattle.std.specs.List.{count_by, list_any}
 use Rattle.std.proofs.lemmas.Grind.{common_steps}
 use Rattle.seize_machine.proofs.Facts.{one}
@@ -22,6 +22,24 @@ pub none_passes : {X : Type 0} (p : X → Bool) (xs : List X) (i : ℕ) (d : X) 
 none_passes p [] i d e n = n
 none_passes p (x ∷ xs) zero d e n = grind (arith, common_steps)
 none_passes p (x ∷ xs) (suc i) d e n = none_passes p xs i d (grind (arith, common_steps)) n
+
+pub counts_none : {X : Type 0} (p : X → Bool) (xs : List X) (d : X) → ((i : ℕ) → p (get_or xs i d) ≡ false) → count_by p xs ≡ 0
+counts_none p [] d none = refl
+counts_none p (x ∷ xs) d none = let first : p x ≡ false = none 0 in let more : count_by p xs ≡ 0 = counts_none p xs d (λ i. none (suc i)) in grind (arith, common_steps)
+
+-- what f tells of each element is as it was
+pub same_at : {X Y : Type 0} (f : X → Y) (xs : List X) (i : ℕ) (y d : X) → f y ≡ f (get_or xs i d) → (k : ℕ) → f (get_or (set xs i y) k d) ≡ f (get_or xs k d)
+same_at f [] i y d e k = refl
+same_at f (x ∷ xs) zero y d e zero = e
+same_at f (x ∷ xs) zero y d e (suc k) = refl
+same_at f (x ∷ xs) (suc i) y d e zero = refl
+same_at f (x ∷ xs) (suc i) y d e (suc k) = same_at f xs i y d e k
+
+pub none_any : {X : Type 0} (p : X → Bool) (xs : List X) (i : ℕ) (d : X) → list_any p xs ≡ false → p d ≡ false → p (get_or xs i d) ≡ false
+none_any p xs i d e n = none_passes p xs i d (zero_of (count_by p xs) (sym (any_counts p xs) ∙ e)) n
+  where
+    zero_of : (k : ℕ) → not (k == 0) ≡ false → k ≡ 0
+    zero_of k h = grind arith
 
 pub counts_cons : {X : Type 0} (p q : X → Bool) (x y : X) (xs ys : List X) → p x ≡ q y → count_by p xs ≡ count_by q ys → count_by p (x ∷ xs) ≡ count_by q (y ∷ ys)
 counts_cons p q x y xs ys e f = grind (arith, common_steps)

@@ -1,6 +1,7 @@
 -- The laws of waiting sets.
 pub mod FurtherValues
 pub mod Drain
+pub mod LastEnd
 pub mod Invariants
 pub mod LinkCounts
 pub mod Lists

@@ -34,11 +34,12 @@ own_values st (Retire s v r) = (v, r) ∷ []
 own_values st (Swap s l new r) = with_reclaimer r new ++ with_reclaimer r (model_link st l)
 own_values st _ = []
 
--- the roots of three kinds: the call's own, those of a slot's batch and those of a retired batch
+-- the roots of four kinds: the call's own, what was left, those of a slot's batch and those of a retired batch
 abbrev pub root_of : {T R : Type 0} → waiting.ModelState T R → List (T × R) → ℕ → ℕ → Option (T × R)
 root_of st own zero i = slice_get own i
-root_of st own (suc zero) i = slice_get (model_slot st (pair_of i).0).batch (pair_of i).1
-root_of st own (suc (suc kind)) i = slice_get (retired_at st (pair_of i).0) (pair_of i).1
+root_of st own (suc zero) i = slice_get st.rest i
+root_of st own (suc (suc zero)) i = slice_get (model_slot st (pair_of i).0).batch (pair_of i).1
+root_of st own (suc (suc (suc kind))) i = slice_get (retired_at st (pair_of i).0) (pair_of i).1
 
 abbrev pub roots : {T R : Type 0} → waiting.ModelState T R → List (T × R) → ℕ → Option (T × R)
 roots st own n = root_of st own (pair_of n).0 (pair_of n).1
@@ -48,8 +49,9 @@ root_comes puts st own kind i v e = (0, (number_of kind i).0, ap (λ (p : ℕ ×
 
 roots_hold : {T R : Type 0} (puts : R → T → List T) (st : waiting.ModelState T R) (own : List (T × R)) → Holds T R (Comes puts (roots st own)) st
 roots_hold {T} {R} puts st own = record {
-  batches = λ s. all_at (Comes puts (roots st own)) (model_slot st s).batch (λ i v e. root_comes puts st own 1 (number_of s i).0 v (ap (λ (p : ℕ × ℕ). slice_get (model_slot st p.0).batch p.1) (number_of s i).1 ∙ e));
-  retired = λ b. all_at (Comes puts (roots st own)) (retired_at st b) (λ i v e. root_comes puts st own 2 (number_of b i).0 v (ap (λ (p : ℕ × ℕ). slice_get (retired_at st p.0) p.1) (number_of b i).1 ∙ e));
+  batches = λ s. all_at (Comes puts (roots st own)) (model_slot st s).batch (λ i v e. root_comes puts st own 2 (number_of s i).0 v (ap (λ (p : ℕ × ℕ). slice_get (model_slot st p.0).batch p.1) (number_of s i).1 ∙ e));
+  retired = λ b. all_at (Comes puts (roots st own)) (retired_at st b) (λ i v e. root_comes puts st own 3 (number_of b i).0 v (ap (λ (p : ℕ × ℕ). slice_get (retired_at st p.0) p.1) (number_of b i).1 ∙ e));
+  rest = all_at (Comes puts (roots st own)) st.rest (λ i v e. root_comes puts st own 1 i v e);
 }
 
 own_holds : {T R : Type 0} (puts : R → T → List T) (st : waiting.ModelState T R) (call : Call T R) → HoldsOwn (Comes puts (roots st (own_values st call))) st call

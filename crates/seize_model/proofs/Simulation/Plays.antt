@@ -86,14 +86,15 @@ split_of size st (e ∷ es) fs end answers h =
       all = one.all ∙ ap (λ (l : List Answer). one.answer ∷ l) rest.all;
     }
 
--- what the first of two lists puts
-pub put_first : {T R : Type 0} (puts : R → T → List T) (of : ℕ → T) (by : ℕ → R) (size : ℕ) (st middle : State) (es fs : List Event) (first last : List Answer) → play size st es ≡ Some (middle, first)
-    → ArePutBy puts of by (es ++ fs) (first ++ last) → ArePutBy puts of by es first
-put_first puts of by size st middle [] fs first last h put = tt
-put_first puts of by size st middle (e ∷ es) fs first last h put =
+-- what each of two lists puts
+pub put_parts : {T R : Type 0} (puts : R → T → List T) (of : ℕ → T) (by : ℕ → R) (size : ℕ) (st middle : State) (es fs : List Event) (first last : List Answer) → play size st es ≡ Some (middle, first)
+    → ArePutBy puts of by (es ++ fs) (first ++ last) → ArePutBy puts of by es first × ArePutBy puts of by fs last
+put_parts puts of by size st middle [] fs first last h put = (tt, subst (λ (l : List Answer). ArePutBy puts of by fs (l ++ last)) (play_none size st middle first h).1 put)
+put_parts puts of by size st middle (e ∷ es) fs first last h put =
     let one : First size st e es middle first = first_of size st e es middle first h in
     let all : ArePutBy puts of by (e ∷ (es ++ fs)) (one.answer ∷ (one.rest ++ last)) = subst (λ (l : List Answer). ArePutBy puts of by (e ∷ (es ++ fs)) (l ++ last)) one.all put in
-    subst (λ (l : List Answer). ArePutBy puts of by (e ∷ es) l) (sym one.all) (all.0, put_first puts of by size one.later middle es fs one.rest last one.legal all.1)
+    let rest : ArePutBy puts of by es one.rest × ArePutBy puts of by fs last = put_parts puts of by size one.later middle es fs one.rest last one.legal all.1 in
+    (subst (λ (l : List Answer). ArePutBy puts of by (e ∷ es) l) (sym one.all) (all.0, rest.0), rest.1)
 
 -- what is played is a legal list of the machine
 legal_of : (size : ℕ) (events : List Event) (st later : State) (answers : List Answer) → play size st events ≡ Some (later, answers) → Legal next st (at_size size events) answers later
