@@ -10,7 +10,8 @@ use Rattle.seize_machine.specs.declared.machine.event.Answer.TheVariants.{Done, 
 use Rattle.seize_machine.proofs.Facts.{lt_true}
 use Rattle.seize_model.proofs.Simulation.Paths.{Path, and_then, same_state}
 use Rattle.seize_model.proofs.Simulation.Determinism.{only_mark, only_detach, only_look, only_insert, only_add}
-use Rattle.seize_model.proofs.Simulation.Events.{busy, if_yes, mark_step, detach_step, look_step, insert_step, add_step, with_batch, with_count, counted_place}
+use Rattle.seize_model.proofs.Simulation.Events.{busy, mark_step, detach_step, look_step, insert_step, add_step, with_batch, with_count, counted_place}
+use Rattle.seize_model.proofs.Cases.{if_yes}
 
 -- the numbers of the active heads, where the first of these heads has number n
 abbrev pub actives : ℕ → List Head → List ℕ

@@ -24,11 +24,11 @@ use Rattle.seize_model.specs.Agreement.Statement.{IsReply, IsOutcome, EachList}
 use Rattle.seize_model.proofs.Simulation.Views.{with_reclaimers, shows_with, stand_of}
 use Rattle.seize_model.proofs.Simulation.Runs.{Leads, Returns, to_return, ArePutFor, put_none, put_append}
 use Rattle.seize_model.proofs.Simulation.Lists.{Left, left_returns}
-use Rattle.seize_model.proofs.Simulation.Events.{busy, at_rest, if_yes, there, twice, return_step}
+use Rattle.seize_model.proofs.Simulation.Events.{busy, at_rest, there, twice, return_step}
 use Rattle.seize_model.proofs.Simulation.Coupling.{Near, NearAt, Denote, CoupledSlot, Naming}
 use Rattle.seize_model.proofs.Simulation.Work.{own_slot, denote_append}
 use Rattle.seize_model.proofs.Simulation.Queues.{Ends}
-use Rattle.seize_model.proofs.Cases.{in_or_past}
+use Rattle.seize_model.proofs.Cases.{in_or_past, if_yes}
 use Rattle.seize_model.proofs.Simulation.Plays.{First, first_of, both_same, play_none, play_first, handed_first, play_append, handed_append, Split, split_of, put_parts}
 use Rattle.seize_machine.specs.Machine.History.{handed_value, handed}
 
@@ -72,13 +72,6 @@ begin_retire size base s v batch h free =
     (λ (slot : Slot). record slot { call = Some (record { place = Append v; queue = [] }) }) h free
 
 -- A slot in use between calls.
-
-pub in_use : {T R : Type 0} (st : waiting.ModelState T R) (s : ℕ) → is_free (model_slot st s).kind ≡ false → s < length st.slots
-in_use {T} {R} st s used = go (in_or_past s (length st.slots))
-  where
-    go : (s < length st.slots) ⊎ (length st.slots ≤ s) → s < length st.slots
-    go (inl h) = h
-    go (inr h) = absurd (let k : true ≡ false = sym (ap (λ (x : waiting.ModelSlot T R). is_free x.kind) (get_or_past st.slots s waiting.unmade_slot h)) ∙ used in cc)
 
 pub in_machine : {T R X : Type 0} (of : Naming T R X) (st : waiting.ModelState T R) (ms : State) (s : ℕ) → NearAt of [] st ms → s < length st.slots → s < length ms.slots
 in_machine of st ms s n h = rw n.as_many h

@@ -10,7 +10,7 @@ use Rattle.seize_model.specs.Waiting.State.{retired_at, waits_for}
 use Rattle.seize_model.specs.Waiting.Calls.{is_free, is_owned}
 use Rattle.seize_model.specs.Agreement.Shows.{held_value, head_of}
 use Rattle.seize_machine.proofs.Facts.{one, occ, has_none, has_some, distinct_once}
-use Rattle.seize_model.proofs.Counts.{count_same, count_less}
+use Rattle.seize_model.proofs.Counts.{count_same, count_set}
 use Rattle.seize_model.proofs.Cases.{or_same}
 
 -- What numbers stand for: in links for what they hold, and in batches for what is seen of values with their reclaimers. It is what they
@@ -112,7 +112,8 @@ near_out of st slots heads batches links rest s new shown n h now order = record
   values = n.values;
   counts = λ b.
       let none : waits_for b new ≡ false = ap (λ (l : List ℕ). list_any (λ x. x == b) l) order in
-      let less : count_by (waits_for b) (set st.slots s new) + one (waits_for b (waiting.model_slot st s)) ≡ count_by (waits_for b) st.slots = count_less (waits_for b) st.slots s new waiting.unmade_slot h none in
+      let less : count_by (waits_for b) (set st.slots s new) + one (waits_for b (waiting.model_slot st s)) ≡ count_by (waits_for b) st.slots + one false
+      = count_set (waits_for b) st.slots s new waiting.unmade_slot h ∙ ap (λ (t : Bool). count_by (waits_for b) st.slots + one t) none in
       let own : occ b (waiting.model_slot st s).order ≡ one (waits_for b (waiting.model_slot st s)) = once_counts b (waiting.model_slot st s).order (n.slot s).once in
       let all : count_by (waits_for b) st.slots + occ b [] ≡ count_by (waits_for b) (set st.slots s new) + occ b (waiting.model_slot st s).order = omega arith in
       n.counts b ∙ ap (λ (k : ℕ). pos k) all;

@@ -18,26 +18,22 @@ use Rattle.seize_model.specs.Waiting.Further.{with_further, Lighter}
 use Rattle.seize_model.specs.Waiting.Calls.{is_free, others_in_use, rest_and_batch, with_rest_gathered, gathers, with_number_free}
 use Rattle.seize_model.specs.Agreement.Play.{play}
 use Rattle.seize_model.specs.Agreement.Events.{IsJob, IsEnded, ArePutBy}
-use Rattle.seize_model.proofs.Counts.{none_any}
-use Rattle.seize_model.proofs.Cases.{or_same, or_false}
+use Rattle.seize_model.proofs.Cases.{or_same, or_false, if_yes, if_no}
 use Rattle.seize_model.proofs.WaitingSets.Drain.{weighs}
-use Rattle.seize_model.proofs.WaitingSets.LastEnd.{IsLone, lone_round, no_weight}
+use Rattle.seize_model.proofs.WaitingSets.LastEnd.{IsLone, lone_round, no_weight, lone_of}
 use Rattle.seize_model.proofs.Simulation.Views.{with_reclaimers}
 use Rattle.seize_model.proofs.Simulation.Paths.{Carried}
 use Rattle.seize_model.proofs.Simulation.Plays.{play_first, First, first_of, Split, split_of}
 use Rattle.seize_model.proofs.Simulation.Runs.{Leads, run_carried}
 use Rattle.seize_model.proofs.Simulation.Lists.{left_carried}
-use Rattle.seize_model.proofs.Simulation.Events.{busy, at_rest, if_yes, if_no}
+use Rattle.seize_model.proofs.Simulation.Events.{busy, at_rest}
 use Rattle.seize_model.proofs.Simulation.Coupling.{Near, NearAt, near_set, near_rest, Denote, CoupledSlot, Naming, no_slot_coupled}
 use Rattle.seize_model.proofs.Simulation.Work.{Does, attempt_does, near_batch, denote_append, denote_length}
 use Rattle.seize_model.proofs.Simulation.Names.{Names, Holds, HoldsAfter, Always, holds_always, holds_gathered, holds_attempt, holds_settled}
 use Rattle.seize_model.proofs.Simulation.Queues.{Ends, settled_ends}
-use Rattle.seize_model.proofs.Simulation.Beginnings.{in_use, in_machine, near_at_rest, idle_of, Reaches, JobEnds, PieceRun, JobRun, whole_run, whole_list, then_run, then_list, OneEvent, one_of}
+use Rattle.seize_model.proofs.Simulation.Beginnings.{in_machine, near_at_rest, idle_of, Reaches, JobEnds, PieceRun, JobRun, whole_run, whole_list, then_run, then_list, OneEvent, one_of}
 use Rattle.seize_model.proofs.Simulation.Jobs.{active_head}
-
--- a slot in use without a guard
-abbrev pub IsIdle : {T R : Type 0} → waiting.ModelState T R → ℕ → Type 0
-IsIdle st s = (is_free (model_slot st s).kind ≡ false) × (waiting.has_guard (model_slot st s) ≡ false)
+use Rattle.seize_model.proofs.WaitingSets.Refusals.{IsIdle, in_use}
 
 idle_guards : {T R : Type 0} (st : waiting.ModelState T R) (s : ℕ) → IsIdle st s → (model_slot st s).guards ≡ 0
 idle_guards st s idle = none (model_slot st s).guards idle.1
@@ -144,27 +140,7 @@ gather_job_list puts weight lighter of by st before s events answers later n idl
 
 -- what both sides show makes the slot a lone one, where no other is in use
 is_lone : {T R X : Type 0} (of : Naming T R X) (st : waiting.ModelState T R) (ms : State) (s : ℕ) → NearAt of [] st ms → IsIdle st s → others_in_use st s ≡ false → IsLone T R s st
-is_lone {T} {R} of st ms s n idle none = record {
-  made = in_use st s idle.0;
-  off = off;
-  order = λ i. (n.slot i).inactive (off i);
-  others = others;
-}
-  where
-    others : (i : ℕ) → i ≢ s → is_free (model_slot st i).kind ≡ true
-    others i other =
-        free (is_free (model_slot st i).kind)
-        (ap (λ (x : waiting.ModelSlot T R). not (is_free x.kind)) (sym (get_or-set_other st.slots s i unmade_slot unmade_slot other)) ∙ none_any (λ slot. not (is_free slot.kind)) (set st.slots s unmade_slot) i unmade_slot none refl)
-      where
-        free : (b : Bool) → not b ≡ false → b ≡ true
-        free true e = refl
-        free false e = absurd (cc)
-
-    off : (i : ℕ) → waiting.has_guard (model_slot st i) ≡ false
-    off i = elim (or_same i s) [
-      | inl same ↦ ap (λ (k : ℕ). waiting.has_guard (model_slot st k)) same ∙ idle.1
-      | inr other ↦ ap (λ (k : ℕ). not (k == 0)) ((n.slot i).free (others i other))
-    ]
+is_lone of st ms s n idle none = lone_of st s idle none (λ i e. ap (λ (k : ℕ). not (k == 0)) ((n.slot i).free e)) (λ i. (n.slot i).inactive)
 
 -- a round leaves less
 less_left : {T R : Type 0} (puts : R → T → List T) (weight : T → ℕ) → Lighter puts weight → (n : ℕ) (st : waiting.ModelState T R) (s : ℕ) → IsLone T R s st → (length (rest_and_batch st s) == 0) ≡ false → weighs weight (rest_and_batch st s) ≤ suc n

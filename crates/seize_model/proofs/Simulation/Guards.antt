@@ -25,15 +25,18 @@ use Rattle.seize_model.proofs.Simulation.Views.{with_reclaimers}
 use Rattle.seize_model.proofs.Simulation.Paths.{Carried}
 use Rattle.seize_model.proofs.Simulation.Runs.{Leads, run_carried}
 use Rattle.seize_model.proofs.Simulation.Lists.{left_carried}
-use Rattle.seize_model.proofs.Simulation.Events.{busy, at_rest, set_twice, if_yes}
+use Rattle.seize_model.proofs.Simulation.Events.{busy, at_rest}
 use Rattle.seize_model.proofs.Simulation.Coupling.{Near, NearAt, near_set, near_out, CoupledSlot, Naming}
 use Rattle.seize_model.proofs.Simulation.Work.{Does, own_slot}
 use Rattle.seize_model.proofs.Simulation.Names.{Names, Holds, HoldsAfter, Always, holds_always, holds_same, holds_part, holds_settled}
 use Rattle.seize_model.proofs.Simulation.Queues.{Ends, settled_ends}
-use Rattle.seize_model.proofs.Simulation.Beginnings.{begin_leave, in_use, in_machine, idle_of, near_at_rest, Reaches, JobEnds, PieceRun, JobRun, whole_run, whole_list, then_run, then_list, names_none, run_of, outcome_of, no_events, no_list, one_event, one_list, run_unless, list_unless, Run}
-use Rattle.seize_model.proofs.Simulation.Jobs.{guard_of, active_head, at_idle, out_does, settled_nothing}
+use Rattle.seize_model.proofs.Simulation.Beginnings.{begin_leave, in_machine, idle_of, near_at_rest, Reaches, JobEnds, PieceRun, JobRun, whole_run, whole_list, then_run, then_list, names_none, run_of, outcome_of, no_events, no_list, one_event, one_list, run_unless, list_unless, Run}
+use Rattle.seize_model.proofs.Simulation.Jobs.{active_head, at_idle, out_does, settled_nothing}
 use Rattle.seize_model.proofs.Simulation.Gathers.{still_idle, ended_run, ended_list}
 use Rattle.seize_model.proofs.WaitingSets.Drain.{weighs}
+use Rattle.seize_model.proofs.Cases.{if_yes}
+use Rattle.seize_model.proofs.WaitingSets.Refusals.{in_use, guard_of, none_of_two, registered_of}
+use Rattle.seize_model.proofs.Counts.{set_twice}
 
 is_some_guard : (k : ℕ) → 1 ≤ k → not (k == 0) ≡ true
 is_some_guard k h = grind arith
@@ -197,18 +200,6 @@ leave_list {T} {R} puts weight lighter of by st before s n =
 
 -- Enter.
 
-pub registered_of : {T R : Type 0} (st : waiting.ModelState T R) (s : ℕ) → not_registered st s ≡ None → (is_free (model_slot st s).kind ≡ false) × (is_owned (model_slot st s).kind ≡ false)
-registered_of st s e = go (is_free (model_slot st s).kind) (is_owned (model_slot st s).kind) e
-  where
-    go : (a b : Bool) → first_refusal (if a then Some NotInUse else None) (if b then Some WrongKind else None) ≡ None → (a ≡ false) × (b ≡ false)
-    go true b e = absurd (cc)
-    go false true e = absurd (cc)
-    go false false e = (refl, refl)
-
-first_none : (a b : Option Refusal) → first_refusal a b ≡ None → a ≡ None
-first_none None b e = refl
-first_none (Some r) b e = absurd (cc)
-
 -- an inactive slot in use becomes active, with this many guards
 pub near_entered : {T R X : Type 0} (of : Naming T R X) (st : waiting.ModelState T R) (ms : State) (s k : ℕ) → NearAt of [] st ms
     → is_free (model_slot st s).kind ≡ false → waiting.has_guard (model_slot st s) ≡ false → 1 ≤ k → (is_owned (model_slot st s).kind ≡ true → k ≤ 1)
@@ -242,7 +233,7 @@ near_first of st ms s n e g = near_entered of st ms s ((model_slot st s).guards 
 pub enter_run : {T R X : Type 0} (puts : R → T → List T) (weight : T → ℕ) (of : Naming T R X) (st : waiting.ModelState T R) (before : State) (s : ℕ) → NearAt of [] st before
     → Run puts of (Enter s) st before (step puts weight st (Enter s))
 enter_run {T} {R} puts weight of st before s near =
-    run_unless puts of (Enter s) st before done_reply None (first_refusal (not_registered st s) (too_many st s)) tt (set_guards st s ((model_slot st s).guards + 1), []) near (λ e. go (waiting.has_guard (model_slot st s)) refl (registered_of st s (first_none _ _ e)))
+    run_unless puts of (Enter s) st before done_reply None (first_refusal (not_registered st s) (too_many st s)) tt (set_guards st s ((model_slot st s).guards + 1), []) near (λ e. go (waiting.has_guard (model_slot st s)) refl (registered_of st s (none_of_two _ _ e).0))
   where
     go : (t : Bool) → waiting.has_guard (model_slot st s) ≡ t → (is_free (model_slot st s).kind ≡ false) × (is_owned (model_slot st s).kind ≡ false)
         → Run puts of (Enter s) st before (Done, (set_guards st s ((model_slot st s).guards + 1), []))
@@ -257,7 +248,7 @@ pub enter_list : {T R : Type 0} (puts : R → T → List T) (weight : T → ℕ)
     → EachList puts of by (Enter s) st before (step puts weight st (Enter s))
 enter_list {T} {R} puts weight of by st before s n =
     list_unless puts of by (Enter s) st before done_reply None (first_refusal (not_registered st s) (too_many st s)) tt (set_guards st s ((model_slot st s).guards + 1), []) n (λ e events answers later makes legal names with put.
-    go (waiting.has_guard (model_slot st s)) refl (registered_of st s (first_none _ _ e)) events answers later makes legal)
+    go (waiting.has_guard (model_slot st s)) refl (registered_of st s (none_of_two _ _ e).0) events answers later makes legal)
   where
     go : (t : Bool) → waiting.has_guard (model_slot st s) ≡ t → (is_free (model_slot st s).kind ≡ false) × (is_owned (model_slot st s).kind ≡ false) → (events : List Event) (answers : List Answer) (later : State) → events ≡ (if t then [] else EnterHead s ∷ [])
         → play st.size before events ≡ Some (later, answers) → IsOutcome T R of by (Enter s) (Done, (set_guards st s ((model_slot st s).guards + 1), [])) events answers later

@@ -27,31 +27,19 @@ use Rattle.seize_model.proofs.Simulation.Paths.{Carried}
 use Rattle.seize_model.proofs.Simulation.Determinism.{only_append, only_out}
 use Rattle.seize_model.proofs.Simulation.Runs.{Leads, run_carried}
 use Rattle.seize_model.proofs.Simulation.Lists.{left_carried}
-use Rattle.seize_model.proofs.Simulation.Events.{busy, at_rest, set_twice, if_yes, put_step, out_step}
+use Rattle.seize_model.proofs.Simulation.Events.{busy, at_rest, put_step, out_step}
 use Rattle.seize_model.proofs.Simulation.Coupling.{Near, NearAt, near_out, Denote, CoupledSlot, Naming}
 use Rattle.seize_model.proofs.Simulation.Names.{Names, Holds, holds_always, holds_same, holds_attempt, holds_put, holds_part, Always}
 use Rattle.seize_model.proofs.Simulation.Work.{Does, nothing_done, attempt_does, own_slot, in_slots}
 use Rattle.seize_model.proofs.Simulation.Walks.{walk_does, after_put}
 use Rattle.seize_model.proofs.Simulation.Queues.{Ends, settled_ends}
-use Rattle.seize_model.proofs.Simulation.Beginnings.{begin_flush, begin_refresh, begin_retire, in_use, in_machine, is_at_rest, near_at_rest, head_is, head_active, JobEnds, JobRun, whole_run, whole_list, names_none, run_of, job_outcome, no_events, no_list, run_unless, list_unless, Run, StartsFor}
+use Rattle.seize_model.proofs.Simulation.Beginnings.{begin_flush, begin_refresh, begin_retire, in_machine, is_at_rest, near_at_rest, head_is, head_active, JobEnds, JobRun, whole_run, whole_list, names_none, run_of, job_outcome, no_events, no_list, run_unless, list_unless, Run, StartsFor}
 use Rattle.seize_model.proofs.Simulation.Plays.{First, first_of}
+use Rattle.seize_model.proofs.Cases.{if_yes}
+use Rattle.seize_model.proofs.WaitingSets.Refusals.{in_use, used_of, guard_of}
+use Rattle.seize_model.proofs.Counts.{set_twice}
 
 -- a call that isn't refused has its slot in use, and a guard
-pub used_of : {T R : Type 0} (st : waiting.ModelState T R) (s : ℕ) → unused st s ≡ None → is_free (model_slot st s).kind ≡ false
-used_of st s e = go (is_free (model_slot st s).kind) e
-  where
-    go : (a : Bool) → (if a then Some NotInUse else None) ≡ None → a ≡ false
-    go true e = absurd (cc)
-    go false e = refl
-
-pub guard_of : {T R : Type 0} (st : waiting.ModelState T R) (s : ℕ) → no_guard st s ≡ None → (is_free (model_slot st s).kind ≡ false) × (waiting.has_guard (model_slot st s) ≡ true)
-guard_of st s e = go (is_free (model_slot st s).kind) (waiting.has_guard (model_slot st s)) e
-  where
-    go : (a b : Bool) → first_refusal (if a then Some NotInUse else None) (if b then None else Some NotActive) ≡ None → (a ≡ false) × (b ≡ true)
-    go true b e = absurd (cc)
-    go false true e = (refl, refl)
-    go false false e = absurd (cc)
-
 pub active_head : {T R X : Type 0} (of : Naming T R X) (st : waiting.ModelState T R) (ms : State) (s : ℕ) (t : Bool) → NearAt of [] st ms → waiting.has_guard (model_slot st s) ≡ t → is_active (head_at ms s) ≡ t
 active_head of st ms s t n e = ap is_active (head_is of st ms.slots ms.heads ms.batches ms.links ms.rest [] s n) ∙ head_active (model_slot st s) ∙ e
 

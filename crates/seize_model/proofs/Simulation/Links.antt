@@ -27,14 +27,15 @@ use Rattle.seize_model.specs.Agreement.Events.{AreEventsOf, MakesFor, NamesOwn, 
 use Rattle.seize_model.specs.Agreement.Statement.{IsOutcome, EachList}
 use Rattle.seize_model.proofs.Simulation.Views.{with_reclaimers}
 use Rattle.seize_model.proofs.Simulation.Plays.{play_first, both_same, First, first_of}
-use Rattle.seize_model.proofs.Simulation.Events.{if_yes, lt_yes}
+use Rattle.seize_model.proofs.Simulation.Events.{lt_yes}
 use Rattle.seize_model.proofs.Simulation.Coupling.{NearAt, Naming}
 use Rattle.seize_model.proofs.Simulation.Names.{Names, Holds}
 use Rattle.seize_model.proofs.Simulation.Beginnings.{Reaches, JobEnds, PieceRun, JobRun, names_none, run_of, outcome_of, no_events, no_list, one_event, one_list, run_unless, list_unless, Run, StartsFor}
-use Rattle.seize_model.proofs.Simulation.Jobs.{guard_of, active_head, retire_job, retire_job_list}
-use Rattle.seize_model.proofs.Simulation.Guards.{registered_of}
+use Rattle.seize_model.proofs.Simulation.Jobs.{active_head, retire_job, retire_job_list}
 use Rattle.seize_model.proofs.Simulation.Gathers.{ended_run, ended_list}
 use Rattle.seize_model.proofs.WaitingSets.Drain.{weighs}
+use Rattle.seize_model.proofs.Cases.{if_yes}
+use Rattle.seize_model.proofs.WaitingSets.Refusals.{guard_of, registered_of}
 
 -- a number was given back
 was_ended : {T : Type 0} (s : ℕ) (events : List Event) → IsEnded s events → ◌≡◌ {A = Reply T} Done (was_given events)

@@ -12,6 +12,7 @@ use Rattle.seize_model.specs.declared.kind.Kind.{Kind}
 use Rattle.seize_model.proofs.Cases.{either}
 use Rattle.seize_model.proofs.Simulation.Coupling.{Naming}
 use Rattle.seize_model.proofs.WaitingSets.FurtherValues.{waits_batch}
+use Rattle.seize_model.proofs.Counts.{at_set, at_last}
 
 -- Each value with the property has fresh numbers, and each that it puts has the property. A number that stands for a value in a batch
 -- stands for it in a link.
@@ -52,20 +53,6 @@ all_further puts P closed [] h = tt
 all_further puts P closed (v ∷ gone) h =
     subst (λ l. AllByRecursion P l) (sym (flat_map-cons (put_by puts) v gone))
     (all_append P (put_by puts v) (further puts gone) (closed v h.0) (all_further puts P closed gone h.1))
-
--- what holds of an element and of those before holds in a list where it was written, or pushed
-at_set : {X : Type 0} (Q : X → Type 0) (xs : List X) (s : ℕ) (y : X) (i : ℕ) (d : X) → Q y → Q (get_or xs i d) → Q (get_or (set xs s y) i d)
-at_set Q [] s y i d h k = k
-at_set Q (x ∷ xs) zero y zero d h k = h
-at_set Q (x ∷ xs) zero y (suc i) d h k = k
-at_set Q (x ∷ xs) (suc s) y zero d h k = k
-at_set Q (x ∷ xs) (suc s) y (suc i) d h k = at_set Q xs s y i d h k
-
-at_last : {X : Type 0} (Q : X → Type 0) (xs : List X) (y : X) (i : ℕ) (d : X) → Q y → Q d → Q (get_or xs i d) → Q (get_or (xs ++ y ∷ []) i d)
-at_last Q [] y zero d h n k = h
-at_last Q [] y (suc i) d h n k = n
-at_last Q (x ∷ xs) y zero d h n k = k
-at_last Q (x ∷ xs) y (suc i) d h n k = at_last Q xs y i d h n k
 
 -- The parts of a call.
 

@@ -40,11 +40,12 @@ use Rattle.seize_model.proofs.Simulation.Queues.{Ends, settled_ends}
 use Rattle.seize_model.proofs.Simulation.Beginnings.{outcome_of, job_outcome, no_events, no_list, OneEvent, one_of, Run, Reaches, JobEnds, PieceRun, whole_run, whole_list, then_run, then_list, run_of, names_none}
 use Rattle.seize_model.proofs.Simulation.Jobs.{settled_nothing}
 use Rattle.seize_model.proofs.Simulation.Gathers.{still_idle}
-use Rattle.seize_model.proofs.Simulation.Events.{busy, at_rest, if_yes, if_no, same}
+use Rattle.seize_model.proofs.Simulation.Events.{busy, at_rest, same}
 use Rattle.seize_model.proofs.Simulation.Coupling.{NearAt, near_set, near_rest, CoupledSlot, Naming, no_slot_coupled}
 use Rattle.seize_model.proofs.Simulation.Guards.{near_entered, enter_step}
-use Rattle.seize_model.proofs.Cases.{or_same}
+use Rattle.seize_model.proofs.Cases.{or_same, if_yes, if_no}
 use Rattle.seize_model.proofs.Counts.{beside}
+use Rattle.seize_model.proofs.WaitingSets.Taken.{with_room, free_room, taken_slot, taken_is, slot_taken}
 
 same_position : {X Y : Type 0} (p : X → Bool) (q : Y → Bool) (xs : List X) (ys : List Y) (d : X) (e : Y) → length xs ≡ length ys → ((i : ℕ) → p (get_or xs i d) ≡ q (get_or ys i e)) → position_or_len p xs ≡ position_or_len q ys
 same_position p q [] [] d e l h = refl
@@ -66,10 +67,7 @@ same_first of st ms n = same_position (λ slot. not slot.used) (λ slot. is_free
     not_not true = refl
     not_not false = refl
 
--- both sides with room for a number that is to be taken, where t says whether it is a new one
-abbrev with_room : {T R : Type 0} → Bool → waiting.ModelState T R → waiting.ModelState T R
-with_room t st = if t then record st { slots = st.slots ++ unmade_slot ∷ [] } else st
-
+-- the machine with room for a number that is to be taken, where t says whether it is a new one
 abbrev shown_room : Bool → State → State
 shown_room t ms = if t then record ms { slots = ms.slots ++ machine.no_slot ∷ []; heads = ms.heads ++ Inactive ∷ [] } else ms
 
@@ -99,33 +97,6 @@ near_room {T} {R} of st ms n true near few t_is = record {
         let x : get_or (st.slots ++ unmade_slot ∷ []) s unmade_slot ≡ get_or st.slots s unmade_slot = beside st.slots _ unmade_slot s other in
         let y : get_or (ms.slots ++ machine.no_slot ∷ []) s machine.no_slot ≡ get_or ms.slots s machine.no_slot = beside ms.slots _ machine.no_slot s (rw near.as_many other) in
         subst (λ k. CoupledSlot of (get_or (st.slots ++ unmade_slot ∷ []) s unmade_slot) k) (sym y) (subst (λ k. CoupledSlot of k (get_or ms.slots s machine.no_slot)) (sym x) (near.slot s))
-
--- the slot of the least number that is not in use, in that room
-pub free_room : {T R : Type 0} (st : waiting.ModelState T R) (t : Bool) → (least_unused st.slots == length st.slots) ≡ t → (least_unused st.slots < length (with_room t st).slots) × (is_free (model_slot (with_room t st) (least_unused st.slots)).kind ≡ true)
-free_room {T} {R} st true t_is =
-    let e : least_unused st.slots ≡ length st.slots = eq_true _ _ t_is in
-    (omega (arith, length-append st.slots (unmade_slot ∷ [])), ap (λ (k : ℕ). is_free (get_or (st.slots ++ unmade_slot ∷ []) k unmade_slot).kind) e ∙ ap (λ (x : waiting.ModelSlot T R). is_free x.kind) (get_or-append_seam st.slots unmade_slot [] unmade_slot))
-free_room st false t_is =
-    let below : least_unused st.slots ≤ length st.slots = prefix_len-le-length _ st.slots in
-    let within : least_unused st.slots < length st.slots = grind arith in
-    (within, passes_at_first (λ slot. is_free slot.kind) st.slots unmade_slot within)
-
--- the slot that was taken
-abbrev taken_slot : {T R : Type 0} → waiting.ModelState T R → Kind → waiting.ModelSlot T R
-taken_slot st kind = record { kind = kind; guards = 0; batch = st.rest; order = [] }
-
-taken_is : {T R : Type 0} (st : waiting.ModelState T R) (kind : Kind) (t : Bool) → (least_unused st.slots == length st.slots) ≡ t
-    → record (set_slot (with_room t st) (least_unused st.slots) (taken_slot st kind)) { rest = [] } ≡ with_number_in_use st (least_unused st.slots) kind
-taken_is {T} {R} st kind true t_is =
-    let e : least_unused st.slots ≡ length st.slots = eq_true _ _ t_is in
-    ap (λ (l : List (waiting.ModelSlot T R)). record st { slots = l; rest = [] })
-    (ap (λ (k : ℕ). set (st.slots ++ unmade_slot ∷ []) k (taken_slot st kind)) e ∙ set-append_seam st.slots unmade_slot [] (taken_slot st kind) ∙ sym (if_yes _ _ _ t_is))
-taken_is {T} {R} st kind false t_is = ap (λ (l : List (waiting.ModelSlot T R)). record st { slots = l; rest = [] }) (sym (if_no _ _ _ t_is))
-
-pub slot_taken : {T R : Type 0} (st : waiting.ModelState T R) (kind : Kind) → model_slot (with_number_in_use st (least_unused st.slots) kind) (least_unused st.slots) ≡ record { kind = kind; guards = 0; batch = st.rest; order = [] }
-slot_taken {T} {R} st kind =
-    let t : Bool = least_unused st.slots == length st.slots in
-    ap (λ (x : waiting.ModelState T R). model_slot x (least_unused st.slots)) (sym (taken_is st kind t refl)) ∙ get_or-set_same (with_room t st).slots (least_unused st.slots) (taken_slot st kind) unmade_slot (free_room st t refl).0
 
 -- the machine's slots beside that one, and no rest
 abbrev taken_base : {T R : Type 0} → waiting.ModelState T R → State → State

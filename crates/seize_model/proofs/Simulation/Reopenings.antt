@@ -3,12 +3,12 @@ use Rattle.std.proofs.Common.{◌≡◌, ℕ, List, [], ◌∷◌, length, map, 
 use Rattle.std.specs.List.{range_with_len}
 use Rattle.std.proofs.lemmas.List.{length-set}
 use Rattle.seize_machine.specs.Machine.State.{opening}
-use Rattle.seize_model.specs.Waiting.State.{ModelSlot, ModelState, model_slot, set_slot, unmade_slot}
+use Rattle.seize_model.specs.Waiting.State.{ModelSlot, ModelState, model_slot, unmade_slot}
 use Rattle.seize_model.specs.Waiting.Attempt.{part}
 use Rattle.seize_model.specs.Waiting.Calls.{set_guards, part_all, reclaim_all}
 use Rattle.seize_model.specs.Agreement.Shows.{ShowsReclaimers, ShowsState}
 use Rattle.seize_model.specs.Agreement.Reopening.{ReopenedLaw}
-use Rattle.seize_model.proofs.WaitingSets.LinkCounts.{part_links, releases_beside}
+use Rattle.seize_model.proofs.WaitingSets.Beside.{part_beside, ignores_links, ignores_many}
 use Rattle.seize_model.proofs.Simulation.Openings.{free_slots, opened_shown, opened_shown_with}
 
 -- The slots: as many as there were, and all free.
@@ -17,14 +17,11 @@ all_free : {T R : Type 0} (xs : List (ModelSlot T R)) → (let ys : List (ModelS
 all_free [] = refl
 all_free (x ∷ xs) = ap (λ l. unmade_slot ∷ l) (all_free xs)
 
-part_many : {T R : Type 0} (st : ModelState T R) (s : ℕ) → length (part st s).0.slots ≡ length st.slots
-part_many {T} {R} st s =
-    releases_beside (λ (k : ModelState T R). length k.slots) (λ k retired. refl) (set_slot st s (record (model_slot st s) { order = [] })) (model_slot st s).order
-    ∙ length-set st.slots s (record (model_slot st s) { order = [] })
-
 parts_many : {T R : Type 0} (st : ModelState T R) (ss : List ℕ) → length (part_all st ss).0.slots ≡ length st.slots
 parts_many st [] = refl
-parts_many st (s ∷ ss) = parts_many (set_guards (part st s).0 s 0) ss ∙ length-set (part st s).0.slots s (record (model_slot (part st s).0 s) { guards = 0 }) ∙ part_many st s
+parts_many {T} {R} st (s ∷ ss) =
+    parts_many (set_guards (part st s).0 s 0) ss ∙ length-set (part st s).0.slots s (record (model_slot (part st s).0 s) { guards = 0 })
+    ∙ part_beside (λ (k : ModelState T R). length k.slots) ignores_many st s
 
 slots_after : {T R : Type 0} (puts : R → T → List T) (weight : T → ℕ) (st : ModelState T R)
     → (reclaim_all puts weight st).0.slots ≡ replicate (length st.slots) unmade_slot
@@ -35,9 +32,9 @@ slots_after {T} {R} puts weight st =
 
 parts_links : {T R : Type 0} (st : ModelState T R) (ss : List ℕ) → (part_all st ss).0.links ≡ st.links
 parts_links st [] = refl
-parts_links st (s ∷ ss) =
+parts_links {T} {R} st (s ∷ ss) =
     parts_links (set_guards (part st s).0 s 0) ss
-    ∙ part_links st s
+    ∙ part_beside (λ (k : ModelState T R). k.links) ignores_links st s
 
 pub reopens : {T R : Type 0} (puts : R → T → List T) (weight : T → ℕ) → ReopenedLaw puts weight
 reopens {T} {R} puts weight of by st before shows = (

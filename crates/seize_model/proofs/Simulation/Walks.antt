@@ -14,12 +14,13 @@ use Rattle.seize_machine.proofs.Facts.{and_true, not_true}
 use Rattle.seize_model.proofs.Simulation.Paths.{Carried}
 use Rattle.seize_model.proofs.Simulation.Determinism.{only_sub}
 use Rattle.seize_machine.proofs.Facts.{after_put as put_place}
-use Rattle.seize_model.proofs.Simulation.Events.{busy, at_rest, set_twice, sub_step, with_count}
+use Rattle.seize_model.proofs.Simulation.Events.{busy, at_rest, sub_step, with_count}
 use Rattle.seize_model.proofs.Simulation.Coupling.{Near, NearAt, Denote, CoupledSlot, Naming}
 use Rattle.seize_model.proofs.Simulation.Releases.{near_less, near_release, BothGone, batch_with}
 use Rattle.seize_model.proofs.Simulation.Names.{Holds, HoldsAfter, holds_release, holds_appended}
 use Rattle.seize_model.proofs.Simulation.Work.{Handing, hands_on, Does, nothing_done, attempt_does, own_slot, in_slots, near_batch, denote_append, denote_length}
 use Rattle.seize_model.proofs.Cases.{either}
+use Rattle.seize_model.proofs.Counts.{set_twice}
 
 pub further_append : {T R : Type 0} (puts : R → T → List T) (xs ys : List (T × R)) → further puts (xs ++ ys) ≡ further puts xs ++ further puts ys
 further_append puts [] ys = refl

@@ -13,7 +13,7 @@ use Rattle.seize_model.specs.Waiting.Attempt.{StateAndGone, release, wait_if_act
 use Rattle.seize_model.specs.Waiting.Further.{further, put_by}
 use Rattle.seize_model.specs.Agreement.Shows.{head_of}
 use Rattle.seize_model.proofs.Simulation.Paths.{Carried, along}
-use Rattle.seize_model.proofs.Simulation.Events.{busy, at_rest, set_twice, with_gone}
+use Rattle.seize_model.proofs.Simulation.Events.{busy, at_rest, with_gone}
 use Rattle.seize_model.proofs.Simulation.Attempts.{actives, with_front, set_seam, with_waiting, attempts_on, attempts_stop, place_with_waiting}
 use Rattle.seize_model.proofs.Simulation.Coupling.{Near, NearAt, near_set, Denote, CoupledSlot, Naming}
 use Rattle.seize_model.proofs.Simulation.Releases.{near_release, BothGone, batch_with}
@@ -21,6 +21,7 @@ use Rattle.seize_model.proofs.Simulation.Detachment.{actives_count, near_waits}
 use Rattle.seize_model.proofs.Simulation.Names.{Holds, holds_detach}
 use Rattle.seize_model.proofs.Cases.{either}
 use Rattle.seize_model.proofs.WaitingSets.Orders.{by_active}
+use Rattle.seize_model.proofs.Counts.{set_twice}
 
 pub denote_append : {T R X : Type 0} (of : Naming T R X) (ns ms : List ℕ) (xs ys : List (T × R)) → Denote of ns xs → Denote of ms ys → Denote of (ns ++ ms) (xs ++ ys)
 denote_append of ns ms xs ys e f = map-append of.name ns ms ∙ ap (λ l. l ++ map of.name ms) e ∙ ap (λ l. map of.view xs ++ l) f ∙ sym (map-append of.view xs ys)

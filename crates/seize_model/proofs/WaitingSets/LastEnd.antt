@@ -8,11 +8,11 @@ use Rattle.seize_model.specs.Waiting.State.{ModelSlot, ModelState, model_slot, r
 use Rattle.seize_model.specs.Waiting.Attempt.{StateAndGone, with_gone, release, active_slots, gives_up, wait_if_active, with_batch_retired, attempt, is_full, with_batch_value, put}
 use Rattle.seize_model.specs.Waiting.Further.{Lighter, put_by, further, settle, still_to_come, with_further, gone_from}
 use Rattle.seize_model.specs.Waiting.Calls.{is_free, others_in_use, rest_and_batch, with_rest_gathered, gathers}
-use Rattle.seize_model.proofs.Counts.{any_counts, counts_none, same_at}
-use Rattle.seize_model.proofs.Cases.{or_same}
-use Rattle.seize_model.proofs.Simulation.Events.{if_no}
+use Rattle.seize_model.proofs.Counts.{any_counts, counts_none, none_any, same_at}
+use Rattle.seize_model.proofs.Cases.{or_same, if_no}
 use Rattle.seize_model.proofs.WaitingSets.FurtherValues.{falls}
 use Rattle.seize_model.proofs.WaitingSets.Drain.{weighs, lightens, gone_from-nil, gone_from-cons}
+use Rattle.seize_model.proofs.WaitingSets.Refusals.{IsIdle, in_use}
 
 -- s was made, no slot is active, no batch waits for one, and no other number is in use
 pub record IsLone (T R : Type 0) (s : ℕ) (st : ModelState T R) : Type 0 where
@@ -20,6 +20,31 @@ pub record IsLone (T R : Type 0) (s : ℕ) (st : ModelState T R) : Type 0 where
   pub off : (i : ℕ) → has_guard (model_slot st i) ≡ false
   pub order : (i : ℕ) → (model_slot st i).order ≡ []
   pub others : (i : ℕ) → i ≢ s → is_free (model_slot st i).kind ≡ true
+
+-- such a slot is found where no other number is in use
+others_free : {T R : Type 0} (st : ModelState T R) (s : ℕ) → others_in_use st s ≡ false → (i : ℕ) → i ≢ s → is_free (model_slot st i).kind ≡ true
+others_free {T} {R} st s none i other =
+    free (is_free (model_slot st i).kind)
+    (ap (λ (x : ModelSlot T R). not (is_free x.kind)) (sym (get_or-set_other st.slots s i unmade_slot unmade_slot other)) ∙ none_any (λ slot. not (is_free slot.kind)) (set st.slots s unmade_slot) i unmade_slot none refl)
+  where
+    free : (b : Bool) → not b ≡ false → b ≡ true
+    free true e = refl
+    free false e = absurd (cc)
+
+pub lone_of : {T R : Type 0} (st : ModelState T R) (s : ℕ) → IsIdle st s → others_in_use st s ≡ false → ((i : ℕ) → is_free (model_slot st i).kind ≡ true → has_guard (model_slot st i) ≡ false)
+    → ((i : ℕ) → has_guard (model_slot st i) ≡ false → (model_slot st i).order ≡ []) → IsLone T R s st
+lone_of {T} {R} st s idle none free inactive = record {
+  made = in_use st s idle.0;
+  off = off;
+  order = λ i. inactive i (off i);
+  others = others_free st s none;
+}
+  where
+    off : (i : ℕ) → has_guard (model_slot st i) ≡ false
+    off i = elim (or_same i s) [
+      | inl same ↦ ap (λ (k : ℕ). has_guard (model_slot st k)) same ∙ idle.1
+      | inr other ↦ free i (others_free st s none i other)
+    ]
 
 -- with another batch of s
 lone_batch : {T R : Type 0} (s : ℕ) (st : ModelState T R) (values : List (T × R)) → IsLone T R s st → IsLone T R s (set_slot st s (record (model_slot st s) { batch = values }))
