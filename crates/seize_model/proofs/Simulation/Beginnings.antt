@@ -1,6 +1,6 @@
 -- How calls begin and return, what a run of a call is, and what is shown of each list of its events.
-use Rattle.std.proofs.Common.{◌≡◌, ℕ, ◌<◌, ◌≤◌, Bool, true, false, not, ◌&&◌, ◌||◌, if◌then◌else◌, List, [], ◌∷◌, ◌++◌, length, map, get_or, Option, Some, None, Ok, refl, sym, ◌∙◌, ap, subst, ◌⊎◌, inl, inr, option_to_list}
-use Rattle.std.proofs.lemmas.List.{get_or_past, length-set, set-get_or}
+use Rattle.std.proofs.Common.{◌≡◌, ℕ, ◌<◌, Bool, true, false, not, ◌&&◌, ◌||◌, if◌then◌else◌, List, [], ◌∷◌, ◌++◌, length, map, get_or, Option, Some, None, Ok, refl, sym, ◌∙◌, ap, subst, option_to_list}
+use Rattle.std.proofs.lemmas.List.{length-set, set-get_or}
 use Rattle.std.proofs.Math.ListN.{get_or-map}
 use Rattle.seize_machine.specs.Machine.State as machine
 use Rattle.seize_machine.specs.Machine.State.{State, Slot, Head, Inactive, Active, Append, Mark, Out, Rest, has, is_idle, is_active, head_at, no_slot}
@@ -28,7 +28,7 @@ use Rattle.seize_model.proofs.Simulation.Events.{busy, at_rest, there, twice, re
 use Rattle.seize_model.proofs.Simulation.Coupling.{Near, NearAt, Denote, CoupledSlot, Naming}
 use Rattle.seize_model.proofs.Simulation.Work.{own_slot, denote_append}
 use Rattle.seize_model.proofs.Simulation.Queues.{Ends}
-use Rattle.seize_model.proofs.Cases.{in_or_past, if_yes}
+use Rattle.seize_model.proofs.Cases.{if_yes}
 use Rattle.seize_model.proofs.Simulation.Plays.{First, first_of, both_same, play_none, play_first, handed_first, play_append, handed_append, Split, split_of, put_parts}
 use Rattle.seize_machine.specs.Machine.History.{handed_value, handed}
 
@@ -204,8 +204,7 @@ then_list {T} {R} puts of by size before later es fs answers gone o legal put pa
     let both : ArePutBy puts of by es split.first × ArePutBy puts of by fs split.last
     = put_parts puts of by size before split.middle es fs split.first split.last split.begins (subst (λ (l : List Answer). ArePutBy puts of by (es ++ fs) l) split.all put) in
     let ends : Denote (with_reclaimers of by) (handed split.first) gone × Reaches (with_reclaimers of by) o later split.last
-    = parts split.middle split.first split.last split.begins both.0 split.goes_on both.1 in
-    (
+    = parts split.middle split.first split.last split.begins both.0 split.goes_on both.1 in (
       ends.1.0,
       ap (λ (hs : List ℕ). map {B = T × R} (λ n. (of n, by n)) hs) (ap handed split.all ∙ handed_append split.first split.last)
           ∙ denote_append (with_reclaimers of by) (handed split.first) (handed split.last) gone o.1 ends.0 ends.1.1,

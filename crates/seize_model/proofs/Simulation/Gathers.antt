@@ -1,24 +1,24 @@
 -- A number is given back on both sides: while no other one is in use and something is left, the slot gathers it and attempts it.
-use Rattle.std.proofs.Common.{◌≡◌, ◌≢◌, ℕ, zero, suc, ◌+◌, ◌<◌, ◌≤◌, Bool, true, false, not, ◌&&◌, ◌||◌, ◌==◌, if◌then◌else◌, List, [], ◌∷◌, ◌++◌, length, map, get_or, set, Some, None, refl, sym, ◌∙◌, ap, subst, ◌⊎◌, inl, inr, arith, length-append, option_to_list}
+use Rattle.std.proofs.Common.{◌≡◌, ℕ, zero, suc, ◌+◌, ◌<◌, ◌≤◌, Bool, true, false, not, ◌&&◌, ◌||◌, ◌==◌, if◌then◌else◌, List, [], ◌∷◌, ◌++◌, length, map, get_or, set, Some, refl, sym, ◌∙◌, ap, subst, arith, length-append}
 use Rattle.std.specs.List.{list_any}
-use Rattle.std.proofs.lemmas.List.{get_or-set_same, get_or-set_other}
+use Rattle.std.proofs.lemmas.List.{get_or-set_same}
 use Rattle.seize_machine.specs.Machine.State as machine
 use Rattle.seize_machine.specs.Machine.State.{State, Active, Inactive, Mark, is_active, is_idle, head_at}
 use Rattle.seize_machine.specs.Machine.Event.{Event, Begin, Give}
-use Rattle.seize_machine.specs.Machine.Next.{next, is_empty, is_outside, has_others, ends_now, can_gather, after_give, after_gather, gathered_slot}
+use Rattle.seize_machine.specs.Machine.Next.{next, is_empty, is_outside, has_others, ends_now, can_gather, after_give, after_gather}
 use Rattle.seize_machine.specs.Machine.History.{handed}
 use Rattle.seize_machine.specs.declared.machine.event.Job.TheVariants.{Gather}
 use Rattle.seize_machine.specs.declared.machine.event.Answer.{Answer}
 use Rattle.seize_machine.specs.declared.machine.event.Answer.TheVariants.{Done as DoneEvent}
-use Rattle.seize_machine.proofs.Facts.{Step, next_of, if_some, and_true, not_true, is_true}
+use Rattle.seize_machine.proofs.Facts.{Step, next_of, if_some, and_true, not_true}
 use Rattle.seize_model.specs.Waiting.State as waiting
 use Rattle.seize_model.specs.Waiting.State.{model_slot, set_slot, unmade_slot}
 use Rattle.seize_model.specs.Waiting.Attempt.{StateAndGone, attempt, with_gone}
-use Rattle.seize_model.specs.Waiting.Further.{with_further, Lighter}
-use Rattle.seize_model.specs.Waiting.Calls.{is_free, others_in_use, rest_and_batch, with_rest_gathered, gathers, with_number_free}
+use Rattle.seize_model.specs.Waiting.Further.{Lighter}
+use Rattle.seize_model.specs.Waiting.Calls.{is_free, others_in_use, rest_and_batch, with_rest_gathered, gathers, with_number_free, gathering}
 use Rattle.seize_model.specs.Agreement.Play.{play}
 use Rattle.seize_model.specs.Agreement.Events.{IsJob, IsEnded, ArePutBy}
-use Rattle.seize_model.proofs.Cases.{or_same, or_false, if_yes, if_no}
+use Rattle.seize_model.proofs.Cases.{or_false, if_yes, if_no}
 use Rattle.seize_model.proofs.WaitingSets.Drain.{weighs}
 use Rattle.seize_model.proofs.WaitingSets.LastEnd.{IsLone, lone_round, no_weight, lone_of}
 use Rattle.seize_model.proofs.Simulation.Views.{with_reclaimers}
@@ -26,8 +26,8 @@ use Rattle.seize_model.proofs.Simulation.Paths.{Carried}
 use Rattle.seize_model.proofs.Simulation.Plays.{play_first, First, first_of, Split, split_of}
 use Rattle.seize_model.proofs.Simulation.Runs.{Leads, run_carried}
 use Rattle.seize_model.proofs.Simulation.Lists.{left_carried}
-use Rattle.seize_model.proofs.Simulation.Events.{busy, at_rest}
-use Rattle.seize_model.proofs.Simulation.Coupling.{Near, NearAt, near_set, near_rest, Denote, CoupledSlot, Naming, no_slot_coupled}
+use Rattle.seize_model.proofs.Simulation.Events.{at_rest}
+use Rattle.seize_model.proofs.Simulation.Coupling.{NearAt, near_set, near_rest, CoupledSlot, Naming, no_slot_coupled}
 use Rattle.seize_model.proofs.Simulation.Work.{Does, attempt_does, near_batch, denote_append, denote_length}
 use Rattle.seize_model.proofs.Simulation.Names.{Names, Holds, HoldsAfter, Always, holds_always, holds_gathered, holds_attempt, holds_settled}
 use Rattle.seize_model.proofs.Simulation.Queues.{Ends, settled_ends}
@@ -98,10 +98,6 @@ near_gathered of st ms s n idle =
     = near_batch of st ms s (machine.slot_at ms s).batch all (rest_and_batch st s) (near_at_rest of st ms s n idle.0) (in_machine of st ms s n (in_use st s idle.0)) (end_near of st ms s n idle).rest_is in
     near_rest of [] (set_slot st s (record (model_slot st s) { batch = rest_and_batch st s })) (at_rest ms s all).slots ms.heads ms.batches ms.links ms.rest [] [] batch refl
 
--- what it does
-abbrev pub gathering : {T R : Type 0} → (R → T → List T) → (T → ℕ) → waiting.ModelState T R → ℕ → StateAndGone T R
-gathering puts weight st s = with_further puts weight s (attempt (with_rest_gathered st s) s)
-
 gather_ends : {T R X : Type 0} (puts : R → T → List T) (weight : T → ℕ) → Lighter puts weight → (of : Naming T R X) (P : T × R → Type 0) (K : State → List ℕ → Type 0) (st : waiting.ModelState T R) (ms : State) (s : ℕ) → Carried puts of P s st.size K
     → Holds T R P st → NearAt of [] st ms → IsIdle st s → (length (rest_and_batch st s) == 0) ≡ false → K (after_gather ms s) [] → Ends of K st.size s 0 [] (gathering puts weight st s)
 gather_ends {T} {R} puts weight lighter of P K st ms s carried holds n idle left now =
@@ -118,20 +114,20 @@ gather_ends {T} {R} puts weight lighter of P K st ms s carried holds n idle left
     some a b e f = grind arith
 
 -- no other number is in use, and something is left
-abbrev MayGather : {T R : Type 0} → waiting.ModelState T R → ℕ → Type 0
-MayGather st s = (others_in_use st s ≡ false) × ((length (rest_and_batch st s) == 0) ≡ false)
+abbrev pub WouldGather : {T R : Type 0} → waiting.ModelState T R → ℕ → Type 0
+WouldGather st s = (others_in_use st s ≡ false) × ((length (rest_and_batch st s) == 0) ≡ false)
 
-gather_step : {T R X : Type 0} (of : Naming T R X) (size : ℕ) (st : waiting.ModelState T R) (ms : State) (s : ℕ) → NearAt of [] st ms → IsIdle st s → MayGather st s → next size ms (Begin s Gather) ≡ Some (after_gather ms s, DoneEvent)
+gather_step : {T R X : Type 0} (of : Naming T R X) (size : ℕ) (st : waiting.ModelState T R) (ms : State) (s : ℕ) → NearAt of [] st ms → IsIdle st s → WouldGather st s → next size ms (Begin s Gather) ≡ Some (after_gather ms s, DoneEvent)
 gather_step of size st ms s n idle may = next_of size ms (Begin s Gather) _ (Step.gathered s (idle_of of st ms s n idle.0) (is_off of st ms s n idle) (same_others of st ms s n idle ∙ may.0) (same_left of st ms s n idle ∙ may.1))
 
-gather_run : {T R X : Type 0} (puts : R → T → List T) (weight : T → ℕ) → Lighter puts weight → (of : Naming T R X) (P : T × R → Type 0) → Names puts of P → (st : waiting.ModelState T R) (before : State) (s : ℕ) → Holds T R P st → NearAt of [] st before → IsIdle st s → MayGather st s
+gather_run : {T R X : Type 0} (puts : R → T → List T) (weight : T → ℕ) → Lighter puts weight → (of : Naming T R X) (P : T × R → Type 0) → Names puts of P → (st : waiting.ModelState T R) (before : State) (s : ℕ) → Holds T R P st → NearAt of [] st before → IsIdle st s → WouldGather st s
     → JobRun puts of st.size s 0 Gather before (gathering puts weight st s)
 gather_run puts weight lighter of P names st before s holds n idle may =
     whole_run puts of st.size s 0 (Begin s Gather) before _ (gathering puts weight st s) (gather_step of st.size st before s n idle may)
     (gather_ends puts weight lighter of P _ st before s (run_carried puts of P names st.size s _) holds n idle may.1 (Leads.stays _))
 
 pub gather_job_list : {T R : Type 0} (puts : R → T → List T) (weight : T → ℕ) → Lighter puts weight → (of : ℕ → T) (by : ℕ → R) (st : waiting.ModelState T R) (before : State) (s : ℕ) (events : List Event) (answers : List Answer) (later : State) → NearAt (with_reclaimers of by) [] st before
-    → IsIdle st s → MayGather st s → IsJob s Gather events → play st.size before events ≡ Some (later, answers) → ArePutBy puts of by events answers → JobEnds (with_reclaimers of by) st.size s 0 (gathering puts weight st s) later answers
+    → IsIdle st s → WouldGather st s → IsJob s Gather events → play st.size before events ≡ Some (later, answers) → ArePutBy puts of by events answers → JobEnds (with_reclaimers of by) st.size s 0 (gathering puts weight st s) later answers
 gather_job_list puts weight lighter of by st before s events answers later n idle may makes legal put =
     whole_list puts of by st.size s 0 (Begin s Gather) before _ later (gathering puts weight st s) events answers (gather_step (with_reclaimers of by) st.size st before s n idle may) makes legal put (λ now.
     gather_ends puts weight lighter (with_reclaimers of by) Always _ st before s (left_carried puts of by st.size s later (handed answers)) (holds_always st) n idle may.1 now)
@@ -187,11 +183,11 @@ ended_run {T} {R} puts weight lighter of P names s (suc n) st before holds near 
     (less_left puts weight lighter n st s (is_lone of st before s near idle may.0) may.1 le))
   where
     go : (t : Bool) → (others_in_use st s || (length (rest_and_batch st s) == 0)) ≡ t
-        → (MayGather st s → (first : JobRun puts of st.size s 0 Gather before (gathering puts weight st s)) → PieceRun puts of (gathering puts weight st s).0.size (IsEnded s) first.later (Reaches of (given s (gathers puts weight n (gathering puts weight st s).0 s))))
+        → (WouldGather st s → (first : JobRun puts of st.size s 0 Gather before (gathering puts weight st s)) → PieceRun puts of (gathering puts weight st s).0.size (IsEnded s) first.later (Reaches of (given s (gathers puts weight n (gathering puts weight st s).0 s))))
         → PieceRun puts of st.size (IsEnded s) before (Reaches of (given s (if t then (st, []) else (let o = gathering puts weight st s in with_gone o.1 (gathers puts weight n o.0 s)))))
     go true e rounds = give_run puts of st before s near idle e
     go false e rounds =
-        let may : MayGather st s = or_false (others_in_use st s) (length (rest_and_batch st s) == 0) e in
+        let may : WouldGather st s = or_false (others_in_use st s) (length (rest_and_batch st s) == 0) e in
         let first : JobRun puts of st.size s 0 Gather before (gathering puts weight st s) = gather_run puts weight lighter of P names st before s holds near idle may in
         then_run puts of st.size (IsJob s Gather) (IsEnded s) (IsEnded s) before (gathering puts weight st s).1 (given s (gathers puts weight n (gathering puts weight st s).0 s)) (JobEnds of st.size s 0 (gathering puts weight st s))
         (λ es fs job more. IsEnded.gathers es fs job more) first first.ends.gone
@@ -203,7 +199,7 @@ gives_as : {T R : Type 0} (puts : R → T → List T) (weight : T → ℕ) (n : 
 gives_as puts weight zero st s ends = refl
 gives_as puts weight (suc n) st s ends = sym (if_yes _ _ _ ends)
 
-may_gather : {T R X : Type 0} (of : Naming T R X) (size : ℕ) (st : waiting.ModelState T R) (ms : State) (s : ℕ) (es : List Event) (later : State) (answers : List Answer) → NearAt of [] st ms → IsIdle st s → IsJob s Gather es → play size ms es ≡ Some (later, answers) → MayGather st s
+may_gather : {T R X : Type 0} (of : Naming T R X) (size : ℕ) (st : waiting.ModelState T R) (ms : State) (s : ℕ) (es : List Event) (later : State) (answers : List Answer) → NearAt of [] st ms → IsIdle st s → IsJob s Gather es → play size ms es ≡ Some (later, answers) → WouldGather st s
 may_gather of size st ms s es later answers n idle job legal =
     let first : First size ms (Begin s Gather) job.0 later answers = first_of size ms (Begin s Gather) job.0 later answers (ap (λ (l : List Event). play size ms l) (sym job.1) ∙ legal) in
     let all = and_true (is_outside ms s && not (has_others ms s)) _ (if_some (can_gather ms s) _ _ first.step).0 in
@@ -211,7 +207,7 @@ may_gather of size st ms s es later answers n idle job legal =
     (sym (same_others of st ms s n idle) ∙ lone, sym (same_left of st ms s n idle) ∙ not_true _ all.1)
 
 begun : {T R : Type 0} (puts : R → T → List T) (of : ℕ → T) (by : ℕ → R) (st : waiting.ModelState T R) (before : State) (s : ℕ) (es fs : List Event) (answers : List Answer) (later : State) → NearAt (with_reclaimers of by) [] st before → IsIdle st s → IsJob s Gather es
-    → play st.size before (es ++ fs) ≡ Some (later, answers) → MayGather st s
+    → play st.size before (es ++ fs) ≡ Some (later, answers) → WouldGather st s
 begun puts of by st before s es fs answers later near idle job legal =
     let split : Split st.size before es fs later answers = split_of st.size before es fs later answers legal in
     may_gather (with_reclaimers of by) st.size st before s es split.middle split.first near idle job split.begins
@@ -227,14 +223,13 @@ ended_list {T} {R} puts weight lighter of by s n st before _ answers later near 
     (subst (λ (k : State). NearAt (with_reclaimers of by) [] (with_number_free st s) k) (sym gave.0) (end_near (with_reclaimers of by) st before s near idle), ap (λ (l : List Answer). map {B = T × R} (λ n. (of n, by n)) (handed l)) gave.1)
 ended_list {T} {R} puts weight lighter of by s zero st before _ answers later near idle le (IsEnded.gathers es fs job more) legal put =
     absurd (let none : (length (rest_and_batch st s) == 0) ≡ true = none_left puts weight lighter st s le in
-    let some : MayGather st s = begun puts of by st before s es fs answers later near idle job legal in let c : true ≡ false = sym none ∙ some.1 in cc)
+    let some : WouldGather st s = begun puts of by st before s es fs answers later near idle job legal in let c : true ≡ false = sym none ∙ some.1 in cc)
 ended_list {T} {R} puts weight lighter of by s (suc n) st before _ answers later near idle le (IsEnded.gathers es fs job more) legal put =
-    let may : MayGather st s = begun puts of by st before s es fs answers later near idle job legal in
+    let may : WouldGather st s = begun puts of by st before s es fs answers later near idle job legal in
     let o : StateAndGone T R = gathering puts weight st s in
     subst (λ (k : StateAndGone T R). Reaches (with_reclaimers of by) (given s k) later answers) (sym (if_no _ _ _ (neither (others_in_use st s) _ may.0 may.1)))
     (then_list puts of by st.size before later es fs answers o.1 (given s (gathers puts weight n o.0 s)) legal put (λ middle first last begins put_first goes_on put_last.
-    let d : JobEnds (with_reclaimers of by) st.size s 0 (gathering puts weight st s) middle first = gather_job_list puts weight lighter of by st before s es first middle near idle may job begins put_first in
-    (
+    let d : JobEnds (with_reclaimers of by) st.size s 0 (gathering puts weight st s) middle first = gather_job_list puts weight lighter of by st before s es first middle near idle may job begins put_first in (
       d.gone,
       ended_list puts weight lighter of by s n (gathering puts weight st s).0 middle fs last later d.near (still_idle (with_reclaimers of by) st.size s (gathering puts weight st s) middle first d)
           (less_left puts weight lighter n st s (is_lone (with_reclaimers of by) st before s near idle may.0) may.1 le) more (ap (λ (size : ℕ). play size middle fs) d.same_size ∙ goes_on) put_last,

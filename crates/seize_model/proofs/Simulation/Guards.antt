@@ -1,6 +1,6 @@
 -- The calls that change a slot's guards: leave and enter.
-use Rattle.std.proofs.Common.{◌≡◌, ℕ, ◌+◌, ◌-◌, ◌<◌, ◌≤◌, Bool, true, false, not, ◌&&◌, ◌==◌, if◌then◌else◌, List, [], ◌∷◌, ◌++◌, length, set, Option, Some, None, refl, sym, ◌∙◌, ap, subst, arith, append-nil, is_some, map}
-use Rattle.std.proofs.lemmas.List.{get_or-set_same, length-set, set-get_or}
+use Rattle.std.proofs.Common.{◌≡◌, ℕ, ◌+◌, ◌-◌, ◌<◌, ◌≤◌, Bool, true, false, not, ◌&&◌, ◌==◌, if◌then◌else◌, List, [], ◌∷◌, ◌++◌, length, set, Some, None, refl, sym, ◌∙◌, ap, subst, arith, append-nil}
+use Rattle.std.proofs.lemmas.List.{get_or-set_same, set-get_or}
 use Rattle.seize_machine.specs.Machine.State as machine
 use Rattle.seize_machine.specs.Machine.State.{State, Slot, Head, Inactive, Active, Out, is_active, is_idle, head_at}
 use Rattle.seize_machine.specs.declared.machine.event.Answer.{Answer}
@@ -8,8 +8,6 @@ use Rattle.seize_machine.specs.Machine.Event.{Event, Begin, Enter as EnterHead}
 use Rattle.seize_machine.specs.Machine.Next.{next, set_head}
 use Rattle.seize_machine.specs.declared.machine.event.Job as job
 use Rattle.seize_machine.specs.declared.machine.event.Answer.TheVariants.{Done as DoneEvent}
-use Rattle.seize_table.specs.declared.refusal.Refusal.{Refusal}
-use Rattle.seize_table.specs.declared.refusal.Refusal.TheVariants.{NotInUse, WrongKind}
 use Rattle.seize_model.specs.Waiting.State as waiting
 use Rattle.seize_model.specs.Waiting.State.{model_slot, set_slot}
 use Rattle.seize_model.specs.Waiting.Attempt.{StateAndGone, release_all, part}
@@ -172,8 +170,7 @@ left_list {T} {R} puts weight lighter of by size s before o ends false events an
 left_list {T} {R} puts weight lighter of by size s before o ends true events answers later made legal put =
     then_list puts of by size before later made.0 made.1 answers o.1 (give_back puts weight o.0 s) (ap (λ (l : List Event). play size before l) (sym made.2) ∙ legal) (subst (λ (l : List Event). ArePutBy puts of by l answers) made.2 put)
     (λ middle first last begins put_first goes_on put_last.
-    let d : JobEnds (with_reclaimers of by) size s 0 o middle first = ends made.0 first middle made.3 begins put_first in
-    (
+    let d : JobEnds (with_reclaimers of by) size s 0 o middle first = ends made.0 first middle made.3 begins put_first in (
       d.gone,
       ended_list puts weight lighter of by s (weighs weight (rest_and_batch o.0 s)) o.0 middle made.1 last later d.near (still_idle (with_reclaimers of by) size s o middle first d) (omega arith) made.4
           (ap (λ (k : ℕ). play k middle made.1) d.same_size ∙ goes_on) put_last,

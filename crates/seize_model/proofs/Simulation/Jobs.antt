@@ -9,13 +9,12 @@ use Rattle.seize_machine.specs.declared.machine.event.Answer.{Answer}
 use Rattle.seize_machine.proofs.Facts.{if_some, and_true}
 use Rattle.seize_machine.specs.declared.machine.event.Job as job
 use Rattle.seize_machine.specs.declared.machine.event.Answer.TheVariants.{Done as DoneEvent}
-use Rattle.seize_table.specs.declared.refusal.Refusal.TheVariants.{NotInUse, NotActive}
 use Rattle.seize_model.specs.Waiting.State as waiting
 use Rattle.seize_model.specs.Waiting.State.{model_slot, set_slot}
 use Rattle.seize_model.specs.Waiting.Attempt.{with_gone, attempt, gives_up, active_slots, release_all, part, put}
 use Rattle.seize_model.specs.Waiting.Further.{with_further, Lighter}
 use Rattle.seize_model.proofs.WaitingSets.FurtherValues.{afterwards-nil}
-use Rattle.seize_model.specs.Waiting.Calls.{first_refusal, no_guard, unused, is_free, is_owned, part_if_alone}
+use Rattle.seize_model.specs.Waiting.Calls.{no_guard, unused, is_free, is_owned, part_if_alone}
 use Rattle.seize_model.specs.Waiting.Lists.{Flush, Retire, Refresh, Done, done_reply, step}
 use Rattle.seize_model.specs.Agreement.Shows.{head_of}
 use Rattle.seize_model.specs.Agreement.Play.{play}

@@ -3,8 +3,8 @@ use Rattle.std.proofs.Common.{◌≡◌, ◌≢◌, ℕ, zero, suc, ◌+◌, ◌
 use Rattle.std.specs.Prelude.{Err}
 use Rattle.std.specs.List.{count_by, position_or_len}
 use Rattle.std.proofs.lemmas.Grind.{common_steps}
-use Rattle.std.proofs.lemmas.List.{get_or-set_same, map-append, set-get_or}
-use Rattle.std.proofs.lemmas.List.Sums.{prefix_len-le-length, passes_at_first}
+use Rattle.std.proofs.lemmas.List.{map-append}
+use Rattle.std.proofs.lemmas.List.Sums.{prefix_len-le-length}
 use Rattle.std.proofs.Math.Seq.{get_or-append_seam, set-append_seam}
 use Rattle.seize_machine.specs.Machine.State as machine
 use Rattle.seize_machine.specs.Machine.State.{State, Slot, Inactive, Active, Mark}
@@ -21,7 +21,7 @@ use Rattle.seize_model.specs.Waiting.State as waiting
 use Rattle.seize_model.specs.Waiting.State.{model_slot, set_slot, unmade_slot, waits_for}
 use Rattle.seize_model.specs.Waiting.Attempt.{StateAndGone, with_gone, is_full, attempt_if_full}
 use Rattle.seize_model.specs.Waiting.Further.{with_further, Lighter}
-use Rattle.seize_model.specs.Waiting.Calls.{least_unused, with_number_in_use, is_free, set_guards}
+use Rattle.seize_model.specs.Waiting.Calls.{least_unused, with_number_in_use, is_free, set_guards, taking}
 use Rattle.seize_model.specs.Waiting.Lists.{Register, EnterOwned, Reply, Number, Refused, reply, step}
 use Rattle.seize_model.specs.Agreement.Shows.{head_of}
 use Rattle.seize_model.specs.Agreement.Events.{IsTaken, ArePutBy}
@@ -45,7 +45,7 @@ use Rattle.seize_model.proofs.Simulation.Coupling.{NearAt, near_set, near_rest, 
 use Rattle.seize_model.proofs.Simulation.Guards.{near_entered, enter_step}
 use Rattle.seize_model.proofs.Cases.{or_same, if_yes, if_no}
 use Rattle.seize_model.proofs.Counts.{beside}
-use Rattle.seize_model.proofs.WaitingSets.Taken.{with_room, free_room, taken_slot, taken_is, slot_taken}
+use Rattle.seize_model.proofs.WaitingSets.Taken.{with_room, free_room, taken_slot, taken_is, slot_taken, none_more}
 
 same_position : {X Y : Type 0} (p : X → Bool) (q : Y → Bool) (xs : List X) (ys : List Y) (d : X) (e : Y) → length xs ≡ length ys → ((i : ℕ) → p (get_or xs i d) ≡ q (get_or ys i e)) → position_or_len p xs ≡ position_or_len q ys
 same_position p q [] [] d e l h = refl
@@ -160,10 +160,6 @@ taken_is_first of size st ms n d near h = eq_true n (first_free ms.slots) (and_t
 
 -- The number is taken, and what was left is attempted where it is enough.
 
--- what it does
-abbrev pub taking : {T R : Type 0} → (R → T → List T) → (T → ℕ) → waiting.ModelState T R → Kind → StateAndGone T R
-taking puts weight st kind = with_further puts weight (least_unused st.slots) (attempt_if_full (with_number_in_use st (least_unused st.slots) kind) (least_unused st.slots))
-
 full_as : {T R : Type 0} (st : waiting.ModelState T R) (kind : Kind) → is_full st.size (model_slot (with_number_in_use st (least_unused st.slots) kind) (least_unused st.slots)).batch ≡ is_full st.size st.rest
 full_as {T} {R} st kind = ap (λ (x : waiting.ModelSlot T R). is_full st.size x.batch) (slot_taken st kind)
 
@@ -188,7 +184,7 @@ taken_within of st ms n few =
 
 take_ends : {T R X : Type 0} (puts : R → T → List T) (weight : T → ℕ) → Lighter puts weight → (of : Naming T R X) (P : T × R → Type 0) (K : State → List ℕ → Type 0) (st : waiting.ModelState T R) (ms : State) (kind : Kind) → Carried puts of P (least_unused st.slots) st.size K
     → Holds T R P st → NearAt of [] st ms → is_free kind ≡ false → (least_unused st.slots == 2 ^ 64 - 32) ≡ false → is_full st.size st.rest ≡ true
-    → K (busy (taken_base st ms) (least_unused st.slots) ms.rest (Mark 0 (length (taken_base st ms).slots) []) []) [] → Ends of K st.size (least_unused st.slots) 0 [] (taking puts weight st kind)
+    → K (busy (taken_base st ms) (least_unused st.slots) ms.rest (Mark 0 (length (taken_base st ms).slots) []) []) [] → Ends of K st.size (least_unused st.slots) 0 [] (taking puts weight st (least_unused st.slots) kind)
 take_ends {T} {R} puts weight lighter of P K st ms kind carried holds n used few full now =
     let held : Holds T R P (with_number_in_use st (least_unused st.slots) kind) = holds_taken P st (least_unused st.slots) kind holds in
     settled_ends puts weight lighter of P K st.size (least_unused st.slots) 0 [] (attempt_if_full (with_number_in_use st (least_unused st.slots) kind) (least_unused st.slots)) carried (holds_full P _ (least_unused st.slots) held)
@@ -197,11 +193,11 @@ take_ends {T} {R} puts weight lighter of P K st ms kind carried holds n used few
     (subst (λ (p : machine.Place). K (busy (taken_base st ms) (least_unused st.slots) ms.rest p []) []) (sym (if_yes _ _ _ (long_as of st ms n ∙ full))) now)))
 
 -- where it is not, nothing more is done
-taking_rest : {T R : Type 0} (puts : R → T → List T) (weight : T → ℕ) (st : waiting.ModelState T R) (kind : Kind) → is_full st.size st.rest ≡ false → taking puts weight st kind ≡ (with_number_in_use st (least_unused st.slots) kind, [])
+taking_rest : {T R : Type 0} (puts : R → T → List T) (weight : T → ℕ) (st : waiting.ModelState T R) (kind : Kind) → is_full st.size st.rest ≡ false → taking puts weight st (least_unused st.slots) kind ≡ (with_number_in_use st (least_unused st.slots) kind, [])
 taking_rest puts weight st kind full = ap (with_further puts weight (least_unused st.slots)) (if_no _ _ _ (full_as st kind ∙ full)) ∙ settled_nothing puts weight (with_number_in_use st (least_unused st.slots) kind) (least_unused st.slots)
 
 rest_ends : {T R X : Type 0} (puts : R → T → List T) (weight : T → ℕ) (of : Naming T R X) (st : waiting.ModelState T R) (ms later : State) (kind : Kind) (answers : List Answer) → NearAt of [] st ms → is_free kind ≡ false → (least_unused st.slots == 2 ^ 64 - 32) ≡ false → is_full st.size st.rest ≡ false
-    → OneEvent (at_rest (taken_base st ms) (least_unused st.slots) ms.rest) DoneEvent later answers → JobEnds of st.size (least_unused st.slots) 0 (taking puts weight st kind) later answers
+    → OneEvent (at_rest (taken_base st ms) (least_unused st.slots) ms.rest) DoneEvent later answers → JobEnds of st.size (least_unused st.slots) 0 (taking puts weight st (least_unused st.slots) kind) later answers
 rest_ends {T} {R} puts weight of st ms later kind answers n used few full ends =
     subst (λ (o : StateAndGone T R). JobEnds of st.size (least_unused st.slots) 0 o later answers) (sym (taking_rest puts weight st kind full)) (record {
       near = subst (λ (k : State). NearAt of [] (with_number_in_use st (least_unused st.slots) kind) k) (sym ends.0) (near_taken of st ms kind n used few);
@@ -212,12 +208,12 @@ rest_ends {T} {R} puts weight of st ms later kind answers n used few full ends =
     })
 
 take_run : {T R X : Type 0} (puts : R → T → List T) (weight : T → ℕ) → Lighter puts weight → (of : Naming T R X) (P : T × R → Type 0) → Names puts of P → (st : waiting.ModelState T R) (before : State) (kind : Kind) → Holds T R P st → NearAt of [] st before → is_free kind ≡ false
-    → (least_unused st.slots == 2 ^ 64 - 32) ≡ false → PieceRun puts of st.size (IsTaken (least_unused st.slots) (is_full st.size st.rest)) before (JobEnds of st.size (least_unused st.slots) 0 (taking puts weight st kind))
+    → (least_unused st.slots == 2 ^ 64 - 32) ≡ false → PieceRun puts of st.size (IsTaken (least_unused st.slots) (is_full st.size st.rest)) before (JobEnds of st.size (least_unused st.slots) 0 (taking puts weight st (least_unused st.slots) kind))
 take_run {T} {R} puts weight lighter of P names st before kind holds n used few = go (is_full st.size st.rest) refl
   where
-    go : (t : Bool) → is_full st.size st.rest ≡ t → PieceRun puts of st.size (IsTaken (least_unused st.slots) t) before (JobEnds of st.size (least_unused st.slots) 0 (taking puts weight st kind))
+    go : (t : Bool) → is_full st.size st.rest ≡ t → PieceRun puts of st.size (IsTaken (least_unused st.slots) t) before (JobEnds of st.size (least_unused st.slots) 0 (taking puts weight st (least_unused st.slots) kind))
     go true full =
-        whole_run puts of st.size (least_unused st.slots) 0 (Take (least_unused st.slots)) before _ (taking puts weight st kind) (take_full of st before n few full)
+        whole_run puts of st.size (least_unused st.slots) 0 (Take (least_unused st.slots)) before _ (taking puts weight st (least_unused st.slots) kind) (take_full of st before n few full)
         (take_ends puts weight lighter of P _ st before kind (run_carried puts of P names st.size (least_unused st.slots) _) holds n used few full (Leads.stays _))
     go false full = record {
       events = Take (least_unused st.slots) ∷ [];
@@ -232,15 +228,15 @@ take_run {T} {R} puts weight lighter of P names st before kind holds n used few 
 -- each list of such events
 pub take_list : {T R : Type 0} (puts : R → T → List T) (weight : T → ℕ) → Lighter puts weight → (of : ℕ → T) (by : ℕ → R) (st : waiting.ModelState T R) (before : State) (n : ℕ) (kind : Kind) (events : List Event) (answers : List Answer) (later : State) → NearAt (with_reclaimers of by) [] st before → is_free kind ≡ false
     → IsTaken n (is_full st.size st.rest) events → play st.size before events ≡ Some (later, answers) → ArePutBy puts of by events answers
-    → (n ≡ least_unused st.slots) × ((least_unused st.slots == 2 ^ 64 - 32) ≡ false → JobEnds (with_reclaimers of by) st.size (least_unused st.slots) 0 (taking puts weight st kind) later answers)
+    → (n ≡ least_unused st.slots) × ((least_unused st.slots == 2 ^ 64 - 32) ≡ false → JobEnds (with_reclaimers of by) st.size (least_unused st.slots) 0 (taking puts weight st (least_unused st.slots) kind) later answers)
 take_list {T} {R} puts weight lighter of by st before n kind events answers later near used makes legal put =
     let first : First st.size before (Take n) makes.0 later answers = first_of st.size before (Take n) makes.0 later answers (ap (λ (l : List Event). play st.size before l) (sym makes.1) ∙ legal) in
     let least : n ≡ least_unused st.slots = taken_is_first (with_reclaimers of by) st.size st before n (first.later, first.answer) near first.step in
     (least, λ few. go (is_full st.size st.rest) refl few (subst (λ (k : ℕ). IsTaken k (is_full st.size st.rest) events) least makes))
   where
-    go : (t : Bool) → is_full st.size st.rest ≡ t → (least_unused st.slots == 2 ^ 64 - 32) ≡ false → IsTaken (least_unused st.slots) t events → JobEnds (with_reclaimers of by) st.size (least_unused st.slots) 0 (taking puts weight st kind) later answers
+    go : (t : Bool) → is_full st.size st.rest ≡ t → (least_unused st.slots == 2 ^ 64 - 32) ≡ false → IsTaken (least_unused st.slots) t events → JobEnds (with_reclaimers of by) st.size (least_unused st.slots) 0 (taking puts weight st (least_unused st.slots) kind) later answers
     go true full few made =
-        whole_list puts of by st.size (least_unused st.slots) 0 (Take (least_unused st.slots)) before _ later (taking puts weight st kind) events answers (take_full (with_reclaimers of by) st before near few full) made legal put (λ now.
+        whole_list puts of by st.size (least_unused st.slots) 0 (Take (least_unused st.slots)) before _ later (taking puts weight st (least_unused st.slots) kind) events answers (take_full (with_reclaimers of by) st before near few full) made legal put (λ now.
         take_ends puts weight lighter (with_reclaimers of by) Always _ st before kind (left_carried puts of by st.size (least_unused st.slots) later (handed answers)) (holds_always st) near used few full now)
     go false full few made =
         rest_ends puts weight (with_reclaimers of by) st before later kind answers near used few full
@@ -248,11 +244,6 @@ take_list {T} {R} puts weight lighter of by st before n kind events answers late
         (ap (λ (l : List Event). play st.size before l) (sym (made.1 ∙ ap (λ (l : List Event). Take (least_unused st.slots) ∷ l) made.2)) ∙ legal))
 
 -- Register.
-
--- a slot without a guard, and with none again
-none_more : {T R : Type 0} (st : waiting.ModelState T R) (s : ℕ) → (model_slot st s).guards ≡ 0 → set_guards st s 0 ≡ st
-none_more {T} {R} st s none =
-    ap (λ (k : ℕ). set_slot st s (record (model_slot st s) { guards = k })) (sym none) ∙ ap (λ (l : List (waiting.ModelSlot T R)). record st { slots = l }) (set-get_or st.slots s unmade_slot)
 
 registered_as : {T R : Type 0} (o : StateAndGone T R) (s : ℕ) → (model_slot o.0 s).guards ≡ 0 → (set_guards o.0 s 0, o.1) ≡ o
 registered_as {T} {R} o s none = ap (λ (k : waiting.ModelState T R). (k, o.1)) (none_more o.0 s none)
@@ -265,12 +256,12 @@ pub register_run : {T R X : Type 0} (puts : R → T → List T) (weight : T → 
 register_run {T} {R} puts weight lighter of P names st before holds near = go (least_unused st.slots == 2 ^ 64 - 32) refl
   where
     go : (t : Bool) → (least_unused st.slots == 2 ^ 64 - 32) ≡ t
-        → Run puts of Register st before (reply Number None (if t then (Err NoNumbers, (st, [])) else (Ok (least_unused st.slots), (set_guards (taking puts weight st Registered).0 (least_unused st.slots) 0, (taking puts weight st Registered).1))))
+        → Run puts of Register st before (reply Number None (if t then (Err NoNumbers, (st, [])) else (Ok (least_unused st.slots), (set_guards (taking puts weight st (least_unused st.slots) Registered).0 (least_unused st.slots) 0, (taking puts weight st (least_unused st.slots) Registered).1))))
     go true e = no_events puts of Register st before (Refused NoNumbers None) st near refl refl
     go false e =
-        let run : PieceRun puts of st.size (IsTaken (least_unused st.slots) (is_full st.size st.rest)) before (JobEnds of st.size (least_unused st.slots) 0 (taking puts weight st Registered)) = take_run puts weight lighter of P names st before Registered holds near refl e in
-        subst (λ (o : StateAndGone T R). Run puts of Register st before (Number (least_unused st.slots), o)) (sym (registered_as (taking puts weight st Registered) (least_unused st.slots) run.ends.same_guards))
-        (run_of puts of Register st before _ _ (Number (least_unused st.slots)) (taking puts weight st Registered) run (run.ends.near, run.ends.gone) (least_unused st.slots, run.makes) (names_none {R = R} of.link Register run.events (λ e. tt)) tt
+        let run : PieceRun puts of st.size (IsTaken (least_unused st.slots) (is_full st.size st.rest)) before (JobEnds of st.size (least_unused st.slots) 0 (taking puts weight st (least_unused st.slots) Registered)) = take_run puts weight lighter of P names st before Registered holds near refl e in
+        subst (λ (o : StateAndGone T R). Run puts of Register st before (Number (least_unused st.slots), o)) (sym (registered_as (taking puts weight st (least_unused st.slots) Registered) (least_unused st.slots) run.ends.same_guards))
+        (run_of puts of Register st before _ _ (Number (least_unused st.slots)) (taking puts weight st (least_unused st.slots) Registered) run (run.ends.near, run.ends.gone) (least_unused st.slots, run.makes) (names_none {R = R} of.link Register run.events (λ e. tt)) tt
         (told_taken (least_unused st.slots) (least_unused st.slots) (is_full st.size st.rest) run.events run.makes refl))
 
 pub register_list : {T R : Type 0} (puts : R → T → List T) (weight : T → ℕ) → Lighter puts weight → (of : ℕ → T) (by : ℕ → R) (st : waiting.ModelState T R) (before : State) → NearAt (with_reclaimers of by) [] st before
@@ -278,13 +269,13 @@ pub register_list : {T R : Type 0} (puts : R → T → List T) (weight : T → �
 register_list {T} {R} puts weight lighter of by st before n = go (least_unused st.slots == 2 ^ 64 - 32) refl
   where
     go : (t : Bool) → (least_unused st.slots == 2 ^ 64 - 32) ≡ t
-        → EachList puts of by Register st before (reply Number None (if t then (Err NoNumbers, (st, [])) else (Ok (least_unused st.slots), (set_guards (taking puts weight st Registered).0 (least_unused st.slots) 0, (taking puts weight st Registered).1))))
+        → EachList puts of by Register st before (reply Number None (if t then (Err NoNumbers, (st, [])) else (Ok (least_unused st.slots), (set_guards (taking puts weight st (least_unused st.slots) Registered).0 (least_unused st.slots) 0, (taking puts weight st (least_unused st.slots) Registered).1))))
     go true e = λ events answers later makes legal names with put. no_list of by Register st.size before (Refused NoNumbers None) st events answers later n makes legal refl
     go false e = λ events answers later makes legal names with put.
         let took = take_list puts weight lighter of by st before makes.0 Registered events answers later n refl makes.1 legal put in
-        let d : JobEnds (with_reclaimers of by) st.size (least_unused st.slots) 0 (taking puts weight st Registered) later answers = took.1 e in
-        subst (λ (o : StateAndGone T R). IsOutcome T R of by Register (Number (least_unused st.slots), o) events answers later) (sym (registered_as (taking puts weight st Registered) (least_unused st.slots) d.same_guards))
-        (job_outcome of by Register st.size (least_unused st.slots) 0 (Number (least_unused st.slots)) (taking puts weight st Registered) events answers later d (told_taken makes.0 (least_unused st.slots) (is_full st.size st.rest) events makes.1 took.0))
+        let d : JobEnds (with_reclaimers of by) st.size (least_unused st.slots) 0 (taking puts weight st (least_unused st.slots) Registered) later answers = took.1 e in
+        subst (λ (o : StateAndGone T R). IsOutcome T R of by Register (Number (least_unused st.slots), o) events answers later) (sym (registered_as (taking puts weight st (least_unused st.slots) Registered) (least_unused st.slots) d.same_guards))
+        (job_outcome of by Register st.size (least_unused st.slots) 0 (Number (least_unused st.slots)) (taking puts weight st (least_unused st.slots) Registered) events answers later d (told_taken makes.0 (least_unused st.slots) (is_full st.size st.rest) events makes.1 took.0))
 
 -- The entry of an owned guard: the slot becomes active then.
 
@@ -308,12 +299,12 @@ pub owned_run : {T R X : Type 0} (puts : R → T → List T) (weight : T → ℕ
 owned_run {T} {R} puts weight lighter of P names st before holds near = go (least_unused st.slots == 2 ^ 64 - 32) refl
   where
     go : (t : Bool) → (least_unused st.slots == 2 ^ 64 - 32) ≡ t
-        → Run puts of EnterOwned st before (reply Number None (if t then (Err NoNumbers, (st, [])) else (Ok (least_unused st.slots), (set_guards (taking puts weight st Owned).0 (least_unused st.slots) 1, (taking puts weight st Owned).1))))
+        → Run puts of EnterOwned st before (reply Number None (if t then (Err NoNumbers, (st, [])) else (Ok (least_unused st.slots), (set_guards (taking puts weight st (least_unused st.slots) Owned).0 (least_unused st.slots) 1, (taking puts weight st (least_unused st.slots) Owned).1))))
     go true e = no_events puts of EnterOwned st before (Refused NoNumbers None) st near refl refl
     go false e =
         let n : ℕ = least_unused st.slots in
-        let o : StateAndGone T R = taking puts weight st Owned in
-        let run : PieceRun puts of st.size (IsTaken (least_unused st.slots) (is_full st.size st.rest)) before (JobEnds of st.size (least_unused st.slots) 0 (taking puts weight st Owned)) = take_run puts weight lighter of P names st before Owned holds near refl e in
+        let o : StateAndGone T R = taking puts weight st (least_unused st.slots) Owned in
+        let run : PieceRun puts of st.size (IsTaken (least_unused st.slots) (is_full st.size st.rest)) before (JobEnds of st.size (least_unused st.slots) 0 (taking puts weight st (least_unused st.slots) Owned)) = take_run puts weight lighter of P names st before Owned holds near refl e in
         let same : o.1 ++ [] ≡ o.1 = append-nil o.1 in
         let all : PieceRun puts of st.size (IsEntered n (is_full st.size st.rest)) before (Reaches of (with_gone o.1 (set_guards o.0 n 1, [])))
         = then_run puts of st.size (IsTaken n (is_full st.size st.rest)) (λ fs. fs ≡ EnterHead n ∷ []) (IsEntered n (is_full st.size st.rest)) before o.1 (set_guards o.0 n 1, []) (JobEnds of st.size n 0 o) (λ es fs made is. (es, ap (λ (l : List Event). es ++ l) is, made)) run run.ends.gone (record {
@@ -334,19 +325,18 @@ pub owned_list : {T R : Type 0} (puts : R → T → List T) (weight : T → ℕ)
 owned_list {T} {R} puts weight lighter of by st before near = go (least_unused st.slots == 2 ^ 64 - 32) refl
   where
     go : (t : Bool) → (least_unused st.slots == 2 ^ 64 - 32) ≡ t
-        → EachList puts of by EnterOwned st before (reply Number None (if t then (Err NoNumbers, (st, [])) else (Ok (least_unused st.slots), (set_guards (taking puts weight st Owned).0 (least_unused st.slots) 1, (taking puts weight st Owned).1))))
+        → EachList puts of by EnterOwned st before (reply Number None (if t then (Err NoNumbers, (st, [])) else (Ok (least_unused st.slots), (set_guards (taking puts weight st (least_unused st.slots) Owned).0 (least_unused st.slots) 1, (taking puts weight st (least_unused st.slots) Owned).1))))
     go true e = λ events answers later makes legal names with put. no_list of by EnterOwned st.size before (Refused NoNumbers None) st events answers later near makes legal refl
     go false e = λ events answers later makes legal names with put.
         let n : ℕ = least_unused st.slots in
-        let o : StateAndGone T R = taking puts weight st Owned in
+        let o : StateAndGone T R = taking puts weight st (least_unused st.slots) Owned in
         let whole : play st.size before (makes.1 ++ EnterHead makes.0 ∷ []) ≡ Some (later, answers) = ap (λ (l : List Event). play st.size before l) (sym makes.2) ∙ legal in
         let first : Split st.size before makes.1 (EnterHead makes.0 ∷ []) later answers = split_of st.size before makes.1 (EnterHead makes.0 ∷ []) later answers whole in
         let ends : Reaches (with_reclaimers of by) (with_gone o.1 (set_guards o.0 n 1, [])) later answers
         = then_list puts of by st.size before later makes.1 (EnterHead makes.0 ∷ []) answers o.1 (set_guards o.0 n 1, []) whole (subst (λ (l : List Event). ArePutBy puts of by l answers) makes.2 put) (λ middle told last begins put_first goes_on put_last.
         let took = take_list puts weight lighter of by st before makes.0 Owned makes.1 told middle near refl makes.3 begins put_first in
         let d : JobEnds (with_reclaimers of by) st.size n 0 o middle told = took.1 e in
-        let entered : OneEvent (set_head middle n (Active [])) DoneEvent later last = one_of st.size middle _ (EnterHead n) DoneEvent later last (owned_step (with_reclaimers of by) st.size n o middle told d) (ap (λ (k : ℕ). play st.size middle (EnterHead k ∷ [])) (sym took.0) ∙ goes_on) in
-        (
+        let entered : OneEvent (set_head middle n (Active [])) DoneEvent later last = one_of st.size middle _ (EnterHead n) DoneEvent later last (owned_step (with_reclaimers of by) st.size n o middle told d) (ap (λ (k : ℕ). play st.size middle (EnterHead k ∷ [])) (sym took.0) ∙ goes_on) in (
           d.gone,
           (
             subst (λ (k : State). NearAt (with_reclaimers of by) [] (set_guards o.0 n 1) k) (sym entered.0) (owned_near (with_reclaimers of by) st.size n o middle told d),

@@ -4,7 +4,7 @@ use Rattle.std.specs.List.{count_by, AllByRecursion}
 use Rattle.std.proofs.lemmas.List.Concat.{flat_map-cons}
 use Rattle.std.proofs.lemmas.List.{get_or-set_same, length-set, length-map, map-append}
 use Rattle.std.proofs.Math.ListN.{get_or-map}
-use Rattle.std.proofs.Math.Seq.{get_or-append_seam}
+use Rattle.std.proofs.Math.Seq.{get_or-append_seam, set-append_seam}
 use Rattle.seize_machine.specs.Machine.State as machine
 use Rattle.seize_machine.specs.Machine.State.{State, Head, Batch, Mark, Rest, has, are_distinct, no_batch}
 use Rattle.seize_model.specs.Waiting.State as waiting
@@ -14,7 +14,7 @@ use Rattle.seize_model.specs.Waiting.Further.{further, put_by}
 use Rattle.seize_model.specs.Agreement.Shows.{head_of}
 use Rattle.seize_model.proofs.Simulation.Paths.{Carried, along}
 use Rattle.seize_model.proofs.Simulation.Events.{busy, at_rest, with_gone}
-use Rattle.seize_model.proofs.Simulation.Attempts.{actives, with_front, set_seam, with_waiting, attempts_on, attempts_stop, place_with_waiting}
+use Rattle.seize_model.proofs.Simulation.Attempts.{actives, with_front, with_waiting, attempts_on, attempts_stop, place_with_waiting}
 use Rattle.seize_model.proofs.Simulation.Coupling.{Near, NearAt, near_set, Denote, CoupledSlot, Naming}
 use Rattle.seize_model.proofs.Simulation.Releases.{near_release, BothGone, batch_with}
 use Rattle.seize_model.proofs.Simulation.Detachment.{actives_count, near_waits}
@@ -176,7 +176,7 @@ attempt_does {T} {R} puts of P K st base s batch queue hs carried holds n h some
         let put_there : batch_with (base.batches ++ fresh ∷ []) b (won == 0) (pos won) ≡ (with_waiting base batch).batches
         = ap (λ (x : Batch). set (base.batches ++ fresh ∷ []) b (record { values = if won == 0 then [] else x.values; count = pos won })) own_batch
         ∙ ap (λ (k : ℕ). set (base.batches ++ fresh ∷ []) k (record { values = if won == 0 then [] else batch; count = pos won })) place
-        ∙ set_seam base.batches fresh _ [] in
+        ∙ set-append_seam base.batches fresh [] _ in
         let near : NearAt of [] (release (with_batch_retired st s) b).0 (at_rest (with_waiting base batch) s [])
         = subst (λ (k : ℕ). Near of [] (release (with_batch_retired st s) b).0 (at_rest base s []).slots (map (with_front k) base.heads) (with_waiting base batch).batches base.links base.rest) place
         (subst (λ (l : List Batch). Near of [] (release (with_batch_retired st s) b).0 (at_rest base s []).slots (map (with_front b) base.heads) l base.links base.rest) put_there gone.0) in

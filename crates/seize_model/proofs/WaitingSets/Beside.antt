@@ -54,9 +54,6 @@ settled_beside puts weight f h s o = settle_beside puts f h (still_to_come weigh
 
 -- Such f.
 
-pub ignores_size : {T R : Type 0} → Ignores (λ (st : ModelState T R). st.size)
-ignores_size = record { retired = λ st retired. refl; slot = λ st s batch order. refl; waiting = λ st b. refl }
-
 pub ignores_rest : {T R : Type 0} → Ignores (λ (st : ModelState T R). st.rest)
 ignores_rest = record { retired = λ st retired. refl; slot = λ st s batch order. refl; waiting = λ st b. refl }
 

@@ -7,7 +7,7 @@ use Rattle.seize_machine.specs.Machine.State.{has}
 use Rattle.seize_model.specs.declared.kind.Kind.{Kind}
 use Rattle.seize_model.specs.Waiting.State.{ModelSlot, ModelState, model_slot, set_slot, unmade_slot, is_kept, waits_for, retired_at}
 use Rattle.seize_model.specs.Waiting.Attempt.{StateAndGone, release_all, attempt, gives_up, wait_if_active, with_batch_retired, is_full, attempt_if_full, put, with_batch_value, part}
-use Rattle.seize_model.specs.Waiting.Calls.{is_free, least_unused, with_number_in_use, set_guards, with_rest_gathered, part_all}
+use Rattle.seize_model.specs.Waiting.Calls.{least_unused, with_number_in_use, set_guards, with_rest_gathered, part_all}
 use Rattle.seize_model.specs.Waiting.Reached.{Reached, GoneLaw}
 use Rattle.seize_machine.proofs.Facts.{is_true}
 use Rattle.seize_model.proofs.Cases.{either, or_same}

@@ -1,19 +1,19 @@
 -- What the steps of a call keep, each call keeps.
-use Rattle.std.proofs.Common.{◌≡◌, ℕ, zero, suc, ◌+◌, ◌-◌, ◌^◌, ◌<◌, ◌≤◌, Bool, true, false, not, ◌||◌, ◌==◌, if◌then◌else◌, List, [], ◌∷◌, ◌++◌, length, set, Option, Some, None, Result, Ok, Err, refl, sym, ◌∙◌, ap, subst, inl, inr, arith}
-use Rattle.std.proofs.lemmas.List.{get_or-set_same, set-get_or}
+use Rattle.std.proofs.Common.{◌≡◌, ℕ, zero, suc, ◌+◌, ◌-◌, ◌^◌, ◌≤◌, Bool, true, false, not, ◌||◌, ◌==◌, if◌then◌else◌, List, [], ◌∷◌, ◌++◌, length, set, Option, Some, None, Result, Ok, Err, refl, sym, ◌∙◌, ap, subst, arith}
+use Rattle.std.proofs.lemmas.List.{get_or-set_same}
 use Rattle.seize_table.specs.declared.refusal.Refusal.{Refusal}
 use Rattle.seize_model.specs.declared.kind.Kind.{Kind}
 use Rattle.seize_model.specs.declared.kind.Kind.TheVariants.{Registered, Owned}
-use Rattle.seize_model.specs.Waiting.State.{ModelSlot, ModelState, model_slot, set_slot, unmade_slot, has_guard}
+use Rattle.seize_model.specs.Waiting.State.{ModelSlot, ModelState, model_slot, unmade_slot, has_guard}
 use Rattle.seize_model.specs.Waiting.Attempt.{StateAndGone, attempt, attempt_if_full, put, part}
 use Rattle.seize_model.specs.Waiting.Further.{further, settle, still_to_come, with_further}
 use Rattle.seize_model.specs.Waiting.Calls as calls
-use Rattle.seize_model.specs.Waiting.Calls.{is_free, is_owned, least_unused, with_number_in_use, set_guards, others_in_use, rest_and_batch, with_rest_gathered, gathers, with_number_free, give_back}
+use Rattle.seize_model.specs.Waiting.Calls.{is_free, is_owned, least_unused, with_number_in_use, set_guards, others_in_use, rest_and_batch, with_rest_gathered, gathers, with_number_free, give_back, taking, gathering}
 use Rattle.seize_model.specs.Waiting.Lists.{Call, Register, EnterOwned, Enter, Leave, End, Refresh, Flush, Retire, Protect, Swap, step, run, retire_old}
 use Rattle.seize_model.proofs.Cases.{either}
 use Rattle.seize_model.proofs.Counts.{same_at}
 use Rattle.seize_model.proofs.WaitingSets.Beside.{Ignores, ignores_of, attempt_beside, full_beside, put_beside, part_beside, settled_beside}
-use Rattle.seize_model.proofs.WaitingSets.Taken.{slot_taken}
+use Rattle.seize_model.proofs.WaitingSets.Taken.{slot_taken, none_more}
 use Rattle.seize_model.proofs.WaitingSets.Refusals.{IsUsed, IsIdle, in_use, used_of, guard_of, none_of_two, registered_of}
 
 -- what a slot in use shows, steps leave as it is
@@ -47,11 +47,10 @@ module _ {T R : Type 0} (P : ModelState T R → Type 0) (puts : R → T → List
 
 -- a gathering, after which the slot is idle still
 gathered_idle : {T R : Type 0} (puts : R → T → List T) (weight : T → ℕ) (st : ModelState T R) (s : ℕ) → IsIdle st s
-    → (let o : StateAndGone T R = attempt (with_rest_gathered st s) s in IsUsed o.0 s × IsIdle (with_further puts weight s o).0 s)
+    → IsUsed (attempt (with_rest_gathered st s) s).0 s × IsIdle (gathering puts weight st s).0 s
 gathered_idle {T} {R} puts weight st s idle =
     let kind : is_free (model_slot (attempt (with_rest_gathered st s) s).0 s).kind ≡ false = attempt_beside (λ (k : ModelState T R). is_free (model_slot k s).kind) (ignores_kind s) (with_rest_gathered st s) s ∙ (ignores_kind s).slot st s (rest_and_batch st s) (model_slot st s).order ∙ idle.0 in
-    let guards : (model_slot (attempt (with_rest_gathered st s) s).0 s).guards ≡ (model_slot st s).guards = attempt_beside (λ (k : ModelState T R). (model_slot k s).guards) (ignores_guards s) (with_rest_gathered st s) s ∙ (ignores_guards s).slot st s (rest_and_batch st s) (model_slot st s).order in
-    (
+    let guards : (model_slot (attempt (with_rest_gathered st s) s).0 s).guards ≡ (model_slot st s).guards = attempt_beside (λ (k : ModelState T R). (model_slot k s).guards) (ignores_guards s) (with_rest_gathered st s) s ∙ (ignores_guards s).slot st s (rest_and_batch st s) (model_slot st s).order in (
       kind,
       (
         settled_beside puts weight (λ (k : ModelState T R). is_free (model_slot k s).kind) (ignores_kind s) s (attempt (with_rest_gathered st s) s) ∙ kind,
@@ -65,7 +64,7 @@ pub gives_keep : {T R : Type 0} (P : ModelState T R → Type 0) (puts : R → T 
     → ((st : ModelState T R) (s : ℕ) → IsIdle st s → P st → P (attempt (with_rest_gathered st s) s).0)
     → ((st : ModelState T R) (s : ℕ) → IsIdle st s → P st → P (with_number_free st s))
     → (st : ModelState T R) (s : ℕ) → IsIdle st s → P st → P (give_back puts weight st s).0
-gives_keep {T} {R} P puts weight retirement gathering freeing st s idle h =
+gives_keep {T} {R} P puts weight retirement gathered freeing st s idle h =
     let ends : IsIdle (gathers puts weight _ st s).0 s × P (gathers puts weight _ st s).0 = rounds _ st idle h in
     freeing (gathers puts weight _ st s).0 s ends.0 ends.1
   where
@@ -73,9 +72,9 @@ gives_keep {T} {R} P puts weight retirement gathering freeing st s idle h =
     rounds zero st idle h = (idle, h)
     rounds (suc n) st idle h =
         let o : StateAndGone T R = attempt (with_rest_gathered st s) s in
-        let still : IsUsed o.0 s × IsIdle (with_further puts weight s o).0 s = gathered_idle puts weight st s idle in
+        let still : IsUsed (attempt (with_rest_gathered st s) s).0 s × IsIdle (gathering puts weight st s).0 s = gathered_idle puts weight st s idle in
         either (λ (o : StateAndGone T R). IsIdle o.0 s × P o.0) (others_in_use st s || (length (rest_and_batch st s) == 0)) _ _ (idle, h)
-        (rounds n (with_further puts weight s o).0 still.1 (settled_keeps P puts weight retirement s o still.0 (gathering st s idle h)))
+        (rounds n (gathering puts weight st s).0 still.1 (settled_keeps P puts weight retirement s o still.0 (gathered st s idle h)))
 
 module _ {T R : Type 0} (P : ModelState T R → Type 0) (puts : R → T → List T) (weight : T → ℕ) (inv : Invariant puts weight P) where
   unless_keeps : {A : Type 0} (refusal : Option Refusal) (st : ModelState T R) (a : calls.Response A T R)
@@ -88,15 +87,14 @@ module _ {T R : Type 0} (P : ModelState T R → Type 0) (puts : R → T → List
 
   -- the slot whose number was taken
   taken_keeps : (st : ModelState T R) (kind : Kind) → is_free kind ≡ false → P st
-      → (let o : StateAndGone T R = with_further puts weight (least_unused st.slots) (attempt_if_full (with_number_in_use st (least_unused st.slots) kind) (least_unused st.slots)) in
+      → (let o : StateAndGone T R = taking puts weight st (least_unused st.slots) kind in
       P o.0 × IsUsed o.0 (least_unused st.slots) × ((model_slot o.0 (least_unused st.slots)).guards ≡ 0))
   taken_keeps st kind used h =
       let n : ℕ = least_unused st.slots in
       let taken : ModelState T R = with_number_in_use st (least_unused st.slots) kind in
       let o : StateAndGone T R = attempt_if_full (with_number_in_use st (least_unused st.slots) kind) (least_unused st.slots) in
       let kinds : is_free (model_slot o.0 n).kind ≡ false = full_beside (λ (k : ModelState T R). is_free (model_slot k n).kind) (ignores_kind n) taken n ∙ ap (λ (x : ModelSlot T R). is_free x.kind) (slot_taken st kind) ∙ used in
-      let guards : (model_slot o.0 n).guards ≡ 0 = full_beside (λ (k : ModelState T R). (model_slot k n).guards) (ignores_guards n) taken n ∙ ap (λ (x : ModelSlot T R). x.guards) (slot_taken st kind) in
-      (
+      let guards : (model_slot o.0 n).guards ≡ 0 = full_beside (λ (k : ModelState T R). (model_slot k n).guards) (ignores_guards n) taken n ∙ ap (λ (x : ModelSlot T R). x.guards) (slot_taken st kind) in (
         further_keeps n o kinds (inv.taking st kind used h),
         settled_beside puts weight (λ (k : ModelState T R). is_free (model_slot k n).kind) (ignores_kind n) n o ∙ kinds,
         settled_beside puts weight (λ (k : ModelState T R). (model_slot k n).guards) (ignores_guards n) n o ∙ guards,
@@ -107,10 +105,6 @@ module _ {T R : Type 0} (P : ModelState T R → Type 0) (puts : R → T → List
       let taken = taken_keeps st Registered refl h in
       either (λ (a : calls.Response ℕ T R). P a.1.0) (least_unused st.slots == 2 ^ 64 - 32) _ _ h
       (subst P (sym (none_more _ (least_unused st.slots) taken.2)) taken.0)
-    where
-      none_more : (st : ModelState T R) (s : ℕ) → (model_slot st s).guards ≡ 0 → set_guards st s 0 ≡ st
-      none_more st s none =
-          ap (λ (k : ℕ). set_slot st s (record (model_slot st s) { guards = k })) (sym none) ∙ ap (λ (l : List (ModelSlot T R)). record st { slots = l }) (set-get_or st.slots s unmade_slot)
 
   owned_keeps : (st : ModelState T R) → P st → P (calls.take_number puts weight st Owned 1).1.0
   owned_keeps st h =

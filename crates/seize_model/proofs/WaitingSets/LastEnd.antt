@@ -1,13 +1,13 @@
 -- The last slot in use: where no slot is active, what is attempted is gone at once, and so is all that was left.
 use Rattle.std.proofs.Common.{◌≡◌, ◌≢◌, ℕ, zero, suc, ◌+◌, ◌<◌, ◌≤◌, Bool, true, false, not, ◌||◌, ◌==◌, if◌then◌else◌, nat_lt, List, [], ◌∷◌, ◌++◌, length, map, get_or, set, refl, sym, ◌∙◌, ap, subst, ◌⊎◌, inl, inr, arith, append_assoc, append-nil, length-append}
-use Rattle.std.specs.List.{list_any, count_by}
+use Rattle.std.specs.List.{list_any}
 use Rattle.std.proofs.lemmas.List.{get_or-set_same, get_or-set_other, length-set}
 use Rattle.std.proofs.lemmas.List.Concat.{flat_map-cons}
 use Rattle.std.proofs.Math.Seq.{get_or-append_seam, set-append_seam}
 use Rattle.seize_model.specs.Waiting.State.{ModelSlot, ModelState, model_slot, retired_at, set_slot, unmade_slot, has_guard, waits_for, is_kept}
 use Rattle.seize_model.specs.Waiting.Attempt.{StateAndGone, with_gone, release, active_slots, gives_up, wait_if_active, with_batch_retired, attempt, is_full, with_batch_value, put}
 use Rattle.seize_model.specs.Waiting.Further.{Lighter, put_by, further, settle, still_to_come, with_further, gone_from}
-use Rattle.seize_model.specs.Waiting.Calls.{is_free, others_in_use, rest_and_batch, with_rest_gathered, gathers}
+use Rattle.seize_model.specs.Waiting.Calls.{is_free, others_in_use, rest_and_batch, with_rest_gathered, gathers, gathering}
 use Rattle.seize_model.proofs.Counts.{any_counts, counts_none, none_any, same_at}
 use Rattle.seize_model.proofs.Cases.{or_same, if_no}
 use Rattle.seize_model.proofs.WaitingSets.FurtherValues.{falls}
@@ -192,26 +192,26 @@ lone_settle {T} {R} puts weight lighter (suc n) st s (v ∷ queue) lone le =
     let less : still_to_come weight (model_slot (put st s v).0 s).batch (queue ++ further puts (put st s v).1) ≤ n = omega (arith, falls puts weight lighter st s v queue) in
     elim (lone_put s st v lone) [
       | inl e ↦
-        let fuel : still_to_come weight (model_slot next s).batch (queue ++ []) ≤ n = subst (λ (o : StateAndGone T R). still_to_come weight (model_slot o.0 s).batch (queue ++ further puts o.1) ≤ n) e less in
-        let same : (model_slot next s).batch ++ (queue ++ []) ≡ (model_slot st s).batch ++ v ∷ queue = ap (λ (l : List (T × R)). l ++ (queue ++ [])) (own_batch s st batch lone) ∙ ap (λ (l : List (T × R)). batch ++ l) (append-nil queue) ∙ to_come in
-        subst (λ (o : StateAndGone T R). Comes puts weight s st.rest ((model_slot st s).batch ++ v ∷ queue) (with_gone o.1 (settle puts n o.0 s (queue ++ further puts o.1)))) (sym e)
-        (subst (λ (l : List (T × R)). Comes puts weight s st.rest l (settle puts n next s (queue ++ []))) same (lone_settle puts weight lighter n next s (queue ++ []) lone_next fuel))
+          let fuel : still_to_come weight (model_slot next s).batch (queue ++ []) ≤ n = subst (λ (o : StateAndGone T R). still_to_come weight (model_slot o.0 s).batch (queue ++ further puts o.1) ≤ n) e less in
+          let same : (model_slot next s).batch ++ (queue ++ []) ≡ (model_slot st s).batch ++ v ∷ queue = ap (λ (l : List (T × R)). l ++ (queue ++ [])) (own_batch s st batch lone) ∙ ap (λ (l : List (T × R)). batch ++ l) (append-nil queue) ∙ to_come in
+          subst (λ (o : StateAndGone T R). Comes puts weight s st.rest ((model_slot st s).batch ++ v ∷ queue) (with_gone o.1 (settle puts n o.0 s (queue ++ further puts o.1)))) (sym e)
+          (subst (λ (l : List (T × R)). Comes puts weight s st.rest l (settle puts n next s (queue ++ []))) same (lone_settle puts weight lighter n next s (queue ++ []) lone_next fuel))
       | inr e ↦
-        let last : ModelState T R = emptied next s in
-        let fuel : still_to_come weight (model_slot last s).batch (queue ++ further puts batch) ≤ n = subst (λ (o : StateAndGone T R). still_to_come weight (model_slot o.0 s).batch (queue ++ further puts o.1) ≤ n) e less in
-        let rest_comes : Comes puts weight s st.rest (queue ++ further puts batch) (settle puts n last s (queue ++ further puts batch))
-        = subst (λ (l : List (T × R)). Comes puts weight s st.rest (l ++ (queue ++ further puts batch)) (settle puts n last s (queue ++ further puts batch))) (own_batch s next [] lone_next)
-        (lone_settle puts weight lighter n last s (queue ++ further puts batch) (lone_emptied s next lone_next) fuel) in
-        subst (λ (o : StateAndGone T R). Comes puts weight s st.rest ((model_slot st s).batch ++ v ∷ queue) (with_gone o.1 (settle puts n o.0 s (queue ++ further puts o.1)))) (sym e)
-        (subst (λ (l : List (T × R)). Comes puts weight s st.rest l (with_gone batch (settle puts n last s (queue ++ further puts batch)))) to_come
-        (comes_after puts weight lighter s st.rest batch queue _ rest_comes))
+          let last : ModelState T R = emptied next s in
+          let fuel : still_to_come weight (model_slot last s).batch (queue ++ further puts batch) ≤ n = subst (λ (o : StateAndGone T R). still_to_come weight (model_slot o.0 s).batch (queue ++ further puts o.1) ≤ n) e less in
+          let rest_comes : Comes puts weight s st.rest (queue ++ further puts batch) (settle puts n last s (queue ++ further puts batch))
+          = subst (λ (l : List (T × R)). Comes puts weight s st.rest (l ++ (queue ++ further puts batch)) (settle puts n last s (queue ++ further puts batch))) (own_batch s next [] lone_next)
+          (lone_settle puts weight lighter n last s (queue ++ further puts batch) (lone_emptied s next lone_next) fuel) in
+          subst (λ (o : StateAndGone T R). Comes puts weight s st.rest ((model_slot st s).batch ++ v ∷ queue) (with_gone o.1 (settle puts n o.0 s (queue ++ further puts o.1)))) (sym e)
+          (subst (λ (l : List (T × R)). Comes puts weight s st.rest l (with_gone batch (settle puts n last s (queue ++ further puts batch)))) to_come
+          (comes_after puts weight lighter s st.rest batch queue _ rest_comes))
     ]
 
 -- Rounds.
 
 -- all that was left is gone, and what stays to come is lighter
 pub lone_round : {T R : Type 0} (puts : R → T → List T) (weight : T → ℕ) → Lighter puts weight → (st : ModelState T R) (s : ℕ) → IsLone T R s st → (length (rest_and_batch st s) == 0) ≡ false
-    → (let o : StateAndGone T R = with_further puts weight s (attempt (with_rest_gathered st s) s) in Comes puts weight s [] (rest_and_batch st s) o × (weighs weight (model_slot o.0 s).batch < weighs weight (rest_and_batch st s)))
+    → Comes puts weight s [] (rest_and_batch st s) (gathering puts weight st s) × (weighs weight (model_slot (gathering puts weight st s).0 s).batch < weighs weight (rest_and_batch st s))
 lone_round {T} {R} puts weight lighter st s lone some =
     subst (λ (o : StateAndGone T R). Comes puts weight s [] gone (with_further puts weight s o) × (weighs weight (model_slot (with_further puts weight s o).0 s).batch < weighs weight gone)) (sym at_once) (comes, lighter_then)
   where
@@ -272,23 +272,23 @@ lone_gathers puts weight lighter zero st s lone le =
     let none : rest_and_batch st s ≡ [] = none_of (rest_and_batch st s) (no_weight puts weight lighter (rest_and_batch st s) le) in
     (none, sym (gone_from-nil puts weight) ∙ ap (gone_from puts weight) (sym none))
 lone_gathers {T} {R} puts weight lighter (suc n) st s lone le =
-    subst (λ (t : Bool). Ends (if t || (length (rest_and_batch st s) == 0) then (st, []) else (let o : StateAndGone T R = with_further puts weight s (attempt (with_rest_gathered st s) s) in with_gone o.1 (gathers puts weight n o.0 s))))
+    subst (λ (t : Bool). Ends (if t || (length (rest_and_batch st s) == 0) then (st, []) else (let o : StateAndGone T R = gathering puts weight st s in with_gone o.1 (gathers puts weight n o.0 s))))
     (sym (others_none st s lone))
     (go (length (rest_and_batch st s) == 0) refl (λ some.
-    let round : Comes puts weight s [] (rest_and_batch st s) (with_further puts weight s (attempt (with_rest_gathered st s) s)) × (weighs weight (model_slot (with_further puts weight s (attempt (with_rest_gathered st s) s)).0 s).batch < weighs weight (rest_and_batch st s))
+    let round : Comes puts weight s [] (rest_and_batch st s) (gathering puts weight st s) × (weighs weight (model_slot (gathering puts weight st s).0 s).batch < weighs weight (rest_and_batch st s))
     = lone_round puts weight lighter st s lone some in
-    let batch : rest_and_batch (with_further puts weight s (attempt (with_rest_gathered st s) s)).0 s ≡ (model_slot (with_further puts weight s (attempt (with_rest_gathered st s) s)).0 s).batch
-    = ap (λ (l : List (T × R)). l ++ (model_slot (with_further puts weight s (attempt (with_rest_gathered st s) s)).0 s).batch) round.0.same_rest in
-    let more : (rest_and_batch (gathers puts weight n (with_further puts weight s (attempt (with_rest_gathered st s) s)).0 s).0 s ≡ [])
-    × ((gathers puts weight n (with_further puts weight s (attempt (with_rest_gathered st s) s)).0 s).1 ≡ gone_from puts weight (rest_and_batch (with_further puts weight s (attempt (with_rest_gathered st s) s)).0 s))
-    = lone_gathers puts weight lighter n (with_further puts weight s (attempt (with_rest_gathered st s) s)).0 s round.0.lone (omega (arith, round.1, ap (weighs weight) batch)) in
-    (more.0, ap (λ (l : List (T × R)). (with_further puts weight s (attempt (with_rest_gathered st s) s)).1 ++ l) (more.1 ∙ ap (gone_from puts weight) batch) ∙ round.0.all)))
+    let batch : rest_and_batch (gathering puts weight st s).0 s ≡ (model_slot (gathering puts weight st s).0 s).batch
+    = ap (λ (l : List (T × R)). l ++ (model_slot (gathering puts weight st s).0 s).batch) round.0.same_rest in
+    let more : (rest_and_batch (gathers puts weight n (gathering puts weight st s).0 s).0 s ≡ [])
+    × ((gathers puts weight n (gathering puts weight st s).0 s).1 ≡ gone_from puts weight (rest_and_batch (gathering puts weight st s).0 s))
+    = lone_gathers puts weight lighter n (gathering puts weight st s).0 s round.0.lone (omega (arith, round.1, ap (weighs weight) batch)) in
+    (more.0, ap (λ (l : List (T × R)). (gathering puts weight st s).1 ++ l) (more.1 ∙ ap (gone_from puts weight) batch) ∙ round.0.all)))
   where
     Ends : StateAndGone T R → Type 0
     Ends o = (rest_and_batch o.0 s ≡ []) × (o.1 ≡ gone_from puts weight (rest_and_batch st s))
 
-    go : (t : Bool) → (length (rest_and_batch st s) == 0) ≡ t → ((length (rest_and_batch st s) == 0) ≡ false → Ends (let o : StateAndGone T R = with_further puts weight s (attempt (with_rest_gathered st s) s) in with_gone o.1 (gathers puts weight n o.0 s)))
-        → Ends (if t then (st, []) else (let o : StateAndGone T R = with_further puts weight s (attempt (with_rest_gathered st s) s) in with_gone o.1 (gathers puts weight n o.0 s)))
+    go : (t : Bool) → (length (rest_and_batch st s) == 0) ≡ t → ((length (rest_and_batch st s) == 0) ≡ false → Ends (let o : StateAndGone T R = gathering puts weight st s in with_gone o.1 (gathers puts weight n o.0 s)))
+        → Ends (if t then (st, []) else (let o : StateAndGone T R = gathering puts weight st s in with_gone o.1 (gathers puts weight n o.0 s)))
     go true e on =
         let none : rest_and_batch st s ≡ [] = none_of (rest_and_batch st s) (at (length (rest_and_batch st s)) e) in
         (none, sym (gone_from-nil puts weight) ∙ ap (gone_from puts weight) (sym none))

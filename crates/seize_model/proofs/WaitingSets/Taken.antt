@@ -1,12 +1,12 @@
 -- The slot of the least number that is not in use, as that is taken.
 use Rattle.std.proofs.Common.{◌≡◌, ℕ, ◌<◌, ◌≤◌, Bool, true, false, ◌==◌, if◌then◌else◌, List, [], ◌∷◌, ◌++◌, length, get_or, set, refl, sym, ◌∙◌, ap, arith, length-append}
-use Rattle.std.proofs.lemmas.List.{get_or-set_same}
+use Rattle.std.proofs.lemmas.List.{get_or-set_same, set-get_or}
 use Rattle.std.proofs.lemmas.List.Sums.{prefix_len-le-length, passes_at_first}
 use Rattle.std.proofs.Math.Seq.{get_or-append_seam, set-append_seam}
 use Rattle.seize_machine.proofs.Facts.{eq_true}
 use Rattle.seize_model.specs.declared.kind.Kind.{Kind}
 use Rattle.seize_model.specs.Waiting.State.{ModelSlot, ModelState, model_slot, set_slot, unmade_slot}
-use Rattle.seize_model.specs.Waiting.Calls.{least_unused, with_number_in_use, is_free}
+use Rattle.seize_model.specs.Waiting.Calls.{least_unused, with_number_in_use, set_guards, is_free}
 use Rattle.seize_model.specs.Waiting.Attempt.{attempt_if_full}
 use Rattle.seize_model.proofs.Cases.{if_yes, if_no}
 use Rattle.seize_model.proofs.WaitingSets.Beside.{full_beside, ignores_rest}
@@ -45,3 +45,8 @@ slot_taken {T} {R} st kind =
 -- nothing is left then
 pub taken_none : {T R : Type 0} (st : ModelState T R) (kind : Kind) → (attempt_if_full (with_number_in_use st (least_unused st.slots) kind) (least_unused st.slots)).0.rest ≡ []
 taken_none {T} {R} st kind = full_beside (λ (k : ModelState T R). k.rest) ignores_rest (with_number_in_use st (least_unused st.slots) kind) (least_unused st.slots)
+
+-- a slot without a guard gets none
+pub none_more : {T R : Type 0} (st : ModelState T R) (s : ℕ) → (model_slot st s).guards ≡ 0 → set_guards st s 0 ≡ st
+none_more {T} {R} st s none =
+    ap (λ (k : ℕ). set_slot st s (record (model_slot st s) { guards = k })) (sym none) ∙ ap (λ (l : List (ModelSlot T R)). record st { slots = l }) (set-get_or st.slots s unmade_slot)

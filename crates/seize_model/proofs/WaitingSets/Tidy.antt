@@ -1,18 +1,18 @@
 -- In a reached state a slot whose number is free is as one that was never made, no batch waits for a slot without a guard, and an owned
 -- one has one guard at most.
-use Rattle.std.proofs.Common.{◌≡◌, ℕ, ◌<◌, ◌≤◌, Bool, true, false, not, ◌==◌, List, [], ◌∷◌, ◌++◌, length, map, get_or, set, refl, sym, ◌∙◌, ap, subst, arith}
+use Rattle.std.proofs.Common.{◌≡◌, ℕ, ◌≤◌, Bool, true, false, not, ◌==◌, List, [], ◌∷◌, ◌++◌, length, get_or, set, refl, sym, ◌∙◌, ap, subst, arith}
 use Rattle.std.proofs.lemmas.List.{get_or-set_same}
 use Rattle.std.proofs.Math.ListN.{get_or-map}
 use Rattle.seize_model.specs.declared.kind.Kind.{Kind}
 use Rattle.seize_model.specs.Waiting.State.{ModelSlot, ModelState, model_slot, set_slot, unmade_slot, has_guard}
-use Rattle.seize_model.specs.Waiting.Attempt.{StateAndGone, release, wait_if_active, with_batch_retired, gives_up, attempt, is_full, attempt_if_full, with_batch_value, put, part}
-use Rattle.seize_model.specs.Waiting.Calls.{is_free, is_owned, least_unused, with_number_in_use, set_guards, rest_and_batch, with_rest_gathered, with_number_free}
+use Rattle.seize_model.specs.Waiting.Attempt.{StateAndGone, wait_if_active, with_batch_retired, gives_up, attempt, is_full, attempt_if_full, with_batch_value, put, part}
+use Rattle.seize_model.specs.Waiting.Calls.{is_free, is_owned, least_unused, with_number_in_use, set_guards, rest_and_batch, with_rest_gathered}
 use Rattle.seize_model.proofs.Cases.{either}
 use Rattle.seize_model.proofs.Counts.{at_set, at_last, same_at, set_twice}
 use Rattle.seize_model.proofs.WaitingSets.Orders.{by_active}
 use Rattle.seize_model.proofs.WaitingSets.Beside.{release_beside, releases_beside}
 use Rattle.seize_model.proofs.WaitingSets.Taken.{with_room, taken_slot, taken_is, slot_taken}
-use Rattle.seize_model.proofs.WaitingSets.Refusals.{IsUsed, IsIdle, in_use}
+use Rattle.seize_model.proofs.WaitingSets.Refusals.{IsUsed, in_use}
 use Rattle.seize_model.proofs.WaitingSets.Invariants.{Invariant, gives_keep}
 
 pub record IsTidy {T R : Type 0} (slot : ModelSlot T R) : Type 0 where

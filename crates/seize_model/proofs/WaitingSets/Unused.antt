@@ -1,10 +1,10 @@
 -- The last end, and where no number is in use.
-use Rattle.std.proofs.Common.{◌≡◌, ℕ, zero, suc, Bool, true, false, not, ◌||◌, ◌==◌, if◌then◌else◌, List, [], ◌∷◌, ◌++◌, length, get_or, set, refl, sym, ◌∙◌, ap, subst, ◌⊎◌, inl, inr, arith, append-nil}
+use Rattle.std.proofs.Common.{◌≡◌, ℕ, zero, suc, Bool, true, false, not, ◌||◌, ◌==◌, List, [], ◌∷◌, length, get_or, set, refl, sym, ◌∙◌, ap, subst, ◌⊎◌, inl, inr, arith, append-nil}
 use Rattle.std.specs.List.{list_any}
 use Rattle.seize_machine.proofs.Facts.{is_true}
 use Rattle.seize_model.specs.Waiting.State.{ModelSlot, ModelState, model_slot, unmade_slot, has_guard, waits_for, is_kept}
 use Rattle.seize_model.specs.Waiting.Attempt.{StateAndGone, attempt, put, part}
-use Rattle.seize_model.specs.Waiting.Further.{Lighter, further, gone_from}
+use Rattle.seize_model.specs.Waiting.Further.{Lighter, gone_from}
 use Rattle.seize_model.specs.Waiting.Calls.{is_free, others_in_use, rest_and_batch, gathers, set_guards, with_number_free, give_back}
 use Rattle.seize_model.specs.Waiting.Laws.{LastEndLaw, UnusedLaw}
 use Rattle.seize_model.specs.Waiting.Reached.{Reached}
@@ -45,8 +45,8 @@ some_any p (x ∷ xs) d e = go (p x) refl e (λ more. some_any p xs d more)
 given_lasts : {T R : Type 0} (puts : R → T → List T) (weight : T → ℕ) → Lighter puts weight → (st : ModelState T R) (s : ℕ) → AreTidy st → IsIdle st s → Lasts (give_back puts weight st s).0
 given_lasts {T} {R} puts weight lighter st s tidy idle = elim (is_true (others_in_use st s)) [
   | inl some ↦
-    let other : (i : ℕ) × (not (is_free (get_or (set st.slots s unmade_slot) i unmade_slot).kind) ≡ true) = some_any (λ slot. not (is_free slot.kind)) (set st.slots s unmade_slot) unmade_slot some in
-    subst (λ (k : ModelState T R). Lasts (with_number_free k s)) (stays (weighs weight (rest_and_batch st s)) some) (inr (other.0, used (is_free (get_or (set st.slots s unmade_slot) other.0 unmade_slot).kind) other.1))
+      let other : (i : ℕ) × (not (is_free (get_or (set st.slots s unmade_slot) i unmade_slot).kind) ≡ true) = some_any (λ slot. not (is_free slot.kind)) (set st.slots s unmade_slot) unmade_slot some in
+      subst (λ (k : ModelState T R). Lasts (with_number_free k s)) (stays (weighs weight (rest_and_batch st s)) some) (inr (other.0, used (is_free (get_or (set st.slots s unmade_slot) other.0 unmade_slot).kind) other.1))
   | inr none ↦ inl (lone_gathers puts weight lighter (weighs weight (rest_and_batch st s)) st s (tidy_lone st s tidy idle none) (omega arith)).0
 ]
   where

@@ -25,9 +25,9 @@ batch_bound st = max (max 1 st.size) (length st.slots)
 abbrev pub BoundLaw : {T R : Type 0} → (R → T → List T) → (T → ℕ) → Type 0
 BoundLaw {T} {R} puts weight =
     (size links : ℕ) (calls : List (Call T R)) → (
-      let st = (run puts weight (new size links) calls).1.0 in
-      ((s : ℕ) → length (model_slot st s).batch < batch_bound st)
-      × ((st.rest ≡ []) ⊎ (length st.rest < batch_bound st * length st.slots))
+    let st = (run puts weight (new size links) calls).1.0 in
+    ((s : ℕ) → length (model_slot st s).batch < batch_bound st)
+    × ((st.rest ≡ []) ⊎ (length st.rest < batch_bound st * length st.slots))
     )
 
 -- **Last end.** Where no other number is in use and s has no guard, all that was left is gone as the number of s is given back: what the
