@@ -1,8 +1,10 @@
 -- What follows from the definitions of the calls.
-use Rattle.std.specs.Prelude.{◌≡◌, ℕ, ◌<◌, true, max, List, [], length}
-use Rattle.seize_model.specs.Waiting.State.{ModelState, model_slot, has_guard, new}
-use Rattle.seize_model.specs.Waiting.Calls.{flush, retire}
+use Rattle.std.specs.Prelude.{◌≡◌, ℕ, ◌<◌, ◌*◌, ◌⊎◌, true, false, max, List, [], ◌++◌, length}
+use Rattle.seize_model.specs.Waiting.State.{ModelState, model_slot, retired_at, has_guard, new}
+use Rattle.seize_model.specs.Waiting.Further.{further, gone_from}
+use Rattle.seize_model.specs.Waiting.Calls.{flush, retire, is_free, others_in_use, rest_and_batch, give_back}
 use Rattle.seize_model.specs.Waiting.Lists.{Call, run}
+use Rattle.seize_model.specs.Waiting.Reached.{Reached}
 
 -- **Flushes.** No value is gone in a flush.
 abbrev pub FlushLaw : {T R : Type 0} → (R → T → List T) → (T → ℕ) → Type 0
@@ -18,8 +20,26 @@ RetireLaw {T} {R} puts weight =
 abbrev pub batch_bound : {T R : Type 0} → ModelState T R → ℕ
 batch_bound st = max (max 1 st.size) (length st.slots)
 
--- **Bound.** Between calls each batch is below the bound, where the size stays as the collector was made.
+-- **Bound.** Between calls each batch is below the bound, where the size stays as the collector was made. And what slots that ended
+-- left is below that bound times the number of slots ever made.
 abbrev pub BoundLaw : {T R : Type 0} → (R → T → List T) → (T → ℕ) → Type 0
 BoundLaw {T} {R} puts weight =
-    (size links : ℕ) (calls : List (Call T R)) (s : ℕ)
-    → length (model_slot (run puts weight (new size links) calls).1.0 s).batch < batch_bound (run puts weight (new size links) calls).1.0
+    (size links : ℕ) (calls : List (Call T R)) → (
+    let st = (run puts weight (new size links) calls).1.0 in
+    ((s : ℕ) → length (model_slot st s).batch < batch_bound st)
+    × ((st.rest ≡ []) ⊎ (length st.rest < batch_bound st * length st.slots))
+    )
+
+-- **Last end.** Where no other number is in use and s has no guard, all that was left is gone as the number of s is given back: what the
+-- slots that ended left, then the batch of s, and then what those values put, in turn.
+abbrev pub LastEndLaw : {T R : Type 0} → (R → T → List T) → (T → ℕ) → Type 0
+LastEndLaw {T} {R} puts weight =
+    (st : ModelState T R) (s : ℕ) → Reached puts weight st
+    → is_free (model_slot st s).kind ≡ false → has_guard (model_slot st s) ≡ false → others_in_use st s ≡ false
+    → (give_back puts weight st s).1 ≡ rest_and_batch st s ++ gone_from puts weight (further puts (rest_and_batch st s))
+
+-- **Unused.** Where no number is in use, all that was retired is gone.
+abbrev pub UnusedLaw : {T R : Type 0} → (R → T → List T) → (T → ℕ) → Type 0
+UnusedLaw {T} {R} puts weight =
+    (st : ModelState T R) → Reached puts weight st → ((s : ℕ) → is_free (model_slot st s).kind ≡ true)
+    → (st.rest ≡ []) × ((s : ℕ) → (model_slot st s).batch ≡ []) × ((b : ℕ) → retired_at st b ≡ [])
