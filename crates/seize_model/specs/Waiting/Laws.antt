@@ -1,5 +1,5 @@
 -- What follows from the definitions of the calls.
-use Rattle.std.specs.Prelude.{◌≡◌, ℕ, ◌<◌, ◌*◌, ◌⊎◌, true, false, max, List, [], ◌++◌, length}
+use Rattle.std.specs.Prelude.{◌≡◌, ◌≢◌, ℕ, ◌<◌, ◌*◌, ◌⊎◌, true, false, max, List, [], ◌++◌, length}
 use Rattle.seize_model.specs.Waiting.State.{ModelState, model_slot, retired_at, has_guard, new}
 use Rattle.seize_model.specs.Waiting.Further.{further, gone_from}
 use Rattle.seize_model.specs.Waiting.Calls.{flush, retire, is_free, others_in_use, rest_and_batch, give_back}
@@ -43,3 +43,11 @@ abbrev pub UnusedLaw : {T R : Type 0} → (R → T → List T) → (T → ℕ) �
 UnusedLaw {T} {R} puts weight =
     (st : ModelState T R) → Reached puts weight st → ((s : ℕ) → is_free (model_slot st s).kind ≡ true)
     → (st.rest ≡ []) × ((s : ℕ) → (model_slot st s).batch ≡ []) × ((b : ℕ) → retired_at st b ≡ [])
+
+-- the number of s goes back at once
+abbrev pub EndsNow : {T R : Type 0} → ModelState T R → ℕ → Type 0
+EndsNow st s = (others_in_use st s ≡ true) ⊎ (rest_and_batch st s ≡ [])
+
+-- or s gathers first
+abbrev pub GathersFirst : {T R : Type 0} → ModelState T R → ℕ → Type 0
+GathersFirst st s = (others_in_use st s ≡ false) × (rest_and_batch st s ≢ [])
