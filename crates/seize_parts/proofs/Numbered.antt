@@ -176,6 +176,13 @@ module _ {X : Type 0} where
   pub none_pushed : (slots : List (Option X)) (n : ℕ) → position is_some slots ≡ None → NoneBelow n (slots ++ None ∷ [])
   none_pushed slots n none i less = ap is_some (at_push slots i) ∙ nowhere slots none i
 
+  pub none_added : (slots : List (Option X)) → NoneBelow (length slots) slots → NoneBelow (length (slots ++ None ∷ [])) (slots ++ None ∷ [])
+  none_added slots none i less = ap is_some (at_push slots i) ∙ go (cases_lt i (length slots))
+    where
+      go : (i < length slots) ⊎ (length slots ≤ i) → is_some (get_or slots i None) ≡ false
+      go (inl within) = none i within
+      go (inr past) = ap is_some (get_or_past slots i None past)
+
   -- and a slot that is laid in some place
   pub none_laid : (slots : List (Option X)) (least lower n : ℕ) (item : Option X) → NoneBelow least slots → lower ≤ least → lower ≤ n → NoneBelow lower (slice_set slots n item)
   none_laid slots least lower n item none below before i less = ap is_some (get_or-set_other slots n i item None (λ same. absurd (omega (arith, less, before, same)))) ∙ none i (omega (arith, less, below))
