@@ -3,9 +3,10 @@ use Rattle.std.proofs.Common.{◌≡◌, ℕ, map, List, [], ◌∷◌, ◌++◌
 use Rattle.std.proofs.lemmas.List.{map-append}
 use base.Growing.{prefix_trans}
 use Rattle.seize_machine.specs.Machine.State.{State}
-use Rattle.seize_machine.specs.Machine.Event.{Enter, Event, Give, Take}
+use Rattle.seize_machine.specs.Machine.Event.{Begin, Enter, Event, Give, Take}
 use Rattle.seize_machine.specs.declared.machine.event.Answer.{Answer}
 use Rattle.seize_machine.specs.declared.machine.event.Answer.TheVariants.{Done}
+use Rattle.seize_machine.specs.declared.machine.event.Job.{Job}
 use Rattle.seize_machine.proofs.Facts.{Step, step_of}
 use Rattle.seize_book.specs.Adding.{private}
 use Rattle.seize_book.specs.Book.{IsLegalList, after}
@@ -143,6 +144,11 @@ give_done size s st _ (Step.gave _ _ _ _) = refl
 enter_done : (size s : ℕ) (st : State) (o : State × Answer) → Step size st (Enter s) o → o.1 ≡ Done
 enter_done size s st _ (Step.entered _ _ _) = refl
 
+begin_done : (size s : ℕ) (job : Job) (st : State) (o : State × Answer) → Step size st (Begin s job) o → o.1 ≡ Done
+begin_done size s job st _ (Step.gathered _ _ _ _ _) = refl
+begin_done size s job st _ (Step.begun_retire _ _ _ _) = refl
+begin_done size s job st _ (Step.begun_other _ _ _ _ _ _) = refl
+
 -- a number is taken or goes back, and a slot enters
 pub one_taken : (pass pass' : Pass) (s : ℕ) → IsSamePass pass pass' → AddsEntry pass.name pass.id pass.seen pass'.seen (Made (private pass (Take s))) → MakesOne pass pass' (Take s) Done
 one_taken pass pass' s same noted = one_answered pass pass' (private pass (Take s)) Done same noted (take_done pass.size s)
@@ -159,6 +165,9 @@ key_takes key pass key' pass' s notes = one_taken pass pass' s notes.0 notes.2.0
 
 pub key_gives : (key : SlotKey) (pass : Pass) (key' : SlotKey) (pass' : Pass) (s : ℕ) → AddsEvent key pass key' pass' (Give s) → MakesOne pass pass' (Give s) Done
 key_gives key pass key' pass' s notes = one_given pass pass' s notes.0 notes.2.0
+
+pub key_begins : (key : SlotKey) (pass : Pass) (key' : SlotKey) (pass' : Pass) (s : ℕ) (job : Job) → AddsEvent key pass key' pass' (Begin s job) → MakesOne pass pass' (Begin s job) Done
+key_begins key pass key' pass' s job notes = one_answered pass pass' (private pass (Begin s job)) Done notes.0 notes.2.0 (begin_done pass.size s job)
 
 pub key_enters : (key : SlotKey) (pass : Pass) (key' : SlotKey) (pass' : Pass) (life s : ℕ) → AddsDeed key pass key' pass' (beginning pass life (Enter s)) → MakesOne pass pass' (Enter s) Done
 key_enters key pass key' pass' life s notes = one_entered pass pass' life s notes.0 notes.2.0
