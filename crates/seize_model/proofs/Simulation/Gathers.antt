@@ -88,6 +88,11 @@ pub end_step : {T R X : Type 0} (of : Naming T R X) (size : ℕ) (st : waiting.M
     → next size ms (Give s) ≡ Some (after_give ms s, DoneEvent)
 end_step of size st ms s n idle ends = next_of size ms (Give s) _ (Step.gave s (idle_of of st ms s n idle.0) (is_off of st ms s n idle) (same_ends of st ms s n idle ∙ ends))
 
+-- where the machine gives it back
+pub may_end : {T R X : Type 0} (of : Naming T R X) (size : ℕ) (st : waiting.ModelState T R) (ms : State) (s : ℕ) (d : State × Answer) → NearAt of [] st ms → IsIdle st s → next size ms (Give s) ≡ Some d → (others_in_use st s || (length (rest_and_batch st s) == 0)) ≡ true
+may_end of size st ms s d n idle gives =
+    sym (same_ends of st ms s n idle) ∙ (and_true (is_outside ms s) _ (if_some (is_outside ms s && ends_now (has_others ms s) (machine.slot_at ms s).batch ms.rest) _ _ gives).0).1
+
 -- A gathering.
 
 -- on both sides, all that was left is in the slot's batch
@@ -199,7 +204,7 @@ gives_as : {T R : Type 0} (puts : R → T → List T) (weight : T → ℕ) (n : 
 gives_as puts weight zero st s ends = refl
 gives_as puts weight (suc n) st s ends = sym (if_yes _ _ _ ends)
 
-may_gather : {T R X : Type 0} (of : Naming T R X) (size : ℕ) (st : waiting.ModelState T R) (ms : State) (s : ℕ) (es : List Event) (later : State) (answers : List Answer) → NearAt of [] st ms → IsIdle st s → IsJob s Gather es → play size ms es ≡ Some (later, answers) → WouldGather st s
+pub may_gather : {T R X : Type 0} (of : Naming T R X) (size : ℕ) (st : waiting.ModelState T R) (ms : State) (s : ℕ) (es : List Event) (later : State) (answers : List Answer) → NearAt of [] st ms → IsIdle st s → IsJob s Gather es → play size ms es ≡ Some (later, answers) → WouldGather st s
 may_gather of size st ms s es later answers n idle job legal =
     let first : First size ms (Begin s Gather) job.0 later answers = first_of size ms (Begin s Gather) job.0 later answers (ap (λ (l : List Event). play size ms l) (sym job.1) ∙ legal) in
     let all = and_true (is_outside ms s && not (has_others ms s)) _ (if_some (can_gather ms s) _ _ first.step).0 in
@@ -216,8 +221,7 @@ pub ended_list : {T R : Type 0} (puts : R → T → List T) (weight : T → ℕ)
     → weighs weight (rest_and_batch st s) ≤ n → IsEnded s events → play st.size before events ≡ Some (later, answers) → ArePutBy puts of by events answers → Reaches (with_reclaimers of by) (given s (gathers puts weight n st s)) later answers
 ended_list {T} {R} puts weight lighter of by s n st before _ answers later near idle le IsEnded.gives legal put =
     let first : First st.size before (Give s) [] later answers = first_of st.size before (Give s) [] later answers legal in
-    let ends : ends_now (has_others before s) (machine.slot_at before s).batch before.rest ≡ true = (and_true (is_outside before s) _ (if_some (is_outside before s && ends_now (has_others before s) (machine.slot_at before s).batch before.rest) _ _ first.step).0).1 in
-    let may : (others_in_use st s || (length (rest_and_batch st s) == 0)) ≡ true = sym (same_ends (with_reclaimers of by) st before s near idle) ∙ ends in
+    let may : (others_in_use st s || (length (rest_and_batch st s) == 0)) ≡ true = may_end (with_reclaimers of by) st.size st before s (first.later, first.answer) near idle first.step in
     let gave : OneEvent (after_give before s) DoneEvent later answers = one_of st.size before (after_give before s) (Give s) DoneEvent later answers (end_step (with_reclaimers of by) st.size st before s near idle may) legal in
     subst (λ (o : StateAndGone T R). Reaches (with_reclaimers of by) (given s o) later answers) (gives_as puts weight n st s may)
     (subst (λ (k : State). NearAt (with_reclaimers of by) [] (with_number_free st s) k) (sym gave.0) (end_near (with_reclaimers of by) st before s near idle), ap (λ (l : List Answer). map {B = T × R} (λ n. (of n, by n)) (handed l)) gave.1)

@@ -158,6 +158,13 @@ take_step of size st ms n few =
 taken_is_first : {T R X : Type 0} (of : Naming T R X) (size : ℕ) (st : waiting.ModelState T R) (ms : State) (n : ℕ) (d : State × Answer) → NearAt of [] st ms → next size ms (Take n) ≡ Some d → n ≡ least_unused st.slots
 taken_is_first of size st ms n d near h = eq_true n (first_free ms.slots) (and_true (n == first_free ms.slots) (nat_lt n (2 ^ 64 - 32)) (if_some ((n == first_free ms.slots) && nat_lt n (2 ^ 64 - 32)) _ _ h).0).0 ∙ same_first of st ms near
 
+-- and there are numbers enough
+pub taken_few : (size : ℕ) (ms : State) (n : ℕ) (d : State × Answer) → next size ms (Take n) ≡ Some d → (n == 2 ^ 64 - 32) ≡ false
+taken_few size ms n d h = below n (2 ^ 64 - 32) (and_true (n == first_free ms.slots) (nat_lt n (2 ^ 64 - 32)) (if_some ((n == first_free ms.slots) && nat_lt n (2 ^ 64 - 32)) _ _ h).0).1
+  where
+    below : (a b : ℕ) → nat_lt a b ≡ true → (a == b) ≡ false
+    below a b h = grind arith
+
 -- The number is taken, and what was left is attempted where it is enough.
 
 full_as : {T R : Type 0} (st : waiting.ModelState T R) (kind : Kind) → is_full st.size (model_slot (with_number_in_use st (least_unused st.slots) kind) (least_unused st.slots)).batch ≡ is_full st.size st.rest
@@ -193,7 +200,7 @@ take_ends {T} {R} puts weight lighter of P K st ms kind carried holds n used few
     (subst (λ (p : machine.Place). K (busy (taken_base st ms) (least_unused st.slots) ms.rest p []) []) (sym (if_yes _ _ _ (long_as of st ms n ∙ full))) now)))
 
 -- where it is not, nothing more is done
-taking_rest : {T R : Type 0} (puts : R → T → List T) (weight : T → ℕ) (st : waiting.ModelState T R) (kind : Kind) → is_full st.size st.rest ≡ false → taking puts weight st (least_unused st.slots) kind ≡ (with_number_in_use st (least_unused st.slots) kind, [])
+pub taking_rest : {T R : Type 0} (puts : R → T → List T) (weight : T → ℕ) (st : waiting.ModelState T R) (kind : Kind) → is_full st.size st.rest ≡ false → taking puts weight st (least_unused st.slots) kind ≡ (with_number_in_use st (least_unused st.slots) kind, [])
 taking_rest puts weight st kind full = ap (with_further puts weight (least_unused st.slots)) (if_no _ _ _ (full_as st kind ∙ full)) ∙ settled_nothing puts weight (with_number_in_use st (least_unused st.slots) kind) (least_unused st.slots)
 
 rest_ends : {T R X : Type 0} (puts : R → T → List T) (weight : T → ℕ) (of : Naming T R X) (st : waiting.ModelState T R) (ms later : State) (kind : Kind) (answers : List Answer) → NearAt of [] st ms → is_free kind ≡ false → (least_unused st.slots == 2 ^ 64 - 32) ≡ false → is_full st.size st.rest ≡ false
