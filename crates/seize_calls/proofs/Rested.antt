@@ -1,15 +1,15 @@
 -- The rest, after an event of which the key of the numbers knows.
 use Rattle.std.proofs.Common.{◌≡◌, ℕ, max, nat_le, Bool, true, false, if◌then◌else◌, List, [], ◌∷◌, length, Some, None, sym, subst, refl, ap, ◌∙◌}
 use mathlib.Core.List.{IsPrefix}
-use Rattle.seize_machine.specs.Machine.Next.{ends_now, gathered_slot, taken_slot}
+use Rattle.seize_machine.specs.Machine.Next.{gathered_slot, taken_slot}
 use Rattle.seize_machine.specs.Machine.State.{Mark, is_idle}
 use Rattle.seize_machine.specs.Machine.State.{Slot as Record}
 use Rattle.seize_book.specs.Entry.{Entry}
 use Rattle.seize_book.specs.Kept.{AreTold, AreToldIn}
 use Rattle.seize_book.specs.Ledger.{HeldKey, with_list}
-use Rattle.seize_book.specs.Others.{FollowsNumbers, numbers_saw, others_used, rest_of, use_flags}
+use Rattle.seize_book.specs.Others.{FollowsNumbers, numbers_saw, rest_of}
 use Rattle.seize_book.specs.Private.{is_one, labels_of, own_of}
-use Rattle.seize_book.specs.Slots.{slot_number, slot_of}
+use Rattle.seize_book.specs.Slots.{slot_of}
 use Rattle.seize_book.specs.Tokens.{Name}
 use Rattle.seize_book.specs.Values.{IsEmptyIn, book_in, values_of}
 use Rattle.seize_book.specs.declared.book.numbers_key.NumbersKey.{NumbersKey}
@@ -57,12 +57,6 @@ module _ (n : Name) (numbers numbers' : NumbersKey) (pass' : Pass) (follows : Fo
   -- and so is nothing, where nothing is left
   pub rest_none : (rest' : Batch) → IsEmptyIn n (keys_in rest') → rest_of numbers' ≡ [] → IsRestIn n numbers' rest'
   rest_none rest' empty none = rest_is rest' empty.0 (ap labels_of empty.1 ∙ sym none) (none_told pass' (keys_in rest') empty.1)
-
--- whether a slot may end, by which numbers are in use and by the values of the rest
-pub ends_by : {T : Type 0} (n : Name) (numbers : NumbersKey) (slot : Slot T) (rest : Batch) → IsRestIn n numbers rest
-    → ends_now (others_used (use_flags numbers) (slot_number slot.holder.key)) (slot_of slot.holder.key).batch (rest_of numbers)
-    ≡ ends_now (others_used (use_flags numbers) slot.number) (slot_of slot.holder.key).batch (values_of (keys_in rest))
-ends_by n numbers slot rest is = λ j. ends_now (others_used (use_flags numbers) (slot.together.numbered j)) (slot_of slot.holder.key).batch (sym is.values j)
 
 -- How a slot stands that a take or a gathering left.
 
