@@ -1,8 +1,8 @@
 //! Slots in use that nobody has, while all is reclaimed by a pass that is alone. Each attempts its batch at any length; then what slots left
 //! is attempted by the slot of a free number; then the numbers go back, the last one first. A watch is told of each value that goes, and
 //! what the reclaimer puts waits in a queue.
-ghost use Rattle.std.specs.Prelude.{◌≡◌, ◌≢◌, ◌<◌, ℕ, List, None, Some, [], false, get_or, length, slice_set};
-ghost use Rattle.std.specs.List.{range_with_len, reverse};
+ghost use Rattle.std.specs.Prelude.{◌≡◌, ◌≢◌, ◌<◌, ℕ, List, None, Some, [], false, get_or, length, reverse, slice_set};
+ghost use Rattle.std.specs.List.{range_with_len};
 ghost use Rattle.seize_book.specs.Others.{rest_of};
 ghost use Rattle.seize_book.specs.Tokens.{IsSole};
 ghost use Rattle.seize_book.specs.Values.{values_of};
