@@ -210,7 +210,7 @@ Can n held seen ev Told = (log : List Entry) → Known (rules (start n)) held se
 abbrev pub births_of : State → (List Entry → Entry) → List Entry → List (ℕ × ℕ)
 births_of st ev log = births_by (after st log) (ev log)
 
-prefix_push : (own log : List Entry) (e : Entry) → IsPrefix own log → IsPrefix own (log ++ e ∷ [])
+pub prefix_push : (own log : List Entry) (e : Entry) → IsPrefix own log → IsPrefix own (log ++ e ∷ [])
 prefix_push own log e p = (p.0 ++ e ∷ [], sym (append_assoc own p.0 (e ∷ [])) ∙ ap (λ (l : List Entry). l ++ e ∷ []) p.1)
 
 pub goes : (n : Name) → are_distinct (linked_values n.links) ≡ true → (held : List (HeldKey Entry)) (seen : List Entry) (ev : List Entry → Entry) (Told : List Entry → Type 0) → Can n held seen ev Told

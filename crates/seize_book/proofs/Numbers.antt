@@ -1,8 +1,9 @@
 -- Which numbers are in use, what is left, and what the slot is when its number was given back or taken again, or it began to gather, as the
 -- keys know then.
-use Rattle.std.proofs.Common.{◌≡◌, ℕ, ◌<◌, ◌≤◌, Bool, true, false, List, [], ◌∷◌, ◌++◌, length, slice_set, Option, Some, refl, sym, ap, subst, ◌∙◌, ◌⊎◌, inl, inr, arith}
+use Rattle.std.proofs.Common.{◌≡◌, ℕ, ◌<◌, ◌≤◌, Bool, true, false, List, [], ◌∷◌, ◌++◌, get_or, is_some, length, not, ◌&&◌, slice_set, Option, Some, refl, sym, ap, subst, ◌∙◌, ◌⊎◌, inl, inr, arith}
+use mathlib.Core.List.{IsPrefix}
 use Rattle.std.proofs.lemmas.Bool.{cases_lt}
-use Rattle.std.proofs.lemmas.List.{append_cancel_right, get_or_past, get_or-set_same, length-map, map-set}
+use Rattle.std.proofs.lemmas.List.{append_cancel_right, get_or-map, get_or_past, get_or-set_same, length-map, map-set}
 use Rattle.seize_machine.specs.Machine.State.{State, Slot, is_idle, no_slot, slot_at}
 use Rattle.seize_machine.specs.Machine.Event.{Event, Begin, Give, Take}
 use Rattle.seize_machine.specs.Machine.Next.{after_gather, gathered_slot, next, slot_set, taken_slot}
@@ -12,13 +13,13 @@ use Rattle.seize_machine.specs.declared.machine.event.Answer.TheVariants.{Done}
 use Rattle.seize_machine.specs.declared.machine.event.Job.TheVariants.{Gather}
 use Rattle.seize_machine.proofs.Facts.{Step, step_of, used_frame}
 use Rattle.seize_table.specs.Place.{all_numbers}
-use Rattle.seize_book.specs.Book.{after, kinds, numbers, rules, slots}
+use Rattle.seize_book.specs.Book.{after, HolderKnows, TheNumbers, kinds, numbers, rules, slots}
 use Rattle.seize_book.specs.Adding.{LooksWithKeys, private}
 use Rattle.seize_book.specs.Entry.{Entry, Made}
 use Rattle.seize_book.specs.Fair.{Before}
 use Rattle.seize_book.specs.Ledger.{HeldKey, HoldersKnow, WithKinds}
 use Rattle.seize_book.specs.Others.{AreNumbersOf, Follows, Knew, MayTakeNumber, first_false, rest_of, state_of, use_flags}
-use Rattle.seize_book.specs.Private.{is_one, own_of}
+use Rattle.seize_book.specs.Private.{is_one, key_of, own_of}
 use Rattle.seize_book.specs.Slots.{AddsEvent, IsKeyOfBook, slot_number, slot_of}
 use Rattle.seize_book.specs.Tokens.{Name, start}
 use Rattle.seize_book.specs.declared.book.keys.Keys.{Keys}
@@ -26,6 +27,7 @@ use Rattle.seize_book.specs.declared.book.numbers_key.NumbersKey.{NumbersKey}
 use Rattle.seize_book.specs.declared.book.pass.Pass.{Pass}
 use Rattle.seize_book.specs.declared.book.slot_key.SlotKey.{SlotKey}
 use Rattle.seize_book.proofs.Gives.{free_by}
+use Rattle.seize_book.proofs.Goes.{prefix_push}
 use Rattle.seize_book.proofs.Private.{after_one, only, only_is}
 
 set_used : (st : State) (s : ℕ) (slot : Slot) → used (slot_set st s slot) ≡ slice_set (used st) s slot.used
@@ -58,9 +60,38 @@ gathers size st s _ (Step.gathered _ idle off alone some) =
     (used_frame size st (Begin s Gather) (after_gather st s, Done) (Step.gathered s idle off alone some) refl, refl, get_or-set_same st.slots s new no_slot (in_range st s idle))
 gathers size st s _ (Step.begun_other _ job place idle which from) = absurd (let x : Option.None ≡ Some place = from.1 in cc)
 
+gave_idle : (size : ℕ) (st : State) (s : ℕ) (d : State × Answer) → Step size st (Give s) d → is_idle (slot_at st s) ≡ true
+gave_idle size st s _ (Step.gave _ idle off ends) = idle
+
+idle_used : (slot : Slot) → is_idle slot ≡ true → slot.used ≡ true
+idle_used slot idle = go slot.used (is_some slot.call) idle
+  where
+    go : (u c : Bool) → (u && not c) ≡ true → u ≡ true
+    go true c h = refl
+    go false c h = absurd (let e : false ≡ true = h in cc)
+
+used_at : (st : State) (s : ℕ) → (slot_at st s).used ≡ true → get_or (used st) s false ≡ true
+used_at st s is = go (cases_lt s (length st.slots))
+  where
+    go : (s < length st.slots) ⊎ (length st.slots ≤ s) → get_or (used st) s false ≡ true
+    go (inl within) = get_or-map (λ (x : Slot). x.used) st.slots s no_slot false within ∙ is
+    go (inr past) = absurd (let b : false ≡ true = sym (ap (λ (x : Slot). x.used) (get_or_past st.slots s no_slot past)) ∙ is in cc)
+
 -- how many there are, as that key knows
 as_many : (its_numbers : NumbersKey) (st : State) → use_flags its_numbers ≡ used st → length (use_flags its_numbers) ≡ length st.slots
 as_many its_numbers st flags = ap (λ (us : List Bool). length us) flags ∙ length-map st.slots (λ slot. slot.used)
+
+-- what the key of the numbers knew just before the event
+module _ (key : SlotKey) (its_numbers : NumbersKey) (pass pass' : Pass) (event : Event) (knew : Knew key its_numbers.keys pass pass' (private pass event)) where
+  pub just_before : HolderKnows (start pass.name) TheNumbers (key_of its_numbers.keys.held) (own_of its_numbers.keys.held) knew.0
+  just_before =
+      let a = key.keys.held in let b = its_numbers.keys.held in
+      (subst (λ (hs : List (HeldKey Entry)). Before pass.name pass.id pass.seen (only slots a ++ hs) knew.0) (only_is numbers b its_numbers.one)
+      (subst (λ (hs : List (HeldKey Entry)). Before pass.name pass.id pass.seen (hs ++ b) knew.0) (only_is slots a key.one) knew.2)).kept.1.0
+
+  -- it saw no more than the pass has
+  pub numbers_grow : IsPrefix (own_of its_numbers.keys.held) pass'.seen
+  numbers_grow = subst (IsPrefix (own_of its_numbers.keys.held)) (sym knew.1) (prefix_push (own_of its_numbers.keys.held) knew.0 (Made (private pass event)) just_before.0)
 
 -- What the keys of the slot and of the numbers knew is so just before the event, and what they know after it is so then.
 pub record Turned (key : SlotKey) (its_numbers : NumbersKey) (pass : Pass) (event : Event) (key' : SlotKey) (keys' : Keys) : Type 0 where
@@ -89,9 +120,6 @@ turned key key' its_numbers keys' pass pass' event book its knew noted follows =
       is = noted.2.1.is;
     }
   where
-    a : List (HeldKey Entry)
-    a = key.keys.held
-
     b : List (HeldKey Entry)
     b = its_numbers.keys.held
 
@@ -106,9 +134,7 @@ turned key key' its_numbers keys' pass pass' event book its knew noted follows =
 
     same : (used (after (start pass.name) (own_of b)) ≡ used now) × ((after (start pass.name) (own_of b)).rest ≡ now.rest)
     same =
-        let held = subst (λ (hs : List (HeldKey Entry)). Before pass.name pass.id pass.seen (only slots a ++ hs) knew.0) (only_is numbers b its_numbers.one)
-        (subst (λ (hs : List (HeldKey Entry)). Before pass.name pass.id pass.seen (hs ++ b) knew.0) (only_is slots a key.one) knew.2) in
-        let kept = held.kept.1.0.1 in
+        let kept = (just_before key its_numbers pass pass' event knew).1 in
         (kept.0 ∙ ap (λ (log : List Entry). used (after (start pass.name) log)) same_log, kept.1 ∙ ap (λ (log : List Entry). (after (start pass.name) log).rest) same_log)
 
     known : state_of its_numbers.keys ≡ after (start pass.name) (own_of b)
@@ -118,6 +144,14 @@ turned key key' its_numbers keys' pass pass' event book its knew noted follows =
     knows =
         ap (λ (t : Name × List Entry). after (start t.0) t.1) (λ j. ((follows.0 ∙ its) j, (ap own_of follows.1 ∙ (after_one numbers b pass'.seen its_numbers.one).1) j))
         ∙ noted.2.0.leads
+
+-- the number was in use, as the numbers' key knew
+pub was_used : (key key' : SlotKey) (its_numbers : NumbersKey) (keys' : Keys) (pass : Pass) → Turned key its_numbers pass (Give (slot_number key)) key' keys'
+    → get_or (use_flags its_numbers) (slot_number key) false ≡ true
+was_used key key' its_numbers keys' pass t =
+    let slot : Slot = slot_at (t.st) (slot_number key) in
+    ap (λ (us : List Bool). get_or us (slot_number key) false) t.flags
+    ∙ used_at t.st (slot_number key) (idle_used slot (gave_idle pass.size t.st (slot_number key) t.d t.step))
 
 pub gives_back : (key key' : SlotKey) (its_numbers : NumbersKey) (keys' : Keys) (pass : Pass) → Turned key its_numbers pass (Give (slot_number key)) key' keys'
     → (used (state_of keys') ≡ slice_set (use_flags its_numbers) (slot_number key) false) × ((state_of keys').rest ≡ rest_of its_numbers ++ (slot_of key).batch) × (slot_of key' ≡ no_slot)
@@ -164,12 +198,16 @@ pub numbers_within : (held : List (HeldKey Entry)) → is_one numbers held ≡ t
 numbers_within held one = subst (WithKinds kinds) (sym (only_is numbers held one)) (omega arith, tt)
 
 module _ (its_numbers : NumbersKey) (pass pass' : Pass) (keys' : Keys) (book : AreNumbersOf its_numbers pass) (looks : LooksWithKeys its_numbers.keys pass keys' pass') where
+  looked_held : HolderKnows (start pass.name) TheNumbers (key_of its_numbers.keys.held) (own_of its_numbers.keys.held) pass'.seen
+  looked_held = (subst (λ (hs : List (HeldKey Entry)). HoldersKnow (rules (start pass.name)) hs pass'.seen) (only_is numbers its_numbers.keys.held its_numbers.one) looks.2.kept).0
+
+  pub looked_grows : IsPrefix (own_of its_numbers.keys.held) pass'.seen
+  looked_grows = looked_held.0
+
   pub looked_numbers : (used (after (start pass.name) pass'.seen) ≡ use_flags its_numbers) × ((after (start pass.name) pass'.seen).rest ≡ rest_of its_numbers)
   looked_numbers =
-      let held = its_numbers.keys.held in
-      let kept = subst (λ (hs : List (HeldKey Entry)). HoldersKnow (rules (start pass.name)) hs pass'.seen) (only_is numbers held its_numbers.one) looks.2.kept in
-      let known = ap (λ (n : Name). after (start n) (own_of held)) book in
-      (sym (ap used known ∙ kept.0.1.0), sym (ap (λ (st : State). st.rest) known ∙ kept.0.1.1))
+      let known = ap (λ (n : Name). after (start n) (own_of its_numbers.keys.held)) book in
+      (sym (ap used known ∙ looked_held.1.0), sym (ap (λ (st : State). st.rest) known ∙ looked_held.1.1))
 
   pub looked_state : state_of keys' ≡ after (start pass.name) pass'.seen
   looked_state = let is = looks.1 in

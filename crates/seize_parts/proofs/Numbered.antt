@@ -1,12 +1,12 @@
 -- Which numbers are in use, by the slots that nobody has; and that the numbers behind the lock stay as they are to be.
-use Rattle.std.proofs.Common.{◌≡◌, ◌⊎◌, inl, inr, ℕ, zero, suc, ◌+◌, ◌<◌, ◌≤◌, Bool, true, false, not, cond, nat_lt, List, [], ◌∷◌, ◌++◌, length, Option, Some, None, is_some, get_or, slice_set, refl, sym, ap, subst, ◌∙◌, arith}
-use Rattle.std.specs.List.{count_by, list_any, position, position_or_len}
+use Rattle.std.proofs.Common.{◌≡◌, ◌⊎◌, inl, inr, ℕ, zero, suc, ◌+◌, ◌<◌, ◌≤◌, Bool, true, false, not, cond, nat_eq, nat_lt, ◌&&◌, List, [], ◌∷◌, ◌++◌, length, Option, Some, None, Vec, is_some, get_or, slice_set, refl, sym, ap, subst, ◌∙◌, arith}
+use Rattle.std.specs.List.{count_by, list_all, list_any, position, position_or_len}
 use Rattle.std.specs.Option.{is_none}
 use Rattle.std.proofs.lemmas.List.{length-map, length-set, length_push, map-set}
 use Rattle.std.proofs.lemmas.List.Quantifiers.{position-Some}
 use Rattle.std.proofs.lemmas.Bool.{cases_lt}
 use Rattle.std.proofs.lemmas.List.{get_or-set_other, get_or-set_same, get_or_past}
-use Rattle.std.proofs.lemmas.List.Sums.{fails_before_first, position_or_len_is, sum_by-append, sum_by-cons, sum_by-set}
+use Rattle.std.proofs.lemmas.List.Sums.{fails_before_first, position_or_len_is, sum_by-append, sum_by-cons, sum_by-set, count_by-le-length}
 use native.Mathlib.Decide.{ℕ_discrete}
 use Rattle.std.proofs.lemmas.List.Sums.{prefix_len-le-length}
 use Rattle.seize_table.specs.Place.{all_numbers}
@@ -38,6 +38,28 @@ use Rattle.seize_parts.specs.Numbers.{AreAt, AreSlots, IsFreeAt, IsKeptAt, IsNex
 use Rattle.seize_parts.specs.declared.numbers.Numbers.{Numbers}
 
 -- Places of a list where something may be.
+-- Of numbers alone.
+one_more : (a b m : ℕ) → m ≡ 1 + b → a ≤ b → nat_eq a m ≡ false
+one_more a b m is small = grind arith
+
+same_more : (a b m : ℕ) → m ≡ 1 + a → nat_eq m (suc b) ≡ nat_eq a b
+same_more a b m is = grind arith
+
+above : (a b m : ℕ) → m ≡ 1 + b → a ≤ b → true ≡ nat_lt a m
+above a b m is small = grind arith
+
+shifted : (b m : ℕ) → m ≡ 1 + b → nat_lt 0 b ≡ nat_lt 1 m
+shifted b m is = grind arith
+
+past_none : (n : ℕ) → nat_lt n 0 ≡ false
+past_none n = grind arith
+
+at_first : (k : ℕ) → nat_lt 0 (suc k) ≡ true
+at_first k = grind arith
+
+at_next : (n k : ℕ) → nat_lt (suc n) (suc k) ≡ nat_lt n k
+at_next n k = grind arith
+
 module _ {X : Type 0} where
   free_as : (slots : List (Option X)) → first_false (flags_of slots) ≡ position_or_len is_some slots
   free_as [] = refl
@@ -153,6 +175,15 @@ module _ {X : Type 0} where
 
   -- How many lie there, where one comes or goes.
 
+  abbrev lies : Option X → ℕ
+  lies o = cond (is_some o) 1 0
+
+  abbrev lacks : Option X → ℕ
+  lacks o = cond (is_none o) 1 0
+
+  abbrev used_in : List (Option X) → ℕ
+  used_in slots = count_by is_none slots
+
   at_place : (slots : List (Option X)) (n : ℕ) → is_some (get_or slots n None) ≡ true → n < length slots
   at_place [] zero some = absurd (cc)
   at_place [] (suc n) some = absurd (cc)
@@ -160,70 +191,94 @@ module _ {X : Type 0} where
   at_place (x ∷ slots) (suc n) some = let less = at_place slots n some in omega (arith, less)
 
   pub count_taken : (slots : List (Option X)) (n : ℕ) → is_some (get_or slots n None) ≡ true → count_by is_some (slice_set slots n None) + 1 ≡ count_by is_some slots
-  count_taken slots n some =
-      omega (arith, sum_by-set one slots n None None (at_place slots n some), ap (λ (b : Bool). cond b 1 0) some)
-    where
-      one : Option X → ℕ
-      one o = cond (is_some o) 1 0
+  count_taken slots n some = omega (arith, sum_by-set lies slots n None None (at_place slots n some), ap {B = ℕ} (λ (b : Bool). cond b 1 0) some)
 
   pub count_laid : (slots : List (Option X)) (n : ℕ) (item : X) → n < length slots → is_some (get_or slots n None) ≡ false → count_by is_some (slice_set slots n (Some item)) ≡ count_by is_some slots + 1
-  count_laid slots n item below none =
-      omega (arith, sum_by-set one slots n (Some item) None below, ap (λ (b : Bool). cond b 1 0) none)
-    where
-      one : Option X → ℕ
-      one o = cond (is_some o) 1 0
+  count_laid slots n item below none = omega (arith, sum_by-set lies slots n (Some item) None below, ap {B = ℕ} (λ (b : Bool). cond b 1 0) none)
 
   pub count_pushed : (slots : List (Option X)) → count_by is_some (slots ++ None ∷ []) ≡ count_by is_some slots
-  count_pushed slots = omega (arith, sum_by-append (λ (o : Option X). cond (is_some o) 1 0) slots (None ∷ []))
+  count_pushed slots = omega (arith, sum_by-append lies slots (None ∷ []))
 
-  -- whether another number is in use, by how many lie there
-  abbrev pub own_use : List (Option X) → ℕ → ℕ
+  pub few_lie : (slots : List (Option X)) → count_by is_some slots ≤ length slots
+  few_lie slots = count_by-le-length is_some slots
+
+  pub all_lie : (slots : List (Option X)) (m : ℕ) → m ≡ count_by is_some slots → nat_eq m (length slots) ≡ list_all is_some slots
+  all_lie slots m is = ap (λ (k : ℕ). nat_eq k (length slots)) is ∙ go slots
+    where
+      go : (slots : List (Option X)) → nat_eq (count_by is_some slots) (length slots) ≡ list_all is_some slots
+      go [] = refl
+      go (Some x ∷ slots) = same_more (count_by is_some slots) (length slots) (count_by is_some (Some x ∷ slots)) (sum_by-cons lies (Some x) slots) ∙ go slots
+      go (None ∷ slots) = one_more (count_by is_some (None ∷ slots)) (length slots) (length (None ∷ slots)) (omega arith) (omega (arith, sum_by-cons lies None slots, few_lie slots))
+
+  -- Whether another number is in use, by how many lie there.
+
+  abbrev own_use : List (Option X) → ℕ → ℕ
   own_use [] n = 0
-  own_use (o ∷ slots) zero = cond (is_some o) 0 1
+  own_use (o ∷ slots) zero = lacks o
   own_use (o ∷ slots) (suc n) = own_use slots n
 
-  abbrev used_in : List (Option X) → ℕ
-  used_in slots = count_by is_none slots
+  own_less : (slots : List (Option X)) (n : ℕ) → own_use slots n ≤ used_in slots
+  own_less [] n = omega arith
+  own_less (o ∷ slots) zero = omega (arith, sum_by-cons lacks o slots)
+  own_less (o ∷ slots) (suc n) = omega (arith, own_less slots n, sum_by-cons lacks o slots)
 
   used_all : (slots : List (Option X)) → used_in slots + count_by is_some slots ≡ length slots
   used_all [] = refl
-  used_all (Some x ∷ slots) = omega (arith, used_all slots, sum_by-cons (λ (o : Option X). cond (is_none o) 1 0) (Some x) slots, sum_by-cons (λ (o : Option X). cond (is_some o) 1 0) (Some x) slots)
-  used_all (None ∷ slots) = omega (arith, used_all slots, sum_by-cons (λ (o : Option X). cond (is_none o) 1 0) None slots, sum_by-cons (λ (o : Option X). cond (is_some o) 1 0) None slots)
+  used_all (Some x ∷ slots) = omega (arith, used_all slots, sum_by-cons lacks (Some x) slots, sum_by-cons lies (Some x) slots)
+  used_all (None ∷ slots) = omega (arith, used_all slots, sum_by-cons lacks None slots, sum_by-cons lies None slots)
+
+  used_some : (x : X) (slots : List (Option X)) → used_in (Some x ∷ slots) ≡ used_in slots
+  used_some x slots = omega (arith, sum_by-cons lacks (Some x) slots)
 
   any_used : (slots : List (Option X)) → list_any (λ u. u) (flags_of slots) ≡ nat_lt 0 (used_in slots)
   any_used [] = refl
-  any_used (Some x ∷ slots) = any_used slots ∙ ap (nat_lt 0) (sym (sum_by-cons (λ (o : Option X). cond (is_none o) 1 0) (Some x) slots))
-  any_used (None ∷ slots) = sym (ap (nat_lt 0) (sum_by-cons (λ (o : Option X). cond (is_none o) 1 0) None slots))
+  any_used (Some x ∷ slots) = any_used slots ∙ ap (nat_lt 0) (sym (used_some x slots))
+  any_used (None ∷ slots) = above 0 (used_in slots) (used_in (None ∷ slots)) (sum_by-cons lacks None slots) (omega arith)
 
   more_used : (slots : List (Option X)) (n : ℕ) → others_used (flags_of slots) n ≡ nat_lt (own_use slots n) (used_in slots)
   more_used [] n = refl
-  more_used (Some x ∷ slots) zero = any_used slots ∙ ap (nat_lt 0) (sym (sum_by-cons (λ (o : Option X). cond (is_none o) 1 0) (Some x) slots))
-  more_used (None ∷ slots) zero = any_used slots ∙ ap (nat_lt 1) (sym (sum_by-cons (λ (o : Option X). cond (is_none o) 1 0) None slots))
-  more_used (Some x ∷ slots) (suc n) = more_used slots n ∙ ap (nat_lt (own_use slots n)) (sym (sum_by-cons (λ (o : Option X). cond (is_none o) 1 0) (Some x) slots))
-  more_used (None ∷ slots) (suc n) = sym (ap (nat_lt (own_use slots n)) (sum_by-cons (λ (o : Option X). cond (is_none o) 1 0) None slots) ∙ later (own_use slots n) (used_in slots) (own_less slots n))
+  more_used (Some x ∷ slots) zero = any_used slots ∙ ap (nat_lt 0) (sym (used_some x slots))
+  more_used (None ∷ slots) zero = any_used slots ∙ shifted (used_in slots) (used_in (None ∷ slots)) (sum_by-cons lacks None slots)
+  more_used (Some x ∷ slots) (suc n) = more_used slots n ∙ ap (nat_lt (own_use slots n)) (sym (used_some x slots))
+  more_used (None ∷ slots) (suc n) = above (own_use slots n) (used_in slots) (used_in (None ∷ slots)) (sum_by-cons lacks None slots) (own_less slots n)
+
+  own_is : (slots : List (Option X)) (n : ℕ) (own : Bool) → own ≡ (nat_lt n (length slots) && is_none (get_or slots n None)) → own_use slots n ≡ cond own 1 0
+  own_is [] n own is = ap {B = ℕ} (λ (b : Bool). cond b 1 0) (sym (is ∙ ap (λ (b : Bool). b && is_none (get_or {A = Option X} [] n None)) (past_none n)))
+  own_is (o ∷ slots) zero own is = ap {B = ℕ} (λ (b : Bool). cond b 1 0) (sym (is ∙ ap (λ (b : Bool). b && is_none o) (at_first (length slots))))
+  own_is (o ∷ slots) (suc n) own is = own_is slots n own (is ∙ ap (λ (b : Bool). b && is_none (get_or slots n None)) (at_next n (length slots)))
+
+  pub others_so : (slots : List (Option X)) (n m : ℕ) (own : Bool) → m + count_by is_some slots ≡ length slots → own ≡ (nat_lt n (length slots) && is_none (get_or slots n None))
+      → nat_lt (cond own 1 0) m ≡ others_used (flags_of slots) n
+  others_so slots n m own many is =
+      ap (λ (k : ℕ). nat_lt k m) (sym (own_is slots n own is)) ∙ ap (nat_lt (own_use slots n)) (let all = used_all slots in omega (arith, all, many)) ∙ sym (more_used slots n)
+
+  same_either : (slots : List (Option X)) (n : ℕ) (o o' : Option X) → n < length slots → get_or slots n o ≡ get_or slots n o'
+  same_either [] n o o' less = absurd (omega (arith, less))
+  same_either (x ∷ slots) zero o o' less = refl
+  same_either (x ∷ slots) (suc n) o o' less = same_either slots n o o' (omega (arith, less))
+
+  -- whether one's own number is in use, by what lies in its place
+  pub own_here : (slots : List (Option X)) (n : ℕ) (o : Option X) (own : Bool) → n < length slots → o ≡ get_or slots n o → is_some o ≡ not own → own ≡ (nat_lt n (length slots) && is_none (get_or slots n None))
+  own_here slots n o own less is there = both own o (nat_lt n (length slots)) (lt_true n (length slots) less) there ∙ ap (λ (o : Option X). nat_lt n (length slots) && is_none o) (is ∙ same_either slots n o None less)
     where
-      own_less : (slots : List (Option X)) (n : ℕ) → own_use slots n ≤ used_in slots
-      own_less [] n = omega arith
-      own_less (Some x ∷ slots) zero = omega arith
-      own_less (None ∷ slots) zero = omega (arith, sum_by-cons (λ (o : Option X). cond (is_none o) 1 0) None slots)
-      own_less (Some x ∷ slots) (suc n) = omega (arith, own_less slots n, sum_by-cons (λ (o : Option X). cond (is_none o) 1 0) (Some x) slots)
-      own_less (None ∷ slots) (suc n) = omega (arith, own_less slots n, sum_by-cons (λ (o : Option X). cond (is_none o) 1 0) None slots)
+      lt_true : (x y : ℕ) → x < y → nat_lt x y ≡ true
+      lt_true x y less = grind arith
 
-      later : (a b : ℕ) → a ≤ b → nat_lt a (1 + b) ≡ true
-      later a b less = grind arith
+      both : (own : Bool) (o : Option X) (b : Bool) → b ≡ true → is_some o ≡ not own → own ≡ (b && is_none o)
+      both true (Some x) b on is = absurd (cc)
+      both true None b on is = cc
+      both false (Some x) b on is = cc
+      both false None b on is = absurd (cc)
 
-  pub others_by_count : (slots : List (Option X)) (n : ℕ) → others_used (flags_of slots) n ≡ nat_lt (own_use slots n) (length slots - count_by is_some slots)
-  others_by_count slots n = more_used slots n ∙ ap (nat_lt (own_use slots n)) (let all = used_all slots in omega (arith, all))
+  pub own_past : (slots : List (Option X)) (n : ℕ) (own : Bool) → length slots ≤ n → own ≡ nat_lt n (length slots) → own ≡ (nat_lt n (length slots) && is_none (get_or slots n None))
+  own_past slots n own past is = is ∙ both (nat_lt n (length slots)) (is_none (get_or slots n None)) (lt_false n (length slots) past)
+    where
+      lt_false : (x y : ℕ) → y ≤ x → nat_lt x y ≡ false
+      lt_false x y past = grind arith
 
-  pub own_is : (slots : List (Option X)) (n : ℕ) (some : Bool) → n < length slots → is_some (get_or slots n None) ≡ some → own_use slots n ≡ cond some 0 1
-  own_is [] n some below is = absurd (omega (arith, below))
-  own_is (o ∷ slots) zero some below is = ap (λ (b : Bool). cond b 0 1) is
-  own_is (o ∷ slots) (suc n) some below is = own_is slots n some (omega (arith, below)) is
-
-  pub own_past : (slots : List (Option X)) (n : ℕ) → length slots ≤ n → own_use slots n ≡ 0
-  own_past [] n past = refl
-  own_past (o ∷ slots) zero past = absurd (omega (arith, past))
-  own_past (o ∷ slots) (suc n) past = own_past slots n (omega (arith, past))
+      both : (a b : Bool) → a ≡ false → a ≡ (a && b)
+      both false b off = refl
+      both true b off = absurd (cc)
 
   -- the flag of a place, by what lies there
   pub flag_at : (slots : List (Option X)) (n : ℕ) → get_or (flags_of slots) n false ≡ true → (n < length slots) × (is_some (get_or slots n None) ≡ false)
@@ -315,7 +370,7 @@ module _ {T : Type 0} (numbers : Numbers T) (are : AreSlots numbers) where
       slots = subst (λ (t : Name × List (Option (Slot T))). AreAt (IsFreeAt t.0) t.1) (λ i. ((sym book i).name, sym slots i)) slots';
       free = free ∙ ap (count_by is_some) (sym slots);
       kept = subst (λ (t : Name × List (Option (Slot T))). AreAt (IsKeptAt t.0) t.1) (λ i. ((sym book i).name, (sym kept i).items)) are.kept;
-      many = ap (λ (ks : Vec (Option (Slot T))). length ks.items) kept ∙ are.many ∙ sym (length-set items n item) ∙ ap (λ (l : List (Option (Slot T))). length l) (sym slots);
+      many = ap (λ l. length l.items) kept ∙ are.many ∙ sym (length-set items n item) ∙ ap (λ (l : List (Option (Slot T))). length l) (sym slots);
       rest = subst (λ (m : Name). IsRestIn m numbers'.key numbers'.rest) (λ i. (sym book i).name) rest;
       next = are.next;
       is_there = next ∙ are.is_there;

@@ -125,8 +125,9 @@ impl<T: Drop> Numbers<T> {
         requires { AreSlots self.now }
         ensures { result ≡ others_used (use_flags self.now.key) n }
     {
-        let own = matches!(self.slots.get(n), Some(None));
-        self.slots.len() - self.free > usize::from(own)
+        let in_use = self.slots.len() - self.free;
+        let own = n < self.slots.len() && self.slots[n].is_none();
+        if own { in_use > 1 } else { in_use > 0 }
     }
 
     /// The slot of the least number that is not in use, one that was made before or a new one, and its shelf. The rest is its batch.
