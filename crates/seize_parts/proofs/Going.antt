@@ -4,7 +4,6 @@ use Rattle.std.specs.List.{fold, range_with_len}
 use Rattle.std.proofs.lemmas.List.{append-nil}
 use base.Stored.{Gv}
 use Rattle.seize_machine.specs.Machine.State.{are_distinct, linked_values}
-use Rattle.seize_model.specs.declared.kind.Kind.{Kind}
 use Rattle.seize_model.specs.Waiting.Attempt.{StateAndGone, with_gone}
 use Rattle.seize_model.specs.Waiting.State.{ModelState}
 use Rattle.seize_book.specs.Kept.{kepts_of}
@@ -130,12 +129,12 @@ module _ {T R : Type 0} where
       ap (λ (x : StateAndGone T R). with_gone o.1 x) (parts_append o.0 ss ts)
       ∙ with_gone_twice o.1 (parts_in_turn o.0 ss).1 (parts_in_turn (parts_in_turn o.0 ss).0 ts)
 
-  pub batches_append : (kind : Kind) (st : ModelState T R) (ss ts : List ℕ) → batches_in_turn kind st (ss ++ ts) ≡ with_gone (batches_in_turn kind st ss).1 (batches_in_turn kind (batches_in_turn kind st ss).0 ts)
-  batches_append kind st [] ts = refl
-  batches_append kind st (s ∷ ss) ts =
-      let o = batch_in_turn kind st s in
-      ap (λ (x : StateAndGone T R). with_gone o.1 x) (batches_append kind o.0 ss ts)
-      ∙ with_gone_twice o.1 (batches_in_turn kind o.0 ss).1 (batches_in_turn kind (batches_in_turn kind o.0 ss).0 ts)
+  pub batches_append : (st : ModelState T R) (ss ts : List ℕ) → batches_in_turn st (ss ++ ts) ≡ with_gone (batches_in_turn st ss).1 (batches_in_turn (batches_in_turn st ss).0 ts)
+  batches_append st [] ts = refl
+  batches_append st (s ∷ ss) ts =
+      let o = batch_in_turn st s in
+      ap (λ (x : StateAndGone T R). with_gone o.1 x) (batches_append o.0 ss ts)
+      ∙ with_gone_twice o.1 (batches_in_turn o.0 ss).1 (batches_in_turn (batches_in_turn o.0 ss).0 ts)
 
   with_none : (o : StateAndGone T R) → with_gone o.1 (o.0, []) ≡ o
   with_none o = λ j. (o.0, append-nil o.1 j)
@@ -150,10 +149,10 @@ module _ {T R : Type 0} where
       zero_more : (n : ℕ) → 0 + n ≡ n
       zero_more n = omega arith
 
-  pub batch_more : (kind : Kind) (st : ModelState T R) (n : ℕ) → batches_in_turn kind st (range_with_len 0 (n + 1)) ≡ with_gone (batches_in_turn kind st (range_with_len 0 n)).1 (batch_in_turn kind (batches_in_turn kind st (range_with_len 0 n)).0 n)
-  batch_more kind st n =
-      let first = batches_in_turn kind st (range_with_len 0 n) in let last = batch_in_turn kind first.0 n in
-      ap (batches_in_turn kind st) (range_append n 0 1 ∙ ap (λ (k : ℕ). range_with_len 0 n ++ range_with_len k 1) (zero_more n)) ∙ batches_append kind st (range_with_len 0 n) (n ∷ [])
+  pub batch_more : (st : ModelState T R) (n : ℕ) → batches_in_turn st (range_with_len 0 (n + 1)) ≡ with_gone (batches_in_turn st (range_with_len 0 n)).1 (batch_in_turn (batches_in_turn st (range_with_len 0 n)).0 n)
+  batch_more st n =
+      let first = batches_in_turn st (range_with_len 0 n) in let last = batch_in_turn first.0 n in
+      ap (batches_in_turn st) (range_append n 0 1 ∙ ap (λ (k : ℕ). range_with_len 0 n ++ range_with_len k 1) (zero_more n)) ∙ batches_append st (range_with_len 0 n) (n ∷ [])
       ∙ ap (λ (o : StateAndGone T R). with_gone first.1 o) (with_none last)
     where
       zero_more : (n : ℕ) → 0 + n ≡ n

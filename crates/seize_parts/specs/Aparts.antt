@@ -94,7 +94,8 @@ IsSomeHeld {T} code pass May =
 
 abbrev pub AreKeptOf : {T : Type 0} → List (Option (Slot T)) → ModelState T ℕ → Type 0
 AreKeptOf kept st =
-    (s : ℕ) → (is_none (get_or kept s None) ≡ is_free (model_slot st s).kind) × (has_guard (model_slot st s) ≡ false)
+    (s : ℕ) → (is_none (get_or kept s None) ≡ is_free (model_slot st s).kind)
+    × (is_free (model_slot st s).kind ≡ false → has_guard (model_slot st s) ≡ false)
 
 abbrev pub IsMoved : {T : Type 0} → ℕ → List (Option (Place T)) → List (Option (Slot T)) → List (Option (Slot T)) → Type 0
 IsMoved n places kept kept' =
