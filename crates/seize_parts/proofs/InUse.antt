@@ -3,11 +3,13 @@
 --     all_here, here_all, unused_all, all_unused     where each slot lies here no number is in use, and the other way round
 --     kept_at, kept_set            a slot that is kept
 --     slots_as, slots_kept, slots_looked     the numbers stay, where the key knows the same;  where other slots are kept;  after a look
+--     kept_same                    so they do, where one slot is kept in the place of another, and the places stay
 use Rattle.std.proofs.Common.{◌≡◌, ℕ, zero, suc, ◌<◌, ◌⊎◌, inl, inr, ⊎_elim, Bool, true, false, List, [], ◌∷◌, length, map, Option, Some, None, is_some, get_or, slice_set, refl, sym, ap, subst, ◌∙◌, arith}
 use Rattle.std.specs.List.{count_by, list_all}
 use Rattle.std.specs.Option.{is_none}
 use Rattle.std.specs.Prelude.{slice_index_or}
-use Rattle.std.proofs.lemmas.List.{length-map}
+use Rattle.std.proofs.Math.ListN.{get_or-map}
+use Rattle.std.proofs.lemmas.List.{length-map, length-set}
 use mathlib.Core.List.{IsPrefix}
 use Rattle.seize_machine.specs.Machine.State.{Slot as Record, no_slot}
 use Rattle.seize_book.specs.Entry.{Entry}
@@ -25,6 +27,7 @@ use Rattle.seize_calls.specs.Slots.{IsInactive, IsOfList, IsRestIn, IsSlotOf, it
 use Rattle.seize_calls.specs.declared.batch.Batch.{Batch}
 use Rattle.seize_calls.specs.declared.slot.Slot.{Slot}
 use Rattle.seize_parts.specs.Numbers.{AreAt, AreSlots, IsFreeAt, IsKeptAt, flags_of}
+use Rattle.seize_parts.specs.Sweeps.{KeepsPlaces}
 use Rattle.seize_parts.specs.declared.numbers.Numbers.{Numbers}
 use Rattle.seize_parts.proofs.Numbered.{made_flags, own_followed}
 
@@ -93,6 +96,13 @@ set_twice (x ∷ xs) (suc n) a b = ap (λ ys. x ∷ ys) (set_twice xs n a b)
 pub flags_long : {X : Type 0} (slots slots' : List (Option X)) → flags_of slots' ≡ flags_of slots → length slots' ≡ length slots
 flags_long slots slots' same = sym (length-map slots' is_none) ∙ ap (λ (us : List Bool). length us) same ∙ length-map slots is_none
 
+-- what lies in a place, by its flag
+pub flag_same : {X : Type 0} (slots slots' : List (Option X)) (n : ℕ) → flags_of slots' ≡ flags_of slots → is_none (get_or slots' n None) ≡ is_none (get_or slots n None)
+flag_same slots slots' n same = sym (get_or-map is_none slots' n None) ∙ ap (λ (us : List Bool). get_or us n true) same ∙ get_or-map is_none slots n None
+
+pub places_then : {T : Type 0} (a b c : Numbers T) → KeepsPlaces a b → KeepsPlaces b c → KeepsPlaces a c
+places_then a b c one two = (two.0 ∙ one.0, two.1 ∙ one.1, two.2 ∙ one.2, two.3 ∙ one.3)
+
 -- A slot that is kept.
 
 pub kept_at : {T : Type 0} (words : Words T) (name : Name) (n : ℕ) (slot : Slot T) → name ≡ words_book words → IsSlotOf words slot → IsInactive slot → its_number slot ≡ n → IsKeptAt name n slot
@@ -138,3 +148,12 @@ module _ {T : Type 0} (numbers : Numbers T) (are : AreSlots numbers) where
         told = all_told_later (numbers_saw numbers.key) (numbers_saw numbers'.key) (keys_in numbers.rest).keys.held (subst (λ (log : List Entry). IsPrefix (numbers_saw numbers.key) log) (sym own) saw) are.rest.told;
       }))
       slots free (subst (λ l. AreAt (IsKeptAt numbers.book.name) l.items) (sym kept) are.kept) (ap (λ l. length l.items) kept) next book
+
+  -- what is kept in one place is another slot, or none as before
+  pub kept_same : (n : ℕ) (o : Option (Slot T)) → is_none o ≡ is_none (get_or numbers.kept.items n None) → ((slot : Slot T) → o ≡ Some slot → IsKeptAt numbers.book.name n slot) → n < length numbers.kept.items
+      → (numbers' : Numbers T) → numbers'.kept.items ≡ slice_set numbers.kept.items n o → numbers'.key ≡ numbers.key → numbers'.rest ≡ numbers.rest → numbers'.slots ≡ numbers.slots → numbers'.free ≡ numbers.free → numbers'.next ≡ numbers.next
+      → numbers'.book ≡ numbers.book → numbers'.least ≡ numbers.least → AreSlots numbers' × KeepsPlaces numbers numbers'
+  kept_same n o same its below numbers' kept key rest slots free next book least = (
+    slots_kept numbers' key rest slots free (subst (AreAt (IsKeptAt numbers.book.name)) (sym kept) (kept_set n o its)) (ap (λ (l : List (Option (Slot T))). length l) kept ∙ length-set numbers.kept.items n o) next book,
+    (book, ap (λ l. flags_of l.items) slots, ap flags_of kept ∙ places_set numbers.kept.items n o same below, least),
+  )

@@ -8,6 +8,7 @@
 --     KeepsPlaces numbers numbers'     the list is the same, slots lie and are kept in the same places, and so the search begins where it did
 --     LiesHere numbers i       the slot of number i lies there or is kept;  KeepsHere numbers numbers'     the list is the same, as many slots
 --                              were made, and what lay there or was kept does so still
+--     KeepsFree numbers numbers'     the list is the same, just those slots lie there that lay there, and so the search begins where it did
 --     AreSpent slots           each of these slots has an empty batch
 --     StandsInUse st v         v stands in the batch of a slot whose number is in use
 --     Sweeps pass pass' all    it is the same pass. The list goes on with entries of this pass alone, where that is alone. The links are
@@ -78,6 +79,10 @@ abbrev pub KeepsHere : {T : Type 0} → Numbers T → Numbers T → Type 0
 KeepsHere numbers numbers' =
     (numbers'.book ≡ numbers.book) × (length numbers'.slots.items ≡ length numbers.slots.items)
     × ((i : ℕ) → LiesHere numbers i → LiesHere numbers' i)
+
+abbrev pub KeepsFree : {T : Type 0} → Numbers T → Numbers T → Type 0
+KeepsFree numbers numbers' =
+    (numbers'.book ≡ numbers.book) × (numbers'.slots.items ≡ numbers.slots.items) × (numbers'.least ≡ numbers.least)
 
 abbrev pub AreSpent : {T : Type 0} → List (Option (Slot T)) → Type 0
 AreSpent {T} slots = (i : ℕ) (slot : Slot T) → get_or slots i None ≡ Some slot → values_of (its_batch slot) ≡ []
