@@ -4,17 +4,19 @@
 --                                   that is
 --     part_at, part_other           a slot that parted has no guard;  the others are as they were
 --     batch_outline, batches_outline     slots without guards that attempt their batches are as they were
---     use_at, use_other, use_long   a number that was made is in use again
+--     use_batch, use_at, use_other, use_long     a number that was made is in use again, and what was left is its batch
 --     number_at, number_other, numbers_long     it goes back
-use Rattle.std.proofs.Common.{◌≡◌, ℕ, ◌==◌, ◌-◌, ◌<◌, Bool, true, false, not, if◌then◌else◌, List, [], ◌∷◌, ◌++◌, length, map, get_or, set, refl, sym, ap, ◌∙◌, arith}
+use Rattle.std.proofs.Common.{◌≡◌, ℕ, ◌==◌, ◌-◌, ◌+◌, ◌<◌, ◌≤◌, Bool, true, false, not, if◌then◌else◌, List, [], ◌∷◌, ◌++◌, length, map, get_or, set, refl, sym, ap, subst, ◌∙◌, arith}
 use Rattle.std.proofs.Math.Seq.{map-set_same}
-use Rattle.std.proofs.lemmas.List.{append-nil, get_or-set_other, get_or-set_same, length-set, map-set}
+use Rattle.std.proofs.lemmas.List.{get_or-set_other, get_or-set_same, get_or_push, length-set, map-set}
+use Rattle.std.proofs.lemmas.List.Sums.{prefix_len-le-length}
 use Rattle.seize_model.specs.declared.kind.Kind.{Kind}
 use Rattle.seize_model.specs.Waiting.Attempt.{StateAndGone, attempt, attempt_if_full, with_gone}
-use Rattle.seize_model.specs.Waiting.Calls.{is_free, one_guard_less, set_guards, with_number_free, with_number_in_use}
+use Rattle.seize_model.specs.Waiting.Calls.{is_free, least_unused, one_guard_less, set_guards, with_number_free, with_number_in_use}
 use Rattle.seize_model.specs.Waiting.State.{ModelSlot, ModelState, has_guard, model_slot, unmade_slot}
 use Rattle.seize_model.proofs.Cases.{either}
-use Rattle.seize_book.proofs.Facts.{unequal}
+use Rattle.seize_machine.proofs.Facts.{eq_true}
+use Rattle.seize_book.proofs.Facts.{equal, unequal}
 use Rattle.seize_alone.specs.Reclaiming.{batch_in_turn, batches_in_turn, last_guard_left, number_in_turn, numbers_in_turn, part_in_turn, parts_in_turn}
 use Rattle.seize_alone.proofs.Outlines.{attempt_frame, guards_in, kind_in, less_frame, outline, outline_of, slot_in, slots_in}
 use Rattle.seize_alone.proofs.Ready.{nothing, nothing_further}
@@ -161,6 +163,22 @@ module _ {T : Type 0} where
   abbrev taken_by : ModelState T ℕ → Kind → ModelSlot T ℕ
   taken_by st kind = record { kind = kind; guards = 0; batch = st.rest; order = [] }
 
+  least_few : (slots : List (ModelSlot T ℕ)) → least_unused slots ≤ length slots
+  least_few slots = prefix_len-le-length (λ (x : ModelSlot T ℕ). not (is_free x.kind)) slots
+
+  -- what was left is its batch
+  pub use_batch : (st : ModelState T ℕ) (n : ℕ) (kind : Kind) → n ≡ least_unused st.slots → (model_slot (with_number_in_use st n kind) n).batch ≡ st.rest
+  use_batch st n kind least = go (n == length st.slots) refl
+    where
+      few : n ≤ length st.slots
+      few = subst (λ (k : ℕ). k ≤ length st.slots) (sym least) (least_few st.slots)
+
+      go : (b : Bool) → (n == length st.slots) ≡ b → (get_or (if b then st.slots ++ taken_by st kind ∷ [] else set st.slots n (taken_by st kind)) n unmade_slot).batch ≡ st.rest
+      go true is = ap (λ (x : ModelSlot T ℕ). x.batch) (get_or_push st.slots (taken_by st kind) unmade_slot n (sym (eq_true n (length st.slots) is)))
+      go false is =
+          ap (λ (x : ModelSlot T ℕ). x.batch)
+          (get_or-set_same st.slots n (taken_by st kind) unmade_slot (let less = few in let differs : n ≡ length st.slots → ⊥ = λ e. absurd (let no : false ≡ true = sym is ∙ equal n (length st.slots) e in cc) in omega (arith, less, differs)))
+
   use_slots : (st : ModelState T ℕ) (n : ℕ) (kind : Kind) → n < length st.slots → (with_number_in_use st n kind).slots ≡ set st.slots n (taken_by st kind)
   use_slots st n kind below = ap (λ (b : Bool). if b then st.slots ++ taken_by st kind ∷ [] else set st.slots n (taken_by st kind)) (unequal n (length st.slots) (λ e. absurd (omega (arith, below, e))))
 
@@ -173,9 +191,6 @@ module _ {T : Type 0} where
 
     pub use_at : ((model_slot now n).kind ≡ kind) × (has_guard (model_slot now n) ≡ false)
     use_at = (ap (λ (x : ModelSlot T ℕ). x.kind) use_same, ap (λ (x : ModelSlot T ℕ). has_guard x) use_same)
-
-    pub use_batch : (model_slot now n).batch ≡ st.rest
-    use_batch = ap (λ (x : ModelSlot T ℕ). x.batch) use_same
 
     pub use_other : (t : ℕ) → ¬ (t ≡ n) → model_slot now t ≡ model_slot st t
     use_other t differs = ap (λ (l : List (ModelSlot T ℕ)). get_or l t unmade_slot) (use_slots st n kind below) ∙ get_or-set_other st.slots n t (taken_by st kind) unmade_slot differs

@@ -6,7 +6,7 @@ use native.Mathlib.Decide.{ℕ_discrete}
 use base.Growing.{prefix_refl, prefix_trans}
 use mathlib.Core.List.{IsPrefix}
 use Rattle.seize_machine.proofs.Facts.{Step, active_frame, and_true, eq_true, head_frame, link_frame, not_true, slot_frame, step_of}
-use Rattle.seize_machine.specs.Machine.Event.{AddCount, Begin, Detach, Enter, Event, ExchangeLink, Give, Hand, Insert, Put, ReadHead, ReadLink, Return, SubCount, SwapOut, Take}
+use Rattle.seize_machine.specs.Machine.Event.{AddCount, Begin, Detach, Enter, Event, ExchangeLink, Give, Hand, Insert, Put, ReadHead, ReadLink, Return, SubCount, SwapOut, Take, event_slot}
 use Rattle.seize_machine.specs.Machine.Frames.{changes_head_of, changes_link, changes_slot}
 use Rattle.seize_machine.specs.Machine.History.{done_by, or_illegal}
 use Rattle.seize_machine.specs.Machine.Next.{Outcome, next}
@@ -295,6 +295,10 @@ pub keeps_looked : (pass pass' : Pass) → LooksOn pass pass' → IsSole pass.id
 keeps_looked pass pass' looks sole = keeps_on 0 pass pass' (led_none 0 pass pass' looks.same (looks.alone sole))
 
 -- One event of a pass that is alone.
+
+-- an event by which another slot is as it was
+pub event_of : (s : ℕ) (event : Event) → event_slot event ≡ s → ((t : ℕ) → changes_slot t event ≡ (event_slot event == t)) → ((l : ℕ) → changes_link l event ≡ false) → IsOf s event
+event_of s event its slot link = ((λ t differs. slot t ∙ other s t (event_slot event) its differs), link)
 
 module _ {pass pass' : Pass} {event : Event} {answer : Answer} (makes : MakesAlone pass pass' event answer) where
   abbrev its_answer : Answer
