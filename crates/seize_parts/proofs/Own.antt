@@ -148,7 +148,7 @@ MadeAll s pass pass' = (events : List (Event × Answer)) → made_with pass' ≡
 
 pub undivided_call : {s : ℕ} {pass pass' : Pass} → MadeAll s pass pass' → (IsPut : ℕ → List ℕ → Type 0) (first : Event) → changes_slot s first ≡ true → (steps : List (Event × Answer)) → AreStepsOf IsPut s steps
     → made_with pass' ≡ made_with pass ++ whole_call s first steps → Undivided s pass pass' (whole_call s first steps)
-undivided_call {s} may IsPut first of steps are made = may (whole_call s first steps) made (of, of_steps IsPut s steps are)
+undivided_call {s} may IsPut first its steps are made = may (whole_call s first steps) made (its, of_steps IsPut s steps are)
 
 pub own_undivided : (key key' : SlotKey) (pass pass' : Pass) → IsSamePass pass pass' → IsLegalList (start pass.name) pass.seen → IsLegalList (start pass'.name) pass'.seen → IsPrefix (own_list key) pass.seen → IsPrefix pass.seen pass'.seen
     → own_list key' ≡ pass'.seen → (key'.keys.name ≡ key.keys.name) × (slot_number key' ≡ slot_number key) → AddsOwn key pass key' → MadeAll (slot_number key) pass pass'

@@ -18,6 +18,7 @@ use Rattle.seize_book.specs.Tokens.{Name, start}
 use Rattle.seize_book.specs.declared.book.pass.Pass.{Pass}
 use Rattle.seize_book.specs.declared.book.slot_key.SlotKey.{SlotKey}
 use Rattle.seize_book.specs.declared.book.value_keys.ValueKeys.{ValueKeys}
+use Rattle.seize_book.proofs.Facts.{equal}
 use Rattle.seize_words.specs.Reservations.{beginning}
 use Rattle.seize_words.specs.declared.activation.Activation.{Activation}
 use Rattle.seize_words.specs.declared.words.Words.{Words}
@@ -42,18 +43,15 @@ pub call_after : {IsPut : Pass → ℕ → List ℕ → Type 0} (s t : ℕ) (job
 call_after {IsPut} s t job pass ready pass' same none call =
     subst (λ (k : ℕ). MakesCall IsPut k job pass pass') same (record { steps = call.steps; its = call.its; made = none_then none call.made; undivided = undivided_after none call.undivided })
 
--- A whole call with this first event, in which an active slot handed nothing.
-abbrev pub WholeFrom : (Pass → ℕ → List ℕ → Type 0) → Bool → ℕ → Event → Pass → Pass → Type 0
-WholeFrom IsPut active s first pass pass' = (call : MakesWhole IsPut s first pass pass') × (active ≡ true → HandsNone call.steps)
+-- A whole call, in which an active slot handed nothing.
+abbrev pub Whole : (Pass → ℕ → List ℕ → Type 0) → Bool → ℕ → Event → Pass → Pass → Type 0
+Whole IsPut active s first pass pass' = (call : MakesWhole IsPut s first pass pass') × (active ≡ true → HandsNone call.steps)
 
-abbrev pub Whole : (Pass → ℕ → List ℕ → Type 0) → Bool → ℕ → Job → Pass → Pass → Type 0
-Whole IsPut active s job pass pass' = WholeFrom IsPut active s (Begin s job) pass pass'
-
-any_call : {IsPut : Pass → ℕ → List ℕ → Type 0} {s : ℕ} {job : Job} {p q : Pass} → MakesCall IsPut s job p q → Whole IsPut false s job p q
+any_call : {IsPut : Pass → ℕ → List ℕ → Type 0} {s : ℕ} {first : Event} {p q : Pass} → MakesWhole IsPut s first p q → Whole IsPut false s first p q
 any_call call = (call, λ on. absurd (false≢true on))
 
 module _ (IsPut : Pass → ℕ → List ℕ → Type 0) (pass' : Pass) (gives : Gives (IsPut pass') pass'.seen) where
-  -- a call has begun, and made these steps; an active slot handed nothing
+  -- a call has begun by this event, and made these steps; an active slot handed nothing
   record Opened (active : Bool) (s : ℕ) (first : Event) (pass now : Pass) : Type 0 where
     pub steps : List (Event × Answer)
     pub its : AreStepsOf (IsPut pass') s steps
@@ -70,8 +68,8 @@ module _ (IsPut : Pass → ℕ → List ℕ → Type 0) (pass' : Pass) (gives : 
 
   -- and returns
   closed : (active : Bool) (s : ℕ) (first : Event) → changes_slot s first ≡ true → (pass two : Pass) → Opened active s first pass two → made_with pass' ≡ made_with two ++ (Return s, Done) ∷ [] → IsSamePass pass pass' → IsPrefix pass.seen pass'.seen
-      → IsLegalList (start pass'.name) pass'.seen → MadeAll s pass pass' → WholeFrom IsPut active s first pass pass'
-  closed active s first of pass two opened ended same grows legal own = (
+      → IsLegalList (start pass'.name) pass'.seen → MadeAll s pass pass' → Whole IsPut active s first pass pass'
+  closed active s first its pass two opened ended same grows legal own = (
     record {
       steps = opened.steps;
       its = opened.its;
@@ -81,7 +79,7 @@ module _ (IsPut : Pass → ℕ → List ℕ → Type 0) (pass' : Pass) (gives : 
         legal = legal;
         made = all_made;
       };
-      undivided = undivided_call own (IsPut pass') first of opened.steps opened.its all_made;
+      undivided = undivided_call own (IsPut pass') first its opened.steps opened.its all_made;
     },
     opened.under_guard,
   )
@@ -105,7 +103,7 @@ module _ (IsPut : Pass → ℕ → List ℕ → Type 0) (pass' : Pass) (gives : 
     began : (job : Job) (kepts : List ℕ) (a : CallState) → BeginsSo key pass job kepts values had a → Opened active s (Begin s job) pass a.pass
     began job kepts a begins = record { steps = []; its = tt; under_guard = λ on. tt; made = made_grew pass a.pass ((deed_with_words pass (Begin s job) kepts, Done) ∷ []) begins.begins.made }
 
-    returned : (on : Bool) (job : Job) (a : CallState) → Opened on s (Begin s job) pass a.pass → slot_number a.key ≡ s → Returns a key' pass' values' had' → Rests key pass key' pass' values' → Whole IsPut on s job pass pass'
+    returned : (on : Bool) (job : Job) (a : CallState) → Opened on s (Begin s job) pass a.pass → slot_number a.key ≡ s → Returns a key' pass' values' had' → Rests key pass key' pass' values' → Whole IsPut on s (Begin s job) pass pass'
     returned on job a opened its returns rests =
         closed on s (Begin s job) (equal s s refl) pass a.pass opened
         (made_grew a.pass pass' (done_event a.pass (Return (slot_number a.key))) returns.made ∙ ap (λ (k : ℕ). made_with a.pass ++ (Return k, Done) ∷ []) its)
@@ -115,17 +113,17 @@ module _ (IsPut : Pass → ℕ → List ℕ → Type 0) (pass' : Pass) (gives : 
     drained a b drains returns = goes_drained gives a b drains (subst (AllHad gives) returns.had_none all) returns.keeps.on.grows
 
     -- what goes on from where the call began
-    goes_on : (job : Job) (kepts : List ℕ) (a b : CallState) → BeginsSo key pass job kepts values had a → Goes gives a b → Returns b key' pass' values' had' → Rests key pass key' pass' values' → Whole IsPut active s job pass pass'
+    goes_on : (job : Job) (kepts : List ℕ) (a b : CallState) → BeginsSo key pass job kepts values had a → Goes gives a b → Returns b key' pass' values' had' → Rests key pass key' pass' values' → Whole IsPut active s (Begin s job) pass pass'
     goes_on job kepts a b begins goes returns rests =
         let its = begins.begins.keeps.on.its.1 in
         returned active job b (opened_then (began job kepts a begins) (subst (λ (t : Bool × ℕ). Runs gives t.0 t.1 a.pass b.pass) (λ j. (begins.begins.keeps.on.active j, its j)) goes.runs)) (goes.its ∙ its) returns rests
 
-    pub key_retires : (v kept : ℕ) (retired : Bool) → RetiresOne key pass v kept values had key' pass' values' had' retired → Whole IsPut active s (Retire v) pass pass'
+    pub key_retires : (v kept : ℕ) (retired : Bool) → RetiresOne key pass v kept values had key' pass' values' had' retired → Whole IsPut active s (Begin s (Retire v)) pass pass'
     key_retires v kept retired r =
         let drains = drained r.settled r.ends.drained r.ends.drains.drains r.ends.returns in let known = prefix_trans r.settled.pass.seen r.ends.drained.pass.seen pass'.seen drains.grows r.ends.returns.keeps.on.grows in
         goes_on (Retire v) (kept ∷ []) r.begun r.ends.drained r.begins (goes_then gives (goes_round gives r.begun v kept r.settled retired r.drains_one drains.before known) drains) r.ends.returns r.rests
 
-    pub key_flushes : (retired : Bool) → Flushes key pass values had key' pass' values' had' retired → Whole IsPut active s Flush pass pass'
+    pub key_flushes : (retired : Bool) → Flushes key pass values had key' pass' values' had' retired → Whole IsPut active s (Begin s Flush) pass pass'
     key_flushes retired r =
         let drains = drained r.settled r.ends.drained r.ends.drains.drains r.ends.returns in let known = prefix_trans r.settled.pass.seen r.ends.drained.pass.seen pass'.seen drains.grows r.ends.returns.keeps.on.grows in
         goes_on Flush [] r.begun r.ends.drained r.begins (goes_then gives (goes_settled gives 1 r.begun r.settled retired r.settles drains.before known) drains) r.ends.returns r.rests
@@ -196,18 +194,18 @@ module _ (IsPut : Pass → ℕ → List ℕ → Type 0) (pass' : Pass) (gives : 
         own_undivided slot.holder.key slot'.holder.key calls.ready pass' rests.same
         calls.prepares.legal (seen_legal Does calls rests.same) calls.knew rests.grows rests.sees rests.its rests.own
 
-    whole : (active : Bool) (job : Job) (Does : Pass → Type 0) (calls : CallsWith slot pass slot' pass' Does) → Whole IsPut active (slot_number slot.holder.key) job calls.ready pass' → Whole IsPut active (its_number slot) job pass pass'
+    whole : (active : Bool) (job : Job) (Does : Pass → Type 0) (calls : CallsWith slot pass slot' pass' Does) → Whole IsPut active (slot_number slot.holder.key) (Begin (slot_number slot.holder.key) job) calls.ready pass' → Whole IsPut active (its_number slot) (Begin (its_number slot) job) pass pass'
     whole active job Does calls makes =
         let call = makes.0 in let none = none_prepared slot pass calls.ready calls.prepares in
-        subst (λ (k : ℕ). Whole IsPut active k job pass pass') slot.together.numbered (record { steps = call.steps; its = call.its; made = none_then none call.made; undivided = undivided_after none call.undivided }, makes.1)
+        subst (λ (k : ℕ). Whole IsPut active k (Begin k job) pass pass') slot.together.numbered (record { steps = call.steps; its = call.its; made = none_then none call.made; undivided = undivided_after none call.undivided }, makes.1)
 
     module _ (had : Had) (had' : Had) (all : AllHad gives had') where
-      pub slot_retires : (loose : Loose) (kept : ℕ) (retired : Bool) → SlotRetires slot pass loose kept had slot' pass' had' retired → Whole IsPut (active_of slot.holder.key) (its_number slot) (Retire (its_value loose)) pass pass'
+      pub slot_retires : (loose : Loose) (kept : ℕ) (retired : Bool) → SlotRetires slot pass loose kept had slot' pass' had' retired → Whole IsPut (active_of slot.holder.key) (its_number slot) (Begin (its_number slot) (Retire (its_value loose))) pass pass'
       slot_retires loose kept retired calls =
           whole (active_of slot.holder.key) (Retire (its_value loose)) _ calls
           (key_retires slot.holder.key calls.ready (keys_in slot.holder.batch) had slot'.holder.key (keys_in slot'.holder.batch) had' all (seen_legal _ calls calls.does.rests.same) (made_all _ calls calls.does.rests) (its_value loose) kept retired calls.does)
 
-      pub slot_flushes : (retired : Bool) → SlotFlushes slot pass had slot' pass' had' retired → Whole IsPut (active_of slot.holder.key) (its_number slot) Flush pass pass'
+      pub slot_flushes : (retired : Bool) → SlotFlushes slot pass had slot' pass' had' retired → Whole IsPut (active_of slot.holder.key) (its_number slot) (Begin (its_number slot) Flush) pass pass'
       slot_flushes retired calls =
           whole (active_of slot.holder.key) Flush _ calls (key_flushes slot.holder.key calls.ready (keys_in slot.holder.batch) had slot'.holder.key (keys_in slot'.holder.batch) had' all (seen_legal _ calls calls.does.rests.same) (made_all _ calls calls.does.rests) retired calls.does)
 
@@ -270,5 +268,5 @@ module _ (IsPut : Pass → ℕ → List ℕ → Type 0) (pass' : Pass) (gives : 
     slot_gathers_whole gathers = resumed (Begin (its_number before) Gather) (equal _ _ refl) gathers (λ q does. key_begins before.holder.key q slot.holder.key mid (its_number before) Gather does)
 
 -- A call in which nothing was handed.
-pub held_whole : {IsPut : Pass → ℕ → List ℕ → Type 0} {active : Bool} {s : ℕ} {job : Job} {p q : Pass} → Whole IsPut active s job p q → active ≡ true → Defers s job p q
+pub held_whole : {IsPut : Pass → ℕ → List ℕ → Type 0} {active : Bool} {s : ℕ} {job : Job} {p q : Pass} → Whole IsPut active s (Begin s job) p q → active ≡ true → Defers s job p q
 held_whole {IsPut} {active} {s} {job} {p} {q} call on = record { steps = call.0.steps; its = held_back (IsPut q) s call.0.steps call.0.its (call.1 on); made = call.0.made; undivided = call.0.undivided }

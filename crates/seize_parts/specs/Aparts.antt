@@ -10,6 +10,7 @@
 --                            was told
 --     Fits pass st           the state has the size of the pass, and the links of the pass's list begin with values that differ
 --     MayGo pass places st   it fits, and what lies in these places is what the state says
+--     MayPart pass n places st     it fits, and what lies in place n is what the state says
 --     IsIn pass s place st   it fits, and slot s is in use there; what lies in its place is this
 --     AreKeptOf kept st      just the slots that are in use there are kept, and none of them has a guard
 --     IsMoved n places kept kept'     what lies in place n is kept then in place n of these, and else nothing is changed
@@ -20,7 +21,7 @@
 --                            the one that `does` gives of it. What the reclaimer had are the values that are gone then; it put as `puts`
 --                            says, what it put waits, and the watch was told
 --     GoesAll                so it is where all is reclaimed with what is put, and the watch was told of that too
-use Rattle.std.specs.Prelude.{◌≡◌, ℕ, true, false, not, ◌&&◌, ◌==◌, None, Option, List, [], ◌∷◌, ◌++◌, get_or, length, map}
+use Rattle.std.specs.Prelude.{◌≡◌, ℕ, true, false, not, ◌&&◌, ◌==◌, None, Option, List, [], ◌∷◌, ◌++◌, get_or, length, map, option_map}
 use Rattle.std.specs.Option.{is_none}
 use base.Stored.{Gv}
 use Rattle.seize_machine.specs.Machine.State.{are_distinct, linked_values}
@@ -39,7 +40,7 @@ use Rattle.seize_calls.specs.declared.slot.Slot.{Slot}
 use Rattle.seize_alone.specs.Gone.{AreNamesOf, PutAs}
 use Rattle.seize_alone.specs.Holding.{Holds, HoldsThen}
 use Rattle.seize_parts.specs.Places.{LiesThen}
-use Rattle.seize_parts.specs.Placing.{ArePlaces, lying_in}
+use Rattle.seize_parts.specs.Placing.{ArePlaces, AreSound, lies_for, lying_in, what_lies_in}
 use Rattle.seize_parts.specs.Told.{HasTold, told_of}
 use Rattle.seize_parts.specs.declared.alone.aside.Aside.{Aside}
 use Rattle.seize_parts.specs.declared.alone.place.Place.{Place}
@@ -85,6 +86,10 @@ Fits pass st = (st.size ≡ pass.size) × (are_distinct (linked_values pass.name
 abbrev pub MayGo : {T : Type 0} → Pass → List (Option (Place T)) → ModelState T ℕ → Type 0
 MayGo pass places st = Fits pass st × ArePlaces pass.name st places
 
+abbrev pub MayPart : {T : Type 0} → Pass → ℕ → List (Option (Place T)) → ModelState T ℕ → Type 0
+MayPart pass n places st =
+    Fits pass st × (option_map what_lies_in (get_or places n None) ≡ lies_for pass.name (model_slot st n) n) × AreSound places
+
 abbrev pub IsIn : {T : Type 0} → Pass → ℕ → Place T → ModelState T ℕ → Type 0
 IsIn pass s place st = Fits pass st × (is_free (model_slot st s).kind ≡ false) × LiesThen place (lying_in pass.name (model_slot st s) s)
 
@@ -94,7 +99,8 @@ IsSomeHeld {T} code pass May =
 
 abbrev pub AreKeptOf : {T : Type 0} → List (Option (Slot T)) → ModelState T ℕ → Type 0
 AreKeptOf kept st =
-    (s : ℕ) → (is_none (get_or kept s None) ≡ is_free (model_slot st s).kind) × (has_guard (model_slot st s) ≡ false)
+    (s : ℕ) → (is_none (get_or kept s None) ≡ is_free (model_slot st s).kind)
+    × (is_free (model_slot st s).kind ≡ false → has_guard (model_slot st s) ≡ false)
 
 abbrev pub IsMoved : {T : Type 0} → ℕ → List (Option (Place T)) → List (Option (Slot T)) → List (Option (Slot T)) → Type 0
 IsMoved n places kept kept' =

@@ -5,9 +5,10 @@
 --     IsOff pass s, AreOff pass     slot s is not active, as the pass has seen, or none is
 --     KeepsOff pass pass'      each slot that is not active stays so;  KeepsActive pass pass'     each is active just where it was
 --     KeepsIdle pass pass'     each slot that has no call has none
---     KeepsPlaces numbers numbers'     the list is the same, and slots lie and are kept in the same places
---     LiesHere numbers i       the slot of number i lies there or is kept;  KeepsHere numbers numbers'     the list is the same, and what lay
---                              there or was kept does so still
+--     KeepsPlaces numbers numbers'     the list is the same, slots lie and are kept in the same places, and so the search begins where it did
+--     LiesHere numbers i       the slot of number i lies there or is kept;  KeepsHere numbers numbers'     the list is the same, as many slots
+--                              were made, and what lay there or was kept does so still
+--     KeepsFree numbers numbers'     the list is the same, just those slots lie there that lay there, and so the search begins where it did
 --     AreSpent slots           each of these slots has an empty batch
 --     StandsInUse st v         v stands in the batch of a slot whose number is in use
 --     Sweeps pass pass' all    it is the same pass. The list goes on with entries of this pass alone, where that is alone. The links are
@@ -15,7 +16,7 @@
 --                              then each slot is as if it had never been made, and each value that was ever retired is reclaimed.
 --                              If no slot had a call or was active, so it is afterwards. If no slot has or is, each retired value is
 --                              reclaimed, or stands in the batch of a slot whose number is in use
-use Rattle.std.specs.Prelude.{◌≡◌, ◌⊎◌, ◌↔◌, ℕ, Bool, true, false, List, [], Option, None, Some, get_or, is_some}
+use Rattle.std.specs.Prelude.{◌≡◌, ◌⊎◌, ◌↔◌, ℕ, Bool, true, false, List, [], Option, None, Some, get_or, is_some, length}
 use Rattle.std.specs.List.{Contains}
 use Rattle.seize_machine.specs.Machine.History.{Reclaimed, Retired}
 use Rattle.seize_machine.specs.Machine.Laws.{is_quiet}
@@ -69,13 +70,19 @@ KeepsIdle pass pass' = (s : ℕ) → (slot_at (state_seen pass) s).call ≡ None
 abbrev pub KeepsPlaces : {T : Type 0} → Numbers T → Numbers T → Type 0
 KeepsPlaces numbers numbers' =
     (numbers'.book ≡ numbers.book) × (flags_of numbers'.slots.items ≡ flags_of numbers.slots.items)
-    × (flags_of numbers'.kept.items ≡ flags_of numbers.kept.items)
+    × (flags_of numbers'.kept.items ≡ flags_of numbers.kept.items) × (numbers'.least ≡ numbers.least)
 
 abbrev pub LiesHere : {T : Type 0} → Numbers T → ℕ → Type 0
 LiesHere numbers i = (is_some (get_or numbers.slots.items i None) ≡ true) ⊎ (is_some (get_or numbers.kept.items i None) ≡ true)
 
 abbrev pub KeepsHere : {T : Type 0} → Numbers T → Numbers T → Type 0
-KeepsHere numbers numbers' = (numbers'.book ≡ numbers.book) × ((i : ℕ) → LiesHere numbers i → LiesHere numbers' i)
+KeepsHere numbers numbers' =
+    (numbers'.book ≡ numbers.book) × (length numbers'.slots.items ≡ length numbers.slots.items)
+    × ((i : ℕ) → LiesHere numbers i → LiesHere numbers' i)
+
+abbrev pub KeepsFree : {T : Type 0} → Numbers T → Numbers T → Type 0
+KeepsFree numbers numbers' =
+    (numbers'.book ≡ numbers.book) × (numbers'.slots.items ≡ numbers.slots.items) × (numbers'.least ≡ numbers.least)
 
 abbrev pub AreSpent : {T : Type 0} → List (Option (Slot T)) → Type 0
 AreSpent {T} slots = (i : ℕ) (slot : Slot T) → get_or slots i None ≡ Some slot → values_of (its_batch slot) ≡ []

@@ -1,13 +1,15 @@
 //! Slots in use that nobody has, while all is reclaimed by a pass that is alone. Each attempts its batch at any length; then what slots left
 //! is attempted by the slot of a free number; then the numbers go back, the last one first. A watch is told of each value that goes, and
 //! what the reclaimer puts waits in a queue.
-ghost use Rattle.std.specs.Prelude.{◌≡◌, ◌≢◌, ◌<◌, ℕ, List, None, Some, [], false, get_or, length, slice_set};
-ghost use Rattle.std.specs.List.{range_with_len, reverse};
+ghost use Rattle.std.specs.Prelude.{◌≡◌, ◌≢◌, ◌<◌, ℕ, List, None, Some, [], false, get_or, is_some, length, reverse, slice_set};
+ghost use Rattle.std.specs.List.{position, range_with_len};
 ghost use Rattle.seize_book.specs.Others.{rest_of};
 ghost use Rattle.seize_book.specs.Tokens.{IsSole};
 ghost use Rattle.seize_book.specs.Values.{values_of};
 ghost use Rattle.seize_words.specs.Joined.{words_book};
-ghost use Rattle.seize_model.specs.Waiting.Calls.{is_free};
+ghost use Rattle.seize_model.specs.declared.kind.Kind.TheVariants.{Registered as registered};
+ghost use Rattle.seize_model.specs.Waiting.Attempt.{attempt_if_full};
+ghost use Rattle.seize_model.specs.Waiting.Calls.{is_free, with_number_in_use};
 ghost use Rattle.seize_model.specs.Waiting.State.{ModelState, has_guard, model_slot};
 ghost use Rattle.seize_calls.specs.Slots.{IsInactive, IsPassFor, IsSlotOf, its_batch, its_number};
 ghost use Rattle.seize_calls.specs.declared.slot.Slot.{Slot as ASlot};
@@ -136,12 +138,40 @@ impl<T: Drop> Numbers<T> {
         let Some(n) = self.first() else {
             unreachable!()
         };
+        let mut slot = self.take_rest(words, ender, n, aside, pass);
+        attempt(words, ender, &mut slot, aside, pass);
+        self.kept[n] = Some(slot);
+    }
+
+    // The slot of number n, which is the least one that is not in use, takes its number, and what slots left is its batch then. Where that
+    // has the batch size, it is attempted.
+    fn take_rest<R: Reclaim<T>, W: Watch<T>>(
+        &mut self,
+        words: &Words<T>,
+        ender: &Ender<T, R>,
+        n: usize,
+        aside: &mut Aside<'_, W>,
+        pass: &mut Pass,
+    ) -> Slot<T>
+        requires numbers { AreSlots self.old × (self.old.book.name ≡ words_book words.now) × (position is_some self.old.slots.items ≡ Some n) }
+        requires pass { IsPassFor words.now pass.old × IsSole pass.old.id × IsEnderOf words.now ender.now }
+        requires queue { MayDrain T.row.coded.code (words_book words.now) aside.old.queue }
+        ensures numbers { AreSlots self.new × (self.new.book ≡ self.old.book) × (rest_of self.new.key ≡ []) }
+        ensures places { (self.new.slots.items ≡ slice_set self.old.slots.items n None) × (self.new.kept ≡ self.old.kept) }
+        ensures slot { IsSlotOf words.now result × IsInactive result × (its_number result ≡ n) }
+        ensures on { KeepsOn pass.old pass.new × KeepsActive pass.old pass.new × KeepsIdle pass.old pass.new }
+        ensures aside { KeepsAside aside.old aside.new × MayDrain T.row.coded.code (words_book words.now) aside.new.queue }
+        ensures goes { Goes T.row.coded.code R.puts W.told (Fits pass.old) (λ st. attempt_if_full (with_number_in_use st n registered) n)
+            pass.old pass.new (W.seen aside.old.watch.now) (W.seen aside.new.watch.now) aside.old.queue aside.new.queue }
+    {
         let (mut slot, begun) = self.again(words, n, pass);
         if begun {
             resume_into(words, ender, &mut slot, aside, pass);
+            slot.look(words, pass);
+            return slot;
         }
-        attempt(words, ender, &mut slot, aside, pass);
-        self.kept[n] = Some(slot);
+        slot.look(words, pass);
+        slot
     }
 
     /// The numbers of the slots that are kept go back, the last one first.
@@ -173,7 +203,10 @@ impl<T: Drop> Numbers<T> {
     {
         self.key.look(pass);
         if let Some(slot) = self.kept[n].take() {
+            let mut slot = slot;
+            slot.look(words, pass);
             self.give(words, slot, pass);
+            self.key.look(pass);
         }
     }
 }

@@ -9,11 +9,12 @@ ghost use Rattle.seize_model.specs.Waiting.State.{ModelState, model_slot};
 ghost use Rattle.seize_calls.specs.Slots.{IsInactive, IsPassFor, IsSlotOf, its_number};
 ghost use Rattle.seize_calls.specs.declared.slot.Slot.{Slot as ASlot};
 ghost use Rattle.seize_alone.specs.Reclaiming.{last_guard_left, part_in_turn, parts_in_turn};
-ghost use Rattle.seize_parts.specs.Aparts.{AreKeptOf, Fits, Goes, IsIn, IsMoved, IsSomeHeld, KeepsAside, MayDrain, MayGo};
+ghost use Rattle.seize_parts.specs.Aparts.{AreKeptOf, Fits, Goes, IsIn, IsMoved, IsSomeHeld, KeepsAside, MayDrain, MayGo, MayPart};
 ghost use Rattle.seize_parts.specs.Enders.{IsEnderOf};
 ghost use Rattle.seize_parts.specs.Numbers.{AreNumbers, AreSlots};
 ghost use Rattle.seize_parts.specs.Places.{IsOnly};
 ghost use Rattle.seize_parts.specs.Reservations.{IsReservation, IsUnit};
+ghost use Rattle.seize_parts.specs.Sweeps.{KeepsFree};
 
 use crate::alone::apart::leave_into;
 use crate::alone::aside::Aside;
@@ -106,7 +107,7 @@ impl<T: Drop> Numbers<T> {
         requires held { IsSomeHeld T.row.coded.code pass.old (MayGo pass.old places.old.items) }
         requires queue { MayDrain T.row.coded.code (words_book words.now) aside.old.queue }
         ensures aside { KeepsAside aside.old aside.new × MayDrain T.row.coded.code (words_book words.now) aside.new.queue }
-        ensures numbers { AreSlots self.new × (self.new.book ≡ self.old.book) × (self.new.slots.items ≡ self.old.slots.items) }
+        ensures numbers { AreSlots self.new × KeepsFree self.old self.new }
         ensures places { (s : ℕ) → get_or places.new.items s None ≡ None }
         ensures kept { (st : ModelState T ℕ) → MayGo pass.old places.old.items st
             → AreKeptOf self.new.kept.items (parts_in_turn st (range_with_len 0 (length st.slots))).0 }
@@ -131,13 +132,13 @@ impl<T: Drop> Numbers<T> {
     )
         requires numbers { AreSlots self.old × (self.old.book.name ≡ words_book words.now) }
         requires pass { IsPassFor words.now pass.old × IsSole pass.old.id × IsEnderOf words.now ender.now }
-        requires held { IsSomeHeld T.row.coded.code pass.old (MayGo pass.old places.old.items) × (n < length places.old.items) }
+        requires held { IsSomeHeld T.row.coded.code pass.old (MayPart pass.old n places.old.items) × (n < length places.old.items) }
         requires queue { MayDrain T.row.coded.code (words_book words.now) aside.old.queue }
         ensures aside { KeepsAside aside.old aside.new × MayDrain T.row.coded.code (words_book words.now) aside.new.queue }
-        ensures numbers { AreSlots self.new × (self.new.book ≡ self.old.book) × (self.new.slots.items ≡ self.old.slots.items) }
+        ensures numbers { AreSlots self.new × KeepsFree self.old self.new }
         ensures places { places.new.items ≡ slice_set places.old.items n None }
         ensures kept { IsMoved n places.old.items self.old.kept.items self.new.kept.items }
-        ensures goes { Goes T.row.coded.code R.puts W.told (MayGo pass.old places.old.items) (λ st. part_in_turn st n)
+        ensures goes { Goes T.row.coded.code R.puts W.told (MayPart pass.old n places.old.items) (λ st. part_in_turn st n)
             pass.old pass.new (W.seen aside.old.watch.now) (W.seen aside.new.watch.now) aside.old.queue aside.new.queue }
     {
         if let Some(place) = places[n].take() {
@@ -152,7 +153,7 @@ impl<T: Drop> Numbers<T> {
         requires pass { IsPassFor words.now pass.old × IsSole pass.old.id }
         requires slot { IsSlotOf words.now slot × IsInactive slot × (its_number slot ≡ n) }
         ensures still { pass.new ≡ pass.old }
-        ensures numbers { AreSlots self.new × (self.new.book ≡ self.old.book) × (self.new.slots.items ≡ self.old.slots.items) }
+        ensures numbers { AreSlots self.new × KeepsFree self.old self.new }
         ensures kept { (s : ASlot T) × (n < length self.old.kept.items) × (self.new.kept.items ≡ slice_set self.old.kept.items n (Some s)) }
     {
         let mut slot = slot;

@@ -7,7 +7,7 @@ ghost use Rattle.seize_parts.specs.Aparts.{KeepsAside, MayDrain};
 ghost use Rattle.seize_parts.specs.Enders.{IsEnderOf};
 ghost use Rattle.seize_calls.specs.Slots.{IsPassFor};
 ghost use Rattle.seize_parts.specs.Numbers.{AreSlots};
-ghost use Rattle.seize_parts.specs.Sweeps.{KeepsHere, KeepsIdle, KeepsOff, KeepsOn};
+ghost use Rattle.seize_parts.specs.Sweeps.{KeepsFree, KeepsHere, KeepsIdle, KeepsOff, KeepsOn};
 
 use crate::alone::aside::Aside;
 use crate::ender::Ender;
@@ -28,7 +28,7 @@ impl<T: Drop> Numbers<T> {
         requires numbers { AreSlots self.old × (self.old.book.name ≡ words_book words.now) }
         requires pass { IsPassFor words.now pass.old × IsSole pass.old.id × IsEnderOf words.now ender.now }
         requires queue { MayDrain T.row.coded.code (words_book words.now) aside.old.queue }
-        ensures numbers { AreSlots self.new × KeepsHere self.old self.new × (self.new.slots.items ≡ self.old.slots.items) }
+        ensures numbers { AreSlots self.new × KeepsHere self.old self.new × KeepsFree self.old self.new }
         ensures on { KeepsOn pass.old pass.new × KeepsOff pass.old pass.new × KeepsIdle pass.old pass.new }
         ensures aside { KeepsAside aside.old aside.new × MayDrain T.row.coded.code (words_book words.now) aside.new.queue }
     {
@@ -49,7 +49,7 @@ impl<T: Drop> Numbers<T> {
         requires numbers { AreSlots self.old × (self.old.book.name ≡ words_book words.now) }
         requires pass { IsPassFor words.now pass.old × IsSole pass.old.id × IsEnderOf words.now ender.now }
         requires queue { MayDrain T.row.coded.code (words_book words.now) aside.old.queue }
-        ensures numbers { AreSlots self.new × KeepsHere self.old self.new × (self.new.slots.items ≡ self.old.slots.items) }
+        ensures numbers { AreSlots self.new × KeepsHere self.old self.new × KeepsFree self.old self.new }
         ensures on { KeepsOn pass.old pass.new × KeepsOff pass.old pass.new × KeepsIdle pass.old pass.new }
         ensures aside { KeepsAside aside.old aside.new × MayDrain T.row.coded.code (words_book words.now) aside.new.queue }
     {
