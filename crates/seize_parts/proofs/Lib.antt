@@ -1,5 +1,6 @@
 pub mod Allowed
 pub mod Aparts
+pub mod Attempted
 pub mod Bare
 pub mod Behind
 pub mod Called
@@ -11,6 +12,7 @@ pub mod Given
 pub mod Going
 pub mod Homing
 pub mod InUse
+pub mod Keeping
 pub mod Lighter
 pub mod Lying
 pub mod Made
@@ -18,6 +20,7 @@ pub mod Moments
 pub mod Numbered
 pub mod OfKind
 pub mod OneLife
+pub mod Outlined
 pub mod Own
 pub mod Parting
 pub mod Permitted
@@ -25,6 +28,7 @@ pub mod Placed
 pub mod Places
 pub mod Recovered
 pub mod Resting
+pub mod Resumed
 pub mod Ruled
 pub mod Shelved
 pub mod Stands

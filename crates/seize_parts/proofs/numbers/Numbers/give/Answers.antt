@@ -36,4 +36,4 @@ returns-clause-gives g c = slot_gives c.args.slot c.args.pass.now c.give.new.sel
 pub returns-clause-alone : goal.returns-clause-alone
 returns-clause-alone g c sole =
     let gives = c.give.ensures.gives in let still = still_prepared c.args.slot gives.prepares in
-    (gives.does.2.0.answer, alone_from sole still (entry_alone (subst IsSole (sym still.same.1) sole) gives.does))
+    (gives.does.2.0.answer, alone_from sole still (entry_alone (subst IsSole (sym still.same.1) sole) gives.does refl))
