@@ -20,7 +20,7 @@ use Rattle.seize_model.specs.Agreement.Play.{play}
 use Rattle.seize_model.specs.Agreement.Events.{IsJob, IsEnded, ArePutBy}
 use Rattle.seize_model.proofs.Cases.{or_false, if_yes, if_no}
 use Rattle.seize_model.proofs.WaitingSets.Drain.{weighs}
-use Rattle.seize_model.proofs.WaitingSets.LastEnd.{IsLone, lone_round, no_weight, lone_of}
+use Rattle.seize_model.proofs.WaitingSets.LastEnd.{IsLone, round_lighter, no_weight, lone_of}
 use Rattle.seize_model.proofs.Simulation.Views.{with_reclaimers}
 use Rattle.seize_model.proofs.Simulation.Paths.{Carried}
 use Rattle.seize_model.proofs.Simulation.Plays.{play_first, First, first_of, Split, split_of}
@@ -146,10 +146,7 @@ is_lone of st ms s n idle none = lone_of st s idle none (λ i e. ap (λ (k : ℕ
 -- a round leaves less
 less_left : {T R : Type 0} (puts : R → T → List T) (weight : T → ℕ) → Lighter puts weight → (n : ℕ) (st : waiting.ModelState T R) (s : ℕ) → IsLone T R s st → (length (rest_and_batch st s) == 0) ≡ false → weighs weight (rest_and_batch st s) ≤ suc n
     → weighs weight (rest_and_batch (gathering puts weight st s).0 s) ≤ n
-less_left {T} {R} puts weight lighter n st s lone left le =
-    let round = lone_round puts weight lighter st s lone left in
-    let same : rest_and_batch (gathering puts weight st s).0 s ≡ (model_slot (gathering puts weight st s).0 s).batch = ap (λ (l : List (T × R)). l ++ (model_slot (gathering puts weight st s).0 s).batch) round.0.same_rest in
-    rw same (omega (arith, round.1))
+less_left puts weight lighter n st s lone left le = omega (arith, le, round_lighter puts weight lighter st s lone left)
 
 none_left : {T R : Type 0} (puts : R → T → List T) (weight : T → ℕ) → Lighter puts weight → (st : waiting.ModelState T R) (s : ℕ) → weighs weight (rest_and_batch st s) ≤ 0 → (length (rest_and_batch st s) == 0) ≡ true
 none_left puts weight lighter st s le = ap (λ (k : ℕ). k == 0) (no_weight puts weight lighter (rest_and_batch st s) le)
