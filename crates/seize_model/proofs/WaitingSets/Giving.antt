@@ -4,7 +4,7 @@ use Rattle.seize_model.specs.Waiting.State.{ModelState}
 use Rattle.seize_model.specs.Waiting.Attempt.{StateAndGone, with_gone}
 use Rattle.seize_model.specs.Waiting.Further.{Lighter}
 use Rattle.seize_model.specs.Waiting.Calls.{gathering, gathers, others_in_use, rest_and_batch, with_number_free}
-use Rattle.seize_model.specs.Waiting.Laws.{EndsNow, GathersFirst, GivingLaw}
+use Rattle.seize_model.specs.Waiting.Laws.{EndsNow, GivingLaw}
 use Rattle.seize_model.proofs.Cases.{if_no, if_yes, or_false}
 use Rattle.seize_model.proofs.WaitingSets.Drain.{weighs}
 use Rattle.seize_model.proofs.WaitingSets.LastEnd.{IsLone, lone_of, lone_round, no_weight, none_of, round_lighter}
