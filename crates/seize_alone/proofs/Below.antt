@@ -5,7 +5,7 @@
 --     used_below, active_below, off_below     what is so of a slot is so with them
 --     step_below       each call of a list gives the same reply and the same values gone, and then the state with them
 --     reclaim_below    a reclaim of all gives the same, and forgets them
-use Rattle.std.proofs.Common.{◌≡◌, ℕ, zero, suc, ◌+◌, ◌-◌, ◌^◌, ◌==◌, ◌||◌, Bool, true, false, not, cond, if◌then◌else◌, nat_lt, nat_le, max, List, [], ◌∷◌, ◌++◌, length, map, get_or, set, replicate, Option, Some, None, Result, refl, sym, ap, ◌∙◌, arith}
+use Rattle.std.proofs.Common.{◌≡◌, ℕ, zero, suc, ◌+◌, ◌-◌, ◌^◌, ◌==◌, ◌||◌, Bool, true, false, not, cond, if◌then◌else◌, nat_lt, List, [], ◌∷◌, ◌++◌, length, map, get_or, set, replicate, Option, Some, None, Result, refl, sym, ap, ◌∙◌, arith}
 use Rattle.std.specs.Prelude.{Err, Ok, is_some}
 use Rattle.std.specs.List.{flat_map, list_any, range_with_len, sum_by}
 use Rattle.std.proofs.lemmas.List.{append_assoc, length-append, length-map, length-replicate, map-append}
@@ -293,9 +293,6 @@ module _ {T R : Type 0} (n : ℕ) where
     take_below st kind guards =
         ap (λ (m : ℕ). took (with_gone_below n st) kind guards (m == all_numbers) m) (least_below st.slots) ∙ by_case (least_unused st.slots == all_numbers)
       where
-        least : ℕ
-        least = least_unused st.slots
-
         by_case : (k : Bool) → took (with_gone_below n st) kind guards k (least_unused st.slots) ≡ below_answer (took st kind guards k (least_unused st.slots))
         by_case true = refl
         by_case false =

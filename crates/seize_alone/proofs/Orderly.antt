@@ -106,7 +106,6 @@ module _ {T : Type 0} (code : T → Gv) (st : waiting.ModelState T ℕ) (names :
         map_nothing some_value (waiting.retired_at st b)
         (sym (retired_same st b) ∙ map_nothing (λ (v : Option T × Option ℕ). v.0) (waiting.retired_at (some_state st) b) (sym (holds.shows.values b) ∙ ap (map (found names)) values));
   }
-
     where
       below : (a b : ℕ) → a ≤ b → (a ≡ b → ⊥) → a < b
       below a b few other = elim (cases_lt a b) [ inl less ↦ less | inr more ↦ absurd (other (omega (arith, few, more))) ]

@@ -474,9 +474,6 @@ module _ {T R : Type 0} where
           ∙ ap (λ (x : ModelSlot T R). (record k { slots = set k.slots (least_unused st.slots) (emptied x.kind); retired = k.retired ++ left_of x.batch }, x.batch)) own
           ∙ (λ i. (record k { slots = (ap (λ (l : List (ModelSlot T R)). set l (least_unused st.slots) (emptied slot.kind)) slots ∙ set-set st.slots (least_unused st.slots) slot (emptied slot.kind) ∙ ap (λ (q : Kind). set st.slots (least_unused st.slots) (emptied q)) kind) i; retired = k.retired ++ left_of slot.batch }, slot.batch))
 
-      attempted : ModelState T R
-      attempted = record st { slots = set st.slots (least_unused st.slots) (emptied Registered); retired = st.retired ++ [] ∷ []; rest = [] }
-
       full_goes : attempt (took (v ∷ vs)) (least_unused st.slots) ≡ (record st { slots = set st.slots (least_unused st.slots) (emptied Registered); retired = st.retired ++ [] ∷ []; rest = [] }, v ∷ vs)
       full_goes =
           quiet_attempt (took (v ∷ vs)) (least_unused st.slots) (taker (v ∷ vs)) v vs (inside (taker (v ∷ vs))) (took_quiet (v ∷ vs)) (its (taker (v ∷ vs))) refl

@@ -103,4 +103,6 @@ module _ {T : Type 0} (puts : ℕ → T → List T) (weight : T → ℕ) where
     unless_size (no_guard st s) st (with_further puts weight s (part_if_alone st s)) (further_size st s (part_if_alone st s) (alone_size st s)),
     unless_size (no_guard st s) st (with_further puts weight s (attempt st s)) (further_size st s (attempt st s) (attempt_size st s)),
     λ x kind. unless_size (unused st s) st (with_further puts weight s (put st s (x, kind))) (further_size st s (put st s (x, kind)) (put_size st s (x, kind))),
+    λ kind. taking_size st s kind,
+    gathering_size st s,
   )

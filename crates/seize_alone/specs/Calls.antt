@@ -10,11 +10,11 @@
 --     LeavesHeld          a leave with the last guard of a registered slot
 --     RefreshesHeld       a refresh of an owned slot, or of one with one guard
 --     TakesFullHeld       a number is taken for a slot of this kind, and what was left, which is a full batch, is attempted
---     GathersHeld         a slot in use without a guard gathers, so that what was left and its batch are attempted: no other slot is in use,
---                         and this is something
---     SizeStays           none of them changes the size
+--     GathersHeld         a slot in use without a guard gathers, so that what was left and its batch are attempted: no other slot is in
+--                         use, and this is something
+--     SizeStays           none of them changes the size, nor does a number that is taken, or a gathering
 --     SameOutline st now  each slot has the kind and the number of guards that it had, and each link holds what it held
---     OutlineStays        that is so after a refresh, a flush and a retirement
+--     OutlineStays        that is so after a refresh, a flush, a retirement and a gathering
 use Rattle.std.specs.Prelude.{◌≡◌, ◌≢◌, ◌||◌, ◌==◌, ℕ, Bool, true, false, List, [], Ok}
 use Rattle.std.specs.Coded.{Coded}
 use Rattle.seize_table.specs.Place.{all_numbers}
@@ -24,9 +24,9 @@ use Rattle.seize_machine.specs.declared.machine.event.Job.TheVariants.{Gather, L
 use Rattle.seize_model.specs.declared.kind.Kind.{Kind}
 use Rattle.seize_model.specs.declared.kind.Kind.TheVariants.{Registered}
 use Rattle.seize_model.specs.Waiting.State.{ModelState, has_guard, model_slot}
-use Rattle.seize_model.specs.Waiting.Calls.{flush, is_free, is_owned, least_unused, leave, one_guard_less, others_in_use, refresh, rest_and_batch, retire}
 use Rattle.seize_model.specs.Waiting.Attempt.{is_full}
-use Rattle.seize_model.specs.Waiting.Calls.{gathering, taking}
+use Rattle.seize_model.specs.Waiting.Calls.{flush, gathering, is_free, is_owned, least_unused, leave, one_guard_less}
+use Rattle.seize_model.specs.Waiting.Calls.{others_in_use, refresh, rest_and_batch, retire, taking}
 use Rattle.seize_model.specs.Waiting.Further.{with_further}
 use Rattle.seize_book.specs.Adding.{private}
 use Rattle.seize_book.specs.Book.{IsLegalList}
@@ -115,6 +115,7 @@ abbrev pub SizeStays : {T : Type 0} → (ℕ → T → List T) → (T → ℕ) �
 SizeStays {T} puts weight =
     (st : ModelState T ℕ) (s : ℕ) → ((leave puts weight st s).1.0.size ≡ st.size) × ((refresh puts weight st s).1.0.size ≡ st.size)
     × ((flush puts weight st s).1.0.size ≡ st.size) × ((x : T) (kind : ℕ) → (retire puts weight st s x kind).1.0.size ≡ st.size)
+    × ((kind : Kind) → (taking puts weight st s kind).0.size ≡ st.size) × ((gathering puts weight st s).0.size ≡ st.size)
 
 abbrev pub SameOutline : {T : Type 0} → ModelState T ℕ → ModelState T ℕ → Type 0
 SameOutline st now =
@@ -124,4 +125,4 @@ SameOutline st now =
 abbrev pub OutlineStays : {T : Type 0} → (ℕ → T → List T) → (T → ℕ) → Type 0
 OutlineStays {T} puts weight =
     (st : ModelState T ℕ) (s : ℕ) → SameOutline st (refresh puts weight st s).1.0 × SameOutline st (flush puts weight st s).1.0
-    × ((x : T) (kind : ℕ) → SameOutline st (retire puts weight st s x kind).1.0)
+    × ((x : T) (kind : ℕ) → SameOutline st (retire puts weight st s x kind).1.0) × SameOutline st (gathering puts weight st s).0

@@ -1,6 +1,6 @@
 -- Single events of a slot, made where its pass is alone, and what the hands hold then. `code` is the code of values.
---     MakesAlone pass pass' event answer     the pass is alone, and this event was made with it, at its size, and nothing since; the answer was
---                         this
+--     MakesAlone pass pass' event answer     the pass is alone, and this event was made with it, at its size, and nothing since; the answer
+--                         was this
 --     IsHeldAs code o value     what a link holds by number and what it holds by value are one: with the number the code is lent
 --     EntersHeld          an entry of a slot in use without a guard: the first guard
 --     GivesHeld           the number of a slot without a guard goes back: another slot is in use, or nothing is left
@@ -19,7 +19,8 @@ use Rattle.seize_model.specs.declared.kind.Kind.{Kind}
 use Rattle.seize_model.specs.declared.kind.Kind.TheVariants.{Registered}
 use Rattle.seize_model.specs.Waiting.State.{ModelState, has_guard, model_slot}
 use Rattle.seize_model.specs.Waiting.Attempt.{is_full}
-use Rattle.seize_model.specs.Waiting.Calls.{is_free, least_unused, model_link, others_in_use, rest_and_batch, set_guards, with_number_free, with_number_in_use}
+use Rattle.seize_model.specs.Waiting.Calls.{is_free, least_unused, model_link, others_in_use, rest_and_batch, set_guards}
+use Rattle.seize_model.specs.Waiting.Calls.{with_number_free, with_number_in_use}
 use Rattle.seize_book.specs.Entry.{Deed, Made}
 use Rattle.seize_book.specs.Passes.{IsSamePass}
 use Rattle.seize_book.specs.Tokens.{AddsEntry, IsSole}

@@ -7,6 +7,7 @@ pub mod Refusals
 pub mod Invariants
 pub mod Tidy
 pub mod LastEnd
+pub mod Giving
 pub mod Lists
 pub mod Orders
 pub mod GoneBatches

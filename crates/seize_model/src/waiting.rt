@@ -4,7 +4,7 @@
 ghost use Rattle.std.specs.Prelude.{◌≡◌, ℕ, List, ◌∷◌, []};
 ghost use Rattle.seize_model.specs.Waiting.State.{new, model_slot};
 ghost use Rattle.seize_model.specs.Waiting.Further.{Lighter, AfterwardsLaws, DrainLaws};
-ghost use Rattle.seize_model.specs.Waiting.Laws.{FlushLaw, RetireLaw, BoundLaw, LastEndLaw, UnusedLaw};
+ghost use Rattle.seize_model.specs.Waiting.Laws.{BoundLaw, FlushLaw, GivingLaw, LastEndLaw, RetireLaw, UnusedLaw};
 ghost use Rattle.seize_model.specs.Waiting.Lists.{AmpleLaw};
 ghost use Rattle.seize_model.specs.Waiting.Reached.{GoneLaw};
 ghost use Rattle.seize_model.specs.Waiting.Runs as runs;
@@ -70,7 +70,10 @@ pub fn batches<T, R>()
 ///
 /// As the last number in use is given back, what the slots that ended left is gone, then the batch of the slot itself, and then what
 /// those values put, in turn. So where no number is in use, all that was retired is gone.
+///
+/// And in every state, a number that goes back at once leaves all as it is, and else gathers first, and less is left to gather then.
 pub fn last_ends<T, R>()
     ensures last { (puts : R → T → List T) (weight : T → ℕ) → Lighter puts weight → LastEndLaw puts weight }
     ensures unused { (puts : R → T → List T) (weight : T → ℕ) → Lighter puts weight → UnusedLaw puts weight }
+    ensures giving { (puts : R → T → List T) (weight : T → ℕ) → Lighter puts weight → GivingLaw puts weight }
 {}

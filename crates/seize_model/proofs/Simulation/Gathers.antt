@@ -3,7 +3,7 @@ use Rattle.std.proofs.Common.{◌≡◌, ℕ, zero, suc, ◌+◌, ◌<◌, ◌�
 use Rattle.std.specs.List.{list_any}
 use Rattle.std.proofs.lemmas.List.{get_or-set_same}
 use Rattle.seize_machine.specs.Machine.State as machine
-use Rattle.seize_machine.specs.Machine.State.{State, Active, Inactive, Mark, is_active, is_idle, head_at}
+use Rattle.seize_machine.specs.Machine.State.{State, Active, Inactive, is_active, head_at}
 use Rattle.seize_machine.specs.Machine.Event.{Event, Begin, Give}
 use Rattle.seize_machine.specs.Machine.Next.{next, is_empty, is_outside, has_others, ends_now, can_gather, after_give, after_gather}
 use Rattle.seize_machine.specs.Machine.History.{handed}
@@ -18,9 +18,10 @@ use Rattle.seize_model.specs.Waiting.Further.{Lighter}
 use Rattle.seize_model.specs.Waiting.Calls.{is_free, others_in_use, rest_and_batch, with_rest_gathered, gathers, with_number_free, gathering}
 use Rattle.seize_model.specs.Agreement.Play.{play}
 use Rattle.seize_model.specs.Agreement.Events.{IsJob, IsEnded, ArePutBy}
-use Rattle.seize_model.proofs.Cases.{or_false, if_yes, if_no}
+use Rattle.seize_model.proofs.Cases.{or_false, if_no}
 use Rattle.seize_model.proofs.WaitingSets.Drain.{weighs}
-use Rattle.seize_model.proofs.WaitingSets.LastEnd.{IsLone, lone_round, no_weight, lone_of}
+use Rattle.seize_model.proofs.WaitingSets.Giving.{gathers_none}
+use Rattle.seize_model.proofs.WaitingSets.LastEnd.{IsLone, round_lighter, no_weight, lone_of}
 use Rattle.seize_model.proofs.Simulation.Views.{with_reclaimers}
 use Rattle.seize_model.proofs.Simulation.Paths.{Carried}
 use Rattle.seize_model.proofs.Simulation.Plays.{play_first, First, first_of, Split, split_of}
@@ -146,10 +147,7 @@ is_lone of st ms s n idle none = lone_of st s idle none (λ i e. ap (λ (k : ℕ
 -- a round leaves less
 less_left : {T R : Type 0} (puts : R → T → List T) (weight : T → ℕ) → Lighter puts weight → (n : ℕ) (st : waiting.ModelState T R) (s : ℕ) → IsLone T R s st → (length (rest_and_batch st s) == 0) ≡ false → weighs weight (rest_and_batch st s) ≤ suc n
     → weighs weight (rest_and_batch (gathering puts weight st s).0 s) ≤ n
-less_left {T} {R} puts weight lighter n st s lone left le =
-    let round = lone_round puts weight lighter st s lone left in
-    let same : rest_and_batch (gathering puts weight st s).0 s ≡ (model_slot (gathering puts weight st s).0 s).batch = ap (λ (l : List (T × R)). l ++ (model_slot (gathering puts weight st s).0 s).batch) round.0.same_rest in
-    rw same (omega (arith, round.1))
+less_left puts weight lighter n st s lone left le = omega (arith, le, round_lighter puts weight lighter st s lone left)
 
 none_left : {T R : Type 0} (puts : R → T → List T) (weight : T → ℕ) → Lighter puts weight → (st : waiting.ModelState T R) (s : ℕ) → weighs weight (rest_and_batch st s) ≤ 0 → (length (rest_and_batch st s) == 0) ≡ true
 none_left puts weight lighter st s le = ap (λ (k : ℕ). k == 0) (no_weight puts weight lighter (rest_and_batch st s) le)
@@ -200,10 +198,6 @@ ended_run {T} {R} puts weight lighter of P names s (suc n) st before holds near 
 
 -- each list of such events
 
-gives_as : {T R : Type 0} (puts : R → T → List T) (weight : T → ℕ) (n : ℕ) (st : waiting.ModelState T R) (s : ℕ) → (others_in_use st s || (length (rest_and_batch st s) == 0)) ≡ true → (st, []) ≡ gathers puts weight n st s
-gives_as puts weight zero st s ends = refl
-gives_as puts weight (suc n) st s ends = sym (if_yes _ _ _ ends)
-
 pub may_gather : {T R X : Type 0} (of : Naming T R X) (size : ℕ) (st : waiting.ModelState T R) (ms : State) (s : ℕ) (es : List Event) (later : State) (answers : List Answer) → NearAt of [] st ms → IsIdle st s → IsJob s Gather es → play size ms es ≡ Some (later, answers) → WouldGather st s
 may_gather of size st ms s es later answers n idle job legal =
     let first : First size ms (Begin s Gather) job.0 later answers = first_of size ms (Begin s Gather) job.0 later answers (ap (λ (l : List Event). play size ms l) (sym job.1) ∙ legal) in
@@ -223,7 +217,7 @@ ended_list {T} {R} puts weight lighter of by s n st before _ answers later near 
     let first : First st.size before (Give s) [] later answers = first_of st.size before (Give s) [] later answers legal in
     let may : (others_in_use st s || (length (rest_and_batch st s) == 0)) ≡ true = may_end (with_reclaimers of by) st.size st before s (first.later, first.answer) near idle first.step in
     let gave : OneEvent (after_give before s) DoneEvent later answers = one_of st.size before (after_give before s) (Give s) DoneEvent later answers (end_step (with_reclaimers of by) st.size st before s near idle may) legal in
-    subst (λ (o : StateAndGone T R). Reaches (with_reclaimers of by) (given s o) later answers) (gives_as puts weight n st s may)
+    subst (λ (o : StateAndGone T R). Reaches (with_reclaimers of by) (given s o) later answers) (sym (gathers_none puts weight n st s may))
     (subst (λ (k : State). NearAt (with_reclaimers of by) [] (with_number_free st s) k) (sym gave.0) (end_near (with_reclaimers of by) st before s near idle), ap (λ (l : List Answer). map {B = T × R} (λ n. (of n, by n)) (handed l)) gave.1)
 ended_list {T} {R} puts weight lighter of by s zero st before _ answers later near idle le (IsEnded.gathers es fs job more) legal put =
     absurd (let none : (length (rest_and_batch st s) == 0) ≡ true = none_left puts weight lighter st s le in

@@ -2,7 +2,7 @@
 use Rattle.std.proofs.Common.{◌≡◌, ℕ, ◌+◌, ◌-◌, ◌<◌, ◌≤◌, Bool, true, false, not, ◌&&◌, ◌==◌, if◌then◌else◌, List, [], ◌∷◌, ◌++◌, length, set, Some, None, refl, sym, ◌∙◌, ap, subst, arith, append-nil}
 use Rattle.std.proofs.lemmas.List.{get_or-set_same, set-get_or}
 use Rattle.seize_machine.specs.Machine.State as machine
-use Rattle.seize_machine.specs.Machine.State.{State, Slot, Head, Inactive, Active, Out, is_active, is_idle, head_at}
+use Rattle.seize_machine.specs.Machine.State.{State, Slot, Head, Inactive, Active, Out, is_active, head_at}
 use Rattle.seize_machine.specs.declared.machine.event.Answer.{Answer}
 use Rattle.seize_machine.specs.Machine.Event.{Event, Begin, Enter as EnterHead}
 use Rattle.seize_machine.specs.Machine.Next.{next, set_head}

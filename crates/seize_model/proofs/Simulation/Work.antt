@@ -6,7 +6,7 @@ use Rattle.std.proofs.lemmas.List.{get_or-set_same, length-set, length-map, map-
 use Rattle.std.proofs.Math.ListN.{get_or-map}
 use Rattle.std.proofs.Math.Seq.{get_or-append_seam, set-append_seam}
 use Rattle.seize_machine.specs.Machine.State as machine
-use Rattle.seize_machine.specs.Machine.State.{State, Head, Batch, Mark, Rest, has, are_distinct, no_batch}
+use Rattle.seize_machine.specs.Machine.State.{State, Head, Batch, Mark, Rest, no_batch}
 use Rattle.seize_model.specs.Waiting.State as waiting
 use Rattle.seize_model.specs.Waiting.State.{model_slot, waits_for}
 use Rattle.seize_model.specs.Waiting.Attempt.{StateAndGone, release, wait_if_active, attempt, gives_up, with_batch_retired, active_slots}

@@ -246,6 +246,14 @@ lone_round {T} {R} puts weight lighter st s lone some =
         at : (n : ℕ) → (n == 0) ≡ false → 1 ≤ n
         at n e = grind arith
 
+-- so what is left is lighter
+pub round_lighter : {T R : Type 0} (puts : R → T → List T) (weight : T → ℕ) → Lighter puts weight → (st : ModelState T R) (s : ℕ) → IsLone T R s st → (length (rest_and_batch st s) == 0) ≡ false
+    → weighs weight (rest_and_batch (gathering puts weight st s).0 s) < weighs weight (rest_and_batch st s)
+round_lighter {T} {R} puts weight lighter st s lone left =
+    let round = lone_round puts weight lighter st s lone left in
+    let same : rest_and_batch (gathering puts weight st s).0 s ≡ (model_slot (gathering puts weight st s).0 s).batch = ap (λ (l : List (T × R)). l ++ (model_slot (gathering puts weight st s).0 s).batch) round.0.same_rest in
+    rw same round.1
+
 others_none : {T R : Type 0} (st : ModelState T R) (s : ℕ) → IsLone T R s st → others_in_use st s ≡ false
 others_none {T} {R} st s lone =
     any_counts used (set st.slots s unmade_slot) ∙ ap (λ (n : ℕ). not (n == 0)) (counts_none used (set st.slots s unmade_slot) unmade_slot (λ i. at i (or_same i s)))
@@ -261,7 +269,7 @@ pub no_weight : {T R : Type 0} (puts : R → T → List T) (weight : T → ℕ) 
 no_weight puts weight lighter [] le = refl
 no_weight puts weight lighter (v ∷ xs) le = absurd (omega (arith, lightens puts weight lighter v xs))
 
-none_of : {X : Type 0} (xs : List X) → length xs ≡ 0 → xs ≡ []
+pub none_of : {X : Type 0} (xs : List X) → length xs ≡ 0 → xs ≡ []
 none_of [] e = refl
 none_of (x ∷ xs) e = absurd (omega arith)
 

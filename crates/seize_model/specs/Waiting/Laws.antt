@@ -1,8 +1,10 @@
 -- What follows from the definitions of the calls.
 use Rattle.std.specs.Prelude.{◌≡◌, ◌≢◌, ℕ, ◌<◌, ◌*◌, ◌⊎◌, true, false, max, List, [], ◌++◌, length}
+use Rattle.std.specs.List.{sum_by}
 use Rattle.seize_model.specs.Waiting.State.{ModelState, model_slot, retired_at, has_guard, new}
+use Rattle.seize_model.specs.Waiting.Attempt.{with_gone}
 use Rattle.seize_model.specs.Waiting.Further.{further, gone_from}
-use Rattle.seize_model.specs.Waiting.Calls.{flush, retire, is_free, others_in_use, rest_and_batch, give_back}
+use Rattle.seize_model.specs.Waiting.Calls.{flush, retire, is_free, others_in_use, rest_and_batch, gathering, give_back, with_number_free}
 use Rattle.seize_model.specs.Waiting.Lists.{Call, run}
 use Rattle.seize_model.specs.Waiting.Reached.{Reached}
 
@@ -51,3 +53,15 @@ EndsNow st s = (others_in_use st s ≡ true) ⊎ (rest_and_batch st s ≡ [])
 -- or s gathers first
 abbrev pub GathersFirst : {T R : Type 0} → ModelState T R → ℕ → Type 0
 GathersFirst st s = (others_in_use st s ≡ false) × (rest_and_batch st s ≢ [])
+
+-- **Giving back.** Where the number of s goes back at once, nothing is gone. Where s gathers first, this is a gathering, and then what is
+-- given back from the state after it, where what is left weighs less: so it is where s is in use without a guard, no free slot has one, and
+-- no batch waits for a slot without one.
+abbrev pub GivingLaw : {T R : Type 0} → (R → T → List T) → (T → ℕ) → Type 0
+GivingLaw {T} {R} puts weight =
+    (st : ModelState T R) (s : ℕ) → (EndsNow st s → give_back puts weight st s ≡ (with_number_free st s, []))
+    × (is_free (model_slot st s).kind ≡ false → has_guard (model_slot st s) ≡ false
+    → ((t : ℕ) → is_free (model_slot st t).kind ≡ true → has_guard (model_slot st t) ≡ false)
+    → ((t : ℕ) → has_guard (model_slot st t) ≡ false → (model_slot st t).order ≡ []) → GathersFirst st s
+    → let o = gathering puts weight st s in (give_back puts weight st s ≡ with_gone o.1 (give_back puts weight o.0 s))
+    × (sum_by (λ v. weight v.0) (rest_and_batch o.0 s) < sum_by (λ v. weight v.0) (rest_and_batch st s)))
