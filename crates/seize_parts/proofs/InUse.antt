@@ -62,6 +62,12 @@ module _ {X : Type 0} where
   some_set (y ∷ slots) (suc n) zero o some is = is
   some_set (y ∷ slots) (suc n) (suc i) o some is = some_set slots n i o some is
 
+  -- where none lay, none lies still
+  pub none_again : (slots : List (Option X)) (n : ℕ) (o : Option X) → o ≡ None → get_or slots n None ≡ None → slice_set slots n o ≡ slots
+  none_again [] n o none is = refl
+  none_again (x ∷ slots) zero o none is = ap (λ (y : Option X). y ∷ slots) (none ∙ sym is)
+  none_again (x ∷ slots) (suc n) o none is = ap (λ (ys : List (Option X)). x ∷ ys) (none_again slots n o none is)
+
   pub here_below : (slots : List (Option X)) (i : ℕ) (x : X) → get_or slots i None ≡ Some x → i < length slots
   here_below [] zero x is = absurd (cc)
   here_below [] (suc i) x is = absurd (cc)
