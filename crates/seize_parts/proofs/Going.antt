@@ -79,6 +79,22 @@ module _ {T Seen : Type 0} (code : T → Gv) (puts : ℕ → T → List T) (told
     holds = λ st names kinds may holds. subst (λ (o : StateAndGone T ℕ). HoldsThen code o one.had q) (same st may) (one.holds st names kinds (less st may) holds);
   }
 
+  -- so it is said of the states that hands hold
+  pub goes_held : {May May' : ModelState T ℕ → Type 0} {does does' : ModelState T ℕ → StateAndGone T ℕ} {p q : Pass} {seen seen' : Seen} {queue queue' : Further}
+      → ((st : ModelState T ℕ) (names : List (ℕ × T)) (kinds : List (ℕ × ℕ)) → May' st → Holds code st names kinds p.name p.seen → May st × (does st ≡ does' st)) → Goes code puts told May does p q seen seen' queue queue' → Goes code puts told May' does' p q seen seen' queue queue'
+  goes_held {q = q} leads one = record {
+    same = one.same;
+    had = one.had;
+    put = one.put;
+    tells = one.tells;
+    waits = one.waits;
+    holds = λ st names kinds may holds. let so = leads st names kinds may holds in subst (λ (o : StateAndGone T ℕ). HoldsThen code o one.had q) so.1 (one.holds st names kinds so.0 holds);
+  }
+
+  -- the list is the same
+  pub goes_since : {May : ModelState T ℕ → Type 0} {does : ModelState T ℕ → StateAndGone T ℕ} {p q r : Pass} {seen seen' : Seen} {queue queue' : Further} → q ≡ p → Goes code puts told May does q r seen seen' queue queue' → Goes code puts told May does p r seen seen' queue queue'
+  goes_since {May} {does} {p} {q} {r} {seen} {seen'} {queue} {queue'} same one = subst (λ (x : Pass). Goes code puts told May does x r seen seen' queue queue') same one
+
   -- one part, and then another
   pub goes_then : {May May' : ModelState T ℕ → Type 0} {does does' : ModelState T ℕ → StateAndGone T ℕ} {p q r : Pass} {seen seen' seen'' : Seen} {queue queue' queue'' : Further}
       → (one : Goes code puts told May does p q seen seen' queue queue') → Goes code puts told May' does' q r seen' seen'' queue' queue''

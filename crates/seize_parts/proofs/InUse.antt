@@ -62,6 +62,12 @@ module _ {X : Type 0} where
   some_set (y ∷ slots) (suc n) zero o some is = is
   some_set (y ∷ slots) (suc n) (suc i) o some is = some_set slots n i o some is
 
+  -- where none lay, none lies still
+  pub none_again : (slots : List (Option X)) (n : ℕ) (o : Option X) → o ≡ None → get_or slots n None ≡ None → slice_set slots n o ≡ slots
+  none_again [] n o none is = refl
+  none_again (x ∷ slots) zero o none is = ap (λ (y : Option X). y ∷ slots) (none ∙ sym is)
+  none_again (x ∷ slots) (suc n) o none is = ap (λ (ys : List (Option X)). x ∷ ys) (none_again slots n o none is)
+
   pub here_below : (slots : List (Option X)) (i : ℕ) (x : X) → get_or slots i None ≡ Some x → i < length slots
   here_below [] zero x is = absurd (cc)
   here_below [] (suc i) x is = absurd (cc)
@@ -87,6 +93,17 @@ unused_all (x ∷ slots) all (suc s) = unused_all slots all.1 s
 pub all_unused : (slots : List Record) → ((s : ℕ) → (slice_index_or slots s no_slot).used ≡ false) → AreAllHere (map (λ slot. slot.used) slots)
 all_unused [] unused = tt
 all_unused (x ∷ slots) unused = (unused 0, all_unused slots (λ s. unused (suc s)))
+
+pub used_at : (slots : List Record) (t : ℕ) → t < length slots → (slice_index_or slots t no_slot).used ≡ get_or (map (λ slot. slot.used) slots) t true
+used_at [] t below = absurd (omega (arith, below))
+used_at (x ∷ slots) zero below = refl
+used_at (x ∷ slots) (suc t) below = used_at slots t (omega (arith, below))
+
+-- and by what lies in its place
+pub used_place : {X : Type 0} (records : List Record) (slots : List (Option X)) (t : ℕ) → map (λ slot. slot.used) records ≡ flags_of slots → t < length slots → (slice_index_or records t no_slot).used ≡ is_none (get_or slots t None)
+used_place records slots t flags below =
+    let long = sym (length-map records (λ slot. slot.used)) ∙ ap (λ (us : List Bool). length us) flags ∙ length-map slots is_none in
+    used_at records t (omega (arith, below, long)) ∙ ap (λ (us : List Bool). get_or us t true) flags ∙ get_or-map is_none slots t None
 
 pub set_twice : {X : Type 0} (xs : List X) (n : ℕ) (a b : X) → slice_set (slice_set xs n a) n b ≡ slice_set xs n b
 set_twice [] n a b = refl
