@@ -7,12 +7,14 @@ pub mod Called
 pub mod Chunks
 pub mod Cleared
 pub mod Current
+pub mod Ended
 pub mod Everything
 pub mod Given
 pub mod Going
 pub mod Homing
 pub mod InUse
 pub mod Keeping
+pub mod Leftover
 pub mod Lighter
 pub mod Lying
 pub mod Made
