@@ -184,4 +184,5 @@ outline_stays puts weight st s = (
   same_outline st (flush puts weight st s).1.0 (flush_frame puts weight st s),
   λ x kind. same_outline st (retire puts weight st s x kind).1.0 (retire_frame puts weight st s x kind),
   same_outline st (gathering puts weight st s).0 (gathering_frame puts weight st s),
+  λ kind. same_outline (with_number_in_use st s kind) (taking puts weight st s kind).0 (taking_frame puts weight st s kind),
 )

@@ -9,7 +9,7 @@ use Rattle.seize_machine.specs.declared.machine.event.Job.TheVariants.{Gather}
 use Rattle.seize_model.specs.declared.kind.Kind.{Kind}
 use Rattle.seize_model.specs.declared.kind.Kind.TheVariants.{Registered}
 use Rattle.seize_model.specs.Waiting.State.{ModelState, has_guard, model_slot}
-use Rattle.seize_model.specs.Waiting.Attempt.{is_full}
+use Rattle.seize_model.specs.Waiting.Attempt.{StateAndGone, attempt, is_full}
 use Rattle.seize_model.specs.Waiting.Calls.{flush, gathering, is_free, is_owned, least_unused, leave, one_guard_less, others_in_use, refresh, rest_and_batch, retire, set_guards, taking, with_number_free, with_number_in_use}
 use Rattle.seize_model.specs.Waiting.Further.{Lighter, with_further}
 use Rattle.seize_book.specs.Passes.{events_in}
@@ -25,7 +25,7 @@ use Rattle.seize_calls.specs.declared.slot.Slot.{Slot}
 use Rattle.seize_alone.specs.Calls.{CallsAlone}
 use Rattle.seize_alone.specs.Holding.{Holds, HoldsThen}
 use Rattle.seize_alone.proofs.Held.{flushes_held, gathers, leaves_held, parts_held, refreshes_held, retires_held, takes_full}
-use Rattle.seize_alone.proofs.Ready.{entry_alone, ready_holds, ready_sole}
+use Rattle.seize_alone.proofs.Ready.{entry_alone, ready_holds, ready_sole, taking_full}
 use Rattle.seize_alone.proofs.Singles.{enters_held, gives_held, takes_held}
 use Rattle.seize_alone.proofs.Whole.{StaysReady, gathered_ready, taken_ready}
 
@@ -92,10 +92,17 @@ module _ {T U : Type 0} (c : Coded T) (st : ModelState T ℕ) (names : List (ℕ
   abbrev n : ℕ
   n = slot_number slot.holder.key
 
-  pub slot_takes_full : (kind : Kind) → SlotTakes slot pass begun began → SlotResumes begun began [] slot' pass' had' → is_free kind ≡ false → is_full st.size st.rest ≡ true → (n ≡ least_unused st.slots) × ((n == all_numbers) ≡ false) × HoldsThen c.code (taking puts weight st n kind) had' pass'
-  slot_takes_full kind takes resumes used full =
+  pub slot_taking : (kind : Kind) → SlotTakes slot pass begun began → SlotResumes begun began [] slot' pass' had' → is_free kind ≡ false → is_full st.size st.rest ≡ true → (n ≡ least_unused st.slots) × ((n == all_numbers) ≡ false) × HoldsThen c.code (taking puts weight st n kind) had' pass'
+  slot_taking kind takes resumes used full =
       takes_full c puts weight lighter st names kinds kind n takes.ready pass' had'
       (taken_ready {key = slot.holder.key} (subst (λ (k : ℕ). AddsEvent slot.holder.key takes.ready begun.holder.key began (Take k)) (sym slot.together.numbered) takes.does) (ready_stays resumes.prepares) resumes.does) (slot_ready takes.prepares a) used full
+
+  -- the same, by the attempt
+  pub slot_takes_full : (kind : Kind) → SlotTakes slot pass begun began → SlotResumes begun began [] slot' pass' had' → is_free kind ≡ false → is_full st.size st.rest ≡ true
+      → (n ≡ least_unused st.slots) × ((n == all_numbers) ≡ false) × HoldsThen c.code (with_further puts weight n (attempt (with_number_in_use st n kind) n)) had' pass'
+  slot_takes_full kind takes resumes used full =
+      let took = slot_taking kind takes resumes used full in
+      (took.0, took.1, subst (λ (o : StateAndGone T ℕ). HoldsThen c.code o had' pass') (taking_full st n kind took.0 puts weight full) took.2)
 
   pub slot_gathers : SlotGathers slot pass begun began → SlotResumes begun began [] slot' pass' had' → is_free (model_slot st n).kind ≡ false → has_guard (model_slot st n) ≡ false → HoldsThen c.code (gathering puts weight st n) had' pass' × (others_in_use st n ≡ false) × (rest_and_batch st n ≢ [])
   slot_gathers goes resumes used off =

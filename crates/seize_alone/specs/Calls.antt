@@ -14,7 +14,7 @@
 --                         use, and this is something
 --     SizeStays           none of them changes the size, nor does a number that is taken, or a gathering
 --     SameOutline st now  each slot has the kind and the number of guards that it had, and each link holds what it held
---     OutlineStays        that is so after a refresh, a flush, a retirement and a gathering
+--     OutlineStays        that is so after a refresh, a flush, a retirement and a gathering, and after the attempt as a number is taken
 use Rattle.std.specs.Prelude.{◌≡◌, ◌≢◌, ◌||◌, ◌==◌, ℕ, Bool, true, false, List, [], Ok}
 use Rattle.std.specs.Coded.{Coded}
 use Rattle.seize_table.specs.Place.{all_numbers}
@@ -26,7 +26,7 @@ use Rattle.seize_model.specs.declared.kind.Kind.TheVariants.{Registered}
 use Rattle.seize_model.specs.Waiting.State.{ModelState, has_guard, model_slot}
 use Rattle.seize_model.specs.Waiting.Attempt.{is_full}
 use Rattle.seize_model.specs.Waiting.Calls.{flush, gathering, is_free, is_owned, least_unused, leave, one_guard_less}
-use Rattle.seize_model.specs.Waiting.Calls.{others_in_use, refresh, rest_and_batch, retire, taking}
+use Rattle.seize_model.specs.Waiting.Calls.{others_in_use, refresh, rest_and_batch, retire, taking, with_number_in_use}
 use Rattle.seize_model.specs.Waiting.Further.{with_further}
 use Rattle.seize_book.specs.Adding.{private}
 use Rattle.seize_book.specs.Book.{IsLegalList}
@@ -125,4 +125,6 @@ SameOutline st now =
 abbrev pub OutlineStays : {T : Type 0} → (ℕ → T → List T) → (T → ℕ) → Type 0
 OutlineStays {T} puts weight =
     (st : ModelState T ℕ) (s : ℕ) → SameOutline st (refresh puts weight st s).1.0 × SameOutline st (flush puts weight st s).1.0
-    × ((x : T) (kind : ℕ) → SameOutline st (retire puts weight st s x kind).1.0) × SameOutline st (gathering puts weight st s).0
+    × ((x : T) (kind : ℕ) → SameOutline st (retire puts weight st s x kind).1.0)
+    × SameOutline st (gathering puts weight st s).0
+    × ((kind : Kind) → SameOutline (with_number_in_use st s kind) (taking puts weight st s kind).0)
