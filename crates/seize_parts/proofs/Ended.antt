@@ -3,11 +3,15 @@
 --     gave_rest, gave_idle, gave_led     what is left then, and what stays
 --     gave_held                  what the hands hold then
 --     here_ended                 what was kept lies here, or is kept still
-use Rattle.std.proofs.Common.{◌≡◌, ◌⊎◌, ℕ, zero, suc, ◌<◌, ◌≤◌, ◌||◌, ◌&&◌, inl, inr, ⊎_elim, Bool, true, false, not, List, [], ◌∷◌, ◌++◌, length, map, Option, None, Some, is_some, get_or, slice_set, refl, sym, ap, subst, ◌∙◌, arith}
-use Rattle.std.specs.List.{list_any}
+--     last_more, numbers_all     one number more, the one before;  beyond all that are kept nothing is done
+--     spent_less, none_less, kept_less     none is kept in one place more
+use Rattle.std.proofs.Common.{◌≡◌, ◌⊎◌, ℕ, zero, suc, ◌+◌, ◌-◌, ◌<◌, ◌≤◌, ◌||◌, ◌&&◌, inl, inr, ⊎_elim, Bool, true, false, not, List, [], ◌∷◌, ◌++◌, length, map, Option, None, Some, is_some, get_or, reverse, slice_set, refl, sym, ap, subst, ◌∙◌, arith}
+use Rattle.std.specs.List.{list_any, range_with_len}
+use Rattle.std.specs.Option.{is_none}
 use Rattle.std.proofs.Math.ListN.{get_or-map}
-use Rattle.std.proofs.lemmas.List.{get_or-set_same, get_or_past, length-set}
+use Rattle.std.proofs.lemmas.List.{get_or-set_other, get_or-set_same, get_or_past, length-set, reverse-append}
 use Rattle.std.proofs.lemmas.Bool.{cases_lt}
+use native.Mathlib.Decide.{ℕ_discrete}
 use base.Stored.{Coded}
 use Rattle.seize_machine.proofs.Facts.{Step, free_empty}
 use Rattle.seize_machine.specs.Machine.Event.{Give}
@@ -16,7 +20,7 @@ use Rattle.seize_machine.specs.Machine.Next.{after_give, ends_now, is_empty}
 use Rattle.seize_machine.specs.Machine.State.{Head, Inactive, Slot as Record, State, are_distinct, head_at, is_active, linked_values, no_slot, slot_at}
 use Rattle.seize_machine.specs.declared.machine.event.Answer.{Answer}
 use Rattle.seize_model.specs.Waiting.Calls.{is_free}
-use Rattle.seize_model.specs.Waiting.State.{ModelState, has_guard, model_slot}
+use Rattle.seize_model.specs.Waiting.State.{ModelSlot, ModelState, has_guard, model_slot}
 use Rattle.seize_book.proofs.Facts.{reached_after}
 use Rattle.seize_book.specs.Book.{IsLegalList}
 use Rattle.seize_book.specs.Homesteads.{state_seen}
@@ -29,11 +33,15 @@ use Rattle.seize_calls.specs.Slots.{its_key, its_number}
 use Rattle.seize_calls.specs.declared.slot.Slot.{Slot}
 use Rattle.seize_alone.specs.Events.{MakesAlone}
 use Rattle.seize_alone.specs.Holding.{Holds}
-use Rattle.seize_alone.specs.Reclaiming.{number_in_turn}
+use Rattle.seize_alone.specs.Reclaiming.{number_in_turn, numbers_in_turn}
 use Rattle.seize_alone.proofs.Singles.{gives_held}
-use Rattle.seize_parts.specs.Sweeps.{AreOff, IsLedBy, IsOff, KeepsActive, KeepsIdle, KeepsOn}
+use Rattle.seize_parts.specs.Aparts.{AreKeptOf}
+use Rattle.seize_parts.specs.Sweeps.{AreOff, AreSpent, IsLedBy, IsOff, KeepsActive, KeepsIdle, KeepsOn}
 use Rattle.seize_parts.proofs.Leftover.{here_moved}
-use Rattle.seize_parts.proofs.Outlined.{number_used}
+use Rattle.seize_parts.proofs.Going.{range_append}
+use Rattle.seize_parts.proofs.InUse.{set_or}
+use Rattle.seize_parts.proofs.Keeping.{free_place, past_free}
+use Rattle.seize_parts.proofs.Outlined.{number_at, number_free, number_other, number_used}
 use Rattle.seize_parts.proofs.Swept.{alone_heads, alone_led, alone_step, event_of, idle_led, keeps_on}
 
 -- Lists.
@@ -132,3 +140,60 @@ here_ended {X} {Y} slots slots' kept kept' n slot slots_is kept_is below =
     turned : {A B : Type 0} → A ⊎ B → B ⊎ A
     turned (inl a) = inr a
     turned (inr b) = inl b
+
+-- The numbers go back, the last one first.
+
+module _ {T : Type 0} where
+  numbers_append : (st : ModelState T ℕ) (ss ts : List ℕ) → numbers_in_turn st (ss ++ ts) ≡ numbers_in_turn (numbers_in_turn st ss) ts
+  numbers_append st [] ts = refl
+  numbers_append st (s ∷ ss) ts = numbers_append (number_in_turn st s) ss ts
+
+  pub last_more : (st : ModelState T ℕ) (k m : ℕ) → numbers_in_turn st (reverse (range_with_len k (suc m))) ≡ number_in_turn (numbers_in_turn st (reverse (range_with_len (k + 1) m))) k
+  last_more st k m = ap (numbers_in_turn st) (reverse-append (k ∷ []) (range_with_len (k + 1) m)) ∙ numbers_append st (reverse (range_with_len (k + 1) m)) (k ∷ [])
+
+  numbers_beyond : (m k : ℕ) (st : ModelState T ℕ) → ((s : ℕ) → k ≤ s → is_free (model_slot st s).kind ≡ true) → numbers_in_turn st (reverse (range_with_len k m)) ≡ st
+  numbers_beyond zero k st free = refl
+  numbers_beyond (suc m) k st free =
+      last_more st k m ∙ ap (λ (now : ModelState T ℕ). number_in_turn now k) (numbers_beyond m (k + 1) st (λ s past. free s (omega (arith, past)))) ∙ number_free st k (free k (omega arith))
+
+  numbers_longer : (st : ModelState T ℕ) (a b : ℕ) → a ≤ b → ((s : ℕ) → a ≤ s → is_free (model_slot st s).kind ≡ true) → numbers_in_turn st (reverse (range_with_len 0 b)) ≡ numbers_in_turn st (reverse (range_with_len 0 a))
+  numbers_longer st a b less free =
+      let whole : a + (b - a) ≡ b = omega (arith, less) in let from : 0 + a ≡ a = omega arith in
+      ap (λ (k : ℕ). numbers_in_turn st (reverse (range_with_len 0 k))) (sym whole)
+      ∙ ap (λ (l : List ℕ). numbers_in_turn st (reverse l)) (range_append a 0 (b - a) ∙ ap (λ (k : ℕ). range_with_len 0 a ++ range_with_len k (b - a)) from)
+      ∙ ap (numbers_in_turn st) (reverse-append (range_with_len 0 a) (range_with_len a (b - a))) ∙ numbers_append st (reverse (range_with_len a (b - a))) (reverse (range_with_len 0 a))
+      ∙ ap (λ (now : ModelState T ℕ). numbers_in_turn now (reverse (range_with_len 0 a))) (numbers_beyond (b - a) a st free)
+
+  pub numbers_all : (kept : List (Option (Slot T))) (st : ModelState T ℕ) → AreKeptOf kept st → numbers_in_turn st (reverse (range_with_len 0 (length kept))) ≡ numbers_in_turn st (reverse (range_with_len 0 (length st.slots)))
+  numbers_all kept st are =
+      ⊎_elim (λ less. sym (numbers_longer st (length kept) (length st.slots) less (λ s past. free_place kept s st (get_or_past kept s None past) are)))
+      (λ more. numbers_longer st (length st.slots) (length kept) (omega (arith, more)) (λ s past. past_free st s past)) (less_or (length kept) (length st.slots))
+    where
+      less_or : (a b : ℕ) → (a ≤ b) ⊎ (b ≤ a)
+      less_or a b = ⊎_elim (λ less. inl (omega (arith, less))) (λ past. inr past) (cases_lt a b)
+
+  -- None is kept in one place more.
+
+  pub spent_less : (kept kept' : List (Option (Slot T))) (n : ℕ) → kept' ≡ slice_set kept n None → AreSpent kept → AreSpent kept'
+  spent_less kept kept' n is spent i slot there =
+      ⊎_elim (λ here. absurd (let no = here.1 in cc)) (λ other. spent i slot other.1) (set_or kept n i None slot (ap (λ (l : List (Option (Slot T))). get_or l i None) (sym is) ∙ there))
+
+  pub none_less : (kept kept' : List (Option (Slot T))) (k m : ℕ) → kept' ≡ slice_set kept k None → k < length kept → k + 1 ≡ m → ((i : ℕ) → m ≤ i → get_or kept i None ≡ None) → (i : ℕ) → k ≤ i → get_or kept' i None ≡ None
+  none_less kept kept' k m is below next none i past = ap (λ (l : List (Option (Slot T))). get_or l i None) is ∙ go (ℕ_discrete i k)
+    where
+      go : Dec (i ≡ k) → get_or (slice_set kept k None) i None ≡ None
+      go (yes e) = ap (λ (j : ℕ). get_or (slice_set kept k None) j None) e ∙ get_or-set_same kept k None None below
+      go (no differs) = get_or-set_other kept k i None None differs ∙ none i (let apart : i ≡ k → ⊥ = differs in omega (arith, past, next, apart))
+
+  pub kept_less : (kept kept' : List (Option (Slot T))) (n : ℕ) (st : ModelState T ℕ) → kept' ≡ slice_set kept n None → n < length kept → AreKeptOf kept st → AreKeptOf kept' (number_in_turn st n)
+  kept_less kept kept' n st is below are = subst (λ (l : List (Option (Slot T))). AreKeptOf l (number_in_turn st n)) (sym is) (λ s. go s (ℕ_discrete s n))
+    where
+      go : (s : ℕ) → Dec (s ≡ n) → (is_none (get_or (slice_set kept n None) s None) ≡ is_free (model_slot (number_in_turn st n) s).kind) × (is_free (model_slot (number_in_turn st n) s).kind ≡ false → has_guard (model_slot (number_in_turn st n) s) ≡ false)
+      go s (yes e) =
+          subst (λ (k : ℕ). (is_none (get_or (slice_set kept n None) k None) ≡ is_free (model_slot (number_in_turn st n) k).kind) × (is_free (model_slot (number_in_turn st n) k).kind ≡ false → has_guard (model_slot (number_in_turn st n) k) ≡ false)) (sym e)
+          (ap is_none (get_or-set_same kept n None None below) ∙ sym (number_at st n), λ used. absurd (let no : true ≡ false = sym (number_at st n) ∙ used in cc))
+      go s (no differs) =
+          let other = number_other st n s differs in (
+            ap is_none (get_or-set_other kept n s None None differs) ∙ (are s).0 ∙ sym (ap (λ (x : ModelSlot T ℕ). is_free x.kind) other),
+            λ used. ap (λ (x : ModelSlot T ℕ). has_guard x) other ∙ (are s).1 (sym (ap (λ (x : ModelSlot T ℕ). is_free x.kind) other) ∙ used),
+          )
