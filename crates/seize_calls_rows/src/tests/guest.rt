@@ -47,7 +47,10 @@ fn a_number_goes_back_and_is_taken_again(rt: HostRuntime) {
     };
     guest.visit_alone(&words, &mut apart, &mut first);
     let went = guest.go(&words, &mut apart, &mut first, &Alone {});
-    assert_eq!(rt; (went, guest.slot.number(), apart.inner.count), (true, 0, 0));
+    assert_eq!(rt;
+        (went, guest.slot.number(), apart.inner.count),
+        (true, 0, 0)
+    );
 }
 
 // A batch of three has one value when its slot is to end. No other slot is in use, so the value goes to its reclaimer before the number
