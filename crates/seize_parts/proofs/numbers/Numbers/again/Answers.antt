@@ -71,6 +71,7 @@ returns-clause-made g c =
             let takes = one.ensures.takes in let still = still_prepared slot takes.prepares in let answer : Answer = takes.does.2.0.answer in
             (answer, subst (λ (s : ℕ). MakesAlone c.args.pass.now one.new.pass (Take s) answer) (sym takes.same.0) (alone_from sole still (entry_alone (subst IsSole (sym still.same.1) sole) takes.does refl)));
         took = λ begun. (slot, subst (λ n. IsOfList n slot) (sym its.its.book ∙ sym one.ensures.takes.same.1) its.its, sym one.ensures.takes.same.0, one.ensures.takes);
+        sees = one.ensures.takes.does.1.2;
       },
       one.ensures.takes.same.0 ∙ its.number,
     )

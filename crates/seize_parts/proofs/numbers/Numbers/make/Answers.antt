@@ -65,6 +65,7 @@ returns-in-Ok-clause-made g c =
           let still = still_learned c.args.self.now.book c.learn.ensures in let makes = made.made.0.made in
           (makes.noted.answer, subst (λ (s : ℕ). MakesAlone c.args.pass.now c.make.new.pass (Take s) makes.noted.answer) (sym makes.seen_by.1 ∙ c.in-Ok.slot.together.numbered) (alone_from sole still (made_alone (subst IsSole (sym still.same.1) sole) makes)));
       took = λ begun. absurd (cc);
+      sees = made.made.0.made.seen_by.2;
     }
 
 pub returns-in-Err-clause-numbers : goal.returns-in-Err-clause-numbers
