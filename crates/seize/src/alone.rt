@@ -84,7 +84,7 @@ impl<T: Drop, R: Reclaim<T>> Alone<T, R> {
     ghost use Rattle.seize.specs.Alones.{AsListed, IsLinkedSame, ListGrows, moments_in, opening_in};
     ghost use Rattle.seize_parts.specs.Kinds.{kind_if_owned};
     ghost use Rattle.seize_parts.specs.Laws.{LawsOf};
-    ghost use Rattle.seize_model.specs.Waiting.Laws.{EndsNow, GathersFirst, gathered_once};
+    ghost use Rattle.seize_model.specs.Waiting.Laws.{EndsNow, GathersFirst};
     ghost use Rattle.seize_parts.specs.Told.{Answers, Did, Grew, Said};
 
     /// How many links it has.
@@ -216,7 +216,7 @@ impl<T: Drop, R: Reclaim<T>> Alone<T, R> {
         requires { let slot = model_slot self.old.state s in (calls.is_free slot.kind ≡ false) × (has_guard slot ≡ false) }
         ensures gives { result ≡ true → (self.new.state ≡ calls.with_number_free self.old.state s) × (W.seen watch.new ≡ W.seen watch.old)
             × EndsNow self.old.state s }
-        ensures gathers { result ≡ false → Did W.told (gathered_once R.puts R.weight self.old.state s) self.new.state
+        ensures gathers { result ≡ false → Did W.told (calls.gathering R.puts R.weight self.old.state s) self.new.state
             (W.seen watch.old) (W.seen watch.new) × GathersFirst self.old.state s }
         ensures same { IsLinkedSame self.old self.new }
         ensures grows { ListGrows self.old self.new }

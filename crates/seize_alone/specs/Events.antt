@@ -1,6 +1,6 @@
 -- Single events of a slot, made where its pass is alone, and what the hands hold then. `code` is the code of values.
---     MakesAlone pass pass' event answer     the pass is alone, and this event was made with it, at its size, and nothing since; the answer was
---                         this
+--     MakesAlone pass pass' event answer     the pass is alone, and this event was made with it, at its size, and nothing since; the answer
+--                         was this
 --     IsHeldAs code o value     what a link holds by number and what it holds by value are one: with the number the code is lent
 --     EntersHeld          an entry of a slot in use without a guard: the first guard
 --     GivesHeld           the number of a slot without a guard goes back: another slot is in use, or nothing is left
@@ -8,7 +8,7 @@
 --                         in use
 --     GuardsHeld          no event: an active registered slot has some other number of guards
 --     SwapsHeld           a link is exchanged: so is what it held, and it holds the new value
-use Rattle.std.specs.Prelude.{◌≡◌, ◌⊎◌, ◌==◌, ◌≤◌, ℕ, max, nat_le, true, false, List, [], length, Option, Some, None, slice_set}
+use Rattle.std.specs.Prelude.{◌≡◌, ◌⊎◌, ◌==◌, ◌≤◌, ℕ, true, false, List, [], Option, Some, None, slice_set}
 use base.Stored.{Gv}
 use Rattle.seize_table.specs.Place.{all_numbers}
 use Rattle.seize_machine.specs.Machine.Event.{Enter, Event, ExchangeLink, Give, Take}
@@ -18,7 +18,9 @@ use Rattle.seize_machine.specs.declared.machine.event.Exchange.TheVariants.{Swap
 use Rattle.seize_model.specs.declared.kind.Kind.{Kind}
 use Rattle.seize_model.specs.declared.kind.Kind.TheVariants.{Registered}
 use Rattle.seize_model.specs.Waiting.State.{ModelState, has_guard, model_slot}
-use Rattle.seize_model.specs.Waiting.Calls.{is_free, least_unused, model_link, others_in_use, rest_and_batch, set_guards, with_number_free, with_number_in_use}
+use Rattle.seize_model.specs.Waiting.Attempt.{is_full}
+use Rattle.seize_model.specs.Waiting.Calls.{is_free, least_unused, model_link, others_in_use, rest_and_batch, set_guards}
+use Rattle.seize_model.specs.Waiting.Calls.{with_number_free, with_number_in_use}
 use Rattle.seize_book.specs.Entry.{Deed, Made}
 use Rattle.seize_book.specs.Passes.{IsSamePass}
 use Rattle.seize_book.specs.Tokens.{AddsEntry, IsSole}
@@ -58,7 +60,7 @@ abbrev pub TakesHeld : {T : Type 0} → (T → Gv) → Type 0
 TakesHeld {T} code =
     (st : ModelState T ℕ) (names : List (ℕ × T)) (kinds : List (ℕ × ℕ)) (n : ℕ) (kind : Kind) (answer : Answer) (pass pass' : Pass)
     → MakesAlone pass pass' (Take n) answer → Holds code st names kinds pass.name pass.seen → is_free kind ≡ false
-    → st.size ≡ pass.size → nat_le (max 1 st.size) (length st.rest) ≡ false
+    → st.size ≡ pass.size → is_full st.size st.rest ≡ false
     → (n ≡ least_unused st.slots) × ((n == all_numbers) ≡ false)
     × Holds code (with_number_in_use st n kind) names kinds pass'.name pass'.seen
 

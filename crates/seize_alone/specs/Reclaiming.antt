@@ -1,15 +1,16 @@
 -- Reclaiming all, by steps of single slots. Nothing is put in these steps: what the values gone put is reclaimed afterwards.
---     last_guard_left st s     the slot leaves with its last guard, where it has any;  part_in_turn st s     so it does where it is in use;
---                         parts_in_turn st ss      so does each of these in order
---     batch_in_turn st s       the slot, where it is in use, enters, attempts its batch, and leaves;  batches_in_turn st ss     so does each
---                         of these in order
---     rest_in_turn st          what was left, if that is something, becomes the batch of the slot whose number is the least not in use, which
---                         attempts it where it is full, and does as the others then
---     number_in_turn st s      the slot, where it is in use, gives its number back;  numbers_in_turn st ss     so does each of these in order
+--     last_guard_left st s     the slot leaves with its last guard, where it has any;  part_in_turn st s     so it does where it is in
+--                         use;  parts_in_turn st ss      so does each of these in order
+--     batch_in_turn st s       the slot, where it is in use, enters, attempts its batch, and leaves;  batches_in_turn st ss     so does
+--                         each of these in order
+--     rest_in_turn st          what was left, if that is something, becomes the batch of the slot whose number is the least not in use,
+--                         which attempts it where it is full, and does as the others then
+--     number_in_turn st s      the slot, where it is in use, gives its number back;  numbers_in_turn st ss     so does each of these in
+--                         order
 --     kept_in_turn st          the batches of all slots, and what was left; then the numbers go back, the last one first
 --     in_turn st               all slots part before
---     IsOrderly st        a slot whose number is free is as one that was never made; where something was left there is one; no batch waits for
---                         a slot without a guard; and a retired batch that waits for no slot has no values left
+--     IsOrderly st        a slot whose number is free is as one that was never made; where something was left there is one; no batch waits
+--                         for a slot without a guard; and a retired batch that waits for no slot has no values left
 --     ReclaimsInTurn      of an orderly state the steps, and then what the values gone put, are a reclaim of all: the same values are gone
 --                         in the same order, and the state is the same but for retired batches, which all are gone
 --     SameBelow           with retired batches more, older and gone, each call gives the same reply and the same values gone, and then the
@@ -24,8 +25,8 @@ use Rattle.seize_machine.specs.Machine.State.{are_distinct, linked_values}
 use Rattle.seize_model.specs.declared.kind.Kind.TheVariants.{Registered}
 use Rattle.seize_model.specs.Waiting.State.{ModelState, has_guard, is_kept, model_slot, retired_at, unmade_slot}
 use Rattle.seize_model.specs.Waiting.Attempt.{StateAndGone, attempt, attempt_if_full, with_gone}
-use Rattle.seize_model.specs.Waiting.Calls.{is_free, least_unused, one_guard_less, reclaim_all, set_guards}
-use Rattle.seize_model.specs.Waiting.Calls.{with_number_free, with_number_in_use}
+use Rattle.seize_model.specs.Waiting.Calls.{is_free, least_unused, one_guard_less, reclaim_all, set_guards, with_number_free}
+use Rattle.seize_model.specs.Waiting.Calls.{with_number_in_use}
 use Rattle.seize_model.specs.Waiting.Further.{further, gone_from}
 use Rattle.seize_model.specs.Waiting.Lists.{Call, step}
 use Rattle.seize_book.specs.Book.{IsLegalList}

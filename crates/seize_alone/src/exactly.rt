@@ -2,7 +2,8 @@
 ghost use Rattle.std.specs.Prelude.{ℕ, List};
 ghost use Rattle.seize_model.specs.Waiting.Further.{Lighter};
 ghost use Rattle.seize_alone.specs.Begins.{BeginsHeld};
-ghost use Rattle.seize_alone.specs.Calls.{FlushesHeld, GathersHeld, LeavesHeld, OutlineStays, PartsHeld, RefreshesHeld, RetiresHeld, SizeStays, TakesFullHeld};
+ghost use Rattle.seize_alone.specs.Calls.{FlushesHeld, GathersHeld, LeavesHeld, OutlineStays, PartsHeld, RefreshesHeld, RetiresHeld, SizeStays};
+ghost use Rattle.seize_alone.specs.Calls.{TakesFullHeld};
 ghost use Rattle.seize_alone.specs.Reclaiming.{AllGoneHeld, OrderlyHeld, ReclaimsInTurn, SameBelow};
 ghost use Rattle.seize_alone.specs.Events.{EntersHeld, GivesHeld, GuardsHeld, SwapsHeld, TakesHeld};
 

@@ -144,7 +144,7 @@ module _ {T : Type 0} (s : Slot T) (p : Pass) (ready : Ready s.seen p) (holder' 
         book = is.its.0 ∙ s.together.book ∙ sym same;
         numbered = is.its.1 ∙ s.together.numbered;
         there = subst (λ (t : Name × List Entry). s.number < length (after (start t.0) t.1).slots) (λ j. (sym named j, sym saw j)) (omega (arith, there, more));
-          batch_is = (is.batch.0 ∙ sym named, is.batch.1);
+        batch_is = (is.batch.0 ∙ sym named, is.batch.1);
         spots_in = subst (λ (n : Name). AreOfStore holder'.spots n.store) (sym same) is.spots;
       }
 

@@ -1,5 +1,5 @@
-//! The batch of a slot, as its holder keeps it: the keys of its values, and where the first and the last lie. What comes between is noted
-//! of the blocks themselves, so a batch takes no memory, however many values it has.
+//! The batch of a slot, as its holder keeps it, or what slots left: the keys of the values, and where the first and the last lie. What comes
+//! between is noted of the blocks themselves, so a batch takes no memory, however many values it has.
 ghost use Rattle.std.specs.Prelude.{◌≡◌, ◌+◌, ◌<◌, ◌^◌, true};
 ghost use Rattle.seize_book.specs.Blocks.{block_number};
 ghost use Rattle.seize_book.specs.Others.{value_of};
@@ -11,8 +11,8 @@ use seize_words::blocks::Blocks;
 use seize_words::book::{Pass, ValueKey, ValueKeys};
 use std::mem;
 
-/// The keys of the values of a slot's batch, in the order in which they were put; or those of the rest, which slots left as they ended. Of each block it is noted which one comes next, and of
-/// the last one's that none does.
+/// The keys of the values of a slot's batch, in the order in which they were put, or those of the rest, which slots left as they ended. Of
+/// each block it is noted which one comes next, and of the last one's that none does.
 ///
 /// A batch that is dropped leaves its blocks, and what is lent in them, where they are for good: nothing is handed, and no row of theirs
 /// goes back.

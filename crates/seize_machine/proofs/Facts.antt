@@ -316,12 +316,15 @@ rest_frame = frames.rest_frame
 pub named_placed : (st : State) → IsReached st → (are_distinct (places st) ≡ true) × ((v : ℕ) → Contains (places st) v ↔ (has v st.named ≡ true))
 named_placed = whereabouts.named_placed
 
--- a value that waits in a slot's batch, or is in a retired one, was named, and is neither out of a link nor in one
+-- a value that waits in a slot's batch or in the rest, or is in a retired batch, was named, and is neither out of a link nor in one
 pub waiting_settled : (st : State) → IsReached st → (s v : ℕ) → Contains (slot_at st s).batch v → IsSettled v st
 waiting_settled = lists_once.waiting_settled
 
 pub batched_settled : (st : State) → IsReached st → (b v : ℕ) → Contains (batch_at st b).values v → IsSettled v st
 batched_settled = lists_once.batched_settled
+
+pub rest_settled : (st : State) → IsReached st → (v : ℕ) → Contains st.rest v → IsSettled v st
+rest_settled = lists_once.rest_settled
 
 -- a batch that is held has values
 pub held_full : (st : State) → IsReached st → (b : ℕ) → IsHeld st b → 1 ≤ length (batch_at st b).values

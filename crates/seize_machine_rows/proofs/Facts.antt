@@ -60,6 +60,7 @@ unmoved size st event d legal =
       values = λ b r. values_kept b size st event d step r;
       link = λ l n. link_frame l size st event d step n;
       numbers = λ n. used_frame size st event d step n;
+      rest = λ n. rest_frame size st event d step n;
       value = λ v n. value_frame v size st event d step n;
       named = λ v h. named_grows v size st event d step h;
       gone = λ v h. gone_grows v size st event d step h;
@@ -78,6 +79,7 @@ tidy st r =
     record {
       heads = heads_length st r;
       free = free_empty st r;
+      rest = no_rest st r;
       out = λ s stays queue e. out_active st s stays queue r e;
       marks = λ s next note marks queue e. marks_tidy st s next note marks queue r e;
       full = λ s next note marks queue e. marking_full st s next note marks queue r e;
@@ -128,6 +130,7 @@ obeys slots links events answers now later t answer distinct legal e =
       no_later_holders = law_no_later_holders slots links (events ++ t ∷ []) _ later distinct whole;
       under_guard = law_under_guard slots links (events ++ t ∷ []) _ later distinct whole;
       tries = law_tries slots links (events ++ t ∷ []) _ later distinct whole;
+      unused = law_unused slots links (events ++ t ∷ []) _ later distinct whole;
     }
 
 pub answered : (size : ℕ) (st : State) (event : Event) (d : State × Answer) → next size st event ≡ Some d → is_legal d.1 ≡ true

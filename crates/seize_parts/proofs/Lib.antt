@@ -1,16 +1,20 @@
 pub mod Allowed
 pub mod Aparts
+pub mod Attempted
 pub mod Bare
 pub mod Behind
 pub mod Called
 pub mod Chunks
 pub mod Cleared
 pub mod Current
+pub mod Ended
 pub mod Everything
 pub mod Given
 pub mod Going
 pub mod Homing
 pub mod InUse
+pub mod Keeping
+pub mod Leftover
 pub mod Lighter
 pub mod Lying
 pub mod Made
@@ -18,6 +22,7 @@ pub mod Moments
 pub mod Numbered
 pub mod OfKind
 pub mod OneLife
+pub mod Outlined
 pub mod Own
 pub mod Parting
 pub mod Permitted
@@ -25,6 +30,7 @@ pub mod Placed
 pub mod Places
 pub mod Recovered
 pub mod Resting
+pub mod Resumed
 pub mod Ruled
 pub mod Shelved
 pub mod Stands

@@ -10,9 +10,14 @@ use Rattle.std.proofs.lemmas.List.Sums.{fails_before_first, position_or_len_is, 
 use native.Mathlib.Decide.{ℕ_discrete}
 use Rattle.std.proofs.lemmas.List.Sums.{prefix_len-le-length}
 use Rattle.seize_table.specs.Place.{all_numbers}
+use Rattle.seize_machine.specs.Machine.Event.{Take}
+use Rattle.seize_machine.specs.Machine.State.{State}
+use Rattle.seize_machine.specs.declared.machine.event.Answer.{Answer}
+use Rattle.seize_machine.proofs.Facts.{Step}
+use Rattle.seize_book.specs.Adding.{private}
 use Rattle.seize_book.specs.Book.{after}
 use Rattle.seize_book.specs.Entry.{Entry}
-use Rattle.seize_book.specs.Others.{FollowsNumbers, MayTakeNumber, first_false, numbers_saw, others_used, rest_of, state_of, use_flags}
+use Rattle.seize_book.specs.Others.{AreNumbersOf, FollowsNumbers, MayTakeNumber, first_false, numbers_saw, others_used, rest_of, state_of, use_flags}
 use Rattle.seize_book.specs.Kept.{AreToldIn}
 use Rattle.seize_book.specs.Ledger.{HeldKey}
 use Rattle.seize_book.specs.Private.{labels_of, own_of}
@@ -29,16 +34,17 @@ use Rattle.seize_words.specs.declared.slots.next.NextSlot.{NextSlot}
 use Rattle.seize_words.specs.Joined.{words_book}
 use Rattle.seize_words.specs.declared.words.Words.{Words}
 use Rattle.seize_calls.specs.Batches.{keys_in}
-use Rattle.seize_calls.specs.Slots.{IsFreeSlotOf, IsOfList, IsRestIn, SetsUse, SlotGives, its_key, its_number}
+use Rattle.seize_calls.specs.Slots.{IsFreeSlotOf, IsOfList, IsRestIn, KeepsUse, SetsUse, SlotGives, SlotTakes, its_key, its_number}
 use Rattle.seize_calls.specs.declared.batch.Batch.{Batch}
 use Rattle.seize_calls.specs.declared.slot.Slot.{Slot}
 use Rattle.seize_calls.proofs.Chains.{no_keys}
 use Rattle.seize_calls.proofs.Slots.{may_take_slot}
+use Rattle.seize_parts.proofs.Made.{step_added}
 use Rattle.seize_parts.specs.Numbers.{AreAt, AreSlots, IsFreeAt, IsKeptAt, IsNextSlotOf, NoneBelow, flags_of}
 use Rattle.seize_parts.specs.declared.numbers.Numbers.{Numbers}
 
--- Places of a list where something may be.
 -- Of numbers alone.
+
 one_more : (a b m : ℕ) → m ≡ 1 + b → a ≤ b → nat_eq a m ≡ false
 one_more a b m is small = grind arith
 
@@ -60,6 +66,7 @@ at_first k = grind arith
 at_next : (n k : ℕ) → nat_lt (suc n) (suc k) ≡ nat_lt n k
 at_next n k = grind arith
 
+-- Places of a list where something may be.
 module _ {X : Type 0} where
   free_as : (slots : List (Option X)) → first_false (flags_of slots) ≡ position_or_len is_some slots
   free_as [] = refl
@@ -168,6 +175,13 @@ module _ {X : Type 0} where
 
   pub none_pushed : (slots : List (Option X)) (n : ℕ) → position is_some slots ≡ None → NoneBelow n (slots ++ None ∷ [])
   none_pushed slots n none i less = ap is_some (at_push slots i) ∙ nowhere slots none i
+
+  pub none_added : (slots : List (Option X)) → NoneBelow (length slots) slots → NoneBelow (length (slots ++ None ∷ [])) (slots ++ None ∷ [])
+  none_added slots none i less = ap is_some (at_push slots i) ∙ go (cases_lt i (length slots))
+    where
+      go : (i < length slots) ⊎ (length slots ≤ i) → is_some (get_or slots i None) ≡ false
+      go (inl within) = none i within
+      go (inr past) = ap is_some (get_or_past slots i None past)
 
   -- and a slot that is laid in some place
   pub none_laid : (slots : List (Option X)) (least lower n : ℕ) (item : Option X) → NoneBelow least slots → lower ≤ least → lower ≤ n → NoneBelow lower (slice_set slots n item)
@@ -311,6 +325,17 @@ made_flags numbers = sym (length-map (state_of numbers.keys).slots (λ slot. slo
 pub own_followed : (numbers : NumbersKey) (pass' : Pass) (numbers' : NumbersKey) → FollowsNumbers numbers pass' numbers' → own_of numbers'.keys.held ≡ pass'.seen
 own_followed numbers pass' numbers' follows = ap own_of follows.1 ∙ (after_one _ numbers.keys.held pass'.seen numbers.one).1
 
+-- who takes a number takes all that was left
+takes_all : (size s : ℕ) (st : State) (o : State × Answer) → Step size st (Take s) o → (o.0).rest ≡ []
+takes_all size s st _ (Step.took_new _ _ _) = refl
+takes_all size s st _ (Step.took_old _ _ _ _) = refl
+
+pub nothing_after : {T : Type 0} (slot slot' : Slot T) (pass pass' : Pass) (numbers numbers' : NumbersKey) → AreNumbersOf numbers pass → SlotTakes slot pass slot' pass' → FollowsNumbers numbers pass' numbers' → rest_of numbers' ≡ []
+nothing_after slot slot' pass pass' numbers numbers' of takes follows =
+    let ready = takes.ready in let noted = takes.does.2.0 in let name = follows.0 ∙ of ∙ sym takes.prepares.same.0 in let own = own_followed numbers pass' numbers' follows in
+    ap (λ (t : Name × List Entry). (after (start t.0) t.1).rest) (λ i. (name i, own i)) ∙ ap (λ (st : State). st.rest) noted.leads
+    ∙ takes_all ready.size (its_number slot) (after (start ready.name) noted.before) (noted.later, noted.answer) (step_added ready pass' (private ready (Take (its_number slot))) noted)
+
 -- a slot that has seen what the key knows is one of those that were made
 pub there_known : {T : Type 0} (slot : Slot T) (numbers : NumbersKey) → slot.seen.name ≡ numbers_book numbers → slot.seen.seen ≡ own_of numbers.keys.held → its_number slot < length (use_flags numbers)
 there_known slot numbers name own =
@@ -396,6 +421,23 @@ module _ {T : Type 0} (numbers : Numbers T) (are : AreSlots numbers) where
         next = next';
         is_there = is;
         comes = (same.0 ∙ comes.0 ∙ ap made_of (sym key), ap (λ (k : SlotKey). k.keys.name) same.1 ∙ comes.1 ∙ ap numbers_book (sym key));
+      }
+
+  -- What was left is with a slot, and the same numbers are in use.
+  pub slots_gathered : (numbers' : Numbers T) (pass' : Pass) → KeepsUse numbers.key pass' numbers'.key → IsRestIn numbers.book.name numbers'.key numbers'.rest → numbers'.slots ≡ numbers.slots → numbers'.free ≡ numbers.free
+      → numbers'.kept ≡ numbers.kept → numbers'.next ≡ numbers.next → numbers'.book ≡ numbers.book → AreSlots numbers'
+  slots_gathered numbers' pass' keeps rest slots free kept next book =
+      let made : made_of numbers'.key ≡ made_of numbers.key = made_flags numbers'.key ∙ ap (λ (us : List Bool). length us) keeps.1 ∙ sym (made_flags numbers.key) in record {
+        book = keeps.0.0 ∙ are.book ∙ ap (λ seen. seen.name) (sym book);
+        flags = keeps.1 ∙ are.flags ∙ ap (λ l. flags_of l.items) (sym slots);
+        slots = subst (λ (t : Name × List (Option (Slot T))). AreAt (IsFreeAt t.0) t.1) (λ i. ((sym book i).name, (sym slots i).items)) are.slots;
+        free = free ∙ are.free ∙ ap (λ l. count_by is_some l.items) (sym slots);
+        kept = subst (λ (t : Name × List (Option (Slot T))). AreAt (IsKeptAt t.0) t.1) (λ i. ((sym book i).name, (sym kept i).items)) are.kept;
+        many = ap (λ l. length l.items) kept ∙ are.many ∙ ap (λ l. length l.items) (sym slots);
+        rest = subst (λ (m : Name). IsRestIn m numbers'.key numbers'.rest) (λ i. (sym book i).name) rest;
+        next = are.next;
+        is_there = next ∙ are.is_there;
+        comes = (are.comes.0 ∙ sym made, are.comes.1 ∙ sym keeps.0.0);
       }
 
   -- One slot was made, and has its place. Nothing was left, and nothing is.

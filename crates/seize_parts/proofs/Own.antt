@@ -106,13 +106,13 @@ same_event s p d now log events only later made all = go (d.pass == p) refl (cha
     go false differs true of = absurd (false≢true (sym differs ∙ equal d.pass p (only of)))
     go false differs false of = ap by_number of ∙ later events (sym (ap by_maker differs) ∙ made) all
 
-same_made : (s p : ℕ) (st : State) (log : List Entry) (events : List (Event × Answer)) → OnlyBy s p log → map as_made (events_in (mine st p log)) ≡ events → AllOf s events → made_by s st log ≡ events
-same_made s p st [] events only made all = made
-same_made s p st (Used u ∷ log) events only made all =
-    ap (map as_made) (used_out (acts s (Used u)) (Used u, Done) (by_slot st s log) refl)
-    ∙ same_made s p st log events only.1 (ap (map as_made) (sym (used_out (maker (Used u) == p) (Used u, Done) (mine st p log) refl)) ∙ made) all
-same_made s p st (Made d ∷ log) events only made all =
-    let now = done_by next st (timed_deed d) in same_event s p d now log events only.0 (λ more is of. same_made s p now.0 log more only.1 is of) made all
+same_made : (s p : ℕ) (base : State) (log : List Entry) (events : List (Event × Answer)) → OnlyBy s p log → map as_made (events_in (mine base p log)) ≡ events → AllOf s events → made_by s base log ≡ events
+same_made s p base [] events only made all = made
+same_made s p base (Used u ∷ log) events only made all =
+    ap (map as_made) (used_out (acts s (Used u)) (Used u, Done) (by_slot base s log) refl)
+    ∙ same_made s p base log events only.1 (ap (map as_made) (sym (used_out (maker (Used u) == p) (Used u, Done) (mine base p log) refl)) ∙ made) all
+same_made s p base (Made d ∷ log) events only made all =
+    let now = done_by next base (timed_deed d) in same_event s p d now log events only.0 (λ more is of. same_made s p now.0 log more only.1 is of) made all
 
 -- So it is in a whole call.
 

@@ -3,17 +3,17 @@ use Rattle.std.proofs.Common.{◌≡◌, ℕ, Bool, true, false, List, [], ◌�
 use Rattle.std.proofs.lemmas.Bool.{false≢true}
 use base.Growing.{prefix_trans}
 use mathlib.Core.List.{IsPrefix}
-use Rattle.seize_machine.specs.Machine.Event.{Begin, Event, Return, SwapOut}
+use Rattle.seize_machine.specs.Machine.Event.{Begin, Event, Return, SwapOut, Take}
 use Rattle.seize_machine.specs.Machine.Frames.{changes_slot}
 use Rattle.seize_machine.specs.declared.machine.event.Answer.{Answer}
 use Rattle.seize_machine.specs.declared.machine.event.Answer.TheVariants.{Done}
 use Rattle.seize_machine.specs.declared.machine.event.Job.{Job}
-use Rattle.seize_machine.specs.declared.machine.event.Job.TheVariants.{Flush, Leave, Refresh, Retire}
+use Rattle.seize_machine.specs.declared.machine.event.Job.TheVariants.{Flush, Gather, Leave, Refresh, Retire}
 use Rattle.seize_book.specs.Adding.{deed_with_words, private}
 use Rattle.seize_book.specs.Book.{IsLegalList}
-use Rattle.seize_book.specs.Entry.{Deed, Entry}
+use Rattle.seize_book.specs.Entry.{Deed, Entry, Made}
 use Rattle.seize_book.specs.Passes.{IsSamePass, events_by}
-use Rattle.seize_book.specs.Slots.{active_of, slot_number}
+use Rattle.seize_book.specs.Slots.{AddsEvent, active_of, acts_of, slot_number}
 use Rattle.seize_book.specs.Tokens.{Name, start}
 use Rattle.seize_book.specs.declared.book.pass.Pass.{Pass}
 use Rattle.seize_book.specs.declared.book.slot_key.SlotKey.{SlotKey}
@@ -22,17 +22,19 @@ use Rattle.seize_book.proofs.Facts.{equal}
 use Rattle.seize_words.specs.Reservations.{beginning}
 use Rattle.seize_words.specs.declared.activation.Activation.{Activation}
 use Rattle.seize_words.specs.declared.words.Words.{Words}
+use Rattle.seize_book.proofs.Facts.{equal, same_twice}
+use Rattle.seize_calls.specs.Alone.{AddsOwn, AllMadeBy}
 use Rattle.seize_calls.specs.Batches.{keys_in}
-use Rattle.seize_calls.specs.Calls.{BeginsSo, Flushes, Leaves, Rests, RetiresOne, Returns}
+use Rattle.seize_calls.specs.Calls.{BeginsSo, Flushes, Leaves, Rests, Resumes, RetiresOne, Returns}
 use Rattle.seize_calls.specs.Handing.{Had}
 use Rattle.seize_calls.specs.Settling.{CallState, Drains, done_event}
-use Rattle.seize_calls.specs.Slots.{CallsWith, IsOfWords, IsPassFor, SlotFlushes, SlotLeaves, SlotRefreshes, SlotRetires, its_number, its_value}
+use Rattle.seize_calls.specs.Slots.{CallsWith, IsOfWords, IsPassFor, SlotFlushes, SlotGathers, SlotLeaves, SlotRefreshes, SlotResumes, SlotRetires, SlotTakes, its_number, its_value}
 use Rattle.seize_calls.specs.Walking.{handed_in, steps}
 use Rattle.seize_calls.specs.declared.slot.Loose.{Loose}
 use Rattle.seize_calls.specs.declared.slot.Slot.{Slot}
 use Rattle.seize_calls.proofs.Leaving.{left_made}
-use Rattle.seize_parts.specs.Makes.{AreStepsOf, Defers, MakesCall, MakesNone, MakesWhole, made_with, whole_call}
-use Rattle.seize_parts.proofs.Made.{as_made, made_grew, none_prepared, none_then, undivided_after}
+use Rattle.seize_parts.specs.Makes.{AreStepsOf, Defers, MakesCall, MakesNone, MakesOne, MakesWhole, made_with, whole_call}
+use Rattle.seize_parts.proofs.Made.{as_made, key_begins, key_takes, made_grew, none_prepared, none_then, then_none, undivided_after}
 use Rattle.seize_parts.proofs.Own.{MadeAll, own_undivided, undivided_call}
 use Rattle.seize_parts.proofs.Steps.{AllHad, Gives, Goes, HandSo, HandsNone, Runs, goes_drained, goes_round, goes_settled, goes_then, had_so, hands_none_append, held_back, steps_of_append, walk_said, walk_steps}
 
@@ -157,6 +159,27 @@ module _ (IsPut : Pass → ℕ → List ℕ → Type 0) (pass' : Pass) (gives : 
               ∙ ap (λ (e : Event). made_with pass ++ (Begin s job, Done) ∷ (e, Done) ∷ map as_made walk) swaps;
         }
 
+  -- A call that another event of the slot began goes on to its return.
+  key_resumes : (s : ℕ) (first : Event) → changes_slot s first ≡ true → (p : Pass) (key : SlotKey) (pass : Pass) (values : ValueKeys) (had : Had) (key' : SlotKey) (values' : ValueKeys) (had' : Had) → AllHad gives had' → slot_number key ≡ s
+      → Resumes key pass values had key' pass' values' had' → made_with pass ≡ made_with p ++ (first, Done) ∷ [] → IsSamePass p pass' → IsPrefix p.seen pass'.seen → IsLegalList (start pass'.name) pass'.seen → MadeAll s p pass'
+      → MakesWhole IsPut s first p pass'
+  key_resumes s first of p key pass values had key' values' had' all its r began same grows legal own = (closed false s first of p r.ends.drained.pass opened ended same grows legal own).0
+    where
+      drains : Goes gives r.settled r.ends.drained
+      drains = goes_drained gives r.settled r.ends.drained r.ends.drains.drains (subst (AllHad gives) r.ends.returns.had_none all) r.ends.returns.keeps.on.grows
+
+      goes : Goes gives (record { key = key; pass = pass; batch = values; queue = r.queue; had = had }) r.ends.drained
+      goes = goes_then gives
+          (goes_settled gives 0 (record { key = key; pass = pass; batch = values; queue = r.queue; had = had }) r.settled r.retired r.settles drains.before
+          (prefix_trans r.settled.pass.seen r.ends.drained.pass.seen pass'.seen drains.grows r.ends.returns.keeps.on.grows)) drains
+
+      opened : Opened false s first p r.ends.drained.pass
+      opened = opened_then (record { steps = []; its = tt; under_guard = λ on. tt; made = began }) (subst (λ (k : ℕ). Runs gives false k pass r.ends.drained.pass) its (any_slot goes.runs))
+
+      ended : made_with pass' ≡ made_with r.ends.drained.pass ++ (Return s, Done) ∷ []
+      ended = made_grew r.ends.drained.pass pass' (done_event r.ends.drained.pass (Return (slot_number r.ends.drained.key))) r.ends.returns.made
+          ∙ ap (λ (k : ℕ). made_with r.ends.drained.pass ++ (Return k, Done) ∷ []) (goes.its ∙ its)
+
   -- The calls of a slot as one value, with the reclaimer of a collector.
 
   module _ {T : Type 0} (words : Words T) (slot : Slot T) (pass : Pass) (slot' : Slot T) (of : IsOfWords words slot') (for : IsPassFor words pass) where
@@ -197,6 +220,52 @@ module _ (IsPut : Pass → ℕ → List ℕ → Type 0) (pass' : Pass) (gives : 
           (whole false Refresh _ calls
           (any_call (key_leaves slot.holder.key calls.ready (keys_in slot.holder.batch) had slot'.holder.key (keys_in slot'.holder.batch) had' all (seen_legal _ calls calls.does.rests.same) (made_all _ calls calls.does.rests) Refresh true
           (beginning calls.ready a.life (SwapOut (slot_number slot.holder.key))) refl calls.does))).0
+
+  -- A slot's number is taken again, or the slot begins to gather; and then its call goes on.
+  module _ {T : Type 0} (words : Words T) (before : Slot T) (p : Pass) (slot : Slot T) (mid : Pass) (slot' : Slot T) (of : IsOfWords words slot') (for : IsPassFor words p) (had : Had) (had' : Had) (all : AllHad gives had') where
+    resumed : (first : Event) → changes_slot (its_number before) first ≡ true → (begins : CallsWith before p slot mid (λ q. AddsEvent before.holder.key q slot.holder.key mid first))
+        → ((q : Pass) → AddsEvent before.holder.key q slot.holder.key mid first → MakesOne q mid first Done) → SlotResumes slot mid had slot' pass' had' → MakesWhole IsPut (its_number before) first p pass'
+    resumed first changes begins one resumes = record { steps = call.steps; its = call.its; made = none_then none call.made; undivided = undivided_after none call.undivided }
+      where
+        none : MakesNone p begins.ready
+        none = none_prepared before p begins.ready begins.prepares
+
+        began : MakesOne begins.ready resumes.ready first Done
+        began = then_none (one begins.ready begins.does) (none_prepared slot mid resumes.ready resumes.prepares)
+
+        same : IsSamePass begins.ready pass'
+        same = same_twice begins.ready resumes.ready pass' began.same resumes.does.rests.same
+
+        grows : IsPrefix begins.ready.seen pass'.seen
+        grows = prefix_trans begins.ready.seen resumes.ready.seen pass'.seen began.grows resumes.does.rests.grows
+
+        legal : IsLegalList (start pass'.name) pass'.seen
+        legal = subst (λ (t : Name × List Entry). IsLegalList (start t.0) t.1) (λ j. ((of.book ∙ for.0 ∙ sym begins.prepares.same.0 ∙ sym same.0) j, resumes.seen j)) of.knows.legal
+
+        its : (slot'.holder.key.keys.name ≡ before.holder.key.keys.name) × (slot_number slot'.holder.key ≡ slot_number before.holder.key)
+        its = (resumes.does.rests.its.0 ∙ begins.does.1.0, resumes.does.rests.its.1 ∙ begins.does.1.1)
+
+        own : AddsOwn before.holder.key begins.ready slot'.holder.key
+        own = (
+          (Made (private begins.ready first), begins.does.2.0.answer) ∷ resumes.does.rests.own.0,
+          resumes.does.rests.own.1 ∙ ap (λ (acts : List (Entry × Answer)). acts ++ resumes.does.rests.own.0) begins.does.2.1.acts ∙ append_assoc (acts_of before.holder.key) ((Made (private begins.ready first), begins.does.2.0.answer) ∷ []) resumes.does.rests.own.0,
+          (refl, subst (λ (k : ℕ). AllMadeBy k resumes.does.rests.own.0) began.same.1 resumes.does.rests.own.2),
+        )
+
+        number : slot_number before.holder.key ≡ its_number before
+        number = before.together.numbered
+
+        all_of : MadeAll (its_number before) begins.ready pass'
+        all_of = subst (λ (k : ℕ). MadeAll k begins.ready pass') number (own_undivided before.holder.key slot'.holder.key begins.ready pass' same begins.prepares.legal legal begins.knew grows resumes.does.rests.sees its own)
+
+        call : MakesWhole IsPut (its_number before) first begins.ready pass'
+        call = key_resumes (its_number before) first changes begins.ready slot.holder.key resumes.ready (keys_in slot.holder.batch) had slot'.holder.key (keys_in slot'.holder.batch) had' all (begins.does.1.1 ∙ number) resumes.does began.made same grows legal all_of
+
+    pub slot_takes_whole : SlotTakes before p slot mid → SlotResumes slot mid had slot' pass' had' → MakesWhole IsPut (its_number before) (Take (its_number before)) p pass'
+    slot_takes_whole takes = resumed (Take (its_number before)) (equal _ _ refl) takes (λ q does. key_takes before.holder.key q slot.holder.key mid (its_number before) does)
+
+    pub slot_gathers_whole : SlotGathers before p slot mid → SlotResumes slot mid had slot' pass' had' → MakesCall IsPut (its_number before) Gather p pass'
+    slot_gathers_whole gathers = resumed (Begin (its_number before) Gather) (equal _ _ refl) gathers (λ q does. key_begins before.holder.key q slot.holder.key mid (its_number before) Gather does)
 
 -- A call in which nothing was handed.
 pub held_whole : {IsPut : Pass → ℕ → List ℕ → Type 0} {active : Bool} {s : ℕ} {job : Job} {p q : Pass} → Whole IsPut active s (Begin s job) p q → active ≡ true → Defers s job p q

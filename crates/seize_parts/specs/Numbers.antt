@@ -9,8 +9,8 @@
 --     AreNumbers numbers       so others find them: none is kept
 --     TookAgain pass slot pass'     a slot that was made before took its number again (SlotTakes), and this is what it is then
 --     HasTaken words pass pass' slot begun     the slot's number was taken with the pass, by the event `Take`; where the pass is alone, that
---                              is the only entry of the list since (MakesAlone). The slot is in use, and inactive; where a call has
---                              begun, it took its number again
+--                              is the only entry of the list since (MakesAlone). The slot is in use, and inactive, and its key knows all
+--                              that the pass has seen; where a call has begun, it took its number again
 --     HasGathered words slot pass slot' pass'     the slot began to gather, so that its call is under way, and is inactive
 --     TakesNone pass pass' refusal     no number was taken, for want of memory, and the pass made nothing (IsUnmoved)
 --     IsLockFor words numbers  they are of the list of these words;  MayEnd words slot     the slot is in use, and inactive
@@ -25,7 +25,7 @@ use Rattle.seize_machine.specs.declared.machine.event.Answer.TheVariants.{Done}
 use Rattle.seize_table.specs.declared.refusal.Refusal.{Refusal}
 use Rattle.seize_table.specs.declared.refusal.Refusal.TheVariants.{NoMemory}
 use Rattle.seize_book.specs.Others.{MayGive, use_flags}
-use Rattle.seize_book.specs.Slots.{slot_of}
+use Rattle.seize_book.specs.Slots.{own_list, slot_of}
 use Rattle.seize_book.specs.Tokens.{IsSole, Name}
 use Rattle.seize_book.specs.declared.book.numbers_key.NumbersKey.{NumbersKey}
 use Rattle.seize_book.specs.declared.book.pass.Pass.{Pass}
@@ -94,6 +94,7 @@ pub record HasTaken {T : Type 0} (words : Words T) (pass pass' : Pass) (slot : S
   pub takes : MakesOne pass pass' (Take (its_number slot)) Done
   pub alone : IsSole pass.id → (answer : Answer) × MakesAlone pass pass' (Take (its_number slot)) answer
   pub took : begun ≡ true → TookAgain pass slot pass'
+  pub sees : own_list (its_key slot) ≡ pass'.seen
 
 pub record HasGathered {T : Type 0} (words : Words T) (slot : Slot T) (pass : Pass) (slot' : Slot T) (pass' : Pass) : Type 0 where
   pub its : IsTakenAs true words slot'

@@ -78,7 +78,7 @@ impl<T: Drop> Steady for Numbers<T> {
 }
 
 impl<T: Drop> Numbers<T> {
-    ghost use Rattle.std.specs.Prelude.{[], slice_set};
+    ghost use Rattle.std.specs.Prelude.{[], false, slice_set};
     ghost use Rattle.seize_book.specs.Others.{others_used, rest_of, use_flags};
     ghost use Rattle.seize_book.specs.Tokens.{IsSole};
     ghost use Rattle.seize_alone.specs.Events.{MakesAlone};

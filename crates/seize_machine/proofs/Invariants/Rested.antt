@@ -115,7 +115,7 @@ rest_fits_step k size st event d step one fits c = go (is_true (changes_numbers 
         let short : length (slot_at st s).batch < b = rw (idle_call (slot_at st s) e) at (fits s) in
         let was : free_one (slot_at st s).used ≡ 0 = ap free_one (idle_used (slot_at st s) e) in
         let more : frees (map (λ slot. slot.used) (set st.slots s no_slot)) ≡ f + 1 = sym (frees_slots (set st.slots s no_slot))
-            ∙ omega (arith, was, sum_by-set (λ slot. free_one slot.used) st.slots s no_slot no_slot (idle_range st s e), frees_slots st.slots) in
+        ∙ omega (arith, was, sum_by-set (λ slot. free_one slot.used) st.slots s no_slot no_slot (idle_range st s e), frees_slots st.slots) in
         let long : length (st.rest ++ (slot_at st s).batch) ≡ length st.rest + length (slot_at st s).batch = length-append st.rest (slot_at st s).batch in
         let all : length (st.rest ++ (slot_at st s).batch) + (f + 1) ≤ (f + 1) * b = omega (arith, times_more f b, c, short, long) in
         rw more (rw (length-set st.slots s no_slot) all)

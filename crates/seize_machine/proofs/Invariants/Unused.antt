@@ -10,9 +10,10 @@ use Rattle.seize_machine.proofs.Invariants.Reached.{reached_inv, reached_rest_fi
 use Rattle.seize_machine.proofs.Invariants.States.{reached_holds}
 
 pub free_empty : (st : State) → IsReached st → (s : ℕ) → (slot_at st s).used ≡ false → (slot_at st s ≡ no_slot) × (is_active (head_at st s) ≡ false)
-free_empty st r s u =
-    ((reached_inv st r).sound.free s u,
-     reached_holds Off (λ slots links distinct. opening_off slots links) (λ st t d r step p. off_step t.size st t.event d (reached_inv st r).sound.free step p) st r s u)
+free_empty st r s u = (
+  (reached_inv st r).sound.free s u,
+  reached_holds Off (λ slots links distinct. opening_off slots links) (λ st t d r step p. off_step t.size st t.event d (reached_inv st r).sound.free step p) st r s u,
+)
 
 all_used : (us : List Bool) → list_any (λ u. not u) us ≡ false → frees us ≡ 0
 all_used [] h = refl

@@ -42,8 +42,12 @@ occ-four v a b c d = omega (arith, occ-append v a b, occ-append v (a ++ b) c, oc
 occ-from : (v : ℕ) (st : State) → occ v (from_retirement st) ≡ parts v st
 occ-from v st =
     occ-append v (flat_map (λ slot. slot.batch) st.slots ++ flat_map (λ batch. batch.values) st.batches ++ flat_map (λ slot. given_up slot.call) st.slots ++ st.gone) st.rest
-    ∙ omega (arith, occ-four v (flat_map (λ slot. slot.batch) st.slots) (flat_map (λ batch. batch.values) st.batches) (flat_map (λ slot. given_up slot.call) st.slots) st.gone,
-      occ-slots v st.slots, occ-flat_map v (λ batch. batch.values) st.batches)
+    ∙ omega (
+      arith,
+      occ-four v (flat_map (λ slot. slot.batch) st.slots) (flat_map (λ batch. batch.values) st.batches) (flat_map (λ slot. given_up slot.call) st.slots) st.gone,
+      occ-slots v st.slots,
+      occ-flat_map v (λ batch. batch.values) st.batches,
+    )
 
 -- what a call has is what it is to retire and what it is to hand
 occ-call : (v : ℕ) (call : Option Progress) → occ v (to_retire call) + given v call ≡ call_has v call

@@ -1,5 +1,5 @@
 -- The events that a call makes when it is made alone, and what they put.
-use Rattle.std.specs.Prelude.{◌≡◌, ℕ, ◌⊎◌, Bool, true, false, not, ◌||◌, ◌==◌, if◌then◌else◌, List, [], ◌∷◌, ◌++◌, Option, Some, None}
+use Rattle.std.specs.Prelude.{◌≡◌, ℕ, Bool, true, false, not, ◌||◌, ◌==◌, if◌then◌else◌, List, [], ◌∷◌, ◌++◌, Option, Some, None}
 use Rattle.seize_machine.specs.Machine.State as machine
 use Rattle.seize_machine.specs.Machine.Event.{Event, Take, Give, Enter as EnterHead, Begin, Hand, Return, ReadLink, ExchangeLink, event_slot}
 use Rattle.seize_machine.specs.Machine.History.{is_link_event}
@@ -9,6 +9,7 @@ use Rattle.seize_machine.specs.declared.machine.event.Exchange.TheVariants.{Swap
 use Rattle.seize_machine.specs.declared.machine.event.Answer.{Answer}
 use Rattle.seize_machine.specs.declared.machine.event.Answer.TheVariants.{Handed}
 use Rattle.seize_model.specs.Waiting.State as waiting
+use Rattle.seize_model.specs.Waiting.Attempt.{is_full}
 use Rattle.seize_model.specs.Waiting.Calls.{is_owned}
 use Rattle.seize_model.specs.Waiting.Further.{put_by}
 use Rattle.seize_model.specs.Waiting.Lists.{Call, Register, EnterOwned, Enter, Leave, End, Refresh, Flush, Retire, Protect, Swap, Reply, Refused}
@@ -28,19 +29,19 @@ pub data IsToReturn (s : ℕ) : List Event → Type 0 where
 abbrev pub IsJob : ℕ → Job → List Event → Type 0
 IsJob s job events = (es : List Event) × (events ≡ Begin s job ∷ es) × IsToReturn s es
 
--- a number is taken, and what is its slot's batch then is attempted or not
-abbrev pub IsTaken : ℕ → List Event → Type 0
-IsTaken s events = (es : List Event) × (events ≡ Take s ∷ es) × ((es ≡ []) ⊎ IsToReturn s es)
-
--- a number is given back, after as many gatherings
-pub data IsEnded (s : ℕ) : List Event → Type 0 where
-  gives : IsEnded s (Give s ∷ [])
-  gathers : (es fs : List Event) → IsJob s GatherJob es → IsEnded s fs → IsEnded s (es ++ fs)
-
 -- such events where this is so, and else none
 abbrev pub Where : Bool → (List Event → Type 0) → List Event → Type 0
 Where true made events = made events
 Where false made events = events ≡ []
+
+-- a number is taken, and what was left is attempted, where it is enough
+abbrev pub IsTaken : ℕ → Bool → List Event → Type 0
+IsTaken s enough events = (es : List Event) × (events ≡ Take s ∷ es) × Where enough (IsToReturn s) es
+
+-- a number is given back, after any number of gatherings
+pub data IsEnded (s : ℕ) : List Event → Type 0 where
+  gives : IsEnded s (Give s ∷ [])
+  gathers : (es fs : List Event) → IsJob s GatherJob es → IsEnded s fs → IsEnded s (es ++ fs)
 
 -- what leaving the slot makes: the number of an owned slot is given back
 abbrev pub IsLeft : ℕ → Bool → List Event → Type 0
@@ -53,8 +54,9 @@ IsRetiredFrom s (Some n) events = IsJob s (RetireJob n) events
 
 -- the events of a call that is not refused, from two states that show each other
 abbrev pub AreEventsOf : {T R : Type 0} → waiting.ModelState T R → machine.State → Call T R → List Event → Type 0
-AreEventsOf st shown Register events = (n : ℕ) × IsTaken n events
-AreEventsOf st shown EnterOwned events = (n : ℕ) × (es : List Event) × (events ≡ es ++ EnterHead n ∷ []) × IsTaken n es
+AreEventsOf st shown Register events = (n : ℕ) × IsTaken n (is_full st.size st.rest) events
+AreEventsOf st shown EnterOwned events =
+    (n : ℕ) × (es : List Event) × (events ≡ es ++ EnterHead n ∷ []) × IsTaken n (is_full st.size st.rest) es
 AreEventsOf st shown (Enter s) events = events ≡ (if waiting.has_guard (waiting.model_slot st s) then [] else EnterHead s ∷ [])
 AreEventsOf st shown (Leave s) events =
     Where ((waiting.model_slot st s).guards == 1) (IsLeft s (is_owned (waiting.model_slot st s).kind)) events

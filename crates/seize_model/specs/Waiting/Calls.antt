@@ -65,11 +65,15 @@ with_number_in_use {T} {R} st n kind =
     let slot : ModelSlot T R = record { kind = kind; guards = 0; batch = st.rest; order = [] } in
     record st { slots = (if n == length st.slots then st.slots ++ slot ∷ [] else slice_set st.slots n slot); rest = [] }
 
+-- n is taken, and what is its slot's batch then is attempted, if that is full
+abbrev pub taking : {T R : Type 0} → (R → T → List T) → (T → ℕ) → ModelState T R → ℕ → Kind → StateAndGone T R
+taking puts weight st n kind = with_further puts weight n (attempt_if_full (with_number_in_use st n kind) n)
+
 -- **Register** is this with `Registered` and no guard, and **enter owned** with `Owned` and one guard. There are 2^64 - 32 numbers.
 abbrev pub take_number : {T R : Type 0} → (R → T → List T) → (T → ℕ) → ModelState T R → Kind → ℕ → Response ℕ T R
 take_number puts weight st kind guards =
     let n = least_unused st.slots in
-    let o = with_further puts weight n (attempt_if_full (with_number_in_use st n kind) n) in
+    let o = taking puts weight st n kind in
     if n == all_numbers
     then (Err NoNumbers, (st, []))
     else (Ok n, (set_guards o.0 n guards, o.1))
@@ -96,13 +100,17 @@ rest_and_batch st s = st.rest ++ (model_slot st s).batch
 abbrev pub with_rest_gathered : {T R : Type 0} → ModelState T R → ℕ → ModelState T R
 with_rest_gathered st s = record (set_slot st s (record (model_slot st s) { batch = rest_and_batch st s })) { rest = [] }
 
--- while no other slot is in use and something is left, s attempts it, for at most this many times
+-- s attempts all that was left
+abbrev pub gathering : {T R : Type 0} → (R → T → List T) → (T → ℕ) → ModelState T R → ℕ → StateAndGone T R
+gathering puts weight st s = with_further puts weight s (attempt (with_rest_gathered st s) s)
+
+-- and so while no other slot is in use and something is left, for at most this many times
 abbrev pub gathers : {T R : Type 0} → (R → T → List T) → (T → ℕ) → ℕ → ModelState T R → ℕ → StateAndGone T R
 gathers puts weight zero st s = (st, [])
 gathers puts weight (suc n) st s =
     if others_in_use st s || (length (rest_and_batch st s) == 0)
     then (st, [])
-    else (let o = with_further puts weight s (attempt (with_rest_gathered st s) s) in with_gone o.1 (gathers puts weight n o.0 s))
+    else (let o = gathering puts weight st s in with_gone o.1 (gathers puts weight n o.0 s))
 
 -- the number is not in use, and what the slot had in its batch is left
 abbrev pub with_number_free : {T R : Type 0} → ModelState T R → ℕ → ModelState T R

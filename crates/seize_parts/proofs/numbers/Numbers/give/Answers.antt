@@ -1,43 +1,39 @@
-use Rattle.std.proofs.Common.{rules, ◌≡◌, ◌≤◌, IfErr, IfNone, IfOk, IfSome, None, Some, is_some, ◌<◌, ◌+◌, false, not, ◌&&◌, [], length, slice_set, get_or, ℕ, ◌-◌, ◌*◌, ◌/◌, ◌%◌, Bool, true, nat_eq, nat_lt, List, ◌∷◌, ◌++◌, bit_and, bit_or, Fits, w8, w32, w64, Bor, MutBor}
-use Rattle.std.specs.List.{position}
-use Rattle.seize_calls.specs.Slots.{IsPassFor, its_number}
-use Rattle.seize_words.specs.Joined.{words_book}
-use Rattle.seize_words.specs.Named.{numbers_book}
-use Rattle.seize_words.specs.Reserved.{HasNextSlot}
-use Rattle.seize_words.specs.Totals.{made_of}
-use Rattle.seize_machine.specs.Machine.Event.{Give}
-use Rattle.seize_machine.specs.declared.machine.event.Answer.TheVariants.{Done}
-use Rattle.seize_parts.specs.Makes.{MakesOne}
-use Rattle.seize_parts.specs.Shelves.{IsShelfFor}
-use Rattle.seize_book.specs.Book.{IsLegalList}
-use Rattle.seize_book.specs.Others.{others_used, rest_of, use_flags}
-use Rattle.seize_book.specs.Passes.{IsSamePass}
-use Rattle.seize_book.specs.Tokens.{IsSole, start}
-use Rattle.seize_alone.specs.Events.{MakesAlone}
-use Rattle.seize_book.specs.Values.{values_of}
-use Rattle.seize_calls.specs.Batches.{keys_in}
-use Rattle.seize_words.specs.declared.words.Words.{Words}
-use Rattle.seize_calls.specs.declared.slot.Slot.{Slot}
-use Rattle.seize_machine.specs.declared.machine.event.Answer.{Answer}
-use Rattle.seize_parts.specs.Numbers.{AreNumbers, AreSlots, HasGathered, HasTaken, IsLockFor, KnowsLeast, MayEnd, MayGiveBack, TakesNone}
+use Rattle.std.proofs.Common.{◌≡◌, ◌<◌, ℕ, None, Some, false, is_some, get_or, length, refl, sym, ap, subst, slice_set, ◌∙◌, arith}
+use Rattle.seize_book.specs.Tokens.{IsSole}
+use Rattle.seize_calls.specs.Slots.{IsRestIn}
+use Rattle.seize_alone.proofs.Ready.{entry_alone}
+use Rattle.seize_parts.specs.Numbers.{IsFreeAt}
+use Rattle.seize_parts.proofs.Made.{slot_gives}
+use Rattle.seize_parts.proofs.Stilled.{alone_from, still_prepared}
+use Rattle.seize_parts.proofs.Numbered.{count_laid, given_ended, given_place, slots_set, some_same}
 use Rattle.seize_parts.proofs.numbers.Numbers.give.Goals as goal
 
--- src/numbers.rt:233:9
+-- the slot is one of those that were made, so its place is there
 pub index_mut-requires : goal.index_mut-requires
-index_mut-requires g c = ?
+index_mut-requires g c =
+    let self = c.args.self.now in let one = c.give in let number = c.number-n.ensures in let ok = self.slots.ok in
+    let place = given_place self c.requires.numbers.0 c.args.slot one.new.self c.args.pass.now one.new.pass one.new.numbers one.ensures.gives one.ensures.numbers.0 one.ensures.was in let below = place.0 in
+    omega (arith, below, number, ok.0)
 
--- src/numbers.rt:220:5
 pub returns-clause-numbers : goal.returns-clause-numbers
-returns-clause-numbers g c = ?
+returns-clause-numbers g c =
+    let self = c.args.self.now in let are = c.requires.numbers.0 in let slot = c.args.slot in let one = c.give in let n = c.number-n.result in let slot' = one.new.self in let number = c.number-n.ensures in
+    let place = given_place self are slot slot' c.args.pass.now one.new.pass one.new.numbers one.ensures.gives one.ensures.numbers.0 one.ensures.was in
+    let more = count_laid self.slots.items n slot' (subst (λ (k : ℕ). k < length self.slots.items) (sym number) place.0) (ap (λ (k : ℕ). is_some (get_or self.slots.items k None)) number ∙ place.1) in let free = are.free in (
+      slots_set self are _ one.new.pass slot false one.ensures.numbers.0 n (sym number) (Some slot') refl
+          (λ s is. subst (IsFreeAt self.book.name n) (some_same slot' s is) (subst (λ k. IsFreeAt self.book.name k slot') (one.ensures.gives.same.0 ∙ sym number) (given_ended self c.args.words.now slot' c.requires.numbers.1 one.ensures.of)))
+          refl (omega (arith, free, more)) refl (subst (λ n. IsRestIn n one.new.numbers one.new.rest) (sym c.requires.numbers.1) one.ensures.numbers.1) refl refl,
+      refl,
+      refl,
+    )
 
--- src/numbers.rt:220:5
 pub returns-clause-place : goal.returns-clause-place
-returns-clause-place g c = ?
+returns-clause-place g c = (c.give.new.self, ap (λ (k : ℕ). slice_set c.args.self.now.slots.items k (Some c.give.new.self)) c.number-n.ensures)
 
--- src/numbers.rt:220:5
 pub returns-clause-gives : goal.returns-clause-gives
-returns-clause-gives g c = ?
+returns-clause-gives g c = slot_gives c.args.slot c.args.pass.now c.give.new.self c.give.new.pass c.give.ensures.gives
 
--- src/numbers.rt:220:5
 pub returns-clause-alone : goal.returns-clause-alone
-returns-clause-alone g c = ?
+returns-clause-alone g c sole =
+    let gives = c.give.ensures.gives in let still = still_prepared c.args.slot gives.prepares in
+    (gives.does.2.0.answer, alone_from sole still (entry_alone (subst IsSole (sym still.same.1) sole) gives.does refl))
