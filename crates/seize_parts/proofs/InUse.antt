@@ -26,8 +26,8 @@ use Rattle.seize_calls.specs.Batches.{keys_in}
 use Rattle.seize_calls.specs.Slots.{IsInactive, IsOfList, IsRestIn, IsSlotOf, its_number}
 use Rattle.seize_calls.specs.declared.batch.Batch.{Batch}
 use Rattle.seize_calls.specs.declared.slot.Slot.{Slot}
-use Rattle.seize_parts.specs.Numbers.{AreAt, AreSlots, IsFreeAt, IsKeptAt, flags_of}
-use Rattle.seize_parts.specs.Sweeps.{KeepsPlaces}
+use Rattle.seize_parts.specs.Numbers.{AreAt, AreSlots, IsFreeAt, IsKeptAt, NoneBelow, flags_of}
+use Rattle.seize_parts.specs.Sweeps.{KeepsHere, KeepsPlaces}
 use Rattle.seize_parts.specs.declared.numbers.Numbers.{Numbers}
 use Rattle.seize_parts.proofs.Numbered.{made_flags, own_followed}
 
@@ -119,6 +119,30 @@ flag_same slots slots' n same = sym (get_or-map is_none slots' n None) ∙ ap (�
 
 pub places_then : {T : Type 0} (a b c : Numbers T) → KeepsPlaces a b → KeepsPlaces b c → KeepsPlaces a c
 places_then a b c one two = (two.0 ∙ one.0, two.1 ∙ one.1, two.2 ∙ one.2, two.3 ∙ one.3)
+
+pub none_below_same : {X : Type 0} (slots slots' : List (Option X)) (n : ℕ) → flags_of slots' ≡ flags_of slots → NoneBelow n slots → NoneBelow n slots'
+none_below_same {X} slots slots' n same none i less = go (get_or slots' i None) (get_or slots i None) (flag_same slots slots' i same) (none i less)
+  where
+    go : (a b : Option X) → is_none a ≡ is_none b → is_some b ≡ false → is_some a ≡ false
+    go None b same none = refl
+    go (Some x) None same none = absurd (cc)
+    go (Some x) (Some y) same none = absurd (cc)
+
+-- where they lie in the same places, they lie there still
+pub places_here : {T : Type 0} (numbers numbers' : Numbers T) → KeepsPlaces numbers numbers' → KeepsHere numbers numbers'
+places_here {T} numbers numbers' keeps = (
+  keeps.0,
+  flags_long numbers.slots.items numbers'.slots.items keeps.1,
+  λ i. ⊎_elim (λ lies. inl (some_still numbers.slots.items numbers'.slots.items i keeps.1 lies)) (λ held. inr (some_still numbers.kept.items numbers'.kept.items i keeps.2 held)),
+)
+  where
+    some_still : (slots slots' : List (Option (Slot T))) (i : ℕ) → flags_of slots' ≡ flags_of slots → is_some (get_or slots i None) ≡ true → is_some (get_or slots' i None) ≡ true
+    some_still slots slots' i same some = go (get_or slots' i None) (get_or slots i None) (flag_same slots slots' i same) some
+      where
+        go : (a b : Option (Slot T)) → is_none a ≡ is_none b → is_some b ≡ true → is_some a ≡ true
+        go (Some x) b same some = refl
+        go None None same some = absurd (cc)
+        go None (Some y) same some = absurd (cc)
 
 -- A slot that is kept.
 

@@ -5,24 +5,30 @@
 --     batches_beyond, batches_all     beyond all that are kept nothing is done;  so those that are kept are all that do something
 --     off_then, active_then, idle_then, active_none, idle_none     what stays of slots, twice, and where nothing was done
 --     spent_more                 one batch more is spent
+--     gives_goes                 the numbers go back, as one part of a reclaim of all
 use Rattle.std.proofs.Common.{◌≡◌, ℕ, zero, suc, ◌+◌, ◌<◌, ◌≤◌, true, false, not, ◌==◌, List, [], ◌∷◌, length, Option, None, Some, get_or, refl, sym, ap, subst, ◌∙◌, arith}
 use Rattle.std.specs.List.{range_with_len}
 use Rattle.std.specs.Option.{is_none}
 use Rattle.std.proofs.lemmas.List.{get_or_past}
 use native.Mathlib.Decide.{ℕ_discrete}
+use base.Stored.{Gv}
 use Rattle.seize_model.specs.Waiting.Attempt.{StateAndGone, with_gone}
 use Rattle.seize_model.specs.Waiting.Calls.{is_free}
 use Rattle.seize_model.specs.Waiting.State.{ModelSlot, ModelState, has_guard, model_slot, unmade_slot}
+use Rattle.seize_book.specs.Passes.{IsSamePass}
 use Rattle.seize_book.specs.declared.book.pass.Pass.{Pass}
 use Rattle.seize_book.specs.Values.{values_of}
+use Rattle.seize_calls.specs.Furthers.{further_in}
+use Rattle.seize_calls.specs.Handing.{IsServed}
+use Rattle.seize_calls.specs.declared.further.Further.{Further}
 use Rattle.seize_calls.specs.Slots.{its_batch}
 use Rattle.seize_calls.specs.declared.slot.Slot.{Slot}
 use Rattle.seize_alone.specs.Reclaiming.{batch_in_turn, batches_in_turn}
 use Rattle.seize_alone.proofs.Outlines.{guards_in, kind_in, outline, slots_in}
-use Rattle.seize_parts.specs.Aparts.{AreKeptOf}
+use Rattle.seize_parts.specs.Aparts.{AreKeptOf, Goes, LeadsTo}
 use Rattle.seize_parts.specs.Numbers.{flags_of}
 use Rattle.seize_parts.specs.Sweeps.{AreOff, KeepsActive, KeepsIdle}
-use Rattle.seize_parts.proofs.Going.{batches_append, range_both}
+use Rattle.seize_parts.proofs.Going.{batches_append, range_both, waits_none}
 use Rattle.seize_parts.proofs.InUse.{flag_same}
 use Rattle.seize_parts.proofs.Outlined.{batch_free, batches_outline}
 
@@ -85,3 +91,15 @@ active_then a b c one two s = two s ∙ one s
 
 pub idle_then : (a b c : Pass) → KeepsIdle a b → KeepsIdle b c → KeepsIdle a c
 idle_then a b c one two s none = two s (one s none)
+
+-- The numbers go back, as one part of a reclaim of all.
+pub gives_goes : {T Seen : Type 0} (code : T → Gv) (puts : ℕ → T → List T) (told : Seen → T → Seen) {May : ModelState T ℕ → Type 0} {does : ModelState T ℕ → ModelState T ℕ} (p q : Pass) (seen : Seen) (queue : Further) → IsSamePass p q → IsServed (further_in queue) p.name
+    → LeadsTo code May does p q → Goes code puts told May (λ st. (does st, [])) p q seen seen queue queue
+gives_goes code puts told p q seen queue same served leads = record {
+  same = same;
+  had = [];
+  put = tt;
+  tells = ([], tt, refl);
+  waits = waits_none p.name queue served;
+  holds = λ st names kinds may holds. ((names, kinds, leads st names kinds may holds), tt);
+}

@@ -3,7 +3,7 @@
 --     all_in_use                 where no slot lies here all numbers are in use, so nothing was left
 --     least_first                the first slot that lies here has the least number that is not in use, and was made
 --     rest_none, rest_some       what is done then
---     rest_fits, rest_kept       the slot is in use without a guard, and kept
+--     rest_fits, rest_kept, rest_long     the slot is in use without a guard, and kept;  there are as many slots
 --     here_moved                 what lay here is kept, or lies here still
 use Rattle.std.proofs.Common.{◌≡◌, ◌⊎◌, ℕ, suc, ◌==◌, ◌<◌, ⊎_elim, Bool, true, false, not, if◌then◌else◌, List, [], ◌∷◌, length, map, Option, None, Some, is_some, get_or, slice_set, inl, inr, refl, sym, ap, subst, ◌∙◌, arith}
 use Rattle.std.specs.List.{list_any, position}
@@ -28,7 +28,7 @@ use Rattle.seize_calls.specs.Numbered.{are_none}
 use Rattle.seize_calls.specs.declared.slot.Slot.{Slot}
 use Rattle.seize_alone.specs.Holding.{Holds}
 use Rattle.seize_alone.specs.Reclaiming.{batch_in_turn, rest_in_turn}
-use Rattle.seize_alone.proofs.Outlines.{guards_in, kind_in, outline}
+use Rattle.seize_alone.proofs.Outlines.{guards_in, kind_in, slots_in}
 use Rattle.seize_alone.proofs.Ready.{least_is}
 use Rattle.seize_alone.proofs.Shown.{many_shown, slot_shown}
 use Rattle.seize_parts.specs.Aparts.{AreKeptOf}
@@ -36,7 +36,7 @@ use Rattle.seize_parts.specs.Numbers.{flags_of}
 use Rattle.seize_parts.proofs.InUse.{some_set, used_place}
 use Rattle.seize_parts.proofs.Keeping.{kept_then}
 use Rattle.seize_parts.proofs.Numbered.{first_below, first_some, none_before, none_free}
-use Rattle.seize_parts.proofs.Outlined.{batch_outline, full_outline, use_at, use_other}
+use Rattle.seize_parts.proofs.Outlined.{batch_outline, full_outline, use_at, use_long, use_other}
 use Rattle.seize_parts.proofs.Resumed.{rest_shown}
 
 pub are_nothing : (vs : List ℕ) → are_none vs ≡ true → vs ≡ []
@@ -116,6 +116,12 @@ module _ {T : Type 0} (st : ModelState T ℕ) where
             ap is_free (kind_in (taken n).0 (with_number_in_use st n Registered) same n ∙ at.0),
             ap (λ (k : ℕ). not (k == 0)) (guards_in (taken n).0 (with_number_in_use st n Registered) same n) ∙ at.1,
           )
+
+      -- there are as many slots
+      pub rest_long : length (rest_in_turn st).0.slots ≡ length st.slots
+      rest_long =
+          subst (λ (o : StateAndGone T ℕ). length o.0.slots ≡ length st.slots) rest_some
+          (slots_in (batch_in_turn (taken n).0 n).0 (with_number_in_use st n Registered) (batch_outline (taken n).0 n (λ used. rest_fits.1) ∙ full_outline (with_number_in_use st n Registered) n) ∙ use_long st n Registered below)
 
       -- the slot is kept
       pub rest_kept : (kept : List (Option (Slot T))) (slot : Slot T) → n < length kept → AreKeptOf kept st → AreKeptOf (slice_set kept n (Some slot)) (rest_in_turn st).0

@@ -129,7 +129,8 @@ impl<T: Drop> Numbers<T> {
         ensures goes { Goes T.row.coded.code R.puts W.told (λ st. Fits pass.old st × AreKeptOf self.old.kept.items st) (λ st. rest_in_turn st)
             pass.old pass.new (W.seen aside.old.watch.now) (W.seen aside.new.watch.now) aside.old.queue aside.new.queue }
         ensures kept { (st : ModelState T ℕ) (names : List (ℕ × T)) (kinds : List (ℕ × ℕ)) → AreKeptOf self.old.kept.items st
-            → Holds T.row.coded.code st names kinds pass.old.name pass.old.seen → AreKeptOf self.new.kept.items (rest_in_turn st).0 }
+            → Holds T.row.coded.code st names kinds pass.old.name pass.old.seen
+            → AreKeptOf self.new.kept.items (rest_in_turn st).0 × (length (rest_in_turn st).0.slots ≡ length st.slots) }
     {
         self.key.look(pass);
         if self.rest.is_empty() {

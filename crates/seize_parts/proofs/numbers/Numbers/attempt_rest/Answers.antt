@@ -21,7 +21,7 @@ use Rattle.seize_parts.specs.Sweeps.{KeepsActive, KeepsIdle, KeepsOn}
 use Rattle.seize_parts.proofs.Going.{fits_then, goes_as, goes_held, goes_none, goes_since, goes_then}
 use Rattle.seize_parts.proofs.InUse.{kept_at, kept_set, slots_kept, slots_looked}
 use Rattle.seize_parts.proofs.Keeping.{active_then, idle_then}
-use Rattle.seize_parts.proofs.Leftover.{all_in_use, are_nothing, here_moved, least_first, none_left, rest_fits, rest_kept, rest_none, rest_some, some_left}
+use Rattle.seize_parts.proofs.Leftover.{all_in_use, are_nothing, here_moved, least_first, none_left, rest_fits, rest_kept, rest_long, rest_none, rest_some, some_left}
 use Rattle.seize_parts.proofs.Numbered.{first_below, some_same}
 use Rattle.seize_parts.proofs.Outlined.{full_size}
 use Rattle.seize_parts.proofs.Placed.{still_for}
@@ -53,7 +53,7 @@ pub returns-then-is_empty-clause-kept : goal.returns-then-is_empty-clause-kept
 returns-then-is_empty-clause-kept g c st names kinds are holds =
     let p = c.args.pass.now in let q = c.look.new.pass in let look = c.look.ensures in
     let none : are_none (state_seen p).rest ≡ true = ap (λ (x : Pass). are_none (state_seen x).rest) (sym (looked_pass p q look.looks.0 c.requires.pass.1)) ∙ ap are_none (look.rest.0 ∙ sym c.requires.numbers.0.rest.values) ∙ sym c.is_empty.ensures ∙ c.if-is_empty.true in
-    subst (λ (o : StateAndGone g.row.T.Denot ℕ). AreKeptOf c.args.self.now.kept.items o.0) (sym (rest_none st (none_left g.row.T.coded st names kinds p holds none))) are
+    subst (λ (o : StateAndGone g.row.T.Denot ℕ). AreKeptOf c.args.self.now.kept.items o.0 × (length o.0.slots ≡ length st.slots)) (sym (rest_none st (none_left g.row.T.coded st names kinds p holds none))) (are, refl)
 
 -- Something was left, so a number is not in use.
 
@@ -122,5 +122,8 @@ returns-clause-kept g c st names kinds are holds =
     let flags : used (state_seen p) ≡ flags_of self.slots.items = ap (λ (x : Pass). used (state_seen x)) (sym same) ∙ look.used.0 ∙ c.requires.numbers.0.flags in
     let least = least_first g.row.T.coded st names kinds p holds self.slots.items flags n found in let below = first_below self.slots.items n found in let many = c.requires.numbers.0.many in
     let there : n < length self.kept.items = omega (arith, below, many) in
-    subst (λ (l : List (Option (Slot g.row.T.Denot))). AreKeptOf (slice_set l n (Some c.attempt.new.slot)) (rest_in_turn st).0) (ap (λ l. l.items) (sym c.take_rest-slot.ensures.places.1))
-    (rest_kept st n least.0 (some_left g.row.T.coded st names kinds p holds some) least.1 self.kept.items c.attempt.new.slot there are)
+    let left = some_left g.row.T.coded st names kinds p holds some in (
+      subst (λ (l : List (Option (Slot g.row.T.Denot))). AreKeptOf (slice_set l n (Some c.attempt.new.slot)) (rest_in_turn st).0) (ap (λ l. l.items) (sym c.take_rest-slot.ensures.places.1))
+          (rest_kept st n least.0 left least.1 self.kept.items c.attempt.new.slot there are),
+      rest_long st n least.0 left least.1,
+    )
