@@ -19,7 +19,7 @@ use crate::alone::hands::Hands;
 pub use crate::alone::running::{Call, Reply};
 use crate::alone::sharing::shared;
 use seize_machine::machine;
-use seize_parts::alone::calls::{held, resume_in};
+use seize_parts::alone::calls::{attempt_taken, held, resume_in};
 use seize_parts::alone::place::{Place, back, out, room};
 use seize_parts::ender::Ender;
 use seize_parts::numbers::{Numbers, Taken as TakenSlot};
@@ -170,9 +170,14 @@ impl<T: Drop, R: Reclaim<T>> Alone<T, R> {
         } = self
             .numbers
             .take(&self.words, self.alloc, &mut self.pass)?;
-        if begun {
-            resume_in(&self.words, &self.ender, &mut slot, &mut self.pass, watch);
-        }
+        attempt_taken(
+            &self.words,
+            &self.ender,
+            &mut slot,
+            begun,
+            &mut self.pass,
+            watch,
+        );
         let number = slot.number();
         let reservation = Reservation::new(&self.words, slot, 1);
         let place = Place {

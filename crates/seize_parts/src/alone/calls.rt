@@ -340,6 +340,28 @@ pub fn resume_in<T: Drop, R: Reclaim<T>, W: Watch<T>>(
     } = tells;
 }
 
+/// What a slot that took its number found left is attempted, where a call has begun for it. The watch is told of each value that is gone.
+pub fn attempt_taken<T: Drop, R: Reclaim<T>, W: Watch<T>>(
+    words: &Words<T>,
+    ender: &Ender<T, R>,
+    slot: &mut Slot<T>,
+    begun: bool,
+    pass: &mut Pass,
+    watch: &mut W,
+)
+    requires of { IsTakenAs begun words.now slot.old × IsPassFor words.now pass.old × IsSole pass.old.id }
+    requires ender { IsEnderOf words.now ender.now }
+    ensures of { IsSlotOf words.now slot.new × (active_of (its_key slot.new) ≡ active_of (its_key slot.old)) }
+    ensures resumes { begun ≡ true → (had : Had) × SlotResumes slot.old pass.old [] slot.new pass.new had × PutAs T.row.coded.code R.puts had
+        × HasTold T.row.coded.code W.told (W.seen watch.old) (W.seen watch.new) had }
+    ensures none { begun ≡ false → (slot.new ≡ slot.old) × (pass.new ≡ pass.old) × (W.seen watch.new ≡ W.seen watch.old) }
+    ensures same_reference { watch.exit.ghost_name ≡ watch.entry.ghost_name }
+{
+    if begun {
+        resume_in(words, ender, slot, pass, watch);
+    }
+}
+
 impl<T: Drop> Place<T> {
     /// The slot enters with its first guard.
     pub fn begin(&mut self, words: &Words<T>, pass: &mut Pass)
