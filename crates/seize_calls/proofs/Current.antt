@@ -1,5 +1,5 @@
 -- What a look at the list leaves of a slot, and shows of it; and an activation that has begun, and lasts, is the slot's current one.
-use Rattle.std.proofs.Common.{◌≡◌, ◌⊎◌, inl, inr, true, List, [], ◌++◌, None, sym, subst, ◌∙◌, append-nil}
+use Rattle.std.proofs.Common.{◌≡◌, ◌⊎◌, inl, inr, true, List, [], ◌++◌, sym, subst, ◌∙◌, append-nil}
 use base.Growing.{prefix_trans}
 use mathlib.Core.List.{IsPrefix}
 use Rattle.seize_machine.specs.Machine.State.{head_at, is_active, slot_at}

@@ -1,5 +1,5 @@
 -- A number goes back or is taken again, or a gathering begins: what this leaves of the slot.
-use Rattle.std.proofs.Common.{◌≡◌, ℕ, false, [], ap, ◌∙◌}
+use Rattle.std.proofs.Common.{◌≡◌, false, [], ap, ◌∙◌}
 use Rattle.seize_machine.specs.Machine.Event.{Event}
 use Rattle.seize_machine.specs.Machine.Frames.{changes_head_of}
 use Rattle.seize_machine.specs.Machine.State.{is_active}

@@ -1,9 +1,9 @@
 -- What a pass knows of a slot that learned what the slot had seen, and what the slot's parts have to do with one another after a call.
-use Rattle.std.proofs.Common.{◌≡◌, ℕ, ◌<◌, ◌≤◌, true, false, ◌&&◌, List, [], ◌∷◌, length, append-nil, not, is_some, None, Some, inl, inr, sym, ap, subst, ◌∙◌, arith}
+use Rattle.std.proofs.Common.{◌≡◌, ℕ, ◌<◌, ◌≤◌, true, false, ◌&&◌, List, [], length, append-nil, not, is_some, Some, inl, inr, sym, ap, subst, ◌∙◌, arith}
 use base.Growing.{prefix_refl, prefix_trans}
 use mathlib.Core.List.{IsPrefix}
 use Rattle.seize_machine.proofs.Facts.{Step, next_of}
-use Rattle.seize_machine.specs.Machine.Event.{Enter, Event}
+use Rattle.seize_machine.specs.Machine.Event.{Enter}
 use Rattle.seize_machine.specs.Machine.Next.{next, set_head}
 use Rattle.seize_machine.specs.Machine.State.{State, are_distinct, head_at, is_active, is_idle, linked_values}
 use Rattle.seize_machine.specs.Machine.State.{Slot as Record}
@@ -12,16 +12,15 @@ use Rattle.seize_machine.specs.declared.machine.event.Answer.{Answer}
 use Rattle.seize_machine.specs.declared.machine.event.Answer.TheVariants.{Done}
 use Rattle.seize_store.specs.Named.{AreOfStore}
 use Rattle.seize_table.specs.Place.{all_numbers}
-use Rattle.seize_book.specs.Adding.{private}
 use Rattle.seize_book.specs.Book.{IsLegalList, after}
 use Rattle.seize_book.specs.Books.{Learns}
-use Rattle.seize_book.specs.Entry.{Deed, Entry, Made}
+use Rattle.seize_book.specs.Entry.{Deed, Entry}
 use Rattle.seize_book.specs.Kept.{AreTold, AreToldIn}
 use Rattle.seize_book.specs.Ledger.{HeldKey}
 use Rattle.seize_book.specs.Others.{MayTakeNumber, first_false, use_flags}
 use Rattle.seize_book.specs.Passes.{Longer, LooksOn}
 use Rattle.seize_book.specs.Laws.{life}
-use Rattle.seize_book.specs.Slots.{AddsDeed, AddsEvent, LooksWithSlotKey, Moves, active_of, life_of, own_list, slot_number, slot_of, start_of}
+use Rattle.seize_book.specs.Slots.{AddsDeed, LooksWithSlotKey, Moves, active_of, life_of, own_list, slot_number, slot_of, start_of}
 use Rattle.seize_book.specs.Private.{labels_of}
 use Rattle.seize_book.specs.Tokens.{Name, start}
 use Rattle.seize_book.specs.Values.{IsEmpty}
@@ -35,9 +34,8 @@ use Rattle.seize_words.specs.Reservations.{IsActivationOf, IsLastOf, beginning}
 use Rattle.seize_words.specs.Walks.{Knows}
 use Rattle.seize_words.specs.declared.activation.Activation.{Activation}
 use Rattle.seize_words.specs.declared.words.Words.{Words}
-use Rattle.seize_book.proofs.Facts.{legal_prefix, same_twice}
+use Rattle.seize_book.proofs.Facts.{same_twice}
 use Rattle.seize_words.proofs.Facts.{all_told_later, knows_noted, may_take_by, more_slots, moved, seen_grows}
-use Rattle.seize_calls.proofs.Keeps.{state_before}
 use Rattle.seize_calls.specs.Batches.{keys_in}
 use Rattle.seize_calls.specs.Calls.{HasBegun, Rests}
 use Rattle.seize_calls.specs.Settling.{HasBatch}

@@ -1,5 +1,5 @@
-//! The batch of a slot, as its holder keeps it, or what slots left: the keys of the values, and where the first and the last lie. What comes
-//! between is noted of the blocks themselves, so a batch takes no memory, however many values it has.
+//! The batch of a slot, as its holder keeps it, or what slots left: the keys of the values, and where the first and the last lie. What
+//! comes between is noted of the blocks themselves, so a batch takes no memory, however many values it has.
 ghost use Rattle.std.specs.Prelude.{◌≡◌, ◌+◌, ◌<◌, ◌^◌, true};
 ghost use Rattle.seize_book.specs.Blocks.{block_number};
 ghost use Rattle.seize_book.specs.Others.{value_of};

@@ -1,5 +1,5 @@
 -- What is known of a guest.
---     HasFlags words guest flags     its numbers are those of these words, and these are in use; its slot has number 0; and its rest is what
+--     HasFlags words guest flags     its numbers are those of these words, and these are in use; its slot has number 0; its rest is what
 --                                    slots left
 --     IsHere words guest     its slot is in use and inactive, so it may enter;  IsAway words guest     its number is free
 use Rattle.std.specs.Prelude.{◌≡◌, ℕ, Bool, true, false, List, [], ◌∷◌}

@@ -28,7 +28,8 @@ impl NumbersKey {
     /// knows.
     pub fn look(&mut self, pass: &mut Pass)
         requires book { AreNumbersOf self.old pass.old }
-        ensures looks { LooksOn pass.old pass.new × FollowsNumbers self.old pass.new self.new × IsPrefix (numbers_saw self.old) pass.new.seen }
+        ensures looks { LooksOn pass.old pass.new × FollowsNumbers self.old pass.new self.new
+            × IsPrefix (numbers_saw self.old) pass.new.seen }
         ensures used { (used (state_seen pass.new) ≡ use_flags self.old) × (use_flags self.new ≡ use_flags self.old) }
         ensures rest { ((state_seen pass.new).rest ≡ rest_of self.old) × (rest_of self.new ≡ rest_of self.old) }
     {

@@ -1,4 +1,4 @@
-use Rattle.std.proofs.Common.{lit<, ap, sym, subst}
+use Rattle.std.proofs.Common.{lit<, sym, subst}
 use Rattle.seize_book.specs.declared.book.pass.Pass.{Pass}
 use Rattle.seize_calls.specs.Laying.{Lays}
 use Rattle.seize_calls.specs.Settling.{call_state}

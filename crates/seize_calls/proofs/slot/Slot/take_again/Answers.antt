@@ -1,5 +1,4 @@
-use Rattle.std.proofs.Common.{ℕ, max, nat_le, length, List, ◌++◌, refl, sym, ap, subst, ◌∙◌, true}
-use Rattle.std.specs.Prelude.{slice_set}
+use Rattle.std.proofs.Common.{ℕ, max, nat_le, length, ◌++◌, refl, sym, ap, subst, ◌∙◌}
 use base.Growing.{prefix_trans}
 use Rattle.seize_machine.specs.Machine.Event.{Take}
 use Rattle.seize_machine.specs.Machine.State.{Slot}
