@@ -37,7 +37,5 @@ pub mod Stands
 pub mod Steps
 pub mod Stilled
 pub mod Swept
-pub mod Turned
-pub mod Turning
 pub mod Watched
 pub mod Wholly
