@@ -8,12 +8,38 @@ use Rattle.seize_parts.specs.Resting.{AreLeft, ComesToRest, LiesSomewhere}
 use Rattle.seize_parts.specs.declared.alone.place.Place.{Place}
 use Rattle.seize_parts.specs.declared.numbers.Numbers.{Numbers}
 use Rattle.seize_parts.specs.declared.numbers.resting.Found.{Found}
-use Rattle.seize_parts.proofs.InUse.{AreAllHere, all_unused, here_all}
+use Rattle.seize_parts.proofs.InUse.{AreAllHere, all_unused, here_all, slots_looked}
 use Rattle.seize_parts.proofs.Placed.{still_for}
 use Rattle.seize_parts.proofs.Resting.{all_lie, left_none, rested_many, rested_on, rested_used}
 use Rattle.seize_parts.proofs.Swept.{still_sole}
 use Rattle.seize_parts.proofs.numbers.Numbers.rest.Goals as goal
 use Rattle.seize_parts.proofs.numbers.Numbers.rest.Goals.{then-all_here, else-all_here}
+
+pub all_here-requires : goal.all_here-requires
+all_here-requires g c =
+    let look = c.look.ensures in slots_looked c.args.self.now c.requires.numbers.0.0 _ c.look.new.pass look.looks.1 look.looks.2 look.used.1 look.rest.1 refl refl refl refl refl refl
+
+pub find_all-all-requires : goal.find_all-all-requires
+find_all-all-requires g c =
+    let words = c.args.words.now in let p = c.args.pass.now in let q = c.look.new.pass in let look = c.look.ensures in let same = look.looks.0.same in
+    let slots = slots_looked c.args.self.now c.requires.numbers.0.0 _ q look.looks.1 look.looks.2 look.used.1 look.rest.1 refl refl refl refl refl refl in (
+      omega arith,
+      (
+        ((slots, c.requires.numbers.0.1), c.requires.numbers.1),
+        (
+          (λ s. ap (λ (ps : List (Option (Place g.row.T.Denot))). get_or ps s None) c.new-places.ensures.items),
+          (still_for words p q c.requires.pass.0 same, still_sole p q same c.requires.pass.1),
+        ),
+      ),
+    )
+
+pub returns-clause-numbers : goal.returns-clause-numbers
+returns-clause-numbers g c =
+    let look = c.look.ensures in let slots = slots_looked c.args.self.now c.requires.numbers.0.0 _ c.look.new.pass look.looks.1 look.looks.2 look.used.1 look.rest.1 refl refl refl refl refl refl in
+    elim c.if-all_here.branch [
+      | then-all_here w ↦ (subst (λ (n : Numbers g.row.T.Denot). AreNumbers n) (sym w.self-is) (slots, c.requires.numbers.0.1), ap (λ (n : Numbers g.row.T.Denot). n.book) w.self-is)
+      | else-all_here w ↦ (subst (λ (n : Numbers g.row.T.Denot). AreNumbers n) (sym w.self-is) w.find_all-all.ensures.numbers.0, ap (λ (n : Numbers g.row.T.Denot). n.book) w.self-is ∙ w.find_all-all.ensures.numbers.1)
+    ]
 
 pub returns-clause-rests : goal.returns-clause-rests
 returns-clause-rests g c =
