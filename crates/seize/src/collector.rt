@@ -14,9 +14,8 @@ use seize_cells::Lock;
 use seize_machine::machine;
 use seize_parts::ender::Ender;
 use seize_parts::ending::end_all;
-use seize_parts::numbers::Numbers;
-use seize_parts::numbers::reclaiming::{Heard, Sweeping};
-use seize_parts::numbers::taking::take_slot;
+use seize_parts::numbers::sweeping::{Heard, Sweeping};
+use seize_parts::numbers::{Numbers, Registering};
 use seize_parts::reclaim::{Boxed, Reclaim, Watch};
 use seize_table::Refusal;
 use seize_words::book::{Pass, Porter, Seen, Stay};
@@ -81,14 +80,15 @@ impl<T: Drop> Collector<T> {
 impl<T: Drop, R: Reclaim<T>> Collector<T, R> {
     ghost use Rattle.std.specs.Prelude.{◌+◌, ◌≤◌, ◌^◌, max as greater, IfOk, IfErr};
     ghost use Rattle.std.specs.Int.{IsNextPowerOfTwo};
+    ghost use Rattle.seize_machine.specs.Machine.Event.{Take};
+    ghost use Rattle.seize_machine.specs.declared.machine.event.Answer.TheVariants.{Done};
     ghost use Rattle.seize_table.specs.declared.refusal.Refusal.TheVariants.{NoMemory as no_memory};
     ghost use Rattle.seize_parts.specs.Blocks.{content};
     ghost use Rattle.seize.specs.Collectors.{BeginsEmpty, IsBlockOf, IsNewPassOf, IsPassOf, IsRefusalFor, its_book, its_id, its_links, its_size, its_words, seen_by};
     ghost use Rattle.seize.specs.Registrations.{registered_in, registered_slot};
     ghost use Rattle.seize_book.specs.Porters.{Shuts};
     ghost use Rattle.seize_calls.specs.Slots.{IsPassFor};
-    ghost use Rattle.seize_parts.specs.Makes.{MakesNone, TakesNumber};
-    ghost use Rattle.seize_parts.specs.Puts.{PutBy};
+    ghost use Rattle.seize_parts.specs.Makes.{MakesNone, MakesOne};
     ghost use Rattle.seize_parts.specs.Numbers.{AreNumbers, IsLockFor};
 
     /// The same, with a reclaimer of the caller's own: each value that was retired goes to it once no slot can read it any more, and so
@@ -139,7 +139,7 @@ impl<T: Drop, R: Reclaim<T>> Collector<T, R> {
             return Err(Refusal::NoMemory);
         };
         porter.leave_home();
-        let numbers = Numbers::new(alloc, key, next, &words.blocks.book, &mut porter.pass());
+        let numbers = Numbers::new(alloc, key, next, &words.blocks.book);
         Ok(Collector {
             words,
             porter,
@@ -246,9 +246,7 @@ impl<T: Drop, R: Reclaim<T>> Collector<T, R> {
         Ok(Owned::of(key, block, &blocks.book))
     }
 
-    /// A slot for the calling thread: that of the least number that is not in use. What slots left in their batches as they ended is its
-    /// batch then. Where that has the batch size or more, it is attempted: the events `Take` to `Return`; else `Take` alone. What is
-    /// reclaimed in the call goes to the reclaimer there, outside the lock of the numbers.
+    /// A slot for the calling thread: that of the least number that is not in use. The event `Take`.
     ///
     /// It waits for other threads that register or end, and looks through the slots that were made, from the first one that may be free. It
     /// asks for memory only where no slot of a registration that ended is left.
@@ -264,33 +262,31 @@ impl<T: Drop, R: Reclaim<T>> Collector<T, R> {
     ) -> Result<Registration<'_, T, R>, Refusal>
         requires pass { IsPassOf self.now pass.old }
         ensures made { IfOk result (λ made. (registered_in made ≡ self.now)
-            × TakesNumber (PutBy T.row.coded.code R.puts) (registered_slot made) pass.old pass.new) }
+            × MakesOne pass.old pass.new (Take (registered_slot made)) Done) }
         ensures refused { IfErr result (λ refusal. MakesNone pass.old pass.new × (refusal ≡ no_memory)) }
     {
-        let (slot, shelf) = take_slot(
-            &self.numbers,
-            rt,
-            &self.words,
-            &self.ender,
-            self.alloc,
-            pass,
-        )?;
+        let registering = Registering {
+            words: &self.words,
+            alloc: self.alloc,
+        };
+        let (slot, shelf) = self.numbers.with(rt, registering, pass)?;
         Ok(Registration::of(self, slot, shelf))
     }
 }
 
 impl<T: Drop, R: Reclaim<T>> Collector<T, R> {
-    ghost use Rattle.std.specs.Prelude.{IfErr, IfOk};
+    ghost use Rattle.std.specs.Prelude.{IfErr, IfOk, [], ◌∷◌};
+    ghost use Rattle.seize_machine.specs.Machine.Event.{Enter, Take};
+    ghost use Rattle.seize_machine.specs.declared.machine.event.Answer.TheVariants.{Done};
     ghost use Rattle.seize_table.specs.declared.refusal.Refusal.TheVariants.{NoMemory as no_memory};
     ghost use Rattle.seize.specs.Collectors.{IsPassOf, seen_by};
     ghost use Rattle.seize_parts.specs.Laws.{HaveContents, LawsHold};
     ghost use Rattle.seize_parts.specs.Rules.{KeepsSince};
-    ghost use Rattle.seize_parts.specs.Makes.{MakesNone, TakesAndEnters};
-    ghost use Rattle.seize_parts.specs.Puts.{PutBy};
+    ghost use Rattle.seize_parts.specs.Makes.{Makes, MakesNone};
     ghost use Rattle.seize.specs.Guards.{owned_collector, owned_slot};
 
-    /// A guard that threads share, with a slot of its own: that of the least number that is not in use, which is taken as `register` takes
-    /// it, and then enters. So the guard holds back nothing of what slots left.
+    /// A guard that threads share, with a slot of its own: that of the least number that is not in use, which enters. The events `Take` and
+    /// `Enter`.
     ///
     /// It waits as `register` does, and asks for memory where that does; then it makes one atomic swap.
     ///
@@ -304,17 +300,14 @@ impl<T: Drop, R: Reclaim<T>> Collector<T, R> {
     ) -> Result<OwnedGuard<'_, T, R>, Refusal>
         requires pass { IsPassOf self.now pass.old }
         ensures made { IfOk result (λ guard. (owned_collector guard ≡ self.now)
-            × TakesAndEnters (PutBy T.row.coded.code R.puts) (owned_slot guard) pass.old pass.new) }
+            × Makes pass.old pass.new ((Take (owned_slot guard), Done) ∷ (Enter (owned_slot guard), Done) ∷ [])) }
         ensures refused { IfErr result (λ refusal. MakesNone pass.old pass.new × (refusal ≡ no_memory)) }
     {
-        let (slot, shelf) = take_slot(
-            &self.numbers,
-            rt,
-            &self.words,
-            &self.ender,
-            self.alloc,
-            pass,
-        )?;
+        let registering = Registering {
+            words: &self.words,
+            alloc: self.alloc,
+        };
+        let (slot, shelf) = self.numbers.with(rt, registering, pass)?;
         Ok(OwnedGuard::enter(self, slot, shelf, pass))
     }
 

@@ -9,7 +9,7 @@
 #![tactic(auto)]
 
 mod attempt;
-pub mod batch;
+mod batch;
 mod chain;
 pub mod draining;
 pub mod further;

@@ -21,7 +21,6 @@ pub mod Runs
 pub mod Lists
 pub mod Beginnings
 pub mod Jobs
-pub mod Gathers
 pub mod Guards
 pub mod Links
 pub mod Exchanges

@@ -13,7 +13,7 @@ use crate::collector::Collector;
 use crate::guard::{Guard, GuardCore};
 use seize_calls::slot::Slot;
 use seize_cells::{Lock, LockWork};
-use seize_parts::numbers::taking::end_slot;
+use seize_parts::numbers::Ending;
 use seize_parts::reclaim::{Boxed, Reclaim};
 use seize_parts::reservation::Reservation;
 use seize_parts::shelf::Shelf;
@@ -144,7 +144,7 @@ impl<'c, T: Drop, R: Reclaim<T>> OwnedGuard<'c, T, R> {
         leaving.work(&mut reservation, pass);
         let slot = reservation.slot;
         slot.seen().agree(&words.blocks.book);
-        end_slot(&collector.numbers, rt, words, collector.ender(), slot, pass);
+        collector.numbers.with(rt, Ending { words, slot }, pass);
     }
 
     /// Spends the guard without leaving. Its slot stays active, and its number in use, until `Collector::reclaim_all`,

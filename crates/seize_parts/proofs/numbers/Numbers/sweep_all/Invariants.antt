@@ -1,0 +1,14 @@
+use Rattle.std.proofs.Common.{◌≡◌, length}
+use Rattle.seize_book.specs.Tokens.{IsSole}
+use Rattle.seize_calls.specs.Slots.{IsPassFor}
+use Rattle.seize_words.specs.Joined.{words_book}
+use Rattle.seize_parts.specs.Aparts.{KeepsAside, MayDrain}
+use Rattle.seize_parts.specs.Numbers.{AreTakenTo, flags_of}
+use Rattle.seize_parts.specs.Sweeps.{AreOff, KeepsOn, KeepsPlaces, AreClearedBelow, KeepsElse}
+use Rattle.seize_parts.proofs.numbers.Numbers.sweep_all.Given as goal
+
+abbrev pub invariant-loop-n : goal.invariant-loop-n
+invariant-loop-n g l =
+    AreTakenTo (length l.self.slots.items) l.self × KeepsPlaces l.fn.self l.self × (length l.self.slots.items ≡ length l.fn.self.slots.items) × IsPassFor l.words l.pass × IsSole l.pass.id
+    × KeepsOn l.fn.pass l.pass × (AreOff l.fn.pass → AreOff l.pass × AreClearedBelow l.n (flags_of l.self.slots.items) l.pass) × KeepsElse (flags_of l.self.slots.items) l.fn.pass l.pass
+    × KeepsAside l.fn.aside l.aside × MayDrain g.row.T.coded.code (words_book l.words) l.aside.queue
